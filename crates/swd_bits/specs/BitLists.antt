@@ -1,0 +1,12 @@
+-- A number with a count of bits, as a list of bits.
+use Rattle.std.specs.Prelude.{◌^◌, ◌<◌, Bool, List}
+use Rattle.swd_bits.specs.Bits.{low_bits}
+use Rattle.swd_bits.specs.declared.tx_bits.TxBits.{TxBits}
+
+-- the bits in time order
+abbrev pub bits_of : TxBits → List Bool
+bits_of b = low_bits b.len b.bits
+
+-- no bit is set past the count
+abbrev pub IsSpelled : TxBits → Type 0
+IsSpelled b = b.bits < 2 ^ b.len

@@ -1,0 +1,34 @@
+-- What goes over the wire: requests, acknowledgements and data phases, as bits in time order.
+use Rattle.std.specs.Prelude.{ℕ, Bool, true, false, List, [], ◌∷◌, ◌++◌, ◌==◌, if◌then◌else◌}
+use Rattle.swd_bits.specs.Bits.{low_bits, odd}
+use Rattle.swd_bits.specs.declared.request.Request.{Request}
+use Rattle.swd_bits.specs.declared.request.Reg4.{Reg4}
+use Rattle.swd_bits.specs.declared.request.Reg4.TheVariants.{R0, R4, R8, RC}
+use Rattle.swd_bits.specs.declared.ack.Ack.{Ack}
+use Rattle.swd_bits.specs.declared.ack.Ack.TheVariants.{Ok, Wait, Fault}
+
+-- the two address bits, A[2] first
+abbrev pub addr_bits : Reg4 → List Bool
+addr_bits R0 = false ∷ false ∷ []
+addr_bits R4 = true ∷ false ∷ []
+addr_bits R8 = false ∷ true ∷ []
+addr_bits RC = true ∷ true ∷ []
+
+-- the register with this number
+abbrev pub reg4_of : ℕ → Reg4
+reg4_of n = if n == 0 then R0 else (if n == 1 then R4 else (if n == 2 then R8 else RC))
+
+-- start, port, direction, address, parity, stop, park
+abbrev pub request : Request → List Bool
+request q =
+    let asked = q.ap ∷ q.read ∷ addr_bits q.addr in
+    (true ∷ asked) ++ odd asked ∷ false ∷ true ∷ []
+
+abbrev pub ack : Ack → List Bool
+ack Ok = true ∷ false ∷ false ∷ []
+ack Wait = false ∷ true ∷ false ∷ []
+ack Fault = false ∷ false ∷ true ∷ []
+
+-- the word's bits, and its parity
+unfoldable pub phase : ℕ → List Bool
+phase word = low_bits 32 word ++ odd (low_bits 32 word) ∷ []

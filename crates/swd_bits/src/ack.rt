@@ -1,0 +1,34 @@
+//! Acknowledgements: the three bits by which a target answers a request.
+ghost use Rattle.std.specs.Prelude.{◌≡◌, ◌≢◌, ◌<◌, IfSome, IfNone};
+ghost use Rattle.swd_bits.specs.Bits.{low_bits};
+ghost use Rattle.swd_bits.specs.Wire.{ack};
+ghost use Rattle.swd_bits.specs.declared.ack.Ack.{Ack};
+
+/// An acknowledgement (IHI 0031, B4, "Acknowledge response").
+#[derive(Clone, Copy, Debug, PartialEq, Eq)]
+pub enum Ack {
+    /// The transfer goes on.
+    Ok,
+    /// Not now: ask again.
+    Wait,
+    /// A sticky flag is set.
+    Fault,
+}
+
+impl Ack {
+    /// The acknowledgement whose three bits were seen as this number, the first bit in time least
+    /// significant: 1 is OK, 2 is WAIT, 4 is FAULT. `None` for the other five.
+    pub fn of(seen: u8) -> Option<Ack>
+        requires { seen < 8 }
+        ensures found { IfSome result (λ a. ack a ≡ low_bits 3 seen) }
+        ensures only { IfSome result (λ a. (other : Ack) → ack other ≡ low_bits 3 seen → other ≡ a) }
+        ensures none { IfNone result ((a : Ack) → ack a ≢ low_bits 3 seen) }
+    {
+        match seen {
+            1 => Some(Ack::Ok),
+            2 => Some(Ack::Wait),
+            4 => Some(Ack::Fault),
+            _ => None,
+        }
+    }
+}

@@ -1,0 +1,31 @@
+//! Data phases: a word and its parity, 33 bits.
+ghost use Rattle.std.specs.Prelude.{◌≡◌, ◌≢◌, ℕ, ◌^◌, ◌<◌, IfSome, IfNone};
+ghost use Rattle.swd_bits.specs.Bits.{low_bits};
+ghost use Rattle.swd_bits.specs.Wire.{phase};
+
+/// The 33 bits of a data phase (IHI 0031, B4, "Data transfer"), the first bit least significant:
+/// the word, least significant bit first, then its parity, 1 where the word has an odd number of
+/// ones.
+pub fn data_bits(word: u32) -> u64
+    ensures bound { result < 2 ^ 33 }
+    ensures bits { low_bits 33 result ≡ phase word }
+{
+    let parity = u64::from(word.count_ones() % 2);
+    parity << 32 | u64::from(word)
+}
+
+/// The word of a data phase of 33 bits, the first bit least significant. `None` where the parity
+/// is wrong.
+pub fn word_of(sent: u64) -> Option<u32>
+    requires { sent < 2 ^ 33 }
+    ensures found { IfSome result (λ word. phase word ≡ low_bits 33 sent) }
+    ensures only { IfSome result (λ word. (other : ℕ) → other < 2 ^ 32 → phase other ≡ low_bits 33 sent → other ≡ word) }
+    ensures none { IfNone result ((word : ℕ) → word < 2 ^ 32 → phase word ≢ low_bits 33 sent) }
+{
+    let word = (sent & 0xffff_ffff) as u32;
+    if data_bits(word) == sent {
+        Some(word)
+    } else {
+        None
+    }
+}

@@ -1,0 +1,29 @@
+//! The bits of the Serial Wire Debug line: packet requests, acknowledgements, data phases and whole
+//! transactions, each as bits in time order, and the trace text and listing line of one transaction.
+//!
+//! Everything here is a plain value or a total function. Nothing takes memory.
+#![tactic(auto)]
+
+mod ack;
+mod data_phase;
+mod gathered;
+mod line;
+mod one;
+mod output;
+mod request;
+mod scan;
+mod tx;
+mod tx_bits;
+
+pub use ack::Ack;
+pub use data_phase::{data_bits, word_of};
+pub use line::{Line, line_of};
+pub use one::{OneFault, one_text};
+pub use output::send;
+pub use request::{Reg4, Request};
+pub use scan::{Scan, Sign};
+pub use tx::{Tx, TxEnd, transactions_are_told_apart};
+pub use tx_bits::TxBits;
+
+#[cfg(test)]
+mod tests;

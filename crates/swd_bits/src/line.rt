@@ -1,0 +1,110 @@
+//! The listing line of a transaction, on the stack.
+ghost use Rattle.std.specs.Prelude.{◌≡◌, ◌+◌, ◌<◌, ◌≤◌, ◌++◌, ◌∷◌, []};
+ghost use Rattle.std.specs.Fmt.{decimal};
+ghost use Rattle.arrayvec.specs.ArrayString.{array_string_len};
+ghost use Rattle.swd_bits.specs.Listing.{hex_digit, hex2, hex8, tx_line};
+
+use crate::request::Reg4;
+use crate::tx::{Tx, TxEnd};
+use arrayvec::ArrayString;
+use std::fmt;
+
+/// A listing line, which has at most 32 bytes, and room for its end.
+pub type Line = ArrayString<40>;
+
+fn digit_text(digit: u8) -> &'static str
+    requires { digit < 16 }
+    ensures { result.now ≡ hex_digit digit ∷ [] }
+{
+    match digit {
+        0 => "0",
+        1 => "1",
+        2 => "2",
+        3 => "3",
+        4 => "4",
+        5 => "5",
+        6 => "6",
+        7 => "7",
+        8 => "8",
+        9 => "9",
+        10 => "a",
+        11 => "b",
+        12 => "c",
+        13 => "d",
+        14 => "e",
+        _ => "f",
+    }
+}
+
+#[tactic(auto, unfolding(crate::specs::Listing::hex2))]
+fn push_byte(text: &mut Line, byte: u8)
+    requires { array_string_len text.old ≤ 38 }
+    ensures bytes { text.new.bytes ≡ text.old.bytes ++ hex2 byte }
+    ensures len { array_string_len text.new ≡ array_string_len text.old + 2 }
+{
+    text.push_str(digit_text(byte / 16));
+    text.push_str(digit_text(byte % 16));
+}
+
+#[tactic(auto, unfolding(crate::specs::Listing::hex8))]
+fn push_word(text: &mut Line, word: u32)
+    requires { array_string_len text.old ≤ 32 }
+    ensures bytes { text.new.bytes ≡ text.old.bytes ++ hex8 word }
+    ensures len { array_string_len text.new ≡ array_string_len text.old + 8 }
+{
+    push_byte(text, (word >> 24) as u8);
+    push_byte(text, ((word >> 16) % 256) as u8);
+    push_byte(text, ((word >> 8) % 256) as u8);
+    push_byte(text, (word % 256) as u8);
+}
+
+fn push_count(text: &mut Line, n: u8)
+    requires { array_string_len text.old ≤ 37 }
+    ensures bytes { text.new.bytes ≡ text.old.bytes ++ decimal n }
+    ensures len { array_string_len text.new ≤ array_string_len text.old + 3 }
+{
+    let mut digits = itoa::Buffer::new();
+    text.push_str(digits.format(n));
+}
+
+/// The listing line of a transaction, without its end: `PORT A DIR RESULT`, as in
+/// `dp 0 read ok 2ba01477` or `ap c write none 7`.
+///
+/// `Display` gives the same text. This call can't fail, and a contract knows its bytes.
+pub fn line_of(tx: &Tx) -> Line
+    ensures bytes { result.bytes ≡ tx_line tx.now }
+    ensures len { array_string_len result ≤ 32 }
+{
+    let mut text = Line::new();
+    text.push_str(if tx.request.ap { "ap " } else { "dp " });
+    text.push_str(match tx.request.addr {
+        Reg4::R0 => "0 ",
+        Reg4::R4 => "4 ",
+        Reg4::R8 => "8 ",
+        Reg4::RC => "c ",
+    });
+    text.push_str(if tx.request.read { "read " } else { "write " });
+    match tx.result {
+        TxEnd::Moved { word, parity_ok } => {
+            text.push_str(if parity_ok { "ok " } else { "bad " });
+            push_word(&mut text, word);
+        }
+        TxEnd::Wait => text.push_str("wait"),
+        TxEnd::Fault => text.push_str("fault"),
+        TxEnd::NoAck(seen) => {
+            text.push_str("none ");
+            push_count(&mut text, seen);
+        }
+    }
+    text
+}
+
+impl fmt::Display for Tx {
+    ghost use Rattle.std.specs.Prelude.{Some};
+
+    ghost output = { λ tx. Some (tx_line tx) };
+
+    fn fmt<W: fmt::Write>(&self, f: &mut fmt::Formatter<W>) -> fmt::Result {
+        f.write_str(line_of(self).as_str())
+    }
+}

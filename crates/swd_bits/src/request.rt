@@ -1,0 +1,75 @@
+//! Packet requests: the eight bits by which a host asks for a transfer.
+ghost use Rattle.std.specs.Prelude.{◌≡◌, ◌≢◌, ◌<◌, IfSome, IfNone};
+ghost use Rattle.swd_bits.specs.Bits.{low_bits};
+ghost use Rattle.swd_bits.specs.Wire.{request, reg4_of};
+ghost use Rattle.swd_bits.specs.declared.request.Request.{Request};
+
+/// The register that a request names, by its address bits A[3:2].
+#[derive(Clone, Copy, Debug, PartialEq, Eq)]
+pub enum Reg4 {
+    /// Address 0x0: DPIDR and ABORT, or CSW.
+    R0,
+    /// Address 0x4: CTRL/STAT, or TAR.
+    R4,
+    /// Address 0x8: RESEND and SELECT.
+    R8,
+    /// Address 0xc: RDBUFF, or DRW.
+    RC,
+}
+
+/// A packet request (IHI 0031, B4, "Packet request").
+#[derive(Clone, Copy, Debug, PartialEq, Eq)]
+pub struct Request {
+    /// APnDP: the access port and not the debug port.
+    pub ap: bool,
+    /// RnW: a read and not a write.
+    pub read: bool,
+    /// A[3:2].
+    pub addr: Reg4,
+}
+
+impl Reg4 {
+    // The register with the address bits A[3:2].
+    fn of(code: u8) -> Reg4
+        requires { code < 4 }
+        ensures { result ≡ reg4_of code }
+    {
+        match code {
+            0 => Reg4::R0,
+            1 => Reg4::R4,
+            2 => Reg4::R8,
+            _ => Reg4::RC,
+        }
+    }
+}
+
+impl Request {
+    /// The eight bits in time order, the first bit least significant:
+    /// Start, APnDP, RnW, A[2], A[3], Parity, Stop, Park.
+    pub fn bits(&self) -> u8
+        ensures { low_bits 8 result ≡ request self.now }
+    {
+        let asked = u8::from(self.ap) | u8::from(self.read) << 1 | (self.addr as u8) << 2;
+        let parity = (asked.count_ones() % 2) as u8;
+        0x81 | asked << 1 | parity << 5
+    }
+
+    /// The request with these eight bits, the first bit least significant. `None` where they are
+    /// none: a wrong Start, Parity, Stop or Park bit. Sixteen of the 256 values are requests.
+    pub fn of(byte: u8) -> Option<Request>
+        ensures found { IfSome result (λ q. request q ≡ low_bits 8 byte) }
+        ensures only { IfSome result (λ q. (other : Request) → request other ≡ low_bits 8 byte → other ≡ q) }
+        ensures none { IfNone result ((q : Request) → request q ≢ low_bits 8 byte) }
+    {
+        let request = Request {
+            ap: byte >> 1 & 1 == 1,
+            read: byte >> 2 & 1 == 1,
+            addr: Reg4::of(byte >> 3 & 3),
+        };
+        if request.bits() == byte {
+            Some(request)
+        } else {
+            None
+        }
+    }
+}

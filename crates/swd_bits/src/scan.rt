@@ -1,0 +1,73 @@
+//! Trace texts, a byte at a time.
+ghost use Rattle.std.specs.Prelude.{◌≡◌, Bool, false};
+ghost use Rattle.swd_bits.specs.TraceText.{sign_of, comment_after};
+
+use std::marker::Model;
+
+/// What a byte of a trace text is.
+#[derive(Clone, Copy, Debug, PartialEq, Eq)]
+pub enum Sign {
+    /// `0` or `1`: a bit.
+    Bit(bool),
+    /// A space, a tab, a carriage return, a line feed, or part of a comment.
+    Passed,
+    /// A byte that cannot stand outside a comment.
+    Bad,
+}
+
+/// A trace text as far as it was read: what matters is whether a comment is open.
+///
+/// A trace text has a character `0` or `1` for each bit, in time order. Blanks and line ends are
+/// passed over, and so is everything from `#` up to the next line feed.
+#[derive(Clone, Copy, Debug, PartialEq, Eq)]
+pub struct Scan {
+    comment: bool,
+}
+
+impl Model for Scan {
+    ghost Value = { Bool };
+
+    ghost view = { λ s. s.comment };
+
+    ghost inverse = { λ b. record { comment = b } };
+}
+
+impl Scan {
+    /// The beginning of a text.
+    #[inline]
+    pub fn new() -> Scan
+        ensures { result ≡ false }
+    {
+        Scan { comment: false }
+    }
+
+    /// What the next byte is. After `Bad` the scan is as before.
+    #[inline]
+    pub fn byte(&mut self, byte: u8) -> Sign
+        ensures sign { result ≡ sign_of self.old byte }
+        ensures comment { self.new ≡ comment_after self.old byte }
+    {
+        if self.comment {
+            self.comment = byte != b'\n';
+            return Sign::Passed;
+        }
+        match byte {
+            b'0' => Sign::Bit(false),
+            b'1' => Sign::Bit(true),
+            b' ' | b'\t' | b'\r' | b'\n' => Sign::Passed,
+            b'#' => {
+                self.comment = true;
+                Sign::Passed
+            }
+            _ => Sign::Bad,
+        }
+    }
+}
+
+impl Default for Scan {
+    ghost is_default = { λ scan. scan ≡ false };
+
+    fn default() -> Scan {
+        Scan::new()
+    }
+}

@@ -1,0 +1,200 @@
+//! Transactions, and their bits.
+ghost use Rattle.std.specs.Prelude.{◌≡◌, ◌≢◌, ℕ, ◌^◌, ◌<◌, ◌≤◌, true, false, Bool, List, ◌++◌, [], IfSome, IfNone};
+ghost use Rattle.swd_bits.specs.Bits.{low_bits};
+ghost use Rattle.swd_bits.specs.BitLists.{bits_of, IsSpelled};
+ghost use Rattle.swd_bits.specs.Transactions.{spelling, ending, phase_with, Spells, IsTx, IsEnd, HasMoved, head, tail};
+ghost use Rattle.swd_bits.specs.declared.tx.Tx.{Tx};
+ghost use Rattle.swd_bits.specs.declared.tx.TxEnd.{TxEnd};
+
+use crate::ack::Ack;
+use crate::request::Request;
+use crate::tx_bits::TxBits;
+
+/// How a transaction ends.
+#[derive(Clone, Copy, Debug, PartialEq, Eq)]
+pub enum TxEnd {
+    /// OK, and a data phase with this word, whose parity bit is right or wrong.
+    Moved { word: u32, parity_ok: bool },
+    /// WAIT.
+    Wait,
+    /// FAULT.
+    Fault,
+    /// Three bits that are no acknowledgement, as a number with the first in time least
+    /// significant: 0, 3, 5, 6 or 7. A target that isn't there leaves the line high, which is 7.
+    NoAck(u8),
+}
+
+/// One transaction: a packet request and what followed it (IHI 0031, B4, "Successful write
+/// operation", "Successful read operation", "WAIT response", "FAULT response", "Protocol error
+/// sequence").
+#[derive(Clone, Copy, Debug, PartialEq, Eq)]
+pub struct Tx {
+    pub request: Request,
+    pub result: TxEnd,
+}
+
+impl Tx {
+    /// The transaction's bits on the wire: 46, 13 or 12. Turnarounds, in which nobody drives the
+    /// line, are written as 1.
+    pub fn bits(&self) -> TxBits
+        requires { IsTx self.now }
+        ensures whole { IsSpelled result }
+        ensures short { result.len ≤ 46 }
+        ensures bits { bits_of result ≡ spelling self.now true true }
+    {
+        let asked = TxBits {
+            len: 8,
+            bits: u64::from(self.request.bits()),
+        };
+        let turned = asked.then(TxBits::one(true));
+        turned.then(ending_of(self.request.read, self.result))
+    }
+
+    /// The transaction that these bits are, all of them together, with turnarounds of any value.
+    pub fn of(spelled: TxBits) -> Option<Tx>
+        requires whole { IsSpelled spelled }
+        requires short { spelled.len ≤ 49 }
+        ensures found { IfSome result (λ tx. Spells tx (bits_of spelled)) }
+        ensures only { IfSome result (λ tx. (other : Tx) → Spells other (bits_of spelled) → other ≡ tx) }
+        ensures none { IfNone result ((tx : Tx) → Spells tx (bits_of spelled) → ⊥) }
+    {
+        if spelled.len < 12 {
+            return None;
+        }
+        let (asked, rest) = spelled.split(8);
+        let Some(request) = Request::of(asked as u8) else {
+            return None;
+        };
+        let (_, rest) = rest.split(1);
+        let (seen, rest) = rest.split(3);
+        match end_of(request.read, seen as u8, rest) {
+            Some(result) => Some(Tx { request, result }),
+            None => None,
+        }
+    }
+}
+
+// A data phase: the word and its parity, or the other bit where that is to be wrong.
+fn phase_of(word: u32, parity_ok: bool) -> TxBits
+    ensures whole { IsSpelled result }
+    ensures len { result.len ≡ 33 }
+    ensures bits { bits_of result ≡ phase_with word parity_ok }
+{
+    let odd = word.count_ones() % 2 == 1;
+    let bits = TxBits {
+        len: 32,
+        bits: u64::from(word),
+    };
+    bits.then(TxBits::one(if parity_ok { odd } else { !odd }))
+}
+
+#[tactic(auto, unfolding(crate::specs::Bits::low_bits))]
+// What follows the first turnaround.
+fn ending_of(read: bool, end: TxEnd) -> TxBits
+    requires { IsEnd end }
+    ensures whole { IsSpelled result }
+    ensures len { result.len ≤ 37 }
+    ensures bits { bits_of result ≡ ending read end true }
+{
+    match end {
+        TxEnd::Moved { word, parity_ok } => {
+            let acked = TxBits { len: 3, bits: 1 };
+            if read {
+                acked
+                    .then(phase_of(word, parity_ok))
+                    .then(TxBits::one(true))
+            } else {
+                acked
+                    .then(TxBits::one(true))
+                    .then(phase_of(word, parity_ok))
+            }
+        }
+        TxEnd::Wait => TxBits { len: 3, bits: 2 }.then(TxBits::one(true)),
+        TxEnd::Fault => TxBits { len: 3, bits: 4 }.then(TxBits::one(true)),
+        TxEnd::NoAck(seen) => TxBits {
+            len: 3,
+            bits: u64::from(seen),
+        },
+    }
+}
+
+// A word, and whether the parity after it is right.
+fn phase_in(phase: TxBits) -> (u32, bool)
+    requires whole { IsSpelled phase }
+    requires len { phase.len ≡ 33 }
+    ensures word { result.0 < 2 ^ 32 }
+    ensures bits { bits_of phase ≡ phase_with result.0 result.1 }
+{
+    let (word, rest) = phase.split(32);
+    let (parity, _) = rest.split(1);
+    let word = word as u32;
+    let odd = word.count_ones() % 2 == 1;
+    (word, if parity == 1 { odd } else { !odd })
+}
+
+// The data phase of a read or a write.
+fn moved_of(read: bool, rest: TxBits) -> TxEnd
+    requires whole { IsSpelled rest }
+    requires len { rest.len ≡ 34 }
+    ensures { HasMoved read result (bits_of rest) }
+{
+    if read {
+        let (phase, _) = rest.split(33);
+        let (word, parity_ok) = phase_in(TxBits {
+            len: 33,
+            bits: phase,
+        });
+        TxEnd::Moved { word, parity_ok }
+    } else {
+        let (_, phase) = rest.split(1);
+        let (word, parity_ok) = phase_in(phase);
+        TxEnd::Moved { word, parity_ok }
+    }
+}
+
+// What the three bits and those after them say.
+fn end_of(read: bool, seen: u8, rest: TxBits) -> Option<TxEnd>
+    requires seen { seen < 8 }
+    requires whole { IsSpelled rest }
+    requires short { rest.len ≤ 63 }
+    ensures found { IfSome result (λ end. IsEnd end × (head end ≡ low_bits 3 seen) × (u : Bool) × (bits_of rest ≡ tail read end u)) }
+    ensures none { IfNone result ((end : TxEnd) (u : Bool) → IsEnd end → head end ≡ low_bits 3 seen → bits_of rest ≡ tail read end u → ⊥) }
+{
+    match Ack::of(seen) {
+        None => {
+            if rest.len == 0 {
+                Some(TxEnd::NoAck(seen))
+            } else {
+                None
+            }
+        }
+        Some(Ack::Wait) => {
+            if rest.len == 1 {
+                Some(TxEnd::Wait)
+            } else {
+                None
+            }
+        }
+        Some(Ack::Fault) => {
+            if rest.len == 1 {
+                Some(TxEnd::Fault)
+            } else {
+                None
+            }
+        }
+        Some(Ack::Ok) => {
+            if rest.len == 34 {
+                Some(moved_of(read, rest))
+            } else {
+                None
+            }
+        }
+    }
+}
+
+/// The bits of a transaction begin the bits of no other, and no two transactions have the same
+/// bits: so a list of bits has at most one transaction at its front.
+pub fn transactions_are_told_apart()
+    ensures front { (a b : Tx) (bits more : List Bool) → Spells a bits → Spells b (bits ++ more) → more ≡ [] }
+    ensures one { (a b : Tx) (bits : List Bool) → Spells a bits → Spells b bits → a ≡ b }
+{}
