@@ -1,0 +1,32 @@
+-- What a parse says of a command's rows.
+use Rattle.std.proofs.Common.{◌≡◌, List, Option, None, Some, refl, sym, ap, ◌∙◌, true}
+use Rattle.std.specs.Prelude.{IsSomeAnd}
+use Rattle.clap.proofs.OnLiterals.{clap_on_literals}
+use Rattle.clap.specs.Words.{is_simple, Row, Text, first_of, subcommand_rows_of, subcommand_name_of}
+use Rattle.std.specs.Option.{option_map}
+use Rattle.clap.specs.declared.parser.matches.ArgMatches.{ArgMatches}
+use Rattle.clap.specs.declared.parser.matches.ArgMatches.TheViews.{out-ArgMatches}
+use Rattle.swd_cli.specs.Commands.{swd_app}
+
+-- one row's part, from the name and the rows
+pub from_rows : (rows : Option (Text × List Row)) (name want id : Text) (own : List Row) (value : Option Text) →
+    Some name ≡ option_map (λ p. p.0) rows → Some own ≡ option_map (λ p. p.1) rows → name ≡ want → value ≡ first_of id own →
+    IsSomeAnd rows (λ p. (p.0 ≡ want) × (value ≡ first_of id p.1))
+from_rows None name want id own value e f g h = absurd cc
+from_rows (Some p) name want id own value e f g h =
+    let n : name ≡ p.0 = cc in
+    let r : own ≡ p.1 = cc in
+    (sym n ∙ g, h ∙ ap (first_of id) r)
+
+map_map : {A B C : Type 0} (f : A → B) (g : B → C) (o : Option A) → option_map (λ x. g (f x)) o ≡ option_map g (option_map f o)
+map_map f g None = refl
+map_map f g (Some x) = refl
+
+-- the name of the subcommand is that of its rows
+pub name_in_rows : (m : ArgMatches) → subcommand_name_of m ≡ option_map (λ p. p.0) (subcommand_rows_of m)
+name_in_rows m = map_map _ (λ p. p.0) (out-ArgMatches m).subcommand
+
+-- the command is one whose matches are exact
+pub simple : is_simple swd_app ≡ true
+unfolding clap_on_literals
+simple = refl

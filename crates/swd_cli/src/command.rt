@@ -1,0 +1,18 @@
+//! What the command line asks for.
+use clap::Error;
+
+/// A command of the program, with the names that it was given.
+#[derive(Debug, Drop)]
+pub enum Line {
+    /// `swd one [FILE]`: without a file, standard input.
+    One(Option<String>),
+}
+
+/// Why the words are no command.
+#[derive(Drop)]
+pub enum LineFault {
+    /// What `clap` says of the words: a mistake, or the help that was asked for.
+    Clap(Error),
+    /// Memory was refused.
+    Memory,
+}

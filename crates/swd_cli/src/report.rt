@@ -1,0 +1,33 @@
+//! What the program says of a fault, and the status that it ends with.
+use std::process::ExitCode;
+use swd_bits::OneFault;
+
+/// The status at a fault of words, texts, files or memory.
+pub const FAULT: u8 = 2;
+
+/// Says what is wrong, on one line of standard error. Where that can't be written, the status says
+/// it alone.
+pub fn tell(rt: &impl Eprint, what: &str) -> ExitCode {
+    let _ = eprintln!(rt; "swd: {what}");
+    ExitCode::from(FAULT)
+}
+
+/// Says that a file can't be opened or made.
+pub fn cannot_open(rt: &impl Eprint, name: &str) -> ExitCode {
+    let _ = eprintln!(rt; "swd: cannot open {name}");
+    ExitCode::from(FAULT)
+}
+
+/// The status of `swd one`.
+pub fn one_status(rt: &impl Eprint, answer: Result<(), OneFault>) -> ExitCode {
+    match answer {
+        Ok(()) => ExitCode::SUCCESS,
+        Err(OneFault::BadChar { place }) => {
+            let _ = eprintln!(rt; "swd: trace byte {place}: bad character");
+            ExitCode::from(FAULT)
+        }
+        Err(OneFault::NotOne) => tell(rt, "not one transaction"),
+        Err(OneFault::Read) => tell(rt, "read failed"),
+        Err(OneFault::Write) => tell(rt, "write failed"),
+    }
+}

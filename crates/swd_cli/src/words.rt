@@ -1,0 +1,121 @@
+//! The words of the command line.
+ghost use Rattle.std.specs.Prelude.{◌≡◌, IfOk, map, false};
+ghost use Rattle.std.specs.Option.{option_map};
+ghost use Rattle.std.specs.String.{string_bytes};
+ghost use Rattle.clap.specs.Words.{app_of, subcommand_of, subcommand_rows_of, rule_of, shape_of, with_rule, with_subcommand};
+ghost use Rattle.clap.specs.declared.builder.command.Command.TheViews.{out-Command};
+ghost use Rattle.swd_cli.specs.Commands.{file_rule, over_file, swd_app, IsLineOf};
+
+use crate::command::{Line, LineFault};
+use clap::error::ErrorKind;
+use clap::{Arg, ArgMatches, Command};
+use std::alloc::{AllocError, Global};
+
+const ABOUT: &str = "Reads and writes traces of the Serial Wire Debug (SWD) line.";
+
+const AFTER: &str =
+    "A trace is text: a character 0 or 1 for each bit on the line, in time order. Blanks and line\n\
+ends are passed over, and so is everything from # up to the end of the line.\n\n\
+Status: 0 all done, 2 a fault, which is told on standard error.\n\n\
+Example, a read of the debug port's identification register:\n  \
+echo '10100101 1 100 11101110001010000000010111010100 0 1' | swd one\n  \
+dp 0 read ok 2ba01477";
+
+const ONE_ABOUT: &str = "Lists the one transaction that a trace holds";
+
+// A value as an owned text.
+fn owned(alloc: Global, text: Option<&str>) -> Result<Option<String>, AllocError>
+    ensures { IfOk result (λ o. option_map string_bytes o ≡ option_map (λ s. s.now) text.entry) }
+{
+    match text {
+        Some(text) => Ok(Some(String::from_str(alloc, text)?)),
+        None => Ok(None),
+    }
+}
+
+// The file that a command reads, or standard input.
+fn file_arg<'a>(alloc: Global) -> Arg<'a>
+    ensures rule { rule_of result ≡ file_rule }
+    ensures local { result.global ≡ false }
+{
+    Arg::new(alloc, "FILE").help("The file to read; without it, standard input")
+}
+
+fn with_arg<'a>(command: Command<'a>, arg: Arg<'a>) -> Result<Command<'a>, AllocError>
+    requires arg { arg.global ≡ false }
+    requires local { (out-Command command).has_globals ≡ false }
+    ensures app { IfOk result (λ c. app_of c ≡ with_rule (app_of command.entry) (rule_of arg.entry)) }
+    ensures local { IfOk result (λ c. (out-Command c).has_globals ≡ false) }
+{
+    command.arg(arg)
+}
+
+fn with_sub<'a>(command: Command<'a>, sub: Command<'a>) -> Result<Command<'a>, AllocError>
+    requires sub { (out-Command sub).has_globals ≡ false }
+    requires local { (out-Command command).has_globals ≡ false }
+    ensures app { IfOk result (λ c. app_of c ≡ with_subcommand (app_of command.entry) (shape_of sub.entry)) }
+    ensures local { IfOk result (λ c. (out-Command c).has_globals ≡ false) }
+{
+    command.subcommand(sub)
+}
+
+// A command over a file.
+fn over_a_file<'a>(alloc: Global, name: &'a str, about: &'a str) -> Result<Command<'a>, AllocError>
+    ensures app { IfOk result (λ c. app_of c ≡ over_file name.entry.now) }
+    ensures local { IfOk result (λ c. (out-Command c).has_globals ≡ false) }
+{
+    let bare = Command::new(alloc, name).about(about);
+    with_arg(bare, file_arg(alloc))
+}
+
+// The program's command.
+fn swd_command<'a>(alloc: Global) -> Result<Command<'a>, AllocError>
+    ensures app { IfOk result (λ c. app_of c ≡ swd_app) }
+    ensures local { IfOk result (λ c. (out-Command c).has_globals ≡ false) }
+{
+    let bare = Command::new(alloc, "swd")
+        .about(ABOUT)
+        .after_help(AFTER)
+        .subcommand_required(true);
+    with_sub(bare, over_a_file(alloc, "one", ONE_ABOUT)?)
+}
+
+fn unknown(alloc: Global) -> LineFault {
+    let mut command = Command::new(alloc, "swd");
+    match command.error(ErrorKind::InvalidSubcommand, "unknown command") {
+        Ok(error) => LineFault::Clap(error),
+        Err(_) => LineFault::Memory,
+    }
+}
+
+// The command that was matched.
+fn line_of(alloc: Global, matches: &ArgMatches<'_>) -> Result<Line, LineFault>
+    ensures { IfOk result (λ l. IsLineOf l (subcommand_rows_of matches.now)) }
+{
+    let Some((name, rest)) = matches.subcommand() else {
+        return Err(unknown(alloc));
+    };
+    let Ok(file) = owned(alloc, rest.get_str("FILE")) else {
+        return Err(LineFault::Memory);
+    };
+    match name {
+        "one" => Ok(Line::One(file)),
+        _ => Err(unknown(alloc)),
+    }
+}
+
+#[tactic(auto, using(crate::proofs::CommandLemmas::simple))]
+/// What the words ask for, the program's name first.
+///
+/// At `Ok` the command and its names are those that the words have by `clap`'s meaning of them.
+pub fn line<'a>(alloc: Global, words: &'a [&'a str]) -> Result<Line, LineFault>
+    ensures { IfOk result (λ l. IsLineOf l (subcommand_of swd_app (map (λ w. w.now) words.entry.now))) }
+{
+    let Ok(command) = swd_command(alloc) else {
+        return Err(LineFault::Memory);
+    };
+    match command.try_get_matches_from(words) {
+        Ok(matches) => line_of(alloc, &matches),
+        Err(fault) => Err(LineFault::Clap(fault)),
+    }
+}
