@@ -1,0 +1,89 @@
+-- Laws of answers and of what the host sees of them.
+use Rattle.std.proofs.Common.{◌≡◌, ◌≢◌, ℕ, zero, suc, ◌<◌, Bool, true, false, refl, inl, inr, arith}
+use Rattle.std.specs.Prelude.{◌==◌, ◌||◌, not, if◌then◌else◌}
+use Rattle.swd_bits.specs.declared.ack.Ack.{Ack}
+use Rattle.swd_bits.specs.declared.ack.Ack.TheVariants.{Ok as AckOk, Wait as AckWait, Fault as AckFault}
+use Rattle.swd_bits.specs.Bits.{number}
+use Rattle.swd_bits.specs.Wire.{ack}
+use Rattle.swd_port.specs.Port.{Register, Reset}
+use Rattle.swd_port.specs.Choices.{Mark, Clean, Wait, Flip, Deaf, Mute, IsMark, is_wait, is_deaf}
+use Rattle.swd_port.specs.Answers.{Reply, Okay, Waits, Faults, Silent, answer, may_wait, MayAnswer, reply_under, driven, seen_at, is_answered, is_exempt}
+
+answer_by : (a b c : Bool) → (if not a then Silent else if b then Okay else if c then Faults else Okay) ≢ Waits
+answer_by true true c = λ e. cc
+answer_by true false true = λ e. cc
+answer_by true false false = λ e. cc
+answer_by false b c = λ e. cc
+
+pub never_waits : (reset : Reset) (sticky write unpowered : Bool) (r : Register) → answer reset sticky write unpowered r ≢ Waits
+never_waits reset sticky write unpowered r = answer_by (is_answered reset r) (is_exempt r) (sticky || write || unpowered)
+
+allowed_if : (b : Bool) (r : Register) (a : Reply) → may_wait r a ≡ b → MayAnswer r a (if b then Waits else a)
+allowed_if true r a e = inr (e, refl)
+allowed_if false r a e = inl refl
+
+pub allowed : (mark : Mark) (r : Register) (a : Reply) → is_deaf mark ≡ false → MayAnswer r a (reply_under mark r a)
+allowed Clean r a seen = inl refl
+allowed Wait r a seen = allowed_if (may_wait r a) r a refl
+allowed (Flip place) r a seen = inl refl
+allowed Deaf r a seen = absurd cc
+allowed (Mute place) r a seen = inl refl
+
+pub waits : (r : Register) (a : Reply) → may_wait r a ≡ true → reply_under Wait r a ≡ Waits
+waits r a e = rw e refl
+
+pub waits_only : (mark : Mark) (r : Register) (a : Reply) → a ≢ Waits → reply_under mark r a ≡ Waits → is_wait mark ≡ true
+waits_only Clean r a other e = absurd (other e)
+waits_only Wait r a other e = refl
+waits_only (Flip place) r a other e = absurd (other e)
+waits_only Deaf r a other e = absurd cc
+waits_only (Mute place) r a other e = absurd (other e)
+
+-- the three places of an acknowledgement
+muted_range : (place : ℕ) (reply : Reply) → place < 3 → seen_at (Mute place) reply < 8
+muted_range zero Okay h = omega arith
+muted_range zero Waits h = omega arith
+muted_range zero Faults h = omega arith
+muted_range (suc zero) Okay h = omega arith
+muted_range (suc zero) Waits h = omega arith
+muted_range (suc zero) Faults h = omega arith
+muted_range (suc (suc zero)) Okay h = omega arith
+muted_range (suc (suc zero)) Waits h = omega arith
+muted_range (suc (suc zero)) Faults h = omega arith
+muted_range (suc (suc (suc n))) reply h = absurd (omega arith)
+muted_range place Silent h = omega arith
+
+pub seen_lt : (mark : Mark) (reply : Reply) → IsMark mark → seen_at mark reply < 8
+seen_lt (Mute place) reply h = muted_range place reply h
+seen_lt mark Okay h = omega arith
+seen_lt mark Waits h = omega arith
+seen_lt mark Faults h = omega arith
+seen_lt mark Silent h = omega arith
+
+-- what is no acknowledgement
+other : (n : ℕ) (a : Ack) → (n == 1) ≡ false → (n == 2) ≡ false → (n == 4) ≡ false → n ≡ number (ack a) → ⊥
+other n AckOk b d f e = absurd (cc (rw e at b))
+other n AckWait b d f e = absurd (cc (rw e at d))
+other n AckFault b d f e = absurd (cc (rw e at f))
+
+muted_seen : (place : ℕ) (reply : Reply) (a : Ack) → place < 3 → seen_at (Mute place) reply ≡ number (ack a) → driven reply ≡ number (ack a)
+muted_seen zero Okay a h e = absurd (other (seen_at (Mute 0) Okay) a refl refl refl e)
+muted_seen zero Waits a h e = absurd (other (seen_at (Mute 0) Waits) a refl refl refl e)
+muted_seen zero Faults a h e = absurd (other (seen_at (Mute 0) Faults) a refl refl refl e)
+muted_seen (suc zero) Okay a h e = absurd (other (seen_at (Mute 1) Okay) a refl refl refl e)
+muted_seen (suc zero) Waits a h e = absurd (other (seen_at (Mute 1) Waits) a refl refl refl e)
+muted_seen (suc zero) Faults a h e = absurd (other (seen_at (Mute 1) Faults) a refl refl refl e)
+muted_seen (suc (suc zero)) Okay a h e = absurd (other (seen_at (Mute 2) Okay) a refl refl refl e)
+muted_seen (suc (suc zero)) Waits a h e = absurd (other (seen_at (Mute 2) Waits) a refl refl refl e)
+muted_seen (suc (suc zero)) Faults a h e = absurd (other (seen_at (Mute 2) Faults) a refl refl refl e)
+muted_seen (suc (suc (suc n))) reply a h e = absurd (omega arith)
+muted_seen place Silent a h e = e
+
+pub seen_driven : (mark : Mark) (reply : Reply) (a : Ack) → IsMark mark → seen_at mark reply ≡ number (ack a) → driven reply ≡ number (ack a)
+seen_driven (Mute place) reply a h e = muted_seen place reply a h e
+seen_driven mark Okay a h e = e
+seen_driven mark Waits a h e = e
+seen_driven mark Faults a h e = e
+seen_driven mark Silent a h e = e
+
+pub ruleset answer_laws = (never_waits, allowed, waits, waits_only, seen_lt, seen_driven)

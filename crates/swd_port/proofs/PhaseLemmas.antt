@@ -1,0 +1,98 @@
+-- Laws of data phases.
+use Rattle.std.proofs.Common.{◌≡◌, ℕ, zero, suc, ◌+◌, ◌-◌, ◌*◌, ◌/◌, ◌%◌, ◌^◌, ◌<◌, Bool, true, false, [], ◌∷◌, refl, sym, ◌∙◌, ap, arith}
+use Rattle.std.specs.Prelude.{◌==◌, Some, None, if◌then◌else◌}
+use Rattle.std.specs.Int.RustNames.{count_ones, bit_xor}
+use Rattle.std.specs.Int.Bits.{xor_zero_r}
+use lib.Count.{ones_step}
+use Rattle.std.proofs.lemmas.Nat.{xor_mod, xor_shr, ones_cat, shr_split, mod_low, pow_pos}
+use Rattle.std.proofs.lemmas.Bool.{eqb-true}
+use Rattle.std.proofs.Math.Nat.{pow-suc}
+use Rattle.swd_bits.specs.Bits.{low_bits}
+use Rattle.swd_bits.specs.Wire.{phase}
+use Rattle.swd_port.specs.Phases.{phase_number, word_in, undriven}
+use Rattle.swd_bits.proofs.BitsLemmas.{low_bits-cat, odd-low_bits, same_bits}
+
+xor_first : (r : ℕ) → r < 2 → bit_xor r 1 + r ≡ 1
+xor_first zero h = refl
+xor_first (suc zero) h = refl
+xor_first (suc (suc r)) h = absurd (omega arith)
+
+-- a changed bit changes the parity
+pub ones_flip : (p v : ℕ) → count_ones (bit_xor v (2 ^ p)) % 2 ≡ (count_ones v + 1) % 2
+unfolding count_ones
+ones_flip zero v =
+    let a : bit_xor v 1 % 2 ≡ bit_xor (v % 2) 1 = xor_mod v 1 1 in
+    let b : count_ones (bit_xor v 1 / 2) ≡ count_ones (v / 2) = ap count_ones (xor_shr v 1 1 ∙ xor_zero_r (v / 2)) in
+    let c : bit_xor (v % 2) 1 + v % 2 ≡ 1 = xor_first (v % 2) (omega arith) in
+    omega (arith, ones_step (bit_xor v 1), ones_step v)
+ones_flip (suc p) v =
+    let z : 2 ^ suc p % 2 ≡ 0 = omega (arith, pow-suc 2 p) in
+    let h : 2 ^ suc p / 2 ≡ 2 ^ p = omega (arith, pow-suc 2 p) in
+    let a : bit_xor v (2 ^ suc p) % 2 ≡ v % 2 = xor_mod v (2 ^ suc p) 1 ∙ ap (bit_xor (v % 2)) z ∙ xor_zero_r (v % 2) in
+    let b : count_ones (bit_xor v (2 ^ suc p) / 2) ≡ count_ones (bit_xor (v / 2) (2 ^ p)) = ap count_ones (xor_shr v (2 ^ suc p) 1 ∙ ap (bit_xor (v / 2)) h) in
+    omega (arith, ones_step (bit_xor v (2 ^ suc p)), ones_step v, ones_flip p (v / 2))
+
+ones_digit : (r : ℕ) → r < 2 → count_ones r ≡ r
+unfolding count_ones
+ones_digit zero h = refl
+ones_digit (suc zero) h = refl
+ones_digit (suc (suc r)) h = absurd (omega arith)
+
+-- the ones of a number of 33 bits
+ones_parts : (hi lo : ℕ) → hi < 2 → lo < 2 ^ 32 → count_ones (hi * 2 ^ 32 + lo) ≡ hi + count_ones lo
+unfolding count_ones
+ones_parts hi lo h k = ones_cat 32 hi lo k ∙ ap (λ n. n + count_ones lo) (ones_digit hi h)
+
+pub ones_phase : (w : ℕ) → w < 2 ^ 32 → count_ones (phase_number w) % 2 ≡ 0
+ones_phase w h = omega (arith, ones_parts (count_ones w % 2) w (omega arith) h)
+
+-- a phase tells its word
+pub word_phase : (w : ℕ) → w < 2 ^ 32 → word_in (phase_number w) ≡ Some w
+word_phase w h = rw (ones_phase w h, mod_low (count_ones w % 2) 32 w h) refl
+
+-- a phase with one bit changed tells none
+pub word_flip : (w p : ℕ) → w < 2 ^ 32 → word_in (bit_xor (phase_number w) (2 ^ p)) ≡ None
+word_flip w p h =
+    let e : count_ones (bit_xor (phase_number w) (2 ^ p)) % 2 ≡ 1 = omega (arith, ones_flip p (phase_number w), ones_phase w h) in
+    rw e refl
+
+-- a run of ones
+pub ones_all : (k : ℕ) → count_ones (2 ^ k - 1) ≡ k
+unfolding count_ones
+ones_all zero = refl
+ones_all (suc k) =
+    let a : 2 ^ suc k ≡ 2 * 2 ^ k = omega (arith, pow-suc 2 k) in
+    let b : (2 ^ suc k - 1) / 2 ≡ 2 ^ k - 1 = omega (arith, pow_pos k) in
+    omega (arith, ones_step (2 ^ suc k - 1), ap count_ones b, ones_all k, pow_pos k)
+
+-- ones alone tell none
+pub word_ones : word_in undriven ≡ None
+word_ones = let e : count_ones (2 ^ 33 - 1) % 2 ≡ 1 = ap (λ n. n % 2) (ones_all 33) in rw e refl
+
+last_bit : (p : ℕ) → p < 2 → low_bits 1 p ≡ (p == 1) ∷ []
+unfolding low_bits
+last_bit p h = let e : p % 2 ≡ p = omega arith in rw e refl
+
+-- the bits of a phase
+pub bits_phase : (w : ℕ) → w < 2 ^ 32 → low_bits 33 (phase_number w) ≡ phase w
+unfolding phase
+bits_phase w h = rw (low_bits-cat 32 1 (count_ones w % 2) w h, last_bit (count_ones w % 2) (omega arith), odd-low_bits 32 w h) refl
+
+told : (even : Bool) (v w : ℕ) → v < 2 ^ 33 → (count_ones v % 2 == 0) ≡ even → (if even then Some (v % 2 ^ 32) else None) ≡ Some w → v ≡ phase_number w
+told true v w h e f =
+    let zero_rest : count_ones v % 2 ≡ 0 = eqb-true (count_ones v % 2) 0 e in
+    let g : v % 2 ^ 32 ≡ w = cc in
+    let parts : v / 2 ^ 32 * 2 ^ 32 + v % 2 ^ 32 ≡ v = shr_split v 32 in
+    let ones : count_ones v ≡ v / 2 ^ 32 + count_ones w = ap count_ones (sym parts) ∙ ones_parts (v / 2 ^ 32) (v % 2 ^ 32) (omega arith) (omega arith) ∙ ap (λ n. v / 2 ^ 32 + count_ones n) g in
+    omega arith
+told false v w h e f = absurd (cc)
+
+-- a number that tells a word is its phase
+pub phase_told : (v w : ℕ) → v < 2 ^ 33 → word_in v ≡ Some w → v ≡ phase_number w
+phase_told v w h e = told (count_ones v % 2 == 0) v w h refl e
+
+-- a phase by its bits
+pub word_told : (v w : ℕ) → v < 2 ^ 33 → w < 2 ^ 32 → low_bits 33 v ≡ phase w → word_in v ≡ Some w
+word_told v w h k e =
+    let f : v ≡ phase_number w = same_bits 33 v (phase_number w) h (omega arith) (e ∙ sym (bits_phase w k)) in
+    ap word_in f ∙ word_phase w k

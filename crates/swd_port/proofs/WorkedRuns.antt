@@ -1,0 +1,133 @@
+-- Short runs of the port machine, computed by its definitions: what each last read gives.
+use Rattle.std.proofs.Common.{◌≡◌, ℕ, Bool, true, false, refl}
+use Rattle.swd_bits.specs.declared.request.Request.{Request}
+use Rattle.swd_bits.specs.declared.request.Reg4.{Reg4}
+use Rattle.swd_bits.specs.declared.request.Reg4.TheVariants.{R0, R4, R8, RC}
+use Rattle.swd_port.specs.declared.wire.Due.TheVariants.{Lost}
+use Rattle.swd_port.specs.PlainMemory.{PlainMemory, succeeds_at}
+use Rattle.swd_port.specs.Phases.{phase_number}
+use Rattle.swd_port.specs.Port.{Port, Drives, made, register}
+use Rattle.swd_port.specs.Choices.{Clean, Choice}
+use Rattle.swd_port.specs.Answers.{seen_at}
+use Rattle.swd_port.specs.Completion.{completed}
+use Rattle.swd_port.specs.Asking.{reply_in, after_reply, value_in}
+use Rattle.swd_port.specs.Moving.{Arrives, Damaged, after_arrival, after_take}
+use Rattle.swd_port.specs.Leading.{after_lead}
+
+-- the choices of these runs
+abbrev choice : Choice
+choice = record { address = 0; wraps = true; filler = 0xa5a5_a5a5 }
+
+-- requests by their names in AP 0, bank 0, and DP bank 0
+abbrev dp_read : Reg4 → Request
+dp_read addr = record { ap = false; read = true; addr = addr }
+
+abbrev dp_write : Reg4 → Request
+dp_write addr = record { ap = false; read = false; addr = addr }
+
+abbrev ap_read : Reg4 → Request
+ap_read addr = record { ap = true; read = true; addr = addr }
+
+abbrev ap_write : Reg4 → Request
+ap_write addr = record { ap = true; read = false; addr = addr }
+
+-- a clean request, and what the host sees of it
+abbrev asked : Request → Port → Port
+asked q s = after_reply Clean (reply_in Clean s q) (register s.select q) q choice s
+
+abbrev seen : Request → Port → ℕ
+seen q s = seen_at Clean (reply_in Clean s q)
+
+-- a read with its data phase, and the value that it gives
+abbrev taken : Request → Port → Port
+taken q s = after_take (asked q s)
+
+abbrev value : Request → Port → ℕ
+value q s = value_in (register s.select q) choice s
+
+-- a write whose word arrives, and one whose data is damaged
+abbrev given : Request → ℕ → Port → Port
+given q word s = after_arrival (Arrives (register s.select q) word) (asked q s)
+
+abbrev damaged : Request → Port → Port
+damaged q s = after_arrival Damaged (asked q s)
+
+-- a target that was reset and read, and one that is set up for transfers
+abbrev live : PlainMemory → Port
+live m = taken (dp_read R0) (after_lead 56 (made 0x2ba0_1477 m))
+
+abbrev up : PlainMemory → Port
+up m = given (ap_write R0) 0x2300_0012 (given (dp_write R4) 0x5000_0000 (live m))
+
+before_any_lead : (m : PlainMemory) → seen (dp_read R0) (made 0x2ba0_1477 m) ≡ 7
+before_any_lead m = refl
+
+lost_before_any_lead : (m : PlainMemory) → (asked (dp_read R0) (made 0x2ba0_1477 m)).due ≡ Lost
+lost_before_any_lead m = refl
+
+dpidr : (m : PlainMemory) → (asked (dp_read R0) (after_lead 56 (made 0x2ba0_1477 m))).line ≡ Drives (phase_number 0x2ba0_1477)
+dpidr m = refl
+
+unknown_buffer : (m : PlainMemory) → (asked (dp_read RC) (live m)).line ≡ Drives (phase_number 0xa5a5_a5a5)
+unknown_buffer m = refl
+
+read_ok : (m : PlainMemory) → value (dp_read R4) (taken (dp_read RC) (live m)) ≡ 0x0000_0040
+read_ok m = refl
+
+-- a line reset in place of the data of a SELECT write
+abbrev cut_short : PlainMemory → Port
+cut_short m = after_lead 100 (asked (dp_write R8) (live m))
+
+silent_while_fresh : (m : PlainMemory) → seen (dp_read R4) (cut_short m) ≡ 7
+silent_while_fresh m = refl
+
+cut_short_sets_write_error : (m : PlainMemory) → value (dp_read R4) (taken (dp_read R0) (cut_short m)) ≡ 0x0000_0080
+cut_short_sets_write_error m = refl
+
+other_bank_ignores : (m : PlainMemory) → value (dp_read R4) (given (dp_write R8) 0 (given (dp_write R4) 0x5000_0000 (given (dp_write R8) 1 (live m)))) ≡ 0
+other_bank_ignores m = refl
+
+no_power : (m : PlainMemory) → seen (ap_read R0) (live m) ≡ 4
+no_power m = refl
+
+no_power_sets_sticky_error : (m : PlainMemory) → value (dp_read R4) (asked (ap_read R0) (live m)) ≡ 0x0000_0020
+no_power_sets_sticky_error m = refl
+
+no_power_beside_write_error : (m : PlainMemory) → value (dp_read R4) (asked (ap_read R0) (damaged (dp_write R8) (live m))) ≡ 0x0000_00a0
+no_power_beside_write_error m = refl
+
+powered : (m : PlainMemory) → value (dp_read R4) (up m) ≡ 0xf000_0000
+powered m = refl
+
+csw_is_posted : (m : PlainMemory) → value (ap_read R0) (up m) ≡ 0xa5a5_a5a5
+csw_is_posted m = refl
+
+csw : (m : PlainMemory) → value (dp_read RC) (taken (ap_read R0) (up m)) ≡ 0x2300_0052
+csw m = refl
+
+damaged_write_keeps_returned : (m : PlainMemory) →
+    value (dp_read R8) (given (dp_write R0) 8 (damaged (ap_write R4) (taken (dp_read RC) (taken (ap_read R0) (up m))))) ≡ 0x2300_0052
+damaged_write_keeps_returned m = refl
+
+-- a write to an address where the memory has no word, done at once
+abbrev failed : PlainMemory → Port
+failed m = completed choice (given (ap_write RC) 1 (given (ap_write R4) 0x3000_0000 (up m)))
+
+bus_error_is_a_fault : (m : PlainMemory) → succeeds_at 0x3000_0000 m ≡ false → seen (dp_read RC) (failed m) ≡ 4
+bus_error_is_a_fault m none = rw none refl
+
+bus_error_in_status : (m : PlainMemory) → succeeds_at 0x3000_0000 m ≡ false → value (dp_read R4) (asked (dp_read RC) (failed m)) ≡ 0xf000_0020
+bus_error_in_status m none = rw none refl
+
+bus_error_cleared : (m : PlainMemory) → succeeds_at 0x3000_0000 m ≡ false → value (dp_read R4) (given (dp_write R0) 4 (asked (dp_read RC) (failed m))) ≡ 0xf000_0000
+bus_error_cleared m none = rw none refl
+
+-- a write to an address where it has one, at the end of a kilobyte
+abbrev moved : Bool → PlainMemory → Port
+moved wraps m = completed (record choice { wraps = wraps }) (given (ap_write RC) 1 (given (ap_write R4) 0x2000_03fc (up m)))
+
+wraps_inside : (m : PlainMemory) → succeeds_at 0x2000_03fc m ≡ true → value (dp_read RC) (taken (ap_read R4) (moved true m)) ≡ 0x2000_0000
+wraps_inside m there = rw there refl
+
+carries_on : (m : PlainMemory) → succeeds_at 0x2000_03fc m ≡ true → value (dp_read RC) (taken (ap_read R4) (moved false m)) ≡ 0x2000_0400
+carries_on m there = rw there refl

@@ -1,0 +1,121 @@
+-- A request and its acknowledgement: one call of `ask`.
+use Rattle.std.specs.Prelude.{ℕ, ◌≡◌, ◌<◌, ◌^◌, ◌+◌, ◌||◌, ◌&&◌, Bool, true, false, if◌then◌else◌, Option, Some, None, unwrap_or}
+use Rattle.swd_bits.specs.declared.request.Request.{Request}
+use Rattle.swd_port.specs.Registers.{ctrl_stat_read, csw_read}
+use Rattle.swd_port.specs.Phases.{phase_number, flipped}
+use Rattle.swd_port.specs.Port.{Port, Register, DpidrRead, CtrlStatRead, ResendRead, RdbuffRead, DpZeroRead, CswRead, TarRead, DrwRead, ApZeroRead, Reset, Live, Line, Drives, Awaits, Drw, Reads, register}
+use Rattle.swd_port.specs.Choices.{Mark, IsMark, flip_of, disturbs, loses, Choice, IsChoice}
+use Rattle.swd_port.specs.Answers.{Reply, Okay, Faults, Silent, is_exempt, is_dpidr, is_okay, is_fault, is_unpowered, answer, reply_under, seen_at, due_after}
+use Rattle.swd_port.specs.Completion.{Completes}
+
+-- an AP read or the RDBUFF read: they return the read buffer, and READOK tells of them
+-- (IHI 0031, B4, "Read accesses", posted; and B2, "CTRL/STAT, Control/Status register")
+abbrev pub is_posted : Register → Bool
+is_posted RdbuffRead = true
+is_posted CswRead = true
+is_posted TarRead = true
+is_posted DrwRead = true
+is_posted ApZeroRead = true
+is_posted _ = false
+
+-- the answer of a state where no WAIT is asked for (IHI 0031, B4, "Acknowledge response")
+abbrev pub answer_in : Port → Request → Reply
+answer_in s q = answer s.reset s.sticky_error s.write_error (is_unpowered q.ap s.debug_power) (register s.select q)
+
+-- what is answered in a state under a mark (this project's choice)
+abbrev pub reply_in : Mark → Port → Request → Reply
+reply_in mark s q = reply_under mark (register s.select q) (answer_in s q)
+
+-- The word that a read returns, from what DPIDR and CTRL/STAT give, the last returned value, the read buffer, and the word
+-- that stands for an unknown one. RESEND gives the last returned value again, an AP read and RDBUFF give the read buffer
+-- (IHI 0031, B2, "RESEND, Read Resend register", "RDBUFF, Read Buffer register"; and B4, "Read accesses").
+abbrev pub value_read : Register → ℕ → ℕ → Option ℕ → Option ℕ → ℕ → ℕ
+value_read DpidrRead identification status last_returned buffer filler = identification
+value_read CtrlStatRead identification status last_returned buffer filler = status
+value_read ResendRead identification status last_returned buffer filler = unwrap_or last_returned filler
+value_read DpZeroRead identification status last_returned buffer filler = 0
+value_read r identification status last_returned buffer filler = unwrap_or buffer filler
+
+-- the word of CTRL/STAT in a state (IHI 0031, B2, "CTRL/STAT, Control/Status register")
+abbrev pub status_in : Port → ℕ
+status_in s = ctrl_stat_read s.sticky_error s.read_ok s.write_error s.debug_power s.system_power
+
+-- the word that a read returns in a state; the choice's filler stands for an unknown one (this project's choice)
+abbrev pub value_in : Register → Choice → Port → ℕ
+value_in r c s = value_read r s.identification (status_in s) s.last_returned s.buffer c.filler
+
+-- a DPIDR read that is answered makes a fresh target live (IHI 0031, B4, "Connection and line reset sequence")
+abbrev pub reset_after : Reply → Register → Reset → Reset
+reset_after reply r reset = if is_okay reply && is_dpidr r then Live else reset
+
+-- the data phase that follows an OK; its 33 bits arrive with the changed place
+-- (IHI 0031, B4, "Data transfer"; the changed place: this project's choice)
+abbrev pub phase_after : Bool → Register → Option ℕ → ℕ → Line
+phase_after read r flip value = if read then Drives (flipped flip (phase_number value)) else Awaits r flip
+
+-- only an OK is followed by a data phase (IHI 0031, B4, "Acknowledge response")
+abbrev pub line_after : Reply → Line → Line → Line
+line_after reply phase line = if is_okay reply then phase else line
+
+-- READOK: whether the last AP read or RDBUFF read that was answered at all was answered OK
+-- (IHI 0031, B2, "CTRL/STAT, Control/Status register")
+abbrev pub read_ok_after : Reply → Register → Bool → Bool
+read_ok_after Silent r read_ok = read_ok
+read_ok_after reply r read_ok = if is_posted r then is_okay reply else read_ok
+
+-- the read buffer once a read's value was taken from it: an AP read puts its own result there, DRW when its transfer is done;
+-- RDBUFF leaves it unknown (IHI 0031, B2, "RDBUFF, Read Buffer register"; an unknown TAR is an unknown result)
+abbrev pub buffer_once_read : Register → ℕ → Option ℕ → Option ℕ → Option ℕ
+buffer_once_read RdbuffRead csw tar buffer = None
+buffer_once_read CswRead csw tar buffer = Some csw
+buffer_once_read TarRead csw tar buffer = tar
+buffer_once_read ApZeroRead csw tar buffer = Some 0
+buffer_once_read r csw tar buffer = buffer
+
+-- a DRW read is pending from its OK on (IHI 0031, MEM-AP, "DRW, Data Read/Write register")
+abbrev pub pending_once_read : Register → Option Drw → Option Drw
+pending_once_read DrwRead pending = Some Reads
+pending_once_read r pending = pending
+
+-- The state after a request that was replied to. An OK to a read has the effects of that read; an OK to a write has
+-- those of its data phase, which follows. WAIT changes READOK alone, FAULT also STICKYERR where an AP access has no power,
+-- and silence nothing. The three numbers count the request (this project's choice).
+abbrev pub after_reply : Mark → Reply → Register → Request → Choice → Port → Port
+after_reply mark reply r q c s = record s {
+  reset = reset_after reply r s.reset;
+  due = due_after q.read (seen_at mark reply);
+  line = line_after reply (phase_after q.read r (flip_of mark) (value_in r c s)) s.line;
+  sticky_error = s.sticky_error || (is_fault reply && is_unpowered q.ap s.debug_power);
+  read_ok = read_ok_after reply r s.read_ok;
+  buffer = if is_okay reply then buffer_once_read r (csw_read s.increments s.csw_upper) s.tar s.buffer else s.buffer;
+  last_returned = if is_okay reply && is_posted r then s.buffer else s.last_returned;
+  pending = if is_okay reply then pending_once_read r s.pending else s.pending;
+  asked = s.asked + 1;
+  disturbed = s.disturbed + disturbs mark;
+  lost = s.lost + loses mark;
+}
+
+-- the pending transfer has to be done before an OK or FAULT to a request that isn't exempt, so that its error makes that
+-- answer FAULT; before WAIT, silence, and the OK to an exempt request it may be pending still (this project's choice)
+abbrev pub IsSettled : Reply → Register → Option Drw → Type 0
+IsSettled Okay r pending = is_exempt r ≡ false → pending ≡ None
+IsSettled Faults r pending = is_exempt r ≡ false → pending ≡ None
+IsSettled reply r pending = Unit {0}
+
+-- what a read returns at its OK is a word: 32 bits (IHI 0031, B4, "Data transfer")
+abbrev pub IsWordRead : Reply → Bool → ℕ → Type 0
+IsWordRead Okay true value = value < 2 ^ 32
+IsWordRead reply read value = Unit {0}
+
+-- a request with its mark and the target's choice: what the host sees, and the state after it (IHI 0031, B4, "Packet request")
+pub record AsksNow (mark : Mark) (c : Choice) (s : Port) (q : Request) (seen : ℕ) (t : Port) : Type 0 where
+  pub legal : IsMark mark
+  pub choice : IsChoice c
+  pub settled : IsSettled (reply_in mark s q) (register s.select q) s.pending
+  pub word : IsWordRead (reply_in mark s q) q.read (value_in (register s.select q) c s)
+  pub sees : seen ≡ seen_at mark (reply_in mark s q)
+  pub after : t ≡ after_reply mark (reply_in mark s q) (register s.select q) q c s
+
+-- one call of `ask`: some mark, some choice, and completion before and after (IHI 0031, B4, "Packet request")
+abbrev pub Asks : Port → Request → ℕ → Port → Type 0
+Asks s q seen t = (a : Port) × (b : Port) × (mark : Mark) × (c : Choice) × Completes s a × AsksNow mark c a q seen b × Completes b t

@@ -1,0 +1,63 @@
+-- What one call of the wire is free in: the damage done to a request, and the choices that the standard leaves to a target.
+use Rattle.std.specs.Prelude.{ℕ, ◌<◌, ◌^◌, Bool, true, false, Option, Some, None}
+
+-- The mark of a request: what befalls it. All five are this project's choice.
+pub data Mark : Type 0 where
+  -- nothing
+  Clean : Mark
+  -- WAIT is answered, where it may be
+  Wait : Mark
+  -- one place of the 33 bits of its data phase arrives changed, where it has one; 32 is the parity
+  Flip : (place : ℕ) → Mark
+  -- the target doesn't see the request
+  Deaf : Mark
+  -- the host sees one of the three bits of the acknowledgement changed, where one is driven
+  Mute : (place : ℕ) → Mark
+
+-- the place is one of the 33 bits, or of the three (this project's choice)
+abbrev pub IsMark : Mark → Type 0
+IsMark (Flip place) = place < 33
+IsMark (Mute place) = place < 3
+IsMark _ = Unit {0}
+
+-- WAIT is asked for (this project's choice)
+abbrev pub is_wait : Mark → Bool
+is_wait Wait = true
+is_wait _ = false
+
+-- the target doesn't see the request (this project's choice)
+abbrev pub is_deaf : Mark → Bool
+is_deaf Deaf = true
+is_deaf _ = false
+
+-- the place that arrives changed (this project's choice)
+abbrev pub flip_of : Mark → Option ℕ
+flip_of (Flip place) = Some place
+flip_of _ = None
+
+-- a request whose mark is Wait or Flip is disturbed, whether or not the mark had an effect (this project's choice)
+abbrev pub disturbs : Mark → ℕ
+disturbs Wait = 1
+disturbs (Flip place) = 1
+disturbs _ = 0
+
+-- a request whose mark is Deaf or Mute is lost, whether or not the mark had an effect (this project's choice)
+abbrev pub loses : Mark → ℕ
+loses Deaf = 1
+loses (Mute place) = 1
+loses _ = 0
+
+-- What a target chooses, anew at each use (this project's choice, but for the end of a kilobyte).
+pub record Choice : Type 0 where
+  -- the address that stands for an unknown TAR
+  pub address : ℕ
+  -- at the end of a kilobyte TAR wraps inside it, or carries on
+  -- (IHI 0031, MEM-AP, "Auto-incrementing the Transfer Address Register (TAR)": implementation defined)
+  pub wraps : Bool
+  -- the word that stands for an unknown value
+  pub filler : ℕ
+
+-- an address and a value are words, numbers below 2^32 (this project's choice)
+pub record IsChoice (c : Choice) : Type 0 where
+  pub address : c.address < 2 ^ 32
+  pub filler : c.filler < 2 ^ 32

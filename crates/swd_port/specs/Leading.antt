@@ -1,0 +1,41 @@
+-- Ones and zeros outside of transactions: line resets and idle cycles. The call `lead`.
+use Rattle.std.specs.Prelude.{ℕ, ◌≡◌, ◌≢◌, ◌≤◌, ◌⊎◌, ◌||◌, ◌&&◌, ◌==◌, not, Bool, true, false, if◌then◌else◌}
+use Rattle.swd_port.specs.declared.wire.Due.{Due}
+use Rattle.swd_port.specs.declared.wire.Due.TheVariants.{Nothing}
+use Rattle.swd_port.specs.Port.{Port, Fresh, Line, Idle, Awaits}
+use Rattle.swd_port.specs.Completion.{Completes}
+
+-- What a host may send where no request stands (IHI 0031, B4, "Connection and line reset sequence").
+pub record MayLead (due : Due) (ones : ℕ) (switch : Bool) (zeros : ℕ) : Type 0 where
+  -- no ones, or a line reset: at least fifty, and then at least two zeros
+  pub high : (ones ≡ 0) ⊎ (50 ≤ ones)
+  pub low : ones ≢ 0 → 2 ≤ zeros
+  -- the switch from JTAG stands between two line resets
+  pub switched : switch ≡ true → ones ≢ 0
+  -- inside a transaction a hundred ones: 34 of them may go by as the rest of a data phase (this project's choice)
+  pub inside : due ≢ Nothing → (100 ≤ ones) × (switch ≡ false)
+
+-- write data is awaited (IHI 0031, B4, "Successful write operation")
+abbrev pub is_awaiting : Line → Bool
+is_awaiting (Awaits r flip) = true
+is_awaiting line = false
+
+-- The state after ones and zeros. With ones it is a line reset: the target is fresh, and no register and no pending transfer
+-- changes, but that write data which it awaited is taken from the line's ones, whose parity is wrong: WDATAERR; read data that
+-- it drove goes by (this project's choice). Zeros alone are idle cycles (IHI 0031, B4, "Idle cycles").
+abbrev pub after_lead : ℕ → Port → Port
+after_lead ones s =
+    let resets = not (ones == 0) in
+    record s {
+      reset = if resets then Fresh else s.reset;
+      due = Nothing;
+      line = if resets then Idle else s.line;
+      write_error = s.write_error || (resets && is_awaiting s.line);
+    }
+
+-- one call of `lead`, and completion before and after (IHI 0031, B4, "Connection and line reset sequence")
+pub record LeadsNow (s : Port) (ones : ℕ) (t : Port) : Type 0 where
+  pub after : t ≡ after_lead ones s
+
+abbrev pub Leads : Port → ℕ → Port → Type 0
+Leads s ones t = (a : Port) × (b : Port) × Completes s a × LeadsNow a ones b × Completes b t

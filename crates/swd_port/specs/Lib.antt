@@ -1,0 +1,10 @@
+pub mod PlainMemory
+pub mod Registers
+pub mod Phases
+pub mod Port
+pub mod Choices
+pub mod Answers
+pub mod Completion
+pub mod Asking
+pub mod Moving
+pub mod Leading

@@ -1,0 +1,138 @@
+-- What follows an acknowledgement: a data phase of 33 bits with its turnaround, or a turnaround alone. The calls `take`, `give` and `pass`.
+use Rattle.std.specs.Prelude.{ℕ, ◌≡◌, ◌||◌, ◌&&◌, ◌==◌, not, Bool, true, false, if◌then◌else◌, Option, Some, None}
+use Rattle.swd_port.specs.declared.wire.Due.TheVariants.{Nothing}
+use Rattle.swd_port.specs.declared.select.Select.{Select}
+use Rattle.swd_port.specs.Registers.{bit_of, select_of, csw_of}
+use Rattle.swd_port.specs.Phases.{word_in, flipped, undriven}
+use Rattle.swd_port.specs.Port.{Port, Register, AbortWrite, CtrlStatWrite, SelectWrite, CswWrite, TarWrite, DrwWrite, ApIgnoredWrite, Line, Idle, Drives, Awaits, Drw, Writes}
+use Rattle.swd_port.specs.Completion.{Completes}
+
+-- the 33 bits that the host gets (IHI 0031, B4, "Data transfer"); an undriven line reads 1 (this project's choice)
+abbrev pub bits_driven : Line → ℕ
+bits_driven (Drives bits) = bits
+bits_driven line = undriven
+
+-- the host took the 33 bits of a read: nothing else changes (IHI 0031, B4, "Successful read operation")
+abbrev pub after_take : Port → Port
+after_take s = record s { due = Nothing; line = Idle }
+
+-- one call of `take`, and completion before and after (IHI 0031, B4, "Successful read operation")
+pub record TakesNow (s : Port) (bits : ℕ) (t : Port) : Type 0 where
+  pub gets : bits ≡ bits_driven s.line
+  pub after : t ≡ after_take s
+
+abbrev pub Takes : Port → ℕ → Port → Type 0
+Takes s bits t = (a : Port) × (b : Port) × Completes s a × TakesNow a bits b × Completes b t
+
+-- What the target makes of the 33 bits that reach it (IHI 0031, B4, "Data transfer").
+pub data Arrival : Type 0 where
+  -- it awaited none
+  Unawaited : Arrival
+  -- their parity is wrong
+  Damaged : Arrival
+  -- they are the word of this write
+  Arrives : (write : Register) (word : ℕ) → Arrival
+
+-- the word of a write, where the parity is right (IHI 0031, B4, "Data transfer")
+abbrev pub arrival_of : Register → Option ℕ → Arrival
+arrival_of r None = Damaged
+arrival_of r (Some word) = Arrives r word
+
+-- 33 bits that were sent, as they arrive, one place changed, where the target awaits them (the change: this project's choice)
+abbrev pub arrival : Line → ℕ → Arrival
+arrival (Awaits r flip) sent = arrival_of r (word_in (flipped flip sent))
+arrival line sent = Unawaited
+
+-- data came with wrong parity (IHI 0031, B4, "Data transfer")
+abbrev pub is_damaged : Arrival → Bool
+is_damaged Damaged = true
+is_damaged a = false
+
+-- a write of any AP: whatever it wrote, the read buffer and the last returned value are unknown after it (this project's choice)
+abbrev pub is_ap_write : Register → Bool
+is_ap_write CswWrite = true
+is_ap_write TarWrite = true
+is_ap_write DrwWrite = true
+is_ap_write ApIgnoredWrite = true
+is_ap_write r = false
+
+-- a value that an AP write makes unknown, once its data came with right parity (this project's choice)
+abbrev pub forgotten : Arrival → Option ℕ → Option ℕ
+forgotten (Arrives r word) value = if is_ap_write r then None else value
+forgotten a value = value
+
+-- ABORT's STKERRCLR, bit 2, clears STICKYERR (IHI 0031, B2, "ABORT, AP Abort register")
+abbrev pub sticky_error_after : Arrival → Bool → Bool
+sticky_error_after (Arrives AbortWrite word) flag = flag && not (bit_of 2 word)
+sticky_error_after a flag = flag
+
+-- ABORT's WDERRCLR, bit 3, clears WDATAERR; damaged data sets it, ABORT's too
+-- (IHI 0031, B4, "Data transfer", and B2, "ABORT, AP Abort register"; that it holds for ABORT: this project's choice)
+abbrev pub write_error_after : Arrival → Bool → Bool
+write_error_after (Arrives AbortWrite word) flag = flag && not (bit_of 3 word)
+write_error_after a flag = flag || is_damaged a
+
+-- CTRL/STAT stores its bits 28 and 30, the power requests (IHI 0031, B2, "CTRL/STAT, Control/Status register"; no others: this project's choice)
+abbrev pub power_after : ℕ → Arrival → Bool → Bool
+power_after n (Arrives CtrlStatWrite word) power = bit_of n word
+power_after n a power = power
+
+-- SELECT (IHI 0031, B2, "SELECT, AP Select register")
+abbrev pub select_after : Arrival → Select → Select
+select_after (Arrives SelectWrite word) select = select_of word
+select_after a select = select
+
+-- CSW stores whether AddrInc is 01, and its bits [30:24]
+-- (IHI 0031, MEM-AP, "CSW, Control/Status Word register"; no others: this project's choice)
+abbrev pub increments_after : Arrival → Bool → Bool
+increments_after (Arrives CswWrite word) increments = (csw_of word).addr_inc == 1
+increments_after a increments = increments
+
+-- bits [30:24] of CSW, as written last (this project's choice)
+abbrev pub csw_upper_after : Arrival → ℕ → ℕ
+csw_upper_after (Arrives CswWrite word) upper = (csw_of word).upper
+csw_upper_after a upper = upper
+
+-- TAR is stored as it is written (IHI 0031, MEM-AP, "TAR, Transfer Address Register")
+abbrev pub tar_written : Arrival → Option ℕ → Option ℕ
+tar_written (Arrives TarWrite word) tar = Some word
+tar_written a tar = tar
+
+-- a DRW write is pending once its data arrived (IHI 0031, MEM-AP, "DRW, Data Read/Write register")
+abbrev pub pending_after : Arrival → Option Drw → Option Drw
+pending_after (Arrives DrwWrite word) pending = Some (Writes word)
+pending_after a pending = pending
+
+-- the state after the 33 bits of a write: the write is done where their parity is right, else not, and WDATAERR is set
+-- (IHI 0031, B4, "Data transfer")
+abbrev pub after_arrival : Arrival → Port → Port
+after_arrival a s = record s {
+  due = Nothing;
+  line = Idle;
+  sticky_error = sticky_error_after a s.sticky_error;
+  write_error = write_error_after a s.write_error;
+  debug_power = power_after 28 a s.debug_power;
+  system_power = power_after 30 a s.system_power;
+  select = select_after a s.select;
+  increments = increments_after a s.increments;
+  csw_upper = csw_upper_after a s.csw_upper;
+  tar = tar_written a s.tar;
+  buffer = forgotten a s.buffer;
+  last_returned = forgotten a s.last_returned;
+  pending = pending_after a s.pending;
+}
+
+-- one call of `give`, and completion before and after (IHI 0031, B4, "Successful write operation")
+pub record GivesNow (s : Port) (sent : ℕ) (t : Port) : Type 0 where
+  pub after : t ≡ after_arrival (arrival s.line sent) s
+
+abbrev pub Gives : Port → ℕ → Port → Type 0
+Gives s sent t = (a : Port) × (b : Port) × Completes s a × GivesNow a sent b × Completes b t
+
+-- one call of `pass`, and completion before and after: the turnaround after WAIT or FAULT changes nothing at the target
+-- (IHI 0031, B4, "WAIT response to read or write operation request")
+pub record PassesNow (s t : Port) : Type 0 where
+  pub after : t ≡ record s { due = Nothing }
+
+abbrev pub Passes : Port → Port → Type 0
+Passes s t = (a : Port) × (b : Port) × Completes s a × PassesNow a b × Completes b t

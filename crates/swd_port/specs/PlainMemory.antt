@@ -1,0 +1,56 @@
+-- The memory behind the access port: words at addresses, a log of what was done, and a room for it.
+-- All of it is this project's choice; the standard leaves the memory system open.
+use Rattle.std.specs.Prelude.{ℕ, ◌&&◌, Bool, true, false, if◌then◌else◌, List, [], ◌∷◌, ◌++◌, length, nat_lt, unwrap_or}
+use Rattle.std.specs.Ordering.{nat_cmp}
+use Rattle.std.specs.FinMap.{FinMap, insert, contains_key, get}
+use Rattle.swd_port.specs.declared.access.Access.{Access}
+use Rattle.swd_port.specs.declared.access.Access.TheVariants.{Read, Write}
+use Rattle.swd_port.specs.declared.access.Answer.{Answer}
+use Rattle.swd_port.specs.declared.access.Answer.TheVariants.{Value, Written, BusFault}
+use Rattle.swd_port.specs.declared.access.Transfer.{Transfer}
+
+-- a finite map from addresses, which are multiples of 4, to words; the transfers done so far, the oldest first; and how many the log has room for
+pub record PlainMemory : Type 0 where
+  pub words : FinMap nat_cmp ℕ
+  pub log : List Transfer
+  pub room : ℕ
+
+-- a transfer at this address succeeds: there is a word, and the log has fewer entries than room
+abbrev pub succeeds_at : ℕ → PlainMemory → Bool
+succeeds_at at m = contains_key m.words at && nat_lt (length m.log) m.room
+
+-- the word at an address
+abbrev pub word_at : ℕ → PlainMemory → ℕ
+word_at at m = unwrap_or (get m.words at) 0
+
+-- the address of an access
+abbrev pub address : Access → ℕ
+address (Read at) = at
+address (Write at word) = at
+
+-- what an access that succeeds is answered
+abbrev pub answer_of : Access → PlainMemory → Answer
+answer_of (Read at) m = Value (word_at at m)
+answer_of (Write at word) m = Written
+
+-- the words after an access that succeeds
+abbrev pub words_after : Access → FinMap nat_cmp ℕ → FinMap nat_cmp ℕ
+words_after (Read at) words = words
+words_after (Write at word) words = insert words at word
+
+-- what an access that succeeds is logged as
+abbrev pub transfer_of : Access → PlainMemory → Transfer
+transfer_of (Read at) m = record { read = true; addr = at; word = word_at at m }
+transfer_of (Write at word) m = record { read = false; addr = at; word = word }
+
+-- the memory after an access that succeeds
+abbrev pub done : Access → PlainMemory → PlainMemory
+done a m = record m { words = words_after a m.words; log = m.log ++ transfer_of a m ∷ [] }
+
+-- an access of the plain memory: its answer
+abbrev pub plain_answer : Access → PlainMemory → Answer
+plain_answer a m = if succeeds_at (address a) m then answer_of a m else BusFault
+
+-- and the memory after it, which a bus fault leaves as it was
+abbrev pub plain_after : Access → PlainMemory → PlainMemory
+plain_after a m = if succeeds_at (address a) m then done a m else m

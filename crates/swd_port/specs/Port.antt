@@ -1,0 +1,143 @@
+-- The state of the port machine: a debug port of ADIv5.2 with one memory access port, AP 0.
+use Rattle.std.specs.Prelude.{ℕ, ◌==◌, ◌&&◌, Bool, true, false, Option, Some, None, if◌then◌else◌}
+use Rattle.swd_bits.specs.declared.request.Request.{Request}
+use Rattle.swd_bits.specs.declared.request.Reg4.{Reg4}
+use Rattle.swd_bits.specs.declared.request.Reg4.TheVariants.{R0, R4, R8, RC}
+use Rattle.swd_port.specs.declared.wire.Due.{Due}
+use Rattle.swd_port.specs.declared.wire.Due.TheVariants.{Nothing}
+use Rattle.swd_port.specs.declared.select.Select.{Select}
+use Rattle.swd_port.specs.PlainMemory.{PlainMemory}
+
+-- What a request asks for, once SELECT is known: a register, and a direction.
+pub data Register : Type 0 where
+  -- of the debug port (IHI 0031, B2, "DP register descriptions")
+  DpidrRead AbortWrite CtrlStatRead CtrlStatWrite SelectWrite ResendRead RdbuffRead : Register
+  -- of the debug port, where nothing stands: reads 0, ignores writes (this project's choice)
+  DpZeroRead DpIgnoredWrite : Register
+  -- of the access port (IHI 0031, MEM-AP, "MEM-AP register descriptions")
+  CswRead CswWrite TarRead TarWrite DrwRead DrwWrite : Register
+  -- of the access port, where nothing stands: reads 0, ignores writes (this project's choice)
+  ApZeroRead ApIgnoredWrite : Register
+
+-- the debug port's registers by direction, address and whether DPBANKSEL is 0, on which address 4 alone depends
+abbrev pub dp_register : Bool → Reg4 → Bool → Register
+dp_register true R0 bank0 = DpidrRead
+dp_register false R0 bank0 = AbortWrite
+dp_register true R4 bank0 = if bank0 then CtrlStatRead else DpZeroRead
+dp_register false R4 bank0 = if bank0 then CtrlStatWrite else DpIgnoredWrite
+dp_register true R8 bank0 = ResendRead
+dp_register false R8 bank0 = SelectWrite
+dp_register true RC bank0 = RdbuffRead
+dp_register false RC bank0 = DpIgnoredWrite
+
+-- the registers of AP 0 in AP bank 0, by direction and address
+abbrev pub mem_ap_register : Bool → Reg4 → Register
+mem_ap_register true R0 = CswRead
+mem_ap_register false R0 = CswWrite
+mem_ap_register true R4 = TarRead
+mem_ap_register false R4 = TarWrite
+mem_ap_register true R8 = ApZeroRead
+mem_ap_register false R8 = ApIgnoredWrite
+mem_ap_register true RC = DrwRead
+mem_ap_register false RC = DrwWrite
+
+-- the registers of any other AP or AP bank, by direction
+abbrev pub no_ap_register : Bool → Register
+no_ap_register true = ApZeroRead
+no_ap_register false = ApIgnoredWrite
+
+-- SELECT names AP 0 and AP bank 0
+abbrev pub is_mem_ap : Select → Bool
+is_mem_ap s = (s.apsel == 0) && (s.apbanksel == 0)
+
+-- the access port's registers under a SELECT
+abbrev pub ap_register : Select → Bool → Reg4 → Register
+ap_register s read addr = if is_mem_ap s then mem_ap_register read addr else no_ap_register read
+
+-- what a request asks for (IHI 0031, B4, "Packet request", and B2, "SELECT, AP Select register")
+abbrev pub register : Select → Request → Register
+register s q = if q.ap then ap_register s q.read q.addr else dp_register q.read q.addr (s.dpbanksel == 0)
+
+-- Whether the target answers: IHI 0031, B4, "Connection and line reset sequence".
+pub data Reset : Type 0 where
+  -- there was no line reset yet
+  Unreset : Reset
+  -- there was no DPIDR read since the last one
+  Fresh : Reset
+  -- there was
+  Live : Reset
+
+-- What the target does in the data phase that follows its OK.
+pub data Line : Type 0 where
+  -- there is none: it waits for a request
+  Idle : Line
+  -- it drives 33 bits; this is the number of those that the host gets
+  Drives : (bits : ℕ) → Line
+  -- it awaits the 33 bits of this write; one place is changed on the way, or none
+  Awaits : (write : Register) (flip : Option ℕ) → Line
+
+-- A transfer by DRW that was accepted and is not done yet; its address is what TAR is then.
+pub data Drw : Type 0 where
+  Reads : Drw
+  Writes : (word : ℕ) → Drw
+
+-- The port state. `None` in TAR, the read buffer and the last returned value: it is unknown, and any word may stand for it, anew at each use.
+pub record Port : Type 0 where
+  -- whether requests are answered
+  pub reset : Reset
+  -- what has to come next, as the host sees it
+  pub due : Due
+  -- what the target drives or awaits
+  pub line : Line
+  -- CTRL/STAT: STICKYERR, WDATAERR, READOK, and the requests for debug and for system power
+  pub sticky_error : Bool
+  pub write_error : Bool
+  pub read_ok : Bool
+  pub debug_power : Bool
+  pub system_power : Bool
+  -- SELECT
+  pub select : Select
+  -- CSW: whether AddrInc is 01, single, and bits [30:24]
+  pub increments : Bool
+  pub csw_upper : ℕ
+  -- TAR
+  pub tar : Option ℕ
+  -- the read buffer: the result of the last AP read
+  pub buffer : Option ℕ
+  -- the value that the last AP read or RDBUFF read returned, for RESEND
+  pub last_returned : Option ℕ
+  -- the transfer that is not done yet
+  pub pending : Option Drw
+  -- what DPIDR gives; no call changes it
+  pub identification : ℕ
+  -- the memory behind the access port
+  pub memory : PlainMemory
+  -- beside the state: the requests so far, how many were disturbed, and how many were lost, by their marks
+  pub asked : ℕ
+  pub disturbed : ℕ
+  pub lost : ℕ
+
+-- the state before any call, with any identification and memory (this project's choice)
+abbrev pub made : ℕ → PlainMemory → Port
+made identification memory = record {
+  reset = Unreset;
+  due = Nothing;
+  line = Idle;
+  sticky_error = false;
+  write_error = false;
+  read_ok = false;
+  debug_power = false;
+  system_power = false;
+  select = record { apsel = 0; apbanksel = 0; dpbanksel = 0 };
+  increments = false;
+  csw_upper = 0;
+  tar = Some 0;
+  buffer = None;
+  last_returned = None;
+  pending = None;
+  identification = identification;
+  memory = memory;
+  asked = 0;
+  disturbed = 0;
+  lost = 0;
+}

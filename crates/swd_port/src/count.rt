@@ -1,0 +1,35 @@
+//! A count for contracts alone.
+ghost use Rattle.std.specs.Prelude.{◌≡◌, ◌+◌, ℕ};
+ghost use base.Fml.{ftrue};
+
+use std::marker::{Model, PhantomData};
+use std::mem::size_of;
+
+/// A whole number that only contracts see, as `ticks`. It takes no bytes.
+#[derive(Drop)]
+pub struct Count {
+    marker: PhantomData<()>,
+    pub ghost ticks: { ℕ },
+}
+
+impl Model for Count {
+    ghost also_owns = { λ _. ftrue };
+}
+
+const _: () = prove!(size_of::<Count>() == 0);
+
+impl Count {
+    /// The count 0.
+    pub fn new() -> Count
+        ensures { result.ticks ≡ 0 }
+    {
+        Count {
+            marker: PhantomData,
+        }
+    }
+
+    /// Adds one.
+    pub fn tick(&mut self)
+        ensures { self.new.ticks ≡ self.old.ticks + 1 }
+    {}
+}

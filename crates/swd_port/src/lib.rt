@@ -1,0 +1,23 @@
+// The registers of a debug port and its memory access port, and the law of the wire to them.
+#![tactic(auto)]
+
+mod abort;
+mod access;
+mod count;
+mod csw;
+mod ctrl_stat;
+mod laws;
+mod select;
+mod wire;
+
+pub use abort::Abort;
+pub use access::{Access, Answer, Transfer};
+pub use count::Count;
+pub use csw::Csw;
+pub use ctrl_stat::CtrlStat;
+pub use laws::{answers, phases, registers};
+pub use select::Select;
+pub use wire::{Due, Wire};
+
+#[cfg(test)]
+mod tests;

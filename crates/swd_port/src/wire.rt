@@ -1,0 +1,68 @@
+//! The wire between a host and a target, with the law that the other end keeps.
+ghost use Rattle.std.specs.Prelude.{◌≡◌, ◌<◌, ◌^◌};
+ghost use Rattle.swd_port.specs.declared.wire.Due.TheVariants.{Nothing, Take, Give, Pass};
+ghost use Rattle.swd_port.specs.Port.{Port};
+ghost use Rattle.swd_port.specs.Leading.{MayLead, Leads};
+ghost use Rattle.swd_port.specs.Asking.{Asks};
+ghost use Rattle.swd_port.specs.Moving.{Takes, Gives, Passes};
+
+use swd_bits::Request;
+
+/// What has to come next on a wire, as the host sees it.
+#[derive(Clone, Copy, Debug, PartialEq, Eq)]
+pub enum Due {
+    /// Nothing: a request may be sent, or idle cycles, or a line reset.
+    Nothing,
+    /// The data phase of a read that was answered OK.
+    Take,
+    /// The data phase of a write that was answered OK.
+    Give,
+    /// The turnaround after WAIT or FAULT.
+    Pass,
+    /// No acknowledgement was seen. Only a line reset may follow.
+    Lost,
+}
+
+/// One end of a serial wire, for the host that drives it (IHI 0031, B4). Its law: each call is a
+/// step of the port machine at the other end, whose state contracts see as `port`.
+///
+/// Bits are numbers with the first bit in time least significant. No call fails.
+pub trait Wire {
+    /// The port machine at the other end, and the numbers of requests so far.
+    ghost port: { Self → Port };
+
+    /// What has to come next.
+    fn due(&self) -> Due
+        ensures { result ≡ (port self.now).due };
+
+    /// Drives `ones` cycles high, with `switch` then the sixteen bits 0111100111100111 and the ones
+    /// again, and then `zeros` cycles low. With ones this is a line reset. Where something other
+    /// than `Due::Nothing` was due, the first 34 of the ones are left undriven.
+    fn lead(&mut self, ones: u32, switch: bool, zeros: u32)
+        requires { MayLead (port self.old).due ones switch zeros }
+        ensures { Leads (port self.old) ones (port self.new) };
+
+    /// Sends the eight bits of a request, and after a turnaround sees three bits: 1 is OK, 2 WAIT,
+    /// 4 FAULT, and every other number is no acknowledgement.
+    fn ask(&mut self, request: Request) -> u8
+        requires { (port self.old).due ≡ Nothing }
+        ensures range { result < 8 }
+        ensures step { Asks (port self.old) request result (port self.new) };
+
+    /// Takes the 33 bits of a read's data phase, and the turnaround.
+    fn take(&mut self) -> u64
+        requires { (port self.old).due ≡ Take }
+        ensures range { result < 2 ^ 33 }
+        ensures step { Takes (port self.old) result (port self.new) };
+
+    /// Sends the turnaround and the 33 bits of a write's data phase.
+    fn give(&mut self, bits: u64)
+        requires due { (port self.old).due ≡ Give }
+        requires range { bits < 2 ^ 33 }
+        ensures { Gives (port self.old) bits (port self.new) };
+
+    /// The turnaround after WAIT or FAULT.
+    fn pass(&mut self)
+        requires { (port self.old).due ≡ Pass }
+        ensures { Passes (port self.old) (port self.new) };
+}
