@@ -19,7 +19,7 @@ pub use ack::Ack;
 pub use data_phase::{data_bits, word_of};
 pub use line::{Line, line_of};
 pub use one::{OneFault, one_text};
-pub use output::send;
+pub use output::{Unsent, send};
 pub use request::{Reg4, Request};
 pub use scan::{Scan, Sign};
 pub use tx::{Tx, TxEnd, transactions_are_told_apart};

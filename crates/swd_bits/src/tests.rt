@@ -253,7 +253,8 @@ fn each_write_fails(rt: HostRuntime) -> Result<(), Fail> {
                 room,
                 fails,
             };
-            assert_eq!(rt; send(&mut again, DPIDR_LINE), Err(room));
+            let unsent = send(&mut again, DPIDR_LINE).err().ok_or("sent")?;
+            assert_eq!(rt; unsent.sent, room);
         }
     }
     Ok(())

@@ -51,8 +51,8 @@ pub returns-in-Err : goal.returns-in-Err
 returns-in-Err g c =
     let e = c.as_bytes.ensures.value ∙ c.as_str.ensures.value ∙ c.push_str.ensures.bytes ∙ ap (λ x. x ++ 10 ∷ []) c.line_of-line.ensures.bytes in (
       c.in-Some.tx,
-      c.in-Err.field-0,
-      subst (λ x. c.in-Err.field-0 < length x) e c.in-Err.ensures.err.0,
+      c.in-Err.field-0.sent,
+      subst (λ x. c.in-Err.field-0.sent < length x) e c.in-Err.ensures.err.0,
       found (g.R.Read.remaining c.args.reader.now) c.in_ok-gathered.gathered c.in-Some.tx c.in_ok-gathered.ensures c.if-gathered.false c.in-Some.ensures.found,
-      subst (λ x. Appends (g.W.Write.contents c.args.writer.now) (g.W.Write.contents c.send.new.writer) (take c.in-Err.field-0 x)) e c.in-Err.ensures.err.1,
+      subst (λ x. Appends (g.W.Write.contents c.args.writer.now) (g.W.Write.contents c.send.new.writer) (take c.in-Err.field-0.sent x)) e c.in-Err.ensures.err.1,
     )
