@@ -1,4 +1,4 @@
-// The registers of a debug port and its memory access port, and the law of the wire to them.
+//! The registers of a debug port and its memory access port, and the law of the wire to them.
 #![tactic(auto)]
 
 mod abort;
@@ -6,6 +6,7 @@ mod access;
 mod count;
 mod csw;
 mod ctrl_stat;
+mod host_laws;
 mod laws;
 mod select;
 mod wire;
@@ -15,6 +16,9 @@ pub use access::{Access, Answer, Transfer};
 pub use count::Count;
 pub use csw::Csw;
 pub use ctrl_stat::CtrlStat;
+pub use host_laws::{
+    accesses, calls, completion, data_phases, line_resets, requests, transfers, words_read,
+};
 pub use laws::{answers, phases, registers};
 pub use select::Select;
 pub use wire::{Due, Wire};

@@ -1,0 +1,132 @@
+-- Laws of every call, whatever the state: what is due after it, and the numbers.
+use Rattle.std.proofs.Common.{◌≡◌, ◌≢◌, ◌+◌, ◌≤◌, ℕ, Bool, false, refl, sym, ap, inl, inr, arith, ◌∙◌}
+use Rattle.std.specs.Prelude.{◌==◌}
+use Rattle.swd_bits.specs.declared.ack.Ack.{Ack}
+use Rattle.swd_bits.specs.declared.ack.Ack.TheVariants.{Ok as AckOk, Wait as AckWait, Fault as AckFault}
+use Rattle.swd_bits.specs.Bits.{low_bits, number}
+use Rattle.swd_bits.specs.Wire.{ack}
+use Rattle.swd_bits.proofs.BitsLemmas.{number-low_bits}
+use Rattle.swd_port.specs.declared.wire.Due.TheVariants.{Nothing, Lost}
+use Rattle.swd_port.specs.Port.{Port}
+use Rattle.swd_port.specs.Choices.{Mark, Clean, Wait, Flip, Deaf, Mute, disturbs, loses}
+use Rattle.swd_port.specs.Answers.{due_after}
+use Rattle.swd_port.specs.Completion.{Completes}
+use Rattle.swd_port.specs.Moves.{Kept, Uncounted}
+use Rattle.swd_port.specs.Laws.{DueAfterRequest, AcknowledgementSeen, NoAcknowledgementSeen, NothingDue, RequestCounted, OthersUncounted, with_asked, CountedApart}
+use Rattle.swd_port.proofs.CompletionLaws.{kept}
+
+pub due_after_request : DueAfterRequest
+due_after_request q seen s t (a, b, mark, c, first, now, last) =
+    let k : Kept b t = kept b t last in
+    k.due ∙ ap (λ p. p.due) now.after ∙ ap (due_after q.read) (sym now.sees)
+
+-- acknowledgements by their numbers
+ack_bits : (a : Ack) → low_bits 3 (number (ack a)) ≡ ack a
+unfolding low_bits
+ack_bits AckOk = refl
+ack_bits AckWait = refl
+ack_bits AckFault = refl
+
+pub acknowledgement_seen : AcknowledgementSeen
+acknowledgement_seen seen a range = (λ e. sym (ap number e ∙ number-low_bits 3 seen range), λ e. sym (ap (low_bits 3) e ∙ ack_bits a))
+
+differs : (seen n : ℕ) → seen ≢ n → (seen == n) ≡ false
+differs seen n other = grind arith
+
+lost_due : (read : Bool) (seen : ℕ) → (seen == 1) ≡ false → (seen == 2) ≡ false → (seen == 4) ≡ false → due_after read seen ≡ Lost
+lost_due read seen e f g = rw (e, f, g) refl
+
+pub no_acknowledgement_seen : NoAcknowledgementSeen
+no_acknowledgement_seen seen read range none =
+    let not_okay : (seen == 1) ≡ false = differs seen 1 (λ e. none AckOk ((acknowledgement_seen seen AckOk range).1 e)) in
+    let not_wait : (seen == 2) ≡ false = differs seen 2 (λ e. none AckWait ((acknowledgement_seen seen AckWait range).1 e)) in
+    let not_fault : (seen == 4) ≡ false = differs seen 4 (λ e. none AckFault ((acknowledgement_seen seen AckFault range).1 e)) in
+    (record { not_okay = not_okay; not_wait = not_wait; not_fault = not_fault }, lost_due read seen not_okay not_wait not_fault)
+
+-- nothing is due after a step that leaves it so
+due_stays : (b t : Port) → b.due ≡ Nothing → Completes b t → t.due ≡ Nothing
+due_stays b t e last = let k : Kept b t = kept b t last in k.due ∙ e
+
+pub nothing_due : NothingDue
+nothing_due = record {
+  taken = λ bits s t h. due_stays h.1 t (ap (λ p. p.due) h.3.after) h.4;
+  given = λ sent s t h. due_stays h.1 t (ap (λ p. p.due) h.3.after) h.4;
+  passed = λ s t h. due_stays h.1 t (ap (λ p. p.due) h.3.after) h.4;
+  led = λ ones s t h. due_stays h.1 t (ap (λ p. p.due) h.3.after) h.4;
+}
+
+-- the numbers over a step and its completions
+counted_around : (s a b t : Port) → Completes s a → Uncounted a b → Completes b t → Uncounted s t
+counted_around s a b t first u last =
+    let k : Kept s a = kept s a first in let l : Kept b t = kept b t last in
+    record { asked = l.uncounted.asked ∙ u.asked ∙ k.uncounted.asked; disturbed = l.uncounted.disturbed ∙ u.disturbed ∙ k.uncounted.disturbed; lost = l.uncounted.lost ∙ u.lost ∙ k.uncounted.lost }
+
+pub others_uncounted : OthersUncounted
+others_uncounted = record {
+  taken = λ bits s t h. counted_around s h.0 h.1 t h.2 (record { asked = ap (λ p. p.asked) h.3.after; disturbed = ap (λ p. p.disturbed) h.3.after; lost = ap (λ p. p.lost) h.3.after }) h.4;
+  given = λ sent s t h. counted_around s h.0 h.1 t h.2 (record { asked = ap (λ p. p.asked) h.3.after; disturbed = ap (λ p. p.disturbed) h.3.after; lost = ap (λ p. p.lost) h.3.after }) h.4;
+  passed = λ s t h. counted_around s h.0 h.1 t h.2 (record { asked = ap (λ p. p.asked) h.3.after; disturbed = ap (λ p. p.disturbed) h.3.after; lost = ap (λ p. p.lost) h.3.after }) h.4;
+  led = λ ones s t h. counted_around s h.0 h.1 t h.2 (record { asked = ap (λ p. p.asked) h.3.after; disturbed = ap (λ p. p.disturbed) h.3.after; lost = ap (λ p. p.lost) h.3.after }) h.4;
+}
+
+one_disturbed : (mark : Mark) → disturbs mark ≤ 1
+one_disturbed Clean = omega arith
+one_disturbed Wait = omega arith
+one_disturbed (Flip place) = omega arith
+one_disturbed Deaf = omega arith
+one_disturbed (Mute place) = omega arith
+
+one_lost : (mark : Mark) → loses mark ≤ 1
+one_lost Clean = omega arith
+one_lost Wait = omega arith
+one_lost (Flip place) = omega arith
+one_lost Deaf = omega arith
+one_lost (Mute place) = omega arith
+
+grows : (a b n : ℕ) → b ≡ a + n → a ≤ b
+grows a b n e = omega arith
+
+grows_one : (a b n : ℕ) → b ≡ a + n → n ≤ 1 → b ≤ a + 1
+grows_one a b n e h = omega arith
+
+pub request_counted : RequestCounted
+request_counted q seen s t (a, b, mark, c, first, now, last) =
+    let k : Kept s a = kept s a first in let l : Kept b t = kept b t last in
+    let d : t.disturbed ≡ s.disturbed + disturbs mark = l.uncounted.disturbed ∙ ap (λ p. p.disturbed) now.after ∙ ap (λ n. n + disturbs mark) k.uncounted.disturbed in
+    let n : t.lost ≡ s.lost + loses mark = l.uncounted.lost ∙ ap (λ p. p.lost) now.after ∙ ap (λ n. n + loses mark) k.uncounted.lost in
+    record {
+      asked = l.uncounted.asked ∙ ap (λ p. p.asked) now.after ∙ ap (λ n. n + 1) k.uncounted.asked;
+      disturbed_least = grows _ _ _ d;
+      disturbed_most = grows_one _ _ _ d (one_disturbed mark);
+      lost_least = grows _ _ _ n;
+      lost_most = grows_one _ _ _ n (one_lost mark);
+      write_error = l.write_error ∙ ap (λ p. p.write_error) now.after ∙ k.write_error;
+      debug_power = l.debug_power ∙ ap (λ p. p.debug_power) now.after ∙ k.debug_power;
+      system_power = l.system_power ∙ ap (λ p. p.system_power) now.after ∙ k.system_power;
+      select = l.select ∙ ap (λ p. p.select) now.after ∙ k.select;
+      increments = l.increments ∙ ap (λ p. p.increments) now.after ∙ k.increments;
+      csw_upper = l.csw_upper ∙ ap (λ p. p.csw_upper) now.after ∙ k.csw_upper;
+      identification = l.identification ∙ ap (λ p. p.identification) now.after ∙ k.identification;
+    }
+
+-- another number of requests
+completed_apart : (n : ℕ) (s t : Port) → Completes s t → Completes (with_asked n s) (with_asked n t)
+completed_apart n s t (inl e) = inl (ap (with_asked n) e)
+completed_apart n s t (inr (c, fits, e)) = inr (c, fits, ap (with_asked n) e)
+
+pub counted_apart : CountedApart
+counted_apart = record {
+  asked = λ n q seen s t h. (
+    with_asked n h.0,
+    with_asked (n + 1) h.1,
+    h.2,
+    h.3,
+    completed_apart n s h.0 h.4,
+    record { legal = h.5.legal; choice = h.5.choice; settled = h.5.settled; word = h.5.word; sees = h.5.sees; after = ap (with_asked (n + 1)) h.5.after },
+    completed_apart (n + 1) h.1 t h.6,
+  );
+  taken = λ n bits s t h. (with_asked n h.0, with_asked n h.1, completed_apart n s h.0 h.2, record { gets = h.3.gets; after = ap (with_asked n) h.3.after }, completed_apart n h.1 t h.4);
+  given = λ n sent s t h. (with_asked n h.0, with_asked n h.1, completed_apart n s h.0 h.2, record { after = ap (with_asked n) h.3.after }, completed_apart n h.1 t h.4);
+  passed = λ n s t h. (with_asked n h.0, with_asked n h.1, completed_apart n s h.0 h.2, record { after = ap (with_asked n) h.3.after }, completed_apart n h.1 t h.4);
+  led = λ n ones s t h. (with_asked n h.0, with_asked n h.1, completed_apart n s h.0 h.2, record { after = ap (with_asked n) h.3.after }, completed_apart n h.1 t h.4);
+}

@@ -1,0 +1,21 @@
+//! A simulated target: a memory, and a bench that is one end of a wire.
+#![tactic(auto)]
+
+mod bench;
+mod held;
+mod mark;
+mod memory;
+mod plan;
+mod quirks;
+mod register;
+mod state;
+mod target;
+
+pub use bench::Bench;
+pub use mark::Mark;
+pub use memory::{MakeFault, Memory};
+pub use quirks::Quirks;
+pub use swd_port::Transfer;
+
+#[cfg(test)]
+mod tests;
