@@ -1,5 +1,5 @@
 -- Laws of the reading of a trace text.
-use Rattle.std.proofs.Common.{◌≡◌, ℕ, ◌+◌, Bool, false, List, [], ◌∷◌, ◌++◌, length, take, Option, None, Some, refl, sym, ap, ◌∙◌, append_assoc, is_some}
+use Rattle.std.proofs.Common.{◌≡◌, ℕ, suc, ◌+◌, ◌<◌, drop, get_or, drop-cons, take-append-drop, Bool, false, List, [], ◌∷◌, ◌++◌, length, take, Option, None, Some, refl, sym, ap, ◌∙◌, append_assoc, is_some}
 use Rattle.std.specs.Option.{option_map}
 use Rattle.std.proofs.lemmas.List.{take_at, length-append, append-nil}
 use Rattle.swd_bits.specs.TraceText.{bits_from, bits_of_text, sign_of, comment_after, add_sign}
@@ -52,3 +52,10 @@ first_bad seen more bits c b e h =
       bad = ap bits_of_text next ∙ h (b ∷ [])
           ∙ ap (λ s. option_map (λ rest. bits ++ rest) (add_sign s (bits_from (comment_after c b) []))) (sym e);
     }
+
+-- a text that is cut at a byte of its second piece
+pub parted : (seen piece more : List ℕ) (i : ℕ) → i < length piece → (seen ++ take i piece) ++ (get_or piece i 0 ∷ (drop (suc i) piece ++ more)) ≡ (seen ++ piece) ++ more
+parted seen piece more i h =
+    append_assoc seen (take i piece) _
+    ∙ ap (λ x. seen ++ x) (ap (λ x. take i piece ++ (x ++ more)) (sym (drop-cons piece i 0 h)) ∙ sym (append_assoc (take i piece) (drop i piece) more) ∙ ap (λ x. x ++ more) (take-append-drop i piece))
+    ∙ sym (append_assoc seen piece more)

@@ -1,7 +1,5 @@
-//! Worked values of the wire, and failing readers and writers.
+//! Worked values of the wire. Failing readers and writers are tried with all engines, in `swd_script`.
 use super::*;
-use std::io;
-use std::io::{Read, Write};
 use std::test::Fail;
 
 // A DPIDR read that was answered 2ba01477, with a space after each eighth bit.
@@ -159,103 +157,6 @@ fn other_texts_are_refused(rt: HostRuntime) -> Result<(), Fail> {
         let (answer, out) = one(&rt, text)?;
         assert_eq!(rt; answer, Err(fault));
         assert!(rt; out.is_empty());
-    }
-    Ok(())
-}
-
-// Gives one byte at a read, and fails at the read that is numbered.
-#[derive(Drop)]
-struct FailingReader<'a> {
-    text: &'a [u8],
-    reads: usize,
-    fails_at: usize,
-}
-
-impl<'a> Read for FailingReader<'a> {
-    fn read(&mut self, buf: &mut [u8]) -> io::Result<usize> {
-        if self.reads == self.fails_at {
-            return Err(io::Error::from(io::ErrorKind::BrokenPipe));
-        }
-        match (self.text.get(self.reads), buf.first_mut()) {
-            (Some(byte), Some(place)) => {
-                *place = *byte;
-                self.reads = self.reads.saturating_add(1);
-                Ok(1)
-            }
-            _ => Ok(0),
-        }
-    }
-}
-
-// Takes so many bytes, and then fails or takes none.
-#[derive(Drop)]
-struct ShortWriter {
-    taken: Vec<u8>,
-    room: usize,
-    fails: bool,
-}
-
-impl Write for ShortWriter {
-    fn write(&mut self, buf: &[u8]) -> io::Result<usize> {
-        let left = self.room.saturating_sub(self.taken.len());
-        if left == 0 && self.fails {
-            return Err(io::Error::from(io::ErrorKind::BrokenPipe));
-        }
-        let n = left.min(buf.len());
-        self.taken.extend_from_slice(&buf[..n])?;
-        Ok(n)
-    }
-
-    fn flush(&mut self) -> io::Result<()> {
-        Ok(())
-    }
-}
-
-#[test]
-fn each_read_fails(rt: HostRuntime) -> Result<(), Fail> {
-    for i in 0..=DPIDR_READ.len() {
-        let mut reader = FailingReader {
-            text: DPIDR_READ,
-            reads: 0,
-            fails_at: i,
-        };
-        let mut out = Vec::new(rt.alloc());
-        let answer = one_text(&mut reader, &mut out);
-        assert_eq!(rt; answer, Err(OneFault::Read), "at read {i}");
-        assert!(rt; out.is_empty());
-    }
-    let mut bad = FailingReader {
-        text: b"x",
-        reads: 0,
-        fails_at: 1,
-    };
-    let mut out = Vec::new(rt.alloc());
-    let answer = one_text(&mut bad, &mut out);
-    assert_eq!(rt; answer, Err(OneFault::BadChar { place: 0 }));
-    Ok(())
-}
-
-#[test]
-fn each_write_fails(rt: HostRuntime) -> Result<(), Fail> {
-    for fails in [false, true] {
-        for room in 0..DPIDR_LINE.len() {
-            let mut writer = ShortWriter {
-                taken: Vec::new(rt.alloc()),
-                room,
-                fails,
-            };
-            let mut text = DPIDR_READ;
-            let answer = one_text(&mut text, &mut writer);
-            assert_eq!(rt; answer, Err(OneFault::Write), "after {room} bytes");
-            assert_eq!(rt; writer.taken.as_slice(), &DPIDR_LINE[..room]);
-            let mut again = ShortWriter {
-                taken: Vec::new(rt.alloc()),
-                room,
-                fails,
-            };
-            let unsent = send(&mut again, DPIDR_LINE).err().ok_or("sent")?;
-            assert_eq!(rt; unsent.sent, room);
-        }
     }
     Ok(())
 }

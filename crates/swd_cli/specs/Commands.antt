@@ -4,7 +4,7 @@ use Rattle.std.specs.Option.{option_map}
 use Rattle.std.specs.String.{string_bytes}
 use Rattle.clap.specs.Words.{App, Row, first_of, Rule, Text, new_app, new_rule, with_rule, with_subcommand}
 use Rattle.swd_cli.specs.declared.command.Line.{Line}
-use Rattle.swd_cli.specs.declared.command.Line.TheVariants.{One}
+use Rattle.swd_cli.specs.declared.command.Line.TheVariants.{One, Decode, Encode}
 
 -- the file, which may be left out
 abbrev pub file_rule : Rule
@@ -20,7 +20,9 @@ bare_app = let named = new_app (codes "swd") in record named { top = record name
 
 -- the whole command
 abbrev pub swd_app : App
-swd_app = with_subcommand bare_app (over_file (codes "one")).top
+swd_app =
+    with_subcommand (with_subcommand (with_subcommand bare_app (over_file (codes "one")).top)
+    (over_file (codes "decode")).top) (over_file (codes "encode")).top
 
 -- the words have this command, and this file or none
 abbrev pub HasFile : Text → Option Text → Option (Text × List Row) → Type 0
@@ -29,3 +31,5 @@ HasFile name file rows = IsSomeAnd rows (λ p. (p.0 ≡ name) × (file ≡ first
 -- the line is the command that the words have
 abbrev pub IsLineOf : Line → Option (Text × List Row) → Type 0
 IsLineOf (One file) rows = HasFile (codes "one") (option_map string_bytes file) rows
+IsLineOf (Decode file) rows = HasFile (codes "decode") (option_map string_bytes file) rows
+IsLineOf (Encode file) rows = HasFile (codes "encode") (option_map string_bytes file) rows

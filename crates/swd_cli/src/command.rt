@@ -6,6 +6,10 @@ use clap::Error;
 pub enum Line {
     /// `swd one [FILE]`: without a file, standard input.
     One(Option<String>),
+    /// `swd decode [FILE]`: without a file, standard input.
+    Decode(Option<String>),
+    /// `swd encode [FILE]`: without a file, standard input.
+    Encode(Option<String>),
 }
 
 /// Why the words are no command.

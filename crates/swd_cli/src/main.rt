@@ -2,15 +2,18 @@
 #![tactic(auto)]
 
 mod command;
+mod input;
 mod report;
 mod words;
 
 use command::{Line, LineFault};
-use report::{FAULT, cannot_open, one_status, tell};
+use input::Input;
+use report::{FAULT, cannot_open, engine_status, one_status, tell};
 use std::alloc::AllocError;
 use std::process::ExitCode;
 use std::{env, fs, io};
 use swd_bits::one_text;
+use swd_script::{decode_text, encode_text};
 use words::line;
 
 // Reads the words, and does what they ask for. An error is a fault of words or memory.
@@ -23,7 +26,7 @@ fn perform(rt: &HostRuntime) -> io::Result<ExitCode> {
         texts.push(word.as_str())?;
     }
     match line(rt.alloc(), texts.as_slice()) {
-        Ok(line) => Ok(carry_out(rt, line)),
+        Ok(line) => Ok(carry_out(rt, &line)),
         Err(LineFault::Clap(error)) => {
             error.print(rt)?;
             Ok(ExitCode::from(if error.use_stderr() { FAULT } else { 0 }))
@@ -32,13 +35,26 @@ fn perform(rt: &HostRuntime) -> io::Result<ExitCode> {
     }
 }
 
-fn carry_out(rt: &HostRuntime, line: Line) -> ExitCode {
+// What a command reads: a file, or standard input.
+fn file_of(line: &Line) -> Option<&str> {
     match line {
-        Line::One(Some(name)) => match fs::open(rt, name.as_str()) {
-            Ok(mut file) => one_status(rt, one_text(&mut file, &mut rt.stdout())),
-            Err(_) => cannot_open(rt, name.as_str()),
-        },
-        Line::One(None) => one_status(rt, one_text(&mut rt.stdin(), &mut rt.stdout())),
+        Line::One(file) | Line::Decode(file) | Line::Encode(file) => file
+            .as_ref()
+            .map(|name| name.as_str()),
+    }
+}
+
+// Makes the one call of a command.
+fn carry_out(rt: &HostRuntime, line: &Line) -> ExitCode {
+    let name = file_of(line);
+    let Ok(mut input) = Input::open(rt, name) else {
+        return cannot_open(rt, name.unwrap_or("standard input"));
+    };
+    let mut out = rt.stdout();
+    match line {
+        Line::One(_) => one_status(rt, one_text(&mut input, &mut out)),
+        Line::Decode(_) => engine_status(rt, decode_text(&mut input, &mut out)),
+        Line::Encode(_) => engine_status(rt, encode_text(rt.alloc(), &mut input, &mut out)),
     }
 }
 

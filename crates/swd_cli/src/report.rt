@@ -1,6 +1,7 @@
 //! What the program says of a fault, and the status that it ends with.
 use std::process::ExitCode;
 use swd_bits::OneFault;
+use swd_script::EngineFault;
 
 /// The status at a fault of words, texts, files or memory.
 pub const FAULT: u8 = 2;
@@ -29,5 +30,16 @@ pub fn one_status(rt: &impl Eprint, answer: Result<(), OneFault>) -> ExitCode {
         Err(OneFault::NotOne) => tell(rt, "not one transaction"),
         Err(OneFault::Read) => tell(rt, "read failed"),
         Err(OneFault::Write) => tell(rt, "write failed"),
+    }
+}
+
+/// The status of a text engine.
+pub fn engine_status(rt: &impl Eprint, answer: Result<(), EngineFault>) -> ExitCode {
+    match answer {
+        Ok(()) => ExitCode::SUCCESS,
+        Err(fault) => {
+            let _ = eprintln!(rt; "swd: {fault}");
+            ExitCode::from(FAULT)
+        }
     }
 }

@@ -4,17 +4,27 @@ use crate::words::line;
 use std::test::Fail;
 
 #[test]
-fn words_of_one(rt: HostRuntime) -> Result<(), Fail> {
-    match line(rt.alloc(), ["swd", "one"].as_slice()) {
-        Ok(Line::One(file)) => assert!(rt; file.is_none()),
-        Err(_) => return Err(Fail::from("no line")),
-    }
-    match line(rt.alloc(), ["swd", "one", "a.trace"].as_slice()) {
-        Ok(Line::One(file)) => {
-            let name = file.ok_or("no name")?;
-            assert_eq!(rt; name.as_str(), "a.trace");
-        }
-        Err(_) => return Err(Fail::from("no line")),
+fn words_without_a_file(rt: HostRuntime) {
+    let one = line(rt.alloc(), ["swd", "one"].as_slice());
+    assert!(rt; matches!(one, Ok(Line::One(None))));
+    let decode = line(rt.alloc(), ["swd", "decode"].as_slice());
+    assert!(rt; matches!(decode, Ok(Line::Decode(None))));
+    let encode = line(rt.alloc(), ["swd", "encode"].as_slice());
+    assert!(rt; matches!(encode, Ok(Line::Encode(None))));
+}
+
+#[test]
+fn words_with_a_file(rt: HostRuntime) -> Result<(), Fail> {
+    for command in ["one", "decode", "encode"] {
+        let words = ["swd", command, "a"];
+        let file = match (command, line(rt.alloc(), words.as_slice())) {
+            ("one", Ok(Line::One(file))) => file,
+            ("decode", Ok(Line::Decode(file))) => file,
+            ("encode", Ok(Line::Encode(file))) => file,
+            _ => None,
+        };
+        let name = file.ok_or("no name")?;
+        assert_eq!(rt; name.as_str(), "a");
     }
     Ok(())
 }

@@ -4,7 +4,7 @@ ghost use Rattle.std.specs.Option.{option_map};
 ghost use Rattle.std.specs.String.{string_bytes};
 ghost use Rattle.clap.specs.Words.{app_of, subcommand_of, subcommand_rows_of, rule_of, shape_of, with_rule, with_subcommand};
 ghost use Rattle.clap.specs.declared.builder.command.Command.TheViews.{out-Command};
-ghost use Rattle.swd_cli.specs.Commands.{file_rule, over_file, swd_app, IsLineOf};
+ghost use Rattle.swd_cli.specs.Commands.{file_rule, over_file, bare_app, swd_app, IsLineOf};
 
 use crate::command::{Line, LineFault};
 use clap::error::ErrorKind;
@@ -22,6 +22,10 @@ echo '10100101 1 100 11101110001010000000010111010100 0 1' | swd one\n  \
 dp 0 read ok 2ba01477";
 
 const ONE_ABOUT: &str = "Lists the one transaction that a trace holds";
+
+const DECODE_ABOUT: &str = "Lists a trace, one line an item";
+
+const ENCODE_ABOUT: &str = "Writes the trace of a listing, one line an item";
 
 // A value as an owned text.
 fn owned(alloc: Global, text: Option<&str>) -> Result<Option<String>, AllocError>
@@ -68,16 +72,26 @@ fn over_a_file<'a>(alloc: Global, name: &'a str, about: &'a str) -> Result<Comma
     with_arg(bare, file_arg(alloc))
 }
 
+// The program without its commands, of which one is required.
+fn bare_command<'a>(alloc: Global) -> Command<'a>
+    ensures app { app_of result ≡ bare_app }
+    ensures local { (out-Command result).has_globals ≡ false }
+{
+    Command::new(alloc, "swd")
+        .about(ABOUT)
+        .after_help(AFTER)
+        .subcommand_required(true)
+}
+
 // The program's command.
 fn swd_command<'a>(alloc: Global) -> Result<Command<'a>, AllocError>
     ensures app { IfOk result (λ c. app_of c ≡ swd_app) }
     ensures local { IfOk result (λ c. (out-Command c).has_globals ≡ false) }
 {
-    let bare = Command::new(alloc, "swd")
-        .about(ABOUT)
-        .after_help(AFTER)
-        .subcommand_required(true);
-    with_sub(bare, over_a_file(alloc, "one", ONE_ABOUT)?)
+    let bare = bare_command(alloc);
+    let one = with_sub(bare, over_a_file(alloc, "one", ONE_ABOUT)?)?;
+    let decode = with_sub(one, over_a_file(alloc, "decode", DECODE_ABOUT)?)?;
+    with_sub(decode, over_a_file(alloc, "encode", ENCODE_ABOUT)?)
 }
 
 fn unknown(alloc: Global) -> LineFault {
@@ -100,6 +114,8 @@ fn line_of(alloc: Global, matches: &ArgMatches<'_>) -> Result<Line, LineFault>
     };
     match name {
         "one" => Ok(Line::One(file)),
+        "decode" => Ok(Line::Decode(file)),
+        "encode" => Ok(Line::Encode(file)),
         _ => Err(unknown(alloc)),
     }
 }

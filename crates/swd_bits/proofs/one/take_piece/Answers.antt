@@ -1,13 +1,8 @@
-use Rattle.std.proofs.Common.{◌≡◌, ℕ, suc, ◌+◌, ◌<◌, List, ◌∷◌, ◌++◌, length, take, drop, get_or, refl, sym, ap, ◌∙◌, subst, append_assoc, arith, drop-cons, take-append-drop}
+use Rattle.std.proofs.Common.{◌≡◌, ℕ, suc, ◌+◌, ◌<◌, List, ◌∷◌, ◌++◌, length, take, drop, get_or, refl, ap, ◌∙◌, subst, arith}
 use Rattle.std.proofs.lemmas.List.{length-append, length-take-le}
 use Rattle.swd_bits.specs.One.{IsFirstBad}
+use Rattle.swd_bits.proofs.ScanLemmas.{parted}
 use Rattle.swd_bits.proofs.one.take_piece.Goals as goal
-
-parted : (seen piece more : List ℕ) (i : ℕ) → i < length piece → (seen ++ take i piece) ++ (get_or piece i 0 ∷ (drop (suc i) piece ++ more)) ≡ (seen ++ piece) ++ more
-parted seen piece more i h =
-    append_assoc seen (take i piece) _
-    ∙ ap (λ x. seen ++ x) (ap (λ x. take i piece ++ (x ++ more)) (sym (drop-cons piece i 0 h)) ∙ sym (append_assoc (take i piece) (drop i piece) more) ∙ ap (λ x. x ++ more) (take-append-drop i piece))
-    ∙ sym (append_assoc seen piece more)
 
 bad_there : (seen piece more : List ℕ) (i : ℕ) → i < length piece →
     IsFirstBad ((seen ++ take i piece) ++ (get_or piece i 0 ∷ (drop (suc i) piece ++ more))) (length (seen ++ take i piece)) →

@@ -1,0 +1,5 @@
+pub mod Blocks
+pub mod Halts
+pub mod Listers
+pub mod Decoding
+pub mod Encoding

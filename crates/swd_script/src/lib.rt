@@ -1,0 +1,15 @@
+//! The text engines: trace texts to listings and back.
+#![tactic(auto)]
+
+mod block;
+mod decoding;
+mod encoding;
+mod fault;
+mod lister;
+
+pub use decoding::decode_text;
+pub use encoding::encode_text;
+pub use fault::{EngineFault, TextFault};
+
+#[cfg(test)]
+mod tests;

@@ -1,0 +1,118 @@
+-- Laws of numbers that hold bits.
+use Rattle.std.proofs.Common.{◌≡◌, ℕ, zero, suc, ◌+◌, ◌-◌, ◌*◌, ◌/◌, ◌%◌, ◌^◌, ◌<◌, ◌≤◌, true, false, [], ◌∷◌, ◌++◌, replicate, arith, refl, sym, ap, ◌∙◌, subst, bit_and, inl, inr}
+use Rattle.std.specs.Prelude.{◌==◌}
+use Rattle.std.proofs.Math.Pow.{shr_lt}
+use Rattle.std.proofs.lemmas.Nat.{one_shl, and_mask, pow_pos, shr-shr}
+use Rattle.std.proofs.Math.Nat.{pow-suc}
+use lib.Count.{count_trailing_zeros, under}
+use Rattle.std.proofs.lemmas.List.{append-nil}
+use Rattle.swd_bits.specs.Bits.{low_bits}
+use Rattle.swd_bits.proofs.BitsLemmas.{low_bits-split, length-low_bits, same_bits}
+use Rattle.swd_trace.specs.Reading.{all_ones}
+use Rattle.swd_trace.proofs.ReadingLemmas.{all_ones_is, bool_cases}
+
+-- the first of the bits
+pub next_bit : (len v : ℕ) → 0 < len → low_bits len v ≡ (v % 2 == 1) ∷ low_bits (len - 1) (v / 2)
+unfolding low_bits
+next_bit zero v h = absurd (omega arith)
+next_bit (suc len) v h = let e : suc len - 1 ≡ len = omega arith in rw e refl
+
+pub no_bits : (len v : ℕ) → len ≡ 0 → low_bits len v ≡ []
+unfolding low_bits
+no_bits zero v h = refl
+no_bits (suc len) v h = absurd (omega arith)
+
+-- the low bits of what is left of a number
+pub low_mod : (m v : ℕ) → low_bits m (v % 2 ^ m) ≡ low_bits m v
+low_mod m v = sym (ap (λ k. low_bits k v) (omega arith) ∙ low_bits-split m 0 v ∙ ap (λ x. low_bits m (v % 2 ^ m) ++ x) (no_bits 0 (v / 2 ^ m) refl) ∙ append-nil (low_bits m (v % 2 ^ m)))
+
+-- the first bits, and the others
+pub parted : (m len v : ℕ) → m ≤ len → low_bits len v ≡ low_bits m v ++ low_bits (len - m) (v / 2 ^ m)
+parted m len v h =
+    let e : len ≡ m + (len - m) = omega arith in
+    ap (λ k. low_bits k v) e ∙ low_bits-split m (len - m) v ∙ ap (λ x. x ++ low_bits (len - m) (v / 2 ^ m)) (low_mod m v)
+
+-- a shift within the bits
+pub shifted_lt : (m len v : ℕ) → m ≤ len → v < 2 ^ len → v / 2 ^ m < 2 ^ (len - m)
+shifted_lt m len v h k =
+    let e : len - m + m ≡ len = omega arith in
+    shr_lt (len - m) m (subst (λ n. v < 2 ^ n) (sym e) k)
+
+-- a mask of the low bits
+pub masked : (n v : ℕ) → n < 64 → bit_and v (1 * 2 ^ n % 2 ^ 64 - 1) ≡ v % 2 ^ n
+masked n v h = rw (one_shl n 64 h) (and_mask v n)
+
+-- a number of ones alone
+pub low_ones : (n : ℕ) → low_bits n (2 ^ n - 1) ≡ replicate n true
+unfolding low_bits
+low_ones zero = refl
+low_ones (suc n) =
+    let e : 2 ^ suc n ≡ 2 ^ n * 2 = pow-suc 2 n in
+    let p : 0 < 2 ^ n = pow_pos n in
+    let last : (2 ^ suc n - 1) % 2 ≡ 1 = omega arith in
+    let half : (2 ^ suc n - 1) / 2 ≡ 2 ^ n - 1 = omega arith in
+    ap (λ d. (d == 1) ∷ low_bits n ((2 ^ suc n - 1) / 2)) last ∙ ap (λ h. true ∷ low_bits n h) half ∙ ap (λ x. true ∷ x) (low_ones n)
+
+-- where the bits are not that number, there is a zero among them
+pub zero_among : (n v : ℕ) → v < 2 ^ n → n < 64 → (v ≡ 1 * 2 ^ n % 2 ^ 64 - 1 → ⊥) → all_ones (low_bits n v) ≡ false
+zero_among n v h k d =
+    elim (bool_cases (all_ones (low_bits n v))) [
+      | inl e ↦
+          let p : 0 < 2 ^ n = pow_pos n in
+          let same : low_bits n v ≡ low_bits n (2 ^ n - 1) = all_ones_is (low_bits n v) e ∙ ap (λ m. replicate m true) (length-low_bits n v) ∙ sym (low_ones n) in
+          let shl : 1 * 2 ^ n % 2 ^ 64 ≡ 2 ^ n = one_shl n 64 k in
+          absurd (d (same_bits n v (2 ^ n - 1) h (omega arith) same ∙ ap (λ x. x - 1) (sym shl)))
+      | inr e ↦ e
+    ]
+
+pub ones_alone : (n v : ℕ) → n < 64 → v ≡ 1 * 2 ^ n % 2 ^ 64 - 1 → low_bits n v ≡ replicate n true
+ones_alone n v k e =
+    ap (low_bits n) (e ∙ ap (λ x. x - 1) (one_shl n 64 k)) ∙ low_ones n
+
+pub half_lt : (len v : ℕ) → v < 2 ^ len → 0 < len → v / 2 < 2 ^ (len - 1)
+half_lt len v h k = shifted_lt 1 len v k h
+
+pub low_zeros : (n : ℕ) → low_bits n 0 ≡ replicate n false
+unfolding low_bits
+low_zeros zero = refl
+low_zeros (suc n) = ap (λ x. false ∷ x) (low_zeros n)
+
+-- ---- trailing zeros
+
+-- the zeros at the front, and a one
+pub record Trailing (len v z : ℕ) : Type 0 where
+  pub within : z < len
+  pub one : v / 2 ^ z % 2 ≡ 1
+  pub front : low_bits len v ≡ replicate z false ++ low_bits (len - z) (v / 2 ^ z)
+
+trailing_step : (len v z d : ℕ) → d ≡ v % 2 → 0 < len → 0 < v → v < 2 ^ len → (v % 2 ≡ 0 → Trailing (len - 1) (v / 2) z) → Trailing len v (under d z)
+trailing_step len v z zero e h p k next =
+    let even : v % 2 ≡ 0 = sym e in
+    let r = next even in
+    let within : z < len - 1 = r.within in
+    let shift : v / 2 / 2 ^ z ≡ v / 2 ^ suc z = shr-shr v 1 z ∙ ap (λ n. v / 2 ^ n) (omega arith) in
+    let less : len - 1 - z ≡ len - suc z = omega arith in
+    record {
+      within = omega arith;
+      one = ap (λ n. n % 2) (sym shift) ∙ r.one;
+      front = next_bit len v h ∙ ap (λ n. (n == 1) ∷ low_bits (len - 1) (v / 2)) even ∙ ap (λ x. false ∷ x) (r.front ∙ ap (λ n. replicate z false ++ low_bits n (v / 2 / 2 ^ z)) less)
+          ∙ ap (λ n. false ∷ (replicate z false ++ low_bits (len - suc z) n)) shift;
+    }
+trailing_step len v z (suc zero) e h p k next =
+    let f : v / 2 ^ 0 ≡ v = omega arith in
+    let g : len - 0 ≡ len = omega arith in
+    record { within = h; one = ap (λ n. n % 2) f ∙ sym e; front = ap (low_bits len) (sym f) ∙ ap (λ n. low_bits n (v / 2 ^ 0)) (sym g) }
+trailing_step len v z (suc (suc d)) e h p k next = absurd (omega arith)
+
+pub trailing : (k len v : ℕ) → len ≤ k → 0 < v → v < 2 ^ len → Trailing len v (count_trailing_zeros k v)
+unfolding count_trailing_zeros
+trailing k zero v h p q = absurd (omega arith)
+trailing zero (suc len) v h p q = absurd (omega arith)
+trailing (suc k) (suc len) v h p q =
+    trailing_step (suc len) v (count_trailing_zeros k (v / 2)) (v % 2) refl (omega arith) p q
+    (λ even.
+    let less : suc len - 1 ≡ len = omega arith in
+    let small : v / 2 < 2 ^ (suc len - 1) = half_lt (suc len) v q (omega arith) in
+    let r : Trailing len (v / 2) (count_trailing_zeros k (v / 2)) =
+    trailing k len (v / 2) (omega arith) (omega arith) (subst (λ n. v / 2 < 2 ^ n) less small) in
+    subst (λ n. Trailing n (v / 2) (count_trailing_zeros k (v / 2))) (sym less) r)

@@ -1,0 +1,82 @@
+-- What a decoder holds.
+use Rattle.std.specs.Prelude.{◌≡◌, ℕ, ◌+◌, ◌<◌, ◌≤◌, Bool, List, [], ◌∷◌, ◌++◌, length, replicate, min, Option, Some, None}
+use Rattle.swd_bits.specs.Bits.{low_bits}
+use Rattle.swd_trace.specs.declared.item.Item.{Item}
+use Rattle.swd_trace.specs.declared.mode.Mode.{Mode}
+use Rattle.swd_trace.specs.declared.mode.Mode.TheVariants.{Synced, AfterReset, AfterSwitch, Lost}
+use Rattle.swd_trace.specs.declared.decoder.Decoder.{Decoder}
+use Rattle.swd_trace.specs.Reading.{switch, first, cut, reading, reading_of}
+
+-- the bits that a decoder holds
+abbrev pub held : Decoder → List Bool
+held d = replicate d.run d.one ++ low_bits d.len d.bits
+
+-- the reading of what a decoder holds and of what may follow
+abbrev pub rest : Decoder → List Bool → List Item
+rest d more = reading d.mode (replicate d.run d.one ++ (low_bits d.len d.bits ++ more))
+
+-- it was fed these bits and gave these items: the items, and the reading of what it holds, are the
+-- reading of the bits, whatever may follow
+abbrev pub HasRead : Decoder → List Bool → List Item → Type 0
+HasRead d bits items = (more : List Bool) → items ++ rest d more ≡ reading_of (bits ++ more)
+
+-- how many bits it was fed
+abbrev pub fed_of : Decoder → ℕ
+fed_of d = d.fed
+
+-- how many bits it holds beside a count of equal bits
+abbrev pub held_len : Decoder → ℕ
+held_len d = d.len
+
+-- no more items than this can come before the next bit is taken
+abbrev pub places : Decoder → ℕ
+places d = d.len + min d.run 50
+
+-- no item is due
+abbrev pub IsSettled : Decoder → Type 0
+IsSettled d = d.len < d.next
+
+-- all of the bits are cut off, should they end here
+abbrev pub IsCut : Mode → List Bool → Type 0
+IsCut mode [] = ⊥
+IsCut mode (b ∷ bits) = first mode b bits ≡ cut (b ∷ bits)
+
+-- the bits may go on as a transaction, as fifty ones or as a switch
+abbrev pub IsOpenAt : Mode → List Bool → Type 0
+IsOpenAt Synced bits = IsCut Synced bits
+IsOpenAt AfterReset bits = (back : List Bool) × (switch ≡ bits ++ back) × (length bits < 16)
+IsOpenAt AfterSwitch bits = ⊥
+IsOpenAt Lost bits = ⊥
+
+pub record IsOpen (d : Decoder) : Type 0 where
+  pub ran : 0 < d.run → d.len ≡ 0
+  pub held : d.run ≡ 0 → 0 < d.len → IsOpenAt d.mode (low_bits d.len d.bits)
+
+-- an item comes
+pub record Gives (old new : Decoder) (item : Item) : Type 0 where
+  pub law : (more : List Bool) → rest old more ≡ item ∷ rest new more
+  pub fewer : places new < places old
+  pub fed : fed_of new ≡ fed_of old
+
+-- no item comes before the next bit
+pub record Waits (old new : Decoder) : Type 0 where
+  pub law : (more : List Bool) → rest old more ≡ rest new more
+  pub open_end : IsOpen new
+  pub settled : IsSettled new
+  pub places : places new ≤ places old
+  pub fed : fed_of new ≡ fed_of old
+
+abbrev pub Decides : Decoder → Decoder → Option Item → Type 0
+Decides old new (Some item) = Gives old new item
+Decides old new None = Waits old new
+
+-- an item comes where the bits end
+pub record ClosesWith (old new : Decoder) (item : Item) : Type 0 where
+  pub law : rest old [] ≡ item ∷ rest new []
+  pub fewer : places new < places old
+  pub fed : fed_of new ≡ fed_of old
+
+-- an item comes where the bits end, or there is none
+abbrev pub Closes : Decoder → Decoder → Option Item → Type 0
+Closes old new (Some item) = ClosesWith old new item
+Closes old new None = (rest old [] ≡ []) × (fed_of new ≡ fed_of old)

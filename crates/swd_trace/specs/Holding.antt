@@ -1,0 +1,20 @@
+-- What is always true of the parts of a decoder.
+use Rattle.std.specs.Prelude.{◌≡◌, ◌≢◌, ◌==◌, ℕ, ◌+◌, ◌%◌, ◌^◌, ◌<◌, ◌≤◌, Bool, false, List, ◌++◌, length}
+use Rattle.swd_bits.specs.Bits.{low_bits}
+use Rattle.swd_trace.specs.declared.mode.Mode.{Mode}
+use Rattle.swd_trace.specs.declared.mode.Mode.TheVariants.{Synced}
+use Rattle.swd_trace.specs.Reading.{reading}
+use Rattle.swd_trace.specs.Decided.{IsUndecided}
+
+-- A run of equal bits, `run` times `one`, and then `len` bits. At most one bit is there beside a run,
+-- and it ends the run; zeros are counted in mode synced alone. Without a run nothing is decided by
+-- these bits and others while there are fewer than `next` of them.
+pub record Holds (mode : Mode) (one : Bool) (run len bits next fed : ℕ) : Type 0 where
+  pub whole : bits < 2 ^ len
+  pub short : len ≤ 50
+  pub stage : next ≤ 50
+  pub counted : run + len ≤ fed
+  pub ran : 0 < run → (next ≡ 1) × (len ≤ 1)
+  pub ends : 0 < run → 0 < len → one ≢ (bits % 2 == 1)
+  pub idle : 0 < run → one ≡ false → mode ≡ Synced
+  pub quiet : run ≡ 0 → (more : List Bool) → len + length more < next → IsUndecided (λ after. reading mode (low_bits len bits ++ (more ++ after)))

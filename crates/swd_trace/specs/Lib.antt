@@ -1,0 +1,12 @@
+pub mod Stands
+pub mod Reading
+pub mod Decided
+pub mod Texts
+pub mod Listed
+pub mod Taken
+pub mod Holding
+pub mod Held
+pub mod Judged
+pub mod Front
+pub mod Spelled
+pub mod ItemBytes

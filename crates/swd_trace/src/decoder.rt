@@ -1,0 +1,473 @@
+//! Reading a trace bit by bit.
+ghost use Rattle.std.specs.Prelude.{◌≡◌, ◌+◌, ◌^◌, ◌<◌, ◌≤◌, List, Bool};
+ghost use Rattle.swd_trace.specs.Holding.{Holds};
+
+use crate::item::{Item, SWITCH};
+use crate::judged::Judged;
+use crate::judging::judged;
+use crate::mode::Mode;
+use arrayvec::ArrayVec;
+use swd_bits::{TxBits, TxEnd};
+
+/// Reads a trace: bits go in one at a time, and each item comes out as soon as it is decided,
+/// whatever may follow. How the bits are cut into pieces makes no difference.
+///
+/// `feed` and `finish` give the items as lists. Where speed matters, call `take` with a bit, and
+/// then `due` until it answers `None`; at the end, `last` until it answers `None`.
+///
+/// It holds one count of equal bits and at most 50 bits beside it, and takes no memory.
+#[derive(Drop)]
+pub struct Decoder {
+    mode: Mode,
+    // equal bits at the front of what is held: that many, all of them ones or zeros
+    one: bool,
+    run: u64,
+    // the bits after them, the first bit least significant
+    len: u8,
+    bits: u64,
+    // below that many of these bits nothing is decided
+    next: u8,
+    fed: u64,
+    ghost holds: { Holds mode one run len bits next fed },
+}
+
+impl Decoder {
+    ghost use Rattle.std.specs.Prelude.{ℕ, ◌==◌, ◌/◌, ◌%◌, true, false, ◌++◌, [], ◌∷◌, ◌-◌, IfSome, IfNone, replicate, map};
+    ghost use Rattle.swd_bits.specs.Bits.{low_bits};
+    ghost use Rattle.swd_trace.specs.Reading.{reading, reading_of, all_ones};
+    ghost use Rattle.swd_trace.specs.Decided.{IsUndecided, IsDecided};
+    ghost use Rattle.arrayvec.specs.ArrayVec.{array_vec_len};
+    ghost use Rattle.swd_bits.specs.declared.tx.Tx.{Tx};
+    ghost use Rattle.swd_trace.specs.Spelled.{AreSpelled};
+    ghost use Rattle.swd_trace.specs.Texts.{bits_of_items};
+    ghost use Rattle.swd_trace.specs.declared.mode.Mode;
+    ghost use Rattle.swd_trace.specs.declared.item.Item;
+    ghost use Rattle.swd_trace.specs.Held.{rest, HasRead, held, fed_of, held_len, places, IsSettled, IsOpen, IsOpenAt, Gives, Waits, Decides, Closes, ClosesWith};
+
+    /// A decoder that was fed no bit.
+    pub fn new() -> Decoder
+        ensures law { (more : List Bool) → rest result more ≡ reading_of more }
+        ensures read { HasRead result [] [] }
+        ensures fed { fed_of result ≡ 0 }
+        ensures settled { IsSettled result }
+    {
+        Decoder {
+            mode: Mode::Synced,
+            one: false,
+            run: 0,
+            len: 0,
+            bits: 0,
+            next: 1,
+            fed: 0,
+        }
+    }
+
+    /// How many bits it was fed.
+    pub fn fed(&self) -> u64
+        ensures { result ≡ fed_of self.now }
+    {
+        self.fed
+    }
+
+    /// Takes a bit, and gives the items that it decides, at most 64. They follow those given
+    /// before: all of them together are what the bits so far decide, whatever bits may follow.
+    pub fn feed(&mut self, bit: bool) -> ArrayVec<Item, 64>
+        requires { fed_of self.old < 2 ^ 64 - 1 }
+        ensures law { (more : List Bool) → result.items ++ rest self.new more ≡ rest self.old (bit ∷ more) }
+        ensures undecided { IsUndecided (rest self.new) }
+        ensures read { (bits : List Bool) (items : List Item) → HasRead self.old bits items → HasRead self.new (bits ++ bit ∷ []) (items ++ result.items) }
+        ensures decided { (bits : List Bool) (items : List Item) → HasRead self.old bits items → IsDecided (bits ++ bit ∷ []) (items ++ result.items) }
+        ensures settled { IsSettled self.new }
+        ensures held { held_len self.new < 50 }
+        ensures fed { fed_of self.new ≡ fed_of self.old + 1 }
+    {
+        let mut items = ArrayVec::new();
+        self.drain(&mut items);
+        self.take(bit);
+        self.drain(&mut items);
+        items
+    }
+
+    /// The items at the end of the trace, at most 64. All items together are the reading of all
+    /// bits.
+    pub fn finish(self) -> ArrayVec<Item, 64>
+        ensures law { result.items ≡ rest self [] }
+        ensures read { (bits : List Bool) (items : List Item) → HasRead self bits items → items ++ result.items ≡ reading_of bits }
+        // all items, written as bits, are read as these items
+        ensures again { (bits : List Bool) (items : List Item) → HasRead self bits items → reading_of (bits_of_items (items ++ result.items)) ≡ items ++ result.items }
+        // transactions that were acknowledged are found, all of them and nothing else
+        ensures transactions { (txs : List Tx) (bits : List Bool) (items : List Item) → AreSpelled txs bits → HasRead self bits items → items ++ result.items ≡ map Item.Tx txs }
+    {
+        let mut decoder = self;
+        let mut items = ArrayVec::new();
+        while let Some(item) = decoder.last() {
+            items.push(item);
+        }
+        items
+    }
+
+    // Every item that is due.
+    fn drain(&mut self, items: &mut ArrayVec<Item, 64>)
+        requires { array_vec_len items.old + places self.old < 64 }
+        ensures law { (more : List Bool) → items.new.items ++ rest self.new more ≡ items.old.items ++ rest self.old more }
+        ensures undecided { IsUndecided (rest self.new) }
+        ensures settled { IsSettled self.new }
+        ensures room { array_vec_len items.new + places self.new ≤ array_vec_len items.old + places self.old }
+        ensures fed { fed_of self.new ≡ fed_of self.old }
+    {
+        while let Some(item) = self.due() {
+            items.push(item);
+        }
+    }
+
+    /// Takes a bit. Every item that was due has to be taken before.
+    #[inline]
+    pub fn take(&mut self, bit: bool)
+        requires settled { IsSettled self.old }
+        requires count { fed_of self.old < 2 ^ 64 - 1 }
+        ensures law { (more : List Bool) → rest self.new more ≡ rest self.old (bit ∷ more) }
+        ensures read { (bits : List Bool) (items : List Item) → HasRead self.old bits items → HasRead self.new (bits ++ bit ∷ []) items }
+        ensures places { places self.new ≤ places self.old + 1 }
+        ensures fed { fed_of self.new ≡ fed_of self.old + 1 }
+    {
+        self.fed += 1;
+        if self.run > 0 && self.one == bit {
+            self.run += 1;
+        } else {
+            self.bits |= u64::from(bit) << self.len;
+            self.len += 1;
+        }
+    }
+
+    /// Takes one bit or more of a run of equal bits, and says how many: all of them where the bits
+    /// that are held are a run of that bit too. Every item that was due has to be taken before.
+    pub fn take_run(&mut self, bit: bool, count: u64) -> u64
+        requires settled { IsSettled self.old }
+        requires some { 0 < count }
+        requires room { fed_of self.old + count < 2 ^ 64 }
+        ensures law { (more : List Bool) → rest self.new more ≡ rest self.old (replicate result bit ++ more) }
+        ensures read { (bits : List Bool) (items : List Item) → HasRead self.old bits items → HasRead self.new (bits ++ replicate result bit) items }
+        ensures some { 0 < result }
+        ensures most { result ≤ count }
+        ensures all { (n : ℕ) → 0 < n → held self.old ≡ replicate n bit → result ≡ count }
+        ensures places { places self.new ≤ places self.old + result }
+        ensures fed { fed_of self.new ≡ fed_of self.old + result }
+    {
+        if self.holds_run_of(bit) {
+            self.extend_run(bit, count);
+            count
+        } else {
+            self.take(bit);
+            1
+        }
+    }
+
+    // Whether a run of that bit is held, and no other bit.
+    fn holds_run_of(&self, bit: bool) -> bool
+        requires { IsSettled self.now }
+        ensures run { result ≡ true → (n : ℕ) × (0 < n) × (held self.now ≡ replicate n bit) }
+        ensures none { result ≡ false → (n : ℕ) → 0 < n → held self.now ≡ replicate n bit → ⊥ }
+    {
+        if self.run > 0 {
+            return self.one == bit;
+        }
+        if self.len == 0 {
+            return false;
+        }
+        if bit {
+            self.bits == (1 << self.len) - 1
+        } else {
+            self.bits == 0
+        }
+    }
+
+    // More of the run that is held.
+    fn extend_run(&mut self, bit: bool, count: u64)
+        requires settled { IsSettled self.old }
+        requires some { 0 < count }
+        requires room { fed_of self.old + count < 2 ^ 64 }
+        requires run { (n : ℕ) × (0 < n) × (held self.old ≡ replicate n bit) }
+        ensures law { (more : List Bool) → rest self.new more ≡ rest self.old (replicate count bit ++ more) }
+        ensures places { places self.new ≤ places self.old + count }
+        ensures fed { fed_of self.new ≡ fed_of self.old + count }
+    {
+        self.run += u64::from(self.len) + count;
+        self.one = bit;
+        self.len = 0;
+        self.bits = 0;
+        self.next = 1;
+        self.fed += count;
+        if !bit {
+            // Zeros and more zeros are no switch.
+            self.mode = Mode::Synced;
+        }
+    }
+
+    /// The next item that is decided, whatever bits may follow. `None` where none is.
+    #[inline]
+    pub fn due(&mut self) -> Option<Item>
+        ensures item { IfSome result (λ item. (more : List Bool) → rest self.old more ≡ item ∷ rest self.new more) }
+        ensures read { IfSome result (λ item. (bits : List Bool) (items : List Item) → HasRead self.old bits items → HasRead self.new bits (items ++ item ∷ [])) }
+        ensures fewer { IfSome result (λ item. places self.new < places self.old) }
+        ensures none { IfNone result ((more : List Bool) → rest self.old more ≡ rest self.new more) }
+        ensures decided { IfNone result ((bits : List Bool) (items : List Item) → HasRead self.old bits items → HasRead self.new bits items × IsDecided bits items) }
+        ensures undecided { IfNone result (IsUndecided (rest self.new)) }
+        ensures settled { IfNone result (IsSettled self.new) }
+        ensures places { IfNone result (places self.new ≤ places self.old) }
+        ensures fed { fed_of self.new ≡ fed_of self.old }
+    {
+        if self.len < self.next {
+            return None;
+        }
+        self.decide()
+    }
+
+    // The next item that is decided, by all that is held.
+    fn decide(&mut self) -> Option<Item>
+        ensures { Decides self.old self.new result }
+    {
+        if self.run > 0 {
+            if self.len == 0 {
+                return None;
+            }
+            if !self.one || self.run >= 50 {
+                return Some(self.end_run());
+            }
+            self.unpack();
+        }
+        self.decide_bits()
+    }
+
+    // The run as an item, where it has ended.
+    fn end_run(&mut self) -> Item
+        requires run { 0 < self.old.run }
+        requires long { self.old.one ≡ true → 50 ≤ self.old.run }
+        ensures law { 0 < self.old.len → (more : List Bool) → rest self.old more ≡ result ∷ rest self.new more }
+        ensures last { self.old.len ≡ 0 → rest self.old [] ≡ result ∷ rest self.new [] }
+        ensures fewer { places self.new < places self.old }
+        ensures fed { fed_of self.new ≡ fed_of self.old }
+    {
+        let run = self.run;
+        self.run = 0;
+        if self.one {
+            self.mode = Mode::AfterReset;
+            Item::Reset(run)
+        } else {
+            Item::Idle(run)
+        }
+    }
+
+    // A run of too few ones for a reset is held as bits again.
+    fn unpack(&mut self)
+        requires run { 0 < self.old.run }
+        requires ones { self.old.one ≡ true }
+        requires few { self.old.run < 50 }
+        requires ended { 0 < self.old.len }
+        ensures law { (more : List Bool) → rest self.old more ≡ rest self.new more }
+        ensures run { self.new.run ≡ 0 }
+        ensures places { places self.new ≡ places self.old }
+        ensures fed { fed_of self.new ≡ fed_of self.old }
+    {
+        let run = self.run as u8;
+        self.bits = self.bits << run | ((1 << run) - 1);
+        self.len += run;
+        self.run = 0;
+    }
+
+    // The held bits, which are all equal, as a run.
+    fn pack(&mut self, bit: bool)
+        requires run { self.old.run ≡ 0 }
+        requires some { 0 < self.old.len }
+        requires same { low_bits self.old.len self.old.bits ≡ replicate self.old.len bit }
+        requires idle { bit ≡ false → self.old.mode ≡ Mode.Synced }
+        ensures { Waits self.old self.new }
+    {
+        self.run = u64::from(self.len);
+        self.one = bit;
+        self.len = 0;
+        self.bits = 0;
+        self.next = 1;
+    }
+
+    // The next item of held bits without a run.
+    fn decide_bits(&mut self) -> Option<Item>
+        requires { self.old.run ≡ 0 }
+        ensures { Decides self.old self.new result }
+    {
+        self.next = 1;
+        if self.len == 0 {
+            return None;
+        }
+        if self.bits == (1 << self.len) - 1 {
+            self.pack(true);
+            return None;
+        }
+        match self.mode {
+            Mode::Synced => self.synced(),
+            Mode::AfterReset => self.after_reset(),
+            Mode::AfterSwitch | Mode::Lost => Some(self.junk()),
+        }
+    }
+
+    // A bit that belongs to nothing.
+    fn junk(&mut self) -> Item
+        requires run { self.old.run ≡ 0 }
+        requires some { 0 < self.old.len }
+        requires first { (more : List Bool) → reading self.old.mode (low_bits self.old.len self.old.bits ++ more) ≡ Item.Junk (self.old.bits % 2 == 1) ∷ reading Mode.Lost (low_bits (self.old.len - 1) (self.old.bits / 2) ++ more) }
+        ensures { Gives self.old self.new result }
+    {
+        let bit = self.bits % 2 == 1;
+        self.bits /= 2;
+        self.len -= 1;
+        self.next = 1;
+        self.mode = Mode::Lost;
+        Item::Junk(bit)
+    }
+
+    // Idle cycles, a transaction or the beginning of one, or neither.
+    fn synced(&mut self) -> Option<Item>
+        requires run { self.old.run ≡ 0 }
+        requires some { 0 < self.old.len }
+        requires mode { self.old.mode ≡ Mode.Synced }
+        requires zero { all_ones (low_bits self.old.len self.old.bits) ≡ false }
+        ensures { Decides self.old self.new result }
+    {
+        if self.bits % 2 == 0 {
+            return self.idle();
+        }
+        match judged(self.bits, self.len) {
+            Judged::Begun(next) => {
+                self.next = next;
+                None
+            }
+            Judged::Whole(tx, len) => {
+                self.bits >>= len;
+                self.len -= len;
+                self.next = 1;
+                if let TxEnd::NoAck(_) = tx.result {
+                    self.mode = Mode::Lost;
+                }
+                Some(Item::Tx(tx))
+            }
+            Judged::Broken => Some(self.junk()),
+        }
+    }
+
+    // Idle cycles, which a one ends, or which may go on.
+    fn idle(&mut self) -> Option<Item>
+        requires run { self.old.run ≡ 0 }
+        requires some { 0 < self.old.len }
+        requires mode { self.old.mode ≡ Mode.Synced }
+        requires first { self.old.bits % 2 ≡ 0 }
+        ensures { Decides self.old self.new result }
+    {
+        if self.bits == 0 {
+            self.pack(false);
+            return None;
+        }
+        let zeros = self.bits.trailing_zeros() as u8;
+        self.bits >>= zeros;
+        self.len -= zeros;
+        self.next = 1;
+        Some(Item::Idle(u64::from(zeros)))
+    }
+
+    // A switch, or what may become one, or neither.
+    fn after_reset(&mut self) -> Option<Item>
+        requires run { self.old.run ≡ 0 }
+        requires some { 0 < self.old.len }
+        requires mode { self.old.mode ≡ Mode.AfterReset }
+        requires zero { all_ones (low_bits self.old.len self.old.bits) ≡ false }
+        ensures { Decides self.old self.new result }
+    {
+        let seen = self.len.min(16);
+        let mask = (1 << seen) - 1;
+        if self.bits & mask != SWITCH & mask {
+            self.next = 1;
+            self.mode = Mode::Synced;
+            return self.synced();
+        }
+        if self.len < 16 {
+            self.next = self.len + 1;
+            return None;
+        }
+        self.bits >>= 16;
+        self.len -= 16;
+        self.next = 1;
+        self.mode = Mode::AfterSwitch;
+        Some(Item::Switch)
+    }
+
+    /// The next item where the trace ends here. `None` where all were given.
+    #[inline]
+    pub fn last(&mut self) -> Option<Item>
+        ensures item { IfSome result (λ item. rest self.old [] ≡ item ∷ rest self.new []) }
+        ensures fewer { IfSome result (λ item. places self.new < places self.old) }
+        ensures none { IfNone result (rest self.old [] ≡ []) }
+        ensures fed { fed_of self.new ≡ fed_of self.old }
+    {
+        match self.decide() {
+            Some(item) => Some(item),
+            None => self.close(),
+        }
+    }
+
+    // The item that the end of the trace makes of bits that might have gone on.
+    fn close(&mut self) -> Option<Item>
+        requires { IsOpen self.old }
+        ensures { Closes self.old self.new result }
+    {
+        if self.run > 0 {
+            return Some(self.close_run());
+        }
+        if self.len == 0 {
+            return None;
+        }
+        Some(self.close_bits())
+    }
+
+    // The same for a run.
+    fn close_run(&mut self) -> Item
+        requires run { 0 < self.old.run }
+        requires alone { self.old.len ≡ 0 }
+        ensures { ClosesWith self.old self.new result }
+    {
+        if !self.one || self.run >= 50 {
+            return self.end_run();
+        }
+        if let Mode::Lost = self.mode {
+            self.run -= 1;
+            return Item::Junk(true);
+        }
+        let cut = TxBits {
+            len: self.run as u8,
+            bits: (1 << self.run) - 1,
+        };
+        self.run = 0;
+        Item::Cut(cut)
+    }
+
+    // The same for other bits.
+    fn close_bits(&mut self) -> Item
+        requires run { self.old.run ≡ 0 }
+        requires some { 0 < self.old.len }
+        requires open_end { IsOpenAt self.old.mode (low_bits self.old.len self.old.bits) }
+        ensures { ClosesWith self.old self.new result }
+    {
+        self.next = 1;
+        if let Mode::AfterReset = self.mode {
+            // The beginning of a switch: a zero, and ones after it.
+            self.bits /= 2;
+            self.len -= 1;
+            self.mode = Mode::Synced;
+            return Item::Idle(1);
+        }
+        let cut = TxBits {
+            len: self.len,
+            bits: self.bits,
+        };
+        self.len = 0;
+        self.bits = 0;
+        Item::Cut(cut)
+    }
+}

@@ -1,0 +1,119 @@
+//! An item's trace text, byte by byte.
+ghost use Rattle.std.specs.Prelude.{◌≡◌, ◌<◌, ◌≤◌, ◌++◌, [], length, take, true, false};
+ghost use Rattle.std.specs.Iterator.{YieldsFirst, item_count};
+ghost use Rattle.swd_trace.specs.Listed.{IsLegal};
+ghost use Rattle.swd_trace.specs.Texts.{item_text, digit as digit_of};
+
+use crate::item::{Item, SWITCH};
+use swd_bits::TxBits;
+
+/// The bytes of an item's trace text: a character `0` or `1` for each bit in time order,
+/// turnarounds written as 1, and then a line feed.
+#[derive(Drop)]
+pub struct ItemBytes {
+    // equal bits, that many
+    one: bool,
+    run: u64,
+    // the bits after them, the first least significant
+    len: u8,
+    bits: u64,
+    // whether the line feed is still to come
+    unended: bool,
+}
+
+impl ItemBytes {
+    ghost use Rattle.swd_trace.specs.ItemBytes.{bytes_left};
+
+    /// The bytes of an item.
+    pub fn of(item: &Item) -> ItemBytes
+        requires { IsLegal item.now }
+        ensures { bytes_left result ≡ item_text item.now }
+    {
+        match item {
+            Item::Reset(count) => ItemBytes::of_run(true, *count),
+            Item::Switch => ItemBytes::of_bits(TxBits {
+                len: 16,
+                bits: SWITCH,
+            }),
+            Item::Idle(count) => ItemBytes::of_run(false, *count),
+            Item::Tx(tx) => ItemBytes::of_bits(tx.bits()),
+            Item::Junk(bit) => ItemBytes::of_run(*bit, 1),
+            Item::Cut(bits) => ItemBytes::of_bits(*bits),
+        }
+    }
+
+    /// Puts the next bytes into a piece, as many as there are or as fit, and says how many.
+    pub fn fill(&mut self, piece: &mut [u8]) -> usize
+        ensures within { result ≤ length piece.new }
+        ensures bytes { bytes_left self.old ≡ take result piece.new ++ bytes_left self.new }
+        ensures end { result < length piece.new → bytes_left self.new ≡ [] }
+    {
+        let mut filled = 0;
+        for place in piece.iter_mut() {
+            let Some(byte) = self.next() else {
+                return filled;
+            };
+            *place = byte;
+            filled += 1;
+        }
+        filled
+    }
+
+    fn of_run(one: bool, run: u64) -> ItemBytes
+        ensures { result ≡ record { one = one; run = run; len = 0; bits = 0; unended = true } }
+    {
+        ItemBytes {
+            one,
+            run,
+            len: 0,
+            bits: 0,
+            unended: true,
+        }
+    }
+
+    fn of_bits(bits: TxBits) -> ItemBytes
+        ensures { result ≡ record { one = false; run = 0; len = bits.len; bits = bits.bits; unended = true } }
+    {
+        ItemBytes {
+            one: false,
+            run: 0,
+            len: bits.len,
+            bits: bits.bits,
+            unended: true,
+        }
+    }
+}
+
+fn digit(bit: bool) -> u8
+    ensures { result ≡ digit_of bit }
+{
+    if bit { b'1' } else { b'0' }
+}
+
+impl Iterator for ItemBytes {
+    type Item = u8;
+
+    ghost use Rattle.swd_trace.specs.ItemBytes.{bytes_left};
+
+    ghost next_gives = { YieldsFirst bytes_left };
+
+    ghost remaining = { item_count bytes_left };
+
+    fn next(&mut self) -> Option<u8> {
+        if self.run > 0 {
+            self.run -= 1;
+            return Some(digit(self.one));
+        }
+        if self.len > 0 {
+            let bit = self.bits % 2 == 1;
+            self.bits /= 2;
+            self.len -= 1;
+            return Some(digit(bit));
+        }
+        if self.unended {
+            self.unended = false;
+            return Some(b'\n');
+        }
+        None
+    }
+}

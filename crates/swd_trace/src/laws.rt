@@ -1,0 +1,39 @@
+//! Laws of the reading of a list of bits. The functions do nothing: their contracts are the laws.
+ghost use Rattle.std.specs.Prelude.{◌≡◌, ◌≢◌, ◌↔◌, ℕ, ◌≤◌, Bool, true, false, List, [], ◌∷◌, ◌++◌, length, map, take, nat_le, replicate};
+ghost use Rattle.swd_bits.specs.Transactions.{Spells};
+ghost use Rattle.swd_bits.specs.declared.tx.Tx.{Tx};
+ghost use Rattle.swd_trace.specs.declared.item.Item.{Item};
+ghost use Rattle.swd_trace.specs.Stands.{Whole, Begun, stands};
+ghost use Rattle.swd_trace.specs.Reading.{ones, all_ones, begins_with, switch, reading_of};
+ghost use Rattle.swd_trace.specs.Decided.{IsDecided};
+ghost use Rattle.swd_trace.specs.Spelled.{AreSpelled};
+ghost use Rattle.swd_trace.specs.Texts.{bits_of_items};
+
+/// The tests by which the reading goes are what they stand for. A whole transaction stands at the
+/// front of some bits exactly where their front spells it. They are found to be the beginning of
+/// one exactly where more bits make them the spelling of a transaction. The same for fifty ones,
+/// whole and begun, and for the switch.
+pub fn tests_of_the_reading()
+    ensures transaction { (bits : List Bool) (tx : Tx) (n : ℕ) → (stands bits ≡ Whole tx n) ↔ ((n ≤ length bits) × Spells tx (take n bits)) }
+    ensures begun { (bits : List Bool) → (stands bits ≡ Begun) ↔ ((tx : Tx) × (more : List Bool) × (more ≢ []) × Spells tx (bits ++ more)) }
+    ensures fifty { (bits : List Bool) → (nat_le 50 (ones bits) ≡ true) ↔ ((more : List Bool) × (bits ≡ replicate 50 true ++ more)) }
+    ensures fewer { (bits : List Bool) → ((nat_le 50 (ones bits) ≡ false) × (all_ones bits ≡ true)) ↔ ((more : List Bool) × (more ≢ []) × (replicate 50 true ≡ bits ++ more)) }
+    ensures switch { (bits : List Bool) → (begins_with switch bits ≡ true) ↔ ((more : List Bool) × (bits ≡ switch ++ more)) }
+{}
+
+/// No two lists of items are what the same bits decide.
+pub fn one_list_is_decided()
+    ensures { (bits : List Bool) (a b : List Item) → IsDecided bits a → IsDecided bits b → a ≡ b }
+{}
+
+/// The bits of a reading, turnarounds as 1, are read as that reading.
+pub fn readings_are_read_again()
+    ensures { (bits : List Bool) → reading_of (bits_of_items (reading_of bits)) ≡ reading_of bits }
+{}
+
+/// Transactions that follow one another, each of them acknowledged, are read as these transactions,
+/// and no fifty ones in a row stand in their bits.
+pub fn transactions_are_read()
+    ensures read { (txs : List Tx) (bits : List Bool) → AreSpelled txs bits → reading_of bits ≡ map Item.Tx txs }
+    ensures no_reset { (txs : List Tx) (bits front back : List Bool) → AreSpelled txs bits → bits ≢ front ++ (replicate 50 true ++ back) }
+{}

@@ -1,0 +1,28 @@
+//! The items of a trace of the wire: resets, switches, idle cycles, transactions and what is none.
+#![tactic(auto)]
+
+mod decoder;
+mod encoder;
+mod item;
+mod item_bytes;
+mod item_text;
+mod judged;
+mod judging;
+mod laws;
+mod listing;
+mod mode;
+
+pub use decoder::Decoder;
+pub use encoder::encode;
+pub use item::Item;
+pub use item_bytes::ItemBytes;
+pub use item_text::line_of;
+pub use laws::{
+    one_list_is_decided, readings_are_read_again, tests_of_the_reading, transactions_are_read,
+};
+pub use listing::{ListFault, read_list};
+
+#[cfg(test)]
+mod decoder_tests;
+#[cfg(test)]
+mod encoder_tests;

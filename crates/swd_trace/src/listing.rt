@@ -1,0 +1,16 @@
+//! Reading a listing: one item a line, as the items are printed.
+
+mod fault;
+mod front;
+mod kind;
+mod line;
+mod lines;
+mod normal;
+mod reader;
+mod word;
+
+pub use fault::ListFault;
+pub use reader::read_list;
+
+#[cfg(test)]
+mod tests;

@@ -1,0 +1,122 @@
+//! The lines of a listing, one byte after another.
+ghost use Rattle.std.specs.Prelude.{◌≡◌, ◌+◌, ◌∷◌, ◌++◌, [], ℕ, List, length, true, OnOk, IfOk, IfErr};
+ghost use Rattle.swd_bits.specs.Transactions.{spelling};
+ghost use Rattle.swd_trace.specs.Front.{AreLegal};
+ghost use Rattle.swd_trace.specs.Listed.{lines, Lists, Refuses};
+ghost use Rattle.swd_trace.specs.Taken.{Takes};
+ghost use Rattle.swd_trace.specs.Texts.{item_bits};
+
+use crate::item::Item;
+use crate::listing::fault::ListFault;
+use crate::listing::line::item_of;
+use arrayvec::ArrayVec;
+use std::alloc::Allocator;
+use swd_bits::{Tx, TxEnd};
+
+// Longer than the line of any item.
+const LONGEST: usize = 64;
+
+/// The items of the lines that ended, and the line that has begun.
+#[derive(Drop)]
+pub(crate) struct Lines<A: Allocator> {
+    pub(crate) items: Vec<Item, A>,
+    // how many bits these items have
+    pub(crate) total: u64,
+    pub(crate) line: ArrayVec<u8, LONGEST>,
+}
+
+impl<A: Allocator> Lines<A> {
+    /// No line yet.
+    pub(crate) fn new(alloc: A) -> Lines<A>
+        ensures { Takes [] result.items.items result.line.items result.total }
+    {
+        Lines {
+            items: Vec::new(alloc),
+            total: 0,
+            line: ArrayVec::new(),
+        }
+    }
+
+    /// Takes a byte. After an `Err` nothing is known of what is kept.
+    pub(crate) fn byte(&mut self, byte: u8) -> Result<(), ListFault>
+        ensures ok { OnOk result ((seen : List ℕ) → Takes seen self.old.items.items self.old.line.items self.old.total → Takes (seen ++ byte ∷ []) self.new.items.items self.new.line.items self.new.total) }
+        ensures err { IfErr result (λ fault. (seen more : List ℕ) → Takes seen self.old.items.items self.old.line.items self.old.total → Refuses fault (lines (seen ++ byte ∷ more))) }
+    {
+        if byte == b'\n' {
+            return self.end_line();
+        }
+        if self.line.len() == LONGEST {
+            return Err(self.bad_line());
+        }
+        self.line.push(byte);
+        Ok(())
+    }
+
+    // The fault of the line that has begun.
+    fn bad_line(&self) -> ListFault
+        ensures { result ≡ ListFault.BadLine (length self.now.items.items + 1) }
+    {
+        ListFault::BadLine {
+            line: self.items.len() as u64 + 1,
+        }
+    }
+
+    // Takes the line that has begun as a whole one.
+    fn end_line(&mut self) -> Result<(), ListFault>
+        ensures ok { OnOk result ((seen : List ℕ) → Takes seen self.old.items.items self.old.line.items self.old.total → Takes (seen ++ 10 ∷ []) self.new.items.items self.new.line.items self.new.total) }
+        ensures empty { OnOk result (self.new.line.items ≡ []) }
+        ensures err { IfErr result (λ fault. (seen more : List ℕ) → Takes seen self.old.items.items self.old.line.items self.old.total → Refuses fault (lines (seen ++ 10 ∷ more))) }
+    {
+        let Some(item) = item_of(self.line.as_slice()) else {
+            return Err(self.bad_line());
+        };
+        let Some(total) = self.total.checked_add(bit_count(&item)) else {
+            return Err(self.bad_line());
+        };
+        if self.items.push(item).is_err() {
+            return Err(ListFault::Memory);
+        }
+        self.total = total;
+        self.line.clear();
+        Ok(())
+    }
+
+    /// The items of the whole text, the last line of which may lack its end.
+    pub(crate) fn finish(mut self) -> Result<Vec<Item, A>, ListFault>
+        ensures legal { IfOk result (λ items. (seen : List ℕ) → Takes seen self.items.items self.line.items self.total → AreLegal items.items) }
+        ensures ok { IfOk result (λ items. (seen : List ℕ) → Takes seen self.items.items self.line.items self.total → Lists (lines seen) items.items) }
+        ensures err { IfErr result (λ fault. (seen : List ℕ) → Takes seen self.items.items self.line.items self.total → Refuses fault (lines seen)) }
+    {
+        if self.line.is_empty() {
+            return Ok(self.items);
+        }
+        match self.end_line() {
+            Ok(()) => Ok(self.items),
+            Err(fault) => Err(fault),
+        }
+    }
+}
+
+// How many bits an item has.
+fn bit_count(item: &Item) -> u64
+    ensures { result ≡ length (item_bits item.now) }
+{
+    match item {
+        Item::Reset(count) | Item::Idle(count) => *count,
+        Item::Switch => 16,
+        Item::Junk(_) => 1,
+        Item::Cut(bits) => u64::from(bits.len),
+        Item::Tx(tx) => tx_bit_count(tx),
+    }
+}
+
+// How many bits a transaction has.
+fn tx_bit_count(tx: &Tx) -> u64
+    ensures { result ≡ length (spelling tx.now true true) }
+{
+    match tx.result {
+        TxEnd::Moved { .. } => 46,
+        TxEnd::Wait | TxEnd::Fault => 13,
+        TxEnd::NoAck(_) => 12,
+    }
+}

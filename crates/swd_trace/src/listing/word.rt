@@ -1,0 +1,65 @@
+//! The numbers and bits of a listing line.
+ghost use Rattle.std.specs.Prelude.{◌≡◌, ℕ, ◌^◌, ◌<◌, ◌≤◌, map, IfSome};
+ghost use Rattle.std.specs.Fmt.{decimal};
+ghost use Rattle.swd_bits.specs.BitLists.{bits_of, IsSpelled};
+ghost use Rattle.swd_bits.specs.Listing.{hex8};
+ghost use Rattle.swd_bits.specs.declared.tx_bits.TxBits.{TxBits};
+ghost use Rattle.swd_trace.specs.Listed.{IsCut};
+ghost use Rattle.swd_trace.specs.Texts.{digit};
+
+use std::str;
+use swd_bits::TxBits;
+
+// The most bits that are cut off: one fewer than a line reset has.
+const LONGEST_CUT: usize = 49;
+
+/// The number that is printed as these digits. Other texts may be read as some number.
+pub(crate) fn count_of(digits: &[u8]) -> Option<u64>
+    ensures { (count : ℕ) → count < 2 ^ 64 → digits.now ≡ decimal count → result ≡ Some count }
+{
+    match str::from_utf8(digits) {
+        Ok(text) => text.parse().ok(),
+        Err(_) => None,
+    }
+}
+
+/// The acknowledgement as seen that is printed as this number. Other texts may be read as some
+/// number.
+pub(crate) fn seen_of(digits: &[u8]) -> Option<u8>
+    ensures { (seen : ℕ) → seen < 8 → digits.now ≡ decimal seen → result ≡ Some seen }
+{
+    match str::from_utf8(digits) {
+        Ok(text) => text.parse().ok(),
+        Err(_) => None,
+    }
+}
+
+/// The word that is printed as these eight hexadecimal digits. Other texts may be read as some
+/// word.
+pub(crate) fn word_of(digits: &[u8]) -> Option<u32>
+    ensures { (word : ℕ) → word < 2 ^ 32 → digits.now ≡ hex8 word → result ≡ Some word }
+{
+    match str::from_utf8(digits) {
+        Ok(text) => u32::from_str_radix(text, 16).ok(),
+        Err(_) => None,
+    }
+}
+
+/// The 1 to 49 bits that are printed as these characters. Other texts may be read as some bits.
+pub(crate) fn bits_in(digits: &[u8]) -> Option<TxBits>
+    ensures legal { IfSome result IsCut }
+    ensures found { (bits : TxBits) → IsCut bits → digits.now ≡ map digit (bits_of bits) → result ≡ Some bits }
+{
+    let len = digits.len();
+    if len == 0 || len > LONGEST_CUT {
+        return None;
+    }
+    let mut bits = 0u64;
+    for i in 0..len {
+        bits = bits * 2 + u64::from(digits[len - 1 - i] == b'1');
+    }
+    Some(TxBits {
+        len: len as u8,
+        bits,
+    })
+}
