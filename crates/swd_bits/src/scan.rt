@@ -52,8 +52,8 @@ impl Scan {
             return Sign::Passed;
         }
         match byte {
-            b'0' => Sign::Bit(false),
-            b'1' => Sign::Bit(true),
+            // One arm, so that no branch hangs on a bit, which can't be foreseen.
+            b'0' | b'1' => Sign::Bit(byte == b'1'),
             b' ' | b'\t' | b'\r' | b'\n' => Sign::Passed,
             b'#' => {
                 self.comment = true;

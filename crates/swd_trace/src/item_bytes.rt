@@ -43,6 +43,7 @@ impl ItemBytes {
     }
 
     /// Puts the next bytes into a piece, as many as there are or as fit, and says how many.
+    #[inline]
     pub fn fill(&mut self, piece: &mut [u8]) -> usize
         ensures within { result ≤ length piece.new }
         ensures bytes { bytes_left self.old ≡ take result piece.new ++ bytes_left self.new }
@@ -84,10 +85,12 @@ impl ItemBytes {
     }
 }
 
+#[inline]
 fn digit(bit: bool) -> u8
     ensures { result ≡ digit_of bit }
 {
-    if bit { b'1' } else { b'0' }
+    // No branch: a bit of data can't be foreseen.
+    b'0' + u8::from(bit)
 }
 
 impl Iterator for ItemBytes {
@@ -99,6 +102,7 @@ impl Iterator for ItemBytes {
 
     ghost remaining = { item_count bytes_left };
 
+    #[inline]
     fn next(&mut self) -> Option<u8> {
         if self.run > 0 {
             self.run -= 1;

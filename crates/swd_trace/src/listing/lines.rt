@@ -38,6 +38,7 @@ impl<A: Allocator> Lines<A> {
     }
 
     /// Takes a byte. After an `Err` nothing is known of what is kept.
+    #[inline]
     pub(crate) fn byte(&mut self, byte: u8) -> Result<(), ListFault>
         ensures ok { OnOk result ((seen : List ℕ) → Takes seen self.old.items.items self.old.line.items self.old.total → Takes (seen ++ byte ∷ []) self.new.items.items self.new.line.items self.new.total) }
         ensures err { IfErr result (λ fault. (seen more : List ℕ) → Takes seen self.old.items.items self.old.line.items self.old.total → Refuses fault (lines (seen ++ byte ∷ more))) }
