@@ -13,13 +13,20 @@ use std::alloc::{AllocError, Global};
 
 const ABOUT: &str = "Reads and writes traces of the Serial Wire Debug (SWD) line.";
 
-const AFTER: &str =
-    "A trace is text: a character 0 or 1 for each bit on the line, in time order. Blanks and line\n\
-ends are passed over, and so is everything from # up to the end of the line.\n\n\
-Status: 0 all done, 2 a fault, which is told on standard error.\n\n\
-Example, a read of the debug port's identification register:\n  \
-echo '10100101 1 100 11101110001010000000010111010100 0 1' | swd one\n  \
-dp 0 read ok 2ba01477";
+const AFTER: &str = "\
+A trace is text: a character 0 or 1 for each bit on the line, in time order. Blanks and line
+ends are passed over, and so is everything from # up to the end of the line.
+
+A listing has one line an item: reset N and idle N (that many ones or zeros), switch (from JTAG),
+a transaction as in 'dp 0 read ok 2ba01477' or 'ap c write wait' (also fault, bad WORD for wrong
+parity, none N for no acknowledgement), junk B (a bit that belongs to nothing), cut BITS (the end
+of a trace that was cut off).
+
+Status: 0 all done, 2 a fault, which is told on standard error.
+
+Example, a read of the debug port's identification register:
+  echo '10100101 1 100 11101110001010000000010111010100 0 1' | swd decode
+  dp 0 read ok 2ba01477";
 
 const ONE_ABOUT: &str = "Lists the one transaction that a trace holds";
 

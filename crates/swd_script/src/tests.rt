@@ -216,7 +216,22 @@ fn encoding_at_each_read_that_fails(rt: HostRuntime) {
 }
 
 #[test]
-fn decoding_at_each_write_that_fails(rt: HostRuntime) -> Result<(), Fail> {
+fn decoding_at_each_write_that_fails(rt: HostRuntime) {
+    let lines = b"reset 50\nidle 1\ncut 101\n";
+    for fails in [false, true] {
+        for room in 0..lines.len() {
+            let mut writer = ShortWriter::new(rt.alloc(), room, fails);
+            let mut reader = RESET;
+            let answer = decode_text(&mut reader, &mut writer);
+            let written = room as u64;
+            assert_eq!(rt; answer, Err(EngineFault::Write { written }));
+            assert_eq!(rt; writer.taken(), &lines[..room]);
+        }
+    }
+}
+
+#[test]
+fn decoding_more_than_a_block_where_a_write_fails(rt: HostRuntime) -> Result<(), Fail> {
     // More lines than a block holds.
     let mut trace = Vec::new(rt.alloc());
     trace.extend_from_slice(b"10100101 1 111 ")?;

@@ -3,13 +3,14 @@ ghost use Rattle.std.specs.Prelude.{◌≡◌, ◌<◌, ◌≤◌, ◌++◌, [],
 ghost use Rattle.std.specs.Iterator.{YieldsFirst, item_count};
 ghost use Rattle.swd_trace.specs.Listed.{IsLegal};
 ghost use Rattle.swd_trace.specs.Texts.{item_text, digit as digit_of};
+ghost use Rattle.swd_trace.specs.ItemBytes.{bytes_left};
 
 use crate::item::{Item, SWITCH};
 use swd_bits::TxBits;
 
 /// The bytes of an item's trace text: a character `0` or `1` for each bit in time order,
 /// turnarounds written as 1, and then a line feed.
-#[derive(Drop)]
+#[derive(Clone, Copy, Debug, PartialEq, Eq)]
 pub struct ItemBytes {
     // equal bits, that many
     one: bool,
@@ -22,8 +23,6 @@ pub struct ItemBytes {
 }
 
 impl ItemBytes {
-    ghost use Rattle.swd_trace.specs.ItemBytes.{bytes_left};
-
     /// The bytes of an item.
     pub fn of(item: &Item) -> ItemBytes
         requires { IsLegal item.now }
@@ -49,14 +48,8 @@ impl ItemBytes {
         ensures bytes { bytes_left self.old ≡ take result piece.new ++ bytes_left self.new }
         ensures end { result < length piece.new → bytes_left self.new ≡ [] }
     {
-        let mut filled = 0;
-        for place in piece.iter_mut() {
-            let Some(byte) = self.next() else {
-                return filled;
-            };
-            *place = byte;
-            filled += 1;
-        }
+        let (filled, left) = put(*self, piece);
+        *self = left;
         filled
     }
 
@@ -85,6 +78,26 @@ impl ItemBytes {
     }
 }
 
+// Puts the next bytes into a piece, and says how many, and what is left. By value and apart, so that
+// what is left stays in registers: this is half of the work of an encoder.
+#[inline(never)]
+fn put(bytes: ItemBytes, piece: &mut [u8]) -> (usize, ItemBytes)
+    ensures within { result.0 ≤ length piece.new }
+    ensures bytes { bytes_left bytes ≡ take result.0 piece.new ++ bytes_left result.1 }
+    ensures end { result.0 < length piece.new → bytes_left result.1 ≡ [] }
+{
+    let mut left = bytes;
+    let mut filled = 0;
+    for place in piece.iter_mut() {
+        let Some(byte) = left.next() else {
+            return (filled, left);
+        };
+        *place = byte;
+        filled += 1;
+    }
+    (filled, left)
+}
+
 #[inline]
 fn digit(bit: bool) -> u8
     ensures { result ≡ digit_of bit }
@@ -95,8 +108,6 @@ fn digit(bit: bool) -> u8
 
 impl Iterator for ItemBytes {
     type Item = u8;
-
-    ghost use Rattle.swd_trace.specs.ItemBytes.{bytes_left};
 
     ghost next_gives = { YieldsFirst bytes_left };
 

@@ -1,9 +1,9 @@
 use Rattle.std.proofs.Common.{◌≡◌, ◌++◌, take}
 use Rattle.swd_trace.specs.ItemBytes.{bytes_left}
-use Rattle.swd_trace.proofs.item_bytes.ItemBytes.fill.Given as goal
+use Rattle.swd_trace.proofs.item_bytes.put.Given as goal
 
 abbrev pub invariant-loop-place : goal.invariant-loop-place
 invariant-loop-place l = record {
   place : l.filled ≡ l.place-index;
-  bytes : bytes_left l.initial.self ≡ take l.filled l.piece ++ bytes_left l.self;
+  bytes : bytes_left l.fn.bytes ≡ take l.filled l.piece ++ bytes_left l.left;
 }
