@@ -1,5 +1,6 @@
 //! A plain-Rust streaming decoder and encoder of traces, byte by byte: what `swd decode` and
-//! `swd encode` are measured against. Written for this bench, and proved in nothing.
+//! `swd encode` are measured against. Written for this bench, and proved in nothing. `encode` refuses a
+//! list that isn't normal, as `swd encode` does; `encode-unchecked` leaves that out.
 use std::io::{self, BufRead, BufReader, BufWriter, Read, Write};
 
 const SWITCH: u64 = 0xe79e;
@@ -31,6 +32,11 @@ fn is_request(byte: u64) -> bool {
 }
 
 impl<W: Write> Decoder<W> {
+    fn new(out: W) -> Self {
+        let held = Held::Bits { len: 0, bits: 0 };
+        Decoder { mode: Mode::Synced, held, out }
+    }
+
     /// The line of a request, up to its result.
     fn asked(&mut self, bits: u64) -> io::Result<()> {
         let port: &[u8] = if bits >> 1 & 1 == 1 { b"ap " } else { b"dp " };
@@ -163,11 +169,7 @@ impl<W: Write> Decoder<W> {
 }
 
 fn decode() -> io::Result<()> {
-    let mut decoder = Decoder {
-        mode: Mode::Synced,
-        held: Held::Bits { len: 0, bits: 0 },
-        out: BufWriter::new(io::stdout().lock()),
-    };
+    let mut decoder = Decoder::new(BufWriter::new(io::stdout().lock()));
     let mut comment = false;
     let mut reader = BufReader::new(io::stdin().lock());
     loop {
@@ -232,7 +234,7 @@ fn spell(line: &str, out: &mut String) -> Option<()> {
     Some(())
 }
 
-/// Unlike `swd encode`, this doesn't look whether the list is normal.
+/// The trace text of a listing, line by line.
 fn encode() -> io::Result<()> {
     let mut text = String::new();
     BufReader::new(io::stdin().lock()).read_to_string(&mut text)?;
@@ -246,10 +248,35 @@ fn encode() -> io::Result<()> {
     out.flush()
 }
 
+/// The same, where the list is normal: its bits are decoded again and compared, as is simplest. Nothing
+/// is written before.
+fn encode_normal() -> io::Result<()> {
+    let mut text = String::new();
+    BufReader::new(io::stdin().lock()).read_to_string(&mut text)?;
+    let mut trace = String::new();
+    for line in text.lines() {
+        spell(line, &mut trace).ok_or_else(|| io::Error::other("bad line"))?;
+    }
+    let mut decoder = Decoder::new(Vec::new());
+    for byte in trace.bytes() {
+        match byte {
+            b'0' => decoder.bit(false)?,
+            b'1' => decoder.bit(true)?,
+            _ => {}
+        }
+    }
+    decoder.finish()?;
+    if decoder.out != text.as_bytes() {
+        return Err(io::Error::other("not normal"));
+    }
+    io::stdout().lock().write_all(trace.as_bytes())
+}
+
 fn main() -> io::Result<()> {
     match std::env::args().nth(1).as_deref() {
         Some("decode") => decode(),
-        Some("encode") => encode(),
-        _ => Err(io::Error::other("decode or encode")),
+        Some("encode") => encode_normal(),
+        Some("encode-unchecked") => encode(),
+        _ => Err(io::Error::other("decode, encode or encode-unchecked")),
     }
 }

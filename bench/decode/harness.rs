@@ -127,16 +127,16 @@ fn same(a: &str, b: &str) -> io::Result<bool> {
     }
 }
 
-fn compare(title: &str, swd: &str, baseline: &str, word: &str, input: &str, folder: &str) -> io::Result<()> {
+fn compare(title: &str, programs: [&str; 2], words: [&str; 2], input: &str, folder: &str) -> io::Result<()> {
     let ours = format!("{folder}/ours");
     let theirs = format!("{folder}/theirs");
     let bytes = std::fs::metadata(input)?.len() as f64 / 1e6;
-    let (s, k) = best(swd, word, input, &ours)?;
-    let (bs, bk) = best(baseline, word, input, &theirs)?;
+    let (s, k) = best(programs[0], words[0], input, &ours)?;
+    let (bs, bk) = best(programs[1], words[1], input, &theirs)?;
     let same = if same(&ours, &theirs)? { "same output" } else { "OTHER OUTPUT" };
     println!(
-        "{word} {title:<14} swd {:7.1} MB/s {:6} kB   baseline {:7.1} MB/s {:6} kB   ratio {:.2}   {same}",
-        bytes / s, k, bytes / bs, bk, bs / s
+        "{:<16} {title:<12} swd {:7.1} MB/s {:6} kB   baseline {:7.1} MB/s {:6} kB   ratio {:.2}   {same}",
+        words[1], bytes / s, k, bytes / bs, bk, bs / s
     );
     Ok(())
 }
@@ -146,15 +146,17 @@ fn main() -> io::Result<()> {
     let [_, swd, baseline, folder] = words.as_slice() else {
         return Err(io::Error::other("harness SWD BASELINE FOLDER"));
     };
+    let programs = [swd.as_str(), baseline.as_str()];
     for kind in ["transactions", "random bits", "long runs", "comments"] {
         let trace = format!("{folder}/trace");
         make(kind, &trace)?;
-        compare(kind, swd, baseline, "decode", &trace, folder)?;
+        compare(kind, programs, ["decode"; 2], &trace, folder)?;
         if kind == "transactions" {
             // The list that was decoded is a normal one.
             let list = format!("{folder}/list");
             std::fs::rename(format!("{folder}/theirs"), &list)?;
-            compare(kind, swd, baseline, "encode", &list, folder)?;
+            compare(kind, programs, ["encode"; 2], &list, folder)?;
+            compare(kind, programs, ["encode", "encode-unchecked"], &list, folder)?;
         }
     }
     Ok(())
