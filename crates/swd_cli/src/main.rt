@@ -11,7 +11,7 @@ use input::Input;
 use report::{FAULT, cannot_open, engine_status, one_status, tell};
 use std::alloc::AllocError;
 use std::process::ExitCode;
-use std::{env, fs, io};
+use std::{env, io};
 use swd_bits::one_text;
 use swd_script::{decode_text, encode_text};
 use words::line;
