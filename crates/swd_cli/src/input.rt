@@ -11,8 +11,13 @@ pub enum Input {
 }
 
 impl Input {
+    ghost use Rattle.std.specs.Prelude.{◌≡◌, IfOk, is_none};
+    ghost use Rattle.swd_cli.specs.Inputs.{is_stdin};
+
     /// Opens the file, or takes standard input where none is named.
-    pub fn open(rt: &HostRuntime, name: Option<&str>) -> io::Result<Input> {
+    pub fn open(rt: &HostRuntime, name: Option<&str>) -> io::Result<Input>
+        ensures { IfOk result (λ input. is_stdin input ≡ is_none name.entry) }
+    {
         match name {
             Some(name) => Ok(Input::File(fs::open(rt, name)?)),
             None => Ok(Input::Stdin(rt.stdin())),

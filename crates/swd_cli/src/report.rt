@@ -1,4 +1,7 @@
 //! What the program says of a fault, and the status that it ends with.
+ghost use Rattle.std.specs.Prelude.{◌≡◌, is_ok, if◌then◌else◌};
+ghost use Rattle.std.specs.Process.{exit_status};
+
 use std::process::ExitCode;
 use swd_bits::OneFault;
 use swd_script::EngineFault;
@@ -8,19 +11,25 @@ pub const FAULT: u8 = 2;
 
 /// Says what is wrong, on one line of standard error. Where that can't be written, the status says
 /// it alone.
-pub fn tell(rt: &impl Eprint, what: &str) -> ExitCode {
+pub fn tell(rt: &impl Eprint, what: &str) -> ExitCode
+    ensures { exit_status result ≡ 2 }
+{
     let _ = eprintln!(rt; "swd: {what}");
     ExitCode::from(FAULT)
 }
 
 /// Says that a file can't be opened or made.
-pub fn cannot_open(rt: &impl Eprint, name: &str) -> ExitCode {
+pub fn cannot_open(rt: &impl Eprint, name: &str) -> ExitCode
+    ensures { exit_status result ≡ 2 }
+{
     let _ = eprintln!(rt; "swd: cannot open {name}");
     ExitCode::from(FAULT)
 }
 
 /// The status of `swd one`.
-pub fn one_status(rt: &impl Eprint, answer: Result<(), OneFault>) -> ExitCode {
+pub fn one_status(rt: &impl Eprint, answer: Result<(), OneFault>) -> ExitCode
+    ensures { exit_status result ≡ (if is_ok answer then 0 else 2) }
+{
     match answer {
         Ok(()) => ExitCode::SUCCESS,
         Err(OneFault::BadChar { place }) => {
@@ -34,7 +43,9 @@ pub fn one_status(rt: &impl Eprint, answer: Result<(), OneFault>) -> ExitCode {
 }
 
 /// The status of a text engine.
-pub fn engine_status(rt: &impl Eprint, answer: Result<(), EngineFault>) -> ExitCode {
+pub fn engine_status(rt: &impl Eprint, answer: Result<(), EngineFault>) -> ExitCode
+    ensures { exit_status result ≡ (if is_ok answer then 0 else 2) }
+{
     match answer {
         Ok(()) => ExitCode::SUCCESS,
         Err(fault) => {
