@@ -1,4 +1,12 @@
 -- The state of the port machine: a debug port of ADIv5.2 with one memory access port, AP 0.
+pub use Rattle.swd_port.specs.declared.register.Register.{Register}
+pub use Rattle.swd_port.specs.declared.register.Register.TheVariants.{DpidrRead, AbortWrite, CtrlStatRead, CtrlStatWrite, SelectWrite, ResendRead, RdbuffRead, DpZeroRead, DpIgnoredWrite, CswRead, CswWrite, TarRead, TarWrite, DrwRead, DrwWrite, ApZeroRead, ApIgnoredWrite}
+pub use Rattle.swd_port.specs.declared.state.Reset.{Reset}
+pub use Rattle.swd_port.specs.declared.state.Reset.TheVariants.{Unreset, Fresh, Live}
+pub use Rattle.swd_port.specs.declared.state.Drw.{Drw}
+pub use Rattle.swd_port.specs.declared.state.Drw.TheVariants.{Reads, Writes}
+pub use Rattle.swd_port.specs.declared.state.Line.{Line}
+pub use Rattle.swd_port.specs.declared.state.Line.TheVariants.{Idle, Drives, Awaits}
 use Rattle.std.specs.Prelude.{ℕ, ◌==◌, ◌&&◌, Bool, true, false, Option, Some, None, if◌then◌else◌}
 use Rattle.swd_bits.specs.declared.request.Request.{Request}
 use Rattle.swd_bits.specs.declared.request.Reg4.{Reg4}
@@ -7,17 +15,6 @@ use Rattle.swd_port.specs.declared.wire.Due.{Due}
 use Rattle.swd_port.specs.declared.wire.Due.TheVariants.{Nothing}
 use Rattle.swd_port.specs.declared.select.Select.{Select}
 use Rattle.swd_port.specs.PlainMemory.{PlainMemory}
-
--- What a request asks for, once SELECT is known: a register, and a direction.
-pub data Register : Type 0 where
-  -- of the debug port (IHI 0031, B2, "DP register descriptions")
-  DpidrRead AbortWrite CtrlStatRead CtrlStatWrite SelectWrite ResendRead RdbuffRead : Register
-  -- of the debug port, where nothing stands: reads 0, ignores writes (this project's choice)
-  DpZeroRead DpIgnoredWrite : Register
-  -- of the access port (IHI 0031, MEM-AP, "MEM-AP register descriptions")
-  CswRead CswWrite TarRead TarWrite DrwRead DrwWrite : Register
-  -- of the access port, where nothing stands: reads 0, ignores writes (this project's choice)
-  ApZeroRead ApIgnoredWrite : Register
 
 -- the debug port's registers by direction, address and whether DPBANKSEL is 0, on which address 4 alone depends
 abbrev pub dp_register : Bool → Reg4 → Bool → Register
@@ -57,29 +54,6 @@ ap_register s read addr = if is_mem_ap s then mem_ap_register read addr else no_
 -- what a request asks for (IHI 0031, B4, "Packet request", and B2, "SELECT, AP Select register")
 abbrev pub register : Select → Request → Register
 register s q = if q.ap then ap_register s q.read q.addr else dp_register q.read q.addr (s.dpbanksel == 0)
-
--- Whether the target answers: IHI 0031, B4, "Connection and line reset sequence".
-pub data Reset : Type 0 where
-  -- there was no line reset yet
-  Unreset : Reset
-  -- there was no DPIDR read since the last one
-  Fresh : Reset
-  -- there was
-  Live : Reset
-
--- What the target does in the data phase that follows its OK.
-pub data Line : Type 0 where
-  -- there is none: it waits for a request
-  Idle : Line
-  -- it drives 33 bits; this is the number of those that the host gets
-  Drives : (bits : ℕ) → Line
-  -- it awaits the 33 bits of this write; one place is changed on the way, or none
-  Awaits : (write : Register) (flip : Option ℕ) → Line
-
--- A transfer by DRW that was accepted and is not done yet; its address is what TAR is then.
-pub data Drw : Type 0 where
-  Reads : Drw
-  Writes : (word : ℕ) → Drw
 
 -- The port state. `None` in TAR, the read buffer and the last returned value: it is unknown, and any word may stand for it, anew at each use.
 pub record Port : Type 0 where

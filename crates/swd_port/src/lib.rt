@@ -8,7 +8,10 @@ mod csw;
 mod ctrl_stat;
 mod host_laws;
 mod laws;
+mod mark;
+mod register;
 mod select;
+mod state;
 mod wire;
 
 pub use abort::Abort;
@@ -20,7 +23,10 @@ pub use host_laws::{
     accesses, calls, completion, data_phases, line_resets, requests, transfers, words_read,
 };
 pub use laws::{answers, phases, registers};
+pub use mark::Mark;
+pub use register::Register;
 pub use select::Select;
+pub use state::{Drw, Line, Reply, Reset};
 pub use wire::{Due, Wire};
 
 #[cfg(test)]

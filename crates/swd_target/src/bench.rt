@@ -170,9 +170,11 @@ impl Bench {
 }
 
 impl Wire for Bench {
-    ghost use Rattle.swd_target.specs.Benches.{port_of, plan_of, quirks_of, AsksBy, GivesBy};
+    ghost use Rattle.swd_target.specs.Benches.{port_of, plan_of, marks_of, quirks_of, AsksBy, GivesBy};
 
     ghost port = { port_of };
+
+    ghost plan = { marks_of };
 
     fn due(&self) -> Due {
         self.due

@@ -3,6 +3,7 @@
 
 mod bench;
 mod held;
+mod laws;
 mod mark;
 mod memory;
 mod plan;
@@ -12,6 +13,7 @@ mod state;
 mod target;
 
 pub use bench::Bench;
+pub use laws::marks_used;
 pub use mark::Mark;
 pub use memory::{MakeFault, Memory};
 pub use quirks::Quirks;

@@ -1,7 +1,7 @@
 //! The plan of a simulated wire: the marks of its requests, and which of them were used.
-ghost use Rattle.std.specs.Prelude.{◌≡◌, ◌+◌, ◌≤◌, ℕ, true, length, min};
+ghost use Rattle.std.specs.Prelude.{◌≡◌, ◌+◌, ◌≤◌, ℕ, true, length, min, map, take};
 ghost use Rattle.std.specs.List.{list_all};
-ghost use Rattle.swd_port.specs.Choices.{IsMark, disturbs, loses};
+ghost use Rattle.swd_port.specs.Choices.{IsMark, disturbs, loses, disturbed_among, lost_among};
 ghost use Rattle.swd_target.specs.Marks.{mark_of, mark_at, is_legal, IsPlan};
 
 use crate::mark::Mark;
@@ -17,6 +17,8 @@ pub(crate) struct Plan {
     lost: Count,
     ghost legal: { list_all is_legal marks.items ≡ true },
     ghost counted: { next ≡ min asked.ticks (length marks.items) },
+    ghost counted_disturbed: { disturbed.ticks ≡ disturbed_among (take asked.ticks (map mark_of marks.items)) },
+    ghost counted_lost: { lost.ticks ≡ lost_among (take asked.ticks (map mark_of marks.items)) },
 }
 
 impl Plan {
