@@ -1,9 +1,12 @@
 -- What a bench does at a request is a step of the port machine.
 use Rattle.std.proofs.Common.{◌≡◌, Bool, true, false, ℕ, ◌+◌, refl, sym, ap, subst, ◌∙◌, inl, inr}
 use Rattle.swd_bits.specs.declared.request.Request.{Request}
-use Rattle.swd_port.specs.Port.{Port, Register, register}
-use Rattle.swd_port.specs.Choices.{Mark, IsMark, flip_of, disturbs, loses, Choice, IsChoice}
-use Rattle.swd_port.specs.Answers.{Reply, answer, reply_under, is_unpowered, seen_at, due_after}
+use Rattle.swd_port.specs.Port.{Port, register}
+use Rattle.swd_port.specs.declared.register.Register.{Register}
+use Rattle.swd_port.specs.Choices.{IsMark, flip_of, disturbs, loses, Choice, IsChoice}
+use Rattle.swd_port.specs.declared.mark.Mark.{Mark}
+use Rattle.swd_port.specs.Answers.{answer, reply_under, is_unpowered, seen_at, due_after}
+use Rattle.swd_port.specs.declared.state.Reply.{Reply}
 use Rattle.swd_port.specs.Moving.{Gives}
 use Rattle.swd_port.specs.Asking.{Asks, AsksNow, IsSettled, IsWordRead, value_in, line_after, phase_after, after_reply}
 use Rattle.swd_target.specs.declared.quirks.Quirks.{Quirks}

@@ -1,15 +1,22 @@
 -- What a target chooses, as a choice of the port machine.
 use Rattle.std.proofs.Common.{◌≡◌, ℕ, ◌<◌, ◌^◌, ◌||◌, Bool, true, false, Option, None, refl, sym, ap, subst, inl, inr, arith}
 use Rattle.std.specs.Prelude.{unwrap_or}
-use Rattle.swd_port.specs.Port.{Port, Register, Reset, ResendRead, DrwRead, Drw}
-use Rattle.swd_port.specs.Choices.{Choice, IsChoice, Mark, is_deaf, is_wait}
-use Rattle.swd_port.specs.Answers.{Reply, Okay, Waits, Faults, Silent, answer, reply_under, is_exempt, is_unpowered}
+use Rattle.swd_port.specs.Port.{Port}
+use Rattle.swd_port.specs.declared.register.Register.{Register}
+use Rattle.swd_port.specs.declared.state.Reset.{Reset}
+use Rattle.swd_port.specs.declared.register.Register.TheVariants.{ResendRead, DrwRead}
+use Rattle.swd_port.specs.declared.state.Drw.{Drw}
+use Rattle.swd_port.specs.Choices.{Choice, IsChoice, is_deaf, is_wait}
+use Rattle.swd_port.specs.declared.mark.Mark.{Mark}
+use Rattle.swd_port.specs.Answers.{answer, reply_under, is_exempt, is_unpowered}
+use Rattle.swd_port.specs.declared.state.Reply.{Reply}
+use Rattle.swd_port.specs.declared.state.Reply.TheVariants.{Okay, Waits, Faults, Silent}
 use Rattle.swd_port.specs.Completion.{Completes, completed, fails}
 use Rattle.swd_port.specs.Asking.{IsSettled}
 use Rattle.swd_target.specs.declared.held.Held.{Held}
 use Rattle.swd_target.specs.declared.quirks.Quirks.{Quirks}
 use Rattle.swd_target.specs.declared.target.Target.{Target}
-use Rattle.swd_target.specs.Holding.{known_word, reset_of, pending_of}
+use Rattle.swd_target.specs.Holding.{known_word}
 use Rattle.swd_target.specs.Targets.{target_port, stand_in, choice_for, answer_of, IsChosen, is_owed, is_settling, SettlesIf, TakesEffect}
 
 stand_in-fits : (r : Register) (t : Target) → stand_in r t < 2 ^ 32
@@ -55,14 +62,14 @@ answer_at r ap s = answer s.reset s.sticky_error s.write_error (is_unpowered ap 
 
 -- where the code settles, that is owed by the reply that follows
 pub owed_after : (m : Mark) (r : Register) (ap : Bool) (t u : Target) → target_port u ≡ completed (choice_for DrwRead t) (target_port t)
-    → is_settling m r (answer_of r ap t) (fails (pending_of t.pending) t.tar.word t.memory) ≡ true → is_owed r (reply_under m r (answer_of r ap u)) ≡ true
+    → is_settling m r (answer_of r ap t) (fails t.pending t.tar.word t.memory) ≡ true → is_owed r (reply_under m r (answer_of r ap u)) ≡ true
 owed_after m r ap t u e settling =
     let P = λ (s : Port). is_owed r (reply_under m r (answer_at r ap s)) ≡ true in
-    let Q = λ (at : ℕ). is_owed r (reply_under m r (answer (reset_of t.reset) (t.sticky_error || fails (pending_of t.pending) at t.memory) t.write_error (is_unpowered ap t.debug_power) r)) ≡ true in
-    subst P (sym e) (subst Q (sym (kept_word t.tar)) (owed m r (reset_of t.reset) t.sticky_error t.write_error (is_unpowered ap t.debug_power) (fails (pending_of t.pending) t.tar.word t.memory) settling))
+    let Q = λ (at : ℕ). is_owed r (reply_under m r (answer t.reset (t.sticky_error || fails t.pending at t.memory) t.write_error (is_unpowered ap t.debug_power) r)) ≡ true in
+    subst P (sym e) (subst Q (sym (kept_word t.tar)) (owed m r t.reset t.sticky_error t.write_error (is_unpowered ap t.debug_power) (fails t.pending t.tar.word t.memory) settling))
 
 -- after a completion nothing is pending
-pub settled_after : (r : Register) (reply : Reply) (c : Choice) (s : Port) (u : Target) → target_port u ≡ completed c s → IsSettled reply r (pending_of u.pending)
+pub settled_after : (r : Register) (reply : Reply) (c : Choice) (s : Port) (u : Target) → target_port u ≡ completed c s → IsSettled reply r u.pending
 settled_after r reply c s u e = subst (λ (p : Option Drw). IsSettled reply r p) (sym (ap (λ (s : Port). s.pending) e)) (settled_none r reply)
 
 -- what a bench chooses is allowed

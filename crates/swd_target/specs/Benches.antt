@@ -1,17 +1,17 @@
 -- A bench as a port machine with a plan, and the choices that it makes: when a transfer takes effect, and how TAR ends a kilobyte.
 -- All of it is this project's choice.
-use Rattle.std.specs.Prelude.{ℕ, List, map}
+use Rattle.std.specs.Prelude.{ℕ, List}
 use Rattle.swd_bits.specs.declared.request.Request.{Request}
 use Rattle.swd_port.specs.declared.wire.Due.{Due}
-use Rattle.swd_port.specs.Port.{Port, Line, DrwRead, register}
-use Rattle.swd_port.specs.Choices.{Choice, Mark}
+use Rattle.swd_port.specs.Port.{Port, register}
+use Rattle.swd_port.specs.declared.state.Line.{Line}
+use Rattle.swd_port.specs.declared.register.Register.TheVariants.{DrwRead}
+use Rattle.swd_port.specs.Choices.{Choice}
+use Rattle.swd_port.specs.declared.mark.Mark.{Mark}
 use Rattle.swd_port.specs.Asking.{AsksNow, reply_in}
 use Rattle.swd_port.specs.Moving.{GivesNow}
 use Rattle.swd_target.specs.declared.bench.Bench.{Bench}
-use Rattle.swd_target.specs.declared.mark.Mark as marks
 use Rattle.swd_target.specs.declared.quirks.Quirks.{Quirks}
-use Rattle.swd_target.specs.Marks.{mark_of}
-use Rattle.swd_target.specs.Holding.{line_of}
 use Rattle.swd_target.specs.Targets.{target_port, choice_for, is_owed, SettlesIf, TakesEffect}
 
 -- what a bench has beside the state of its target
@@ -25,7 +25,7 @@ pub record Beside : Type 0 where
 abbrev pub beside : Bench → Beside
 beside b = record {
   due = b.due;
-  line = line_of b.line;
+  line = b.line;
   asked = b.plan.asked.ticks;
   disturbed = b.plan.disturbed.ticks;
   lost = b.plan.lost.ticks;
@@ -40,12 +40,8 @@ abbrev pub port_of : Bench → Port
 port_of b = with_beside (beside b) (target_port b.target)
 
 -- the marks of its requests
-abbrev pub plan_of : Bench → List marks.Mark
+abbrev pub plan_of : Bench → List Mark
 plan_of b = b.plan.marks.items
-
--- the same as marks of the port machine
-abbrev pub marks_of : Bench → List Mark
-marks_of b = map mark_of (plan_of b)
 
 -- how its target chooses
 abbrev pub quirks_of : Bench → Quirks

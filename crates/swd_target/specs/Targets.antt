@@ -2,19 +2,25 @@
 use Rattle.std.specs.Prelude.{ℕ, ◌≡◌, ◌⊎◌, ◌||◌, ◌&&◌, not, Bool, true, false, if◌then◌else◌}
 use Rattle.swd_port.specs.declared.wire.Due.TheVariants.{Nothing}
 use Rattle.swd_port.specs.Registers.{csw_read}
-use Rattle.swd_port.specs.Port.{Port, Idle, Register, ResendRead}
-use Rattle.swd_port.specs.Choices.{Choice, IsChoice, Mark, is_deaf, is_wait}
-use Rattle.swd_port.specs.Answers.{Reply, Okay, Faults, Silent, answer, is_exempt, is_okay, is_fault, is_unpowered}
+use Rattle.swd_port.specs.Port.{Port}
+use Rattle.swd_port.specs.declared.state.Line.TheVariants.{Idle}
+use Rattle.swd_port.specs.declared.register.Register.{Register}
+use Rattle.swd_port.specs.declared.register.Register.TheVariants.{ResendRead}
+use Rattle.swd_port.specs.Choices.{Choice, IsChoice, is_deaf, is_wait}
+use Rattle.swd_port.specs.declared.mark.Mark.{Mark}
+use Rattle.swd_port.specs.Answers.{answer, is_exempt, is_okay, is_fault, is_unpowered}
+use Rattle.swd_port.specs.declared.state.Reply.{Reply}
+use Rattle.swd_port.specs.declared.state.Reply.TheVariants.{Okay, Faults, Silent}
 use Rattle.swd_port.specs.Asking.{reset_after, read_ok_after, buffer_once_read, is_posted, pending_once_read}
 use Rattle.swd_port.specs.Completion.{completed}
 use Rattle.swd_target.specs.declared.quirks.Quirks.{Quirks}
 use Rattle.swd_target.specs.declared.target.Target.{Target}
-use Rattle.swd_target.specs.Holding.{known_word, reset_of, pending_of}
+use Rattle.swd_target.specs.Holding.{known_word}
 
 -- the state of the port machine, where nothing is due and nothing was asked
 abbrev pub target_port : Target → Port
 target_port t = record {
-  reset = reset_of t.reset;
+  reset = t.reset;
   due = Nothing;
   line = Idle;
   sticky_error = t.sticky_error;
@@ -28,7 +34,7 @@ target_port t = record {
   tar = known_word t.tar;
   buffer = known_word t.buffer;
   last_returned = known_word t.last_returned;
-  pending = pending_of t.pending;
+  pending = t.pending;
   identification = 0x2ba0_1477;
   memory = t.memory;
   asked = 0;
@@ -59,7 +65,7 @@ replied reply r ap s = record s {
 
 -- the answer of a target
 abbrev pub answer_of : Register → Bool → Target → Reply
-answer_of r ap t = answer (reset_of t.reset) t.sticky_error t.write_error (is_unpowered ap t.debug_power) r
+answer_of r ap t = answer t.reset t.sticky_error t.write_error (is_unpowered ap t.debug_power) r
 
 -- a choice in which TAR ends a kilobyte as the quirks say
 pub record IsChosen (quirks : Quirks) (c : Choice) : Type 0 where

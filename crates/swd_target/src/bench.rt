@@ -1,26 +1,26 @@
 //! A simulated target at the end of a wire, with a plan of what befalls each request.
 ghost use Rattle.std.specs.Prelude.{◌≡◌, ◌+◌, ◌<◌, ◌^◌};
 ghost use Rattle.swd_port.specs.declared.wire.Due.TheVariants.{Nothing, Take, Give, Pass};
-ghost use Rattle.swd_port.specs.Port.{DrwRead, made};
+ghost use Rattle.swd_port.specs.Port.{made};
+ghost use Rattle.swd_port.specs.declared.register.Register.TheVariants.{DrwRead};
 ghost use Rattle.swd_port.specs.Choices.{IsMark, disturbs, flip_of, loses};
 ghost use Rattle.swd_port.specs.Completion.{completed};
 ghost use Rattle.swd_port.specs.Asking.{Asks, IsWordRead, line_after, phase_after, value_in};
 ghost use Rattle.swd_port.specs.Leading.{MayLead, Leads, LeadsNow};
 ghost use Rattle.swd_port.specs.Moving.{Takes, TakesNow, Gives, GivesNow, Passes, PassesNow, bits_driven};
-ghost use Rattle.swd_target.specs.Marks.{IsPlan, mark_of, mark_at};
-ghost use Rattle.swd_target.specs.Registers.{register_of};
-ghost use Rattle.swd_target.specs.Holding.{line_of, flip_place, awaited_flip, reply_of};
+ghost use Rattle.swd_target.specs.Marks.{IsPlan, mark_at};
+ghost use Rattle.swd_target.specs.Holding.{flip_place, awaited_flip};
 ghost use Rattle.swd_target.specs.Targets.{IsChosen, choice_for, target_port};
 
-use crate::mark::Mark;
+use crate::acknowledgement::{due_after_seen, seen_under};
 use crate::memory::Memory;
+use crate::phase::{bits_on, flip_bit, flip_under, is_awaiting, phase_of, phase_word};
 use crate::plan::Plan;
 use crate::quirks::Quirks;
-use crate::register::Register;
-use crate::state::{Line, Reply, due_after_seen, flip_bit, phase_word};
+use crate::register::register_named;
 use crate::target::Target;
 use swd_bits::Request;
-use swd_port::{Due, Wire};
+use swd_port::{Due, Line, Mark, Register, Reply, Wire};
 
 /// A simulated target at the end of a wire. Each request uses the next mark of the plan; after its
 /// end all marks are `Clean`. DPIDR gives 2ba01477.
@@ -34,7 +34,7 @@ pub struct Bench {
     due: Due,
     line: Line,
     plan: Plan,
-    ghost driven: { bits_driven (line_of line) < 2 ^ 33 },
+    ghost driven: { bits_driven line < 2 ^ 33 },
     ghost flipped: { flip_place (awaited_flip line) < 33 },
 }
 
@@ -85,9 +85,9 @@ impl Bench {
         ensures quirks { quirks_of self.new ≡ quirks_of self.old }
     {
         let mark = self.plan.use_mark();
-        let register = Register::named(self.target.select, request);
+        let register = register_named(self.target.select, request);
         let reply = self.target.reply(mark, register, request.ap);
-        let seen = reply.seen(mark);
+        let seen = seen_under(mark, reply);
         self.due = due_after_seen(request.read, seen);
         self.line = self.line_after(mark, reply, register, request.read);
         self.target.apply(reply, register, request.ap);
@@ -97,16 +97,16 @@ impl Bench {
 
     // The data phase that follows a reply.
     fn line_after(&self, mark: Mark, reply: Reply, register: Register, read: bool) -> Line
-        requires { IsMark (mark_of mark) }
-        ensures line { line_of result ≡ line_after (reply_of reply) (phase_after read (register_of register) (flip_of (mark_of mark)) (value_in (register_of register) (choice_for (register_of register) self.now.target) (target_port self.now.target))) (line_of self.now.line) }
-        ensures word { IsWordRead (reply_of reply) read (value_in (register_of register) (choice_for (register_of register) self.now.target) (target_port self.now.target)) }
-        ensures driven { bits_driven (line_of result) < 2 ^ 33 }
+        requires { IsMark mark }
+        ensures line { result ≡ line_after reply (phase_after read register (flip_of mark) (value_in register (choice_for register self.now.target) (target_port self.now.target))) self.now.line }
+        ensures word { IsWordRead reply read (value_in register (choice_for register self.now.target) (target_port self.now.target)) }
+        ensures driven { bits_driven result < 2 ^ 33 }
         ensures flipped { flip_place (awaited_flip result) < 33 }
     {
         match reply {
             Reply::Okay => {
                 let value = self.target.value(register);
-                Line::phase(read, register, mark.flip(), value)
+                phase_of(read, register, flip_under(mark), value)
             }
             _ => self.line,
         }
@@ -122,7 +122,7 @@ impl Bench {
         if ones == 0 {
             return;
         }
-        if self.line.is_awaiting() {
+        if is_awaiting(self.line) {
             self.target.refuse_write();
         }
         self.target.line_reset();
@@ -136,7 +136,7 @@ impl Bench {
         ensures plan { plan_of self.new ≡ plan_of self.old }
         ensures quirks { quirks_of self.new ≡ quirks_of self.old }
     {
-        let bits = self.line.bits();
+        let bits = bits_on(self.line);
         self.due = Due::Nothing;
         self.line = Line::Idle;
         bits
@@ -170,11 +170,11 @@ impl Bench {
 }
 
 impl Wire for Bench {
-    ghost use Rattle.swd_target.specs.Benches.{port_of, plan_of, marks_of, quirks_of, AsksBy, GivesBy};
+    ghost use Rattle.swd_target.specs.Benches.{port_of, plan_of, quirks_of, AsksBy, GivesBy};
 
     ghost port = { port_of };
 
-    ghost plan = { marks_of };
+    ghost plan = { plan_of };
 
     fn due(&self) -> Due {
         self.due

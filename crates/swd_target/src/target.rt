@@ -1,24 +1,23 @@
 //! The target behind a wire: a debug port with one memory access port.
 ghost use Rattle.std.specs.Prelude.{◌≡◌, ◌&&◌, not, true, false, if◌then◌else◌};
 ghost use Rattle.std.specs.Option.{option_map};
-ghost use Rattle.swd_port.specs.Port.{Fresh, DrwRead, made};
-ghost use Rattle.swd_port.specs.Answers.{Okay, Waits, answer, reply_under, is_answered, is_unpowered};
+ghost use Rattle.swd_port.specs.Port.{made};
+ghost use Rattle.swd_port.specs.declared.state.Reset.TheVariants.{Fresh};
+ghost use Rattle.swd_port.specs.declared.register.Register.TheVariants.{DrwRead};
+ghost use Rattle.swd_port.specs.Answers.{answer, reply_under, is_answered, is_unpowered};
+ghost use Rattle.swd_port.specs.declared.state.Reply.TheVariants.{Okay, Waits};
 ghost use Rattle.swd_port.specs.Asking.{IsSettled, value_in, status_in};
 ghost use Rattle.swd_port.specs.Registers.{bit_of, csw_read};
 ghost use Rattle.swd_port.specs.Moving.{Arrives, Damaged, after_arrival};
 ghost use Rattle.swd_port.specs.Completion.{Completes, completed, fails, next_address};
-ghost use Rattle.swd_target.specs.Marks.{mark_of};
-ghost use Rattle.swd_target.specs.Registers.{register_of};
-ghost use Rattle.swd_target.specs.Holding.{known_word, reply_of, reset_of, pending_of};
+ghost use Rattle.swd_target.specs.Holding.{known_word};
 
 use crate::held::Held;
-use crate::mark::Mark;
 use crate::memory::Memory;
 use crate::quirks::Quirks;
-use crate::register::Register;
-use crate::state::{Drw, Reply, Reset};
+use crate::register::{is_access_port_write, is_exempt, is_posted};
 use bitflags::Flags;
-use swd_port::{Abort, Access, Answer, Csw, CtrlStat, Select};
+use swd_port::{Abort, Access, Answer, Csw, CtrlStat, Drw, Mark, Register, Reply, Reset, Select};
 
 // What DPIDR gives.
 const IDENTIFICATION: u32 = 0x2ba0_1477;
@@ -80,14 +79,14 @@ impl Target {
         ensures quirks { self.new.quirks ≡ self.old.quirks }
     {
         match self.pending {
-            Some(Drw::Read) => self.complete_read(),
-            Some(Drw::Write(word)) => self.complete_write(word),
+            Some(Drw::Reads) => self.complete_read(),
+            Some(Drw::Writes(word)) => self.complete_write(word),
             None => {}
         }
     }
 
     fn complete_read(&mut self)
-        requires { self.old.pending ≡ Some Drw.Read }
+        requires { self.old.pending ≡ Some Drw.Reads }
         ensures port { target_port self.new ≡ completed (choice_for DrwRead self.old) (target_port self.old) }
         ensures quirks { self.new.quirks ≡ self.old.quirks }
     {
@@ -102,7 +101,7 @@ impl Target {
     }
 
     fn complete_write(&mut self, word: u32)
-        requires { self.old.pending ≡ Some (Drw.Write word) }
+        requires { self.old.pending ≡ Some (Drw.Writes word) }
         ensures port { target_port self.new ≡ completed (choice_for DrwRead self.old) (target_port self.old) }
         ensures quirks { self.new.quirks ≡ self.old.quirks }
     {
@@ -125,11 +124,11 @@ impl Target {
 
     // The answer to a request where no WAIT is asked for.
     fn answer(&self, register: Register, ap: bool) -> Reply
-        ensures { reply_of result ≡ answer_of (register_of register) ap self.now }
+        ensures { result ≡ answer_of register ap self.now }
     {
         if !self.is_answering(register) {
             Reply::Silent
-        } else if register.is_exempt() {
+        } else if is_exempt(register) {
             Reply::Okay
         } else if self.sticky_error || self.write_error || (ap && !self.debug_power) {
             Reply::Faults
@@ -139,7 +138,7 @@ impl Target {
     }
 
     fn is_answering(&self, register: Register) -> bool
-        ensures { result ≡ is_answered (reset_of self.now.reset) (register_of register) }
+        ensures { result ≡ is_answered self.now.reset register }
     {
         match self.reset {
             Reset::Unreset => false,
@@ -150,23 +149,23 @@ impl Target {
 
     // The reply to a request with a mark, as things stand.
     fn reply_now(&self, mark: Mark, register: Register, ap: bool) -> Reply
-        ensures { reply_of result ≡ reply_under (mark_of mark) (register_of register) (answer_of (register_of register) ap self.now) }
+        ensures { result ≡ reply_under mark register (answer_of register ap self.now) }
     {
-        if mark.is_deaf() {
+        if matches!(&mark, Mark::Deaf) {
             return Reply::Silent;
         }
         let answer = self.answer(register, ap);
         match answer {
-            Reply::Okay if mark.is_wait() && !register.is_exempt() => Reply::Waits,
+            Reply::Okay if matches!(&mark, Mark::Wait) && !is_exempt(register) => Reply::Waits,
             _ => answer,
         }
     }
 
     // The reply to a request with a mark.
     pub(crate) fn reply(&mut self, mark: Mark, register: Register, ap: bool) -> Reply
-        ensures settles { SettlesIf self.old.quirks (is_owed (register_of register) (reply_of result)) (target_port self.old) (target_port self.new) }
-        ensures reply { reply_of result ≡ reply_under (mark_of mark) (register_of register) (answer_of (register_of register) ap self.new) }
-        ensures settled { IsSettled (reply_of result) (register_of register) (pending_of self.new.pending) }
+        ensures settles { SettlesIf self.old.quirks (is_owed register result) (target_port self.old) (target_port self.new) }
+        ensures reply { result ≡ reply_under mark register (answer_of register ap self.new) }
+        ensures settled { IsSettled result register self.new.pending }
         ensures select { self.new.select ≡ self.old.select }
         ensures quirks { self.new.quirks ≡ self.old.quirks }
     {
@@ -178,7 +177,7 @@ impl Target {
 
     // What a reply changes at the target.
     pub(crate) fn apply(&mut self, reply: Reply, register: Register, ap: bool)
-        ensures port { target_port self.new ≡ replied (reply_of reply) (register_of register) ap (target_port self.old) }
+        ensures port { target_port self.new ≡ replied reply register ap (target_port self.old) }
         ensures quirks { self.new.quirks ≡ self.old.quirks }
     {
         match reply {
@@ -196,19 +195,19 @@ impl Target {
 
     // READOK tells that an AP read or RDBUFF read was not answered OK.
     fn refuse_read(&mut self, register: Register)
-        ensures port { target_port self.new ≡ replied Waits (register_of register) false (target_port self.old) }
+        ensures port { target_port self.new ≡ replied Waits register false (target_port self.old) }
         ensures quirks { self.new.quirks ≡ self.old.quirks }
     {
-        if register.is_posted() {
+        if is_posted(register) {
             self.read_ok = false;
         }
     }
 
     fn apply_okay(&mut self, register: Register)
-        ensures port { target_port self.new ≡ replied Okay (register_of register) false (target_port self.old) }
+        ensures port { target_port self.new ≡ replied Okay register false (target_port self.old) }
         ensures quirks { self.new.quirks ≡ self.old.quirks }
     {
-        if register.is_posted() {
+        if is_posted(register) {
             self.read_ok = true;
             self.last_returned = self.buffer;
         }
@@ -218,14 +217,14 @@ impl Target {
             Register::CswRead => self.buffer = Held::known(self.csw()),
             Register::TarRead => self.buffer = self.tar,
             Register::ApZeroRead => self.buffer = Held::known(0),
-            Register::DrwRead => self.pending = Some(Drw::Read),
+            Register::DrwRead => self.pending = Some(Drw::Reads),
             _ => {}
         }
     }
 
     // The word that a read returns.
     pub(crate) fn value(&self, register: Register) -> u32
-        ensures { result ≡ value_in (register_of register) (choice_for (register_of register) self.now) (target_port self.now) }
+        ensures { result ≡ value_in register (choice_for register self.now) (target_port self.now) }
     {
         match register {
             Register::DpidrRead => IDENTIFICATION,
@@ -265,10 +264,10 @@ impl Target {
 
     // A write whose data arrived.
     pub(crate) fn write(&mut self, register: Register, word: u32)
-        ensures port { target_port self.new ≡ after_arrival (Arrives (register_of register) word) (target_port self.old) }
+        ensures port { target_port self.new ≡ after_arrival (Arrives register word) (target_port self.old) }
         ensures quirks { self.new.quirks ≡ self.old.quirks }
     {
-        if register.is_access_port_write() {
+        if is_access_port_write(register) {
             self.forget_values();
         }
         match register {
@@ -281,7 +280,7 @@ impl Target {
                 self.csw_upper = csw.upper;
             }
             Register::TarWrite => self.tar = Held::known(word),
-            Register::DrwWrite => self.pending = Some(Drw::Write(word)),
+            Register::DrwWrite => self.pending = Some(Drw::Writes(word)),
             _ => {}
         }
     }
@@ -369,7 +368,7 @@ impl Target {
 
     // The pending transfer would be a bus error.
     fn is_failing(&self) -> bool
-        ensures { result ≡ fails (pending_of self.now.pending) self.now.tar.word self.now.memory }
+        ensures { result ≡ fails self.now.pending self.now.tar.word self.now.memory }
     {
         match self.pending {
             Some(_) => !self.memory.is_ready(self.tar.word),
@@ -380,14 +379,14 @@ impl Target {
     // The pending transfer has to take effect before the reply: that is OK or FAULT, to a request
     // that may get WAIT. WAIT comes in place of an OK alone, and so not over a bus error.
     fn settles_before(&self, mark: Mark, register: Register, ap: bool) -> bool
-        ensures { result ≡ is_settling (mark_of mark) (register_of register) (answer_of (register_of register) ap self.now) (fails (pending_of self.now.pending) self.now.tar.word self.now.memory) }
+        ensures { result ≡ is_settling mark register (answer_of register ap self.now) (fails self.now.pending self.now.tar.word self.now.memory) }
     {
-        if mark.is_deaf() || register.is_exempt() {
+        if matches!(&mark, Mark::Deaf) || is_exempt(register) {
             return false;
         }
         match self.answer(register, ap) {
             Reply::Silent => false,
-            Reply::Okay if mark.is_wait() => self.is_failing(),
+            Reply::Okay if matches!(&mark, Mark::Wait) => self.is_failing(),
             _ => true,
         }
     }

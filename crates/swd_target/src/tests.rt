@@ -1,4 +1,5 @@
-ghost use Rattle.std.specs.Prelude.{IsTrue};
+ghost use Rattle.std.specs.Prelude.{IsTrue, ◌↔◌};
+ghost use Rattle.swd_port.specs.Choices.{IsMark};
 ghost use Rattle.swd_target.specs.Marks.{IsPlan};
 
 use super::*;
@@ -39,22 +40,6 @@ fn a_memory_begins_with_zero_words_and_an_empty_log(rt: HostRuntime) {
         assert_eq!(rt; memory.word(addr), word);
     }
     assert!(rt; memory.log().is_empty());
-}
-
-#[test]
-fn a_mark_is_legal_where_its_bit_is_one(rt: HostRuntime) {
-    for (mark, legal, lost) in [
-        (Mark::Clean, true, false),
-        (Mark::Wait, true, false),
-        (Mark::Flip(32), true, false),
-        (Mark::Flip(33), false, false),
-        (Mark::Deaf, true, true),
-        (Mark::Mute(2), true, true),
-        (Mark::Mute(3), false, true),
-    ] {
-        assert_eq!(rt; mark.legal(), legal);
-        assert_eq!(rt; mark.is_lost(), lost);
-    }
 }
 
 // The requests of the debug port and of the access port, as bytes.
@@ -108,10 +93,20 @@ enum Step {
     Logged(usize),
 }
 
+fn is_legal(mark: Mark) -> bool
+    ensures { IsTrue result ↔ IsMark mark }
+{
+    match mark {
+        Mark::Flip(place) => place < 33,
+        Mark::Mute(place) => place < 3,
+        _ => true,
+    }
+}
+
 fn are_legal(marks: &[Mark]) -> bool
     ensures { IsTrue result → IsPlan marks.now }
 {
-    marks.iter().all(|mark| mark.legal())
+    marks.iter().all(|mark| is_legal(*mark))
 }
 
 fn bench(alloc: Global, words: u32, quirks: Quirks, marks: &[Mark]) -> Option<Bench> {

@@ -1,5 +1,5 @@
 use Rattle.std.proofs.Common.{Bool, sym, subst}
-use Rattle.swd_port.specs.Port.{DrwRead}
+use Rattle.swd_port.specs.declared.register.Register.TheVariants.{DrwRead}
 use Rattle.swd_target.specs.Targets.{target_port, choice_for, TakesEffect}
 use Rattle.swd_target.proofs.TargetLemmas.{is_chosen}
 use Rattle.swd_target.proofs.target.Target.accept.Goals as goal

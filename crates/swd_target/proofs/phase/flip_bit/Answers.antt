@@ -1,7 +1,7 @@
 use Rattle.std.proofs.Common.{◌<◌, subst}
 use Rattle.swd_target.specs.Holding.{flip_place}
 use Rattle.swd_target.proofs.PhaseNumbers.{flip_range, shifted_64}
-use Rattle.swd_target.proofs.state.flip_bit.Goals as goal
+use Rattle.swd_target.proofs.phase.flip_bit.Goals as goal
 
 pub returns-in-Some-clause-range : goal.returns-in-Some-clause-range
 returns-in-Some-clause-range c =
