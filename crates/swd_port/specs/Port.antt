@@ -55,14 +55,22 @@ ap_register s read addr = if is_mem_ap s then mem_ap_register read addr else no_
 abbrev pub register : Select → Request → Register
 register s q = if q.ap then ap_register s q.read q.addr else dp_register q.read q.addr (s.dpbanksel == 0)
 
--- The port state. `None` in TAR, the read buffer and the last returned value: it is unknown, and any word may stand for it, anew at each use.
-pub record Port : Type 0 where
-  -- whether requests are answered
-  pub reset : Reset
+-- What stands between the host and the target.
+pub record Link : Type 0 where
   -- what has to come next, as the host sees it
   pub due : Due
   -- what the target drives or awaits
   pub line : Line
+
+-- Nothing is due, and the target neither drives nor awaits.
+abbrev pub rest : Link
+rest = record { due = Nothing; line = Idle }
+
+-- What the target is in. `None` in TAR, the read buffer and the last returned value: it is unknown, and any word may stand for it,
+-- anew at each use.
+pub record Target : Type 0 where
+  -- whether requests are answered
+  pub reset : Reset
   -- CTRL/STAT: STICKYERR, WDATAERR, READOK, and the requests for debug and for system power
   pub sticky_error : Bool
   pub write_error : Bool
@@ -86,17 +94,23 @@ pub record Port : Type 0 where
   pub identification : ℕ
   -- the memory behind the access port
   pub memory : PlainMemory
-  -- beside the state: the requests so far, how many were disturbed, and how many were lost, by their marks
+
+-- Beside the state: the requests so far, how many were disturbed, and how many were lost, by their marks.
+pub record Tally : Type 0 where
   pub asked : ℕ
   pub disturbed : ℕ
   pub lost : ℕ
 
--- the state before any call, with any identification and memory (this project's choice)
-abbrev pub made : ℕ → PlainMemory → Port
-made identification memory = record {
+-- The port state.
+pub record Port : Type 0 where
+  pub link : Link
+  pub target : Target
+  pub tally : Tally
+
+-- the target before any call, with any identification and memory (this project's choice)
+abbrev pub made_target : ℕ → PlainMemory → Target
+made_target identification memory = record {
   reset = Unreset;
-  due = Nothing;
-  line = Idle;
   sticky_error = false;
   write_error = false;
   read_ok = false;
@@ -111,7 +125,8 @@ made identification memory = record {
   pending = None;
   identification = identification;
   memory = memory;
-  asked = 0;
-  disturbed = 0;
-  lost = 0;
 }
+
+-- the state before any call (this project's choice)
+abbrev pub made : ℕ → PlainMemory → Port
+made identification memory = record { link = rest; target = made_target identification memory; tally = record { asked = 0; disturbed = 0; lost = 0 } }
