@@ -10,7 +10,7 @@ use Rattle.swd_port.specs.PlainMemory.{PlainMemory, word_at, plain_answer, plain
 use Rattle.swd_port.specs.Port.{Port, Target, RdbuffRead, DrwRead, DrwWrite, Idle, Drives, Awaits, Live, register}
 use Rattle.swd_port.specs.Completion.{Completes}
 use Rattle.swd_port.specs.Asking.{Asks}
-use Rattle.swd_port.specs.Moving.{Takes, Gives, Arrives, arrived}
+use Rattle.swd_port.specs.Moving.{Takes, Gives, Arrives, after_bits}
 use Rattle.swd_port.specs.Moves.{Around, Kept, Passed, IsPhaseOf, Got, whole as got_whole, damaged as got_damaged, Given, Gave}
 use Rattle.swd_port.specs.Outcomes.{SeesOkay, Accepts, Spares, OkayWaitOrLost, okay, wait, lost}
 use Rattle.swd_port.specs.Transfers.{Sent, Aimed, Succeeded}
@@ -67,7 +67,7 @@ given_word at word sent m s asked given r h range fits is o clean gives =
     let k : Kept found.0 given = kept found.0 given found.2 in
     record {
       live = k.reset ∙ ap (λ x. x.reset) g.target ∙ a.live;
-      write_error = k.write_error ∙ ap (λ x. x.write_error) (g.target ∙ ap (arrived (Arrives DrwWrite word)) a.target) ∙ r.write_error;
+      write_error = k.write_error ∙ ap (λ x. x.write_error) (g.target ∙ ap (after_bits (Arrives DrwWrite word)) a.target) ∙ r.write_error;
       sent = sent_stays (Write at word) m found.0 given found.2 (write_begins at word m asked found.0 aimed g);
     }
 

@@ -3,7 +3,7 @@ use Rattle.std.proofs.Common.{◌≡◌, ◌≢◌, ◌<◌, ◌^◌, ℕ, false
 use Rattle.std.specs.Prelude.{Option, Some, None, ◌==◌, ◌||◌}
 use Rattle.swd_bits.specs.Bits.{low_bits}
 use Rattle.swd_port.specs.Phases.{phase_number, word_in, flipped}
-use Rattle.swd_port.specs.Port.{Port, rest, Register, DrwWrite, Fresh, Idle, Awaits, Drw, made}
+use Rattle.swd_port.specs.Port.{Port, idle_link, Register, DrwWrite, Fresh, Idle, Awaits, Drw, made}
 use Rattle.swd_port.specs.Choices.{Choice}
 use Rattle.swd_port.specs.Completion.{Completes, completed}
 use Rattle.swd_port.specs.Moving.{bits_driven, after_take, after_pass, Arrives, Damaged, arrival, after_arrival, pending_after}
@@ -115,7 +115,7 @@ resets : (n : ℕ) → n ≢ 0 → (n == 0) ≡ false
 resets n other = grind arith
 
 abbrev after_ones : Port → Port
-after_ones s = record s { link = rest; target = record s.target { reset = Fresh; write_error = is_awaiting s.link.line || s.target.write_error } }
+after_ones s = record s { link = idle_link; target = record s.target { reset = Fresh; write_error = is_awaiting s.link.line || s.target.write_error } }
 
 led : (ones : ℕ) (s t : Port) → ones ≢ 0 → Leads s ones t → (a : Port) × Completes s a × (t ≡ after_ones a)
 led ones s t other (a, b, first, now, last) = before_step after_ones (λ c p. refl) s a b t first (now.after ∙ rw (resets ones other) refl) last

@@ -149,7 +149,7 @@ abbrev pub AimedCarried : Type 0
 AimedCarried = (at : ℕ) (m : PlainMemory) (x y : Target) → y.tar ≡ x.tar → y.memory ≡ x.memory → y.pending ≡ x.pending →
     y.sticky_error ≡ x.sticky_error → Aimed at m x → Aimed at m y
 
--- a TAR write whose word arrived aims at it
+-- a TAR write whose word after_bits aims at it
 abbrev pub AimedByTar : Type 0
 AimedByTar = (at : ℕ) (m : PlainMemory) (s t : Port) → s.target.memory ≡ m → s.target.pending ≡ None → s.target.sticky_error ≡ false → Gave TarWrite at s t → Aimed at m t.target
 
@@ -162,7 +162,7 @@ AimedByTransfer = (access : Access) (m : PlainMemory) (x : Target) → Succeeded
 abbrev pub ReadBegins : Type 0
 ReadBegins = (at : ℕ) (m : PlainMemory) (flip : Option ℕ) (s t : Port) → Aimed at m s.target → Accepts DrwRead true flip s t → Sent (Read at) m t.target
 
--- a DRW write whose word arrived where TAR is known is a transfer at it
+-- a DRW write whose word after_bits where TAR is known is a transfer at it
 abbrev pub WriteBegins : Type 0
 WriteBegins = (at word : ℕ) (m : PlainMemory) (s t : Port) → Aimed at m s.target → Gave DrwWrite word s t → Sent (Write at word) m t.target
 

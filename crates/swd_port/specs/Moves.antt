@@ -4,9 +4,9 @@ use Rattle.swd_bits.specs.Bits.{low_bits}
 use Rattle.swd_bits.specs.Wire.{phase}
 use Rattle.swd_port.specs.declared.wire.Due.TheVariants.{Nothing}
 use Rattle.swd_port.specs.Phases.{word_in}
-use Rattle.swd_port.specs.Port.{Port, rest, Register, Fresh}
+use Rattle.swd_port.specs.Port.{Port, idle_link, Register, Fresh}
 use Rattle.swd_port.specs.Completion.{Completes}
-use Rattle.swd_port.specs.Moving.{Arrives, arrived}
+use Rattle.swd_port.specs.Moving.{Arrives, after_bits}
 use Rattle.swd_port.specs.Leading.{is_awaiting}
 
 -- a step, with a completion before it and one after it, each of which may be none (this project's choice)
@@ -52,13 +52,13 @@ pub data Got (flip : Option ℕ) (value bits : ℕ) : Type 0 where
 
 -- a write was done with its word (IHI 0031, B4, "Data transfer")
 pub record Gave (r : Register) (word : ℕ) (s t : Port) : Type 0 where
-  pub link : t.link ≡ rest
-  pub target : t.target ≡ arrived (Arrives r word) s.target
+  pub link : t.link ≡ idle_link
+  pub target : t.target ≡ after_bits (Arrives r word) s.target
   pub tally : t.tally ≡ s.tally
 
 -- a write whose data was damaged: nothing is done, and WDATAERR is set (IHI 0031, B4, "Data transfer")
 pub record Spoiled (s t : Port) : Type 0 where
-  pub link : t.link ≡ rest
+  pub link : t.link ≡ idle_link
   pub target : t.target ≡ record s.target { write_error = true }
   pub tally : t.tally ≡ s.tally
 
@@ -70,6 +70,6 @@ pub data Given (r : Register) (flip : Option ℕ) (word : ℕ) (s t : Port) : Ty
 -- A line reset: the target is fresh, nothing is due, and every register, the pending transfer and the memory are as before, but
 -- that WDATAERR is set where write data was awaited (IHI 0031, B4, "Connection and line reset sequence"; WDATAERR: this project's choice).
 pub record WasReset (s t : Port) : Type 0 where
-  pub link : t.link ≡ rest
+  pub link : t.link ≡ idle_link
   pub target : t.target ≡ record s.target { reset = Fresh; write_error = is_awaiting s.link.line || s.target.write_error }
   pub tally : t.tally ≡ s.tally

@@ -4,7 +4,7 @@ use Rattle.swd_port.specs.declared.wire.Due.TheVariants.{Nothing}
 use Rattle.swd_port.specs.declared.select.Select.{Select}
 use Rattle.swd_port.specs.Registers.{bit_of, select_of, csw_of}
 use Rattle.swd_port.specs.Phases.{word_in, flipped, undriven}
-use Rattle.swd_port.specs.Port.{Port, Target, rest, Register, AbortWrite, CtrlStatWrite, SelectWrite, CswWrite, TarWrite, DrwWrite, ApIgnoredWrite, Line, Drives, Awaits, Drw, Writes}
+use Rattle.swd_port.specs.Port.{Port, Target, idle_link, Register, AbortWrite, CtrlStatWrite, SelectWrite, CswWrite, TarWrite, DrwWrite, ApIgnoredWrite, Line, Drives, Awaits, Drw, Writes}
 use Rattle.swd_port.specs.Completion.{Completes}
 
 -- the 33 bits that the host gets (IHI 0031, B4, "Data transfer"); an undriven line reads 1 (this project's choice)
@@ -14,7 +14,7 @@ bits_driven line = undriven
 
 -- the host took the 33 bits of a read: nothing else changes (IHI 0031, B4, "Successful read operation")
 abbrev pub after_take : Port → Port
-after_take s = record s { link = rest }
+after_take s = record s { link = idle_link }
 
 -- one call of `take`, and completion before and after (IHI 0031, B4, "Successful read operation")
 pub record TakesNow (s : Port) (bits : ℕ) (t : Port) : Type 0 where
@@ -98,15 +98,15 @@ abbrev pub tar_written : Arrival → Option ℕ → Option ℕ
 tar_written (Arrives TarWrite word) tar = Some word
 tar_written a tar = tar
 
--- a DRW write is pending once its data arrived (IHI 0031, MEM-AP, "DRW, Data Read/Write register")
+-- a DRW write is pending once its data after_bits (IHI 0031, MEM-AP, "DRW, Data Read/Write register")
 abbrev pub pending_after : Arrival → Option Drw → Option Drw
 pending_after (Arrives DrwWrite word) pending = Some (Writes word)
 pending_after a pending = pending
 
 -- the target after the 33 bits of a write: the write is done where their parity is right, else not, and WDATAERR is set
 -- (IHI 0031, B4, "Data transfer")
-abbrev pub arrived : Arrival → Target → Target
-arrived a x = record x {
+abbrev pub after_bits : Arrival → Target → Target
+after_bits a x = record x {
   sticky_error = sticky_error_after a x.sticky_error;
   write_error = write_error_after a x.write_error;
   debug_power = power_after 28 a x.debug_power;
@@ -121,7 +121,7 @@ arrived a x = record x {
 }
 
 abbrev pub after_arrival : Arrival → Port → Port
-after_arrival a s = record s { link = rest; target = arrived a s.target }
+after_arrival a s = record s { link = idle_link; target = after_bits a s.target }
 
 -- one call of `give`, and completion before and after (IHI 0031, B4, "Successful write operation")
 pub record GivesNow (s : Port) (sent : ℕ) (t : Port) : Type 0 where

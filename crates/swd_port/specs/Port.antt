@@ -63,8 +63,8 @@ pub record Link : Type 0 where
   pub line : Line
 
 -- Nothing is due, and the target neither drives nor awaits.
-abbrev pub rest : Link
-rest = record { due = Nothing; line = Idle }
+abbrev pub idle_link : Link
+idle_link = record { due = Nothing; line = Idle }
 
 -- What the target is in. `None` in TAR, the read buffer and the last returned value: it is unknown, and any word may stand for it,
 -- anew at each use.
@@ -129,4 +129,4 @@ made_target identification memory = record {
 
 -- the state before any call (this project's choice)
 abbrev pub made : ℕ → PlainMemory → Port
-made identification memory = record { link = rest; target = made_target identification memory; tally = record { asked = 0; disturbed = 0; lost = 0 } }
+made identification memory = record { link = idle_link; target = made_target identification memory; tally = record { asked = 0; disturbed = 0; lost = 0 } }
