@@ -5,16 +5,18 @@ use Rattle.swd_bits.specs.declared.request.Request.{Request}
 use Rattle.swd_bits.specs.declared.request.Reg4.TheVariants.{RC}
 use Rattle.swd_port.specs.declared.access.Access.TheVariants.{Read, Write}
 use Rattle.swd_port.specs.declared.access.Answer.TheVariants.{Value}
-use Rattle.swd_port.specs.Phases.{phase_number, flipped}
+use Rattle.swd_port.specs.Phases.{IsPhaseOf, phase_number, flipped}
 use Rattle.swd_port.specs.PlainMemory.{PlainMemory, word_at, plain_answer, plain_after}
 use Rattle.swd_port.specs.Port.{Port, Target, RdbuffRead, DrwRead, DrwWrite, Idle, Drives, Awaits, Live, register}
 use Rattle.swd_port.specs.Completion.{Completes}
 use Rattle.swd_port.specs.Asking.{Asks}
 use Rattle.swd_port.specs.Moving.{Takes, Gives, Arrives, after_bits}
-use Rattle.swd_port.specs.Moves.{Around, Kept, Passed, IsPhaseOf, Got, whole as got_whole, damaged as got_damaged, Given, Gave}
+use Rattle.swd_port.specs.Moves.{Around, Kept, Passed, Got, whole as got_whole, damaged as got_damaged, Given, Gave}
 use Rattle.swd_port.specs.Outcomes.{SeesOkay, Accepts, Spares, OkayWaitOrLost, okay, wait, lost}
 use Rattle.swd_port.specs.Transfers.{Sent, Aimed, Succeeded}
-use Rattle.swd_port.specs.Laws.{Ready, WordWritten, WordRead, OnLine, Confirms, confirms_okay, confirms_wait, confirms_fault, confirms_lost}
+use Rattle.swd_port.specs.Laws.Accesses.{Ready, WordWritten, WordRead}
+use Rattle.swd_port.specs.Laws.WordsRead.{OnLine}
+use Rattle.swd_port.specs.Laws.Requests.{Confirms, confirms_okay, confirms_wait, confirms_fault, confirms_lost}
 use Rattle.swd_port.proofs.CompletionLaws.{none_done, kept, sent_stays, read_begins, write_begins}
 use Rattle.swd_port.proofs.RequestLaws.{free_request_exact, free_request_at_rest, confirming_request}
 use Rattle.swd_port.proofs.MovingLaws.{data_taken, data_given_at_rest, take_moves_nothing, take_moves_nothing_at_rest}

@@ -14,7 +14,7 @@ use Rattle.swd_port.specs.Completion.{Completes}
 use Rattle.swd_port.specs.Moves.{Kept}
 use Rattle.swd_port.specs.Outcomes.{Steady}
 use Rattle.swd_port.specs.Asking.{tally_after}
-use Rattle.swd_port.specs.Laws.{DueAfterRequest, AcknowledgementSeen, NoAcknowledgementSeen, NothingDue, RequestCounted, OthersUncounted, with_asked, CountedApart}
+use Rattle.swd_port.specs.Laws.Calls.{DueAfterRequest, AcknowledgementSeen, NoAcknowledgementSeen, NothingDue, RequestCounted, OthersUncounted, with_asked, CountedApart}
 use Rattle.swd_port.proofs.CompletionLaws.{kept}
 use Rattle.swd_port.proofs.RequestLaws.{steady}
 

@@ -9,7 +9,8 @@ use Rattle.swd_port.specs.Completion.{Completes, completed}
 use Rattle.swd_port.specs.Moving.{bits_driven, after_take, after_pass, Arrives, Damaged, arrival, after_arrival, pending_after}
 use Rattle.swd_port.specs.Leading.{Leads, is_awaiting}
 use Rattle.swd_port.specs.Moves.{Around, Kept, Passed, Got, Gave, Spoiled, Given, whole, damaged}
-use Rattle.swd_port.specs.Laws.{DataTaken, TakeMovesNothing, TakeMovesNothingAtRest, DataGiven, DataGivenAtRest, DataGivenExact, TurnaroundPassed, TurnaroundPassedAtRest, LineReset, IdleCycles, IdleCyclesAtRest, FirstLineReset}
+use Rattle.swd_port.specs.Laws.DataPhases.{DataTaken, TakeMovesNothing, TakeMovesNothingAtRest, DataGiven, DataGivenAtRest, DataGivenExact, TurnaroundPassed, TurnaroundPassedAtRest}
+use Rattle.swd_port.specs.Laws.LineResets.{LineReset, IdleCycles, IdleCyclesAtRest, FirstLineReset}
 use Rattle.swd_port.proofs.PhaseLemmas.{word_phase, word_flip, bits_phase, phase_told, word_told}
 use Rattle.swd_port.proofs.CompletionLaws.{kept, none_done, same}
 

@@ -13,7 +13,7 @@ use Rattle.swd_port.specs.Outcomes.{Steady, Unmoved, Stays, Defers, Refuses, Acc
 use Rattle.swd_port.specs.Completion.{Completes}
 use Rattle.swd_port.specs.Moves.{Around, Kept}
 use Rattle.swd_port.specs.Transfers.{Sent}
-use Rattle.swd_port.specs.Laws.{ExemptRequest, ExemptRequestAtRest, IdentificationRead, IdentificationReadAtRest, FlaggedRequest, FlaggedRequestAtRest, UnpoweredRequestAtRest, FreeRequest, FreeRequestAtRest, FreeRequestExact, LostRequest, RefusedWithPower, UnmovedByExempt, UnmovedByFree, UnmovedByRefused, Confirms, confirms_okay, confirms_wait, confirms_fault, confirms_lost, ConfirmingRequest}
+use Rattle.swd_port.specs.Laws.Requests.{ExemptRequest, ExemptRequestAtRest, IdentificationRead, IdentificationReadAtRest, FlaggedRequest, FlaggedRequestAtRest, UnpoweredRequestAtRest, FreeRequest, FreeRequestAtRest, FreeRequestExact, LostRequest, RefusedWithPower, UnmovedByExempt, UnmovedByFree, UnmovedByRefused, Confirms, confirms_okay, confirms_wait, confirms_fault, confirms_lost, ConfirmingRequest}
 use Rattle.swd_port.proofs.CompletionLaws.{kept, none_done, sent_stays, sent_succeeds, sent_fails}
 
 -- the request with its reply and its register as variables

@@ -8,7 +8,7 @@ use Rattle.swd_port.specs.Port.{Target, Register, Drives, Drw}
 use Rattle.swd_port.specs.Asking.{is_posted, value_read, value_in, status_in, buffer_once_read, pending_once_read, after_okay}
 use Rattle.swd_port.specs.Answers.{is_exempt}
 use Rattle.swd_port.specs.Transfers.{Carries}
-use Rattle.swd_port.specs.Laws.{StatusWord, holds, IdentificationReturned, StatusReturned, BufferReturned, ValueResent, CarriedByRequest, CarriedWhereHeld, CarriedWherePassed, CarriedByReset, Clears, FlagsCleared}
+use Rattle.swd_port.specs.Laws.WordsRead.{StatusWord, holds, IdentificationReturned, StatusReturned, BufferReturned, ValueResent, CarriedByRequest, CarriedWhereHeld, CarriedWherePassed, CarriedByReset, Clears, FlagsCleared}
 
 -- CTRL/STAT
 sticky_held : (a b d e f : Bool) → holds 0x20 (ctrl_stat_read a b d e f) ≡ a

@@ -16,7 +16,7 @@ use Rattle.swd_port.specs.Asking.{Asks, reply_in, after_reply, value_in, IsSettl
 use Rattle.swd_port.specs.Moving.{Gives, Arrives, Damaged, after_arrival}
 use Rattle.swd_port.specs.Leading.{Leads, after_lead}
 use Rattle.swd_port.specs.Transfers.{Sent, owed, Aimed}
-use Rattle.swd_port.specs.Laws.{Ready}
+use Rattle.swd_port.specs.Laws.Accesses.{Ready}
 use Rattle.swd_port.proofs.PhaseLemmas.{word_phase, word_flip}
 
 abbrev choice : Choice

@@ -1,9 +1,7 @@
 -- What a data phase, a turnaround, ones and zeros, and a completion leave of the port, each field by an equation.
-use Rattle.std.specs.Prelude.{ℕ, ◌≡◌, ◌≢◌, ◌<◌, ◌^◌, ◌⊎◌, ◌||◌, true, Option, Some, None}
-use Rattle.swd_bits.specs.Bits.{low_bits}
-use Rattle.swd_bits.specs.Wire.{phase}
+use Rattle.std.specs.Prelude.{ℕ, ◌≡◌, ◌⊎◌, ◌||◌, true, Option, Some, None}
 use Rattle.swd_port.specs.declared.wire.Due.TheVariants.{Nothing}
-use Rattle.swd_port.specs.Phases.{word_in}
+use Rattle.swd_port.specs.Phases.{word_in, IsPhaseOf, IsNoPhase}
 use Rattle.swd_port.specs.Port.{Port, idle_link, Register, Fresh}
 use Rattle.swd_port.specs.Completion.{Completes}
 use Rattle.swd_port.specs.Moving.{Arrives, after_bits}
@@ -37,13 +35,6 @@ pub record Passed (s t : Port) : Type 0 where
   pub due : t.link.due ≡ Nothing
   pub target : t.target ≡ s.target
   pub tally : t.tally ≡ s.tally
-
--- 33 bits that are the phase of this word, and 33 bits that are no word's phase (IHI 0031, B4, "Data transfer")
-abbrev pub IsPhaseOf : ℕ → ℕ → Type 0
-IsPhaseOf word bits = phase word ≡ low_bits 33 bits
-
-abbrev pub IsNoPhase : ℕ → Type 0
-IsNoPhase bits = (word : ℕ) → word < 2 ^ 32 → phase word ≢ low_bits 33 bits
 
 -- what the host gets of a value: its phase, or no phase, where a place is changed (IHI 0031, B4, "Data transfer")
 pub data Got (flip : Option ℕ) (value bits : ℕ) : Type 0 where

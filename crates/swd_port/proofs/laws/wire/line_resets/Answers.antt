@@ -1,5 +1,5 @@
 use Rattle.swd_port.proofs.MovingLaws.{line_reset, idle_cycles, idle_cycles_at_rest, first_line_reset}
-use Rattle.swd_port.proofs.host_laws.line_resets.Goals as goal
+use Rattle.swd_port.proofs.laws.wire.line_resets.Goals as goal
 
 pub returns-clause-reset : goal.returns-clause-reset
 returns-clause-reset c = line_reset

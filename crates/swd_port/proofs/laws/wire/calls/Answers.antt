@@ -1,5 +1,5 @@
 use Rattle.swd_port.proofs.CallLaws.{due_after_request, acknowledgement_seen, no_acknowledgement_seen, nothing_due, request_counted, others_uncounted, counted_apart}
-use Rattle.swd_port.proofs.host_laws.calls.Goals as goal
+use Rattle.swd_port.proofs.laws.wire.calls.Goals as goal
 
 pub returns-clause-due : goal.returns-clause-due
 returns-clause-due c = due_after_request

@@ -1,5 +1,5 @@
 use Rattle.swd_port.proofs.CompletionLaws.{done_not, none_done, twice, kept}
-use Rattle.swd_port.proofs.host_laws.completion.Goals as goal
+use Rattle.swd_port.proofs.laws.memory.completion.Goals as goal
 
 pub returns-clause-not_yet : goal.returns-clause-not_yet
 returns-clause-not_yet c = done_not

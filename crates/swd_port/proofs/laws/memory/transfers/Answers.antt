@@ -1,5 +1,5 @@
 use Rattle.swd_port.proofs.CompletionLaws.{read_begins, write_begins, sent_stays, sent_carried, sent_succeeds, sent_fails, sent_becomes, becomes_stays, becomes_carried, becomes_is, becomes_completed, sent_memory, aimed_carried, aimed_by_tar, aimed_by_transfer}
-use Rattle.swd_port.proofs.host_laws.transfers.Goals as goal
+use Rattle.swd_port.proofs.laws.memory.transfers.Goals as goal
 
 pub returns-clause-read_begins : goal.returns-clause-read_begins
 returns-clause-read_begins c = read_begins

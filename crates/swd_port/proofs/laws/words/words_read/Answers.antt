@@ -1,5 +1,5 @@
 use Rattle.swd_port.proofs.StatusLaws.{status_word, identification_returned, status_returned, buffer_returned, value_resent, carried_by_request, carried_where_held, carried_where_passed, carried_by_reset, flags_cleared}
-use Rattle.swd_port.proofs.host_laws.words_read.Goals as goal
+use Rattle.swd_port.proofs.laws.words.words_read.Goals as goal
 
 pub returns-clause-status : goal.returns-clause-status
 returns-clause-status c = status_word

@@ -1,5 +1,5 @@
 use Rattle.swd_port.proofs.AccessLaws.{word_written, word_read}
-use Rattle.swd_port.proofs.host_laws.accesses.Goals as goal
+use Rattle.swd_port.proofs.laws.memory.accesses.Goals as goal
 
 pub returns-clause-written : goal.returns-clause-written
 returns-clause-written c = word_written
