@@ -7,7 +7,7 @@ pub use Rattle.swd_port.specs.declared.state.Drw.{Drw}
 pub use Rattle.swd_port.specs.declared.state.Drw.TheVariants.{Reads, Writes}
 pub use Rattle.swd_port.specs.declared.state.Line.{Line}
 pub use Rattle.swd_port.specs.declared.state.Line.TheVariants.{Idle, Drives, Awaits}
-use Rattle.std.specs.Prelude.{ℕ, ◌==◌, ◌&&◌, Bool, true, false, Option, Some, None, if◌then◌else◌}
+use Rattle.std.specs.Prelude.{ℕ, ◌==◌, ◌&&◌, not, Bool, true, false, Option, Some, None, if◌then◌else◌}
 use Rattle.swd_bits.specs.declared.request.Request.{Request}
 use Rattle.swd_bits.specs.declared.request.Reg4.{Reg4}
 use Rattle.swd_bits.specs.declared.request.Reg4.TheVariants.{R0, R4, R8, RC}
@@ -54,6 +54,20 @@ ap_register s read addr = if is_mem_ap s then mem_ap_register read addr else no_
 -- what a request asks for (IHI 0031, B4, "Packet request", and B2, "SELECT, AP Select register")
 abbrev pub register : Select → Request → Register
 register s q = if q.ap then ap_register s q.read q.addr else dp_register q.read q.addr (s.dpbanksel == 0)
+
+-- a SELECT under which there is a request for this register: in bank 0 for CTRL/STAT, in any other for the debug port's zeros,
+-- and in bank 0 of AP 0 for the registers that stand there
+abbrev pub is_reached : Select → Register → Bool
+is_reached s CtrlStatRead = s.dpbanksel == 0
+is_reached s CtrlStatWrite = s.dpbanksel == 0
+is_reached s DpZeroRead = not (s.dpbanksel == 0)
+is_reached s CswRead = is_mem_ap s
+is_reached s CswWrite = is_mem_ap s
+is_reached s TarRead = is_mem_ap s
+is_reached s TarWrite = is_mem_ap s
+is_reached s DrwRead = is_mem_ap s
+is_reached s DrwWrite = is_mem_ap s
+is_reached s r = true
 
 -- What stands between the host and the target.
 pub record Link : Type 0 where
