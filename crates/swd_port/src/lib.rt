@@ -6,8 +6,7 @@ mod access;
 mod count;
 mod csw;
 mod ctrl_stat;
-mod host_laws;
-mod laws;
+pub mod laws;
 mod mark;
 mod register;
 mod select;
@@ -19,10 +18,6 @@ pub use access::{Access, Answer, Transfer};
 pub use count::Count;
 pub use csw::Csw;
 pub use ctrl_stat::CtrlStat;
-pub use host_laws::{
-    accesses, calls, completion, data_phases, line_resets, requests, transfers, words_read,
-};
-pub use laws::{answers, phases, registers};
 pub use mark::Mark;
 pub use register::Register;
 pub use select::Select;

@@ -38,41 +38,41 @@ pub trait Wire {
 
     /// What has to come next.
     fn due(&self) -> Due
-        ensures { result ≡ (port self.now).due };
+        ensures { result ≡ (port self.now).link.due };
 
     /// Drives `ones` cycles high, with `switch` then the sixteen bits 0111100111100111 and the ones
     /// again, and then `zeros` cycles low. With ones this is a line reset. Where something other
     /// than `Due::Nothing` was due, the first 34 of the ones are left undriven.
     fn lead(&mut self, ones: u32, switch: bool, zeros: u32)
-        requires { MayLead (port self.old).due ones switch zeros }
+        requires { MayLead (port self.old).link.due ones switch zeros }
         ensures step { Leads (port self.old) ones (port self.new) }
         ensures plan { plan self.new ≡ plan self.old };
 
     /// Sends the eight bits of a request, and after a turnaround sees three bits: 1 is OK, 2 WAIT,
     /// 4 FAULT, and every other number is no acknowledgement.
     fn ask(&mut self, request: Request) -> u8
-        requires { (port self.old).due ≡ Nothing }
+        requires { (port self.old).link.due ≡ Nothing }
         ensures range { result < 8 }
         ensures step { Asks (port self.old) request result (port self.new) }
         ensures plan { plan self.new ≡ plan self.old };
 
     /// Takes the 33 bits of a read's data phase, and the turnaround.
     fn take(&mut self) -> u64
-        requires { (port self.old).due ≡ Take }
+        requires { (port self.old).link.due ≡ Take }
         ensures range { result < 2 ^ 33 }
         ensures step { Takes (port self.old) result (port self.new) }
         ensures plan { plan self.new ≡ plan self.old };
 
     /// Sends the turnaround and the 33 bits of a write's data phase.
     fn give(&mut self, bits: u64)
-        requires due { (port self.old).due ≡ Give }
+        requires due { (port self.old).link.due ≡ Give }
         requires range { bits < 2 ^ 33 }
         ensures step { Gives (port self.old) bits (port self.new) }
         ensures plan { plan self.new ≡ plan self.old };
 
     /// The turnaround after WAIT or FAULT.
     fn pass(&mut self)
-        requires { (port self.old).due ≡ Pass }
+        requires { (port self.old).link.due ≡ Pass }
         ensures step { Passes (port self.old) (port self.new) }
         ensures plan { plan self.new ≡ plan self.old };
 }

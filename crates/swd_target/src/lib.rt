@@ -3,13 +3,14 @@
 
 mod acknowledgement;
 mod bench;
-mod held;
+mod content;
 mod laws;
 mod memory;
 mod phase;
 mod plan;
 mod quirks;
 mod register;
+mod request;
 mod target;
 
 pub use bench::Bench;

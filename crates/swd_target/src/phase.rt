@@ -1,14 +1,14 @@
 //! Data phases: the 33 bits that a target drives or awaits.
-ghost use Rattle.std.specs.Prelude.{◌≡◌, ◌<◌, ◌^◌};
+ghost use Rattle.std.specs.Prelude.{◌≡◌, ◌<◌, ◌^◌, None};
 ghost use Rattle.swd_port.specs.Phases.{flipped, phase_number, word_in};
 ghost use Rattle.swd_port.specs.Choices.{flip_of};
-ghost use Rattle.swd_port.specs.Asking.{phase_after};
+ghost use Rattle.swd_port.specs.Asking.{phase_after, line_after};
 ghost use Rattle.swd_port.specs.Leading.{is_awaiting};
 ghost use Rattle.swd_port.specs.Moving.{bits_driven};
-ghost use Rattle.swd_target.specs.Holding.{flip_place, awaited_flip};
+ghost use Rattle.swd_target.specs.Flips.{flip_place, awaited_flip, line_flipped};
 
 use swd_bits::{data_bits, word_of};
-use swd_port::{Line, Mark, Register};
+use swd_port::{Line, Mark, Register, Reply};
 
 // The bit of the data phase that arrives changed.
 pub(crate) fn flip_under(mark: Mark) -> Option<u8>
@@ -20,17 +20,46 @@ pub(crate) fn flip_under(mark: Mark) -> Option<u8>
     }
 }
 
-// The data phase that follows an OK, with a bit that arrives changed.
-pub(crate) fn phase_of(read: bool, register: Register, flip: Option<u8>, value: u32) -> Line
-    requires { flip_place flip < 33 }
-    ensures phase { result ≡ phase_after read register flip value }
+// The data phase that follows an OK.
+pub(crate) fn phase_of(read: bool, register: Register, value: u32) -> Line
+    ensures phase { result ≡ phase_after read register None value }
+    ensures bits { bits_driven result < 2 ^ 33 }
+{
+    if read {
+        Line::Drives(phase_bits(value))
+    } else {
+        Line::Awaits(register, None)
+    }
+}
+
+// A data phase with a bit that arrives changed.
+pub(crate) fn flip_line(flip: Option<u8>, line: Line) -> Line
+    requires bits { bits_driven line < 2 ^ 33 }
+    requires place { flip_place flip < 33 }
+    ensures line { result ≡ line_flipped flip line }
     ensures bits { bits_driven result < 2 ^ 33 }
     ensures flip { flip_place (awaited_flip result) < 33 }
 {
-    if read {
-        Line::Drives(flip_bit(flip, phase_bits(value)))
-    } else {
-        Line::Awaits(register, flip)
+    match line {
+        Line::Idle => Line::Idle,
+        Line::Drives(bits) => Line::Drives(flip_bit(flip, bits)),
+        Line::Awaits(register, _) => Line::Awaits(register, flip),
+    }
+}
+
+// The data phase that the target is in after a reply.
+pub(crate) fn line_after_reply(reply: Reply, phase: Line, line: Line) -> Line
+    requires phase_bits { bits_driven phase < 2 ^ 33 }
+    requires phase_flip { flip_place (awaited_flip phase) < 33 }
+    requires line_bits { bits_driven line < 2 ^ 33 }
+    requires line_flip { flip_place (awaited_flip line) < 33 }
+    ensures line { result ≡ line_after reply phase line }
+    ensures bits { bits_driven result < 2 ^ 33 }
+    ensures flip { flip_place (awaited_flip result) < 33 }
+{
+    match reply {
+        Reply::Okay => phase,
+        _ => line,
     }
 }
 

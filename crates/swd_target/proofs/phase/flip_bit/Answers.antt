@@ -1,5 +1,5 @@
 use Rattle.std.proofs.Common.{◌<◌, subst}
-use Rattle.swd_target.specs.Holding.{flip_place}
+use Rattle.swd_target.specs.Flips.{flip_place}
 use Rattle.swd_target.proofs.PhaseNumbers.{flip_range, shifted_64}
 use Rattle.swd_target.proofs.phase.flip_bit.Goals as goal
 
