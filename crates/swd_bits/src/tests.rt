@@ -1,4 +1,4 @@
-//! Worked values of the wire. Failing readers and writers are tried with all engines, in `swd_script`.
+//! Worked values of the wire. Failing readers and writers are tried with all engines, in `swd_text`.
 use super::*;
 use std::test::Fail;
 

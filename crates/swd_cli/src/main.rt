@@ -13,7 +13,7 @@ use std::alloc::AllocError;
 use std::process::ExitCode;
 use std::{env, io};
 use swd_bits::one_text;
-use swd_script::{decode_text, encode_text};
+use swd_text::{decode_text, encode_text};
 use words::line;
 
 // Reads the words, and does what they ask for. An error is a fault of words or memory.

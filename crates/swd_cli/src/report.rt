@@ -4,7 +4,7 @@ ghost use Rattle.std.specs.Process.{exit_status};
 
 use std::process::ExitCode;
 use swd_bits::OneFault;
-use swd_script::EngineFault;
+use swd_text::EngineFault;
 
 /// The status at a fault of words, texts, files or memory.
 pub const FAULT: u8 = 2;

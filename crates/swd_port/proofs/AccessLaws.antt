@@ -5,20 +5,22 @@ use Rattle.swd_bits.specs.declared.request.Request.{Request}
 use Rattle.swd_bits.specs.declared.request.Reg4.TheVariants.{RC}
 use Rattle.swd_port.specs.declared.access.Access.TheVariants.{Read, Write}
 use Rattle.swd_port.specs.declared.access.Answer.TheVariants.{Value}
-use Rattle.swd_port.specs.Phases.{phase_number, flipped}
+use Rattle.swd_port.specs.Phases.{IsPhaseOf, phase_number, flipped}
 use Rattle.swd_port.specs.PlainMemory.{PlainMemory, word_at, plain_answer, plain_after}
-use Rattle.swd_port.specs.Port.{Port, RdbuffRead, DrwRead, DrwWrite, Idle, Drives, Awaits, Live, register}
+use Rattle.swd_port.specs.Port.{Port, Target, RdbuffRead, DrwRead, DrwWrite, Idle, Drives, Awaits, Live, register}
 use Rattle.swd_port.specs.Completion.{Completes}
 use Rattle.swd_port.specs.Asking.{Asks}
-use Rattle.swd_port.specs.Moving.{Takes, Gives}
-use Rattle.swd_port.specs.Moves.{Around, Kept, Passed, IsPhaseOf, Got, whole as got_whole, damaged as got_damaged, Given, Gave}
+use Rattle.swd_port.specs.Moving.{Takes, Gives, Arrives, after_bits}
+use Rattle.swd_port.specs.Moves.{Around, Kept, Passed, Got, whole as got_whole, damaged as got_damaged, Given, Gave}
 use Rattle.swd_port.specs.Outcomes.{SeesOkay, Accepts, Spares, OkayWaitOrLost, okay, wait, lost}
 use Rattle.swd_port.specs.Transfers.{Sent, Aimed, Succeeded}
-use Rattle.swd_port.specs.Laws.{Ready, WordWritten, WordRead, OnLine, Confirms, confirms_okay, confirms_wait, confirms_fault, confirms_lost}
-use Rattle.swd_port.proofs.CompletionLaws.{none_done, kept, sent_stays, sent_carried, read_begins, write_begins}
+use Rattle.swd_port.specs.Laws.Accesses.{Ready, WordWritten, WordRead}
+use Rattle.swd_port.specs.Laws.WordsRead.{OnLine}
+use Rattle.swd_port.specs.Laws.Requests.{Confirms, confirms_okay, confirms_wait, confirms_fault, confirms_lost}
+use Rattle.swd_port.proofs.CompletionLaws.{none_done, kept, sent_stays, read_begins, write_begins}
 use Rattle.swd_port.proofs.RequestLaws.{free_request_exact, free_request_at_rest, confirming_request}
 use Rattle.swd_port.proofs.MovingLaws.{data_taken, data_given_at_rest, take_moves_nothing, take_moves_nothing_at_rest}
-use Rattle.swd_port.proofs.StatusLaws.{buffer_returned, carried_where_passed}
+use Rattle.swd_port.proofs.StatusLaws.{buffer_returned}
 
 abbrev drw_write : Request
 drw_write = record { ap = true; read = false; addr = RC }
@@ -33,7 +35,7 @@ not_drw_read : DrwWrite ≢ DrwRead
 not_drw_read e = cc
 
 -- the request of DRW, seen as OK
-drw_seen : (at : ℕ) (m : PlainMemory) (s t : Port) → Ready s → Aimed at m s → Asks s drw_write 1 t → SeesOkay DrwWrite false 1 s t
+drw_seen : (at : ℕ) (m : PlainMemory) (s t : Port) → Ready s.target → Aimed at m s.target → Asks s drw_write 1 t → SeesOkay DrwWrite false 1 s t
 drw_seen at m s t r h asks =
     elim (free_request_exact DrwWrite drw_write 1 s t (ap (λ x. register x drw_write) r.select) refl not_drw_read r.live h.pending r.write_error h.sticky_error (λ e. r.power) asks) [
       | okay o ↦ o
@@ -42,87 +44,77 @@ drw_seen at m s t r h asks =
     ]
 
 -- it wasn't disturbed
-not_flipped : (flip : Option ℕ) (s t : Port) → Spares flip s t → t.disturbed ≡ s.disturbed → flip ≡ None
+not_flipped : (flip : Option ℕ) (s t : Port) → Spares flip s t → t.tally.disturbed ≡ s.tally.disturbed → flip ≡ None
 not_flipped flip s t (inl e) same = e
-not_flipped flip s t (inr h) same = absurd (let e : t.disturbed ≡ s.disturbed + 1 = h.3 in omega arith)
+not_flipped flip s t (inr h) same = absurd (let e : t.tally.disturbed ≡ s.tally.disturbed + 1 = h.3 in omega arith)
 
 given_whole : (word : ℕ) (s t : Port) → Given DrwWrite None word s t → Gave DrwWrite word s t
 given_whole word s t (got_whole e g) = g
 given_whole word s t (got_damaged place e g) = absurd (cc)
 
 -- what is due and what stands after its data phase
-record WordGiven (at word : ℕ) (m : PlainMemory) (s : Port) : Type 0 where
-  pub live : s.reset ≡ Live
-  pub write_error : s.write_error ≡ false
-  pub sent : Sent (Write at word) m s
+record WordGiven (at word : ℕ) (m : PlainMemory) (x : Target) : Type 0 where
+  pub live : x.reset ≡ Live
+  pub write_error : x.write_error ≡ false
+  pub sent : Sent (Write at word) m x
 
-given_word : (at word sent : ℕ) (m : PlainMemory) (s asked given : Port) → Ready s → Aimed at m s → word < 2 ^ 32 → sent < 2 ^ 33 → IsPhaseOf word sent →
-    SeesOkay DrwWrite false 1 s asked → asked.disturbed ≡ s.disturbed → Gives asked sent given → WordGiven at word m given
+given_word : (at word sent : ℕ) (m : PlainMemory) (s asked given : Port) → Ready s.target → Aimed at m s.target → word < 2 ^ 32 → sent < 2 ^ 33 → IsPhaseOf word sent →
+    SeesOkay DrwWrite false 1 s asked → asked.tally.disturbed ≡ s.tally.disturbed → Gives asked sent given → WordGiven at word m given.target
 given_word at word sent m s asked given r h range fits is o clean gives =
     let a : Accepts DrwWrite false o.flip s asked = o.accepts in
-    let aimed : Aimed at m asked = record { tar = a.steady.tar ∙ h.tar; memory = a.steady.memory ∙ h.memory; pending = a.pending ∙ h.pending; sticky_error = a.sticky_error ∙ h.sticky_error } in
-    let line : asked.line ≡ Awaits DrwWrite None = a.line ∙ ap (λ f. Awaits DrwWrite f) (not_flipped o.flip s asked o.spares clean) in
+    let aimed : Aimed at m asked.target = subst (Aimed at m) (sym a.target) (record { tar = h.tar; memory = h.memory; pending = h.pending; sticky_error = h.sticky_error }) in
+    let line : asked.link.line ≡ Awaits DrwWrite None = a.line ∙ ap (λ f. Awaits DrwWrite f) (not_flipped o.flip s asked o.spares clean) in
     let found : (b : Port) × Given DrwWrite None word asked b × Completes b given = data_given_at_rest DrwWrite None word sent asked given line range fits is aimed.pending gives in
     let g : Gave DrwWrite word asked found.0 = given_whole word asked found.0 found.1 in
     let k : Kept found.0 given = kept found.0 given found.2 in
     record {
-      live = k.reset ∙ g.reset ∙ a.reset;
-      write_error = k.write_error ∙ g.write_error ∙ a.steady.write_error ∙ r.write_error;
+      live = k.reset ∙ ap (λ x. x.reset) g.target ∙ a.live;
+      write_error = k.write_error ∙ ap (λ x. x.write_error) (g.target ∙ ap (after_bits (Arrives DrwWrite word)) a.target) ∙ r.write_error;
       sent = sent_stays (Write at word) m found.0 given found.2 (write_begins at word m asked found.0 aimed g);
     }
 
 -- the confirming read of RDBUFF
-confirmed_done : (at word : ℕ) (m : PlainMemory) (s t : Port) → Confirms (Write at word) m RdbuffRead rdbuff_read 1 s t → Succeeded (Write at word) m t
-confirmed_done at word m s t (confirms_okay done o) = record {
+confirmed_done : (at word : ℕ) (m : PlainMemory) (s t : Port) → Confirms (Write at word) m RdbuffRead rdbuff_read 1 s t → Succeeded (Write at word) m t.target
+confirmed_done at word m s t (confirms_okay done o) = subst (Succeeded (Write at word) m) (sym o.accepts.target) (record {
   answer = done.answer;
-  memory = o.accepts.steady.memory ∙ done.memory;
-  pending = o.accepts.pending ∙ done.pending;
-  sticky_error = o.accepts.sticky_error ∙ done.sticky_error;
+  memory = done.memory;
+  pending = done.pending;
+  sticky_error = done.sticky_error;
   buffered = tt;
-  advanced = λ increments aligned range inside. o.accepts.steady.tar ∙ done.advanced (sym o.accepts.steady.increments ∙ increments) aligned range inside;
-}
+  advanced = done.advanced;
+})
 confirmed_done at word m s t (confirms_wait sent w) = absurd (let e : 1 ≡ 2 = w.is in cc)
 confirmed_done at word m s t (confirms_fault failed f) = absurd (let e : 1 ≡ 4 = f.is in cc)
 confirmed_done at word m s t (confirms_lost sent n e) = absurd (let e : true ≡ false = n.none.not_okay in cc)
 
-confirmed_call : (at word : ℕ) (m : PlainMemory) (s t : Port) → Around (Confirms (Write at word) m RdbuffRead rdbuff_read 1) s t → Succeeded (Write at word) m t
+confirmed_call : (at word : ℕ) (m : PlainMemory) (s t : Port) → Around (Confirms (Write at word) m RdbuffRead rdbuff_read 1) s t → Succeeded (Write at word) m t.target
 confirmed_call at word m s t (a, b, first, step, last) =
-    let done : Succeeded (Write at word) m b = confirmed_done at word m a b step in
-    subst (Succeeded (Write at word) m) (sym (none_done b t done.pending last)) done
-
-passed_done : (at word : ℕ) (m : PlainMemory) (s t : Port) → Passed s t → Succeeded (Write at word) m s → Succeeded (Write at word) m t
-passed_done at word m s t p h = record {
-  answer = h.answer;
-  memory = p.memory ∙ h.memory;
-  pending = p.pending ∙ h.pending;
-  sticky_error = p.sticky_error ∙ h.sticky_error;
-  buffered = tt;
-  advanced = λ increments aligned range inside. p.tar ∙ h.advanced (sym p.increments ∙ increments) aligned range inside;
-}
+    let done : Succeeded (Write at word) m b.target = confirmed_done at word m a b step in
+    subst (λ p. Succeeded (Write at word) m p.target) (sym (none_done b t done.pending last)) done
 
 pub word_written : WordWritten
 word_written at word sent bits m s asked given confirmed t r h range fits is asks clean gives reads takes =
-    let g : WordGiven at word m given = given_word at word sent m s asked given r h range fits is (drw_seen at m s asked r h asks) clean gives in
-    let done : Succeeded (Write at word) m confirmed = confirmed_call at word m given confirmed
+    let g : WordGiven at word m given.target = given_word at word sent m s asked given r h range fits is (drw_seen at m s asked r h asks) clean gives in
+    let done : Succeeded (Write at word) m confirmed.target = confirmed_call at word m given confirmed
     (confirming_request (Write at word) m RdbuffRead rdbuff_read 1 given confirmed g.sent refl refl g.live g.write_error (λ e. absurd (cc)) reads) in
-    passed_done at word m confirmed t (take_moves_nothing_at_rest bits confirmed t done.pending takes).0 done
+    subst (Succeeded (Write at word) m) (sym (take_moves_nothing_at_rest bits confirmed t done.pending takes).0.target) done
 
 -- what stands from the request of a DRW read on
-record ReadGiven (at : ℕ) (m : PlainMemory) (s : Port) : Type 0 where
-  pub live : s.reset ≡ Live
-  pub write_error : s.write_error ≡ false
-  pub sent : Sent (Read at) m s
+record ReadGiven (at : ℕ) (m : PlainMemory) (x : Target) : Type 0 where
+  pub live : x.reset ≡ Live
+  pub write_error : x.write_error ≡ false
+  pub sent : Sent (Read at) m x
 
 -- the request of a DRW read, seen as OK
-read_seen : (at : ℕ) (m : PlainMemory) (s t : Port) → Ready s → Aimed at m s → Asks s drw_read 1 t → ReadGiven at m t
+read_seen : (at : ℕ) (m : PlainMemory) (s t : Port) → Ready s.target → Aimed at m s.target → Asks s drw_read 1 t → ReadGiven at m t.target
 read_seen at m s t r h asks =
     let found : (b : Port) × OkayWaitOrLost DrwRead true 1 s b × Completes b t =
     free_request_at_rest DrwRead drw_read 1 s t (ap (λ x. register x drw_read) r.select) refl r.live h.pending r.write_error h.sticky_error (λ e. r.power) asks in
     let k : Kept found.0 t = kept found.0 t found.2 in
     elim found.1 [
       | okay o ↦ record {
-        live = k.reset ∙ o.accepts.reset;
-        write_error = k.write_error ∙ o.accepts.steady.write_error ∙ r.write_error;
+        live = k.reset ∙ o.accepts.live;
+        write_error = k.write_error ∙ ap (λ x. x.write_error) o.accepts.target ∙ r.write_error;
         sent = sent_stays (Read at) m found.0 t found.2 (read_begins at m o.flip s found.0 h o.accepts);
       }
       | wait w ↦ absurd (let e : 1 ≡ 2 = w.is in cc)
@@ -130,32 +122,28 @@ read_seen at m s t r h asks =
     ]
 
 -- its data phase
-read_taken : (at bits : ℕ) (m : PlainMemory) (s t : Port) → ReadGiven at m s → Takes s bits t → ReadGiven at m t
+read_taken : (at bits : ℕ) (m : PlainMemory) (s t : Port) → ReadGiven at m s.target → Takes s bits t → ReadGiven at m t.target
 read_taken at bits m s t h takes =
-    let found : (a : Port) × Completes s a × Passed a t × (t.line ≡ Idle) = take_moves_nothing bits s t takes in
+    let found : (a : Port) × Completes s a × Passed a t × (t.link.line ≡ Idle) = take_moves_nothing bits s t takes in
     let k : Kept s found.0 = kept s found.0 found.1 in
-    record {
-      live = found.2.reset ∙ k.reset ∙ h.live;
-      write_error = found.2.write_error ∙ k.write_error ∙ h.write_error;
-      sent = sent_carried (Read at) m found.0 t (carried_where_passed found.0 t found.2) (sent_stays (Read at) m s found.0 found.1 h.sent);
-    }
+    subst (ReadGiven at m) (sym found.2.target) (record { live = k.reset ∙ h.live; write_error = k.write_error ∙ h.write_error; sent = sent_stays (Read at) m s found.0 found.1 h.sent })
 
 -- RDBUFF, seen as OK and undisturbed, has the word
 record WordOut (at : ℕ) (m : PlainMemory) (t : Port) : Type 0 where
   pub answer : plain_answer (Read at) m ≡ Value (word_at at m)
-  pub memory : t.memory ≡ plain_after (Read at) m
-  pub pending : t.pending ≡ None
+  pub memory : t.target.memory ≡ plain_after (Read at) m
+  pub pending : t.target.pending ≡ None
   pub range : word_at at m < 2 ^ 32
-  pub line : t.line ≡ Drives (flipped None (phase_number (word_at at m)))
+  pub line : t.link.line ≡ Drives (flipped None (phase_number (word_at at m)))
 
-buffer_seen : (at : ℕ) (m : PlainMemory) (s t : Port) → Confirms (Read at) m RdbuffRead rdbuff_read 1 s t → t.disturbed ≡ s.disturbed → WordOut at m t
+buffer_seen : (at : ℕ) (m : PlainMemory) (s t : Port) → Confirms (Read at) m RdbuffRead rdbuff_read 1 s t → t.tally.disturbed ≡ s.tally.disturbed → WordOut at m t
 buffer_seen at m s t (confirms_okay done o) clean =
     let whole_phase : o.flip ≡ None = not_flipped o.flip s t o.spares clean in
-    let back : OnLine (word_at at m) o.flip t × (t.last_returned ≡ Some (word_at at m)) = buffer_returned RdbuffRead o.flip (word_at at m) s t refl done.buffered o.accepts in
+    let back : OnLine (word_at at m) o.flip t × (t.target.last_returned ≡ Some (word_at at m)) = buffer_returned RdbuffRead o.flip (word_at at m) s t refl done.buffered o.accepts in
     record {
       answer = done.answer;
-      memory = o.accepts.steady.memory ∙ done.memory;
-      pending = o.accepts.pending ∙ done.pending;
+      memory = ap (λ x. x.memory) o.accepts.target ∙ done.memory;
+      pending = ap (λ x. x.pending) o.accepts.target ∙ done.pending;
       range = back.0.range;
       line = back.0.line ∙ ap (λ f. Drives (flipped f (phase_number (word_at at m)))) whole_phase;
     }
@@ -163,10 +151,10 @@ buffer_seen at m s t (confirms_wait sent w) clean = absurd (let e : 1 ≡ 2 = w.
 buffer_seen at m s t (confirms_fault failed f) clean = absurd (let e : 1 ≡ 4 = f.is in cc)
 buffer_seen at m s t (confirms_lost sent n e) clean = absurd (let e : true ≡ false = n.none.not_okay in cc)
 
-buffer_call : (at : ℕ) (m : PlainMemory) (s t : Port) → Around (Confirms (Read at) m RdbuffRead rdbuff_read 1) s t → t.disturbed ≡ s.disturbed → WordOut at m t
+buffer_call : (at : ℕ) (m : PlainMemory) (s t : Port) → Around (Confirms (Read at) m RdbuffRead rdbuff_read 1) s t → t.tally.disturbed ≡ s.tally.disturbed → WordOut at m t
 buffer_call at m s t (a, b, first, step, last) clean =
     let k : Kept s a = kept s a first in let l : Kept b t = kept b t last in
-    let out : WordOut at m b = buffer_seen at m a b step (sym l.uncounted.disturbed ∙ clean ∙ sym k.uncounted.disturbed) in
+    let out : WordOut at m b = buffer_seen at m a b step (ap (λ n. n.disturbed) (sym l.tally) ∙ clean ∙ ap (λ n. n.disturbed) (sym k.tally)) in
     subst (WordOut at m) (sym (none_done b t out.pending last)) out
 
 got_phase : (value bits : ℕ) → Got None value bits → IsPhaseOf value bits
@@ -175,10 +163,10 @@ got_phase value bits (got_damaged place e none told) = absurd (cc)
 
 pub word_read : WordRead
 word_read at first_bits bits m s asked taken confirmed t r h fits asks first reads clean takes =
-    let sent : ReadGiven at m taken = read_taken at first_bits m asked taken (read_seen at m s asked r h asks) first in
+    let sent : ReadGiven at m taken.target = read_taken at first_bits m asked taken (read_seen at m s asked r h asks) first in
     let out : WordOut at m confirmed = buffer_call at m taken confirmed
     (confirming_request (Read at) m RdbuffRead rdbuff_read 1 taken confirmed sent.sent refl refl sent.live sent.write_error (λ e. absurd (cc)) reads) clean in (
       got_phase (word_at at m) bits (data_taken None (word_at at m) bits confirmed t out.line out.range fits takes),
       out.answer,
-      (take_moves_nothing_at_rest bits confirmed t out.pending takes).0.memory ∙ out.memory,
+      ap (λ x. x.memory) ((take_moves_nothing_at_rest bits confirmed t out.pending takes).0.target) ∙ out.memory,
     )

@@ -11,14 +11,17 @@ use Rattle.swd_port.specs.Port.{Port}
 use Rattle.swd_port.specs.Choices.{Mark, Clean, Wait, Flip, Deaf, Mute, disturbs, loses}
 use Rattle.swd_port.specs.Answers.{due_after}
 use Rattle.swd_port.specs.Completion.{Completes}
-use Rattle.swd_port.specs.Moves.{Kept, Uncounted}
-use Rattle.swd_port.specs.Laws.{DueAfterRequest, AcknowledgementSeen, NoAcknowledgementSeen, NothingDue, RequestCounted, OthersUncounted, with_asked, CountedApart}
+use Rattle.swd_port.specs.Moves.{Kept}
+use Rattle.swd_port.specs.Outcomes.{Steady}
+use Rattle.swd_port.specs.Asking.{tally_after}
+use Rattle.swd_port.specs.Laws.Calls.{DueAfterRequest, AcknowledgementSeen, NoAcknowledgementSeen, NothingDue, RequestCounted, OthersUncounted, with_asked, CountedApart}
 use Rattle.swd_port.proofs.CompletionLaws.{kept}
+use Rattle.swd_port.proofs.RequestLaws.{steady}
 
 pub due_after_request : DueAfterRequest
 due_after_request q seen s t (a, b, mark, c, first, now, last) =
     let k : Kept b t = kept b t last in
-    k.due ∙ ap (λ p. p.due) now.after ∙ ap (due_after q.read) (sym now.sees)
+    ap (λ l. l.due) k.link ∙ ap (λ p. p.link.due) now.after ∙ ap (due_after q.read) (sym now.sees)
 
 -- acknowledgements by their numbers
 ack_bits : (a : Ack) → low_bits 3 (number (ack a)) ≡ ack a
@@ -44,29 +47,27 @@ no_acknowledgement_seen seen read range none =
     (record { not_okay = not_okay; not_wait = not_wait; not_fault = not_fault }, lost_due read seen not_okay not_wait not_fault)
 
 -- nothing is due after a step that leaves it so
-due_stays : (b t : Port) → b.due ≡ Nothing → Completes b t → t.due ≡ Nothing
-due_stays b t e last = let k : Kept b t = kept b t last in k.due ∙ e
+due_stays : (b t : Port) → b.link.due ≡ Nothing → Completes b t → t.link.due ≡ Nothing
+due_stays b t e last = let k : Kept b t = kept b t last in ap (λ l. l.due) k.link ∙ e
 
 pub nothing_due : NothingDue
 nothing_due = record {
-  taken = λ bits s t h. due_stays h.1 t (ap (λ p. p.due) h.3.after) h.4;
-  given = λ sent s t h. due_stays h.1 t (ap (λ p. p.due) h.3.after) h.4;
-  passed = λ s t h. due_stays h.1 t (ap (λ p. p.due) h.3.after) h.4;
-  led = λ ones s t h. due_stays h.1 t (ap (λ p. p.due) h.3.after) h.4;
+  taken = λ bits s t h. due_stays h.1 t (ap (λ p. p.link.due) h.3.after) h.4;
+  given = λ sent s t h. due_stays h.1 t (ap (λ p. p.link.due) h.3.after) h.4;
+  passed = λ s t h. due_stays h.1 t (ap (λ p. p.link.due) h.3.after) h.4;
+  led = λ ones s t h. due_stays h.1 t (ap (λ p. p.link.due) h.3.after) h.4;
 }
 
 -- the numbers over a step and its completions
-counted_around : (s a b t : Port) → Completes s a → Uncounted a b → Completes b t → Uncounted s t
-counted_around s a b t first u last =
-    let k : Kept s a = kept s a first in let l : Kept b t = kept b t last in
-    record { asked = l.uncounted.asked ∙ u.asked ∙ k.uncounted.asked; disturbed = l.uncounted.disturbed ∙ u.disturbed ∙ k.uncounted.disturbed; lost = l.uncounted.lost ∙ u.lost ∙ k.uncounted.lost }
+counted_around : (s a b t : Port) → Completes s a → b.tally ≡ a.tally → Completes b t → t.tally ≡ s.tally
+counted_around s a b t first u last = let k : Kept s a = kept s a first in let l : Kept b t = kept b t last in l.tally ∙ u ∙ k.tally
 
 pub others_uncounted : OthersUncounted
 others_uncounted = record {
-  taken = λ bits s t h. counted_around s h.0 h.1 t h.2 (record { asked = ap (λ p. p.asked) h.3.after; disturbed = ap (λ p. p.disturbed) h.3.after; lost = ap (λ p. p.lost) h.3.after }) h.4;
-  given = λ sent s t h. counted_around s h.0 h.1 t h.2 (record { asked = ap (λ p. p.asked) h.3.after; disturbed = ap (λ p. p.disturbed) h.3.after; lost = ap (λ p. p.lost) h.3.after }) h.4;
-  passed = λ s t h. counted_around s h.0 h.1 t h.2 (record { asked = ap (λ p. p.asked) h.3.after; disturbed = ap (λ p. p.disturbed) h.3.after; lost = ap (λ p. p.lost) h.3.after }) h.4;
-  led = λ ones s t h. counted_around s h.0 h.1 t h.2 (record { asked = ap (λ p. p.asked) h.3.after; disturbed = ap (λ p. p.disturbed) h.3.after; lost = ap (λ p. p.lost) h.3.after }) h.4;
+  taken = λ bits s t h. counted_around s h.0 h.1 t h.2 (ap (λ p. p.tally) h.3.after) h.4;
+  given = λ sent s t h. counted_around s h.0 h.1 t h.2 (ap (λ p. p.tally) h.3.after) h.4;
+  passed = λ s t h. counted_around s h.0 h.1 t h.2 (ap (λ p. p.tally) h.3.after) h.4;
+  led = λ ones s t h. counted_around s h.0 h.1 t h.2 (ap (λ p. p.tally) h.3.after) h.4;
 }
 
 one_disturbed : (mark : Mark) → disturbs mark ≤ 1
@@ -92,21 +93,21 @@ grows_one a b n e h = omega arith
 pub request_counted : RequestCounted
 request_counted q seen s t (a, b, mark, c, first, now, last) =
     let k : Kept s a = kept s a first in let l : Kept b t = kept b t last in
-    let d : t.disturbed ≡ s.disturbed + disturbs mark = l.uncounted.disturbed ∙ ap (λ p. p.disturbed) now.after ∙ ap (λ n. n + disturbs mark) k.uncounted.disturbed in
-    let n : t.lost ≡ s.lost + loses mark = l.uncounted.lost ∙ ap (λ p. p.lost) now.after ∙ ap (λ n. n + loses mark) k.uncounted.lost in
+    let n : t.tally ≡ tally_after mark s.tally = l.tally ∙ ap (λ p. p.tally) now.after ∙ ap (tally_after mark) k.tally in
+    let y : Steady a.target b.target = steady _ _ q.ap a.target b.target (ap (λ p. p.target) now.after) in
     record {
-      asked = l.uncounted.asked ∙ ap (λ p. p.asked) now.after ∙ ap (λ n. n + 1) k.uncounted.asked;
-      disturbed_least = grows _ _ _ d;
-      disturbed_most = grows_one _ _ _ d (one_disturbed mark);
-      lost_least = grows _ _ _ n;
-      lost_most = grows_one _ _ _ n (one_lost mark);
-      write_error = l.write_error ∙ ap (λ p. p.write_error) now.after ∙ k.write_error;
-      debug_power = l.debug_power ∙ ap (λ p. p.debug_power) now.after ∙ k.debug_power;
-      system_power = l.system_power ∙ ap (λ p. p.system_power) now.after ∙ k.system_power;
-      select = l.select ∙ ap (λ p. p.select) now.after ∙ k.select;
-      increments = l.increments ∙ ap (λ p. p.increments) now.after ∙ k.increments;
-      csw_upper = l.csw_upper ∙ ap (λ p. p.csw_upper) now.after ∙ k.csw_upper;
-      identification = l.identification ∙ ap (λ p. p.identification) now.after ∙ k.identification;
+      asked = ap (λ n. n.asked) n;
+      disturbed_least = grows _ _ _ (ap (λ n. n.disturbed) n);
+      disturbed_most = grows_one _ _ _ (ap (λ n. n.disturbed) n) (one_disturbed mark);
+      lost_least = grows _ _ _ (ap (λ n. n.lost) n);
+      lost_most = grows_one _ _ _ (ap (λ n. n.lost) n) (one_lost mark);
+      write_error = l.write_error ∙ y.write_error ∙ k.write_error;
+      debug_power = l.debug_power ∙ y.debug_power ∙ k.debug_power;
+      system_power = l.system_power ∙ y.system_power ∙ k.system_power;
+      select = l.select ∙ y.select ∙ k.select;
+      increments = l.increments ∙ y.increments ∙ k.increments;
+      csw_upper = l.csw_upper ∙ y.csw_upper ∙ k.csw_upper;
+      identification = l.identification ∙ y.identification ∙ k.identification;
     }
 
 -- another number of requests

@@ -9,7 +9,7 @@ use Rattle.std.proofs.lemmas.Bool.{eqb-true}
 use Rattle.std.proofs.Math.Nat.{pow-suc}
 use Rattle.swd_bits.specs.Bits.{low_bits}
 use Rattle.swd_bits.specs.Wire.{phase}
-use Rattle.swd_port.specs.Phases.{phase_number, word_in, undriven}
+use Rattle.swd_port.specs.Phases.{phase_number, word_in, undriven, IsNoPhase}
 use Rattle.swd_bits.proofs.BitsLemmas.{low_bits-cat, odd-low_bits, same_bits}
 
 xor_first : (r : ℕ) → r < 2 → bit_xor r 1 + r ≡ 1
@@ -91,8 +91,20 @@ told false v w h e f = absurd (cc)
 pub phase_told : (v w : ℕ) → v < 2 ^ 33 → word_in v ≡ Some w → v ≡ phase_number w
 phase_told v w h e = told (count_ones v % 2 == 0) v w h refl e
 
+-- 33 bits that are the phase of a word
+pub phase_is : (v w : ℕ) → v < 2 ^ 33 → w < 2 ^ 32 → low_bits 33 v ≡ phase w → v ≡ phase_number w
+phase_is v w h k e = same_bits 33 v (phase_number w) h (omega arith) (e ∙ sym (bits_phase w k))
+
 -- a phase by its bits
 pub word_told : (v w : ℕ) → v < 2 ^ 33 → w < 2 ^ 32 → low_bits 33 v ≡ phase w → word_in v ≡ Some w
-word_told v w h k e =
-    let f : v ≡ phase_number w = same_bits 33 v (phase_number w) h (omega arith) (e ∙ sym (bits_phase w k)) in
-    ap word_in f ∙ word_phase w k
+word_told v w h k e = ap word_in (phase_is v w h k e) ∙ word_phase w k
+
+-- 33 bits that are no word's phase
+none_found : (even : Bool) (v : ℕ) → v < 2 ^ 33 → IsNoPhase v → (count_ones v % 2 == 0) ≡ even → word_in v ≡ None
+none_found false v h none e = rw e refl
+none_found true v h none e =
+    let small : v % 2 ^ 32 < 2 ^ 32 = omega arith in
+    absurd (none (v % 2 ^ 32) small (sym (ap (low_bits 33) (phase_told v (v % 2 ^ 32) h (rw e refl)) ∙ bits_phase (v % 2 ^ 32) small)))
+
+pub word_missing : (v : ℕ) → v < 2 ^ 33 → IsNoPhase v → word_in v ≡ None
+word_missing v h none = none_found (count_ones v % 2 == 0) v h none refl

@@ -5,30 +5,30 @@ use Rattle.swd_bits.specs.declared.request.Request.{Request}
 use Rattle.swd_port.specs.declared.wire.Due.TheVariants.{Lost}
 use Rattle.swd_port.specs.PlainMemory.{PlainMemory}
 use Rattle.swd_port.specs.declared.access.Access.{Access}
-use Rattle.swd_port.specs.Port.{Port, Register, DpidrRead, DrwRead, Drw, Reset, Unreset, Live, register}
+use Rattle.swd_port.specs.Port.{Port, Target, Register, DpidrRead, DrwRead, Drw, Reset, Unreset, Live, register}
 use Rattle.swd_port.specs.Choices.{Mark, Clean, Wait, Flip, Deaf, Mute, IsMark, Choice, IsChoice, is_wait, is_deaf, flip_of, disturbs}
 use Rattle.swd_port.specs.Answers.{Reply, Okay, Waits, Faults, Silent, is_exempt, is_unpowered, seen_at, due_after}
-use Rattle.swd_port.specs.Asking.{AsksNow, after_reply, reply_in, IsSettled, IsWordRead, value_in, reset_after, pending_once_read}
-use Rattle.swd_port.specs.Outcomes.{Steady, Unmoved, Held, Stays, Defers, Refuses, Accepts, Heard, SeesOkay, SeesFault, SeesNone, OkayOrLost, OkayWaitOrLost, FaultOrLost, okay, wait, lost, fault}
+use Rattle.swd_port.specs.Asking.{AsksNow, after_reply, reply_in, IsSettled, IsWordRead, value_in, pending_once_read, after_okay, target_after}
+use Rattle.swd_port.specs.Outcomes.{Steady, Unmoved, Stays, Defers, Refuses, Accepts, Heard, SeesOkay, SeesFault, SeesNone, OkayOrLost, OkayWaitOrLost, FaultOrLost, okay, wait, lost, fault}
 use Rattle.swd_port.specs.Completion.{Completes}
 use Rattle.swd_port.specs.Moves.{Around, Kept}
 use Rattle.swd_port.specs.Transfers.{Sent}
-use Rattle.swd_port.specs.Laws.{ExemptRequest, ExemptRequestAtRest, IdentificationRead, IdentificationReadAtRest, FlaggedRequest, FlaggedRequestAtRest, UnpoweredRequestAtRest, FreeRequest, FreeRequestAtRest, FreeRequestExact, LostRequest, RefusedWithPower, UnmovedByExempt, UnmovedByFree, UnmovedByRefused, Confirms, confirms_okay, confirms_wait, confirms_fault, confirms_lost, ConfirmingRequest}
+use Rattle.swd_port.specs.Laws.Requests.{ExemptRequest, ExemptRequestAtRest, IdentificationRead, IdentificationReadAtRest, FlaggedRequest, FlaggedRequestAtRest, UnpoweredRequestAtRest, FreeRequest, FreeRequestAtRest, FreeRequestExact, LostRequest, RefusedWithPower, UnmovedByExempt, UnmovedByFree, UnmovedByRefused, Confirms, confirms_okay, confirms_wait, confirms_fault, confirms_lost, ConfirmingRequest}
 use Rattle.swd_port.proofs.CompletionLaws.{kept, none_done, sent_stays, sent_succeeds, sent_fails}
 
 -- the request with its reply and its register as variables
 pub record Told (mark : Mark) (c : Choice) (reply : Reply) (r : Register) (s : Port) (q : Request) (seen : ℕ) (t : Port) : Type 0 where
   pub legal : IsMark mark
   pub choice : IsChoice c
-  pub settled : IsSettled reply r s.pending
-  pub word : IsWordRead reply q.read (value_in r c s)
+  pub settled : IsSettled reply r s.target.pending
+  pub word : IsWordRead reply q.read (value_in r c.filler s.target)
   pub sees : seen ≡ seen_at mark reply
   pub after : t ≡ after_reply mark reply r q c s
 
 pub told : (mark : Mark) (c : Choice) (reply : Reply) (r : Register) (s : Port) (q : Request) (seen : ℕ) (t : Port) →
-    reply_in mark s q ≡ reply → register s.select q ≡ r → AsksNow mark c s q seen t → Told mark c reply r s q seen t
+    reply_in mark s.target q ≡ reply → register s.target.select q ≡ r → AsksNow mark c s q seen t → Told mark c reply r s q seen t
 told mark c reply r s q seen t is named h =
-    subst (λ x. Told mark c x r s q seen t) is (subst (λ y. Told mark c (reply_in mark s q) y s q seen t) named (record {
+    subst (λ x. Told mark c x r s q seen t) is (subst (λ y. Told mark c (reply_in mark s.target q) y s q seen t) named (record {
       legal = h.legal;
       choice = h.choice;
       settled = h.settled;
@@ -37,94 +37,51 @@ told mark c reply r s q seen t is named h =
       after = h.after;
     }))
 
-steady : (mark : Mark) (reply : Reply) (r : Register) (q : Request) (c : Choice) (s t : Port) → t ≡ after_reply mark reply r q c s → Steady s t
-steady mark reply r q c s t e = record {
-  write_error = ap (λ p. p.write_error) e;
-  debug_power = ap (λ p. p.debug_power) e;
-  system_power = ap (λ p. p.system_power) e;
-  select = ap (λ p. p.select) e;
-  increments = ap (λ p. p.increments) e;
-  csw_upper = ap (λ p. p.csw_upper) e;
-  tar = ap (λ p. p.tar) e;
-  identification = ap (λ p. p.identification) e;
-  memory = ap (λ p. p.memory) e;
-}
+pub steady_after : (reply : Reply) (r : Register) (ap : Bool) (x : Target) → Steady x (target_after reply r ap x)
+steady_after Okay r ap x = record { write_error = refl; debug_power = refl; system_power = refl; select = refl; increments = refl; csw_upper = refl; tar = refl; identification = refl; memory = refl }
+steady_after Waits r ap x = record { write_error = refl; debug_power = refl; system_power = refl; select = refl; increments = refl; csw_upper = refl; tar = refl; identification = refl; memory = refl }
+steady_after Faults r ap x = record { write_error = refl; debug_power = refl; system_power = refl; select = refl; increments = refl; csw_upper = refl; tar = refl; identification = refl; memory = refl }
+steady_after Silent r ap x = record { write_error = refl; debug_power = refl; system_power = refl; select = refl; increments = refl; csw_upper = refl; tar = refl; identification = refl; memory = refl }
+
+pub steady : (reply : Reply) (r : Register) (ap : Bool) (x y : Target) → y ≡ target_after reply r ap x → Steady x y
+steady reply r ap x y e = subst (Steady x) (sym e) (steady_after reply r ap x)
 
 pub or_false : (b : Bool) → (b || false) ≡ b
 or_false true = refl
 or_false false = refl
 
--- nothing to a request that isn't answered
+-- what each reply leaves
 stays : (mark : Mark) (r : Register) (q : Request) (c : Choice) (s t : Port) → t ≡ after_reply mark Silent r q c s → Stays s t
-stays mark r q c s t e = record {
-  held = record {
-    steady = steady mark Silent r q c s t e;
-    reset = ap (λ p. p.reset) e;
-    line = ap (λ p. p.line) e;
-    buffer = ap (λ p. p.buffer) e;
-    last_returned = ap (λ p. p.last_returned) e;
-    pending = ap (λ p. p.pending) e;
-  };
-  sticky_error = ap (λ p. p.sticky_error) e ∙ or_false s.sticky_error;
-  read_ok = ap (λ p. p.read_ok) e;
-}
+stays mark r q c s t e = record { line = ap (λ p. p.link.line) e; target = ap (λ p. p.target) e }
 
 defers : (mark : Mark) (r : Register) (q : Request) (c : Choice) (s t : Port) → t ≡ after_reply mark Waits r q c s → Defers r s t
-defers mark r q c s t e = record {
-  held = record {
-    steady = steady mark Waits r q c s t e;
-    reset = ap (λ p. p.reset) e;
-    line = ap (λ p. p.line) e;
-    buffer = ap (λ p. p.buffer) e;
-    last_returned = ap (λ p. p.last_returned) e;
-    pending = ap (λ p. p.pending) e;
-  };
-  sticky_error = ap (λ p. p.sticky_error) e ∙ or_false s.sticky_error;
-  read_ok = ap (λ p. p.read_ok) e;
-}
+defers mark r q c s t e = record { line = ap (λ p. p.link.line) e; target = ap (λ p. p.target) e }
 
-refuses : (mark : Mark) (r : Register) (q : Request) (c : Choice) (s t : Port) → is_exempt r ≡ false → IsSettled Faults r s.pending → t ≡ after_reply mark Faults r q c s → Refuses r q.ap s t
-refuses mark r q c s t plain settled e = record {
-  held = record {
-    steady = steady mark Faults r q c s t e;
-    reset = ap (λ p. p.reset) e;
-    line = ap (λ p. p.line) e;
-    buffer = ap (λ p. p.buffer) e;
-    last_returned = ap (λ p. p.last_returned) e;
-    pending = ap (λ p. p.pending) e;
-  };
-  sticky_error = ap (λ p. p.sticky_error) e;
-  read_ok = ap (λ p. p.read_ok) e;
-  settled = settled plain;
-}
+refuses : (mark : Mark) (r : Register) (q : Request) (c : Choice) (s t : Port) → is_exempt r ≡ false → IsSettled Faults r s.target.pending → t ≡ after_reply mark Faults r q c s → Refuses r q.ap s t
+refuses mark r q c s t plain settled e = record { line = ap (λ p. p.link.line) e; target = ap (λ p. p.target) e; settled = settled plain }
 
 word_read : (read : Bool) (value : ℕ) → IsWordRead Okay read value → read ≡ true → value < 2 ^ 32
 word_read true value h e = h
 word_read false value h e = absurd (cc)
 
-accepts : (mark : Mark) (c : Choice) (r : Register) (s : Port) (q : Request) (seen : ℕ) (t : Port) → reset_after Okay r s.reset ≡ Live →
+accepts : (mark : Mark) (c : Choice) (r : Register) (s : Port) (q : Request) (seen : ℕ) (t : Port) → (after_okay r s.target).reset ≡ Live →
     Told mark c Okay r s q seen t → Accepts r q.read (flip_of mark) s t
-accepts mark c r s q seen t live h = let e = h.after in record {
-  steady = steady mark Okay r q c s t e;
-  reset = ap (λ p. p.reset) e ∙ live;
-  sticky_error = ap (λ p. p.sticky_error) e ∙ or_false s.sticky_error;
-  read_ok = ap (λ p. p.read_ok) e;
-  buffer = ap (λ p. p.buffer) e;
-  last_returned = ap (λ p. p.last_returned) e;
-  pending = ap (λ p. p.pending) e;
+accepts mark c r s q seen t live h = record {
+  target = ap (λ p. p.target) h.after;
+  live = ap (λ p. p.target.reset) h.after ∙ live;
   settled = h.settled;
   filler = c.filler;
   filler_range = h.choice.filler;
   value_range = word_read q.read _ h.word;
-  line = ap (λ p. p.line) e;
+  line = ap (λ p. p.link.line) h.after;
 }
 
 -- the numbers, by the mark
-heard : (mark : Mark) (reply : Reply) (r : Register) (q : Request) (c : Choice) (s t : Port) (n : ℕ) → disturbs mark ≡ n → n ≤ 1 → t.lost ≡ s.lost →
+heard : (mark : Mark) (reply : Reply) (r : Register) (q : Request) (c : Choice) (s t : Port) (n : ℕ) → disturbs mark ≡ n → n ≤ 1 → t.tally.lost ≡ s.tally.lost →
     t ≡ after_reply mark reply r q c s → Heard s t
 heard mark reply r q c s t n is few none e =
-    let d : t.disturbed ≡ s.disturbed + n = ap (λ p. p.disturbed) e ∙ ap (λ k. s.disturbed + k) is in
-    record { asked = ap (λ p. p.asked) e; lost = none; disturbed_least = omega arith; disturbed_most = omega arith }
+    let d : t.tally.disturbed ≡ s.tally.disturbed + n = ap (λ p. p.tally.disturbed) e ∙ ap (λ k. s.tally.disturbed + k) is in
+    record { asked = ap (λ p. p.tally.asked) e; lost = none; disturbed_least = omega arith; disturbed_most = omega arith }
 
 no_loss : (a b : ℕ) → b ≡ a + 0 → b ≡ a
 no_loss a b e = omega arith
@@ -150,54 +107,54 @@ muted (suc (suc zero)) Faults read h = record { not_okay = refl; not_wait = refl
 muted (suc (suc (suc n))) reply read h = absurd (omega arith)
 
 sees_none : (mark : Mark) (c : Choice) (reply : Reply) (r : Register) (s : Port) (q : Request) (seen : ℕ) (t : Port) → Told mark c reply r s q seen t →
-    NoAck (seen_at mark reply) q.read → t.disturbed ≡ s.disturbed + 0 → t.lost ≡ s.lost + 1 → SeesNone seen s t
+    NoAck (seen_at mark reply) q.read → t.tally.disturbed ≡ s.tally.disturbed + 0 → t.tally.lost ≡ s.tally.lost + 1 → SeesNone seen s t
 sees_none mark c reply r s q seen t h none disturbed one = record {
   none = record { not_okay = ap (λ n. n == 1) h.sees ∙ none.not_okay; not_wait = ap (λ n. n == 2) h.sees ∙ none.not_wait; not_fault = ap (λ n. n == 4) h.sees ∙ none.not_fault };
-  due = ap (λ p. p.due) h.after ∙ none.due;
-  asked = ap (λ p. p.asked) h.after;
+  due = ap (λ p. p.link.due) h.after ∙ none.due;
+  asked = ap (λ p. p.tally.asked) h.after;
   disturbed = omega arith;
   lost = one;
 }
 
 deaf_none : (c : Choice) (r : Register) (s : Port) (q : Request) (seen : ℕ) (t : Port) → Told Deaf c Silent r s q seen t → SeesNone seen s t
-deaf_none c r s q seen t h = sees_none Deaf c Silent r s q seen t h (record { not_okay = refl; not_wait = refl; not_fault = refl; due = refl }) (ap (λ p. p.disturbed) h.after) (ap (λ p. p.lost) h.after)
+deaf_none c r s q seen t h = sees_none Deaf c Silent r s q seen t h (record { not_okay = refl; not_wait = refl; not_fault = refl; due = refl }) (ap (λ p. p.tally.disturbed) h.after) (ap (λ p. p.tally.lost) h.after)
 
 mute_none : (place : ℕ) (c : Choice) (reply : Reply) (r : Register) (s : Port) (q : Request) (seen : ℕ) (t : Port) → Told (Mute place) c reply r s q seen t → SeesNone seen s t
-mute_none place c reply r s q seen t h = sees_none (Mute place) c reply r s q seen t h (muted place reply q.read h.legal) (ap (λ p. p.disturbed) h.after) (ap (λ p. p.lost) h.after)
+mute_none place c reply r s q seen t h = sees_none (Mute place) c reply r s q seen t h (muted place reply q.read h.legal) (ap (λ p. p.tally.disturbed) h.after) (ap (λ p. p.tally.lost) h.after)
 
 -- an OK that is seen
-clean_okay : (c : Choice) (r : Register) (s : Port) (q : Request) (seen : ℕ) (t : Port) → reset_after Okay r s.reset ≡ Live → Told Clean c Okay r s q seen t → SeesOkay r q.read seen s t
+clean_okay : (c : Choice) (r : Register) (s : Port) (q : Request) (seen : ℕ) (t : Port) → (after_okay r s.target).reset ≡ Live → Told Clean c Okay r s q seen t → SeesOkay r q.read seen s t
 clean_okay c r s q seen t live h = record {
   is = h.sees;
-  due = ap (λ p. p.due) h.after;
-  heard = heard Clean Okay r q c s t 0 refl (omega arith) (no_loss _ _ (ap (λ p. p.lost) h.after)) h.after;
+  due = ap (λ p. p.link.due) h.after;
+  heard = heard Clean Okay r q c s t 0 refl (omega arith) (no_loss _ _ (ap (λ p. p.tally.lost) h.after)) h.after;
   flip = None;
   spares = inl refl;
   accepts = accepts Clean c r s q seen t live h;
 }
 
-wait_okay : (c : Choice) (r : Register) (s : Port) (q : Request) (seen : ℕ) (t : Port) → reset_after Okay r s.reset ≡ Live → Told Wait c Okay r s q seen t → SeesOkay r q.read seen s t
+wait_okay : (c : Choice) (r : Register) (s : Port) (q : Request) (seen : ℕ) (t : Port) → (after_okay r s.target).reset ≡ Live → Told Wait c Okay r s q seen t → SeesOkay r q.read seen s t
 wait_okay c r s q seen t live h = record {
   is = h.sees;
-  due = ap (λ p. p.due) h.after;
-  heard = heard Wait Okay r q c s t 1 refl (omega arith) (no_loss _ _ (ap (λ p. p.lost) h.after)) h.after;
+  due = ap (λ p. p.link.due) h.after;
+  heard = heard Wait Okay r q c s t 1 refl (omega arith) (no_loss _ _ (ap (λ p. p.tally.lost) h.after)) h.after;
   flip = None;
   spares = inl refl;
   accepts = accepts Wait c r s q seen t live h;
 }
 
-flip_okay : (place : ℕ) (c : Choice) (r : Register) (s : Port) (q : Request) (seen : ℕ) (t : Port) → reset_after Okay r s.reset ≡ Live → Told (Flip place) c Okay r s q seen t → SeesOkay r q.read seen s t
+flip_okay : (place : ℕ) (c : Choice) (r : Register) (s : Port) (q : Request) (seen : ℕ) (t : Port) → (after_okay r s.target).reset ≡ Live → Told (Flip place) c Okay r s q seen t → SeesOkay r q.read seen s t
 flip_okay place c r s q seen t live h = record {
   is = h.sees;
-  due = ap (λ p. p.due) h.after;
-  heard = heard (Flip place) Okay r q c s t 1 refl (omega arith) (no_loss _ _ (ap (λ p. p.lost) h.after)) h.after;
+  due = ap (λ p. p.link.due) h.after;
+  heard = heard (Flip place) Okay r q c s t 1 refl (omega arith) (no_loss _ _ (ap (λ p. p.tally.lost) h.after)) h.after;
   flip = Some place;
-  spares = inr (place, h.legal, refl, ap (λ p. p.disturbed) h.after);
+  spares = inr (place, h.legal, refl, ap (λ p. p.tally.disturbed) h.after);
   accepts = accepts (Flip place) c r s q seen t live h;
 }
 
 -- OK, unless it is lost
-okay_told : (mark : Mark) (c : Choice) (r : Register) (s : Port) (q : Request) (seen : ℕ) (t : Port) → reset_after Okay r s.reset ≡ Live →
+okay_told : (mark : Mark) (c : Choice) (r : Register) (s : Port) (q : Request) (seen : ℕ) (t : Port) → (after_okay r s.target).reset ≡ Live →
     Told mark c (if is_deaf mark then Silent else Okay) r s q seen t → OkayOrLost r q.read seen s t
 okay_told Clean c r s q seen t live h = okay (clean_okay c r s q seen t live h)
 okay_told Wait c r s q seen t live h = okay (wait_okay c r s q seen t live h)
@@ -206,14 +163,14 @@ okay_told Deaf c r s q seen t live h = lost (deaf_none c r s q seen t h) (inl (s
 okay_told (Mute place) c r s q seen t live h = lost (mute_none place c Okay r s q seen t h) (inr (accepts (Mute place) c r s q seen t live h))
 
 -- OK, or WAIT at a Wait mark, unless it is lost
-free_told : (mark : Mark) (c : Choice) (r : Register) (s : Port) (q : Request) (seen : ℕ) (t : Port) → reset_after Okay r s.reset ≡ Live →
+free_told : (mark : Mark) (c : Choice) (r : Register) (s : Port) (q : Request) (seen : ℕ) (t : Port) → (after_okay r s.target).reset ≡ Live →
     Told mark c (if is_deaf mark then Silent else if is_wait mark then Waits else Okay) r s q seen t → OkayWaitOrLost r q.read seen s t
 free_told Clean c r s q seen t live h = okay (clean_okay c r s q seen t live h)
 free_told Wait c r s q seen t live h = wait (record {
   is = h.sees;
-  due = ap (λ p. p.due) h.after;
-  heard = heard Wait Waits r q c s t 1 refl (omega arith) (no_loss _ _ (ap (λ p. p.lost) h.after)) h.after;
-  disturbed = ap (λ p. p.disturbed) h.after;
+  due = ap (λ p. p.link.due) h.after;
+  heard = heard Wait Waits r q c s t 1 refl (omega arith) (no_loss _ _ (ap (λ p. p.tally.lost) h.after)) h.after;
+  disturbed = ap (λ p. p.tally.disturbed) h.after;
   defers = defers Wait r q c s t h.after;
 })
 free_told (Flip place) c r s q seen t live h = okay (flip_okay place c r s q seen t live h)
@@ -222,69 +179,69 @@ free_told (Mute place) c r s q seen t live h = lost (mute_none place c Okay r s 
 
 -- FAULT, unless it is lost
 sees_fault : (mark : Mark) (c : Choice) (r : Register) (s : Port) (q : Request) (seen : ℕ) (t : Port) (n : ℕ) → is_exempt r ≡ false → disturbs mark ≡ n → n ≤ 1 → seen_at mark Faults ≡ 4 →
-    t.lost ≡ s.lost → Told mark c Faults r s q seen t → SeesFault r q.ap seen s t
+    t.tally.lost ≡ s.tally.lost → Told mark c Faults r s q seen t → SeesFault r q.ap seen s t
 sees_fault mark c r s q seen t n plain is few four none h = record {
   is = h.sees ∙ four;
-  due = ap (λ p. p.due) h.after ∙ ap (due_after q.read) four;
+  due = ap (λ p. p.link.due) h.after ∙ ap (due_after q.read) four;
   heard = heard mark Faults r q c s t n is few none h.after;
   refuses = refuses mark r q c s t plain h.settled h.after;
 }
 
 fault_told : (mark : Mark) (c : Choice) (r : Register) (s : Port) (q : Request) (seen : ℕ) (t : Port) → is_exempt r ≡ false →
     Told mark c (if is_deaf mark then Silent else Faults) r s q seen t → FaultOrLost r q.ap seen s t
-fault_told Clean c r s q seen t plain h = fault (sees_fault Clean c r s q seen t 0 plain refl (omega arith) refl (no_loss _ _ (ap (λ p. p.lost) h.after)) h)
-fault_told Wait c r s q seen t plain h = fault (sees_fault Wait c r s q seen t 1 plain refl (omega arith) refl (no_loss _ _ (ap (λ p. p.lost) h.after)) h)
-fault_told (Flip place) c r s q seen t plain h = fault (sees_fault (Flip place) c r s q seen t 1 plain refl (omega arith) refl (no_loss _ _ (ap (λ p. p.lost) h.after)) h)
+fault_told Clean c r s q seen t plain h = fault (sees_fault Clean c r s q seen t 0 plain refl (omega arith) refl (no_loss _ _ (ap (λ p. p.tally.lost) h.after)) h)
+fault_told Wait c r s q seen t plain h = fault (sees_fault Wait c r s q seen t 1 plain refl (omega arith) refl (no_loss _ _ (ap (λ p. p.tally.lost) h.after)) h)
+fault_told (Flip place) c r s q seen t plain h = fault (sees_fault (Flip place) c r s q seen t 1 plain refl (omega arith) refl (no_loss _ _ (ap (λ p. p.tally.lost) h.after)) h)
 fault_told Deaf c r s q seen t plain h = lost (deaf_none c r s q seen t h) (inl (stays Deaf r q c s t h.after))
 fault_told (Mute place) c r s q seen t plain h = lost (mute_none place c Faults r s q seen t h) (inr (refuses (Mute place) r q c s t plain h.settled h.after))
 
 -- the reply, by what the state is
-reply_exempt : (mark : Mark) (q : Request) (s : Port) → is_exempt (register s.select q) ≡ true → s.reset ≡ Live → reply_in mark s q ≡ (if is_deaf mark then Silent else Okay)
-reply_exempt mark q s exempt live = grind arith
+reply_exempt : (mark : Mark) (q : Request) (x : Target) → is_exempt (register x.select q) ≡ true → x.reset ≡ Live → reply_in mark x q ≡ (if is_deaf mark then Silent else Okay)
+reply_exempt mark q x exempt live = grind arith
 
-reply_free : (mark : Mark) (q : Request) (s : Port) → is_exempt (register s.select q) ≡ false → s.reset ≡ Live → s.write_error ≡ false → s.sticky_error ≡ false → (q.ap ≡ true → s.debug_power ≡ true) →
-    reply_in mark s q ≡ (if is_deaf mark then Silent else if is_wait mark then Waits else Okay)
-reply_free mark q s plain live write sticky power = grind arith
+reply_free : (mark : Mark) (q : Request) (x : Target) → is_exempt (register x.select q) ≡ false → x.reset ≡ Live → x.write_error ≡ false → x.sticky_error ≡ false → (q.ap ≡ true → x.debug_power ≡ true) →
+    reply_in mark x q ≡ (if is_deaf mark then Silent else if is_wait mark then Waits else Okay)
+reply_free mark q x plain live write sticky power = grind arith
 
-reply_flag : (mark : Mark) (q : Request) (s : Port) → is_exempt (register s.select q) ≡ false → s.reset ≡ Live → (s.sticky_error ≡ true) ⊎ (s.write_error ≡ true) →
-    reply_in mark s q ≡ (if is_deaf mark then Silent else Faults)
-reply_flag mark q s plain live (inl flag) = grind arith
-reply_flag mark q s plain live (inr flag) = grind arith
+reply_flag : (mark : Mark) (q : Request) (x : Target) → is_exempt (register x.select q) ≡ false → x.reset ≡ Live → (x.sticky_error ≡ true) ⊎ (x.write_error ≡ true) →
+    reply_in mark x q ≡ (if is_deaf mark then Silent else Faults)
+reply_flag mark q x plain live (inl flag) = grind arith
+reply_flag mark q x plain live (inr flag) = grind arith
 
-reply_unpowered : (mark : Mark) (q : Request) (s : Port) → is_exempt (register s.select q) ≡ false → s.reset ≡ Live → q.ap ≡ true → s.debug_power ≡ false →
-    reply_in mark s q ≡ (if is_deaf mark then Silent else Faults)
-reply_unpowered mark q s plain live ap power = grind arith
+reply_unpowered : (mark : Mark) (q : Request) (x : Target) → is_exempt (register x.select q) ≡ false → x.reset ≡ Live → q.ap ≡ true → x.debug_power ≡ false →
+    reply_in mark x q ≡ (if is_deaf mark then Silent else Faults)
+reply_unpowered mark q x plain live ap power = grind arith
 
-reply_identification : (mark : Mark) (q : Request) (s : Port) → register s.select q ≡ DpidrRead → s.reset ≢ Unreset → reply_in mark s q ≡ (if is_deaf mark then Silent else Okay)
-reply_identification mark q s named reset = grind arith
+reply_identification : (mark : Mark) (q : Request) (x : Target) → register x.select q ≡ DpidrRead → x.reset ≢ Unreset → reply_in mark x q ≡ (if is_deaf mark then Silent else Okay)
+reply_identification mark q x named reset = grind arith
 
-live_stays : (r : Register) (reset : Reset) → reset ≡ Live → reset_after Okay r reset ≡ Live
-live_stays r reset e = grind arith
+live_stays : (r : Register) (x : Target) → x.reset ≡ Live → (after_okay r x).reset ≡ Live
+live_stays r x e = grind arith
 
 -- one request, with no completion
-pub exempt_now : (mark : Mark) (c : Choice) (r : Register) (q : Request) (seen : ℕ) (s t : Port) → register s.select q ≡ r → is_exempt r ≡ true → s.reset ≡ Live →
+pub exempt_now : (mark : Mark) (c : Choice) (r : Register) (q : Request) (seen : ℕ) (s t : Port) → register s.target.select q ≡ r → is_exempt r ≡ true → s.target.reset ≡ Live →
     AsksNow mark c s q seen t → OkayOrLost r q.read seen s t
 exempt_now mark c r q seen s t named exempt live h =
-    okay_told mark c r s q seen t (live_stays r s.reset live) (told mark c _ r s q seen t (reply_exempt mark q s (ap is_exempt named ∙ exempt) live) named h)
+    okay_told mark c r s q seen t (live_stays r s.target live) (told mark c _ r s q seen t (reply_exempt mark q s.target (ap is_exempt named ∙ exempt) live) named h)
 
-pub identification_now : (mark : Mark) (c : Choice) (q : Request) (seen : ℕ) (s t : Port) → register s.select q ≡ DpidrRead → s.reset ≢ Unreset →
+pub identification_now : (mark : Mark) (c : Choice) (q : Request) (seen : ℕ) (s t : Port) → register s.target.select q ≡ DpidrRead → s.target.reset ≢ Unreset →
     AsksNow mark c s q seen t → OkayOrLost DpidrRead q.read seen s t
-identification_now mark c q seen s t named reset h = okay_told mark c DpidrRead s q seen t refl (told mark c _ DpidrRead s q seen t (reply_identification mark q s named reset) named h)
+identification_now mark c q seen s t named reset h = okay_told mark c DpidrRead s q seen t refl (told mark c _ DpidrRead s q seen t (reply_identification mark q s.target named reset) named h)
 
-pub flagged_now : (mark : Mark) (c : Choice) (r : Register) (q : Request) (seen : ℕ) (s t : Port) → register s.select q ≡ r → is_exempt r ≡ false → s.reset ≡ Live →
-    (s.sticky_error ≡ true) ⊎ (s.write_error ≡ true) → AsksNow mark c s q seen t → FaultOrLost r q.ap seen s t
+pub flagged_now : (mark : Mark) (c : Choice) (r : Register) (q : Request) (seen : ℕ) (s t : Port) → register s.target.select q ≡ r → is_exempt r ≡ false → s.target.reset ≡ Live →
+    (s.target.sticky_error ≡ true) ⊎ (s.target.write_error ≡ true) → AsksNow mark c s q seen t → FaultOrLost r q.ap seen s t
 flagged_now mark c r q seen s t named plain live flag h =
-    fault_told mark c r s q seen t plain (told mark c _ r s q seen t (reply_flag mark q s (ap is_exempt named ∙ plain) live flag) named h)
+    fault_told mark c r s q seen t plain (told mark c _ r s q seen t (reply_flag mark q s.target (ap is_exempt named ∙ plain) live flag) named h)
 
-pub unpowered_now : (mark : Mark) (c : Choice) (r : Register) (q : Request) (seen : ℕ) (s t : Port) → register s.select q ≡ r → is_exempt r ≡ false → s.reset ≡ Live →
-    q.ap ≡ true → s.debug_power ≡ false → AsksNow mark c s q seen t → FaultOrLost r q.ap seen s t
+pub unpowered_now : (mark : Mark) (c : Choice) (r : Register) (q : Request) (seen : ℕ) (s t : Port) → register s.target.select q ≡ r → is_exempt r ≡ false → s.target.reset ≡ Live →
+    q.ap ≡ true → s.target.debug_power ≡ false → AsksNow mark c s q seen t → FaultOrLost r q.ap seen s t
 unpowered_now mark c r q seen s t named plain live ap_access power h =
-    fault_told mark c r s q seen t plain (told mark c _ r s q seen t (reply_unpowered mark q s (ap is_exempt named ∙ plain) live ap_access power) named h)
+    fault_told mark c r s q seen t plain (told mark c _ r s q seen t (reply_unpowered mark q s.target (ap is_exempt named ∙ plain) live ap_access power) named h)
 
-pub free_now : (mark : Mark) (c : Choice) (r : Register) (q : Request) (seen : ℕ) (s t : Port) → register s.select q ≡ r → is_exempt r ≡ false → s.reset ≡ Live → s.write_error ≡ false → s.sticky_error ≡ false →
-    (q.ap ≡ true → s.debug_power ≡ true) → AsksNow mark c s q seen t → OkayWaitOrLost r q.read seen s t
+pub free_now : (mark : Mark) (c : Choice) (r : Register) (q : Request) (seen : ℕ) (s t : Port) → register s.target.select q ≡ r → is_exempt r ≡ false → s.target.reset ≡ Live → s.target.write_error ≡ false → s.target.sticky_error ≡ false →
+    (q.ap ≡ true → s.target.debug_power ≡ true) → AsksNow mark c s q seen t → OkayWaitOrLost r q.read seen s t
 free_now mark c r q seen s t named plain live write sticky power h =
-    free_told mark c r s q seen t (live_stays r s.reset live) (told mark c _ r s q seen t (reply_free mark q s (ap is_exempt named ∙ plain) live write sticky power) named h)
+    free_told mark c r s q seen t (live_stays r s.target live) (told mark c _ r s q seen t (reply_free mark q s.target (ap is_exempt named ∙ plain) live write sticky power) named h)
 
 -- the whole call, with its completions
 pub exempt_request : ExemptRequest
@@ -297,7 +254,7 @@ identification_read q seen s t named reset (a, b, mark, c, first, now, last) =
     let k : Kept s a = kept s a first in
     (a, b, first, identification_now mark c q seen a b (ap (λ x. register x q) k.select ∙ named) (λ e. reset (sym k.reset ∙ e)) now, last)
 
-flag_stays : (s a : Port) → Kept s a → (s.sticky_error ≡ true) ⊎ (s.write_error ≡ true) → (a.sticky_error ≡ true) ⊎ (a.write_error ≡ true)
+flag_stays : (s a : Port) → Kept s a → (s.target.sticky_error ≡ true) ⊎ (s.target.write_error ≡ true) → (a.target.sticky_error ≡ true) ⊎ (a.target.write_error ≡ true)
 flag_stays s a k (inl e) = inl (k.sticky_error e)
 flag_stays s a k (inr e) = inr (k.write_error ∙ e)
 
@@ -307,10 +264,10 @@ flagged_request r q seen s t named plain live flag (a, b, mark, c, first, now, l
     (a, b, first, flagged_now mark c r q seen a b (ap (λ x. register x q) k.select ∙ named) plain (k.reset ∙ live) (flag_stays s a k flag) now, last)
 
 abbrev FreeOrFault : Register → Request → ℕ → Port → Port → Type 0
-FreeOrFault r q seen a b = ((a.sticky_error ≡ false) × OkayWaitOrLost r q.read seen a b) ⊎ ((a.sticky_error ≡ true) × FaultOrLost r q.ap seen a b)
+FreeOrFault r q seen a b = ((a.target.sticky_error ≡ false) × OkayWaitOrLost r q.read seen a b) ⊎ ((a.target.sticky_error ≡ true) × FaultOrLost r q.ap seen a b)
 
-free_or_fault : (mark : Mark) (c : Choice) (r : Register) (q : Request) (seen : ℕ) (s t : Port) → register s.select q ≡ r → is_exempt r ≡ false → s.reset ≡ Live → s.write_error ≡ false →
-    (q.ap ≡ true → s.debug_power ≡ true) → AsksNow mark c s q seen t → (b : Bool) → s.sticky_error ≡ b → FreeOrFault r q seen s t
+free_or_fault : (mark : Mark) (c : Choice) (r : Register) (q : Request) (seen : ℕ) (s t : Port) → register s.target.select q ≡ r → is_exempt r ≡ false → s.target.reset ≡ Live → s.target.write_error ≡ false →
+    (q.ap ≡ true → s.target.debug_power ≡ true) → AsksNow mark c s q seen t → (b : Bool) → s.target.sticky_error ≡ b → FreeOrFault r q seen s t
 free_or_fault mark c r q seen s t named plain live write power h false e = inl (e, free_now mark c r q seen s t named plain live write e power h)
 free_or_fault mark c r q seen s t named plain live write power h true e = inr (e, flagged_now mark c r q seen s t named plain live (inl e) h)
 
@@ -321,7 +278,7 @@ free_request r q seen s t named plain live write power (a, b, mark, c, first, no
       b,
       first,
       free_or_fault mark c r q seen a b (ap (λ x. register x q) k.select ∙ named) plain (k.reset ∙ live) (k.write_error ∙ write)
-          (λ e. k.debug_power ∙ power e) now a.sticky_error refl,
+          (λ e. k.debug_power ∙ power e) now a.target.sticky_error refl,
       last,
     )
 
@@ -333,33 +290,33 @@ only_drw_starts : (r : Register) (pending : Option Drw) → r ≢ DrwRead → pe
 only_drw_starts DrwRead pending other = absurd (other refl)
 only_drw_starts r pending other = refl
 
-okay_or_lost_rests : (r : Register) (read : Bool) (seen : ℕ) (s t : Port) → pending_once_read r s.pending ≡ None → s.pending ≡ None → OkayOrLost r read seen s t → t.pending ≡ None
-okay_or_lost_rests r read seen s t starts none (okay h) = h.accepts.pending ∙ starts
-okay_or_lost_rests r read seen s t starts none (lost h (inl stays)) = stays.held.pending ∙ none
-okay_or_lost_rests r read seen s t starts none (lost h (inr accepts)) = accepts.pending ∙ starts
+okay_or_lost_rests : (r : Register) (read : Bool) (seen : ℕ) (s t : Port) → pending_once_read r s.target.pending ≡ None → s.target.pending ≡ None → OkayOrLost r read seen s t → t.target.pending ≡ None
+okay_or_lost_rests r read seen s t starts none (okay h) = ap (λ x. x.pending) h.accepts.target ∙ starts
+okay_or_lost_rests r read seen s t starts none (lost h (inl stays)) = ap (λ x. x.pending) stays.target ∙ none
+okay_or_lost_rests r read seen s t starts none (lost h (inr accepts)) = ap (λ x. x.pending) accepts.target ∙ starts
 
-fault_or_lost_rests : (r : Register) (ap : Bool) (seen : ℕ) (s t : Port) → s.pending ≡ None → FaultOrLost r ap seen s t → t.pending ≡ None
-fault_or_lost_rests r ap seen s t none (fault h) = h.refuses.held.pending ∙ none
-fault_or_lost_rests r ap seen s t none (lost h (inl stays)) = stays.held.pending ∙ none
-fault_or_lost_rests r ap seen s t none (lost h (inr refuses)) = refuses.held.pending ∙ none
+fault_or_lost_rests : (r : Register) (access : Bool) (seen : ℕ) (s t : Port) → s.target.pending ≡ None → FaultOrLost r access seen s t → t.target.pending ≡ None
+fault_or_lost_rests r access seen s t none (fault h) = ap (λ x. x.pending) h.refuses.target ∙ none
+fault_or_lost_rests r access seen s t none (lost h (inl stays)) = ap (λ x. x.pending) stays.target ∙ none
+fault_or_lost_rests r access seen s t none (lost h (inr refuses)) = ap (λ x. x.pending) refuses.target ∙ none
 
-okay_wait_or_lost_rests : (r : Register) (read : Bool) (seen : ℕ) (s t : Port) → pending_once_read r s.pending ≡ s.pending → s.pending ≡ None → OkayWaitOrLost r read seen s t → t.pending ≡ None
-okay_wait_or_lost_rests r read seen s t starts none (okay h) = h.accepts.pending ∙ starts ∙ none
-okay_wait_or_lost_rests r read seen s t starts none (wait h) = h.defers.held.pending ∙ none
-okay_wait_or_lost_rests r read seen s t starts none (lost h (inl stays)) = stays.held.pending ∙ none
-okay_wait_or_lost_rests r read seen s t starts none (lost h (inr accepts)) = accepts.pending ∙ starts ∙ none
+okay_wait_or_lost_rests : (r : Register) (read : Bool) (seen : ℕ) (s t : Port) → pending_once_read r s.target.pending ≡ s.target.pending → s.target.pending ≡ None → OkayWaitOrLost r read seen s t → t.target.pending ≡ None
+okay_wait_or_lost_rests r read seen s t starts none (okay h) = ap (λ x. x.pending) h.accepts.target ∙ starts ∙ none
+okay_wait_or_lost_rests r read seen s t starts none (wait h) = ap (λ x. x.pending) h.defers.target ∙ none
+okay_wait_or_lost_rests r read seen s t starts none (lost h (inl stays)) = ap (λ x. x.pending) stays.target ∙ none
+okay_wait_or_lost_rests r read seen s t starts none (lost h (inr accepts)) = ap (λ x. x.pending) accepts.target ∙ starts ∙ none
 
 -- a step with nothing pending before it
-pub at_rest : (Step : Port → Port → Type 0) (s t : Port) → s.pending ≡ None → Around Step s t → (b : Port) × Step s b × Completes b t
+pub at_rest : (Step : Port → Port → Type 0) (s t : Port) → s.target.pending ≡ None → Around Step s t → (b : Port) × Step s b × Completes b t
 at_rest Step s t none (a, b, first, step, last) = (b, subst (λ x. Step x b) (none_done s a none first) step, last)
 
 -- nor after it
-pub exactly : (Step : Port → Port → Type 0) (s t : Port) → ((b : Port) → Step s b → b.pending ≡ None) → (b : Port) × Step s b × Completes b t → Step s t
+pub exactly : (Step : Port → Port → Type 0) (s t : Port) → ((b : Port) → Step s b → b.target.pending ≡ None) → (b : Port) × Step s b × Completes b t → Step s t
 exactly Step s t rests (b, step, last) = subst (Step s) (sym (none_done b t (rests b step) last)) step
 
 pub exempt_request_at_rest : ExemptRequestAtRest
 exempt_request_at_rest r q seen s t named exempt live none h =
-    exactly (OkayOrLost r q.read seen) s t (λ b. okay_or_lost_rests r q.read seen s b (exempt_starts_none r s.pending exempt none) none)
+    exactly (OkayOrLost r q.read seen) s t (λ b. okay_or_lost_rests r q.read seen s b (exempt_starts_none r s.target.pending exempt none) none)
     (at_rest (OkayOrLost r q.read seen) s t none (exempt_request r q seen s t named exempt live h))
 
 pub identification_read_at_rest : IdentificationReadAtRest
@@ -378,9 +335,9 @@ unpowered_request_at_rest r q seen s t named plain live none access power (a, b,
     let step : FaultOrLost r q.ap seen a b = unpowered_now mark c r q seen a b (ap (λ x. register x q) k.select ∙ named) plain (k.reset ∙ live) access (k.debug_power ∙ power) now in
     exactly (FaultOrLost r q.ap seen) s t (λ p. fault_or_lost_rests r q.ap seen s p none) (at_rest (FaultOrLost r q.ap seen) s t none (a, b, first, step, last))
 
-free_at_rest : (r : Register) (q : Request) (seen : ℕ) (s b : Port) → s.sticky_error ≡ false → FreeOrFault r q seen s b → OkayWaitOrLost r q.read seen s b
+free_at_rest : (r : Register) (q : Request) (seen : ℕ) (s b : Port) → s.target.sticky_error ≡ false → FreeOrFault r q seen s b → OkayWaitOrLost r q.read seen s b
 free_at_rest r q seen s b sticky (inl h) = h.1
-free_at_rest r q seen s b sticky (inr h) = absurd (let e : s.sticky_error ≡ true = h.0 in cc)
+free_at_rest r q seen s b sticky (inr h) = absurd (let e : s.target.sticky_error ≡ true = h.0 in cc)
 
 pub free_request_at_rest : FreeRequestAtRest
 free_request_at_rest r q seen s t named plain live none write sticky power h =
@@ -389,7 +346,7 @@ free_request_at_rest r q seen s t named plain live none write sticky power h =
 
 pub free_request_exact : FreeRequestExact
 free_request_exact r q seen s t named plain other live none write sticky power h =
-    exactly (OkayWaitOrLost r q.read seen) s t (λ b. okay_wait_or_lost_rests r q.read seen s b (only_drw_starts r s.pending other) none)
+    exactly (OkayWaitOrLost r q.read seen) s t (λ b. okay_wait_or_lost_rests r q.read seen s b (only_drw_starts r s.target.pending other) none)
     (free_request_at_rest r q seen s t named plain live none write sticky power h)
 
 powered : (access power : Bool) → (access ≡ true → power ≡ true) → is_unpowered access power ≡ false
@@ -397,31 +354,46 @@ powered true power h = rw (h refl) refl
 powered false power h = refl
 
 pub refused_with_power : RefusedWithPower
-refused_with_power r access s t h power = h.sticky_error ∙ ap (λ x. s.sticky_error || x) (powered access s.debug_power power) ∙ or_false s.sticky_error
+refused_with_power r access s t h power = ap (λ x. x.sticky_error) h.target ∙ ap (λ x. s.target.sticky_error || x) (powered access s.target.debug_power power) ∙ or_false s.target.sticky_error
 
 -- what a lost request leaves
-starts_drw : (r : Register) (s t : Port) → t.pending ≡ pending_once_read r s.pending → (t.pending ≡ s.pending) ⊎ (r ≡ DrwRead)
-starts_drw DrwRead s t e = inr refl
-starts_drw r s t e = inl e
+starts_drw : (r : Register) (pending : Option Drw) → (pending_once_read r pending ≡ pending) ⊎ (r ≡ DrwRead)
+starts_drw DrwRead pending = inr refl
+starts_drw r pending = inl refl
+
+abbrev Left : Register → Target → Target → Type 0
+Left r x y = Steady x y × (y.sticky_error ≡ x.sticky_error) × ((y.pending ≡ x.pending) ⊎ (r ≡ DrwRead))
 
 pub lost_request : LostRequest
-lost_request r read s t (inl h) = (h.held.steady, h.sticky_error, inl h.held.pending)
-lost_request r read s t (inr h) = (h.steady, h.sticky_error, starts_drw r s t h.pending)
+lost_request r read s t (inl h) = subst (Left r s.target) (sym h.target) (steady_after Silent r false s.target, refl, inl refl)
+lost_request r read s t (inr h) = subst (Left r s.target) (sym h.target) (steady_after Okay r false s.target, refl, starts_drw r s.target.pending)
 
 -- what it leaves in all cases
 unreset_other : (a b : Reset) → b ≡ Live → a ≢ Unreset → b ≢ Unreset
 unreset_other a b e other f = absurd (let g : Live ≡ Unreset = sym e ∙ f in cc)
 
-held_unmoved : (s t : Port) → Held s t → t.sticky_error ≡ s.sticky_error → Unmoved s t
-held_unmoved s t h e = record { steady = h.steady; sticky_error = e; pending = h.pending; live = λ live. h.reset ∙ live; reset = λ other f. other (sym h.reset ∙ f) }
+stays_unmoved : (s t : Port) → Stays s t → Unmoved s.target t.target
+stays_unmoved s t h = subst (Unmoved s.target) (sym h.target) (record { steady = steady_after Silent DpidrRead false s.target; sticky_error = refl; pending = refl; live = λ e. e; reset = λ e. e })
 
-accepts_unmoved : (r : Register) (read : Bool) (flip : Option ℕ) (s t : Port) → r ≢ DrwRead → Accepts r read flip s t → Unmoved s t
+defers_unmoved : (r : Register) (s t : Port) → Defers r s t → Unmoved s.target t.target
+defers_unmoved r s t h = subst (Unmoved s.target) (sym h.target) (record { steady = steady_after Waits r false s.target; sticky_error = refl; pending = refl; live = λ e. e; reset = λ e. e })
+
+refuses_unmoved : (r : Register) (access : Bool) (s t : Port) → (access ≡ true → s.target.debug_power ≡ true) → Refuses r access s t → Unmoved s.target t.target
+refuses_unmoved r access s t power h = record {
+  steady = steady Faults r access s.target t.target h.target;
+  sticky_error = refused_with_power r access s t h power;
+  pending = ap (λ x. x.pending) h.target;
+  live = λ e. ap (λ x. x.reset) h.target ∙ e;
+  reset = λ other e. other (sym (ap (λ x. x.reset) h.target) ∙ e);
+}
+
+accepts_unmoved : (r : Register) (read : Bool) (flip : Option ℕ) (s t : Port) → r ≢ DrwRead → Accepts r read flip s t → Unmoved s.target t.target
 accepts_unmoved r read flip s t other h = record {
-  steady = h.steady;
-  sticky_error = h.sticky_error;
-  pending = h.pending ∙ only_drw_starts r s.pending other;
-  live = λ live. h.reset;
-  reset = unreset_other s.reset t.reset h.reset;
+  steady = steady Okay r false s.target t.target h.target;
+  sticky_error = ap (λ x. x.sticky_error) h.target;
+  pending = ap (λ x. x.pending) h.target ∙ only_drw_starts r s.target.pending other;
+  live = λ e. h.live;
+  reset = unreset_other s.target.reset t.target.reset h.live;
 }
 
 exempt_other : (r : Register) → is_exempt r ≡ true → r ≢ DrwRead
@@ -429,34 +401,34 @@ exempt_other r e f = absurd (let g : is_exempt DrwRead ≡ true = ap is_exempt (
 
 pub unmoved_by_exempt : UnmovedByExempt
 unmoved_by_exempt r read seen s t e (okay h) = accepts_unmoved r read h.flip s t (exempt_other r e) h.accepts
-unmoved_by_exempt r read seen s t e (lost n (inl h)) = held_unmoved s t h.held h.sticky_error
+unmoved_by_exempt r read seen s t e (lost n (inl h)) = stays_unmoved s t h
 unmoved_by_exempt r read seen s t e (lost n (inr h)) = accepts_unmoved r read None s t (exempt_other r e) h
 
 pub unmoved_by_free : UnmovedByFree
 unmoved_by_free r read seen s t other (okay h) = accepts_unmoved r read h.flip s t other h.accepts
-unmoved_by_free r read seen s t other (wait h) = held_unmoved s t h.defers.held h.defers.sticky_error
-unmoved_by_free r read seen s t other (lost n (inl h)) = held_unmoved s t h.held h.sticky_error
+unmoved_by_free r read seen s t other (wait h) = defers_unmoved r s t h.defers
+unmoved_by_free r read seen s t other (lost n (inl h)) = stays_unmoved s t h
 unmoved_by_free r read seen s t other (lost n (inr h)) = accepts_unmoved r read None s t other h
 
 pub unmoved_by_refused : UnmovedByRefused
-unmoved_by_refused r access seen s t power (fault h) = held_unmoved s t h.refuses.held (refused_with_power r access s t h.refuses power)
-unmoved_by_refused r access seen s t power (lost n (inl h)) = held_unmoved s t h.held h.sticky_error
-unmoved_by_refused r access seen s t power (lost n (inr h)) = held_unmoved s t h.held (refused_with_power r access s t h power)
+unmoved_by_refused r access seen s t power (fault h) = refuses_unmoved r access s t power h.refuses
+unmoved_by_refused r access seen s t power (lost n (inl h)) = stays_unmoved s t h
+unmoved_by_refused r access seen s t power (lost n (inr h)) = refuses_unmoved r access s t power h
 
 -- a request that tells what came of a transfer
-confirms : (access : Access) (m : PlainMemory) (r : Register) (q : Request) (seen : ℕ) (s t : Port) → Sent access m s → is_exempt r ≡ false → FreeOrFault r q seen s t → Confirms access m r q seen s t
+confirms : (access : Access) (m : PlainMemory) (r : Register) (q : Request) (seen : ℕ) (s t : Port) → Sent access m s.target → is_exempt r ≡ false → FreeOrFault r q seen s t → Confirms access m r q seen s t
 confirms access m r q seen s t sent plain (inl h) =
     elim h.1 [
-      | okay o ↦ confirms_okay (sent_succeeds access m s (o.accepts.settled plain) h.0 sent) o
+      | okay o ↦ confirms_okay (sent_succeeds access m s.target (o.accepts.settled plain) h.0 sent) o
       | wait w ↦ confirms_wait sent w
       | lost n (inl stays) ↦ confirms_lost sent n (inl stays)
-      | lost n (inr accepts) ↦ confirms_lost sent n (inr (inl (sent_succeeds access m s (accepts.settled plain) h.0 sent, accepts)))
+      | lost n (inr accepts) ↦ confirms_lost sent n (inr (inl (sent_succeeds access m s.target (accepts.settled plain) h.0 sent, accepts)))
     ]
 confirms access m r q seen s t sent plain (inr h) =
     elim h.1 [
-      | fault f ↦ confirms_fault (sent_fails access m s f.refuses.settled h.0 sent) f
+      | fault f ↦ confirms_fault (sent_fails access m s.target f.refuses.settled h.0 sent) f
       | lost n (inl stays) ↦ confirms_lost sent n (inl stays)
-      | lost n (inr refuses) ↦ confirms_lost sent n (inr (inr (sent_fails access m s refuses.settled h.0 sent, refuses)))
+      | lost n (inr refuses) ↦ confirms_lost sent n (inr (inr (sent_fails access m s.target refuses.settled h.0 sent, refuses)))
     ]
 
 pub confirming_request : ConfirmingRequest

@@ -1,15 +1,14 @@
 -- Laws of the words that are read, and of returned values.
-use Rattle.std.proofs.Common.{◌≡◌, ◌<◌, ◌^◌, ℕ, Bool, true, false, refl, ap, subst, inl, inr, arith, ◌∙◌}
+use Rattle.std.proofs.Common.{◌≡◌, ◌<◌, ◌^◌, ℕ, Bool, true, false, refl, sym, ap, subst, inl, inr, arith, ◌∙◌}
 use Rattle.std.specs.Prelude.{Option, Some, ◌&&◌, not, if◌then◌else◌, unwrap_or}
 use Rattle.swd_bits.specs.Bits.{bit}
 use Rattle.swd_port.specs.Registers.{bit_of, ctrl_stat_read}
 use Rattle.swd_port.specs.Phases.{phase_number, flipped}
-use Rattle.swd_port.specs.Port.{Port, Register, ResendRead, Drives, Drw}
-use Rattle.swd_port.specs.Asking.{is_posted, value_read, status_in, buffer_once_read, pending_once_read}
+use Rattle.swd_port.specs.Port.{Target, Register, Drives, Drw}
+use Rattle.swd_port.specs.Asking.{is_posted, value_read, value_in, status_in, buffer_once_read, pending_once_read, after_okay}
 use Rattle.swd_port.specs.Answers.{is_exempt}
-use Rattle.swd_port.specs.Outcomes.{Accepts}
 use Rattle.swd_port.specs.Transfers.{Carries}
-use Rattle.swd_port.specs.Laws.{StatusWord, holds, IdentificationReturned, StatusReturned, BufferReturned, ValueResent, CarriedByRequest, CarriedWhereHeld, CarriedWherePassed, CarriedByReset, FlagsCleared}
+use Rattle.swd_port.specs.Laws.WordsRead.{StatusWord, holds, IdentificationReturned, StatusReturned, BufferReturned, ValueResent, CarriedByRequest, CarriedWhereHeld, CarriedWherePassed, CarriedByReset, Clears, FlagsCleared}
 
 -- CTRL/STAT
 sticky_held : (a b d e f : Bool) → holds 0x20 (ctrl_stat_read a b d e f) ≡ a
@@ -76,20 +75,19 @@ pub identification_returned : IdentificationReturned
 identification_returned flip s t h = record { line = h.line; range = h.value_range refl }
 
 pub status_returned : StatusReturned
-status_returned flip s t h = (record { line = h.line; range = h.value_range refl }, status_word s.sticky_error s.read_ok s.write_error s.debug_power s.system_power)
+status_returned flip s t h = (record { line = h.line; range = h.value_range refl }, status_word s.target.sticky_error s.target.read_ok s.target.write_error s.target.debug_power s.target.system_power)
 
 pub buffer_returned : BufferReturned
 buffer_returned r flip value s t posted known h =
-    let is : value_read r s.identification (status_in s) s.last_returned s.buffer h.filler ≡ value =
-    posted_value r s.identification (status_in s) h.filler s.last_returned s.buffer posted ∙ returned value h.filler s.buffer known in (
+    let is : value_in r h.filler s.target ≡ value = posted_value r s.target.identification (status_in s.target) h.filler s.target.last_returned s.target.buffer posted ∙ returned value h.filler s.target.buffer known in (
       record { line = h.line ∙ ap (λ n. Drives (flipped flip (phase_number n))) is; range = subst (λ n. n < 2 ^ 32) is (h.value_range refl) },
-      h.last_returned ∙ taken_by (is_posted r) s.buffer s.last_returned posted ∙ known,
+      ap (λ x. x.last_returned) h.target ∙ taken_by (is_posted r) s.target.buffer s.target.last_returned posted ∙ known,
     )
 
 pub value_resent : ValueResent
 value_resent flip value s t known h =
-    let is : unwrap_or s.last_returned h.filler ≡ value = returned value h.filler s.last_returned known in
-    (record { line = h.line ∙ ap (λ n. Drives (flipped flip (phase_number n))) is; range = subst (λ n. n < 2 ^ 32) is (h.value_range refl) }, h.last_returned ∙ known)
+    let is : unwrap_or s.target.last_returned h.filler ≡ value = returned value h.filler s.target.last_returned known in
+    (record { line = h.line ∙ ap (λ n. Drives (flipped flip (phase_number n))) is; range = subst (λ n. n < 2 ^ 32) is (h.value_range refl) }, ap (λ x. x.last_returned) h.target ∙ known)
 
 -- requests that leave a transfer alone
 moves_none : (r : Register) (csw : ℕ) (tar buffer : Option ℕ) → is_exempt r ≡ true → buffer_once_read r csw tar buffer ≡ buffer
@@ -104,35 +102,29 @@ posts_none r e = grind arith
 chosen : {A : Type 0} (b : Bool) (x y : A) → b ≡ false → (if b then x else y) ≡ y
 chosen b x y e = rw e refl
 
-exempt_carries : (r : Register) (read : Bool) (flip : Option ℕ) (s t : Port) → is_exempt r ≡ true → Accepts r read flip s t → Carries s t × (t.last_returned ≡ s.last_returned)
-exempt_carries r read flip s t e h = (
-  record {
-    pending = h.pending ∙ starts_none r s.pending e;
-    tar = h.steady.tar;
-    memory = h.steady.memory;
-    sticky_error = h.sticky_error;
-    buffer = h.buffer ∙ moves_none r _ s.tar s.buffer e;
-    increments = h.steady.increments;
-  },
-  h.last_returned ∙ chosen (is_posted r) s.buffer s.last_returned (posts_none r e),
+-- what leaves a sent transfer as it was, and the last returned value
+abbrev Leaves : Target → Target → Type 0
+Leaves x y = Carries x y × (y.last_returned ≡ x.last_returned)
+
+exempt_carries : (r : Register) (x : Target) → is_exempt r ≡ true → Leaves x (after_okay r x)
+exempt_carries r x e = (
+  record { pending = starts_none r x.pending e; tar = refl; memory = refl; sticky_error = refl; buffer = moves_none r _ x.tar x.buffer e; increments = refl },
+  chosen (is_posted r) x.buffer x.last_returned (posts_none r e),
 )
 
-resend_carries : (read : Bool) (flip : Option ℕ) (s t : Port) → Accepts ResendRead read flip s t → Carries s t × (t.last_returned ≡ s.last_returned)
-resend_carries read flip s t h =
-    (record { pending = h.pending; tar = h.steady.tar; memory = h.steady.memory; sticky_error = h.sticky_error; buffer = h.buffer; increments = h.steady.increments }, h.last_returned)
-
 pub carried_by_request : CarriedByRequest
-carried_by_request r read flip s t (inl e) h = exempt_carries r read flip s t e h
-carried_by_request r read flip s t (inr e) h = resend_carries read flip s t (subst (λ x. Accepts x read flip s t) e h)
+carried_by_request r read flip s t (inl e) h = subst (Leaves s.target) (sym h.target) (exempt_carries r s.target e)
+carried_by_request r read flip s t (inr e) h = subst (Leaves s.target) (sym (h.target ∙ ap (λ x. after_okay x s.target) e)) (record { pending = refl; tar = refl; memory = refl; sticky_error = refl; buffer = refl; increments = refl }, refl)
 
 pub carried_where_held : CarriedWhereHeld
-carried_where_held s t h e = record { pending = h.pending; tar = h.steady.tar; memory = h.steady.memory; sticky_error = e; buffer = h.buffer; increments = h.steady.increments }
+carried_where_held r s t (inl h) = subst (Carries s.target) (sym h.target) (record { pending = refl; tar = refl; memory = refl; sticky_error = refl; buffer = refl; increments = refl })
+carried_where_held r s t (inr h) = subst (Carries s.target) (sym h.target) (record { pending = refl; tar = refl; memory = refl; sticky_error = refl; buffer = refl; increments = refl })
 
 pub carried_where_passed : CarriedWherePassed
-carried_where_passed s t h = record { pending = h.pending; tar = h.tar; memory = h.memory; sticky_error = h.sticky_error; buffer = h.buffer; increments = h.increments }
+carried_where_passed s t h = subst (Carries s.target) (sym h.target) (record { pending = refl; tar = refl; memory = refl; sticky_error = refl; buffer = refl; increments = refl })
 
 pub carried_by_reset : CarriedByReset
-carried_by_reset s t h = record { pending = h.pending; tar = h.tar; memory = h.memory; sticky_error = h.sticky_error; buffer = h.buffer; increments = h.increments }
+carried_by_reset s t h = subst (Carries s.target) (sym h.target) (record { pending = refl; tar = refl; memory = refl; sticky_error = refl; buffer = refl; increments = refl })
 
 -- ABORT
 cleared : (flag bit : Bool) → bit ≡ true → (flag && not bit) ≡ false
@@ -142,14 +134,14 @@ uncleared : (flag bit : Bool) → bit ≡ false → (flag && not bit) ≡ flag
 uncleared flag bit e = grind arith
 
 pub flags_cleared : FlagsCleared
-flags_cleared word s t h = record {
-  sticky_cleared = λ e. h.sticky_error ∙ cleared s.sticky_error (bit_of 2 word) e;
-  sticky_kept = λ e. h.sticky_error ∙ uncleared s.sticky_error (bit_of 2 word) e;
-  write_cleared = λ e. h.write_error ∙ cleared s.write_error (bit_of 3 word) e;
-  write_kept = λ e. h.write_error ∙ uncleared s.write_error (bit_of 3 word) e;
-  last_returned = h.last_returned;
-  buffer = h.buffer;
-  tar = h.tar;
-  memory = h.memory;
-  pending = h.pending;
-}
+flags_cleared word s t h = subst (Clears word s.target) (sym h.target) (record {
+  sticky_cleared = cleared s.target.sticky_error (bit_of 2 word);
+  sticky_kept = uncleared s.target.sticky_error (bit_of 2 word);
+  write_cleared = cleared s.target.write_error (bit_of 3 word);
+  write_kept = uncleared s.target.write_error (bit_of 3 word);
+  last_returned = refl;
+  buffer = refl;
+  tar = refl;
+  memory = refl;
+  pending = refl;
+})

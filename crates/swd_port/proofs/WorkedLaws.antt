@@ -8,7 +8,7 @@ use Rattle.swd_bits.specs.declared.request.Reg4.TheVariants.{R0, R4, RC}
 use Rattle.swd_port.specs.declared.access.Access.TheVariants.{Write}
 use Rattle.swd_port.specs.PlainMemory.{PlainMemory, succeeds_at}
 use Rattle.swd_port.specs.Phases.{phase_number}
-use Rattle.swd_port.specs.Port.{Port, Live, DrwWrite, made, register}
+use Rattle.swd_port.specs.Port.{Port, Live, DrwWrite, made_target, made, register}
 use Rattle.swd_port.specs.Choices.{Mark, Clean, Wait, Flip, Deaf, Mute, IsMark, Choice, IsChoice}
 use Rattle.swd_port.specs.Answers.{Okay, seen_at}
 use Rattle.swd_port.specs.Completion.{completed}
@@ -16,7 +16,7 @@ use Rattle.swd_port.specs.Asking.{Asks, reply_in, after_reply, value_in, IsSettl
 use Rattle.swd_port.specs.Moving.{Gives, Arrives, Damaged, after_arrival}
 use Rattle.swd_port.specs.Leading.{Leads, after_lead}
 use Rattle.swd_port.specs.Transfers.{Sent, owed, Aimed}
-use Rattle.swd_port.specs.Laws.{Ready}
+use Rattle.swd_port.specs.Laws.Accesses.{Ready}
 use Rattle.swd_port.proofs.PhaseLemmas.{word_phase, word_flip}
 
 abbrev choice : Choice
@@ -33,11 +33,11 @@ ap_write addr = record { ap = true; read = false; addr = addr }
 
 -- the state after a request under a mark
 abbrev after : Mark → Request → Port → Port
-after mark q s = after_reply mark (reply_in mark s q) (register s.select q) q choice s
+after mark q s = after_reply mark (reply_in mark s.target q) (register s.target.select q) q choice s
 
 -- such a request is a call of `ask`
-asks : (mark : Mark) (q : Request) (s : Port) → IsMark mark → IsSettled (reply_in mark s q) (register s.select q) s.pending →
-    IsWordRead (reply_in mark s q) q.read (value_in (register s.select q) choice s) → Asks s q (seen_at mark (reply_in mark s q)) (after mark q s)
+asks : (mark : Mark) (q : Request) (s : Port) → IsMark mark → IsSettled (reply_in mark s.target q) (register s.target.select q) s.target.pending →
+    IsWordRead (reply_in mark s.target q) q.read (value_in (register s.target.select q) choice.filler s.target) → Asks s q (seen_at mark (reply_in mark s.target q)) (after mark q s)
 asks mark q s legal settled word = (s, after mark q s, mark, choice, inl refl, record { legal = legal; choice = choice_fits; settled = settled; word = word; sees = refl; after = refl }, inl refl)
 
 -- a memory of one word
@@ -49,12 +49,14 @@ one_word = grind (arith, gets)
 
 -- a target that is ready for a transfer at that word
 abbrev start : Port
-start = record (made 0x2ba0_1477 memory) { reset = Live; debug_power = true; system_power = true; increments = true; csw_upper = 0x23; tar = Some 0x2000_0000 }
+start = record (made 0x2ba0_1477 memory) {
+  target = record (made_target 0x2ba0_1477 memory) { reset = Live; debug_power = true; system_power = true; increments = true; csw_upper = 0x23; tar = Some 0x2000_0000 };
+}
 
-ready : Ready start
+ready : Ready start.target
 ready = record { live = refl; power = refl; select = refl; increments = refl; write_error = refl }
 
-aimed : Aimed 0x2000_0000 memory start
+aimed : Aimed 0x2000_0000 memory start.target
 aimed = record { tar = refl; memory = refl; pending = refl; sticky_error = refl }
 
 -- each way that a free request may go
@@ -78,13 +80,13 @@ exempt_okay : Asks start (dp_read R4) 1 (after Clean (dp_read R4) start)
 exempt_okay = asks Clean (dp_read R4) start tt (λ e. refl) (omega arith)
 
 abbrev flagged : Port
-flagged = record start { write_error = true }
+flagged = record start { target = record start.target { write_error = true } }
 
 flagged_fault : Asks flagged (dp_read RC) 4 (after Clean (dp_read RC) flagged)
 flagged_fault = asks Clean (dp_read RC) flagged tt (λ e. refl) tt
 
 abbrev unpowered : Port
-unpowered = record start { debug_power = false }
+unpowered = record start { target = record start.target { debug_power = false } }
 
 unpowered_fault : Asks unpowered (ap_write R4) 4 (after Clean (ap_write R4) unpowered)
 unpowered_fault = asks Clean (ap_write R4) unpowered tt (λ e. refl) tt
@@ -111,13 +113,13 @@ given = after_arrival (Arrives DrwWrite 0xdead_beef) writing
 write_given : Gives writing (phase_number 0xdead_beef) given
 write_given = (writing, given, inl refl, record { after = rw (word_phase 0xdead_beef (omega arith)) refl }, inl refl)
 
-write_owed : Sent (Write 0x2000_0000 0xdead_beef) memory given
+write_owed : Sent (Write 0x2000_0000 0xdead_beef) memory given.target
 write_owed = owed refl refl refl refl
 
 abbrev written : Port
 written = completed choice given
 
-written_answers : reply_in Clean written (dp_read RC) ≡ Okay
+written_answers : reply_in Clean written.target (dp_read RC) ≡ Okay
 written_answers = rw one_word refl
 
 confirmed : Asks given (dp_read RC) 1 (after Clean (dp_read RC) written)
@@ -141,7 +143,7 @@ write_damaged = asks (Flip 0) (ap_write RC) start (omega arith) (λ e. refl) tt
 damaged_given : Gives damaged (phase_number 1) (after_arrival Damaged damaged)
 damaged_given = (damaged, after_arrival Damaged damaged, inl refl, record { after = rw (word_flip 1 0 (omega arith)) refl }, inl refl)
 
-damaged_is_flagged : (after_arrival Damaged damaged).write_error ≡ true
+damaged_is_flagged : (after_arrival Damaged damaged).target.write_error ≡ true
 damaged_is_flagged = refl
 
 abbrev unseen : Port
@@ -154,5 +156,5 @@ write_unseen = asks (Mute 1) (ap_write RC) start (omega arith) (λ e. refl) tt
 reset_while_awaited : Leads unseen 100 (after_lead 100 unseen)
 reset_while_awaited = (unseen, after_lead 100 unseen, inl refl, record { after = refl }, inl refl)
 
-awaited_is_flagged : (after_lead 100 unseen).write_error ≡ true
+awaited_is_flagged : (after_lead 100 unseen).target.write_error ≡ true
 awaited_is_flagged = refl

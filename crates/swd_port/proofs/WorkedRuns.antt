@@ -33,21 +33,21 @@ ap_write addr = record { ap = true; read = false; addr = addr }
 
 -- a clean request, and what the host sees of it
 abbrev asked : Request → Port → Port
-asked q s = after_reply Clean (reply_in Clean s q) (register s.select q) q choice s
+asked q s = after_reply Clean (reply_in Clean s.target q) (register s.target.select q) q choice s
 
 abbrev seen : Request → Port → ℕ
-seen q s = seen_at Clean (reply_in Clean s q)
+seen q s = seen_at Clean (reply_in Clean s.target q)
 
 -- a read with its data phase, and the value that it gives
 abbrev taken : Request → Port → Port
 taken q s = after_take (asked q s)
 
 abbrev value : Request → Port → ℕ
-value q s = value_in (register s.select q) choice s
+value q s = value_in (register s.target.select q) choice.filler s.target
 
 -- a write whose word arrives, and one whose data is damaged
 abbrev given : Request → ℕ → Port → Port
-given q word s = after_arrival (Arrives (register s.select q) word) (asked q s)
+given q word s = after_arrival (Arrives (register s.target.select q) word) (asked q s)
 
 abbrev damaged : Request → Port → Port
 damaged q s = after_arrival Damaged (asked q s)
@@ -62,13 +62,13 @@ up m = given (ap_write R0) 0x2300_0012 (given (dp_write R4) 0x5000_0000 (live m)
 before_any_lead : (m : PlainMemory) → seen (dp_read R0) (made 0x2ba0_1477 m) ≡ 7
 before_any_lead m = refl
 
-lost_before_any_lead : (m : PlainMemory) → (asked (dp_read R0) (made 0x2ba0_1477 m)).due ≡ Lost
+lost_before_any_lead : (m : PlainMemory) → (asked (dp_read R0) (made 0x2ba0_1477 m)).link.due ≡ Lost
 lost_before_any_lead m = refl
 
-dpidr : (m : PlainMemory) → (asked (dp_read R0) (after_lead 56 (made 0x2ba0_1477 m))).line ≡ Drives (phase_number 0x2ba0_1477)
+dpidr : (m : PlainMemory) → (asked (dp_read R0) (after_lead 56 (made 0x2ba0_1477 m))).link.line ≡ Drives (phase_number 0x2ba0_1477)
 dpidr m = refl
 
-unknown_buffer : (m : PlainMemory) → (asked (dp_read RC) (live m)).line ≡ Drives (phase_number 0xa5a5_a5a5)
+unknown_buffer : (m : PlainMemory) → (asked (dp_read RC) (live m)).link.line ≡ Drives (phase_number 0xa5a5_a5a5)
 unknown_buffer m = refl
 
 read_ok : (m : PlainMemory) → value (dp_read R4) (taken (dp_read RC) (live m)) ≡ 0x0000_0040

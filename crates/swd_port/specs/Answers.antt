@@ -1,4 +1,6 @@
 -- How a target answers a request, and what the host sees of it.
+pub use Rattle.swd_port.specs.declared.state.Reply.{Reply}
+pub use Rattle.swd_port.specs.declared.state.Reply.TheVariants.{Okay, Waits, Faults, Silent}
 use Rattle.std.specs.Prelude.{ℕ, ◌≡◌, ◌==◌, ◌⊎◌, ◌^◌, ◌||◌, ◌&&◌, not, Bool, true, false, if◌then◌else◌, bit_xor}
 use Rattle.swd_bits.specs.Bits.{number}
 use Rattle.swd_bits.specs.Wire.{ack}
@@ -7,13 +9,6 @@ use Rattle.swd_port.specs.declared.wire.Due.{Due}
 use Rattle.swd_port.specs.declared.wire.Due.TheVariants.{Take, Give, Pass, Lost}
 use Rattle.swd_port.specs.Port.{Register, DpidrRead, AbortWrite, CtrlStatRead, Reset, Unreset, Fresh, Live}
 use Rattle.swd_port.specs.Choices.{Mark, Mute, is_wait, is_deaf}
-
--- OK, WAIT, FAULT, or nothing at all (IHI 0031, B4, "Acknowledge response")
-pub data Reply : Type 0 where
-  Okay : Reply
-  Waits : Reply
-  Faults : Reply
-  Silent : Reply
 
 -- never WAIT or FAULT: DPIDR read, CTRL/STAT read, ABORT write (IHI 0031, B4, "FAULT response to read or write operation request")
 abbrev pub is_exempt : Register → Bool

@@ -1,11 +1,11 @@
 -- A request and its acknowledgement: one call of `ask`.
-use Rattle.std.specs.Prelude.{ℕ, ◌≡◌, ◌<◌, ◌^◌, ◌+◌, ◌||◌, ◌&&◌, Bool, true, false, if◌then◌else◌, Option, Some, None, unwrap_or}
+use Rattle.std.specs.Prelude.{ℕ, ◌≡◌, ◌<◌, ◌^◌, ◌+◌, ◌||◌, Bool, true, false, if◌then◌else◌, Option, Some, None, unwrap_or}
 use Rattle.swd_bits.specs.declared.request.Request.{Request}
 use Rattle.swd_port.specs.Registers.{ctrl_stat_read, csw_read}
 use Rattle.swd_port.specs.Phases.{phase_number, flipped}
-use Rattle.swd_port.specs.Port.{Port, Register, DpidrRead, CtrlStatRead, ResendRead, RdbuffRead, DpZeroRead, CswRead, TarRead, DrwRead, ApZeroRead, Reset, Live, Line, Drives, Awaits, Drw, Reads, register}
+use Rattle.swd_port.specs.Port.{Port, Target, Tally, Register, DpidrRead, CtrlStatRead, ResendRead, RdbuffRead, DpZeroRead, CswRead, TarRead, DrwRead, ApZeroRead, Live, Line, Drives, Awaits, Drw, Reads, register}
 use Rattle.swd_port.specs.Choices.{Mark, IsMark, flip_of, disturbs, loses, Choice, IsChoice}
-use Rattle.swd_port.specs.Answers.{Reply, Okay, Faults, Silent, is_exempt, is_dpidr, is_okay, is_fault, is_unpowered, answer, reply_under, seen_at, due_after}
+use Rattle.swd_port.specs.Answers.{Reply, Okay, Waits, Faults, Silent, is_exempt, is_dpidr, is_okay, is_unpowered, answer, reply_under, seen_at, due_after}
 use Rattle.swd_port.specs.Completion.{Completes}
 
 -- an AP read or the RDBUFF read: they return the read buffer, and READOK tells of them
@@ -19,12 +19,12 @@ is_posted ApZeroRead = true
 is_posted _ = false
 
 -- the answer of a state where no WAIT is asked for (IHI 0031, B4, "Acknowledge response")
-abbrev pub answer_in : Port → Request → Reply
-answer_in s q = answer s.reset s.sticky_error s.write_error (is_unpowered q.ap s.debug_power) (register s.select q)
+abbrev pub answer_in : Target → Request → Reply
+answer_in x q = answer x.reset x.sticky_error x.write_error (is_unpowered q.ap x.debug_power) (register x.select q)
 
 -- what is answered in a state under a mark (this project's choice)
-abbrev pub reply_in : Mark → Port → Request → Reply
-reply_in mark s q = reply_under mark (register s.select q) (answer_in s q)
+abbrev pub reply_in : Mark → Target → Request → Reply
+reply_in mark x q = reply_under mark (register x.select q) (answer_in x q)
 
 -- The word that a read returns, from what DPIDR and CTRL/STAT give, the last returned value, the read buffer, and the word
 -- that stands for an unknown one. RESEND gives the last returned value again, an AP read and RDBUFF give the read buffer
@@ -37,16 +37,12 @@ value_read DpZeroRead identification status last_returned buffer filler = 0
 value_read r identification status last_returned buffer filler = unwrap_or buffer filler
 
 -- the word of CTRL/STAT in a state (IHI 0031, B2, "CTRL/STAT, Control/Status register")
-abbrev pub status_in : Port → ℕ
-status_in s = ctrl_stat_read s.sticky_error s.read_ok s.write_error s.debug_power s.system_power
+abbrev pub status_in : Target → ℕ
+status_in x = ctrl_stat_read x.sticky_error x.read_ok x.write_error x.debug_power x.system_power
 
--- the word that a read returns in a state; the choice's filler stands for an unknown one (this project's choice)
-abbrev pub value_in : Register → Choice → Port → ℕ
-value_in r c s = value_read r s.identification (status_in s) s.last_returned s.buffer c.filler
-
--- a DPIDR read that is answered makes a fresh target live (IHI 0031, B4, "Connection and line reset sequence")
-abbrev pub reset_after : Reply → Register → Reset → Reset
-reset_after reply r reset = if is_okay reply && is_dpidr r then Live else reset
+-- the word that a read returns in a state; the filler stands for an unknown one (this project's choice)
+abbrev pub value_in : Register → ℕ → Target → ℕ
+value_in r filler x = value_read r x.identification (status_in x) x.last_returned x.buffer filler
 
 -- the data phase that follows an OK; its 33 bits arrive with the changed place
 -- (IHI 0031, B4, "Data transfer"; the changed place: this project's choice)
@@ -56,12 +52,6 @@ phase_after read r flip value = if read then Drives (flipped flip (phase_number 
 -- only an OK is followed by a data phase (IHI 0031, B4, "Acknowledge response")
 abbrev pub line_after : Reply → Line → Line → Line
 line_after reply phase line = if is_okay reply then phase else line
-
--- READOK: whether the last AP read or RDBUFF read that was answered at all was answered OK
--- (IHI 0031, B2, "CTRL/STAT, Control/Status register")
-abbrev pub read_ok_after : Reply → Register → Bool → Bool
-read_ok_after Silent r read_ok = read_ok
-read_ok_after reply r read_ok = if is_posted r then is_okay reply else read_ok
 
 -- the read buffer once a read's value was taken from it: an AP read puts its own result there, DRW when its transfer is done;
 -- RDBUFF leaves it unknown (IHI 0031, B2, "RDBUFF, Read Buffer register"; an unknown TAR is an unknown result)
@@ -77,22 +67,44 @@ abbrev pub pending_once_read : Register → Option Drw → Option Drw
 pending_once_read DrwRead pending = Some Reads
 pending_once_read r pending = pending
 
--- The state after a request that was replied to. An OK to a read has the effects of that read; an OK to a write has
--- those of its data phase, which follows. WAIT changes READOK alone, FAULT also STICKYERR where an AP access has no power,
--- and silence nothing. The three numbers count the request (this project's choice).
+-- The target after an OK: a DPIDR read makes a fresh one live (IHI 0031, B4, "Connection and line reset sequence"), and a read has its
+-- effects. A write has those of its data phase, which follows. READOK tells whether the last AP read or RDBUFF read that was answered
+-- at all was answered OK (IHI 0031, B2, "CTRL/STAT, Control/Status register").
+abbrev pub after_okay : Register → Target → Target
+after_okay r x = record x {
+  reset = if is_dpidr r then Live else x.reset;
+  read_ok = if is_posted r then true else x.read_ok;
+  buffer = buffer_once_read r (csw_read x.increments x.csw_upper) x.tar x.buffer;
+  last_returned = if is_posted r then x.buffer else x.last_returned;
+  pending = pending_once_read r x.pending;
+}
+
+-- after WAIT: nothing but READOK changed (IHI 0031, B4, "WAIT response to read or write operation request")
+abbrev pub after_wait : Register → Target → Target
+after_wait r x = record x { read_ok = if is_posted r then false else x.read_ok }
+
+-- after FAULT: nothing but READOK changed, and STICKYERR where an AP access has no power
+-- (IHI 0031, B4, "FAULT response to read or write operation request"; FAULT for want of power: this project's choice)
+abbrev pub after_fault : Register → Bool → Target → Target
+after_fault r ap x = record x { read_ok = if is_posted r then false else x.read_ok; sticky_error = x.sticky_error || is_unpowered ap x.debug_power }
+
+-- after a reply; silence changes nothing
+abbrev pub target_after : Reply → Register → Bool → Target → Target
+target_after Okay r ap x = after_okay r x
+target_after Waits r ap x = after_wait r x
+target_after Faults r ap x = after_fault r ap x
+target_after Silent r ap x = x
+
+-- one request more, by its mark (this project's choice)
+abbrev pub tally_after : Mark → Tally → Tally
+tally_after mark n = record { asked = n.asked + 1; disturbed = n.disturbed + disturbs mark; lost = n.lost + loses mark }
+
+-- the state after a request that was replied to
 abbrev pub after_reply : Mark → Reply → Register → Request → Choice → Port → Port
-after_reply mark reply r q c s = record s {
-  reset = reset_after reply r s.reset;
-  due = due_after q.read (seen_at mark reply);
-  line = line_after reply (phase_after q.read r (flip_of mark) (value_in r c s)) s.line;
-  sticky_error = s.sticky_error || (is_fault reply && is_unpowered q.ap s.debug_power);
-  read_ok = read_ok_after reply r s.read_ok;
-  buffer = if is_okay reply then buffer_once_read r (csw_read s.increments s.csw_upper) s.tar s.buffer else s.buffer;
-  last_returned = if is_okay reply && is_posted r then s.buffer else s.last_returned;
-  pending = if is_okay reply then pending_once_read r s.pending else s.pending;
-  asked = s.asked + 1;
-  disturbed = s.disturbed + disturbs mark;
-  lost = s.lost + loses mark;
+after_reply mark reply r q c s = record {
+  link = record { due = due_after q.read (seen_at mark reply); line = line_after reply (phase_after q.read r (flip_of mark) (value_in r c.filler s.target)) s.link.line };
+  target = target_after reply r q.ap s.target;
+  tally = tally_after mark s.tally;
 }
 
 -- the pending transfer has to be done before an OK or FAULT to a request that isn't exempt, so that its error makes that
@@ -111,10 +123,10 @@ IsWordRead reply read value = Unit {0}
 pub record AsksNow (mark : Mark) (c : Choice) (s : Port) (q : Request) (seen : ℕ) (t : Port) : Type 0 where
   pub legal : IsMark mark
   pub choice : IsChoice c
-  pub settled : IsSettled (reply_in mark s q) (register s.select q) s.pending
-  pub word : IsWordRead (reply_in mark s q) q.read (value_in (register s.select q) c s)
-  pub sees : seen ≡ seen_at mark (reply_in mark s q)
-  pub after : t ≡ after_reply mark (reply_in mark s q) (register s.select q) q c s
+  pub settled : IsSettled (reply_in mark s.target q) (register s.target.select q) s.target.pending
+  pub word : IsWordRead (reply_in mark s.target q) q.read (value_in (register s.target.select q) c.filler s.target)
+  pub sees : seen ≡ seen_at mark (reply_in mark s.target q)
+  pub after : t ≡ after_reply mark (reply_in mark s.target q) (register s.target.select q) q c s
 
 -- one call of `ask`: some mark, some choice, and completion before and after (IHI 0031, B4, "Packet request")
 abbrev pub Asks : Port → Request → ℕ → Port → Type 0

@@ -1,18 +1,8 @@
 -- What one call of the wire is free in: the damage done to a request, and the choices that the standard leaves to a target.
-use Rattle.std.specs.Prelude.{ℕ, ◌<◌, ◌^◌, Bool, true, false, Option, Some, None}
-
--- The mark of a request: what befalls it. All five are this project's choice.
-pub data Mark : Type 0 where
-  -- nothing
-  Clean : Mark
-  -- WAIT is answered, where it may be
-  Wait : Mark
-  -- one place of the 33 bits of its data phase arrives changed, where it has one; 32 is the parity
-  Flip : (place : ℕ) → Mark
-  -- the target doesn't see the request
-  Deaf : Mark
-  -- the host sees one of the three bits of the acknowledgement changed, where one is driven
-  Mute : (place : ℕ) → Mark
+pub use Rattle.swd_port.specs.declared.mark.Mark.{Mark}
+pub use Rattle.swd_port.specs.declared.mark.Mark.TheVariants.{Clean, Wait, Flip, Deaf, Mute}
+use Rattle.std.specs.Prelude.{ℕ, ◌<◌, ◌^◌, Bool, true, false, Option, Some, None, List}
+use Rattle.std.specs.List.{sum_by}
 
 -- the place is one of the 33 bits, or of the three (this project's choice)
 abbrev pub IsMark : Mark → Type 0
@@ -46,6 +36,13 @@ abbrev pub loses : Mark → ℕ
 loses Deaf = 1
 loses (Mute place) = 1
 loses _ = 0
+
+-- how many of these marks disturb, and how many lose (this project's choice)
+abbrev pub disturbed_among : List Mark → ℕ
+disturbed_among marks = sum_by disturbs marks
+
+abbrev pub lost_among : List Mark → ℕ
+lost_among marks = sum_by loses marks
 
 -- What a target chooses, anew at each use (this project's choice, but for the end of a kilobyte).
 pub record Choice : Type 0 where

@@ -4,7 +4,7 @@ use Rattle.std.specs.Option.{option_map}
 use Rattle.swd_port.specs.declared.access.Access.{Access}
 use Rattle.swd_port.specs.declared.access.Access.TheVariants.{Read, Write}
 use Rattle.swd_port.specs.PlainMemory.{PlainMemory, succeeds_at, word_at, plain_after}
-use Rattle.swd_port.specs.Port.{Port, Drw, Reads, Writes}
+use Rattle.swd_port.specs.Port.{Port, Target, Drw, Reads, Writes}
 use Rattle.swd_port.specs.Choices.{Choice, IsChoice}
 
 -- a DRW transfer at an address, as an access of the plain memory (IHI 0031, MEM-AP, "DRW, Data Read/Write register")
@@ -39,19 +39,22 @@ buffer_after None failed at m buffer = buffer
 buffer_after (Some Reads) failed at m buffer = if failed then None else Some (word_at at m)
 buffer_after (Some (Writes word)) failed at m buffer = if failed then None else buffer
 
--- The state after the pending transfer took effect, at TAR, or at the choice's address where TAR is unknown; as it was where
+-- The target after the pending transfer took effect, at TAR, or at the choice's address where TAR is unknown; as it was where
 -- none is pending. A bus error sets STICKYERR (IHI 0031, B1, "Sticky flags and DP error responses").
-abbrev pub completed : Choice → Port → Port
-completed c s =
-    let at = unwrap_or s.tar c.address in
-    let failed = fails s.pending at s.memory in
-    record s {
-      sticky_error = s.sticky_error || failed;
-      tar = tar_after s.pending failed s.increments c.wraps s.tar;
-      buffer = buffer_after s.pending failed at s.memory s.buffer;
+abbrev pub completion_of : Choice → Target → Target
+completion_of c x =
+    let at = unwrap_or x.tar c.address in
+    let failed = fails x.pending at x.memory in
+    record x {
+      sticky_error = x.sticky_error || failed;
+      tar = tar_after x.pending failed x.increments c.wraps x.tar;
+      buffer = buffer_after x.pending failed at x.memory x.buffer;
       pending = None;
-      memory = memory_after s.pending at s.memory;
+      memory = memory_after x.pending at x.memory;
     }
+
+abbrev pub completed : Choice → Port → Port
+completed c s = record s { target = completion_of c s.target }
 
 -- it may take effect now, or not yet (when it does is this project's choice)
 abbrev pub Completes : Port → Port → Type 0

@@ -27,10 +27,8 @@ abbrev pub after_lead : ℕ → Port → Port
 after_lead ones s =
     let resets = not (ones == 0) in
     record s {
-      reset = if resets then Fresh else s.reset;
-      due = Nothing;
-      line = if resets then Idle else s.line;
-      write_error = s.write_error || (resets && is_awaiting s.line);
+      link = record { due = Nothing; line = if resets then Idle else s.link.line };
+      target = record s.target { reset = if resets then Fresh else s.target.reset; write_error = (resets && is_awaiting s.link.line) || s.target.write_error };
     }
 
 -- one call of `lead`, and completion before and after (IHI 0031, B4, "Connection and line reset sequence")

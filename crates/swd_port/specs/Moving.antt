@@ -4,7 +4,7 @@ use Rattle.swd_port.specs.declared.wire.Due.TheVariants.{Nothing}
 use Rattle.swd_port.specs.declared.select.Select.{Select}
 use Rattle.swd_port.specs.Registers.{bit_of, select_of, csw_of}
 use Rattle.swd_port.specs.Phases.{word_in, flipped, undriven}
-use Rattle.swd_port.specs.Port.{Port, Register, AbortWrite, CtrlStatWrite, SelectWrite, CswWrite, TarWrite, DrwWrite, ApIgnoredWrite, Line, Idle, Drives, Awaits, Drw, Writes}
+use Rattle.swd_port.specs.Port.{Port, Target, idle_link, Register, AbortWrite, CtrlStatWrite, SelectWrite, CswWrite, TarWrite, DrwWrite, ApIgnoredWrite, Line, Drives, Awaits, Drw, Writes}
 use Rattle.swd_port.specs.Completion.{Completes}
 
 -- the 33 bits that the host gets (IHI 0031, B4, "Data transfer"); an undriven line reads 1 (this project's choice)
@@ -14,11 +14,11 @@ bits_driven line = undriven
 
 -- the host took the 33 bits of a read: nothing else changes (IHI 0031, B4, "Successful read operation")
 abbrev pub after_take : Port → Port
-after_take s = record s { due = Nothing; line = Idle }
+after_take s = record s { link = idle_link }
 
 -- one call of `take`, and completion before and after (IHI 0031, B4, "Successful read operation")
 pub record TakesNow (s : Port) (bits : ℕ) (t : Port) : Type 0 where
-  pub gets : bits ≡ bits_driven s.line
+  pub gets : bits ≡ bits_driven s.link.line
   pub after : t ≡ after_take s
 
 abbrev pub Takes : Port → ℕ → Port → Type 0
@@ -70,7 +70,7 @@ sticky_error_after a flag = flag
 -- (IHI 0031, B4, "Data transfer", and B2, "ABORT, AP Abort register"; that it holds for ABORT: this project's choice)
 abbrev pub write_error_after : Arrival → Bool → Bool
 write_error_after (Arrives AbortWrite word) flag = flag && not (bit_of 3 word)
-write_error_after a flag = flag || is_damaged a
+write_error_after a flag = is_damaged a || flag
 
 -- CTRL/STAT stores its bits 28 and 30, the power requests (IHI 0031, B2, "CTRL/STAT, Control/Status register"; no others: this project's choice)
 abbrev pub power_after : ℕ → Arrival → Bool → Bool
@@ -98,41 +98,46 @@ abbrev pub tar_written : Arrival → Option ℕ → Option ℕ
 tar_written (Arrives TarWrite word) tar = Some word
 tar_written a tar = tar
 
--- a DRW write is pending once its data arrived (IHI 0031, MEM-AP, "DRW, Data Read/Write register")
+-- a DRW write is pending once its data after_bits (IHI 0031, MEM-AP, "DRW, Data Read/Write register")
 abbrev pub pending_after : Arrival → Option Drw → Option Drw
 pending_after (Arrives DrwWrite word) pending = Some (Writes word)
 pending_after a pending = pending
 
--- the state after the 33 bits of a write: the write is done where their parity is right, else not, and WDATAERR is set
+-- the target after the 33 bits of a write: the write is done where their parity is right, else not, and WDATAERR is set
 -- (IHI 0031, B4, "Data transfer")
-abbrev pub after_arrival : Arrival → Port → Port
-after_arrival a s = record s {
-  due = Nothing;
-  line = Idle;
-  sticky_error = sticky_error_after a s.sticky_error;
-  write_error = write_error_after a s.write_error;
-  debug_power = power_after 28 a s.debug_power;
-  system_power = power_after 30 a s.system_power;
-  select = select_after a s.select;
-  increments = increments_after a s.increments;
-  csw_upper = csw_upper_after a s.csw_upper;
-  tar = tar_written a s.tar;
-  buffer = forgotten a s.buffer;
-  last_returned = forgotten a s.last_returned;
-  pending = pending_after a s.pending;
+abbrev pub after_bits : Arrival → Target → Target
+after_bits a x = record x {
+  sticky_error = sticky_error_after a x.sticky_error;
+  write_error = write_error_after a x.write_error;
+  debug_power = power_after 28 a x.debug_power;
+  system_power = power_after 30 a x.system_power;
+  select = select_after a x.select;
+  increments = increments_after a x.increments;
+  csw_upper = csw_upper_after a x.csw_upper;
+  tar = tar_written a x.tar;
+  buffer = forgotten a x.buffer;
+  last_returned = forgotten a x.last_returned;
+  pending = pending_after a x.pending;
 }
+
+abbrev pub after_arrival : Arrival → Port → Port
+after_arrival a s = record s { link = idle_link; target = after_bits a s.target }
 
 -- one call of `give`, and completion before and after (IHI 0031, B4, "Successful write operation")
 pub record GivesNow (s : Port) (sent : ℕ) (t : Port) : Type 0 where
-  pub after : t ≡ after_arrival (arrival s.line sent) s
+  pub after : t ≡ after_arrival (arrival s.link.line sent) s
 
 abbrev pub Gives : Port → ℕ → Port → Type 0
 Gives s sent t = (a : Port) × (b : Port) × Completes s a × GivesNow a sent b × Completes b t
 
+-- the turnaround after WAIT or FAULT
+abbrev pub after_pass : Port → Port
+after_pass s = record s { link = record s.link { due = Nothing } }
+
 -- one call of `pass`, and completion before and after: the turnaround after WAIT or FAULT changes nothing at the target
 -- (IHI 0031, B4, "WAIT response to read or write operation request")
 pub record PassesNow (s t : Port) : Type 0 where
-  pub after : t ≡ record s { due = Nothing }
+  pub after : t ≡ after_pass s
 
 abbrev pub Passes : Port → Port → Type 0
 Passes s t = (a : Port) × (b : Port) × Completes s a × PassesNow a b × Completes b t

@@ -1,6 +1,8 @@
 -- Data phases as numbers of 33 bits, the first bit least significant: IHI 0031, B4, "Data transfer".
 -- `phases` of this crate proves that they are the phases of swd_bits.
-use Rattle.std.specs.Prelude.{ℕ, zero, suc, ◌+◌, ◌*◌, ◌-◌, ◌%◌, ◌^◌, ◌==◌, Bool, not, List, [], ◌∷◌, Option, Some, None, if◌then◌else◌, count_ones, bit_xor}
+use Rattle.std.specs.Prelude.{ℕ, ◌≡◌, ◌≢◌, ◌<◌, zero, suc, ◌+◌, ◌*◌, ◌-◌, ◌%◌, ◌^◌, ◌==◌, Bool, not, List, [], ◌∷◌, Option, Some, None, if◌then◌else◌, count_ones, bit_xor}
+use Rattle.swd_bits.specs.Bits.{low_bits}
+use Rattle.swd_bits.specs.Wire.{phase}
 
 -- the phase of a word: the word, and above it its parity, 1 where the word has an odd number of ones
 abbrev pub phase_number : ℕ → ℕ
@@ -24,3 +26,10 @@ abbrev pub flip_at : ℕ → List Bool → List Bool
 flip_at place [] = []
 flip_at zero (b ∷ bits) = not b ∷ bits
 flip_at (suc place) (b ∷ bits) = b ∷ flip_at place bits
+
+-- 33 bits that are the phase of this word, and 33 bits that are no word's phase
+abbrev pub IsPhaseOf : ℕ → ℕ → Type 0
+IsPhaseOf word bits = phase word ≡ low_bits 33 bits
+
+abbrev pub IsNoPhase : ℕ → Type 0
+IsNoPhase bits = (word : ℕ) → word < 2 ^ 32 → phase word ≢ low_bits 33 bits

@@ -1,5 +1,13 @@
 -- The state of the port machine: a debug port of ADIv5.2 with one memory access port, AP 0.
-use Rattle.std.specs.Prelude.{ℕ, ◌==◌, ◌&&◌, Bool, true, false, Option, Some, None, if◌then◌else◌}
+pub use Rattle.swd_port.specs.declared.register.Register.{Register}
+pub use Rattle.swd_port.specs.declared.register.Register.TheVariants.{DpidrRead, AbortWrite, CtrlStatRead, CtrlStatWrite, SelectWrite, ResendRead, RdbuffRead, DpZeroRead, DpIgnoredWrite, CswRead, CswWrite, TarRead, TarWrite, DrwRead, DrwWrite, ApZeroRead, ApIgnoredWrite}
+pub use Rattle.swd_port.specs.declared.state.Reset.{Reset}
+pub use Rattle.swd_port.specs.declared.state.Reset.TheVariants.{Unreset, Fresh, Live}
+pub use Rattle.swd_port.specs.declared.state.Drw.{Drw}
+pub use Rattle.swd_port.specs.declared.state.Drw.TheVariants.{Reads, Writes}
+pub use Rattle.swd_port.specs.declared.state.Line.{Line}
+pub use Rattle.swd_port.specs.declared.state.Line.TheVariants.{Idle, Drives, Awaits}
+use Rattle.std.specs.Prelude.{ℕ, ◌==◌, ◌&&◌, not, Bool, true, false, Option, Some, None, if◌then◌else◌}
 use Rattle.swd_bits.specs.declared.request.Request.{Request}
 use Rattle.swd_bits.specs.declared.request.Reg4.{Reg4}
 use Rattle.swd_bits.specs.declared.request.Reg4.TheVariants.{R0, R4, R8, RC}
@@ -7,17 +15,6 @@ use Rattle.swd_port.specs.declared.wire.Due.{Due}
 use Rattle.swd_port.specs.declared.wire.Due.TheVariants.{Nothing}
 use Rattle.swd_port.specs.declared.select.Select.{Select}
 use Rattle.swd_port.specs.PlainMemory.{PlainMemory}
-
--- What a request asks for, once SELECT is known: a register, and a direction.
-pub data Register : Type 0 where
-  -- of the debug port (IHI 0031, B2, "DP register descriptions")
-  DpidrRead AbortWrite CtrlStatRead CtrlStatWrite SelectWrite ResendRead RdbuffRead : Register
-  -- of the debug port, where nothing stands: reads 0, ignores writes (this project's choice)
-  DpZeroRead DpIgnoredWrite : Register
-  -- of the access port (IHI 0031, MEM-AP, "MEM-AP register descriptions")
-  CswRead CswWrite TarRead TarWrite DrwRead DrwWrite : Register
-  -- of the access port, where nothing stands: reads 0, ignores writes (this project's choice)
-  ApZeroRead ApIgnoredWrite : Register
 
 -- the debug port's registers by direction, address and whether DPBANKSEL is 0, on which address 4 alone depends
 abbrev pub dp_register : Bool → Reg4 → Bool → Register
@@ -58,37 +55,36 @@ ap_register s read addr = if is_mem_ap s then mem_ap_register read addr else no_
 abbrev pub register : Select → Request → Register
 register s q = if q.ap then ap_register s q.read q.addr else dp_register q.read q.addr (s.dpbanksel == 0)
 
--- Whether the target answers: IHI 0031, B4, "Connection and line reset sequence".
-pub data Reset : Type 0 where
-  -- there was no line reset yet
-  Unreset : Reset
-  -- there was no DPIDR read since the last one
-  Fresh : Reset
-  -- there was
-  Live : Reset
+-- a SELECT under which there is a request for this register: in bank 0 for CTRL/STAT, in any other for the debug port's zeros,
+-- and in bank 0 of AP 0 for the registers that stand there
+abbrev pub is_reached : Select → Register → Bool
+is_reached s CtrlStatRead = s.dpbanksel == 0
+is_reached s CtrlStatWrite = s.dpbanksel == 0
+is_reached s DpZeroRead = not (s.dpbanksel == 0)
+is_reached s CswRead = is_mem_ap s
+is_reached s CswWrite = is_mem_ap s
+is_reached s TarRead = is_mem_ap s
+is_reached s TarWrite = is_mem_ap s
+is_reached s DrwRead = is_mem_ap s
+is_reached s DrwWrite = is_mem_ap s
+is_reached s r = true
 
--- What the target does in the data phase that follows its OK.
-pub data Line : Type 0 where
-  -- there is none: it waits for a request
-  Idle : Line
-  -- it drives 33 bits; this is the number of those that the host gets
-  Drives : (bits : ℕ) → Line
-  -- it awaits the 33 bits of this write; one place is changed on the way, or none
-  Awaits : (write : Register) (flip : Option ℕ) → Line
-
--- A transfer by DRW that was accepted and is not done yet; its address is what TAR is then.
-pub data Drw : Type 0 where
-  Reads : Drw
-  Writes : (word : ℕ) → Drw
-
--- The port state. `None` in TAR, the read buffer and the last returned value: it is unknown, and any word may stand for it, anew at each use.
-pub record Port : Type 0 where
-  -- whether requests are answered
-  pub reset : Reset
+-- What stands between the host and the target.
+pub record Link : Type 0 where
   -- what has to come next, as the host sees it
   pub due : Due
   -- what the target drives or awaits
   pub line : Line
+
+-- Nothing is due, and the target neither drives nor awaits.
+abbrev pub idle_link : Link
+idle_link = record { due = Nothing; line = Idle }
+
+-- What the target is in. `None` in TAR, the read buffer and the last returned value: it is unknown, and any word may stand for it,
+-- anew at each use.
+pub record Target : Type 0 where
+  -- whether requests are answered
+  pub reset : Reset
   -- CTRL/STAT: STICKYERR, WDATAERR, READOK, and the requests for debug and for system power
   pub sticky_error : Bool
   pub write_error : Bool
@@ -112,17 +108,23 @@ pub record Port : Type 0 where
   pub identification : ℕ
   -- the memory behind the access port
   pub memory : PlainMemory
-  -- beside the state: the requests so far, how many were disturbed, and how many were lost, by their marks
+
+-- Beside the state: the requests so far, how many were disturbed, and how many were lost, by their marks.
+pub record Tally : Type 0 where
   pub asked : ℕ
   pub disturbed : ℕ
   pub lost : ℕ
 
--- the state before any call, with any identification and memory (this project's choice)
-abbrev pub made : ℕ → PlainMemory → Port
-made identification memory = record {
+-- The port state.
+pub record Port : Type 0 where
+  pub link : Link
+  pub target : Target
+  pub tally : Tally
+
+-- the target before any call, with any identification and memory (this project's choice)
+abbrev pub made_target : ℕ → PlainMemory → Target
+made_target identification memory = record {
   reset = Unreset;
-  due = Nothing;
-  line = Idle;
   sticky_error = false;
   write_error = false;
   read_ok = false;
@@ -137,7 +139,8 @@ made identification memory = record {
   pending = None;
   identification = identification;
   memory = memory;
-  asked = 0;
-  disturbed = 0;
-  lost = 0;
 }
+
+-- the state before any call (this project's choice)
+abbrev pub made : ℕ → PlainMemory → Port
+made identification memory = record { link = idle_link; target = made_target identification memory; tally = record { asked = 0; disturbed = 0; lost = 0 } }

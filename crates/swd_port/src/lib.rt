@@ -6,9 +6,11 @@ mod access;
 mod count;
 mod csw;
 mod ctrl_stat;
-mod host_laws;
-mod laws;
+pub mod laws;
+mod mark;
+mod register;
 mod select;
+mod state;
 mod wire;
 
 pub use abort::Abort;
@@ -16,11 +18,10 @@ pub use access::{Access, Answer, Transfer};
 pub use count::Count;
 pub use csw::Csw;
 pub use ctrl_stat::CtrlStat;
-pub use host_laws::{
-    accesses, calls, completion, data_phases, line_resets, requests, transfers, words_read,
-};
-pub use laws::{answers, phases, registers};
+pub use mark::Mark;
+pub use register::Register;
 pub use select::Select;
+pub use state::{Drw, Line, Reply, Reset};
 pub use wire::{Due, Wire};
 
 #[cfg(test)]

@@ -57,12 +57,3 @@ fn fields_stand_at_their_places(rt: HostRuntime) {
     assert_eq!(rt; Csw::of(0x2300_0052), csw);
     assert_eq!(rt; csw.bits(), 0x2300_0052);
 }
-
-#[test]
-fn a_count_is_made_and_ticks() {
-    let mut count = Count::new();
-    count.tick();
-    phases();
-    answers();
-    registers();
-}

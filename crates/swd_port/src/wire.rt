@@ -1,7 +1,8 @@
 //! The wire between a host and a target, with the law that the other end keeps.
-ghost use Rattle.std.specs.Prelude.{◌≡◌, ◌<◌, ◌^◌};
+ghost use Rattle.std.specs.Prelude.{◌≡◌, ◌<◌, ◌^◌, List, []};
 ghost use Rattle.swd_port.specs.declared.wire.Due.TheVariants.{Nothing, Take, Give, Pass};
 ghost use Rattle.swd_port.specs.Port.{Port};
+ghost use Rattle.swd_port.specs.Choices.{Mark};
 ghost use Rattle.swd_port.specs.Leading.{MayLead, Leads};
 ghost use Rattle.swd_port.specs.Asking.{Asks};
 ghost use Rattle.swd_port.specs.Moving.{Takes, Gives, Passes};
@@ -31,38 +32,77 @@ pub trait Wire {
     /// The port machine at the other end, and the numbers of requests so far.
     ghost port: { Self → Port };
 
+    /// The marks that a simulated end was made with, or none. No call changes them. The law gives
+    /// them no meaning: each request has a mark of its own, freely chosen.
+    ghost plan: { Self → List Mark } = { λ _. [] };
+
     /// What has to come next.
     fn due(&self) -> Due
-        ensures { result ≡ (port self.now).due };
+        ensures { result ≡ (port self.now).link.due };
 
     /// Drives `ones` cycles high, with `switch` then the sixteen bits 0111100111100111 and the ones
     /// again, and then `zeros` cycles low. With ones this is a line reset. Where something other
     /// than `Due::Nothing` was due, the first 34 of the ones are left undriven.
     fn lead(&mut self, ones: u32, switch: bool, zeros: u32)
-        requires { MayLead (port self.old).due ones switch zeros }
-        ensures { Leads (port self.old) ones (port self.new) };
+        requires { MayLead (port self.old).link.due ones switch zeros }
+        ensures step { Leads (port self.old) ones (port self.new) }
+        ensures plan { plan self.new ≡ plan self.old };
 
     /// Sends the eight bits of a request, and after a turnaround sees three bits: 1 is OK, 2 WAIT,
     /// 4 FAULT, and every other number is no acknowledgement.
     fn ask(&mut self, request: Request) -> u8
-        requires { (port self.old).due ≡ Nothing }
+        requires { (port self.old).link.due ≡ Nothing }
         ensures range { result < 8 }
-        ensures step { Asks (port self.old) request result (port self.new) };
+        ensures step { Asks (port self.old) request result (port self.new) }
+        ensures plan { plan self.new ≡ plan self.old };
 
     /// Takes the 33 bits of a read's data phase, and the turnaround.
     fn take(&mut self) -> u64
-        requires { (port self.old).due ≡ Take }
+        requires { (port self.old).link.due ≡ Take }
         ensures range { result < 2 ^ 33 }
-        ensures step { Takes (port self.old) result (port self.new) };
+        ensures step { Takes (port self.old) result (port self.new) }
+        ensures plan { plan self.new ≡ plan self.old };
 
     /// Sends the turnaround and the 33 bits of a write's data phase.
     fn give(&mut self, bits: u64)
-        requires due { (port self.old).due ≡ Give }
+        requires due { (port self.old).link.due ≡ Give }
         requires range { bits < 2 ^ 33 }
-        ensures { Gives (port self.old) bits (port self.new) };
+        ensures step { Gives (port self.old) bits (port self.new) }
+        ensures plan { plan self.new ≡ plan self.old };
 
     /// The turnaround after WAIT or FAULT.
     fn pass(&mut self)
-        requires { (port self.old).due ≡ Pass }
-        ensures { Passes (port self.old) (port self.new) };
+        requires { (port self.old).link.due ≡ Pass }
+        ensures step { Passes (port self.old) (port self.new) }
+        ensures plan { plan self.new ≡ plan self.old };
+}
+
+impl<W: Wire> Wire for &mut W {
+    ghost port = { λ wire. W.Wire.port wire.now };
+
+    ghost plan = { λ wire. W.Wire.plan wire.now };
+
+    fn due(&self) -> Due {
+        (**self).due()
+    }
+
+    fn lead(&mut self, ones: u32, switch: bool, zeros: u32) {
+        (**self).lead(ones, switch, zeros)
+    }
+
+    fn ask(&mut self, request: Request) -> u8 {
+        (**self).ask(request)
+    }
+
+    fn take(&mut self) -> u64 {
+        (**self).take()
+    }
+
+    fn give(&mut self, bits: u64) {
+        (**self).give(bits)
+    }
+
+    fn pass(&mut self) {
+        (**self).pass()
+    }
 }

@@ -1,66 +1,165 @@
--- What a bench does at a request is a step of the port machine.
-use Rattle.std.proofs.Common.{◌≡◌, Bool, true, false, ℕ, ◌+◌, refl, sym, ap, subst, ◌∙◌, inl, inr}
+-- What a simulated target does at a request is a step of the port machine, and exactly the step that its quirks and the mark choose.
+use Rattle.std.proofs.Common.{◌≡◌, Bool, true, false, ℕ, ◌+◌, Option, None, refl, sym, ap, subst, ◌∙◌, inl, inr, if◌then◌else◌}
 use Rattle.swd_bits.specs.declared.request.Request.{Request}
-use Rattle.swd_port.specs.Port.{Port, Register, register}
-use Rattle.swd_port.specs.Choices.{Mark, IsMark, flip_of, disturbs, loses, Choice, IsChoice}
-use Rattle.swd_port.specs.Answers.{Reply, answer, reply_under, is_unpowered, seen_at, due_after}
-use Rattle.swd_port.specs.Moving.{Gives}
-use Rattle.swd_port.specs.Asking.{Asks, AsksNow, IsSettled, IsWordRead, value_in, line_after, phase_after, after_reply}
-use Rattle.swd_target.specs.declared.quirks.Quirks.{Quirks}
-use Rattle.swd_target.specs.Targets.{replied, is_owed, SettlesIf, TakesEffect}
-use Rattle.swd_target.specs.Benches.{Beside, with_beside, AsksBy, GivesBy}
-use Rattle.swd_target.proofs.TargetLemmas.{completes_if, completes_effect}
+use Rattle.swd_port.specs.Port.{Port, Link, idle_link, Tally, Target as State, register}
+use Rattle.swd_port.specs.declared.wire.Due.{Due}
+use Rattle.swd_port.specs.declared.mark.Mark.{Mark}
+use Rattle.swd_port.specs.declared.mark.Mark.TheVariants.{Deaf}
+use Rattle.swd_port.specs.declared.register.Register.{Register}
+use Rattle.swd_port.specs.declared.state.Line.{Line}
+use Rattle.swd_port.specs.declared.state.Line.TheVariants.{Idle}
+use Rattle.swd_port.specs.declared.state.Reply.{Reply}
+use Rattle.swd_port.specs.declared.state.Reply.TheVariants.{Okay, Waits, Faults, Silent}
+use Rattle.swd_port.specs.Choices.{IsMark, is_deaf, is_wait, flip_of, disturbs, loses, Choice, IsChoice}
+use Rattle.swd_port.specs.Answers.{reply_under, is_okay, seen_at, due_after}
+use Rattle.swd_port.specs.Completion.{Completes}
+use Rattle.swd_port.specs.Asking.{Asks, AsksNow, IsSettled, IsWordRead, value_in, line_after, phase_after, after_reply, target_after, tally_after}
+use Rattle.swd_port.specs.Moving.{Gives, GivesNow, Arrival, after_bits, arrival}
+use Rattle.swd_target.specs.declared.target.Target.{Target}
+use Rattle.swd_target.specs.Flips.{line_flipped, line_under}
+use Rattle.swd_target.specs.Simulations.{Simulation, stepped, transferred, accepted, is_owed, settled, reply_to, phase_to, link_after, asked}
+use Rattle.swd_target.specs.Targets.{state_of, simulation, stand_in, choice_for, answer_at, reply_when, settled_when}
+use Rattle.swd_target.specs.Requests.{port_at, Transfers, AsksUnder, AnswersUnder, DataComes}
+use Rattle.swd_target.proofs.TargetLemmas.{is_choice}
 
--- what a bench has beside its target is left alone where a transfer takes effect
-settles_beside : (quirks : Quirks) (owed : Bool) (e : Beside) (s t : Port) → SettlesIf quirks owed s t → SettlesIf quirks owed (with_beside e s) (with_beside e t)
-settles_beside quirks owed e s t (inl same) = inl (ap (with_beside e) same)
-settles_beside quirks owed e s t (inr (c, chosen, is, so)) = inr (c, chosen, ap (with_beside e) is, so)
+-- Flip and Mute leave the reply alone
+same_reply : (mark : Mark) (waits : Bool) (r : Register) (a : Reply) → is_deaf mark ≡ false → is_wait mark ≡ waits → reply_under mark r a ≡ reply_when waits r a
+same_reply mark waits r a deaf wait = rw (deaf, wait) refl
 
-pub effect_beside : (quirks : Quirks) (late : Bool) (e : Beside) (s t : Port) → TakesEffect quirks late s t → TakesEffect quirks late (with_beside e s) (with_beside e t)
-effect_beside quirks true e s t same = ap (with_beside e) same
-effect_beside quirks false e s t (c, chosen, is) = (c, chosen, ap (with_beside e) is)
+-- the data phase under a mark, in place of another line
+phase_under : (reply : Reply) (read : Bool) (r : Register) (flip : Option ℕ) (v : ℕ) (line : Line)
+    → line_after reply (line_flipped flip (line_after reply (phase_after read r None v) Idle)) line ≡ line_after reply (phase_after read r flip v) line
+phase_under Okay true r flip v line = refl
+phase_under Okay false r flip v line = refl
+phase_under Waits read r flip v line = refl
+phase_under Faults read r flip v line = refl
+phase_under Silent read r flip v line = refl
 
--- what a bench has beside its target after a reply, where a read returns this value
-abbrev pub beside_after : Mark → Reply → Register → Request → ℕ → Beside → Beside
-beside_after mark reply r q value e = record {
-  due = due_after q.read (seen_at mark reply);
-  line = line_after reply (phase_after q.read r (flip_of mark) value) e.line;
-  asked = e.asked + 1;
-  disturbed = e.disturbed + disturbs mark;
-  lost = e.lost + loses mark;
-}
+phase_idle : (reply : Reply) (read : Bool) (r : Register) (flip : Option ℕ) (v : ℕ)
+    → line_flipped flip (line_after reply (phase_after read r None v) Idle) ≡ line_after reply (phase_after read r flip v) Idle
+phase_idle Okay true r flip v = refl
+phase_idle Okay false r flip v = refl
+phase_idle Waits read r flip v = refl
+phase_idle Faults read r flip v = refl
+phase_idle Silent read r flip v = refl
+
+-- a transfer that takes effect at a target does so in the port machine
+pub completes_at : (l : Link) (n : Tally) (s t : State) → Transfers s t → Completes (port_at l n s) (port_at l n t)
+completes_at l n s t (inl same) = inl (ap (port_at l n) same)
+completes_at l n s t (inr (c, legal, is)) = inr (c, legal, ap (port_at l n) is)
 
 -- the reply in a state to what this is a request for
-abbrev pub reply_at : Mark → Register → Request → Port → Reply
-reply_at mark r q s = reply_under mark r (answer s.reset s.sticky_error s.write_error (is_unpowered q.ap s.debug_power) r)
+abbrev pub reply_at : Mark → Register → Request → State → Reply
+reply_at mark r q s = reply_under mark r (answer_at r q.ap s)
 
-pub asks_by : (quirks : Quirks) (e e' : Beside) (s a b t : Port) (mark : Mark) (r : Register) (reply : Reply) (c : Choice) (q : Request) (seen : ℕ)
-    → IsMark mark → IsChoice c → SettlesIf quirks (is_owed r reply) s a → register a.select q ≡ r → reply_at mark r q a ≡ reply
-    → IsSettled reply r a.pending → IsWordRead reply q.read (value_in r c a) → seen ≡ seen_at mark reply
-    → e' ≡ beside_after mark reply r q (value_in r c a) e → b ≡ replied reply r q.ap a → TakesEffect quirks quirks.late b t
-    → AsksBy quirks mark (with_beside e s) q seen (with_beside e' t)
-asks_by quirks e e' s a b t mark r reply c q seen legal choice before named replies settled word sees beside after later =
+asks_under : (l : Link) (n : Tally) (s a b t : State) (mark : Mark) (r : Register) (reply : Reply) (c : Choice) (q : Request) (phase : Line)
+    → IsMark mark → IsChoice c → Transfers s a → register a.select q ≡ r → reply_at mark r q a ≡ reply → IsSettled reply r a.pending
+    → IsWordRead reply q.read (value_in r c.filler a) → line_after reply phase l.line ≡ line_after reply (phase_after q.read r (flip_of mark) (value_in r c.filler a)) l.line
+    → b ≡ target_after reply r q.ap a → Transfers b t
+    → AsksUnder mark (port_at l n s) q (seen_at mark reply) (port_at (link_after mark q reply phase l) (tally_after mark n) t)
+asks_under l n s a b t mark r reply c q phase legal choice before named replies settled word line after later =
+    let k : Link = link_after mark q reply phase l in
     let P = λ (x : Register). IsSettled (reply_at mark x q a) x a.pending in
-    let V = λ (x : Register). IsWordRead (reply_at mark x q a) q.read (value_in x c a) in
-    let S = λ (x : Register). seen ≡ seen_at mark (reply_at mark x q a) in
-    let T = λ (x : Register). with_beside e' b ≡ after_reply mark (reply_at mark x q a) x q c (with_beside e a) in
-    let whole : with_beside e' b ≡ after_reply mark reply r q c (with_beside e a) = ap (λ x. with_beside x b) beside ∙ ap (with_beside (beside_after mark reply r q (value_in r c a) e)) after in
-    let now : AsksNow mark c (with_beside e a) q seen (with_beside e' b) =
+    let V = λ (x : Register). IsWordRead (reply_at mark x q a) q.read (value_in x c.filler a) in
+    let S = λ (x : Register). seen_at mark reply ≡ seen_at mark (reply_at mark x q a) in
+    let T = λ (x : Register). port_at k (tally_after mark n) b ≡ after_reply mark (reply_at mark x q a) x q c (port_at l n a) in
+    let whole : port_at k (tally_after mark n) b ≡ after_reply mark reply r q c (port_at l n a) =
+    ap (port_at k (tally_after mark n)) after ∙ ap (λ (x : Line). port_at (record k { line = x }) (tally_after mark n) (target_after reply r q.ap a)) line in
+    let now : AsksNow mark c (port_at l n a) q (seen_at mark reply) (port_at k (tally_after mark n) b) =
     record {
       legal = legal;
       choice = choice;
       settled = subst P (sym named) (subst (λ x. IsSettled x r a.pending) (sym replies) settled);
-      word = subst V (sym named) (subst (λ x. IsWordRead x q.read (value_in r c a)) (sym replies) word);
-      sees = subst S (sym named) (sees ∙ ap (seen_at mark) (sym replies));
-      after = subst T (sym named) (whole ∙ ap (λ x. after_reply mark x r q c (with_beside e a)) (sym replies));
+      word = subst V (sym named) (subst (λ x. IsWordRead x q.read (value_in r c.filler a)) (sym replies) word);
+      sees = subst S (sym named) (ap (seen_at mark) (sym replies));
+      after = subst T (sym named) (whole ∙ ap (λ x. after_reply mark x r q c (port_at l n a)) (sym replies));
     } in
-    let O = λ (x : Register). SettlesIf quirks (is_owed x (reply_at mark x q a)) (with_beside e s) (with_beside e a) in
-    let settles = subst O (sym named) (subst (λ x. SettlesIf quirks (is_owed r x) (with_beside e s) (with_beside e a)) (sym replies) (settles_beside quirks (is_owed r reply) e s a before)) in
-    (with_beside e a, with_beside e' b, c, settles, now, effect_beside quirks quirks.late e' b t later)
+    (port_at l n a, port_at k (tally_after mark n) b, c, completes_at l n s a before, now, completes_at k (tally_after mark n) b t later)
 
--- a bench keeps the law of the wire
-pub asks_lawful : (quirks : Quirks) (mark : Mark) (s : Port) (q : Request) (seen : ℕ) (t : Port) → AsksBy quirks mark s q seen t → Asks s q seen t
-asks_lawful quirks mark s q seen t (a, b, c, settles, now, effect) = (a, b, mark, c, completes_if quirks _ s a settles, now, completes_effect quirks quirks.late b t effect)
+settled_at : (mark : Mark) (waits : Bool) (q : Request) (s : Simulation) → is_deaf mark ≡ false → is_wait mark ≡ waits
+    → settled mark q s ≡ settled_when waits (register s.state.select q) q.ap s
+settled_at mark waits q s deaf wait =
+    let r = register s.state.select q in
+    ap (λ (x : Reply). if is_owed r x then transferred s else s) (same_reply mark waits r (answer_at r q.ap (transferred s).state) deaf wait)
 
-pub gives_lawful : (quirks : Quirks) (s : Port) (sent : ℕ) (t : Port) → GivesBy quirks s sent t → Gives s sent t
-gives_lawful quirks s sent t (a, now, effect) = (s, a, inl refl, now, completes_effect quirks quirks.late a t effect)
+-- the simulated target after a reply
+abbrev pub after_now : Request → Simulation → Reply → Register → Simulation
+after_now q a reply r =
+    let t = stepped (λ c. target_after reply r q.ap) a in
+    if is_okay reply then accepted t else t
+
+-- what a request is exactly, from its parts
+pub record Exactly (mark : Mark) (q : Request) (s t : Simulation) (reply : Reply) (phase : Line) : Type 0 where
+  pub replies : reply ≡ reply_to mark q s
+  pub phases : phase ≡ phase_to mark q s
+  pub exact : t ≡ asked mark q s
+
+asks_exactly : (mark : Mark) (waits : Bool) (q : Request) (s a b t : Simulation) (r : Register) (reply : Reply) (phase : Line)
+    → is_deaf mark ≡ false → is_wait mark ≡ waits → register s.state.select q ≡ r → a ≡ settled_when waits r q.ap s → register a.state.select q ≡ r
+    → reply ≡ reply_when waits r (answer_at r q.ap a.state) → phase ≡ line_after reply (phase_after q.read r None (value_in r a.quirks.filler a.state)) Idle
+    → b ≡ stepped (λ c. target_after reply r q.ap) a → t ≡ (if is_okay reply then accepted b else b)
+    → Exactly mark q s t reply (line_under mark phase)
+asks_exactly mark waits q s a b t r reply phase deaf wait named settles same replies phases after last =
+    let S : settled mark q s ≡ a =
+    subst (λ (x : Register). settled mark q s ≡ settled_when waits x q.ap s) named (settled_at mark waits q s deaf wait) ∙ sym settles in
+    let is : reply ≡ reply_under mark r (answer_at r q.ap a.state) = replies ∙ sym (same_reply mark waits r (answer_at r q.ap a.state) deaf wait) in
+    let there : reply ≡ reply_under mark (register a.state.select q) (answer_at (register a.state.select q) q.ap a.state) =
+    subst (λ (x : Register). reply ≡ reply_under mark x (answer_at x q.ap a.state)) (sym same) is in
+    let told : reply ≡ reply_to mark q s =
+    subst (λ (x : Simulation). reply ≡ reply_under mark (register x.state.select q) (answer_at (register x.state.select q) q.ap x.state)) (sym S) there in
+    let lines : line_under mark phase ≡ line_after reply (phase_after q.read r (flip_of mark) (value_in r a.quirks.filler a.state)) Idle =
+    ap (line_under mark) phases ∙ phase_idle reply q.read r (flip_of mark) (value_in r a.quirks.filler a.state) in
+    let lined : line_under mark phase ≡ line_after reply (phase_after q.read (register a.state.select q) (flip_of mark) (value_in (register a.state.select q) a.quirks.filler a.state)) Idle =
+    subst (λ (x : Register). line_under mark phase ≡ line_after reply (phase_after q.read x (flip_of mark) (value_in x a.quirks.filler a.state)) Idle) (sym same) lines in
+    let P = λ (x : Simulation) (y : Reply). line_under mark phase ≡ line_after y (phase_after q.read (register x.state.select q) (flip_of mark) (value_in (register x.state.select q) x.quirks.filler x.state)) Idle in
+    let ended : t ≡ after_now q a reply r = last ∙ ap (λ (x : Simulation). if is_okay reply then accepted x else x) after in
+    let there' : t ≡ after_now q a reply (register a.state.select q) = subst (λ (x : Register). t ≡ after_now q a reply x) (sym same) ended in
+    let Q = λ (x : Simulation) (y : Reply). t ≡ after_now q x y (register x.state.select q) in
+    record {
+      replies = told;
+      phases = subst (λ (y : Reply). P (settled mark q s) y) told (subst (λ (x : Simulation). P x reply) (sym S) lined);
+      exact = subst (λ (y : Reply). Q (settled mark q s) y) told (subst (λ (x : Simulation). Q x reply) (sym S) there');
+    }
+
+-- both, from the parts of a request: the target before it, at the reply, after the reply, and in the end
+pub answers_under : (mark : Mark) (waits : Bool) (q : Request) (s a b t : Target) (r : Register) (reply : Reply) (phase : Line)
+    → IsMark mark → is_deaf mark ≡ false → is_wait mark ≡ waits → register s.select q ≡ r → register a.select q ≡ r
+    → Transfers (state_of s) (state_of a) → simulation a ≡ settled_when waits r q.ap (simulation s)
+    → reply ≡ reply_when waits r (answer_at r q.ap (state_of a)) → IsSettled reply r a.pending
+    → IsWordRead reply q.read (value_in r (stand_in r a) (state_of a))
+    → phase ≡ line_after reply (phase_after q.read r None (value_in r (stand_in r a) (state_of a))) Idle
+    → phase ≡ line_after reply (phase_after q.read r None (value_in r a.quirks.filler (simulation a).state)) Idle
+    → state_of b ≡ target_after reply r q.ap (state_of a) → simulation b ≡ stepped (λ c. target_after reply r q.ap) (simulation a)
+    → Transfers (state_of b) (state_of t) → simulation t ≡ (if is_okay reply then accepted (simulation b) else simulation b)
+    → AnswersUnder mark q s reply (line_under mark phase) t
+answers_under mark waits q s a b t r reply phase legal deaf wait named same before settles replies settled word lawful exact after after' later last =
+    let law = λ (l : Link) (n : Tally). asks_under l n (state_of s) (state_of a) (state_of b) (state_of t) mark r reply (choice_for r a) q (line_under mark phase)
+    legal (is_choice r a) before same (same_reply mark waits r (answer_at r q.ap (state_of a)) deaf wait ∙ sym replies) settled word
+    (ap (λ (x : Line). line_after reply (line_under mark x) l.line) lawful ∙ phase_under reply q.read r (flip_of mark) (value_in r (stand_in r a) (state_of a)) l.line) after later in
+    let x = asks_exactly mark waits q (simulation s) (simulation a) (simulation b) (simulation t) r reply phase deaf wait named settles same replies exact after' last in
+    record { step = law; replies = x.replies; phases = x.phases; exact = x.exact }
+
+-- a request that the target doesn't see
+pub answers_deaf : (q : Request) (s : Target) → AnswersUnder Deaf q s Silent Idle s
+answers_deaf q s =
+    let r = register s.select q in
+    let law = λ (l : Link) (n : Tally). asks_under l n (state_of s) (state_of s) (state_of s) (state_of s) Deaf r Silent (choice_for r s) q Idle
+    tt (is_choice r s) (inl refl) refl refl tt tt refl refl (inl refl) in
+    record { step = law; replies = refl; phases = refl; exact = refl }
+
+-- a request keeps the law of the wire
+pub asks_lawful : (mark : Mark) (s : Port) (q : Request) (seen : ℕ) (t : Port) → AsksUnder mark s q seen t → Asks s q seen t
+asks_lawful mark s q seen t (a, b, c, before, now, later) = (a, b, mark, c, before, now, later)
+
+-- the same for a bench, from what it has after the request
+pub asks_wired : (mark : Mark) (q : Request) (s t : Target) (reply : Reply) (phase : Line) (l : Link) (n : Tally) (due : Due) (line : Line) (asked disturbed lost seen : ℕ)
+    → AnswersUnder mark q s reply phase t → seen ≡ seen_at mark reply → due ≡ due_after q.read seen → line ≡ line_after reply phase l.line
+    → asked ≡ n.asked + 1 → disturbed ≡ n.disturbed + disturbs mark → lost ≡ n.lost + loses mark
+    → AsksUnder mark (port_at l n (state_of s)) q seen (port_at (record { due = due; line = line }) (record { asked = asked; disturbed = disturbed; lost = lost }) (state_of t))
+asks_wired mark q s t reply phase l n due line asked disturbed lost seen answers sees dues lines a d o = rw (lines, dues, a, d, o, sees) (answers.step l n)
+
+-- the data of a write keeps it
+pub gives_lawful : (a : Arrival) (l : Link) (n : Tally) (s t : Target) (sent : ℕ) → arrival l.line sent ≡ a → DataComes a s t → Gives (port_at l n (state_of s)) sent (port_at idle_link n (state_of t))
+gives_lawful a l n s t sent is comes =
+    let now = λ (x : Arrival). GivesNow (port_at l n (state_of s)) sent (port_at idle_link n (after_bits x (state_of s))) in
+    (port_at l n (state_of s), port_at idle_link n (after_bits a (state_of s)), inl refl, subst now is (record { after = refl }), completes_at idle_link n (after_bits a (state_of s)) (state_of t) comes.later)

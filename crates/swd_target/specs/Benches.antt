@@ -1,63 +1,54 @@
--- A bench as a port machine with a plan, and the choices that it makes: when a transfer takes effect, and how TAR ends a kilobyte.
--- All of it is this project's choice.
+-- A bench as a port machine with a plan, and as a simulated target. All of it is this project's choice.
 use Rattle.std.specs.Prelude.{ℕ, List}
 use Rattle.swd_bits.specs.declared.request.Request.{Request}
-use Rattle.swd_port.specs.declared.wire.Due.{Due}
-use Rattle.swd_port.specs.Port.{Port, Line, DrwRead, register}
-use Rattle.swd_port.specs.Choices.{Choice, Mark}
-use Rattle.swd_port.specs.Asking.{AsksNow, reply_in}
-use Rattle.swd_port.specs.Moving.{GivesNow}
+use Rattle.swd_port.specs.declared.mark.Mark.{Mark}
+use Rattle.swd_port.specs.declared.register.Register.TheVariants.{DrwRead}
+use Rattle.swd_port.specs.Port.{Port, Link, Tally}
+use Rattle.swd_port.specs.Choices.{Choice}
+use Rattle.swd_port.specs.Leading.{after_lead}
+use Rattle.swd_port.specs.Moving.{arrival}
 use Rattle.swd_target.specs.declared.bench.Bench.{Bench}
-use Rattle.swd_target.specs.declared.mark.Mark as marks
-use Rattle.swd_target.specs.declared.quirks.Quirks.{Quirks}
-use Rattle.swd_target.specs.Holding.{line_of}
-use Rattle.swd_target.specs.Targets.{target_port, choice_for, is_owed, SettlesIf, TakesEffect}
+use Rattle.swd_target.specs.Simulations.{Simulation, stepped, reply_to, phase_to, link_after, arrived}
+use Rattle.swd_target.specs.Targets.{state_of, simulation, choice_for}
+use Rattle.swd_target.specs.Requests.{port_at}
+use Rattle.swd_target.specs.Marks.{mark_at}
 
--- what a bench has beside the state of its target
-pub record Beside : Type 0 where
-  pub due : Due
-  pub line : Line
-  pub asked : ℕ
-  pub disturbed : ℕ
-  pub lost : ℕ
+-- what is due, and the data phase that its target is in
+abbrev pub link_of : Bench → Link
+link_of b = record { due = b.due; line = b.line }
 
-abbrev pub beside : Bench → Beside
-beside b = record {
-  due = b.due;
-  line = line_of b.line;
-  asked = b.plan.asked.ticks;
-  disturbed = b.plan.disturbed.ticks;
-  lost = b.plan.lost.ticks;
-}
+-- its numbers of requests
+abbrev pub tally_of : Bench → Tally
+tally_of b = record { asked = b.plan.asked.ticks; disturbed = b.plan.disturbed.ticks; lost = b.plan.lost.ticks }
 
--- a state with it
-abbrev pub with_beside : Beside → Port → Port
-with_beside e s = record s { due = e.due; line = e.line; asked = e.asked; disturbed = e.disturbed; lost = e.lost }
-
--- the state of the port machine
+-- the state of the port machine, in which TAR, the read buffer and the last returned value may be unknown
 abbrev pub port_of : Bench → Port
-port_of b = with_beside (beside b) (target_port b.target)
+port_of b = port_at (link_of b) (tally_of b) (state_of b.target)
+
+-- its target as a simulated one: the same state with each word as it is, and the quirks
+abbrev pub simulation_of : Bench → Simulation
+simulation_of b = simulation b.target
 
 -- the marks of its requests
-abbrev pub plan_of : Bench → List marks.Mark
+abbrev pub plan_of : Bench → List Mark
 plan_of b = b.plan.marks.items
 
--- how its target chooses
-abbrev pub quirks_of : Bench → Quirks
-quirks_of b = b.target.quirks
+-- the mark of its next request
+abbrev pub next_mark : Bench → Mark
+next_mark b = mark_at (plan_of b) b.plan.asked.ticks
 
 -- what it chooses when a transfer takes effect
 abbrev pub choice_of : Bench → Choice
 choice_of b = choice_for DrwRead b.target
 
--- the pending transfer takes effect before the reply to a request, where it has to
-abbrev pub Settles : Quirks → Mark → Request → Port → Port → Type 0
-Settles quirks mark q s t = SettlesIf quirks (is_owed (register t.select q) (reply_in mark t q)) s t
+-- the link after a request
+abbrev pub link_asked : Mark → Request → Simulation → Link → Link
+link_asked mark q s l = link_after mark q (reply_to mark q s) (phase_to mark q s) l
 
--- one call of `ask` under a mark: a step of the port machine in which a transfer takes effect as the quirks say
-abbrev pub AsksBy : Quirks → Mark → Port → Request → ℕ → Port → Type 0
-AsksBy quirks mark s q seen t = (a : Port) × (b : Port) × (c : Choice) × Settles quirks mark q s a × AsksNow mark c a q seen b × TakesEffect quirks quirks.late b t
+-- the simulated target after a line reset of so many ones, or none
+abbrev pub led : ℕ → Link → Simulation → Simulation
+led ones l s = stepped (λ c t. (after_lead ones (port_at l (record { asked = 0; disturbed = 0; lost = 0 }) t)).target) s
 
--- one call of `give`, likewise
-abbrev pub GivesBy : Quirks → Port → ℕ → Port → Type 0
-GivesBy quirks s sent t = (a : Port) × GivesNow s sent a × TakesEffect quirks quirks.late a t
+-- and after the 33 bits of a write
+abbrev pub given : ℕ → Link → Simulation → Simulation
+given sent l s = arrived (arrival l.line sent) s

@@ -1,6 +1,8 @@
 pub mod MemoryWords
 pub mod Marks
-pub mod Registers
-pub mod Holding
+pub mod Contents
+pub mod Flips
+pub mod Simulations
 pub mod Targets
+pub mod Requests
 pub mod Benches

@@ -1,26 +1,24 @@
 //! A simulated target at the end of a wire, with a plan of what befalls each request.
-ghost use Rattle.std.specs.Prelude.{◌≡◌, ◌+◌, ◌<◌, ◌^◌};
+ghost use Rattle.std.specs.Prelude.{◌≡◌, ◌<◌, ◌^◌};
 ghost use Rattle.swd_port.specs.declared.wire.Due.TheVariants.{Nothing, Take, Give, Pass};
-ghost use Rattle.swd_port.specs.Port.{DrwRead, made};
-ghost use Rattle.swd_port.specs.Choices.{IsMark, disturbs, flip_of, loses};
+ghost use Rattle.swd_port.specs.Port.{idle_link, made};
 ghost use Rattle.swd_port.specs.Completion.{completed};
-ghost use Rattle.swd_port.specs.Asking.{Asks, IsWordRead, line_after, phase_after, value_in};
+ghost use Rattle.swd_port.specs.Asking.{Asks, tally_after};
 ghost use Rattle.swd_port.specs.Leading.{MayLead, Leads, LeadsNow};
-ghost use Rattle.swd_port.specs.Moving.{Takes, TakesNow, Gives, GivesNow, Passes, PassesNow, bits_driven};
-ghost use Rattle.swd_target.specs.Marks.{IsPlan, mark_of, mark_at};
-ghost use Rattle.swd_target.specs.Registers.{register_of};
-ghost use Rattle.swd_target.specs.Holding.{line_of, flip_place, awaited_flip, reply_of};
-ghost use Rattle.swd_target.specs.Targets.{IsChosen, choice_for, target_port};
+ghost use Rattle.swd_port.specs.Moving.{Takes, TakesNow, Gives, Passes, PassesNow, bits_driven};
+ghost use Rattle.swd_target.specs.Marks.{IsPlan};
+ghost use Rattle.swd_target.specs.Flips.{flip_place, awaited_flip};
+ghost use Rattle.swd_target.specs.Simulations.{made_with, transferred, asked, seen_to};
+ghost use Rattle.swd_target.specs.Targets.{IsChosen};
 
-use crate::mark::Mark;
+use crate::acknowledgement::{due_after_seen, seen_under};
 use crate::memory::Memory;
+use crate::phase::{bits_on, is_awaiting, line_after_reply};
 use crate::plan::Plan;
 use crate::quirks::Quirks;
-use crate::register::Register;
-use crate::state::{Line, Reply, due_after_seen, flip_bit, phase_word};
 use crate::target::Target;
 use swd_bits::Request;
-use swd_port::{Due, Wire};
+use swd_port::{Due, Line, Mark, Wire};
 
 /// A simulated target at the end of a wire. Each request uses the next mark of the plan; after its
 /// end all marks are `Clean`. DPIDR gives 2ba01477.
@@ -34,19 +32,19 @@ pub struct Bench {
     due: Due,
     line: Line,
     plan: Plan,
-    ghost driven: { bits_driven (line_of line) < 2 ^ 33 },
+    ghost driven: { bits_driven line < 2 ^ 33 },
     ghost flipped: { flip_place (awaited_flip line) < 33 },
 }
 
 impl Bench {
-    ghost use Rattle.swd_target.specs.Benches.{port_of, plan_of, quirks_of, choice_of, AsksBy};
+    ghost use Rattle.swd_target.specs.Benches.{port_of, link_of, simulation_of, plan_of, choice_of, led};
 
     /// Makes a target that had no line reset yet, with this memory behind its access port.
     pub fn new(memory: Memory, quirks: Quirks, plan: Vec<Mark>) -> Bench
         requires { IsPlan plan.items }
         ensures port { port_of result ≡ made 0x2ba0_1477 memory }
+        ensures exact { simulation_of result ≡ made_with quirks memory }
         ensures plan { plan_of result ≡ plan.items }
-        ensures quirks { quirks_of result ≡ quirks }
     {
         Bench {
             target: Target::new(memory, quirks),
@@ -60,181 +58,112 @@ impl Bench {
     /// one. Without the quirk `late` there never is.
     pub fn settle(&mut self)
         ensures port { port_of self.new ≡ completed (choice_of self.old) (port_of self.old) }
-        ensures choice { IsChosen (quirks_of self.old) (choice_of self.old) }
+        ensures choice { IsChosen (simulation_of self.old).quirks (choice_of self.old) }
+        ensures exact { simulation_of self.new ≡ transferred (simulation_of self.old) }
         ensures plan { plan_of self.new ≡ plan_of self.old }
-        ensures quirks { quirks_of self.new ≡ quirks_of self.old }
     {
         self.target.complete();
     }
 
     /// The memory behind the access port.
     pub fn memory(&self) -> &Memory
-        ensures { result.now ≡ (port_of self.now).memory }
+        ensures { result.now ≡ (port_of self.now).target.memory }
     {
         &self.target.memory
     }
 
-    // One request with its acknowledgement.
-    fn ask_now(&mut self, request: Request) -> u8
-        ensures range { result < 8 }
-        ensures exact { AsksBy (quirks_of self.old) (mark_at (plan_of self.old) (port_of self.old).asked) (port_of self.old) request result (port_of self.new) }
-        ensures asked { (port_of self.new).asked ≡ (port_of self.old).asked + 1 }
-        ensures disturbed { (port_of self.new).disturbed ≡ (port_of self.old).disturbed + disturbs (mark_at (plan_of self.old) (port_of self.old).asked) }
-        ensures lost { (port_of self.new).lost ≡ (port_of self.old).lost + loses (mark_at (plan_of self.old) (port_of self.old).asked) }
+    // A line reset, where there are ones.
+    fn reset(&mut self, ones: u32)
+        ensures now { LeadsNow (port_of self.old) ones (port_of self.new) }
+        ensures exact { simulation_of self.new ≡ led ones (link_of self.old) (simulation_of self.old) }
         ensures plan { plan_of self.new ≡ plan_of self.old }
-        ensures quirks { quirks_of self.new ≡ quirks_of self.old }
-    {
-        let mark = self.plan.use_mark();
-        let register = Register::named(self.target.select, request);
-        let reply = self.target.reply(mark, register, request.ap);
-        let seen = reply.seen(mark);
-        self.due = due_after_seen(request.read, seen);
-        self.line = self.line_after(mark, reply, register, request.read);
-        self.target.apply(reply, register, request.ap);
-        self.target.accept();
-        seen
-    }
-
-    // The data phase that follows a reply.
-    fn line_after(&self, mark: Mark, reply: Reply, register: Register, read: bool) -> Line
-        requires { IsMark (mark_of mark) }
-        ensures line { line_of result ≡ line_after (reply_of reply) (phase_after read (register_of register) (flip_of (mark_of mark)) (value_in (register_of register) (choice_for (register_of register) self.now.target) (target_port self.now.target))) (line_of self.now.line) }
-        ensures word { IsWordRead (reply_of reply) read (value_in (register_of register) (choice_for (register_of register) self.now.target) (target_port self.now.target)) }
-        ensures driven { bits_driven (line_of result) < 2 ^ 33 }
-        ensures flipped { flip_place (awaited_flip result) < 33 }
-    {
-        match reply {
-            Reply::Okay => {
-                let value = self.target.value(register);
-                Line::phase(read, register, mark.flip(), value)
-            }
-            _ => self.line,
-        }
-    }
-
-    // Write data that was awaited is taken from the ones, whose parity is wrong.
-    fn lead_now(&mut self, ones: u32)
-        ensures port { LeadsNow (port_of self.old) ones (port_of self.new) }
-        ensures plan { plan_of self.new ≡ plan_of self.old }
-        ensures quirks { quirks_of self.new ≡ quirks_of self.old }
     {
         self.due = Due::Nothing;
-        if ones == 0 {
-            return;
+        if ones > 0 {
+            self.target.line_reset(is_awaiting(self.line));
+            self.line = Line::Idle;
         }
-        if self.line.is_awaiting() {
-            self.target.refuse_write();
-        }
-        self.target.line_reset();
-        self.line = Line::Idle;
-    }
-
-    // The data phase of a read goes by.
-    fn take_now(&mut self) -> u64
-        ensures range { result < 2 ^ 33 }
-        ensures port { TakesNow (port_of self.old) result (port_of self.new) }
-        ensures plan { plan_of self.new ≡ plan_of self.old }
-        ensures quirks { quirks_of self.new ≡ quirks_of self.old }
-    {
-        let bits = self.line.bits();
-        self.due = Due::Nothing;
-        self.line = Line::Idle;
-        bits
-    }
-
-    // The 33 bits of a write arrive, and their parity says whether it is done.
-    fn give_now(&mut self, bits: u64)
-        requires { bits < 2 ^ 33 }
-        ensures port { GivesNow (port_of self.old) bits (port_of self.new) }
-        ensures plan { plan_of self.new ≡ plan_of self.old }
-        ensures quirks { quirks_of self.new ≡ quirks_of self.old }
-    {
-        if let Line::Awaits(register, flip) = self.line {
-            match phase_word(flip_bit(flip, bits)) {
-                Some(word) => self.target.write(register, word),
-                None => self.target.refuse_write(),
-            }
-        }
-        self.due = Due::Nothing;
-        self.line = Line::Idle;
-    }
-
-    // The turnaround after WAIT or FAULT.
-    fn pass_now(&mut self)
-        ensures port { PassesNow (port_of self.old) (port_of self.new) }
-        ensures plan { plan_of self.new ≡ plan_of self.old }
-        ensures quirks { quirks_of self.new ≡ quirks_of self.old }
-    {
-        self.due = Due::Nothing;
     }
 }
 
 impl Wire for Bench {
-    ghost use Rattle.swd_target.specs.Benches.{port_of, plan_of, quirks_of, AsksBy, GivesBy};
+    ghost use Rattle.swd_target.specs.Benches.{port_of, link_of, tally_of, simulation_of, plan_of, next_mark, link_asked, led, given};
 
     ghost port = { port_of };
+
+    ghost plan = { plan_of };
 
     fn due(&self) -> Due {
         self.due
     }
 
     fn lead(&mut self, ones: u32, switch: bool, zeros: u32)
-        requires { MayLead (port_of self.old).due ones switch zeros }
+        requires { MayLead (port_of self.old).link.due ones switch zeros }
         ensures step { Leads (port_of self.old) ones (port_of self.new) }
-        ensures exact { LeadsNow (port_of self.old) ones (port_of self.new) }
+        ensures now { LeadsNow (port_of self.old) ones (port_of self.new) }
+        ensures exact { simulation_of self.new ≡ led ones (link_of self.old) (simulation_of self.old) }
         ensures plan { plan_of self.new ≡ plan_of self.old }
-        ensures quirks { quirks_of self.new ≡ quirks_of self.old }
     {
         // Neither the sixteen bits of the switch nor zeros change anything at a target.
         let _ = (switch, zeros);
-        self.lead_now(ones);
+        self.reset(ones);
     }
 
     /// The mark of the request is the one in the plan with the number of requests before it.
     fn ask(&mut self, request: Request) -> u8
-        requires { (port_of self.old).due ≡ Nothing }
+        requires { (port_of self.old).link.due ≡ Nothing }
         ensures range { result < 8 }
         ensures step { Asks (port_of self.old) request result (port_of self.new) }
-        ensures exact { AsksBy (quirks_of self.old) (mark_at (plan_of self.old) (port_of self.old).asked) (port_of self.old) request result (port_of self.new) }
-        ensures asked { (port_of self.new).asked ≡ (port_of self.old).asked + 1 }
-        ensures disturbed { (port_of self.new).disturbed ≡ (port_of self.old).disturbed + disturbs (mark_at (plan_of self.old) (port_of self.old).asked) }
-        ensures lost { (port_of self.new).lost ≡ (port_of self.old).lost + loses (mark_at (plan_of self.old) (port_of self.old).asked) }
+        ensures sees { result ≡ seen_to (next_mark self.old) request (simulation_of self.old) }
+        ensures exact { simulation_of self.new ≡ asked (next_mark self.old) request (simulation_of self.old) }
+        ensures link { link_of self.new ≡ link_asked (next_mark self.old) request (simulation_of self.old) (link_of self.old) }
+        ensures tally { tally_of self.new ≡ tally_after (next_mark self.old) (tally_of self.old) }
         ensures plan { plan_of self.new ≡ plan_of self.old }
-        ensures quirks { quirks_of self.new ≡ quirks_of self.old }
     {
-        self.ask_now(request)
+        let mark = self.plan.use_mark();
+        let (reply, phase) = self.target.request_under(mark, request);
+        let seen = seen_under(mark, reply);
+        self.due = due_after_seen(request.read, seen);
+        self.line = line_after_reply(reply, phase, self.line);
+        seen
     }
 
     fn take(&mut self) -> u64
-        requires { (port_of self.old).due ≡ Take }
+        requires { (port_of self.old).link.due ≡ Take }
         ensures range { result < 2 ^ 33 }
         ensures step { Takes (port_of self.old) result (port_of self.new) }
-        ensures exact { TakesNow (port_of self.old) result (port_of self.new) }
+        ensures now { TakesNow (port_of self.old) result (port_of self.new) }
+        ensures exact { simulation_of self.new ≡ simulation_of self.old }
         ensures plan { plan_of self.new ≡ plan_of self.old }
-        ensures quirks { quirks_of self.new ≡ quirks_of self.old }
     {
-        self.take_now()
+        let bits = bits_on(self.line);
+        self.due = Due::Nothing;
+        self.line = Line::Idle;
+        bits
     }
 
     fn give(&mut self, bits: u64)
-        requires due { (port_of self.old).due ≡ Give }
+        requires due { (port_of self.old).link.due ≡ Give }
         requires range { bits < 2 ^ 33 }
         ensures step { Gives (port_of self.old) bits (port_of self.new) }
-        ensures exact { GivesBy (quirks_of self.old) (port_of self.old) bits (port_of self.new) }
+        ensures link { link_of self.new ≡ idle_link }
+        ensures tally { tally_of self.new ≡ tally_of self.old }
+        ensures exact { simulation_of self.new ≡ given bits (link_of self.old) (simulation_of self.old) }
         ensures plan { plan_of self.new ≡ plan_of self.old }
-        ensures quirks { quirks_of self.new ≡ quirks_of self.old }
     {
-        self.give_now(bits);
-        self.target.accept();
+        self.target.arrive_on(self.line, bits);
+        self.due = Due::Nothing;
+        self.line = Line::Idle;
     }
 
     fn pass(&mut self)
-        requires { (port_of self.old).due ≡ Pass }
+        requires { (port_of self.old).link.due ≡ Pass }
         ensures step { Passes (port_of self.old) (port_of self.new) }
-        ensures exact { PassesNow (port_of self.old) (port_of self.new) }
+        ensures now { PassesNow (port_of self.old) (port_of self.new) }
+        ensures exact { simulation_of self.new ≡ simulation_of self.old }
         ensures plan { plan_of self.new ≡ plan_of self.old }
-        ensures quirks { quirks_of self.new ≡ quirks_of self.old }
     {
-        self.pass_now();
+        // The turnaround changes nothing at the target.
+        self.due = Due::Nothing;
     }
 }

@@ -1,21 +1,23 @@
 //! A simulated target: a memory, and a bench that is one end of a wire.
 #![tactic(auto)]
 
+mod acknowledgement;
 mod bench;
-mod held;
-mod mark;
+mod content;
+mod laws;
 mod memory;
+mod phase;
 mod plan;
 mod quirks;
 mod register;
-mod state;
+mod request;
 mod target;
 
 pub use bench::Bench;
-pub use mark::Mark;
+pub use laws::marks_used;
 pub use memory::{MakeFault, Memory};
 pub use quirks::Quirks;
-pub use swd_port::Transfer;
+pub use swd_port::{Mark, Transfer};
 
 #[cfg(test)]
 mod tests;

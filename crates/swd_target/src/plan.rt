@@ -1,11 +1,10 @@
 //! The plan of a simulated wire: the marks of its requests, and which of them were used.
-ghost use Rattle.std.specs.Prelude.{◌≡◌, ◌+◌, ◌≤◌, ℕ, true, length, min};
+ghost use Rattle.std.specs.Prelude.{◌≡◌, ◌+◌, ◌≤◌, ℕ, true, length, min, take};
 ghost use Rattle.std.specs.List.{list_all};
-ghost use Rattle.swd_port.specs.Choices.{IsMark, disturbs, loses};
-ghost use Rattle.swd_target.specs.Marks.{mark_of, mark_at, is_legal, IsPlan};
+ghost use Rattle.swd_port.specs.Choices.{IsMark, disturbs, loses, disturbed_among, lost_among};
+ghost use Rattle.swd_target.specs.Marks.{mark_at, is_legal, IsPlan};
 
-use crate::mark::Mark;
-use swd_port::Count;
+use swd_port::{Count, Mark};
 
 #[derive(Drop)]
 pub(crate) struct Plan {
@@ -17,6 +16,8 @@ pub(crate) struct Plan {
     lost: Count,
     ghost legal: { list_all is_legal marks.items ≡ true },
     ghost counted: { next ≡ min asked.ticks (length marks.items) },
+    ghost counted_disturbed: { disturbed.ticks ≡ disturbed_among (take asked.ticks marks.items) },
+    ghost counted_lost: { lost.ticks ≡ lost_among (take asked.ticks marks.items) },
 }
 
 impl Plan {
@@ -38,12 +39,12 @@ impl Plan {
 
     // The mark of the next request.
     pub(crate) fn use_mark(&mut self) -> Mark
-        ensures mark { mark_of result ≡ mark_at self.old.marks.items self.old.asked.ticks }
-        ensures legal { IsMark (mark_of result) }
+        ensures mark { result ≡ mark_at self.old.marks.items self.old.asked.ticks }
+        ensures legal { IsMark result }
         ensures marks { self.new.marks.items ≡ self.old.marks.items }
         ensures asked { self.new.asked.ticks ≡ self.old.asked.ticks + 1 }
-        ensures disturbed { self.new.disturbed.ticks ≡ self.old.disturbed.ticks + disturbs (mark_of result) }
-        ensures lost { self.new.lost.ticks ≡ self.old.lost.ticks + loses (mark_of result) }
+        ensures disturbed { self.new.disturbed.ticks ≡ self.old.disturbed.ticks + disturbs result }
+        ensures lost { self.new.lost.ticks ≡ self.old.lost.ticks + loses result }
     {
         let mark = self.next_mark();
         self.asked.tick();
@@ -59,8 +60,8 @@ impl Plan {
     }
 
     fn next_mark(&self) -> Mark
-        ensures mark { mark_of result ≡ mark_at self.now.marks.items self.now.asked.ticks }
-        ensures legal { IsMark (mark_of result) }
+        ensures mark { result ≡ mark_at self.now.marks.items self.now.asked.ticks }
+        ensures legal { IsMark result }
     {
         match self.marks.get(self.next) {
             Some(mark) => *mark,

@@ -1,30 +1,30 @@
 //! The target behind a wire: a debug port with one memory access port.
-ghost use Rattle.std.specs.Prelude.{◌≡◌, ◌&&◌, not, true, false, if◌then◌else◌};
+ghost use Rattle.std.specs.Prelude.{◌≡◌, ◌&&◌, ◌||◌, not, true, false, if◌then◌else◌};
 ghost use Rattle.std.specs.Option.{option_map};
-ghost use Rattle.swd_port.specs.Port.{Fresh, DrwRead, made};
-ghost use Rattle.swd_port.specs.Answers.{Okay, Waits, answer, reply_under, is_answered, is_unpowered};
-ghost use Rattle.swd_port.specs.Asking.{IsSettled, value_in, status_in};
+ghost use Rattle.swd_port.specs.Port.{made_target};
+ghost use Rattle.swd_port.specs.declared.state.Reset.TheVariants.{Fresh};
+ghost use Rattle.swd_port.specs.declared.register.Register.TheVariants.{DrwRead};
+ghost use Rattle.swd_port.specs.Answers.{is_answered};
+ghost use Rattle.swd_port.specs.declared.state.Reply.TheVariants.{Okay, Waits};
+ghost use Rattle.swd_port.specs.Asking.{IsSettled, value_in, status_in, after_okay, after_wait, target_after};
 ghost use Rattle.swd_port.specs.Registers.{bit_of, csw_read};
-ghost use Rattle.swd_port.specs.Moving.{Arrives, Damaged, after_arrival};
-ghost use Rattle.swd_port.specs.Completion.{Completes, completed, fails, next_address};
-ghost use Rattle.swd_target.specs.Marks.{mark_of};
-ghost use Rattle.swd_target.specs.Registers.{register_of};
-ghost use Rattle.swd_target.specs.Holding.{known_word, reply_of, reset_of, pending_of};
+ghost use Rattle.swd_port.specs.Moving.{Arrives, Damaged, after_bits};
+ghost use Rattle.swd_port.specs.Completion.{completion_of, fails, next_address};
+ghost use Rattle.swd_target.specs.Contents.{known_word};
+ghost use Rattle.swd_target.specs.Simulations.{made_with, accepted};
 
-use crate::held::Held;
-use crate::mark::Mark;
+use crate::content::Content;
 use crate::memory::Memory;
 use crate::quirks::Quirks;
-use crate::register::Register;
-use crate::state::{Drw, Reply, Reset};
+use crate::register::{is_access_port_write, is_exempt, is_posted};
 use bitflags::Flags;
-use swd_port::{Abort, Access, Answer, Csw, CtrlStat, Select};
+use swd_port::{Abort, Access, Answer, Csw, CtrlStat, Drw, Register, Reply, Reset, Select};
 
 // What DPIDR gives.
 const IDENTIFICATION: u32 = 0x2ba0_1477;
 
 /// The state of a debug port and its access port. The choices that the standard leaves to a target
-/// are its `quirks`, and the word that each `Held` keeps where its register is unknown.
+/// are its `quirks`, and the word that each `Content` keeps where its register is unknown.
 #[derive(Drop)]
 pub(crate) struct Target {
     pub(crate) quirks: Quirks,
@@ -37,19 +37,20 @@ pub(crate) struct Target {
     pub(crate) select: Select,
     pub(crate) increments: bool,
     pub(crate) csw_upper: u8,
-    pub(crate) tar: Held,
-    pub(crate) buffer: Held,
-    pub(crate) last_returned: Held,
+    pub(crate) tar: Content,
+    pub(crate) buffer: Content,
+    pub(crate) last_returned: Content,
     pub(crate) pending: Option<Drw>,
     pub(crate) memory: Memory,
 }
 
 impl Target {
-    ghost use Rattle.swd_target.specs.Targets.{target_port, choice_for, replied, answer_of, is_owed, SettlesIf};
+    ghost use Rattle.swd_target.specs.Targets.{state_of, simulation, stand_in, Steps, answer_at, reply_when, settled_when};
+    ghost use Rattle.swd_target.specs.Requests.{Transfers};
 
     pub(crate) fn new(memory: Memory, quirks: Quirks) -> Target
-        ensures port { target_port result ≡ made IDENTIFICATION memory }
-        ensures quirks { result.quirks ≡ quirks }
+        ensures state { state_of result ≡ made_target IDENTIFICATION memory }
+        ensures exact { simulation result ≡ made_with quirks memory }
     {
         Target {
             quirks,
@@ -66,9 +67,9 @@ impl Target {
             },
             increments: false,
             csw_upper: 0,
-            tar: Held::known(0),
-            buffer: Held::unknown(quirks.filler),
-            last_returned: Held::unknown(quirks.filler),
+            tar: Content::known(0),
+            buffer: Content::unknown(quirks.filler),
+            last_returned: Content::unknown(quirks.filler),
             pending: None,
             memory,
         }
@@ -76,25 +77,23 @@ impl Target {
 
     // The pending transfer takes effect, at the address that TAR keeps.
     pub(crate) fn complete(&mut self)
-        ensures port { target_port self.new ≡ completed (choice_for DrwRead self.old) (target_port self.old) }
-        ensures quirks { self.new.quirks ≡ self.old.quirks }
+        ensures { Steps completion_of self.old self.new }
     {
         match self.pending {
-            Some(Drw::Read) => self.complete_read(),
-            Some(Drw::Write(word)) => self.complete_write(word),
+            Some(Drw::Reads) => self.complete_read(),
+            Some(Drw::Writes(word)) => self.complete_write(word),
             None => {}
         }
     }
 
     fn complete_read(&mut self)
-        requires { self.old.pending ≡ Some Drw.Read }
-        ensures port { target_port self.new ≡ completed (choice_for DrwRead self.old) (target_port self.old) }
-        ensures quirks { self.new.quirks ≡ self.old.quirks }
+        requires { self.old.pending ≡ Some Drw.Reads }
+        ensures { Steps completion_of self.old self.new }
     {
         self.pending = None;
         match self.memory.transfer(Access::Read(self.tar.word)) {
             Answer::Value(word) => {
-                self.buffer = Held::known(word);
+                self.buffer = Content::known(word);
                 self.step_address();
             }
             _ => self.bus_error(),
@@ -102,9 +101,8 @@ impl Target {
     }
 
     fn complete_write(&mut self, word: u32)
-        requires { self.old.pending ≡ Some (Drw.Write word) }
-        ensures port { target_port self.new ≡ completed (choice_for DrwRead self.old) (target_port self.old) }
-        ensures quirks { self.new.quirks ≡ self.old.quirks }
+        requires { self.old.pending ≡ Some (Drw.Writes word) }
+        ensures { Steps completion_of self.old self.new }
     {
         self.pending = None;
         match self.memory.transfer(Access::Write(self.tar.word, word)) {
@@ -115,8 +113,7 @@ impl Target {
 
     // TAR after a transfer that succeeded.
     fn step_address(&mut self)
-        ensures port { target_port self.new ≡ record (target_port self.old) { tar = (if self.old.increments then option_map (next_address self.old.quirks.wrap) (known_word self.old.tar) else known_word self.old.tar) } }
-        ensures quirks { self.new.quirks ≡ self.old.quirks }
+        ensures { Steps (λ c s. record s { tar = (if s.increments then option_map (next_address c.wraps) s.tar else s.tar) }) self.old self.new }
     {
         if self.increments {
             self.tar.word = next(self.quirks.wrap, self.tar.word);
@@ -125,11 +122,11 @@ impl Target {
 
     // The answer to a request where no WAIT is asked for.
     fn answer(&self, register: Register, ap: bool) -> Reply
-        ensures { reply_of result ≡ answer_of (register_of register) ap self.now }
+        ensures { result ≡ answer_at register ap (state_of self.now) }
     {
         if !self.is_answering(register) {
             Reply::Silent
-        } else if register.is_exempt() {
+        } else if is_exempt(register) {
             Reply::Okay
         } else if self.sticky_error || self.write_error || (ap && !self.debug_power) {
             Reply::Faults
@@ -139,7 +136,7 @@ impl Target {
     }
 
     fn is_answering(&self, register: Register) -> bool
-        ensures { result ≡ is_answered (reset_of self.now.reset) (register_of register) }
+        ensures { result ≡ is_answered self.now.reset register }
     {
         match self.reset {
             Reset::Unreset => false,
@@ -148,38 +145,34 @@ impl Target {
         }
     }
 
-    // The reply to a request with a mark, as things stand.
-    fn reply_now(&self, mark: Mark, register: Register, ap: bool) -> Reply
-        ensures { reply_of result ≡ reply_under (mark_of mark) (register_of register) (answer_of (register_of register) ap self.now) }
+    // The reply to a request where WAIT is asked for or not, as things stand.
+    fn reply_now(&self, waits: bool, register: Register, ap: bool) -> Reply
+        ensures { result ≡ reply_when waits register (answer_at register ap (state_of self.now)) }
     {
-        if mark.is_deaf() {
-            return Reply::Silent;
-        }
         let answer = self.answer(register, ap);
         match answer {
-            Reply::Okay if mark.is_wait() && !register.is_exempt() => Reply::Waits,
+            Reply::Okay if waits && !is_exempt(register) => Reply::Waits,
             _ => answer,
         }
     }
 
-    // The reply to a request with a mark.
-    pub(crate) fn reply(&mut self, mark: Mark, register: Register, ap: bool) -> Reply
-        ensures settles { SettlesIf self.old.quirks (is_owed (register_of register) (reply_of result)) (target_port self.old) (target_port self.new) }
-        ensures reply { reply_of result ≡ reply_under (mark_of mark) (register_of register) (answer_of (register_of register) ap self.new) }
-        ensures settled { IsSettled (reply_of result) (register_of register) (pending_of self.new.pending) }
+    // The reply to a request where WAIT is asked for or not.
+    pub(crate) fn reply(&mut self, waits: bool, register: Register, ap: bool) -> Reply
+        ensures reply { result ≡ reply_when waits register (answer_at register ap (state_of self.new)) }
+        ensures settles { Transfers (state_of self.old) (state_of self.new) }
+        ensures settled { IsSettled result register self.new.pending }
         ensures select { self.new.select ≡ self.old.select }
-        ensures quirks { self.new.quirks ≡ self.old.quirks }
+        ensures exact { simulation self.new ≡ settled_when waits register ap (simulation self.old) }
     {
-        if self.settles_before(mark, register, ap) {
+        if self.settles_before(waits, register, ap) {
             self.complete();
         }
-        self.reply_now(mark, register, ap)
+        self.reply_now(waits, register, ap)
     }
 
     // What a reply changes at the target.
     pub(crate) fn apply(&mut self, reply: Reply, register: Register, ap: bool)
-        ensures port { target_port self.new ≡ replied (reply_of reply) (register_of register) ap (target_port self.old) }
-        ensures quirks { self.new.quirks ≡ self.old.quirks }
+        ensures { Steps (λ c. target_after reply register ap) self.old self.new }
     {
         match reply {
             Reply::Silent => {}
@@ -196,36 +189,35 @@ impl Target {
 
     // READOK tells that an AP read or RDBUFF read was not answered OK.
     fn refuse_read(&mut self, register: Register)
-        ensures port { target_port self.new ≡ replied Waits (register_of register) false (target_port self.old) }
-        ensures quirks { self.new.quirks ≡ self.old.quirks }
+        ensures { Steps (λ c. after_wait register) self.old self.new }
     {
-        if register.is_posted() {
+        if is_posted(register) {
             self.read_ok = false;
         }
     }
 
     fn apply_okay(&mut self, register: Register)
-        ensures port { target_port self.new ≡ replied Okay (register_of register) false (target_port self.old) }
-        ensures quirks { self.new.quirks ≡ self.old.quirks }
+        ensures { Steps (λ c. after_okay register) self.old self.new }
     {
-        if register.is_posted() {
+        if is_posted(register) {
             self.read_ok = true;
             self.last_returned = self.buffer;
         }
         match register {
             Register::DpidrRead => self.reset = Reset::Live,
             Register::RdbuffRead => self.buffer = self.unknown(),
-            Register::CswRead => self.buffer = Held::known(self.csw()),
+            Register::CswRead => self.buffer = Content::known(self.csw()),
             Register::TarRead => self.buffer = self.tar,
-            Register::ApZeroRead => self.buffer = Held::known(0),
-            Register::DrwRead => self.pending = Some(Drw::Read),
+            Register::ApZeroRead => self.buffer = Content::known(0),
+            Register::DrwRead => self.pending = Some(Drw::Reads),
             _ => {}
         }
     }
 
     // The word that a read returns.
     pub(crate) fn value(&self, register: Register) -> u32
-        ensures { result ≡ value_in (register_of register) (choice_for (register_of register) self.now) (target_port self.now) }
+        ensures value { result ≡ value_in register (stand_in register self.now) (state_of self.now) }
+        ensures exact { result ≡ value_in register self.now.quirks.filler (simulation self.now).state }
     {
         match register {
             Register::DpidrRead => IDENTIFICATION,
@@ -238,7 +230,7 @@ impl Target {
 
     // CTRL/STAT as it is read.
     fn status(&self) -> u32
-        ensures { result ≡ status_in (target_port self.now) }
+        ensures { result ≡ status_in (state_of self.now) }
     {
         let debug_power = CtrlStat::CDBGPWRUPREQ.bits() + CtrlStat::CDBGPWRUPACK.bits();
         let system_power = CtrlStat::CSYSPWRUPREQ.bits() + CtrlStat::CSYSPWRUPACK.bits();
@@ -265,10 +257,9 @@ impl Target {
 
     // A write whose data arrived.
     pub(crate) fn write(&mut self, register: Register, word: u32)
-        ensures port { target_port self.new ≡ after_arrival (Arrives (register_of register) word) (target_port self.old) }
-        ensures quirks { self.new.quirks ≡ self.old.quirks }
+        ensures { Steps (λ c. after_bits (Arrives register word)) self.old self.new }
     {
-        if register.is_access_port_write() {
+        if is_access_port_write(register) {
             self.forget_values();
         }
         match register {
@@ -280,25 +271,24 @@ impl Target {
                 self.increments = csw.addr_inc == 1;
                 self.csw_upper = csw.upper;
             }
-            Register::TarWrite => self.tar = Held::known(word),
-            Register::DrwWrite => self.pending = Some(Drw::Write(word)),
+            Register::TarWrite => self.tar = Content::known(word),
+            Register::DrwWrite => self.pending = Some(Drw::Writes(word)),
             _ => {}
         }
     }
 
     // After an AP write the read buffer and the last returned value are unknown.
     fn forget_values(&mut self)
-        ensures port { target_port self.new ≡ record (target_port self.old) { buffer = None; last_returned = None } }
-        ensures quirks { self.new.quirks ≡ self.old.quirks }
+        ensures { Steps (λ c s. record s { buffer = None; last_returned = None }) self.old self.new }
     {
-        self.buffer = self.unknown();
-        self.last_returned = self.unknown();
+        let unknown = self.unknown();
+        self.buffer = unknown;
+        self.last_returned = unknown;
     }
 
     // A write of ABORT.
     fn clear_flags(&mut self, word: u32)
-        ensures port { target_port self.new ≡ record (target_port self.old) { sticky_error = self.old.sticky_error && not (bit_of 2 word); write_error = self.old.write_error && not (bit_of 3 word) } }
-        ensures quirks { self.new.quirks ≡ self.old.quirks }
+        ensures { Steps (λ c s. record s { sticky_error = s.sticky_error && not (bit_of 2 word); write_error = s.write_error && not (bit_of 3 word) }) self.old self.new }
     {
         let abort = Abort::of(word);
         self.sticky_error &= !abort.contains(Abort::STKERRCLR);
@@ -307,8 +297,7 @@ impl Target {
 
     // A write of CTRL/STAT.
     fn set_power(&mut self, word: u32)
-        ensures port { target_port self.new ≡ record (target_port self.old) { debug_power = bit_of 28 word; system_power = bit_of 30 word } }
-        ensures quirks { self.new.quirks ≡ self.old.quirks }
+        ensures { Steps (λ c s. record s { debug_power = bit_of 28 word; system_power = bit_of 30 word }) self.old self.new }
     {
         let control = CtrlStat::of(word);
         self.debug_power = control.contains(CtrlStat::CDBGPWRUPREQ);
@@ -317,17 +306,19 @@ impl Target {
 
     // A write whose data arrived with wrong parity isn't done.
     pub(crate) fn refuse_write(&mut self)
-        ensures port { target_port self.new ≡ after_arrival Damaged (target_port self.old) }
-        ensures quirks { self.new.quirks ≡ self.old.quirks }
+        ensures { Steps (λ c. after_bits Damaged) self.old self.new }
     {
         self.write_error = true;
     }
 
-    // A line reset changes no register.
-    pub(crate) fn line_reset(&mut self)
-        ensures port { target_port self.new ≡ record (target_port self.old) { reset = Fresh } }
-        ensures quirks { self.new.quirks ≡ self.old.quirks }
+    // A line reset changes no register. Write data that was awaited is taken from its ones, whose
+    // parity is wrong.
+    pub(crate) fn line_reset(&mut self, awaiting: bool)
+        ensures { Steps (λ c s. record s { reset = Fresh; write_error = awaiting || s.write_error }) self.old self.new }
     {
+        if awaiting {
+            self.write_error = true;
+        }
         self.reset = Reset::Fresh;
     }
 }
@@ -337,20 +328,20 @@ impl Target {
 // late as is allowed, and TAR wraps or carries on at the end of a kilobyte, as the quirks say. WAIT
 // is answered at a mark for it and nowhere else, and not over a bus error.
 impl Target {
-    ghost use Rattle.swd_target.specs.Targets.{target_port, answer_of, is_settling, TakesEffect};
+    ghost use Rattle.swd_target.specs.Targets.{state_of, simulation, Steps, answer_at, is_settling};
+    ghost use Rattle.swd_target.specs.Requests.{Transfers};
 
     // A register whose value is unknown.
-    fn unknown(&self) -> Held
+    fn unknown(&self) -> Content
         ensures word { result.word ≡ self.now.quirks.filler }
         ensures unknown { known_word result ≡ None }
     {
-        Held::unknown(self.quirks.filler)
+        Content::unknown(self.quirks.filler)
     }
 
     // TAR keeps its word, but counts as unknown.
     fn bus_error(&mut self)
-        ensures port { target_port self.new ≡ record (target_port self.old) { sticky_error = true; tar = None; buffer = None } }
-        ensures quirks { self.new.quirks ≡ self.old.quirks }
+        ensures { Steps (λ c s. record s { sticky_error = true; tar = None; buffer = None }) self.old self.new }
     {
         self.sticky_error = true;
         self.tar.known = false;
@@ -359,8 +350,8 @@ impl Target {
 
     // A transfer was accepted: it takes effect now, unless it does so as late as is allowed.
     pub(crate) fn accept(&mut self)
-        ensures effect { TakesEffect self.old.quirks self.old.quirks.late (target_port self.old) (target_port self.new) }
-        ensures quirks { self.new.quirks ≡ self.old.quirks }
+        ensures effect { Transfers (state_of self.old) (state_of self.new) }
+        ensures exact { simulation self.new ≡ accepted (simulation self.old) }
     {
         if !self.quirks.late {
             self.complete();
@@ -369,7 +360,7 @@ impl Target {
 
     // The pending transfer would be a bus error.
     fn is_failing(&self) -> bool
-        ensures { result ≡ fails (pending_of self.now.pending) self.now.tar.word self.now.memory }
+        ensures { result ≡ fails self.now.pending self.now.tar.word self.now.memory }
     {
         match self.pending {
             Some(_) => !self.memory.is_ready(self.tar.word),
@@ -379,15 +370,15 @@ impl Target {
 
     // The pending transfer has to take effect before the reply: that is OK or FAULT, to a request
     // that may get WAIT. WAIT comes in place of an OK alone, and so not over a bus error.
-    fn settles_before(&self, mark: Mark, register: Register, ap: bool) -> bool
-        ensures { result ≡ is_settling (mark_of mark) (register_of register) (answer_of (register_of register) ap self.now) (fails (pending_of self.now.pending) self.now.tar.word self.now.memory) }
+    fn settles_before(&self, waits: bool, register: Register, ap: bool) -> bool
+        ensures { result ≡ is_settling waits register (answer_at register ap (state_of self.now)) (fails self.now.pending self.now.tar.word self.now.memory) }
     {
-        if mark.is_deaf() || register.is_exempt() {
+        if is_exempt(register) {
             return false;
         }
         match self.answer(register, ap) {
             Reply::Silent => false,
-            Reply::Okay if mark.is_wait() => self.is_failing(),
+            Reply::Okay if waits => self.is_failing(),
             _ => true,
         }
     }

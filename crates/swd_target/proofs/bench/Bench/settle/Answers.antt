@@ -1,4 +1,4 @@
-use Rattle.swd_port.specs.Port.{DrwRead}
+use Rattle.swd_port.specs.declared.register.Register.TheVariants.{DrwRead}
 use Rattle.swd_target.proofs.TargetLemmas.{is_chosen}
 use Rattle.swd_target.proofs.bench.Bench.settle.Goals as goal
 

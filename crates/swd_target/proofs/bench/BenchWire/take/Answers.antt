@@ -1,6 +1,5 @@
 use Rattle.std.proofs.Common.{inl, refl}
-use Rattle.swd_target.specs.Benches.{port_of}
 use Rattle.swd_target.proofs.bench.BenchWire.take.Goals as goal
 
 pub returns-clause-step : goal.returns-clause-step
-returns-clause-step c = (port_of c.args.self.now, port_of c.take_now.new.self, inl refl, c.take_now.ensures.port, inl refl)
+returns-clause-step c = (_, _, inl refl, record { gets = c.bits_on-bits.ensures; after = refl }, inl refl)

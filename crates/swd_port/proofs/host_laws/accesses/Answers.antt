@@ -1,8 +1,0 @@
-use Rattle.swd_port.proofs.AccessLaws.{word_written, word_read}
-use Rattle.swd_port.proofs.host_laws.accesses.Goals as goal
-
-pub returns-clause-written : goal.returns-clause-written
-returns-clause-written c = word_written
-
-pub returns-clause-read : goal.returns-clause-read
-returns-clause-read c = word_read

@@ -1,5 +1,0 @@
-use Rattle.swd_port.proofs.AnswerLaws.{seen_driven}
-use Rattle.swd_port.proofs.laws.answers.Goals as goal
-
-pub returns-clause-seen : goal.returns-clause-seen
-returns-clause-seen c = seen_driven

@@ -1,0 +1,92 @@
+-- Laws of the words that are read, and of returned values.
+-- Source: IHI 0031, B2, "CTRL/STAT, Control/Status register", "RDBUFF, Read Buffer register", "RESEND, Read Resend register",
+-- "DPIDR, Debug Port Identification register", "ABORT, AP Abort register"; and B4, "Read accesses".
+use Rattle.std.specs.Prelude.{ℕ, ◌≡◌, ◌<◌, ◌^◌, ◌==◌, ◌⊎◌, Bool, true, false, Option, Some}
+use Rattle.std.specs.Int.RustNames.{bit_and}
+use Rattle.swd_port.specs.Registers.{bit_of, ctrl_stat_read, ctrl_stat_mask}
+use Rattle.swd_port.specs.Phases.{phase_number, flipped}
+use Rattle.swd_port.specs.Port.{Port, Target, Register, DpidrRead, AbortWrite, CtrlStatRead, ResendRead, Drives}
+use Rattle.swd_port.specs.Answers.{is_exempt}
+use Rattle.swd_port.specs.Asking.{is_posted, status_in}
+use Rattle.swd_port.specs.Moves.{Passed, Gave, WasReset}
+use Rattle.swd_port.specs.Outcomes.{Stays, Defers, Accepts}
+use Rattle.swd_port.specs.Transfers.{Carries}
+
+-- a set of named bits holds all of these
+abbrev pub holds : ℕ → ℕ → Bool
+holds mask word = bit_and (bit_and word ctrl_stat_mask) mask == mask
+
+-- STICKYERR, READOK, WDATAERR and the two power acknowledgements are read back, whatever the others are
+pub record StatusReads (sticky_error read_ok write_error debug_power system_power : Bool) (word : ℕ) : Type 0 where
+  pub sticky_held : holds 0x20 word ≡ sticky_error
+  pub ok_held : holds 0x40 word ≡ read_ok
+  pub write_held : holds 0x80 word ≡ write_error
+  pub debug_held : holds 0x2000_0000 word ≡ debug_power
+  pub system_held : holds 0x8000_0000 word ≡ system_power
+  pub sticky_bit : bit_of 5 word ≡ sticky_error
+  pub ok_bit : bit_of 6 word ≡ read_ok
+  pub write_bit : bit_of 7 word ≡ write_error
+  pub debug_bit : bit_of 29 word ≡ debug_power
+  pub system_bit : bit_of 31 word ≡ system_power
+  pub range : word < 2 ^ 32
+
+abbrev pub StatusWord : Type 0
+StatusWord = (sticky_error read_ok write_error debug_power system_power : Bool) →
+    StatusReads sticky_error read_ok write_error debug_power system_power (ctrl_stat_read sticky_error read_ok write_error debug_power system_power)
+
+-- the line has the phase of a value, which is a word
+pub record OnLine (value : ℕ) (flip : Option ℕ) (t : Port) : Type 0 where
+  pub line : t.link.line ≡ Drives (flipped flip (phase_number value))
+  pub range : value < 2 ^ 32
+
+-- DPIDR returns the identification (IHI 0031, B2, "DPIDR, Debug Port Identification register")
+abbrev pub IdentificationReturned : Type 0
+IdentificationReturned = (flip : Option ℕ) (s t : Port) → Accepts DpidrRead true flip s t → OnLine s.target.identification flip t
+
+-- CTRL/STAT returns the flags and powers as they were when it was answered
+abbrev pub StatusReturned : Type 0
+StatusReturned = (flip : Option ℕ) (s t : Port) → Accepts CtrlStatRead true flip s t →
+    OnLine (status_in s.target) flip t × StatusReads s.target.sticky_error s.target.read_ok s.target.write_error s.target.debug_power s.target.system_power (status_in s.target)
+
+-- RDBUFF, and every AP read, returns the read buffer, and its value is the last returned
+abbrev pub BufferReturned : Type 0
+BufferReturned = (r : Register) (flip : Option ℕ) (value : ℕ) (s t : Port) → is_posted r ≡ true → s.target.buffer ≡ Some value → Accepts r true flip s t →
+    OnLine value flip t × (t.target.last_returned ≡ Some value)
+
+-- RESEND returns the last returned value, which stays that, so that it may be repeated
+abbrev pub ValueResent : Type 0
+ValueResent = (flip : Option ℕ) (value : ℕ) (s t : Port) → s.target.last_returned ≡ Some value → Accepts ResendRead true flip s t →
+    OnLine value flip t × (t.target.last_returned ≡ Some value)
+
+-- an exempt request, and RESEND, leave a sent transfer and the last returned value as they were
+abbrev pub CarriedByRequest : Type 0
+CarriedByRequest = (r : Register) (read : Bool) (flip : Option ℕ) (s t : Port) → (is_exempt r ≡ true) ⊎ (r ≡ ResendRead) → Accepts r read flip s t →
+    Carries s.target t.target × (t.target.last_returned ≡ s.target.last_returned)
+
+-- a refused request, and one that had no effect, leave a sent transfer as it was where they leave STICKYERR
+abbrev pub CarriedWhereHeld : Type 0
+CarriedWhereHeld = (r : Register) (s t : Port) → Stays s t ⊎ Defers r s t → Carries s.target t.target
+
+-- so do a data phase that is taken and a turnaround
+abbrev pub CarriedWherePassed : Type 0
+CarriedWherePassed = (s t : Port) → Passed s t → Carries s.target t.target
+
+-- and a line reset
+abbrev pub CarriedByReset : Type 0
+CarriedByReset = (s t : Port) → WasReset s t → Carries s.target t.target
+
+-- ABORT's bits 2 and 3 clear STICKYERR and WDATAERR; it leaves the last returned value, the buffer, TAR, the memory and what is pending
+-- (IHI 0031, B2, "ABORT, AP Abort register")
+pub record Clears (word : ℕ) (x y : Target) : Type 0 where
+  pub sticky_cleared : bit_of 2 word ≡ true → y.sticky_error ≡ false
+  pub sticky_kept : bit_of 2 word ≡ false → y.sticky_error ≡ x.sticky_error
+  pub write_cleared : bit_of 3 word ≡ true → y.write_error ≡ false
+  pub write_kept : bit_of 3 word ≡ false → y.write_error ≡ x.write_error
+  pub last_returned : y.last_returned ≡ x.last_returned
+  pub buffer : y.buffer ≡ x.buffer
+  pub tar : y.tar ≡ x.tar
+  pub memory : y.memory ≡ x.memory
+  pub pending : y.pending ≡ x.pending
+
+abbrev pub FlagsCleared : Type 0
+FlagsCleared = (word : ℕ) (s t : Port) → Gave AbortWrite word s t → Clears word s.target t.target

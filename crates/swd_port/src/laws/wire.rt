@@ -1,0 +1,79 @@
+//! Laws of the calls of a wire: requests and their answers, data phases, turnarounds, line resets.
+ghost use Rattle.swd_port.specs.Laws.Answers.{NeverWaits, AnswersAllowed, WaitsWhereAllowed, WaitsAtWaitOnly};
+ghost use Rattle.swd_port.specs.Laws.Answers.{SeenInRange, SeenIsDriven};
+ghost use Rattle.swd_port.specs.Laws.Calls.{DueAfterRequest, AcknowledgementSeen, NoAcknowledgementSeen, NothingDue};
+ghost use Rattle.swd_port.specs.Laws.Calls.{RequestCounted, OthersUncounted, CountedApart};
+ghost use Rattle.swd_port.specs.Laws.Requests.{ExemptRequest, ExemptRequestAtRest, IdentificationRead};
+ghost use Rattle.swd_port.specs.Laws.Requests.{IdentificationReadAtRest, FlaggedRequest, FlaggedRequestAtRest};
+ghost use Rattle.swd_port.specs.Laws.Requests.{UnpoweredRequestAtRest, FreeRequest, FreeRequestAtRest, FreeRequestExact};
+ghost use Rattle.swd_port.specs.Laws.Requests.{LostRequest, RefusedWithPower, ConfirmingRequest};
+ghost use Rattle.swd_port.specs.Laws.Requests.{UnmovedByExempt, UnmovedByFree, UnmovedByRefused};
+ghost use Rattle.swd_port.specs.Laws.DataPhases.{DataTaken, TakeMovesNothing, TakeMovesNothingAtRest};
+ghost use Rattle.swd_port.specs.Laws.DataPhases.{DataGiven, DataGivenAtRest, DataGivenExact};
+ghost use Rattle.swd_port.specs.Laws.DataPhases.{TurnaroundPassed, TurnaroundPassedAtRest};
+ghost use Rattle.swd_port.specs.Laws.LineResets.{LineReset, IdleCycles, IdleCyclesAtRest, FirstLineReset};
+
+/// How requests are answered: WAIT comes at a Wait mark alone, and there wherever it may; what the
+/// host sees as an acknowledgement is the one that was driven.
+#[tactic(auto, using(crate::proofs::AnswerLaws::answer_laws))]
+pub fn answers()
+    ensures never_waits { NeverWaits }
+    ensures allowed { AnswersAllowed }
+    ensures waits { WaitsWhereAllowed }
+    ensures waits_only { WaitsAtWaitOnly }
+    ensures range { SeenInRange }
+    ensures seen { SeenIsDriven }
+{}
+
+/// Every call, whatever the state: what is due after it, and what it adds to the numbers of
+/// requests, of disturbed and of lost ones.
+pub fn calls()
+    ensures due { DueAfterRequest }
+    ensures acknowledged { AcknowledgementSeen }
+    ensures unacknowledged { NoAcknowledgementSeen }
+    ensures nothing_due { NothingDue }
+    ensures counted { RequestCounted }
+    ensures uncounted { OthersUncounted }
+    ensures apart { CountedApart }
+{}
+
+/// What a request leaves, by its kind and the flags: an exempt one, one that meets a flag, a free
+/// one, and one that tells what came of a transfer.
+pub fn requests()
+    ensures exempt { ExemptRequest }
+    ensures exempt_at_rest { ExemptRequestAtRest }
+    ensures identification { IdentificationRead }
+    ensures identification_at_rest { IdentificationReadAtRest }
+    ensures flagged { FlaggedRequest }
+    ensures flagged_at_rest { FlaggedRequestAtRest }
+    ensures unpowered_at_rest { UnpoweredRequestAtRest }
+    ensures free { FreeRequest }
+    ensures free_at_rest { FreeRequestAtRest }
+    ensures free_exact { FreeRequestExact }
+    ensures lost { LostRequest }
+    ensures refused { RefusedWithPower }
+    ensures unmoved_by_exempt { UnmovedByExempt }
+    ensures unmoved_by_free { UnmovedByFree }
+    ensures unmoved_by_refused { UnmovedByRefused }
+    ensures confirming { ConfirmingRequest }
+{}
+
+/// What a data phase carries and leaves, and that a turnaround leaves all as it was.
+pub fn data_phases()
+    ensures taken { DataTaken }
+    ensures take_moves_nothing { TakeMovesNothing }
+    ensures take_at_rest { TakeMovesNothingAtRest }
+    ensures given { DataGiven }
+    ensures given_at_rest { DataGivenAtRest }
+    ensures given_exact { DataGivenExact }
+    ensures passed { TurnaroundPassed }
+    ensures passed_at_rest { TurnaroundPassedAtRest }
+{}
+
+/// What a line reset and idle cycles leave.
+pub fn line_resets()
+    ensures reset { LineReset }
+    ensures idle { IdleCycles }
+    ensures idle_at_rest { IdleCyclesAtRest }
+    ensures first { FirstLineReset }
+{}

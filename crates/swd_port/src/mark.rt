@@ -1,0 +1,40 @@
+//! Marks: what befalls the requests of a wire.
+ghost use Rattle.std.specs.Prelude.{◌≡◌, ◌↔◌, IsTrue};
+ghost use Rattle.swd_port.specs.Choices.{IsMark, loses};
+
+/// What befalls a request.
+#[derive(Clone, Copy, Debug, PartialEq, Eq)]
+pub enum Mark {
+    /// Nothing.
+    Clean,
+    /// WAIT is answered, where the request may get it and would get OK otherwise.
+    Wait,
+    /// This one of the 33 bits of its data phase arrives changed, where it has a data phase. Bit 0
+    /// is the first in time and the word's least significant, bit 32 the parity.
+    Flip(u8),
+    /// The target doesn't see the request.
+    Deaf,
+    /// The host sees this one of the three bits of the acknowledgement changed, where one is
+    /// driven. Bit 0 is the first in time.
+    Mute(u8),
+}
+
+impl Mark {
+    /// The bit is one that there is: below 33 for `Flip`, below 3 for `Mute`.
+    pub fn legal(&self) -> bool
+        ensures { IsTrue result ↔ IsMark self.now }
+    {
+        match *self {
+            Mark::Flip(place) => place < 33,
+            Mark::Mute(place) => place < 3,
+            _ => true,
+        }
+    }
+
+    /// The acknowledgement may be lost: `Deaf` and `Mute`.
+    pub fn is_lost(&self) -> bool
+        ensures { IsTrue result ↔ (loses self.now ≡ 1) }
+    {
+        matches!(self, Mark::Deaf | Mark::Mute(_))
+    }
+}

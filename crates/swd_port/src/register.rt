@@ -1,0 +1,74 @@
+//! The registers that a request reaches.
+ghost use Rattle.std.specs.Prelude.{◌≡◌, true};
+ghost use Rattle.swd_port.specs.Port.{register, is_reached};
+ghost use Rattle.swd_port.specs.declared.select.Select.{Select};
+
+use swd_bits::{Reg4, Request};
+
+/// What a request asks for, once SELECT is known: a register, and a direction. The debug port's are
+/// at addresses 0 to c of its bank DPBANKSEL, the access port's at 0 to c of its bank APBANKSEL.
+#[derive(Clone, Copy, Debug, PartialEq, Eq)]
+pub enum Register {
+    /// DPIDR, at 0 of any bank: which debug port it is.
+    DpidrRead,
+    /// ABORT, at 0 of any bank: clears the sticky flags.
+    AbortWrite,
+    /// CTRL/STAT, at 4 of bank 0.
+    CtrlStatRead,
+    /// CTRL/STAT, at 4 of bank 0.
+    CtrlStatWrite,
+    /// SELECT, at 8 of any bank.
+    SelectWrite,
+    /// RESEND, at 8 of any bank: the last value that an AP read or RDBUFF gave, again.
+    ResendRead,
+    /// RDBUFF, at c of any bank: the result of the last AP read.
+    RdbuffRead,
+    /// The debug port's address 4 in any bank but 0, where nothing stands: 0.
+    DpZeroRead,
+    /// The debug port's address c, and 4 in any bank but 0, where nothing stands: no effect.
+    DpIgnoredWrite,
+    /// CSW, at 0 of bank 0 of access port 0.
+    CswRead,
+    /// CSW, at 0 of bank 0 of access port 0.
+    CswWrite,
+    /// TAR, at 4 of bank 0 of access port 0.
+    TarRead,
+    /// TAR, at 4 of bank 0 of access port 0.
+    TarWrite,
+    /// DRW, at c of bank 0 of access port 0: a read of the word at TAR.
+    DrwRead,
+    /// DRW, at c of bank 0 of access port 0: a write of the word at TAR.
+    DrwWrite,
+    /// Address 8 of bank 0 of access port 0, and any of another bank or access port: 0.
+    ApZeroRead,
+    /// Address 8 of bank 0 of access port 0, and any of another bank or access port: no effect.
+    ApIgnoredWrite,
+}
+
+impl Register {
+    /// The request that names this register, under a SELECT by which it can be named: SELECT 0 for
+    /// all but `DpZeroRead`, which has no address in bank 0 of the debug port.
+    pub fn request(self) -> Request
+        ensures { (select : Select) → is_reached select self ≡ true → register select result ≡ self }
+    {
+        let (ap, read, addr) = match self {
+            Register::DpidrRead => (false, true, Reg4::R0),
+            Register::AbortWrite => (false, false, Reg4::R0),
+            Register::CtrlStatRead | Register::DpZeroRead => (false, true, Reg4::R4),
+            Register::CtrlStatWrite => (false, false, Reg4::R4),
+            Register::ResendRead => (false, true, Reg4::R8),
+            Register::SelectWrite => (false, false, Reg4::R8),
+            Register::RdbuffRead => (false, true, Reg4::RC),
+            Register::DpIgnoredWrite => (false, false, Reg4::RC),
+            Register::CswRead => (true, true, Reg4::R0),
+            Register::CswWrite => (true, false, Reg4::R0),
+            Register::TarRead => (true, true, Reg4::R4),
+            Register::TarWrite => (true, false, Reg4::R4),
+            Register::ApZeroRead => (true, true, Reg4::R8),
+            Register::ApIgnoredWrite => (true, false, Reg4::R8),
+            Register::DrwRead => (true, true, Reg4::RC),
+            Register::DrwWrite => (true, false, Reg4::RC),
+        };
+        Request { ap, read, addr }
+    }
+}

@@ -1,8 +1,0 @@
-use Rattle.std.proofs.Common.{take}
-use Rattle.swd_trace.specs.Texts.{trace_text}
-use Rattle.swd_script.specs.Blocks.{Sends}
-use Rattle.swd_script.proofs.encoding.write_items.Given as goal
-
-abbrev pub invariant-loop-item : goal.invariant-loop-item
-invariant-loop-item g l =
-    Sends (g.W.Write.contents l.fn.writer) (g.W.Write.contents l.writer) l.block (trace_text (take l.item-index l.items))

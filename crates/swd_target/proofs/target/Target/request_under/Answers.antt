@@ -1,0 +1,12 @@
+use Rattle.std.proofs.Common.{◌≡◌, refl, sym, ap, subst, ◌∙◌}
+use Rattle.swd_port.specs.declared.mark.Mark.{Mark}
+use Rattle.swd_port.specs.declared.mark.Mark.TheVariants.{Deaf}
+use Rattle.swd_port.specs.declared.state.Line.TheVariants.{Idle}
+use Rattle.swd_port.specs.declared.state.Reply.TheVariants.{Silent}
+use Rattle.swd_target.specs.Requests.{AnswersUnder}
+use Rattle.swd_target.proofs.AskLemmas.{answers_deaf}
+use Rattle.swd_target.proofs.target.Target.request_under.Goals as goal
+
+pub returns-in-Deaf-clause-answers : goal.returns-in-Deaf-clause-answers
+returns-in-Deaf-clause-answers c =
+    subst (λ (mark : Mark). AnswersUnder mark c.args.request c.args.self.now Silent Idle c.args.self.now) (sym c.in-Deaf.is) (answers_deaf c.args.request c.args.self.now)

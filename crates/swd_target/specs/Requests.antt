@@ -1,0 +1,45 @@
+-- What a simulated target does at a request and at the data of a write. All of it is this project's choice.
+use Rattle.std.specs.Prelude.{ℕ, ◌≡◌, ◌⊎◌, Bool, false}
+use Rattle.swd_bits.specs.declared.request.Request.{Request}
+use Rattle.swd_port.specs.declared.mark.Mark.{Mark}
+use Rattle.swd_port.specs.declared.state.Line.{Line}
+use Rattle.swd_port.specs.declared.state.Reply.{Reply}
+use Rattle.swd_port.specs.Port.{Port, Link, Tally, Target as State}
+use Rattle.swd_port.specs.Choices.{Choice, IsChoice, IsMark, is_deaf, is_wait}
+use Rattle.swd_port.specs.Answers.{seen_at}
+use Rattle.swd_port.specs.Completion.{Completes, completion_of}
+use Rattle.swd_port.specs.Asking.{AsksNow, tally_after}
+use Rattle.swd_port.specs.Moving.{Arrival, after_bits}
+use Rattle.swd_target.specs.declared.target.Target.{Target}
+use Rattle.swd_target.specs.Simulations.{asked, reply_to, phase_to, link_after, arrived}
+use Rattle.swd_target.specs.Targets.{state_of, simulation}
+use Rattle.swd_target.specs.Flips.{line_under}
+
+-- the state of the port machine, from that of its target
+abbrev pub port_at : Link → Tally → State → Port
+port_at l n s = record { link = l; target = s; tally = n }
+
+-- the pending transfer takes effect, or not yet
+abbrev pub Transfers : State → State → Type 0
+Transfers s t = (t ≡ s) ⊎ ((c : Choice) × IsChoice c × (t ≡ completion_of c s))
+
+-- one call of `ask` under a mark: a step of the port machine
+abbrev pub AsksUnder : Mark → Port → Request → ℕ → Port → Type 0
+AsksUnder mark s q seen t = (a : Port) × (b : Port) × (c : Choice) × Completes s a × AsksNow mark c a q seen b × Completes b t
+
+-- A request under a mark, with its reply and the data phase as it arrives: a step of the port machine, and exactly the step that the
+-- quirks and the mark choose.
+pub record AnswersUnder (mark : Mark) (q : Request) (s : Target) (reply : Reply) (phase : Line) (t : Target) : Type 0 where
+  pub step : (l : Link) (n : Tally) → AsksUnder mark (port_at l n (state_of s)) q (seen_at mark reply) (port_at (link_after mark q reply phase l) (tally_after mark n) (state_of t))
+  pub replies : reply ≡ reply_to mark q (simulation s)
+  pub phases : phase ≡ phase_to mark q (simulation s)
+  pub exact : simulation t ≡ asked mark q (simulation s)
+
+-- a request that the target sees, where WAIT is asked for or not: the same under each mark that asks for no more
+pub record Answers (waits : Bool) (q : Request) (s : Target) (reply : Reply) (phase : Line) (t : Target) : Type 0 where
+  pub under : (mark : Mark) → IsMark mark → is_deaf mark ≡ false → is_wait mark ≡ waits → AnswersUnder mark q s reply (line_under mark phase) t
+
+-- the data of a write: a step of the port machine, and exactly the step that the quirks choose
+pub record DataComes (a : Arrival) (s t : Target) : Type 0 where
+  pub later : Transfers (after_bits a (state_of s)) (state_of t)
+  pub exact : simulation t ≡ arrived a (simulation s)

@@ -1,0 +1,109 @@
+//! Data phases: the 33 bits that a target drives or awaits.
+ghost use Rattle.std.specs.Prelude.{◌≡◌, ◌<◌, ◌^◌, None};
+ghost use Rattle.swd_port.specs.Phases.{flipped, phase_number, word_in};
+ghost use Rattle.swd_port.specs.Choices.{flip_of};
+ghost use Rattle.swd_port.specs.Asking.{phase_after, line_after};
+ghost use Rattle.swd_port.specs.Leading.{is_awaiting};
+ghost use Rattle.swd_port.specs.Moving.{bits_driven};
+ghost use Rattle.swd_target.specs.Flips.{flip_place, awaited_flip, line_flipped};
+
+use swd_bits::{data_bits, word_of};
+use swd_port::{Line, Mark, Register, Reply};
+
+// The bit of the data phase that arrives changed.
+pub(crate) fn flip_under(mark: Mark) -> Option<u8>
+    ensures { result ≡ flip_of mark }
+{
+    match mark {
+        Mark::Flip(place) => Some(place),
+        _ => None,
+    }
+}
+
+// The data phase that follows an OK.
+pub(crate) fn phase_of(read: bool, register: Register, value: u32) -> Line
+    ensures phase { result ≡ phase_after read register None value }
+    ensures bits { bits_driven result < 2 ^ 33 }
+{
+    if read {
+        Line::Drives(phase_bits(value))
+    } else {
+        Line::Awaits(register, None)
+    }
+}
+
+// A data phase with a bit that arrives changed.
+pub(crate) fn flip_line(flip: Option<u8>, line: Line) -> Line
+    requires bits { bits_driven line < 2 ^ 33 }
+    requires place { flip_place flip < 33 }
+    ensures line { result ≡ line_flipped flip line }
+    ensures bits { bits_driven result < 2 ^ 33 }
+    ensures flip { flip_place (awaited_flip result) < 33 }
+{
+    match line {
+        Line::Idle => Line::Idle,
+        Line::Drives(bits) => Line::Drives(flip_bit(flip, bits)),
+        Line::Awaits(register, _) => Line::Awaits(register, flip),
+    }
+}
+
+// The data phase that the target is in after a reply.
+pub(crate) fn line_after_reply(reply: Reply, phase: Line, line: Line) -> Line
+    requires phase_bits { bits_driven phase < 2 ^ 33 }
+    requires phase_flip { flip_place (awaited_flip phase) < 33 }
+    requires line_bits { bits_driven line < 2 ^ 33 }
+    requires line_flip { flip_place (awaited_flip line) < 33 }
+    ensures line { result ≡ line_after reply phase line }
+    ensures bits { bits_driven result < 2 ^ 33 }
+    ensures flip { flip_place (awaited_flip result) < 33 }
+{
+    match reply {
+        Reply::Okay => phase,
+        _ => line,
+    }
+}
+
+// The 33 bits that the host gets. An undriven line reads 1.
+pub(crate) fn bits_on(line: Line) -> u64
+    ensures { result ≡ bits_driven line }
+{
+    match line {
+        Line::Drives(bits) => bits,
+        _ => 0x1_ffff_ffff,
+    }
+}
+
+pub(crate) fn is_awaiting(line: Line) -> bool
+    ensures { result ≡ is_awaiting line }
+{
+    matches!(&line, Line::Awaits(_, _))
+}
+
+// The data phase of a word.
+fn phase_bits(word: u32) -> u64
+    ensures value { result ≡ phase_number word }
+    ensures range { result < 2 ^ 33 }
+{
+    data_bits(word)
+}
+
+// A data phase as the other side gets it.
+pub(crate) fn flip_bit(flip: Option<u8>, bits: u64) -> u64
+    requires bits { bits < 2 ^ 33 }
+    requires place { flip_place flip < 33 }
+    ensures value { result ≡ flipped flip bits }
+    ensures range { result < 2 ^ 33 }
+{
+    match flip {
+        Some(place) => bits ^ 1 << place,
+        None => bits,
+    }
+}
+
+// The word of a data phase, where its parity is right.
+pub(crate) fn phase_word(bits: u64) -> Option<u32>
+    requires { bits < 2 ^ 33 }
+    ensures { result ≡ word_in bits }
+{
+    word_of(bits)
+}

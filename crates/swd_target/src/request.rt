@@ -1,0 +1,97 @@
+//! A request at a simulated target, and the data of a write: the port that each bench stands on.
+ghost use Rattle.std.specs.Prelude.{◌≡◌, ◌<◌, ◌^◌, None, if◌then◌else◌};
+ghost use Rattle.swd_port.specs.declared.state.Line.TheVariants.{Idle};
+ghost use Rattle.swd_port.specs.Phases.{word_in};
+ghost use Rattle.swd_port.specs.Choices.{IsMark};
+ghost use Rattle.swd_port.specs.Answers.{is_okay};
+ghost use Rattle.swd_port.specs.Asking.{IsWordRead, value_in, line_after, phase_after};
+ghost use Rattle.swd_port.specs.Moving.{arrival, arrival_of, bits_driven};
+ghost use Rattle.swd_target.specs.Flips.{flip_place, awaited_flip};
+ghost use Rattle.swd_target.specs.Simulations.{accepted};
+
+use crate::phase::{flip_bit, flip_line, flip_under, phase_of, phase_word};
+use crate::register::register_named;
+use crate::target::Target;
+use swd_bits::Request;
+use swd_port::{Line, Mark, Register, Reply};
+
+impl Target {
+    ghost use Rattle.swd_target.specs.Targets.{state_of, simulation, stand_in};
+    ghost use Rattle.swd_target.specs.Requests.{Answers, AnswersUnder, DataComes, Transfers};
+
+    // A request where WAIT is asked for or not: the reply, and the data phase that follows an OK.
+    pub(crate) fn request(&mut self, waits: bool, request: Request) -> (Reply, Line)
+        ensures answers { Answers waits request self.old result.0 result.1 self.new }
+        ensures driven { bits_driven result.1 < 2 ^ 33 }
+    {
+        let register = register_named(self.select, request);
+        let reply = self.reply(waits, register, request.ap);
+        let phase = self.phase(reply, register, request.read);
+        self.apply(reply, register, request.ap);
+        self.accept_after(reply);
+        (reply, phase)
+    }
+
+    // What an OK accepted takes effect as the quirks say.
+    fn accept_after(&mut self, reply: Reply)
+        ensures effect { Transfers (state_of self.old) (state_of self.new) }
+        ensures exact { simulation self.new ≡ (if is_okay reply then accepted (simulation self.old) else simulation self.old) }
+    {
+        if let Reply::Okay = reply {
+            self.accept();
+        }
+    }
+
+    // The data phase that follows a reply.
+    fn phase(&self, reply: Reply, register: Register, read: bool) -> Line
+        ensures phase { result ≡ line_after reply (phase_after read register None (value_in register (stand_in register self.now) (state_of self.now))) Idle }
+        ensures exact { result ≡ line_after reply (phase_after read register None (value_in register self.now.quirks.filler (simulation self.now).state)) Idle }
+        ensures word { IsWordRead reply read (value_in register (stand_in register self.now) (state_of self.now)) }
+        ensures driven { bits_driven result < 2 ^ 33 }
+    {
+        match reply {
+            Reply::Okay => phase_of(read, register, self.value(register)),
+            _ => Line::Idle,
+        }
+    }
+
+    // A request under a mark: the reply, and the data phase that follows an OK, as it arrives.
+    pub(crate) fn request_under(&mut self, mark: Mark, request: Request) -> (Reply, Line)
+        requires { IsMark mark }
+        ensures answers { AnswersUnder mark request self.old result.0 result.1 self.new }
+        ensures driven { bits_driven result.1 < 2 ^ 33 }
+        ensures flipped { flip_place (awaited_flip result.1) < 33 }
+    {
+        if let Mark::Deaf = mark {
+            return (Reply::Silent, Line::Idle);
+        }
+        let (reply, phase) = self.request(matches!(&mark, Mark::Wait), request);
+        (reply, flip_line(flip_under(mark), phase))
+    }
+
+    // The 33 bits of a write reach the target, and their parity says whether it is done.
+    pub(crate) fn arrive(&mut self, register: Register, bits: u64)
+        requires { bits < 2 ^ 33 }
+        ensures { DataComes (arrival_of register (word_in bits)) self.old self.new }
+    {
+        match phase_word(bits) {
+            Some(word) => {
+                self.write(register, word);
+                self.accept();
+            }
+            None => self.refuse_write(),
+        }
+    }
+
+    // The 33 bits of a write as they are sent: they reach a target that awaits them, one place
+    // changed where that is so.
+    pub(crate) fn arrive_on(&mut self, line: Line, bits: u64)
+        requires range { bits < 2 ^ 33 }
+        requires flip { flip_place (awaited_flip line) < 33 }
+        ensures { DataComes (arrival line bits) self.old self.new }
+    {
+        if let Line::Awaits(register, flip) = line {
+            self.arrive(register, flip_bit(flip, bits));
+        }
+    }
+}

@@ -1,0 +1,32 @@
+use Rattle.std.proofs.Common.{◌++◌}
+use Rattle.swd_bits.proofs.ScanLemmas.{reads_all}
+use Rattle.swd_trace.specs.Reading.{reading_of}
+use Rattle.swd_trace.specs.Texts.{listing}
+use Rattle.swd_trace.specs.Held.{rest}
+use Rattle.swd_trace.proofs.DecidedLemmas.{longest_of}
+use Rattle.swd_text.proofs.ListerLemmas.{ok_then, err_then}
+use Rattle.swd_text.proofs.lister.Lister.stop.Goals as goal
+
+pub returns-clause-ok : goal.returns-clause-ok
+returns-clause-ok g c = ok_then c.close.result
+    (λ close start seen e.
+    let h = e.1 in (
+      h.bits,
+      h.items,
+      reads_all seen h.bits e.0 h.reads,
+      longest_of h.items (λ more. reading_of (h.bits ++ more)) (rest c.args.self.now.decoder) h.lists.law h.undecided,
+      close start (listing h.items) h.lists.sends,
+    ))
+    c.close.ensures.ok
+
+pub returns-clause-err : goal.returns-clause-err
+returns-clause-err g c = err_then c.close.result
+    (λ told close start seen e.
+    let h = e.1 in (
+      h.bits,
+      h.items,
+      reads_all seen h.bits e.0 h.reads,
+      longest_of h.items (λ more. reading_of (h.bits ++ more)) (rest c.args.self.now.decoder) h.lists.law h.undecided,
+      close start (listing h.items) h.lists.sends,
+    ))
+    c.close.ensures.err

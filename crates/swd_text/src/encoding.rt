@@ -1,0 +1,87 @@
+//! The engine of `swd encode`: a listing to its trace text.
+ghost use Rattle.std.specs.Prelude.{◌≡◌, ℕ, List, ◌++◌, Option, IfSome};
+ghost use Rattle.std.specs.Io.KnownBytes.{Appends};
+ghost use Rattle.swd_trace.specs.Listed.{IsLegal};
+ghost use Rattle.swd_trace.specs.Front.{AreLegal};
+ghost use Rattle.swd_trace.specs.Texts.{item_text, trace_text};
+ghost use Rattle.swd_text.specs.Blocks.{Sends};
+ghost use Rattle.swd_text.specs.Encoding.{Encodes, Writes, fault_in};
+
+use crate::block::Block;
+use crate::fault::EngineFault;
+use std::alloc::Allocator;
+use std::io::{Read, Write};
+use swd_trace::{Item, ItemBytes, ListFault, read_list};
+
+// How many bytes of an item go out at once.
+const PIECE: usize = 128;
+
+// The trace text of an item is under way, too. A huge count goes by in pieces.
+fn put_item<W: Write>(block: &mut Block, writer: &mut W, item: &Item)
+    requires { IsLegal item.now }
+    ensures { (start : Option (List ℕ)) (all : List ℕ) → Sends start (W.contents writer.old) block.old all
+        → Sends start (W.contents writer.new) block.new (all ++ item_text item.now) }
+{
+    let mut bytes = ItemBytes::of(item);
+    let mut piece = [0u8; PIECE];
+    loop {
+        let filled = bytes.fill(&mut piece);
+        if filled == 0 {
+            return;
+        }
+        if block.stopped().is_some() {
+            return;
+        }
+        block.put(writer, &piece[..filled]);
+    }
+}
+
+// Writes the trace text of some items.
+fn write_items<W: Write>(writer: &mut W, items: &[Item]) -> Result<(), u64>
+    requires { AreLegal items.now }
+    ensures { Writes result (W.contents writer.old) (W.contents writer.new) (trace_text items.now) }
+{
+    let mut block = Block::new();
+    for item in items {
+        put_item(&mut block, writer, item);
+    }
+    block.flush(writer);
+    match block.stopped() {
+        Some(written) => Err(written),
+        None => Ok(()),
+    }
+}
+
+// A fault of the listing, or of the reader or memory behind it.
+fn fault_of(fault: ListFault) -> EngineFault
+    ensures { result ≡ fault_in fault }
+{
+    match fault {
+        ListFault::BadLine { .. } | ListFault::NotNormal { .. } => EngineFault::List(fault),
+        ListFault::Memory => EngineFault::Memory,
+        ListFault::Read => EngineFault::Read,
+    }
+}
+
+/// Reads a listing, and writes the trace text of its items, one line an item. Nothing is written
+/// before the whole list was read and found normal. Memory is taken for the items alone; time is
+/// linear in the listing and in what is written.
+///
+/// At `Ok` the trace text of all items stands written. At `Write` exactly its first `written` bytes
+/// went out. At `List`, `Read` and `Memory` nothing did. Nothing is tried again.
+pub fn encode_text<R: Read, W: Write, A: Allocator>(
+    alloc: A,
+    reader: &mut R,
+    writer: &mut W,
+) -> Result<(), EngineFault>
+    ensures { Encodes result (R.remaining reader.old) (W.contents writer.old) (W.contents writer.new) }
+{
+    let items = match read_list(alloc, reader) {
+        Ok(items) => items,
+        Err(fault) => return Err(fault_of(fault)),
+    };
+    match write_items(writer, items.as_slice()) {
+        Ok(()) => Ok(()),
+        Err(written) => Err(EngineFault::Write { written }),
+    }
+}
