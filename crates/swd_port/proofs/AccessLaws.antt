@@ -1,8 +1,6 @@
 -- The requests of a word's write and of a word's read, from the laws of each of them alone.
 use Rattle.std.proofs.Common.{◌≡◌, ◌≢◌, ◌+◌, ◌<◌, ◌^◌, ℕ, true, false, refl, sym, ap, subst, inl, inr, arith, ◌∙◌}
 use Rattle.std.specs.Prelude.{Option, Some, None}
-use Rattle.swd_bits.specs.declared.request.Request.{Request}
-use Rattle.swd_bits.specs.declared.request.Reg4.TheVariants.{RC}
 use Rattle.swd_port.specs.declared.access.Access.TheVariants.{Read, Write}
 use Rattle.swd_port.specs.declared.access.Answer.TheVariants.{Value}
 use Rattle.swd_port.specs.Phases.{IsPhaseOf, phase_number, flipped}
@@ -14,22 +12,13 @@ use Rattle.swd_port.specs.Moving.{Takes, Gives, Arrives, after_bits}
 use Rattle.swd_port.specs.Moves.{Around, Kept, Passed, Got, whole as got_whole, damaged as got_damaged, Given, Gave}
 use Rattle.swd_port.specs.Outcomes.{SeesOkay, Accepts, Spares, OkayWaitOrLost, okay, wait, lost}
 use Rattle.swd_port.specs.Transfers.{Sent, Aimed, Succeeded}
-use Rattle.swd_port.specs.Laws.Accesses.{Ready, WordWritten, WordRead}
+use Rattle.swd_port.specs.Laws.Accesses.{drw_write, drw_read, rdbuff_read, Ready, WordWritten, WordRead}
 use Rattle.swd_port.specs.Laws.WordsRead.{OnLine}
 use Rattle.swd_port.specs.Laws.Requests.{Confirms, confirms_okay, confirms_wait, confirms_fault, confirms_lost}
 use Rattle.swd_port.proofs.CompletionLaws.{none_done, kept, sent_stays, read_begins, write_begins}
 use Rattle.swd_port.proofs.RequestLaws.{free_request_exact, free_request_at_rest, confirming_request}
 use Rattle.swd_port.proofs.MovingLaws.{data_taken, data_given_at_rest, take_moves_nothing, take_moves_nothing_at_rest}
 use Rattle.swd_port.proofs.StatusLaws.{buffer_returned}
-
-abbrev drw_write : Request
-drw_write = record { ap = true; read = false; addr = RC }
-
-abbrev drw_read : Request
-drw_read = record { ap = true; read = true; addr = RC }
-
-abbrev rdbuff_read : Request
-rdbuff_read = record { ap = false; read = true; addr = RC }
 
 not_drw_read : DrwWrite ≢ DrwRead
 not_drw_read e = cc

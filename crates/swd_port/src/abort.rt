@@ -23,7 +23,10 @@ impl Flags for Abort {
 
     ghost exact = { ⊤ };
 
-    ghost table = { (codes "DAPABORT", 0x1) ∷ (codes "STKCMPCLR", 0x2) ∷ (codes "STKERRCLR", 0x4) ∷ (codes "WDERRCLR", 0x8) ∷ (codes "ORUNERRCLR", 0x10) ∷ [] };
+    ghost table = {
+        (codes "DAPABORT", 0x1) ∷ (codes "STKCMPCLR", 0x2) ∷ (codes "STKERRCLR", 0x4) ∷ (codes "WDERRCLR", 0x8)
+        ∷ (codes "ORUNERRCLR", 0x10) ∷ []
+    };
 
     ghost set_of = { λ flags. flags.0 };
 

@@ -34,7 +34,14 @@ impl Flags for CtrlStat {
 
     ghost exact = { ⊤ };
 
-    ghost table = { (codes "ORUNDETECT", 0x1) ∷ (codes "STICKYORUN", 0x2) ∷ (codes "TRNMODE", 0xc) ∷ (codes "STICKYCMP", 0x10) ∷ (codes "STICKYERR", 0x20) ∷ (codes "READOK", 0x40) ∷ (codes "WDATAERR", 0x80) ∷ (codes "MASKLANE", 0xf00) ∷ (codes "TRNCNT", 0xff_f000) ∷ (codes "CDBGRSTREQ", 0x400_0000) ∷ (codes "CDBGRSTACK", 0x800_0000) ∷ (codes "CDBGPWRUPREQ", 0x1000_0000) ∷ (codes "CDBGPWRUPACK", 0x2000_0000) ∷ (codes "CSYSPWRUPREQ", 0x4000_0000) ∷ (codes "CSYSPWRUPACK", 0x8000_0000) ∷ [] };
+    ghost table = {
+        (codes "ORUNDETECT", 0x1) ∷ (codes "STICKYORUN", 0x2) ∷ (codes "TRNMODE", 0xc)
+        ∷ (codes "STICKYCMP", 0x10) ∷ (codes "STICKYERR", 0x20) ∷ (codes "READOK", 0x40)
+        ∷ (codes "WDATAERR", 0x80) ∷ (codes "MASKLANE", 0xf00) ∷ (codes "TRNCNT", 0xff_f000)
+        ∷ (codes "CDBGRSTREQ", 0x400_0000) ∷ (codes "CDBGRSTACK", 0x800_0000) ∷ (codes "CDBGPWRUPREQ", 0x1000_0000)
+        ∷ (codes "CDBGPWRUPACK", 0x2000_0000) ∷ (codes "CSYSPWRUPREQ", 0x4000_0000)
+        ∷ (codes "CSYSPWRUPACK", 0x8000_0000) ∷ []
+    };
 
     ghost set_of = { λ flags. flags.0 };
 

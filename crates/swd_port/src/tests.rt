@@ -57,3 +57,24 @@ fn fields_stand_at_their_places(rt: HostRuntime) {
     assert_eq!(rt; Csw::of(0x2300_0052), csw);
     assert_eq!(rt; csw.bits(), 0x2300_0052);
 }
+
+#[test]
+fn a_register_is_named_by_its_byte(rt: HostRuntime) {
+    for (register, byte) in [
+        (Register::DpidrRead, 0xa5),
+        (Register::AbortWrite, 0x81),
+        (Register::CtrlStatRead, 0x8d),
+        (Register::CtrlStatWrite, 0xa9),
+        (Register::ResendRead, 0x95),
+        (Register::SelectWrite, 0xb1),
+        (Register::RdbuffRead, 0xbd),
+        (Register::CswRead, 0x87),
+        (Register::CswWrite, 0xa3),
+        (Register::TarRead, 0xaf),
+        (Register::TarWrite, 0x8b),
+        (Register::DrwRead, 0x9f),
+        (Register::DrwWrite, 0xbb),
+    ] {
+        assert_eq!(rt; register.request().bits(), byte);
+    }
+}
