@@ -60,6 +60,26 @@ ap_register s read addr = if is_mem_ap s then mem_ap_register read addr else no_
 abbrev pub register : Select → Request → Register
 register s q = if q.ap then ap_register s q.read q.addr else dp_register q.read q.addr (s.dpbanksel == 0)
 
+-- the request for each register, under a SELECT under which there is one
+abbrev pub request_of : Register → Request
+request_of DpidrRead = record { ap = false; read = true; addr = R0 }
+request_of AbortWrite = record { ap = false; read = false; addr = R0 }
+request_of CtrlStatRead = record { ap = false; read = true; addr = R4 }
+request_of CtrlStatWrite = record { ap = false; read = false; addr = R4 }
+request_of ResendRead = record { ap = false; read = true; addr = R8 }
+request_of SelectWrite = record { ap = false; read = false; addr = R8 }
+request_of RdbuffRead = record { ap = false; read = true; addr = RC }
+request_of DpZeroRead = record { ap = false; read = true; addr = R4 }
+request_of DpIgnoredWrite = record { ap = false; read = false; addr = RC }
+request_of CswRead = record { ap = true; read = true; addr = R0 }
+request_of CswWrite = record { ap = true; read = false; addr = R0 }
+request_of TarRead = record { ap = true; read = true; addr = R4 }
+request_of TarWrite = record { ap = true; read = false; addr = R4 }
+request_of ApZeroRead = record { ap = true; read = true; addr = R8 }
+request_of ApIgnoredWrite = record { ap = true; read = false; addr = R8 }
+request_of DrwRead = record { ap = true; read = true; addr = RC }
+request_of DrwWrite = record { ap = true; read = false; addr = RC }
+
 -- a SELECT under which there is a request for this register: in bank 0 for CTRL/STAT, in any other for the debug
 -- port's zeros, and in bank 0 of AP 0 for the registers that stand there
 abbrev pub is_reached : Select → Register → Bool

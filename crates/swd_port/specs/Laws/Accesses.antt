@@ -1,12 +1,10 @@
 -- Laws of whole accesses: the write and the read of a word, request by request.
 use Rattle.std.specs.Prelude.{ℕ, ◌≡◌, ◌<◌, ◌^◌, true, false}
-use Rattle.swd_bits.specs.declared.request.Reg4.TheVariants.{RC}
-use Rattle.swd_bits.specs.declared.request.Request.{Request}
 use Rattle.swd_port.specs.declared.access.Access.TheVariants.{Read, Write}
 use Rattle.swd_port.specs.declared.access.Answer.TheVariants.{Value}
 use Rattle.swd_port.specs.Phases.{IsPhaseOf}
 use Rattle.swd_port.specs.PlainMemory.{PlainMemory, word_at, plain_answer, plain_after}
-use Rattle.swd_port.specs.Port.{Port, Target, Live}
+use Rattle.swd_port.specs.Port.{Port, Target, Live, RdbuffRead, DrwRead, DrwWrite, request_of}
 use Rattle.swd_port.specs.Asking.{Asks}
 use Rattle.swd_port.specs.Moving.{Takes, Gives}
 use Rattle.swd_port.specs.Transfers.{Aimed, Succeeded}
@@ -19,16 +17,6 @@ pub record Ready (x : Target) : Type 0 where
   pub increments : x.increments ≡ true
   pub write_error : x.write_error ≡ false
 
--- the requests of an access: a write and a read of DRW, and the read of RDBUFF that confirms them
-abbrev pub drw_write : Request
-drw_write = record { ap = true; read = false; addr = RC }
-
-abbrev pub drw_read : Request
-drw_read = record { ap = true; read = true; addr = RC }
-
-abbrev pub rdbuff_read : Request
-rdbuff_read = record { ap = false; read = true; addr = RC }
-
 -- no place of this request's data phase was changed
 abbrev pub IsUndisturbed : Port → Port → Type 0
 IsUndisturbed s t = t.tally.disturbed ≡ s.tally.disturbed
@@ -36,15 +24,15 @@ IsUndisturbed s t = t.tally.disturbed ≡ s.tally.disturbed
 -- the requests of a word's write, undisturbed, each answered OK: the write was done, and once
 abbrev pub WordWritten : Type 0
 WordWritten = (at word sent bits : ℕ) (m : PlainMemory) (s asked given confirmed t : Port) → Ready s.target →
-    Aimed at m s.target → word < 2 ^ 32 → sent < 2 ^ 33 → IsPhaseOf word sent → Asks s drw_write 1 asked →
-    IsUndisturbed s asked → Gives asked sent given → Asks given rdbuff_read 1 confirmed → Takes confirmed bits t →
-    Succeeded (Write at word) m t.target
+    Aimed at m s.target → word < 2 ^ 32 → sent < 2 ^ 33 → IsPhaseOf word sent → Asks s (request_of DrwWrite) 1 asked →
+    IsUndisturbed s asked → Gives asked sent given → Asks given (request_of RdbuffRead) 1 confirmed →
+    Takes confirmed bits t → Succeeded (Write at word) m t.target
 
 -- The requests of a word's read, the confirming one undisturbed, each answered OK: the read was done, and once, and its
 -- word is what RDBUFF gives.
 abbrev pub WordRead : Type 0
 WordRead = (at first_bits bits : ℕ) (m : PlainMemory) (s asked taken confirmed t : Port) → Ready s.target →
-    Aimed at m s.target → bits < 2 ^ 33 → Asks s drw_read 1 asked → Takes asked first_bits taken →
-    Asks taken rdbuff_read 1 confirmed → IsUndisturbed taken confirmed → Takes confirmed bits t →
+    Aimed at m s.target → bits < 2 ^ 33 → Asks s (request_of DrwRead) 1 asked → Takes asked first_bits taken →
+    Asks taken (request_of RdbuffRead) 1 confirmed → IsUndisturbed taken confirmed → Takes confirmed bits t →
     IsPhaseOf (word_at at m) bits × (plain_answer (Read at) m ≡ Value (word_at at m)) ×
     (t.target.memory ≡ plain_after (Read at) m)
