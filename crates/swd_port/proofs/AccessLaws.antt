@@ -1,13 +1,11 @@
 -- The requests of a word's write and of a word's read, from the laws of each of them alone.
 use Rattle.std.proofs.Common.{◌≡◌, ◌≢◌, ◌+◌, ◌<◌, ◌^◌, ℕ, true, false, refl, sym, ap, subst, inl, inr, arith, ◌∙◌}
 use Rattle.std.specs.Prelude.{Option, Some, None}
-use Rattle.swd_bits.specs.declared.request.Request.{Request}
-use Rattle.swd_bits.specs.declared.request.Reg4.TheVariants.{RC}
 use Rattle.swd_port.specs.declared.access.Access.TheVariants.{Read, Write}
 use Rattle.swd_port.specs.declared.access.Answer.TheVariants.{Value}
 use Rattle.swd_port.specs.Phases.{IsPhaseOf, phase_number, flipped}
 use Rattle.swd_port.specs.PlainMemory.{PlainMemory, word_at, plain_answer, plain_after}
-use Rattle.swd_port.specs.Port.{Port, Target, RdbuffRead, DrwRead, DrwWrite, Idle, Drives, Awaits, Live, register}
+use Rattle.swd_port.specs.Port.{Port, Target, RdbuffRead, DrwRead, DrwWrite, Idle, Drives, Awaits, Live, register, request_of}
 use Rattle.swd_port.specs.Completion.{Completes}
 use Rattle.swd_port.specs.Asking.{Asks}
 use Rattle.swd_port.specs.Moving.{Takes, Gives, Arrives, after_bits}
@@ -22,22 +20,13 @@ use Rattle.swd_port.proofs.RequestLaws.{free_request_exact, free_request_at_rest
 use Rattle.swd_port.proofs.MovingLaws.{data_taken, data_given_at_rest, take_moves_nothing, take_moves_nothing_at_rest}
 use Rattle.swd_port.proofs.StatusLaws.{buffer_returned}
 
-abbrev drw_write : Request
-drw_write = record { ap = true; read = false; addr = RC }
-
-abbrev drw_read : Request
-drw_read = record { ap = true; read = true; addr = RC }
-
-abbrev rdbuff_read : Request
-rdbuff_read = record { ap = false; read = true; addr = RC }
-
 not_drw_read : DrwWrite ≢ DrwRead
 not_drw_read e = cc
 
 -- the request of DRW, seen as OK
-drw_seen : (at : ℕ) (m : PlainMemory) (s t : Port) → Ready s.target → Aimed at m s.target → Asks s drw_write 1 t → SeesOkay DrwWrite false 1 s t
+drw_seen : (at : ℕ) (m : PlainMemory) (s t : Port) → Ready s.target → Aimed at m s.target → Asks s (request_of DrwWrite) 1 t → SeesOkay DrwWrite false 1 s t
 drw_seen at m s t r h asks =
-    elim (free_request_exact DrwWrite drw_write 1 s t (ap (λ x. register x drw_write) r.select) refl not_drw_read r.live h.pending r.write_error h.sticky_error (λ e. r.power) asks) [
+    elim (free_request_exact DrwWrite (request_of DrwWrite) 1 s t (ap (λ x. register x (request_of DrwWrite)) r.select) refl not_drw_read r.live h.pending r.write_error h.sticky_error (λ e. r.power) asks) [
       | okay o ↦ o
       | wait w ↦ absurd (let e : 1 ≡ 2 = w.is in cc)
       | lost n e ↦ absurd (let e : true ≡ false = n.none.not_okay in cc)
@@ -74,7 +63,7 @@ given_word at word sent m s asked given r h range fits is o clean gives =
     }
 
 -- the confirming read of RDBUFF
-confirmed_done : (at word : ℕ) (m : PlainMemory) (s t : Port) → Confirms (Write at word) m RdbuffRead rdbuff_read 1 s t → Succeeded (Write at word) m t.target
+confirmed_done : (at word : ℕ) (m : PlainMemory) (s t : Port) → Confirms (Write at word) m RdbuffRead (request_of RdbuffRead) 1 s t → Succeeded (Write at word) m t.target
 confirmed_done at word m s t (confirms_okay done o) = subst (Succeeded (Write at word) m) (sym o.accepts.target) (record {
   answer = done.answer;
   memory = done.memory;
@@ -87,7 +76,7 @@ confirmed_done at word m s t (confirms_wait sent w) = absurd (let e : 1 ≡ 2 = 
 confirmed_done at word m s t (confirms_fault failed f) = absurd (let e : 1 ≡ 4 = f.is in cc)
 confirmed_done at word m s t (confirms_lost sent n e) = absurd (let e : true ≡ false = n.none.not_okay in cc)
 
-confirmed_call : (at word : ℕ) (m : PlainMemory) (s t : Port) → Around (Confirms (Write at word) m RdbuffRead rdbuff_read 1) s t → Succeeded (Write at word) m t.target
+confirmed_call : (at word : ℕ) (m : PlainMemory) (s t : Port) → Around (Confirms (Write at word) m RdbuffRead (request_of RdbuffRead) 1) s t → Succeeded (Write at word) m t.target
 confirmed_call at word m s t (a, b, first, step, last) =
     let done : Succeeded (Write at word) m b.target = confirmed_done at word m a b step in
     subst (λ p. Succeeded (Write at word) m p.target) (sym (none_done b t done.pending last)) done
@@ -96,7 +85,7 @@ pub word_written : WordWritten
 word_written at word sent bits m s asked given confirmed t r h range fits is asks clean gives reads takes =
     let g : WordGiven at word m given.target = given_word at word sent m s asked given r h range fits is (drw_seen at m s asked r h asks) clean gives in
     let done : Succeeded (Write at word) m confirmed.target = confirmed_call at word m given confirmed
-    (confirming_request (Write at word) m RdbuffRead rdbuff_read 1 given confirmed g.sent refl refl g.live g.write_error (λ e. absurd (cc)) reads) in
+    (confirming_request (Write at word) m RdbuffRead (request_of RdbuffRead) 1 given confirmed g.sent refl refl g.live g.write_error (λ e. absurd (cc)) reads) in
     subst (Succeeded (Write at word) m) (sym (take_moves_nothing_at_rest bits confirmed t done.pending takes).0.target) done
 
 -- what stands from the request of a DRW read on
@@ -106,10 +95,10 @@ record ReadGiven (at : ℕ) (m : PlainMemory) (x : Target) : Type 0 where
   pub sent : Sent (Read at) m x
 
 -- the request of a DRW read, seen as OK
-read_seen : (at : ℕ) (m : PlainMemory) (s t : Port) → Ready s.target → Aimed at m s.target → Asks s drw_read 1 t → ReadGiven at m t.target
+read_seen : (at : ℕ) (m : PlainMemory) (s t : Port) → Ready s.target → Aimed at m s.target → Asks s (request_of DrwRead) 1 t → ReadGiven at m t.target
 read_seen at m s t r h asks =
     let found : (b : Port) × OkayWaitOrLost DrwRead true 1 s b × Completes b t =
-    free_request_at_rest DrwRead drw_read 1 s t (ap (λ x. register x drw_read) r.select) refl r.live h.pending r.write_error h.sticky_error (λ e. r.power) asks in
+    free_request_at_rest DrwRead (request_of DrwRead) 1 s t (ap (λ x. register x (request_of DrwRead)) r.select) refl r.live h.pending r.write_error h.sticky_error (λ e. r.power) asks in
     let k : Kept found.0 t = kept found.0 t found.2 in
     elim found.1 [
       | okay o ↦ record {
@@ -136,7 +125,7 @@ record WordOut (at : ℕ) (m : PlainMemory) (t : Port) : Type 0 where
   pub range : word_at at m < 2 ^ 32
   pub line : t.link.line ≡ Drives (flipped None (phase_number (word_at at m)))
 
-buffer_seen : (at : ℕ) (m : PlainMemory) (s t : Port) → Confirms (Read at) m RdbuffRead rdbuff_read 1 s t → t.tally.disturbed ≡ s.tally.disturbed → WordOut at m t
+buffer_seen : (at : ℕ) (m : PlainMemory) (s t : Port) → Confirms (Read at) m RdbuffRead (request_of RdbuffRead) 1 s t → t.tally.disturbed ≡ s.tally.disturbed → WordOut at m t
 buffer_seen at m s t (confirms_okay done o) clean =
     let whole_phase : o.flip ≡ None = not_flipped o.flip s t o.spares clean in
     let back : OnLine (word_at at m) o.flip t × (t.target.last_returned ≡ Some (word_at at m)) = buffer_returned RdbuffRead o.flip (word_at at m) s t refl done.buffered o.accepts in
@@ -151,7 +140,7 @@ buffer_seen at m s t (confirms_wait sent w) clean = absurd (let e : 1 ≡ 2 = w.
 buffer_seen at m s t (confirms_fault failed f) clean = absurd (let e : 1 ≡ 4 = f.is in cc)
 buffer_seen at m s t (confirms_lost sent n e) clean = absurd (let e : true ≡ false = n.none.not_okay in cc)
 
-buffer_call : (at : ℕ) (m : PlainMemory) (s t : Port) → Around (Confirms (Read at) m RdbuffRead rdbuff_read 1) s t → t.tally.disturbed ≡ s.tally.disturbed → WordOut at m t
+buffer_call : (at : ℕ) (m : PlainMemory) (s t : Port) → Around (Confirms (Read at) m RdbuffRead (request_of RdbuffRead) 1) s t → t.tally.disturbed ≡ s.tally.disturbed → WordOut at m t
 buffer_call at m s t (a, b, first, step, last) clean =
     let k : Kept s a = kept s a first in let l : Kept b t = kept b t last in
     let out : WordOut at m b = buffer_seen at m a b step (ap (λ n. n.disturbed) (sym l.tally) ∙ clean ∙ ap (λ n. n.disturbed) (sym k.tally)) in
@@ -165,7 +154,7 @@ pub word_read : WordRead
 word_read at first_bits bits m s asked taken confirmed t r h fits asks first reads clean takes =
     let sent : ReadGiven at m taken.target = read_taken at first_bits m asked taken (read_seen at m s asked r h asks) first in
     let out : WordOut at m confirmed = buffer_call at m taken confirmed
-    (confirming_request (Read at) m RdbuffRead rdbuff_read 1 taken confirmed sent.sent refl refl sent.live sent.write_error (λ e. absurd (cc)) reads) clean in (
+    (confirming_request (Read at) m RdbuffRead (request_of RdbuffRead) 1 taken confirmed sent.sent refl refl sent.live sent.write_error (λ e. absurd (cc)) reads) clean in (
       got_phase (word_at at m) bits (data_taken None (word_at at m) bits confirmed t out.line out.range fits takes),
       out.answer,
       ap (λ x. x.memory) ((take_moves_nothing_at_rest bits confirmed t out.pending takes).0.target) ∙ out.memory,

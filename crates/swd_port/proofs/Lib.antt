@@ -11,3 +11,4 @@ pub mod StatusLaws
 pub mod CallLaws
 pub mod AccessLaws
 mod WorkedLaws
+mod OpenWires

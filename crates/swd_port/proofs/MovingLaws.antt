@@ -1,14 +1,14 @@
 -- Laws of data phases, turnarounds, ones and zeros.
 use Rattle.std.proofs.Common.{◌≡◌, ◌≢◌, ◌<◌, ◌^◌, ℕ, false, refl, sym, ap, subst, inl, inr, arith, ◌∙◌}
-use Rattle.std.specs.Prelude.{Option, Some, None, ◌==◌, ◌||◌}
+use Rattle.std.specs.Prelude.{Option, Some, None, ◌==◌}
 use Rattle.swd_bits.specs.Bits.{low_bits}
 use Rattle.swd_port.specs.Phases.{phase_number, word_in, flipped}
-use Rattle.swd_port.specs.Port.{Port, idle_link, Register, DrwWrite, Fresh, Idle, Awaits, Drw, made}
+use Rattle.swd_port.specs.Port.{Port, idle_link, Register, DrwWrite, Idle, Awaits, Drw, made}
 use Rattle.swd_port.specs.Choices.{Choice}
 use Rattle.swd_port.specs.Completion.{Completes, completed}
 use Rattle.swd_port.specs.Moving.{bits_driven, after_take, after_pass, Arrives, Damaged, arrival, after_arrival, pending_after}
-use Rattle.swd_port.specs.Leading.{Leads, is_awaiting}
-use Rattle.swd_port.specs.Moves.{Around, Kept, Passed, Got, Gave, Spoiled, Given, whole, damaged}
+use Rattle.swd_port.specs.Leading.{Leads}
+use Rattle.swd_port.specs.Moves.{reset_target, Around, Kept, Passed, Got, Gave, Spoiled, Given, whole, damaged}
 use Rattle.swd_port.specs.Laws.DataPhases.{DataTaken, TakeMovesNothing, TakeMovesNothingAtRest, DataGiven, DataGivenAtRest, DataGivenExact, TurnaroundPassed, TurnaroundPassedAtRest}
 use Rattle.swd_port.specs.Laws.LineResets.{LineReset, IdleCycles, IdleCyclesAtRest, FirstLineReset}
 use Rattle.swd_port.proofs.PhaseLemmas.{word_phase, word_flip, bits_phase, phase_told, word_told}
@@ -116,7 +116,7 @@ resets : (n : ℕ) → n ≢ 0 → (n == 0) ≡ false
 resets n other = grind arith
 
 abbrev after_ones : Port → Port
-after_ones s = record s { link = idle_link; target = record s.target { reset = Fresh; write_error = is_awaiting s.link.line || s.target.write_error } }
+after_ones s = record s { link = idle_link; target = reset_target s }
 
 led : (ones : ℕ) (s t : Port) → ones ≢ 0 → Leads s ones t → (a : Port) × Completes s a × (t ≡ after_ones a)
 led ones s t other (a, b, first, now, last) = before_step after_ones (λ c p. refl) s a b t first (now.after ∙ rw (resets ones other) refl) last

@@ -13,7 +13,7 @@ use Rattle.swd_port.specs.Outcomes.{Steady, Unmoved, Stays, Defers, Refuses, Acc
 use Rattle.swd_port.specs.Completion.{Completes}
 use Rattle.swd_port.specs.Moves.{Around, Kept}
 use Rattle.swd_port.specs.Transfers.{Sent}
-use Rattle.swd_port.specs.Laws.Requests.{ExemptRequest, ExemptRequestAtRest, IdentificationRead, IdentificationReadAtRest, FlaggedRequest, FlaggedRequestAtRest, UnpoweredRequestAtRest, FreeRequest, FreeRequestAtRest, FreeRequestExact, LostRequest, RefusedWithPower, UnmovedByExempt, UnmovedByFree, UnmovedByRefused, Confirms, confirms_okay, confirms_wait, confirms_fault, confirms_lost, ConfirmingRequest}
+use Rattle.swd_port.specs.Laws.Requests.{FreeOrFault, LeftByLost, ExemptRequest, ExemptRequestAtRest, IdentificationRead, IdentificationReadAtRest, FlaggedRequest, FlaggedRequestAtRest, UnpoweredRequestAtRest, FreeRequest, FreeRequestAtRest, FreeRequestExact, LostRequest, RefusedWithPower, UnmovedByExempt, UnmovedByFree, UnmovedByRefused, Confirms, confirms_okay, confirms_wait, confirms_fault, confirms_lost, ConfirmingRequest}
 use Rattle.swd_port.proofs.CompletionLaws.{kept, none_done, sent_stays, sent_succeeds, sent_fails}
 
 -- the request with its reply and its register as variables
@@ -263,9 +263,6 @@ flagged_request r q seen s t named plain live flag (a, b, mark, c, first, now, l
     let k : Kept s a = kept s a first in
     (a, b, first, flagged_now mark c r q seen a b (ap (λ x. register x q) k.select ∙ named) plain (k.reset ∙ live) (flag_stays s a k flag) now, last)
 
-abbrev FreeOrFault : Register → Request → ℕ → Port → Port → Type 0
-FreeOrFault r q seen a b = ((a.target.sticky_error ≡ false) × OkayWaitOrLost r q.read seen a b) ⊎ ((a.target.sticky_error ≡ true) × FaultOrLost r q.ap seen a b)
-
 free_or_fault : (mark : Mark) (c : Choice) (r : Register) (q : Request) (seen : ℕ) (s t : Port) → register s.target.select q ≡ r → is_exempt r ≡ false → s.target.reset ≡ Live → s.target.write_error ≡ false →
     (q.ap ≡ true → s.target.debug_power ≡ true) → AsksNow mark c s q seen t → (b : Bool) → s.target.sticky_error ≡ b → FreeOrFault r q seen s t
 free_or_fault mark c r q seen s t named plain live write power h false e = inl (e, free_now mark c r q seen s t named plain live write e power h)
@@ -361,12 +358,9 @@ starts_drw : (r : Register) (pending : Option Drw) → (pending_once_read r pend
 starts_drw DrwRead pending = inr refl
 starts_drw r pending = inl refl
 
-abbrev Left : Register → Target → Target → Type 0
-Left r x y = Steady x y × (y.sticky_error ≡ x.sticky_error) × ((y.pending ≡ x.pending) ⊎ (r ≡ DrwRead))
-
 pub lost_request : LostRequest
-lost_request r read s t (inl h) = subst (Left r s.target) (sym h.target) (steady_after Silent r false s.target, refl, inl refl)
-lost_request r read s t (inr h) = subst (Left r s.target) (sym h.target) (steady_after Okay r false s.target, refl, starts_drw r s.target.pending)
+lost_request r read s t (inl h) = subst (LeftByLost r s.target) (sym h.target) (steady_after Silent r false s.target, refl, inl refl)
+lost_request r read s t (inr h) = subst (LeftByLost r s.target) (sym h.target) (steady_after Okay r false s.target, refl, starts_drw r s.target.pending)
 
 -- what it leaves in all cases
 unreset_other : (a b : Reset) → b ≡ Live → a ≢ Unreset → b ≢ Unreset

@@ -8,7 +8,7 @@ use Rattle.swd_port.specs.Port.{Target, Register, Drives, Drw}
 use Rattle.swd_port.specs.Asking.{is_posted, value_read, value_in, status_in, buffer_once_read, pending_once_read, after_okay}
 use Rattle.swd_port.specs.Answers.{is_exempt}
 use Rattle.swd_port.specs.Transfers.{Carries}
-use Rattle.swd_port.specs.Laws.WordsRead.{StatusWord, holds, IdentificationReturned, StatusReturned, BufferReturned, ValueResent, CarriedByRequest, CarriedWhereHeld, CarriedWherePassed, CarriedByReset, Clears, FlagsCleared}
+use Rattle.swd_port.specs.Laws.WordsRead.{StatusWord, holds, IdentificationReturned, StatusReturned, BufferReturned, ValueResent, CarriedByRequest, CarriedWhereHeld, CarriedWhereRefused, CarriedWherePassed, CarriedByReset, Clears, FlagsCleared}
 
 -- CTRL/STAT
 sticky_held : (a b d e f : Bool) → holds 0x20 (ctrl_stat_read a b d e f) ≡ a
@@ -119,6 +119,16 @@ carried_by_request r read flip s t (inr e) h = subst (Leaves s.target) (sym (h.t
 pub carried_where_held : CarriedWhereHeld
 carried_where_held r s t (inl h) = subst (Carries s.target) (sym h.target) (record { pending = refl; tar = refl; memory = refl; sticky_error = refl; buffer = refl; increments = refl })
 carried_where_held r s t (inr h) = subst (Carries s.target) (sym h.target) (record { pending = refl; tar = refl; memory = refl; sticky_error = refl; buffer = refl; increments = refl })
+
+pub carried_where_refused : CarriedWhereRefused
+carried_where_refused r access s t h e = record {
+  pending = ap (λ x. x.pending) h.target;
+  tar = ap (λ x. x.tar) h.target;
+  memory = ap (λ x. x.memory) h.target;
+  sticky_error = e;
+  buffer = ap (λ x. x.buffer) h.target;
+  increments = ap (λ x. x.increments) h.target;
+}
 
 pub carried_where_passed : CarriedWherePassed
 carried_where_passed s t h = subst (Carries s.target) (sym h.target) (record { pending = refl; tar = refl; memory = refl; sticky_error = refl; buffer = refl; increments = refl })

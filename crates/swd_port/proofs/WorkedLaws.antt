@@ -19,10 +19,10 @@ use Rattle.swd_port.specs.Transfers.{Sent, owed, Aimed}
 use Rattle.swd_port.specs.Laws.Accesses.{Ready}
 use Rattle.swd_port.proofs.PhaseLemmas.{word_phase, word_flip}
 
-abbrev choice : Choice
+abbrev pub choice : Choice
 choice = record { address = 0; wraps = true; filler = 0 }
 
-choice_fits : IsChoice choice
+pub choice_fits : IsChoice choice
 choice_fits = record { address = omega arith; filler = omega arith }
 
 abbrev dp_read : Reg4 → Request

@@ -1,4 +1,7 @@
 -- How a target answers a request, and what the host sees of it.
+-- Source: IHI 0031, B4, "Acknowledge response", "WAIT response to read or write operation request", "FAULT response
+-- to read or write operation request", "Protocol error response", "Connection and line reset sequence"; and B1,
+-- "Sticky flags and DP error responses".
 pub use Rattle.swd_port.specs.declared.state.Reply.{Reply}
 pub use Rattle.swd_port.specs.declared.state.Reply.TheVariants.{Okay, Waits, Faults, Silent}
 use Rattle.std.specs.Prelude.{ℕ, ◌≡◌, ◌==◌, ◌⊎◌, ◌^◌, ◌||◌, ◌&&◌, not, Bool, true, false, if◌then◌else◌, bit_xor}
@@ -10,20 +13,20 @@ use Rattle.swd_port.specs.declared.wire.Due.TheVariants.{Take, Give, Pass, Lost}
 use Rattle.swd_port.specs.Port.{Register, DpidrRead, AbortWrite, CtrlStatRead, Reset, Unreset, Fresh, Live}
 use Rattle.swd_port.specs.Choices.{Mark, Mute, is_wait, is_deaf}
 
--- never WAIT or FAULT: DPIDR read, CTRL/STAT read, ABORT write (IHI 0031, B4, "FAULT response to read or write operation request")
+-- never WAIT or FAULT: DPIDR read, CTRL/STAT read, ABORT write
 abbrev pub is_exempt : Register → Bool
 is_exempt DpidrRead = true
 is_exempt CtrlStatRead = true
 is_exempt AbortWrite = true
 is_exempt _ = false
 
--- the read that has to be the first after a line reset (IHI 0031, B4, "Connection and line reset sequence")
+-- the read that has to be the first after a line reset
 abbrev pub is_dpidr : Register → Bool
 is_dpidr DpidrRead = true
 is_dpidr _ = false
 
--- before any line reset no request is answered, and then none but a DPIDR read until that was read
--- (that DPIDR is to be read first: IHI 0031, B4, "Connection and line reset sequence"; silence till then: this project's choice)
+-- before any line reset no request is answered, and then none but a DPIDR read until that was read (silence till
+-- then: this project's choice)
 abbrev pub is_answered : Reset → Register → Bool
 is_answered Unreset r = false
 is_answered Fresh r = is_dpidr r
@@ -33,8 +36,7 @@ is_answered Live r = true
 abbrev pub is_unpowered : Bool → Bool → Bool
 is_unpowered ap debug_power = ap && not debug_power
 
--- The answer where no WAIT is asked for: FAULT while STICKYERR or WDATAERR is set, and for an AP access without power
--- (IHI 0031, B1, "Sticky flags and DP error responses").
+-- the answer where no WAIT is asked for: FAULT while STICKYERR or WDATAERR is set, and for an unpowered AP access
 abbrev pub answer : Reset → Bool → Bool → Bool → Register → Reply
 answer reset sticky_error write_error unpowered r =
     if not (is_answered reset r) then Silent
@@ -42,46 +44,42 @@ answer reset sticky_error write_error unpowered r =
     else if sticky_error || write_error || unpowered then Faults
     else Okay
 
--- OK was answered (IHI 0031, B4, "Acknowledge response")
+-- OK was answered
 abbrev pub is_okay : Reply → Bool
 is_okay Okay = true
 is_okay _ = false
 
--- FAULT was answered (IHI 0031, B4, "Acknowledge response")
-abbrev pub is_fault : Reply → Bool
-is_fault Faults = true
-is_fault _ = false
-
--- WAIT may stand for OK to a request that isn't exempt; FAULT goes before WAIT
--- (IHI 0031, B4, "WAIT response to read or write operation request"; the order: this project's choice)
+-- WAIT may stand for OK to a request that isn't exempt; FAULT goes before WAIT (the order: this project's choice)
 abbrev pub may_wait : Register → Reply → Bool
 may_wait r a = is_okay a && not (is_exempt r)
 
--- what may be answered: the answer, or WAIT where that may stand for it (IHI 0031, B4, "Acknowledge response")
+-- what may be answered: the answer, or WAIT where that may stand for it
 abbrev pub MayAnswer : Register → Reply → Reply → Type 0
 MayAnswer r a reply = (reply ≡ a) ⊎ ((may_wait r a ≡ true) × (reply ≡ Waits))
 
--- what is answered under a mark: WAIT at a Wait mark alone, wherever it may be; nothing to a request that isn't seen (this project's choice)
+-- what is answered under a mark: WAIT at a Wait mark alone, wherever it may be; nothing to a request that isn't
+-- seen (this project's choice)
 abbrev pub reply_under : Mark → Register → Reply → Reply
 reply_under mark r a =
     if is_deaf mark then Silent
     else if is_wait mark && may_wait r a then Waits
     else a
 
--- the number of the three bits that the target drives (IHI 0031, B4, "Acknowledge response"); an undriven line reads 1 (this project's choice)
+-- the number of the three bits that the target drives; an undriven line reads 1 (this project's choice)
 abbrev pub driven : Reply → ℕ
 driven Okay = number (ack AckOk)
 driven Waits = number (ack AckWait)
 driven Faults = number (ack AckFault)
 driven Silent = 7
 
--- the number of the three bits that the host sees: one bit of a driven acknowledgement changed by Mute (this project's choice)
+-- the number of the three bits that the host sees: one bit of a driven acknowledgement changed by Mute (this
+-- project's choice)
 abbrev pub seen_at : Mark → Reply → ℕ
 seen_at mark Silent = driven Silent
 seen_at (Mute place) reply = bit_xor (driven reply) (2 ^ place)
 seen_at mark reply = driven reply
 
--- what has to come after an acknowledgement that was seen (IHI 0031, B4, "Acknowledge response", and for Lost "Protocol error response")
+-- what has to come after an acknowledgement that was seen
 abbrev pub due_after : Bool → ℕ → Due
 due_after read seen =
     if seen == 1 then (if read then Take else Give)

@@ -1,15 +1,20 @@
 -- A request and its acknowledgement: one call of `ask`.
-use Rattle.std.specs.Prelude.{ℕ, ◌≡◌, ◌<◌, ◌^◌, ◌+◌, ◌||◌, Bool, true, false, if◌then◌else◌, Option, Some, None, unwrap_or}
+-- Source: IHI 0031, B4, "Packet request", "Acknowledge response", "Data transfer", "Read accesses"; B2, on
+-- CTRL/STAT, RDBUFF and RESEND; and MEM-AP, "DRW, Data Read/Write register".
+use Rattle.std.specs.Prelude.{ℕ, ◌≡◌, ◌<◌, ◌^◌, ◌+◌, ◌||◌, Bool, true, false, if◌then◌else◌, Option, Some, None}
+use Rattle.std.specs.Prelude.{unwrap_or}
 use Rattle.swd_bits.specs.declared.request.Request.{Request}
 use Rattle.swd_port.specs.Registers.{ctrl_stat_read, csw_read}
 use Rattle.swd_port.specs.Phases.{phase_number, flipped}
-use Rattle.swd_port.specs.Port.{Port, Target, Tally, Register, DpidrRead, CtrlStatRead, ResendRead, RdbuffRead, DpZeroRead, CswRead, TarRead, DrwRead, ApZeroRead, Live, Line, Drives, Awaits, Drw, Reads, register}
+use Rattle.swd_port.specs.Port.{Port, Target, Tally, Register, DpidrRead, CtrlStatRead, ResendRead, RdbuffRead}
+use Rattle.swd_port.specs.Port.{DpZeroRead, CswRead, TarRead, DrwRead, ApZeroRead, Live, Line, Drives, Awaits, Drw}
+use Rattle.swd_port.specs.Port.{Reads, register}
 use Rattle.swd_port.specs.Choices.{Mark, IsMark, flip_of, disturbs, loses, Choice, IsChoice}
-use Rattle.swd_port.specs.Answers.{Reply, Okay, Waits, Faults, Silent, is_exempt, is_dpidr, is_okay, is_unpowered, answer, reply_under, seen_at, due_after}
+use Rattle.swd_port.specs.Answers.{Reply, Okay, Waits, Faults, Silent, is_exempt, is_dpidr, is_okay, is_unpowered}
+use Rattle.swd_port.specs.Answers.{answer, reply_under, seen_at, due_after}
 use Rattle.swd_port.specs.Completion.{Completes}
 
 -- an AP read or the RDBUFF read: they return the read buffer, and READOK tells of them
--- (IHI 0031, B4, "Read accesses", posted; and B2, "CTRL/STAT, Control/Status register")
 abbrev pub is_posted : Register → Bool
 is_posted RdbuffRead = true
 is_posted CswRead = true
@@ -18,7 +23,7 @@ is_posted DrwRead = true
 is_posted ApZeroRead = true
 is_posted _ = false
 
--- the answer of a state where no WAIT is asked for (IHI 0031, B4, "Acknowledge response")
+-- the answer of a state where no WAIT is asked for
 abbrev pub answer_in : Target → Request → Reply
 answer_in x q = answer x.reset x.sticky_error x.write_error (is_unpowered q.ap x.debug_power) (register x.select q)
 
@@ -26,9 +31,9 @@ answer_in x q = answer x.reset x.sticky_error x.write_error (is_unpowered q.ap x
 abbrev pub reply_in : Mark → Target → Request → Reply
 reply_in mark x q = reply_under mark (register x.select q) (answer_in x q)
 
--- The word that a read returns, from what DPIDR and CTRL/STAT give, the last returned value, the read buffer, and the word
--- that stands for an unknown one. RESEND gives the last returned value again, an AP read and RDBUFF give the read buffer
--- (IHI 0031, B2, "RESEND, Read Resend register", "RDBUFF, Read Buffer register"; and B4, "Read accesses").
+-- The word that a read returns, from what DPIDR and CTRL/STAT give, the last returned value, the read buffer, and
+-- the word that stands for an unknown one. RESEND gives the last returned value again, an AP read and RDBUFF give
+-- the read buffer.
 abbrev pub value_read : Register → ℕ → ℕ → Option ℕ → Option ℕ → ℕ → ℕ
 value_read DpidrRead identification status last_returned buffer filler = identification
 value_read CtrlStatRead identification status last_returned buffer filler = status
@@ -36,7 +41,7 @@ value_read ResendRead identification status last_returned buffer filler = unwrap
 value_read DpZeroRead identification status last_returned buffer filler = 0
 value_read r identification status last_returned buffer filler = unwrap_or buffer filler
 
--- the word of CTRL/STAT in a state (IHI 0031, B2, "CTRL/STAT, Control/Status register")
+-- the word of CTRL/STAT in a state
 abbrev pub status_in : Target → ℕ
 status_in x = ctrl_stat_read x.sticky_error x.read_ok x.write_error x.debug_power x.system_power
 
@@ -44,17 +49,17 @@ status_in x = ctrl_stat_read x.sticky_error x.read_ok x.write_error x.debug_powe
 abbrev pub value_in : Register → ℕ → Target → ℕ
 value_in r filler x = value_read r x.identification (status_in x) x.last_returned x.buffer filler
 
--- the data phase that follows an OK; its 33 bits arrive with the changed place
--- (IHI 0031, B4, "Data transfer"; the changed place: this project's choice)
+-- the data phase that follows an OK; its 33 bits arrive with the changed place (the changed place: this project's
+-- choice)
 abbrev pub phase_after : Bool → Register → Option ℕ → ℕ → Line
 phase_after read r flip value = if read then Drives (flipped flip (phase_number value)) else Awaits r flip
 
--- only an OK is followed by a data phase (IHI 0031, B4, "Acknowledge response")
+-- only an OK is followed by a data phase
 abbrev pub line_after : Reply → Line → Line → Line
 line_after reply phase line = if is_okay reply then phase else line
 
--- the read buffer once a read's value was taken from it: an AP read puts its own result there, DRW when its transfer is done;
--- RDBUFF leaves it unknown (IHI 0031, B2, "RDBUFF, Read Buffer register"; an unknown TAR is an unknown result)
+-- the read buffer once a read's value was taken from it: an AP read puts its own result there, DRW when its
+-- transfer is done; RDBUFF leaves it unknown (an unknown TAR is an unknown result)
 abbrev pub buffer_once_read : Register → ℕ → Option ℕ → Option ℕ → Option ℕ
 buffer_once_read RdbuffRead csw tar buffer = None
 buffer_once_read CswRead csw tar buffer = Some csw
@@ -62,14 +67,14 @@ buffer_once_read TarRead csw tar buffer = tar
 buffer_once_read ApZeroRead csw tar buffer = Some 0
 buffer_once_read r csw tar buffer = buffer
 
--- a DRW read is pending from its OK on (IHI 0031, MEM-AP, "DRW, Data Read/Write register")
+-- a DRW read is pending from its OK on
 abbrev pub pending_once_read : Register → Option Drw → Option Drw
 pending_once_read DrwRead pending = Some Reads
 pending_once_read r pending = pending
 
--- The target after an OK: a DPIDR read makes a fresh one live (IHI 0031, B4, "Connection and line reset sequence"), and a read has its
--- effects. A write has those of its data phase, which follows. READOK tells whether the last AP read or RDBUFF read that was answered
--- at all was answered OK (IHI 0031, B2, "CTRL/STAT, Control/Status register").
+-- The target after an OK: a DPIDR read makes a fresh one live, and a read has its effects. A write has those of its
+-- data phase, which follows. READOK tells whether the last AP read or RDBUFF read that was answered at all was
+-- answered OK.
 abbrev pub after_okay : Register → Target → Target
 after_okay r x = record x {
   reset = if is_dpidr r then Live else x.reset;
@@ -79,14 +84,17 @@ after_okay r x = record x {
   pending = pending_once_read r x.pending;
 }
 
--- after WAIT: nothing but READOK changed (IHI 0031, B4, "WAIT response to read or write operation request")
+-- after WAIT: nothing but READOK changed
 abbrev pub after_wait : Register → Target → Target
 after_wait r x = record x { read_ok = if is_posted r then false else x.read_ok }
 
--- after FAULT: nothing but READOK changed, and STICKYERR where an AP access has no power
--- (IHI 0031, B4, "FAULT response to read or write operation request"; FAULT for want of power: this project's choice)
+-- after FAULT: nothing but READOK changed, and STICKYERR where an AP access has no power (FAULT for want of power:
+-- this project's choice)
 abbrev pub after_fault : Register → Bool → Target → Target
-after_fault r ap x = record x { read_ok = if is_posted r then false else x.read_ok; sticky_error = x.sticky_error || is_unpowered ap x.debug_power }
+after_fault r ap x = record x {
+  read_ok = if is_posted r then false else x.read_ok;
+  sticky_error = x.sticky_error || is_unpowered ap x.debug_power;
+}
 
 -- after a reply; silence changes nothing
 abbrev pub target_after : Reply → Register → Bool → Target → Target
@@ -102,24 +110,28 @@ tally_after mark n = record { asked = n.asked + 1; disturbed = n.disturbed + dis
 -- the state after a request that was replied to
 abbrev pub after_reply : Mark → Reply → Register → Request → Choice → Port → Port
 after_reply mark reply r q c s = record {
-  link = record { due = due_after q.read (seen_at mark reply); line = line_after reply (phase_after q.read r (flip_of mark) (value_in r c.filler s.target)) s.link.line };
+  link = record {
+    due = due_after q.read (seen_at mark reply);
+    line = line_after reply (phase_after q.read r (flip_of mark) (value_in r c.filler s.target)) s.link.line;
+  };
   target = target_after reply r q.ap s.target;
   tally = tally_after mark s.tally;
 }
 
--- the pending transfer has to be done before an OK or FAULT to a request that isn't exempt, so that its error makes that
--- answer FAULT; before WAIT, silence, and the OK to an exempt request it may be pending still (this project's choice)
+-- the pending transfer has to be done before an OK or FAULT to a request that isn't exempt, so that its error makes
+-- that answer FAULT; before WAIT, silence, and the OK to an exempt request it may be pending still (this project's
+-- choice)
 abbrev pub IsSettled : Reply → Register → Option Drw → Type 0
 IsSettled Okay r pending = is_exempt r ≡ false → pending ≡ None
 IsSettled Faults r pending = is_exempt r ≡ false → pending ≡ None
 IsSettled reply r pending = Unit {0}
 
--- what a read returns at its OK is a word: 32 bits (IHI 0031, B4, "Data transfer")
+-- what a read returns at its OK is a word: 32 bits
 abbrev pub IsWordRead : Reply → Bool → ℕ → Type 0
 IsWordRead Okay true value = value < 2 ^ 32
 IsWordRead reply read value = Unit {0}
 
--- a request with its mark and the target's choice: what the host sees, and the state after it (IHI 0031, B4, "Packet request")
+-- a request with its mark and the target's choice: what the host sees, and the state after it
 pub record AsksNow (mark : Mark) (c : Choice) (s : Port) (q : Request) (seen : ℕ) (t : Port) : Type 0 where
   pub legal : IsMark mark
   pub choice : IsChoice c
@@ -128,6 +140,7 @@ pub record AsksNow (mark : Mark) (c : Choice) (s : Port) (q : Request) (seen : �
   pub sees : seen ≡ seen_at mark (reply_in mark s.target q)
   pub after : t ≡ after_reply mark (reply_in mark s.target q) (register s.target.select q) q c s
 
--- one call of `ask`: some mark, some choice, and completion before and after (IHI 0031, B4, "Packet request")
+-- one call of `ask`: some mark, some choice, and completion before and after
 abbrev pub Asks : Port → Request → ℕ → Port → Type 0
-Asks s q seen t = (a : Port) × (b : Port) × (mark : Mark) × (c : Choice) × Completes s a × AsksNow mark c a q seen b × Completes b t
+Asks s q seen t =
+    (a : Port) × (b : Port) × (mark : Mark) × (c : Choice) × Completes s a × AsksNow mark c a q seen b × Completes b t

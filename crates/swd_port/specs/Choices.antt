@@ -1,60 +1,60 @@
--- What one call of the wire is free in: the damage done to a request, and the choices that the standard leaves to a target.
+-- What one call of the wire is free in: the damage done to a request, and the choices that the standard leaves to a
+-- target. All of it is this project's choice, but for the end of a kilobyte.
 pub use Rattle.swd_port.specs.declared.mark.Mark.{Mark}
 pub use Rattle.swd_port.specs.declared.mark.Mark.TheVariants.{Clean, Wait, Flip, Deaf, Mute}
 use Rattle.std.specs.Prelude.{ℕ, ◌<◌, ◌^◌, Bool, true, false, Option, Some, None, List}
 use Rattle.std.specs.List.{sum_by}
 
--- the place is one of the 33 bits, or of the three (this project's choice)
+-- the place is one of the 33 bits, or of the three
 abbrev pub IsMark : Mark → Type 0
 IsMark (Flip place) = place < 33
 IsMark (Mute place) = place < 3
 IsMark _ = Unit {0}
 
--- WAIT is asked for (this project's choice)
+-- WAIT is asked for
 abbrev pub is_wait : Mark → Bool
 is_wait Wait = true
 is_wait _ = false
 
--- the target doesn't see the request (this project's choice)
+-- the target doesn't see the request
 abbrev pub is_deaf : Mark → Bool
 is_deaf Deaf = true
 is_deaf _ = false
 
--- the place that arrives changed (this project's choice)
+-- the place that arrives changed
 abbrev pub flip_of : Mark → Option ℕ
 flip_of (Flip place) = Some place
 flip_of _ = None
 
--- a request whose mark is Wait or Flip is disturbed, whether or not the mark had an effect (this project's choice)
+-- a request whose mark is Wait or Flip is disturbed, whether or not the mark had an effect
 abbrev pub disturbs : Mark → ℕ
 disturbs Wait = 1
 disturbs (Flip place) = 1
 disturbs _ = 0
 
--- a request whose mark is Deaf or Mute is lost, whether or not the mark had an effect (this project's choice)
+-- a request whose mark is Deaf or Mute is lost, whether or not the mark had an effect
 abbrev pub loses : Mark → ℕ
 loses Deaf = 1
 loses (Mute place) = 1
 loses _ = 0
 
--- how many of these marks disturb, and how many lose (this project's choice)
+-- how many of these marks disturb, and how many lose
 abbrev pub disturbed_among : List Mark → ℕ
 disturbed_among marks = sum_by disturbs marks
 
 abbrev pub lost_among : List Mark → ℕ
 lost_among marks = sum_by loses marks
 
--- What a target chooses, anew at each use (this project's choice, but for the end of a kilobyte).
+-- what a target chooses, anew at each use
 pub record Choice : Type 0 where
   -- the address that stands for an unknown TAR
   pub address : ℕ
-  -- at the end of a kilobyte TAR wraps inside it, or carries on
-  -- (IHI 0031, MEM-AP, "Auto-incrementing the Transfer Address Register (TAR)": implementation defined)
+  -- at the end of a kilobyte TAR wraps inside it, or carries on (implementation defined)
   pub wraps : Bool
   -- the word that stands for an unknown value
   pub filler : ℕ
 
--- an address and a value are words, numbers below 2^32 (this project's choice)
+-- an address and a value are words, numbers below 2^32
 pub record IsChoice (c : Choice) : Type 0 where
   pub address : c.address < 2 ^ 32
   pub filler : c.filler < 2 ^ 32

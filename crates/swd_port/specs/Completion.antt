@@ -1,5 +1,8 @@
 -- The pending DRW transfer takes effect.
-use Rattle.std.specs.Prelude.{ℕ, ◌≡◌, ◌+◌, ◌*◌, ◌/◌, ◌%◌, ◌^◌, ◌⊎◌, ◌||◌, not, Bool, false, if◌then◌else◌, Option, Some, None, unwrap_or}
+-- Source: IHI 0031, MEM-AP, "DRW, Data Read/Write register", "CSW, Control/Status Word register",
+-- "Auto-incrementing the Transfer Address Register (TAR)"; and B1, "Sticky flags and DP error responses".
+use Rattle.std.specs.Prelude.{ℕ, ◌≡◌, ◌+◌, ◌*◌, ◌/◌, ◌%◌, ◌^◌, ◌⊎◌, ◌||◌, not, Bool, false, if◌then◌else◌, Option}
+use Rattle.std.specs.Prelude.{Some, None, unwrap_or}
 use Rattle.std.specs.Option.{option_map}
 use Rattle.swd_port.specs.declared.access.Access.{Access}
 use Rattle.swd_port.specs.declared.access.Access.TheVariants.{Read, Write}
@@ -7,12 +10,12 @@ use Rattle.swd_port.specs.PlainMemory.{PlainMemory, succeeds_at, word_at, plain_
 use Rattle.swd_port.specs.Port.{Port, Target, Drw, Reads, Writes}
 use Rattle.swd_port.specs.Choices.{Choice, IsChoice}
 
--- a DRW transfer at an address, as an access of the plain memory (IHI 0031, MEM-AP, "DRW, Data Read/Write register")
+-- a DRW transfer at an address, as an access of the plain memory
 abbrev pub access_at : ℕ → Drw → Access
 access_at at Reads = Read at
 access_at at (Writes word) = Write at word
 
--- the pending transfer is a bus error (IHI 0031, B1, "Sticky flags and DP error responses")
+-- the pending transfer is a bus error
 abbrev pub fails : Option Drw → ℕ → PlainMemory → Bool
 fails None at m = false
 fails (Some drw) at m = not (succeeds_at at m)
@@ -23,24 +26,24 @@ memory_after None at m = m
 memory_after (Some drw) at m = plain_after (access_at at drw) m
 
 -- four more; at the end of a kilobyte the low ten bits wrap to 0, or all carry, modulo 2^32
--- (IHI 0031, MEM-AP, "Auto-incrementing the Transfer Address Register (TAR)")
 abbrev pub next_address : Bool → ℕ → ℕ
 next_address wraps at = if wraps then at / 1024 * 1024 + (at + 4) % 1024 else (at + 4) % 2 ^ 32
 
--- TAR after it: unknown after a bus error, and an unknown TAR stays unknown (this project's choice);
--- else four more where AddrInc is single, and the same where it is off (IHI 0031, MEM-AP, "CSW, Control/Status Word register")
+-- TAR after it: unknown after a bus error, and an unknown TAR stays unknown (this project's choice); else four more
+-- where AddrInc is single, and the same where it is off
 abbrev pub tar_after : Option Drw → Bool → Bool → Bool → Option ℕ → Option ℕ
 tar_after None failed increments wraps tar = tar
-tar_after (Some drw) failed increments wraps tar = if failed then None else if increments then option_map (next_address wraps) tar else tar
+tar_after (Some drw) failed increments wraps tar =
+    if failed then None else if increments then option_map (next_address wraps) tar else tar
 
--- the read buffer after it: the word of a read (IHI 0031, MEM-AP, "DRW, Data Read/Write register"); unknown after a bus error (this project's choice)
+-- the read buffer after it: the word of a read; unknown after a bus error (this project's choice)
 abbrev pub buffer_after : Option Drw → Bool → ℕ → PlainMemory → Option ℕ → Option ℕ
 buffer_after None failed at m buffer = buffer
 buffer_after (Some Reads) failed at m buffer = if failed then None else Some (word_at at m)
 buffer_after (Some (Writes word)) failed at m buffer = if failed then None else buffer
 
--- The target after the pending transfer took effect, at TAR, or at the choice's address where TAR is unknown; as it was where
--- none is pending. A bus error sets STICKYERR (IHI 0031, B1, "Sticky flags and DP error responses").
+-- The target after the pending transfer took effect, at TAR, or at the choice's address where TAR is unknown; as it
+-- was where none is pending. A bus error sets STICKYERR.
 abbrev pub completion_of : Choice → Target → Target
 completion_of c x =
     let at = unwrap_or x.tar c.address in

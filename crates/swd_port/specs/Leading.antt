@@ -1,11 +1,12 @@
 -- Ones and zeros outside of transactions: line resets and idle cycles. The call `lead`.
+-- Source: IHI 0031, B4, "Connection and line reset sequence", "Idle cycles".
 use Rattle.std.specs.Prelude.{ℕ, ◌≡◌, ◌≢◌, ◌≤◌, ◌⊎◌, ◌||◌, ◌&&◌, ◌==◌, not, Bool, true, false, if◌then◌else◌}
 use Rattle.swd_port.specs.declared.wire.Due.{Due}
 use Rattle.swd_port.specs.declared.wire.Due.TheVariants.{Nothing}
 use Rattle.swd_port.specs.Port.{Port, Fresh, Line, Idle, Awaits}
 use Rattle.swd_port.specs.Completion.{Completes}
 
--- What a host may send where no request stands (IHI 0031, B4, "Connection and line reset sequence").
+-- What a host may send where no request stands.
 pub record MayLead (due : Due) (ones : ℕ) (switch : Bool) (zeros : ℕ) : Type 0 where
   -- no ones, or a line reset: at least fifty, and then at least two zeros
   pub high : (ones ≡ 0) ⊎ (50 ≤ ones)
@@ -15,23 +16,26 @@ pub record MayLead (due : Due) (ones : ℕ) (switch : Bool) (zeros : ℕ) : Type
   -- inside a transaction a hundred ones: 34 of them may go by as the rest of a data phase (this project's choice)
   pub inside : due ≢ Nothing → (100 ≤ ones) × (switch ≡ false)
 
--- write data is awaited (IHI 0031, B4, "Successful write operation")
+-- write data is awaited
 abbrev pub is_awaiting : Line → Bool
 is_awaiting (Awaits r flip) = true
 is_awaiting line = false
 
--- The state after ones and zeros. With ones it is a line reset: the target is fresh, and no register and no pending transfer
--- changes, but that write data which it awaited is taken from the line's ones, whose parity is wrong: WDATAERR; read data that
--- it drove goes by (this project's choice). Zeros alone are idle cycles (IHI 0031, B4, "Idle cycles").
+-- The state after ones and zeros. With ones it is a line reset: the target is fresh, and no register and no pending
+-- transfer changes, but that write data which it awaited is taken from the line's ones, whose parity is wrong:
+-- WDATAERR; read data that it drove goes by (this project's choice). Zeros alone are idle cycles.
 abbrev pub after_lead : ℕ → Port → Port
 after_lead ones s =
     let resets = not (ones == 0) in
     record s {
       link = record { due = Nothing; line = if resets then Idle else s.link.line };
-      target = record s.target { reset = if resets then Fresh else s.target.reset; write_error = (resets && is_awaiting s.link.line) || s.target.write_error };
+      target = record s.target {
+        reset = if resets then Fresh else s.target.reset;
+        write_error = (resets && is_awaiting s.link.line) || s.target.write_error;
+      };
     }
 
--- one call of `lead`, and completion before and after (IHI 0031, B4, "Connection and line reset sequence")
+-- one call of `lead`, and completion before and after
 pub record LeadsNow (s : Port) (ones : ℕ) (t : Port) : Type 0 where
   pub after : t ≡ after_lead ones s
 

@@ -1,18 +1,18 @@
--- What a data phase, a turnaround, ones and zeros, and a completion leave of the port, each field by an equation.
+-- What a data phase, a turnaround, ones and zeros, and a completion leave of the port: the words of the laws. All
+-- of it follows from the definitions of the steps, which say where each rule comes from.
 use Rattle.std.specs.Prelude.{ℕ, ◌≡◌, ◌⊎◌, ◌||◌, true, Option, Some, None}
 use Rattle.swd_port.specs.declared.wire.Due.TheVariants.{Nothing}
 use Rattle.swd_port.specs.Phases.{word_in, IsPhaseOf, IsNoPhase}
-use Rattle.swd_port.specs.Port.{Port, idle_link, Register, Fresh}
+use Rattle.swd_port.specs.Port.{Port, Target, idle_link, Register, Fresh}
 use Rattle.swd_port.specs.Completion.{Completes}
 use Rattle.swd_port.specs.Moving.{Arrives, after_bits}
 use Rattle.swd_port.specs.Leading.{is_awaiting}
 
--- a step, with a completion before it and one after it, each of which may be none (this project's choice)
+-- a step, with a completion before it and one after it, each of which may be none
 abbrev pub Around : (Port → Port → Type 0) → Port → Port → Type 0
 Around Step s t = (a : Port) × (b : Port) × Completes s a × Step a b × Completes b t
 
 -- what a completion keeps: all but STICKYERR, TAR, the read buffer, the pending transfer and the memory
--- (IHI 0031, MEM-AP, "DRW, Data Read/Write register")
 pub record Kept (s t : Port) : Type 0 where
   pub link : t.link ≡ s.link
   pub tally : t.tally ≡ s.tally
@@ -30,37 +30,40 @@ pub record Kept (s t : Port) : Type 0 where
   pub sticky_error : s.target.sticky_error ≡ true → t.target.sticky_error ≡ true
   pub pending : (t.target.pending ≡ s.target.pending) ⊎ (t.target.pending ≡ None)
 
--- nothing is due, and the target and the numbers are as before (IHI 0031, B4, "Data transfer")
+-- nothing is due, and the target and the numbers are as before
 pub record Passed (s t : Port) : Type 0 where
   pub due : t.link.due ≡ Nothing
   pub target : t.target ≡ s.target
   pub tally : t.tally ≡ s.tally
 
--- what the host gets of a value: its phase, or no phase, where a place is changed (IHI 0031, B4, "Data transfer")
+-- what the host gets of a value: its phase, or no phase, where a place is changed
 pub data Got (flip : Option ℕ) (value bits : ℕ) : Type 0 where
   whole : flip ≡ None → IsPhaseOf value bits → word_in bits ≡ Some value → Got flip value bits
   damaged : (place : ℕ) → flip ≡ Some place → IsNoPhase bits → word_in bits ≡ None → Got flip value bits
 
--- a write was done with its word (IHI 0031, B4, "Data transfer")
+-- a write was done with its word
 pub record Gave (r : Register) (word : ℕ) (s t : Port) : Type 0 where
   pub link : t.link ≡ idle_link
   pub target : t.target ≡ after_bits (Arrives r word) s.target
   pub tally : t.tally ≡ s.tally
 
--- a write whose data was damaged: nothing is done, and WDATAERR is set (IHI 0031, B4, "Data transfer")
+-- a write whose data was damaged: nothing is done, and WDATAERR is set
 pub record Spoiled (s t : Port) : Type 0 where
   pub link : t.link ≡ idle_link
   pub target : t.target ≡ record s.target { write_error = true }
   pub tally : t.tally ≡ s.tally
 
--- what the target makes of the 33 bits of a word, by the place that was changed (IHI 0031, B4, "Data transfer")
+-- what the target makes of the 33 bits of a word, by the place that was changed
 pub data Given (r : Register) (flip : Option ℕ) (word : ℕ) (s t : Port) : Type 0 where
   whole : flip ≡ None → Gave r word s t → Given r flip word s t
   damaged : (place : ℕ) → flip ≡ Some place → Spoiled s t → Given r flip word s t
 
--- A line reset: the target is fresh, nothing is due, and every register, the pending transfer and the memory are as before, but
--- that WDATAERR is set where write data was awaited (IHI 0031, B4, "Connection and line reset sequence"; WDATAERR: this project's choice).
+-- the target after a line reset: it is fresh, and WDATAERR is set where write data was awaited
+abbrev pub reset_target : Port → Target
+reset_target s = record s.target { reset = Fresh; write_error = is_awaiting s.link.line || s.target.write_error }
+
+-- a line reset: nothing is due, and every register, the pending transfer and the memory are as before, but for that
 pub record WasReset (s t : Port) : Type 0 where
   pub link : t.link ≡ idle_link
-  pub target : t.target ≡ record s.target { reset = Fresh; write_error = is_awaiting s.link.line || s.target.write_error }
+  pub target : t.target ≡ reset_target s
   pub tally : t.tally ≡ s.tally

@@ -1,22 +1,26 @@
--- What follows an acknowledgement: a data phase of 33 bits with its turnaround, or a turnaround alone. The calls `take`, `give` and `pass`.
+-- What follows an acknowledgement: a data phase of 33 bits with its turnaround, or a turnaround alone. The calls
+-- `take`, `give` and `pass`.
+-- Source: IHI 0031, B4, "Data transfer", "Successful read operation", "Successful write operation"; B2, on ABORT,
+-- CTRL/STAT and SELECT; and MEM-AP, on CSW, TAR and DRW.
 use Rattle.std.specs.Prelude.{ℕ, ◌≡◌, ◌||◌, ◌&&◌, ◌==◌, not, Bool, true, false, if◌then◌else◌, Option, Some, None}
 use Rattle.swd_port.specs.declared.wire.Due.TheVariants.{Nothing}
 use Rattle.swd_port.specs.declared.select.Select.{Select}
 use Rattle.swd_port.specs.Registers.{bit_of, select_of, csw_of}
 use Rattle.swd_port.specs.Phases.{word_in, flipped, undriven}
-use Rattle.swd_port.specs.Port.{Port, Target, idle_link, Register, AbortWrite, CtrlStatWrite, SelectWrite, CswWrite, TarWrite, DrwWrite, ApIgnoredWrite, Line, Drives, Awaits, Drw, Writes}
+use Rattle.swd_port.specs.Port.{Port, Target, idle_link, Register, AbortWrite, CtrlStatWrite, SelectWrite, CswWrite}
+use Rattle.swd_port.specs.Port.{TarWrite, DrwWrite, ApIgnoredWrite, Line, Drives, Awaits, Drw, Writes}
 use Rattle.swd_port.specs.Completion.{Completes}
 
--- the 33 bits that the host gets (IHI 0031, B4, "Data transfer"); an undriven line reads 1 (this project's choice)
+-- the 33 bits that the host gets; an undriven line reads 1 (this project's choice)
 abbrev pub bits_driven : Line → ℕ
 bits_driven (Drives bits) = bits
 bits_driven line = undriven
 
--- the host took the 33 bits of a read: nothing else changes (IHI 0031, B4, "Successful read operation")
+-- the host took the 33 bits of a read: nothing else changes
 abbrev pub after_take : Port → Port
 after_take s = record s { link = idle_link }
 
--- one call of `take`, and completion before and after (IHI 0031, B4, "Successful read operation")
+-- one call of `take`, and completion before and after
 pub record TakesNow (s : Port) (bits : ℕ) (t : Port) : Type 0 where
   pub gets : bits ≡ bits_driven s.link.line
   pub after : t ≡ after_take s
@@ -24,7 +28,7 @@ pub record TakesNow (s : Port) (bits : ℕ) (t : Port) : Type 0 where
 abbrev pub Takes : Port → ℕ → Port → Type 0
 Takes s bits t = (a : Port) × (b : Port) × Completes s a × TakesNow a bits b × Completes b t
 
--- What the target makes of the 33 bits that reach it (IHI 0031, B4, "Data transfer").
+-- What the target makes of the 33 bits that reach it.
 pub data Arrival : Type 0 where
   -- it awaited none
   Unawaited : Arrival
@@ -33,22 +37,24 @@ pub data Arrival : Type 0 where
   -- they are the word of this write
   Arrives : (write : Register) (word : ℕ) → Arrival
 
--- the word of a write, where the parity is right (IHI 0031, B4, "Data transfer")
+-- the word of a write, where the parity is right
 abbrev pub arrival_of : Register → Option ℕ → Arrival
 arrival_of r None = Damaged
 arrival_of r (Some word) = Arrives r word
 
--- 33 bits that were sent, as they arrive, one place changed, where the target awaits them (the change: this project's choice)
+-- 33 bits that were sent, as they arrive, one place changed, where the target awaits them (the change: this
+-- project's choice)
 abbrev pub arrival : Line → ℕ → Arrival
 arrival (Awaits r flip) sent = arrival_of r (word_in (flipped flip sent))
 arrival line sent = Unawaited
 
--- data came with wrong parity (IHI 0031, B4, "Data transfer")
+-- data came with wrong parity
 abbrev pub is_damaged : Arrival → Bool
 is_damaged Damaged = true
 is_damaged a = false
 
--- a write of any AP: whatever it wrote, the read buffer and the last returned value are unknown after it (this project's choice)
+-- a write of any AP: whatever it wrote, the read buffer and the last returned value are unknown after it (this
+-- project's choice)
 abbrev pub is_ap_write : Register → Bool
 is_ap_write CswWrite = true
 is_ap_write TarWrite = true
@@ -61,29 +67,28 @@ abbrev pub forgotten : Arrival → Option ℕ → Option ℕ
 forgotten (Arrives r word) value = if is_ap_write r then None else value
 forgotten a value = value
 
--- ABORT's STKERRCLR, bit 2, clears STICKYERR (IHI 0031, B2, "ABORT, AP Abort register")
+-- ABORT's STKERRCLR, bit 2, clears STICKYERR
 abbrev pub sticky_error_after : Arrival → Bool → Bool
 sticky_error_after (Arrives AbortWrite word) flag = flag && not (bit_of 2 word)
 sticky_error_after a flag = flag
 
--- ABORT's WDERRCLR, bit 3, clears WDATAERR; damaged data sets it, ABORT's too
--- (IHI 0031, B4, "Data transfer", and B2, "ABORT, AP Abort register"; that it holds for ABORT: this project's choice)
+-- ABORT's WDERRCLR, bit 3, clears WDATAERR; damaged data sets it, ABORT's too (that it holds for ABORT: this
+-- project's choice)
 abbrev pub write_error_after : Arrival → Bool → Bool
 write_error_after (Arrives AbortWrite word) flag = flag && not (bit_of 3 word)
 write_error_after a flag = is_damaged a || flag
 
--- CTRL/STAT stores its bits 28 and 30, the power requests (IHI 0031, B2, "CTRL/STAT, Control/Status register"; no others: this project's choice)
+-- CTRL/STAT stores its bits 28 and 30, the power requests (no others: this project's choice)
 abbrev pub power_after : ℕ → Arrival → Bool → Bool
 power_after n (Arrives CtrlStatWrite word) power = bit_of n word
 power_after n a power = power
 
--- SELECT (IHI 0031, B2, "SELECT, AP Select register")
+-- SELECT
 abbrev pub select_after : Arrival → Select → Select
 select_after (Arrives SelectWrite word) select = select_of word
 select_after a select = select
 
--- CSW stores whether AddrInc is 01, and its bits [30:24]
--- (IHI 0031, MEM-AP, "CSW, Control/Status Word register"; no others: this project's choice)
+-- CSW stores whether AddrInc is 01, and its bits [30:24] (no others: this project's choice)
 abbrev pub increments_after : Arrival → Bool → Bool
 increments_after (Arrives CswWrite word) increments = (csw_of word).addr_inc == 1
 increments_after a increments = increments
@@ -93,18 +98,17 @@ abbrev pub csw_upper_after : Arrival → ℕ → ℕ
 csw_upper_after (Arrives CswWrite word) upper = (csw_of word).upper
 csw_upper_after a upper = upper
 
--- TAR is stored as it is written (IHI 0031, MEM-AP, "TAR, Transfer Address Register")
+-- TAR is stored as it is written
 abbrev pub tar_written : Arrival → Option ℕ → Option ℕ
 tar_written (Arrives TarWrite word) tar = Some word
 tar_written a tar = tar
 
--- a DRW write is pending once its data after_bits (IHI 0031, MEM-AP, "DRW, Data Read/Write register")
+-- a DRW write is pending once its data arrived
 abbrev pub pending_after : Arrival → Option Drw → Option Drw
 pending_after (Arrives DrwWrite word) pending = Some (Writes word)
 pending_after a pending = pending
 
--- the target after the 33 bits of a write: the write is done where their parity is right, else not, and WDATAERR is set
--- (IHI 0031, B4, "Data transfer")
+-- the target after the 33 bits of a write: it is done where their parity is right, else WDATAERR is set
 abbrev pub after_bits : Arrival → Target → Target
 after_bits a x = record x {
   sticky_error = sticky_error_after a x.sticky_error;
@@ -123,7 +127,7 @@ after_bits a x = record x {
 abbrev pub after_arrival : Arrival → Port → Port
 after_arrival a s = record s { link = idle_link; target = after_bits a s.target }
 
--- one call of `give`, and completion before and after (IHI 0031, B4, "Successful write operation")
+-- one call of `give`, and completion before and after
 pub record GivesNow (s : Port) (sent : ℕ) (t : Port) : Type 0 where
   pub after : t ≡ after_arrival (arrival s.link.line sent) s
 
@@ -134,8 +138,7 @@ Gives s sent t = (a : Port) × (b : Port) × Completes s a × GivesNow a sent b 
 abbrev pub after_pass : Port → Port
 after_pass s = record s { link = record s.link { due = Nothing } }
 
--- one call of `pass`, and completion before and after: the turnaround after WAIT or FAULT changes nothing at the target
--- (IHI 0031, B4, "WAIT response to read or write operation request")
+-- one call of `pass`, and completion before and after: the turnaround changes nothing at the target
 pub record PassesNow (s t : Port) : Type 0 where
   pub after : t ≡ after_pass s
 

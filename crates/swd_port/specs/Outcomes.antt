@@ -1,12 +1,13 @@
--- What a request leaves of the port, told by what the host sees: each field of the state by an equation.
-use Rattle.std.specs.Prelude.{ℕ, ◌≡◌, ◌≢◌, ◌<◌, ◌≤◌, ◌+◌, ◌^◌, ◌==◌, ◌⊎◌, Bool, true, false, if◌then◌else◌, Option, Some, None}
+-- What a request leaves of the port, told by what the host sees: the words of the laws. All of it follows from the
+-- definition of a request, which says where each rule comes from.
+use Rattle.std.specs.Prelude.{ℕ, ◌≡◌, ◌≢◌, ◌<◌, ◌≤◌, ◌+◌, ◌^◌, ◌==◌, ◌⊎◌, Bool, true, false, if◌then◌else◌, Option}
+use Rattle.std.specs.Prelude.{Some, None}
 use Rattle.swd_port.specs.declared.wire.Due.TheVariants.{Take, Give, Pass, Lost}
 use Rattle.swd_port.specs.Port.{Port, Target, Register, Unreset, Live}
 use Rattle.swd_port.specs.Answers.{is_exempt}
 use Rattle.swd_port.specs.Asking.{value_in, phase_after, after_okay, after_wait, after_fault}
 
 -- what no request changes, whatever its answer and its mark: the registers that are written, and the memory
--- (IHI 0031, B4, "Packet request")
 pub record Steady (x y : Target) : Type 0 where
   pub write_error : y.write_error ≡ x.write_error
   pub debug_power : y.debug_power ≡ x.debug_power
@@ -18,26 +19,25 @@ pub record Steady (x y : Target) : Type 0 where
   pub identification : y.identification ≡ x.identification
   pub memory : y.memory ≡ x.memory
 
--- the request had no effect at the target (this project's choice)
+-- the request had no effect at the target
 pub record Stays (s t : Port) : Type 0 where
   pub line : t.link.line ≡ s.link.line
   pub target : t.target ≡ s.target
 
 -- the target answered WAIT: nothing but READOK changed
--- (IHI 0031, B4, "WAIT response to read or write operation request"; and B2, "CTRL/STAT, Control/Status register")
 pub record Defers (r : Register) (s t : Port) : Type 0 where
   pub line : t.link.line ≡ s.link.line
   pub target : t.target ≡ after_wait r s.target
 
--- the target answered FAULT: no transfer is pending, and nothing but READOK changed, and STICKYERR where an AP access has no power
--- (IHI 0031, B4, "FAULT response to read or write operation request"; FAULT for want of power: this project's choice)
+-- the target answered FAULT: no transfer is pending, and nothing but READOK changed, and STICKYERR where an AP
+-- access has no power
 pub record Refuses (r : Register) (ap : Bool) (s t : Port) : Type 0 where
   pub line : t.link.line ≡ s.link.line
   pub target : t.target ≡ after_fault r ap s.target
   pub settled : s.target.pending ≡ None
 
--- The target answered OK, and is live. A read's value is fixed here, and its phase stands on the line, with this place changed; a
--- write's phase is awaited (IHI 0031, B4, "Successful read operation", "Successful write operation"). Any word stands for an unknown value.
+-- The target answered OK, and is live. A read's value is fixed here, and its phase stands on the line, with this
+-- place changed; a write's phase is awaited. Any word stands for an unknown value.
 pub record Accepts (r : Register) (read : Bool) (flip : Option ℕ) (s t : Port) : Type 0 where
   pub target : t.target ≡ after_okay r s.target
   pub live : t.target.reset ≡ Live
@@ -47,18 +47,20 @@ pub record Accepts (r : Register) (read : Bool) (flip : Option ℕ) (s t : Port)
   pub value_range : read ≡ true → value_in r filler s.target < 2 ^ 32
   pub line : t.link.line ≡ phase_after read r flip (value_in r filler s.target)
 
--- the host saw OK, WAIT or FAULT: one request more, none lost, at most one disturbed (this project's choice)
+-- the host saw OK, WAIT or FAULT: one request more, none lost, at most one disturbed
 pub record Heard (s t : Port) : Type 0 where
   pub asked : t.tally.asked ≡ s.tally.asked + 1
   pub lost : t.tally.lost ≡ s.tally.lost
   pub disturbed_least : s.tally.disturbed ≤ t.tally.disturbed
   pub disturbed_most : t.tally.disturbed ≤ s.tally.disturbed + 1
 
--- no place of the data phase is changed, or one is, and this request is disturbed (this project's choice)
+-- no place of the data phase is changed, or one is, and this request is disturbed
 abbrev pub Spares : Option ℕ → Port → Port → Type 0
-Spares flip s t = (flip ≡ None) ⊎ ((place : ℕ) × (place < 33) × (flip ≡ Some place) × (t.tally.disturbed ≡ s.tally.disturbed + 1))
+Spares flip s t =
+    (flip ≡ None) ⊎
+    ((place : ℕ) × (place < 33) × (flip ≡ Some place) × (t.tally.disturbed ≡ s.tally.disturbed + 1))
 
--- OK was seen (IHI 0031, B4, "Acknowledge response")
+-- OK was seen
 pub record SeesOkay (r : Register) (read : Bool) (seen : ℕ) (s t : Port) : Type 0 where
   pub is : seen ≡ 1
   pub due : t.link.due ≡ (if read then Take else Give)
@@ -67,7 +69,7 @@ pub record SeesOkay (r : Register) (read : Bool) (seen : ℕ) (s t : Port) : Typ
   pub spares : Spares flip s t
   pub accepts : Accepts r read flip s t
 
--- WAIT was seen: a disturbed request (IHI 0031, B4, "Acknowledge response")
+-- WAIT was seen: a disturbed request
 pub record SeesWait (r : Register) (seen : ℕ) (s t : Port) : Type 0 where
   pub is : seen ≡ 2
   pub due : t.link.due ≡ Pass
@@ -75,20 +77,20 @@ pub record SeesWait (r : Register) (seen : ℕ) (s t : Port) : Type 0 where
   pub disturbed : t.tally.disturbed ≡ s.tally.disturbed + 1
   pub defers : Defers r s t
 
--- FAULT was seen (IHI 0031, B4, "Acknowledge response")
+-- FAULT was seen
 pub record SeesFault (r : Register) (ap : Bool) (seen : ℕ) (s t : Port) : Type 0 where
   pub is : seen ≡ 4
   pub due : t.link.due ≡ Pass
   pub heard : Heard s t
   pub refuses : Refuses r ap s t
 
--- the number is none of OK, WAIT and FAULT (IHI 0031, B4, "Acknowledge response")
+-- the number is none of OK, WAIT and FAULT
 pub record IsNoAcknowledgement (seen : ℕ) : Type 0 where
   pub not_okay : (seen == 1) ≡ false
   pub not_wait : (seen == 2) ≡ false
   pub not_fault : (seen == 4) ≡ false
 
--- no acknowledgement was seen: one request more, and it is lost (IHI 0031, B4, "Protocol error response")
+-- no acknowledgement was seen: one request more, and it is lost
 pub record SeesNone (seen : ℕ) (s t : Port) : Type 0 where
   pub none : IsNoAcknowledgement seen
   pub due : t.link.due ≡ Lost
@@ -97,26 +99,23 @@ pub record SeesNone (seen : ℕ) (s t : Port) : Type 0 where
   pub lost : t.tally.lost ≡ s.tally.lost + 1
 
 -- what comes of a request that is answered OK unless it is lost; a lost one had its effect, or none
--- (IHI 0031, B4, "Acknowledge response", "Protocol error response")
 pub data OkayOrLost (r : Register) (read : Bool) (seen : ℕ) (s t : Port) : Type 0 where
   okay : SeesOkay r read seen s t → OkayOrLost r read seen s t
   lost : SeesNone seen s t → Stays s t ⊎ Accepts r read None s t → OkayOrLost r read seen s t
 
 -- what comes of one that is answered OK or WAIT unless it is lost
--- (IHI 0031, B4, "Acknowledge response", "Protocol error response")
 pub data OkayWaitOrLost (r : Register) (read : Bool) (seen : ℕ) (s t : Port) : Type 0 where
   okay : SeesOkay r read seen s t → OkayWaitOrLost r read seen s t
   wait : SeesWait r seen s t → OkayWaitOrLost r read seen s t
   lost : SeesNone seen s t → Stays s t ⊎ Accepts r read None s t → OkayWaitOrLost r read seen s t
 
 -- what comes of one that is answered FAULT unless it is lost
--- (IHI 0031, B4, "Acknowledge response", "Protocol error response")
 pub data FaultOrLost (r : Register) (ap : Bool) (seen : ℕ) (s t : Port) : Type 0 where
   fault : SeesFault r ap seen s t → FaultOrLost r ap seen s t
   lost : SeesNone seen s t → Stays s t ⊎ Refuses r ap s t → FaultOrLost r ap seen s t
 
--- what a request leaves whatever comes of it, where it starts no transfer: the written registers, STICKYERR, the memory and what is
--- pending; and a target that is reset, or live, stays so (this project's choice)
+-- what a request leaves whatever comes of it, where it starts no transfer: the written registers, STICKYERR, the
+-- memory and what is pending; and a target that is reset, or live, stays so
 pub record Unmoved (x y : Target) : Type 0 where
   pub steady : Steady x y
   pub sticky_error : y.sticky_error ≡ x.sticky_error

@@ -1,6 +1,7 @@
 -- The memory behind the access port: words at addresses, a log of what was done, and a room for it.
 -- All of it is this project's choice; the standard leaves the memory system open.
-use Rattle.std.specs.Prelude.{ℕ, ◌&&◌, Bool, true, false, if◌then◌else◌, List, [], ◌∷◌, ◌++◌, length, nat_lt, unwrap_or}
+use Rattle.std.specs.Prelude.{ℕ, ◌&&◌, Bool, true, false, if◌then◌else◌, List, [], ◌∷◌, ◌++◌, length, nat_lt}
+use Rattle.std.specs.Prelude.{unwrap_or}
 use Rattle.std.specs.Ordering.{nat_cmp}
 use Rattle.std.specs.FinMap.{FinMap, insert, contains_key, get}
 use Rattle.swd_port.specs.declared.access.Access.{Access}
@@ -9,7 +10,8 @@ use Rattle.swd_port.specs.declared.access.Answer.{Answer}
 use Rattle.swd_port.specs.declared.access.Answer.TheVariants.{Value, Written, BusFault}
 use Rattle.swd_port.specs.declared.access.Transfer.{Transfer}
 
--- a finite map from addresses, which are multiples of 4, to words; the transfers done so far, the oldest first; and how many the log has room for
+-- a finite map from addresses, which are multiples of 4, to words; the transfers done so far, the oldest first; and
+-- how many the log has room for
 pub record PlainMemory : Type 0 where
   pub words : FinMap nat_cmp ℕ
   pub log : List Transfer

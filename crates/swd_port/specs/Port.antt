@@ -1,6 +1,11 @@
 -- The state of the port machine: a debug port of ADIv5.2 with one memory access port, AP 0.
+-- Source: IHI 0031, B4, "Packet request"; and B2, "SELECT, AP Select register".
 pub use Rattle.swd_port.specs.declared.register.Register.{Register}
-pub use Rattle.swd_port.specs.declared.register.Register.TheVariants.{DpidrRead, AbortWrite, CtrlStatRead, CtrlStatWrite, SelectWrite, ResendRead, RdbuffRead, DpZeroRead, DpIgnoredWrite, CswRead, CswWrite, TarRead, TarWrite, DrwRead, DrwWrite, ApZeroRead, ApIgnoredWrite}
+pub use Rattle.swd_port.specs.declared.register.Register.TheVariants.{DpidrRead, AbortWrite, CtrlStatRead}
+pub use Rattle.swd_port.specs.declared.register.Register.TheVariants.{CtrlStatWrite, SelectWrite, ResendRead}
+pub use Rattle.swd_port.specs.declared.register.Register.TheVariants.{RdbuffRead, DpZeroRead, DpIgnoredWrite, CswRead}
+pub use Rattle.swd_port.specs.declared.register.Register.TheVariants.{CswWrite, TarRead, TarWrite, DrwRead, DrwWrite}
+pub use Rattle.swd_port.specs.declared.register.Register.TheVariants.{ApZeroRead, ApIgnoredWrite}
 pub use Rattle.swd_port.specs.declared.state.Reset.{Reset}
 pub use Rattle.swd_port.specs.declared.state.Reset.TheVariants.{Unreset, Fresh, Live}
 pub use Rattle.swd_port.specs.declared.state.Drw.{Drw}
@@ -51,12 +56,32 @@ is_mem_ap s = (s.apsel == 0) && (s.apbanksel == 0)
 abbrev pub ap_register : Select → Bool → Reg4 → Register
 ap_register s read addr = if is_mem_ap s then mem_ap_register read addr else no_ap_register read
 
--- what a request asks for (IHI 0031, B4, "Packet request", and B2, "SELECT, AP Select register")
+-- what a request asks for
 abbrev pub register : Select → Request → Register
 register s q = if q.ap then ap_register s q.read q.addr else dp_register q.read q.addr (s.dpbanksel == 0)
 
--- a SELECT under which there is a request for this register: in bank 0 for CTRL/STAT, in any other for the debug port's zeros,
--- and in bank 0 of AP 0 for the registers that stand there
+-- the request for each register, under a SELECT under which there is one
+abbrev pub request_of : Register → Request
+request_of DpidrRead = record { ap = false; read = true; addr = R0 }
+request_of AbortWrite = record { ap = false; read = false; addr = R0 }
+request_of CtrlStatRead = record { ap = false; read = true; addr = R4 }
+request_of CtrlStatWrite = record { ap = false; read = false; addr = R4 }
+request_of ResendRead = record { ap = false; read = true; addr = R8 }
+request_of SelectWrite = record { ap = false; read = false; addr = R8 }
+request_of RdbuffRead = record { ap = false; read = true; addr = RC }
+request_of DpZeroRead = record { ap = false; read = true; addr = R4 }
+request_of DpIgnoredWrite = record { ap = false; read = false; addr = RC }
+request_of CswRead = record { ap = true; read = true; addr = R0 }
+request_of CswWrite = record { ap = true; read = false; addr = R0 }
+request_of TarRead = record { ap = true; read = true; addr = R4 }
+request_of TarWrite = record { ap = true; read = false; addr = R4 }
+request_of ApZeroRead = record { ap = true; read = true; addr = R8 }
+request_of ApIgnoredWrite = record { ap = true; read = false; addr = R8 }
+request_of DrwRead = record { ap = true; read = true; addr = RC }
+request_of DrwWrite = record { ap = true; read = false; addr = RC }
+
+-- a SELECT under which there is a request for this register: in bank 0 for CTRL/STAT, in any other for the debug
+-- port's zeros, and in bank 0 of AP 0 for the registers that stand there
 abbrev pub is_reached : Select → Register → Bool
 is_reached s CtrlStatRead = s.dpbanksel == 0
 is_reached s CtrlStatWrite = s.dpbanksel == 0
@@ -80,8 +105,8 @@ pub record Link : Type 0 where
 abbrev pub idle_link : Link
 idle_link = record { due = Nothing; line = Idle }
 
--- What the target is in. `None` in TAR, the read buffer and the last returned value: it is unknown, and any word may stand for it,
--- anew at each use.
+-- What the target is in. `None` in TAR, the read buffer and the last returned value: it is unknown, and any word
+-- may stand for it, anew at each use.
 pub record Target : Type 0 where
   -- whether requests are answered
   pub reset : Reset
@@ -143,4 +168,8 @@ made_target identification memory = record {
 
 -- the state before any call (this project's choice)
 abbrev pub made : ℕ → PlainMemory → Port
-made identification memory = record { link = idle_link; target = made_target identification memory; tally = record { asked = 0; disturbed = 0; lost = 0 } }
+made identification memory = record {
+  link = idle_link;
+  target = made_target identification memory;
+  tally = record { asked = 0; disturbed = 0; lost = 0 };
+}

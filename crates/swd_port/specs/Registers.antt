@@ -1,4 +1,6 @@
 -- The fields of the registers, and the words that carry them.
+-- Source: IHI 0031, B2, "ABORT, AP Abort register", "CTRL/STAT, Control/Status register", "SELECT, AP Select
+-- register"; and MEM-AP, "CSW, Control/Status Word register".
 use Rattle.std.specs.Prelude.{ℕ, ◌<◌, ◌+◌, ◌*◌, ◌/◌, ◌%◌, ◌^◌, ◌==◌, Bool, true, false}
 use Rattle.swd_bits.specs.Bits.{bit}
 use Rattle.swd_port.specs.declared.abort.Abort.{Abort}
@@ -6,19 +8,19 @@ use Rattle.swd_port.specs.declared.ctrl_stat.CtrlStat.{CtrlStat}
 use Rattle.swd_port.specs.declared.select.Select.{Select}
 use Rattle.swd_port.specs.declared.csw.Csw.{Csw}
 
--- the word of a set of ABORT's bits (IHI 0031, B2, "ABORT, AP Abort register")
+-- the word of a set of ABORT's bits
 abbrev pub abort_word : Abort → ℕ
 abort_word a = a.0
 
--- the word of a set of CTRL/STAT's bits (IHI 0031, B2, "CTRL/STAT, Control/Status register")
+-- the word of a set of CTRL/STAT's bits
 abbrev pub ctrl_stat_word : CtrlStat → ℕ
 ctrl_stat_word s = s.0
 
--- the bits that ABORT names, [4:0] (IHI 0031, B2, "ABORT, AP Abort register")
+-- the bits that ABORT names, [4:0]
 abbrev pub abort_mask : ℕ
 abort_mask = 0x0000_001f
 
--- the bits that CTRL/STAT names, all but 24 and 25 (IHI 0031, B2, "CTRL/STAT, Control/Status register")
+-- the bits that CTRL/STAT names, all but 24 and 25
 abbrev pub ctrl_stat_mask : ℕ
 ctrl_stat_mask = 0xfcff_ffff
 
@@ -26,7 +28,7 @@ ctrl_stat_mask = 0xfcff_ffff
 abbrev pub bit_of : ℕ → ℕ → Bool
 bit_of n word = word / 2 ^ n % 2 == 1
 
--- APSEL [31:24], APBANKSEL [7:4], DPBANKSEL [3:0] (IHI 0031, B2, "SELECT, AP Select register")
+-- APSEL [31:24], APBANKSEL [7:4], DPBANKSEL [3:0]
 abbrev pub select_of : ℕ → Select
 select_of word = record { apsel = word / 2 ^ 24 % 256; apbanksel = word / 16 % 16; dpbanksel = word % 16 }
 
@@ -34,46 +36,54 @@ select_of word = record { apsel = word / 2 ^ 24 % 256; apbanksel = word / 16 % 1
 abbrev pub select_word : Select → ℕ
 select_word s = s.apsel % 256 * 2 ^ 24 + s.apbanksel % 16 * 16 + s.dpbanksel % 16
 
--- the bits that SELECT names (IHI 0031, B2, "SELECT, AP Select register")
+-- the bits that SELECT names
 abbrev pub select_mask : ℕ
 select_mask = 0xff00_00ff
 
--- each field is within its width (IHI 0031, B2, "SELECT, AP Select register")
+-- each field is within its width
 pub record IsSelect (s : Select) : Type 0 where
   pub apsel : s.apsel < 256
   pub apbanksel : s.apbanksel < 16
   pub dpbanksel : s.dpbanksel < 16
 
--- Size [2:0], AddrInc [5:4], DeviceEn 6, TrInProg 7, and bits [30:24] (IHI 0031, MEM-AP, "CSW, Control/Status Word register")
+-- Size [2:0], AddrInc [5:4], DeviceEn 6, TrInProg 7, and bits [30:24]
 abbrev pub csw_of : ℕ → Csw
-csw_of word = record { size = word % 8; addr_inc = word / 16 % 4; device_en = bit_of 6 word; tr_in_prog = bit_of 7 word; upper = word / 2 ^ 24 % 128 }
+csw_of word = record {
+  size = word % 8;
+  addr_inc = word / 16 % 4;
+  device_en = bit_of 6 word;
+  tr_in_prog = bit_of 7 word;
+  upper = word / 2 ^ 24 % 128;
+}
 
 -- the word of these fields, each cut to its width; all other bits are 0 (this project's choice)
 abbrev pub csw_word : Csw → ℕ
 csw_word c = c.size % 8 + c.addr_inc % 4 * 16 + bit c.device_en * 64 + bit c.tr_in_prog * 128 + c.upper % 128 * 2 ^ 24
 
--- the bits that CSW names here (IHI 0031, MEM-AP, "CSW, Control/Status Word register")
+-- the bits that CSW names here
 abbrev pub csw_mask : ℕ
 csw_mask = 0x7f00_00f7
 
--- each field is within its width (IHI 0031, MEM-AP, "CSW, Control/Status Word register")
+-- each field is within its width
 pub record IsCsw (c : Csw) : Type 0 where
   pub size : c.size < 8
   pub addr_inc : c.addr_inc < 4
   pub upper : c.upper < 128
 
--- CTRL/STAT as it is read: STICKYERR 5, READOK 6, WDATAERR 7, and each power request with its acknowledgement,
--- 28 with 29 and 30 with 31; all others read 0 (IHI 0031, B2, "CTRL/STAT, Control/Status register"; at once, and the zeros: this project's choice)
+-- CTRL/STAT as it is read: STICKYERR 5, READOK 6, WDATAERR 7, and each power request with its acknowledgement, 28
+-- with 29 and 30 with 31; all others read 0 (at once, and the zeros: this project's choice)
 abbrev pub ctrl_stat_read : Bool → Bool → Bool → Bool → Bool → ℕ
 ctrl_stat_read sticky_error read_ok write_error debug_power system_power =
-    bit sticky_error * 0x20 + bit read_ok * 0x40 + bit write_error * 0x80 + bit debug_power * 0x3000_0000 + bit system_power * 0xc000_0000
+    bit sticky_error * 0x20 + bit read_ok * 0x40 + bit write_error * 0x80 +
+    bit debug_power * 0x3000_0000 + bit system_power * 0xc000_0000
 
--- AddrInc of a CSW that increments, 01, and of one that doesn't, 00 (IHI 0031, MEM-AP, "CSW, Control/Status Word register")
+-- AddrInc of a CSW that increments, 01, and of one that doesn't, 00
 abbrev pub addr_inc_of : Bool → ℕ
 addr_inc_of true = 1
 addr_inc_of false = 0
 
--- CSW as it is read: words alone, DeviceEn, no transfer in progress
--- (IHI 0031, MEM-AP, "CSW, Control/Status Word register"; which fields are fixed: this project's choice)
+-- CSW as it is read: words alone, DeviceEn, no transfer in progress (which fields are fixed: this project's choice)
 abbrev pub csw_read : Bool → ℕ → ℕ
-csw_read increments upper = csw_word (record { size = 2; addr_inc = addr_inc_of increments; device_en = true; tr_in_prog = false; upper = upper })
+csw_read increments upper =
+    let addr_inc = addr_inc_of increments in
+    csw_word (record { size = 2; addr_inc = addr_inc; device_en = true; tr_in_prog = false; upper = upper })

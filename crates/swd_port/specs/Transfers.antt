@@ -1,40 +1,43 @@
--- What a host can know of the transfer that it began by DRW.
+-- What a host can know of the transfer that it began by DRW: the words of the laws. All of it follows from the
+-- definitions of the steps, which say where each rule comes from.
 use Rattle.std.specs.Prelude.{ℕ, ◌≡◌, ◌≢◌, ◌<◌, ◌+◌, ◌%◌, ◌^◌, true, false, Some, None}
 use Rattle.swd_port.specs.declared.access.Access.{Access}
 use Rattle.swd_port.specs.declared.access.Access.TheVariants.{Read, Write}
 use Rattle.swd_port.specs.declared.access.Answer.TheVariants.{BusFault}
-use Rattle.swd_port.specs.PlainMemory.{PlainMemory, address, succeeds_at, word_at, done, answer_of, plain_answer, plain_after}
+use Rattle.swd_port.specs.PlainMemory.{PlainMemory, address, succeeds_at, word_at, done, answer_of, plain_answer}
+use Rattle.swd_port.specs.PlainMemory.{plain_after}
 use Rattle.swd_port.specs.Port.{Target, Drw, Reads, Writes}
 
--- an access as the transfer that is pending for it (IHI 0031, MEM-AP, "DRW, Data Read/Write register")
+-- an access as the transfer that is pending for it
 abbrev pub drw_of : Access → Drw
 drw_of (Read at) = Reads
 drw_of (Write at word) = Writes word
 
--- the read buffer has the word of a read that was done (IHI 0031, B4, "Read accesses")
+-- the read buffer has the word of a read that was done
 abbrev pub Buffered : Access → PlainMemory → Target → Type 0
 Buffered (Read at) m x = x.buffer ≡ Some (word_at at m)
 Buffered (Write at word) m x = Unit {0}
 
 -- TAR after a transfer that was done: the next word's address, but at the end of a kilobyte, where it isn't told
--- (IHI 0031, MEM-AP, "Auto-incrementing the Transfer Address Register (TAR)")
 abbrev pub Advanced : ℕ → Target → Type 0
 Advanced at x = x.increments ≡ true → at % 4 ≡ 0 → at < 2 ^ 32 → (at + 4) % 1024 ≢ 0 → x.tar ≡ Some (at + 4)
 
--- An access whose DRW transfer was accepted, over the memory as it was then: the transfer is owed, done, or failed
--- (IHI 0031, MEM-AP, "DRW, Data Read/Write register"; and B1, "Sticky flags and DP error responses").
+-- An access whose DRW transfer was accepted, over the memory as it was then: the transfer is owed, done, or failed.
 pub data Sent (access : Access) (m : PlainMemory) (x : Target) : Type 0 where
-  owed : x.pending ≡ Some (drw_of access) → x.tar ≡ Some (address access) → x.memory ≡ m → x.sticky_error ≡ false → Sent access m x
-  gone : succeeds_at (address access) m ≡ true → x.pending ≡ None → x.memory ≡ done access m → x.sticky_error ≡ false → Buffered access m x →
-      Advanced (address access) x → Sent access m x
-  failed : succeeds_at (address access) m ≡ false → x.pending ≡ None → x.memory ≡ m → x.sticky_error ≡ true → x.tar ≡ None → x.buffer ≡ None → Sent access m x
+  owed : x.pending ≡ Some (drw_of access) → x.tar ≡ Some (address access) → x.memory ≡ m → x.sticky_error ≡ false →
+      Sent access m x
+  gone : succeeds_at (address access) m ≡ true → x.pending ≡ None → x.memory ≡ done access m →
+      x.sticky_error ≡ false → Buffered access m x → Advanced (address access) x → Sent access m x
+  failed : succeeds_at (address access) m ≡ false → x.pending ≡ None → x.memory ≡ m → x.sticky_error ≡ true →
+      x.tar ≡ None → x.buffer ≡ None → Sent access m x
 
--- the memory as it is once nothing is pending any more, whatever the flags (this project's choice)
+-- the memory as it is once nothing is pending any more, whatever the flags
 pub data Becomes (m : PlainMemory) (x : Target) : Type 0 where
   idle : x.pending ≡ None → x.memory ≡ m → Becomes m x
-  pends : (access : Access) → x.pending ≡ Some (drw_of access) → x.tar ≡ Some (address access) → plain_after access x.memory ≡ m → Becomes m x
+  pends : (access : Access) → x.pending ≡ Some (drw_of access) → x.tar ≡ Some (address access) →
+      plain_after access x.memory ≡ m → Becomes m x
 
--- the fields that `Sent` and `Becomes` are about are as before (this project's choice)
+-- the fields that `Sent` and `Becomes` are about are as before
 pub record Carries (x y : Target) : Type 0 where
   pub pending : y.pending ≡ x.pending
   pub tar : y.tar ≡ x.tar
@@ -43,15 +46,15 @@ pub record Carries (x y : Target) : Type 0 where
   pub buffer : y.buffer ≡ x.buffer
   pub increments : y.increments ≡ x.increments
 
--- TAR is known, nothing is pending, and STICKYERR is clear: a DRW access would be a transfer at this address over this memory
--- (IHI 0031, MEM-AP, "TAR, Transfer Address Register")
+-- TAR is known, nothing is pending, and STICKYERR is clear: a DRW access would be a transfer at this address over
+-- this memory
 pub record Aimed (at : ℕ) (m : PlainMemory) (x : Target) : Type 0 where
   pub tar : x.tar ≡ Some at
   pub memory : x.memory ≡ m
   pub pending : x.pending ≡ None
   pub sticky_error : x.sticky_error ≡ false
 
--- the access was done: its answer, the memory, the buffer and TAR (this project's choice)
+-- the access was done: its answer, the memory, the buffer and TAR
 pub record Succeeded (access : Access) (m : PlainMemory) (x : Target) : Type 0 where
   pub answer : plain_answer access m ≡ answer_of access m
   pub memory : x.memory ≡ plain_after access m
@@ -60,7 +63,7 @@ pub record Succeeded (access : Access) (m : PlainMemory) (x : Target) : Type 0 w
   pub buffered : Buffered access m x
   pub advanced : Advanced (address access) x
 
--- the access was a bus error (IHI 0031, B1, "Sticky flags and DP error responses")
+-- the access was a bus error
 pub record Failed (access : Access) (m : PlainMemory) (x : Target) : Type 0 where
   pub answer : plain_answer access m ≡ BusFault
   pub memory : x.memory ≡ plain_after access m

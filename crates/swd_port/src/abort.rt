@@ -10,10 +10,15 @@ pub struct Abort(u32);
 
 bitflag_items! {
     impl Abort: u32 {
+        /// Aborts the transfer that an access port is at.
         const DAPABORT = 0x1;
+        /// Clears STICKYCMP.
         const STKCMPCLR = 0x2;
+        /// Clears STICKYERR.
         const STKERRCLR = 0x4;
+        /// Clears WDATAERR.
         const WDERRCLR = 0x8;
+        /// Clears STICKYORUN.
         const ORUNERRCLR = 0x10;
     }
 }
@@ -23,7 +28,8 @@ impl Flags for Abort {
 
     ghost exact = { ⊤ };
 
-    ghost table = { (codes "DAPABORT", 0x1) ∷ (codes "STKCMPCLR", 0x2) ∷ (codes "STKERRCLR", 0x4) ∷ (codes "WDERRCLR", 0x8) ∷ (codes "ORUNERRCLR", 0x10) ∷ [] };
+    ghost table = { (codes "DAPABORT", 0x1) ∷ (codes "STKCMPCLR", 0x2) ∷ (codes "STKERRCLR", 0x4)
+        ∷ (codes "WDERRCLR", 0x8) ∷ (codes "ORUNERRCLR", 0x10) ∷ [] };
 
     ghost set_of = { λ flags. flags.0 };
 

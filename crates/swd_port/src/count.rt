@@ -5,7 +5,8 @@ ghost use base.Fml.{ftrue};
 use std::marker::{Model, PhantomData};
 use std::mem::size_of;
 
-/// A whole number that only contracts see, as `ticks`. It takes no bytes.
+/// A whole number that only contracts see, as `ticks`: a program never reads it, and it never
+/// overflows. It takes no bytes.
 #[derive(Drop)]
 pub struct Count {
     marker: PhantomData<()>,

@@ -11,20 +11,35 @@ pub struct CtrlStat(u32);
 
 bitflag_items! {
     impl CtrlStat: u32 {
+        /// Overrun detection is on.
         const ORUNDETECT = 0x1;
+        /// An overrun was detected.
         const STICKYORUN = 0x2;
+        /// How access port transfers are made, bits [3:2].
         const TRNMODE = 0xc;
+        /// A pushed transfer matched.
         const STICKYCMP = 0x10;
+        /// A transfer of an access port was in error.
         const STICKYERR = 0x20;
+        /// The last read of an access port or of RDBUFF was answered OK.
         const READOK = 0x40;
+        /// The data of a write came with wrong parity, or not at all.
         const WDATAERR = 0x80;
+        /// The bytes that a pushed transfer looks at, bits [11:8].
         const MASKLANE = 0xf00;
+        /// The transaction counter, bits [23:12].
         const TRNCNT = 0xff_f000;
+        /// Debug reset is asked for.
         const CDBGRSTREQ = 0x400_0000;
+        /// Debug reset was done.
         const CDBGRSTACK = 0x800_0000;
+        /// Debug power is asked for.
         const CDBGPWRUPREQ = 0x1000_0000;
+        /// There is debug power.
         const CDBGPWRUPACK = 0x2000_0000;
+        /// System power is asked for.
         const CSYSPWRUPREQ = 0x4000_0000;
+        /// There is system power.
         const CSYSPWRUPACK = 0x8000_0000;
     }
 }
@@ -34,7 +49,12 @@ impl Flags for CtrlStat {
 
     ghost exact = { ⊤ };
 
-    ghost table = { (codes "ORUNDETECT", 0x1) ∷ (codes "STICKYORUN", 0x2) ∷ (codes "TRNMODE", 0xc) ∷ (codes "STICKYCMP", 0x10) ∷ (codes "STICKYERR", 0x20) ∷ (codes "READOK", 0x40) ∷ (codes "WDATAERR", 0x80) ∷ (codes "MASKLANE", 0xf00) ∷ (codes "TRNCNT", 0xff_f000) ∷ (codes "CDBGRSTREQ", 0x400_0000) ∷ (codes "CDBGRSTACK", 0x800_0000) ∷ (codes "CDBGPWRUPREQ", 0x1000_0000) ∷ (codes "CDBGPWRUPACK", 0x2000_0000) ∷ (codes "CSYSPWRUPREQ", 0x4000_0000) ∷ (codes "CSYSPWRUPACK", 0x8000_0000) ∷ [] };
+    ghost table = { (codes "ORUNDETECT", 0x1) ∷ (codes "STICKYORUN", 0x2) ∷ (codes "TRNMODE", 0xc)
+        ∷ (codes "STICKYCMP", 0x10) ∷ (codes "STICKYERR", 0x20) ∷ (codes "READOK", 0x40)
+        ∷ (codes "WDATAERR", 0x80) ∷ (codes "MASKLANE", 0xf00) ∷ (codes "TRNCNT", 0xff_f000)
+        ∷ (codes "CDBGRSTREQ", 0x400_0000) ∷ (codes "CDBGRSTACK", 0x800_0000) ∷ (codes "CDBGPWRUPREQ", 0x1000_0000)
+        ∷ (codes "CDBGPWRUPACK", 0x2000_0000) ∷ (codes "CSYSPWRUPREQ", 0x4000_0000)
+        ∷ (codes "CSYSPWRUPACK", 0x8000_0000) ∷ [] };
 
     ghost set_of = { λ flags. flags.0 };
 

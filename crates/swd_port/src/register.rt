@@ -1,6 +1,6 @@
 //! The registers that a request reaches.
 ghost use Rattle.std.specs.Prelude.{◌≡◌, true};
-ghost use Rattle.swd_port.specs.Port.{register, is_reached};
+ghost use Rattle.swd_port.specs.Port.{register, request_of, is_reached};
 ghost use Rattle.swd_port.specs.declared.select.Select.{Select};
 
 use swd_bits::{Reg4, Request};
@@ -49,7 +49,8 @@ impl Register {
     /// The request that names this register, under a SELECT by which it can be named: SELECT 0 for
     /// all but `DpZeroRead`, which has no address in bank 0 of the debug port.
     pub fn request(self) -> Request
-        ensures { (select : Select) → is_reached select self ≡ true → register select result ≡ self }
+        ensures exact { result ≡ request_of self }
+        ensures named { (select : Select) → is_reached select self ≡ true → register select result ≡ self }
     {
         let (ap, read, addr) = match self {
             Register::DpidrRead => (false, true, Reg4::R0),

@@ -1,5 +1,78 @@
+ghost use Rattle.std.specs.Prelude.{◌≡◌, []};
+ghost use Rattle.std.specs.FinMap.{empty};
+ghost use Rattle.swd_port.specs.declared.state.Line.TheVariants.{Idle};
+ghost use Rattle.swd_port.specs.declared.wire.Due.TheVariants.{Nothing};
+ghost use Rattle.swd_port.specs.Port.{made_target};
+
 use super::*;
 use bitflags::Flags;
+use swd_bits::{Request, word_of};
+
+// A wire with nothing at its other end, where every bit reads 1. It keeps the law: no request is
+// seen.
+#[derive(Drop)]
+struct OpenWire {
+    due: Due,
+    reset: Reset,
+    asked: Count,
+}
+
+impl Wire for OpenWire {
+    ghost port = { λ wire. record {
+      link = record { due = wire.due; line = Idle };
+      target = record (made_target 0 (record { words = empty; log = []; room = 0 })) { reset = wire.reset };
+      tally = record { asked = wire.asked.ticks; disturbed = 0; lost = wire.asked.ticks };
+    } };
+
+    fn due(&self) -> Due {
+        self.due
+    }
+
+    fn lead(&mut self, ones: u32, switch: bool, zeros: u32) {
+        let _ = (switch, zeros);
+        self.due = Due::Nothing;
+        if ones != 0 {
+            self.reset = Reset::Fresh;
+        }
+    }
+
+    fn ask(&mut self, request: Request) -> u8 {
+        let _ = request;
+        self.asked.tick();
+        self.due = Due::Lost;
+        7
+    }
+
+    fn take(&mut self) -> u64 {
+        self.due = Due::Nothing;
+        0x1_ffff_ffff
+    }
+
+    fn give(&mut self, bits: u64) {
+        let _ = bits;
+        self.due = Due::Nothing;
+    }
+
+    fn pass(&mut self) {
+        self.due = Due::Nothing;
+    }
+}
+
+// What DPIDR reads after a line reset. `None` where the target doesn't answer, or its data is
+// damaged. The example of `Wire`.
+fn identification<W: Wire>(wire: &mut W) -> Option<u32>
+    requires { (W.port wire.old).link.due ≡ Nothing }
+{
+    wire.lead(56, false, 8);
+    match wire.ask(Register::DpidrRead.request()) {
+        1 => word_of(wire.take()),
+        2 | 4 => {
+            wire.pass();
+            None
+        }
+        _ => None,
+    }
+}
 
 #[test]
 fn a_register_keeps_the_bits_that_it_names(rt: HostRuntime) {
@@ -56,4 +129,38 @@ fn fields_stand_at_their_places(rt: HostRuntime) {
     };
     assert_eq!(rt; Csw::of(0x2300_0052), csw);
     assert_eq!(rt; csw.bits(), 0x2300_0052);
+}
+
+#[test]
+fn a_register_is_named_by_its_byte(rt: HostRuntime) {
+    for (register, byte) in [
+        (Register::DpidrRead, 0xa5),
+        (Register::AbortWrite, 0x81),
+        (Register::CtrlStatRead, 0x8d),
+        (Register::CtrlStatWrite, 0xa9),
+        (Register::ResendRead, 0x95),
+        (Register::SelectWrite, 0xb1),
+        (Register::RdbuffRead, 0xbd),
+        (Register::CswRead, 0x87),
+        (Register::CswWrite, 0xa3),
+        (Register::TarRead, 0xaf),
+        (Register::TarWrite, 0x8b),
+        (Register::DrwRead, 0x9f),
+        (Register::DrwWrite, 0xbb),
+    ] {
+        assert_eq!(rt; register.request().bits(), byte);
+    }
+}
+
+#[test]
+fn nobody_answers_on_an_open_wire(rt: HostRuntime) {
+    let mut wire = OpenWire {
+        due: Due::Nothing,
+        reset: Reset::Unreset,
+        asked: Count::new(),
+    };
+    assert_eq!(rt; identification(&mut &mut wire), None);
+    assert_eq!(rt; wire.due(), Due::Lost);
+    wire.lead(100, false, 2);
+    assert_eq!(rt; wire.due(), Due::Nothing);
 }

@@ -27,7 +27,25 @@ pub enum Due {
 /// One end of a serial wire, for the host that drives it (IHI 0031, B4). Its law: each call is a
 /// step of the port machine at the other end, whose state contracts see as `port`.
 ///
-/// Bits are numbers with the first bit in time least significant. No call fails.
+/// Bits are numbers with the first bit in time least significant. No call fails. What has to come
+/// next is told by `due`, and follows from what was seen:
+///
+/// ```text
+/// // What DPIDR reads after a line reset.
+/// fn identification<W: Wire>(wire: &mut W) -> Option<u32>
+///     requires { (W.port wire.old).link.due ≡ Nothing }
+/// {
+///     wire.lead(56, false, 8);
+///     match wire.ask(Register::DpidrRead.request()) {
+///         1 => word_of(wire.take()),
+///         2 | 4 => {
+///             wire.pass();
+///             None
+///         }
+///         _ => None,
+///     }
+/// }
+/// ```
 pub trait Wire {
     /// The port machine at the other end, and the numbers of requests so far.
     ghost port: { Self → Port };
@@ -40,9 +58,9 @@ pub trait Wire {
     fn due(&self) -> Due
         ensures { result ≡ (port self.now).link.due };
 
-    /// Drives `ones` cycles high, with `switch` then the sixteen bits 0111100111100111 and the ones
-    /// again, and then `zeros` cycles low. With ones this is a line reset. Where something other
-    /// than `Due::Nothing` was due, the first 34 of the ones are left undriven.
+    /// Drives `ones` cycles high, with `switch` then the sixteen bits 0111100111100111, the first in
+    /// time first, and the ones again, and then `zeros` cycles low. With ones this is a line reset.
+    /// Where something other than `Due::Nothing` was due, the first 34 of the ones are left undriven.
     fn lead(&mut self, ones: u32, switch: bool, zeros: u32)
         requires { MayLead (port self.old).link.due ones switch zeros }
         ensures step { Leads (port self.old) ones (port self.new) }
@@ -56,14 +74,16 @@ pub trait Wire {
         ensures step { Asks (port self.old) request result (port self.new) }
         ensures plan { plan self.new ≡ plan self.old };
 
-    /// Takes the 33 bits of a read's data phase, and the turnaround.
+    /// Takes the 33 bits of a read's data phase, 32 of the word and above them the parity, and the
+    /// turnaround.
     fn take(&mut self) -> u64
         requires { (port self.old).link.due ≡ Take }
         ensures range { result < 2 ^ 33 }
         ensures step { Takes (port self.old) result (port self.new) }
         ensures plan { plan self.new ≡ plan self.old };
 
-    /// Sends the turnaround and the 33 bits of a write's data phase.
+    /// Sends the turnaround and the 33 bits of a write's data phase, 32 of the word and above them
+    /// the parity.
     fn give(&mut self, bits: u64)
         requires due { (port self.old).link.due ≡ Give }
         requires range { bits < 2 ^ 33 }

@@ -1,17 +1,15 @@
 -- Laws of whole accesses: the write and the read of a word, request by request.
 use Rattle.std.specs.Prelude.{ℕ, ◌≡◌, ◌<◌, ◌^◌, true, false}
-use Rattle.swd_bits.specs.declared.request.Reg4.TheVariants.{RC}
 use Rattle.swd_port.specs.declared.access.Access.TheVariants.{Read, Write}
 use Rattle.swd_port.specs.declared.access.Answer.TheVariants.{Value}
 use Rattle.swd_port.specs.Phases.{IsPhaseOf}
 use Rattle.swd_port.specs.PlainMemory.{PlainMemory, word_at, plain_answer, plain_after}
-use Rattle.swd_port.specs.Port.{Port, Target, Live}
+use Rattle.swd_port.specs.Port.{Port, Target, Live, RdbuffRead, DrwRead, DrwWrite, request_of}
 use Rattle.swd_port.specs.Asking.{Asks}
 use Rattle.swd_port.specs.Moving.{Takes, Gives}
 use Rattle.swd_port.specs.Transfers.{Aimed, Succeeded}
 
 -- a target that is ready for transfers: live and powered, SELECT is 0, CSW increments, and WDATAERR is clear
--- (IHI 0031, B1, "Sticky flags and DP error responses"; and MEM-AP, "CSW, Control/Status Word register")
 pub record Ready (x : Target) : Type 0 where
   pub live : x.reset ≡ Live
   pub power : x.debug_power ≡ true
@@ -19,18 +17,22 @@ pub record Ready (x : Target) : Type 0 where
   pub increments : x.increments ≡ true
   pub write_error : x.write_error ≡ false
 
--- The requests of a word's write, undisturbed, each answered OK: the write was done, and once
--- (IHI 0031, MEM-AP, "DRW, Data Read/Write register"; and B2, "RDBUFF, Read Buffer register").
-abbrev pub WordWritten : Type 0
-WordWritten = (at word sent bits : ℕ) (m : PlainMemory) (s asked given confirmed t : Port) → Ready s.target → Aimed at m s.target → word < 2 ^ 32 → sent < 2 ^ 33 →
-    IsPhaseOf word sent →
-    Asks s (record { ap = true; read = false; addr = RC }) 1 asked → asked.tally.disturbed ≡ s.tally.disturbed → Gives asked sent given →
-    Asks given (record { ap = false; read = true; addr = RC }) 1 confirmed → Takes confirmed bits t → Succeeded (Write at word) m t.target
+-- no place of this request's data phase was changed
+abbrev pub IsUndisturbed : Port → Port → Type 0
+IsUndisturbed s t = t.tally.disturbed ≡ s.tally.disturbed
 
--- The requests of a word's read, the confirming one undisturbed, each answered OK: the read was done, and once, and its word is what
--- RDBUFF gives (IHI 0031, B4, "Read accesses"; and B2, "RDBUFF, Read Buffer register").
+-- the requests of a word's write, undisturbed, each answered OK: the write was done, and once
+abbrev pub WordWritten : Type 0
+WordWritten = (at word sent bits : ℕ) (m : PlainMemory) (s asked given confirmed t : Port) → Ready s.target →
+    Aimed at m s.target → word < 2 ^ 32 → sent < 2 ^ 33 → IsPhaseOf word sent → Asks s (request_of DrwWrite) 1 asked →
+    IsUndisturbed s asked → Gives asked sent given → Asks given (request_of RdbuffRead) 1 confirmed →
+    Takes confirmed bits t → Succeeded (Write at word) m t.target
+
+-- The requests of a word's read, the confirming one undisturbed, each answered OK: the read was done, and once, and its
+-- word is what RDBUFF gives.
 abbrev pub WordRead : Type 0
-WordRead = (at first_bits bits : ℕ) (m : PlainMemory) (s asked taken confirmed t : Port) → Ready s.target → Aimed at m s.target → bits < 2 ^ 33 →
-    Asks s (record { ap = true; read = true; addr = RC }) 1 asked → Takes asked first_bits taken →
-    Asks taken (record { ap = false; read = true; addr = RC }) 1 confirmed → confirmed.tally.disturbed ≡ taken.tally.disturbed → Takes confirmed bits t →
-    IsPhaseOf (word_at at m) bits × (plain_answer (Read at) m ≡ Value (word_at at m)) × (t.target.memory ≡ plain_after (Read at) m)
+WordRead = (at first_bits bits : ℕ) (m : PlainMemory) (s asked taken confirmed t : Port) → Ready s.target →
+    Aimed at m s.target → bits < 2 ^ 33 → Asks s (request_of DrwRead) 1 asked → Takes asked first_bits taken →
+    Asks taken (request_of RdbuffRead) 1 confirmed → IsUndisturbed taken confirmed → Takes confirmed bits t →
+    IsPhaseOf (word_at at m) bits × (plain_answer (Read at) m ≡ Value (word_at at m)) ×
+    (t.target.memory ≡ plain_after (Read at) m)

@@ -9,11 +9,13 @@ use Rattle.swd_port.specs.Answers.{Reply, Waits, answer, may_wait, MayAnswer, re
 
 -- where no WAIT is asked for, none is answered
 abbrev pub NeverWaits : Type 0
-NeverWaits = (reset : Reset) (sticky write unpowered : Bool) (r : Register) → answer reset sticky write unpowered r ≢ Waits
+NeverWaits = (reset : Reset) (sticky write unpowered : Bool) (r : Register) →
+    answer reset sticky write unpowered r ≢ Waits
 
 -- a request that is seen is answered as it may be
 abbrev pub AnswersAllowed : Type 0
-AnswersAllowed = (mark : Mark) (r : Register) (a : Reply) → is_deaf mark ≡ false → MayAnswer r a (reply_under mark r a)
+AnswersAllowed = (mark : Mark) (r : Register) (a : Reply) → is_deaf mark ≡ false →
+    MayAnswer r a (reply_under mark r a)
 
 -- a Wait mark gives WAIT wherever that may stand
 abbrev pub WaitsWhereAllowed : Type 0
@@ -21,7 +23,8 @@ WaitsWhereAllowed = (r : Register) (a : Reply) → may_wait r a ≡ true → rep
 
 -- and no other mark does
 abbrev pub WaitsAtWaitOnly : Type 0
-WaitsAtWaitOnly = (mark : Mark) (r : Register) (a : Reply) → a ≢ Waits → reply_under mark r a ≡ Waits → is_wait mark ≡ true
+WaitsAtWaitOnly = (mark : Mark) (r : Register) (a : Reply) → a ≢ Waits → reply_under mark r a ≡ Waits →
+    is_wait mark ≡ true
 
 -- the host sees three bits
 abbrev pub SeenInRange : Type 0

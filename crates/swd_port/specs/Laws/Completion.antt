@@ -1,5 +1,4 @@
 -- Laws of completion: the pending DRW transfer takes effect, now or later.
--- Source: IHI 0031, MEM-AP, "DRW, Data Read/Write register"; when it comes is this project's choice.
 use Rattle.std.specs.Prelude.{◌≡◌, None}
 use Rattle.swd_port.specs.Port.{Port}
 use Rattle.swd_port.specs.Completion.{Completes}

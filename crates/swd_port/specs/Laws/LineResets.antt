@@ -1,5 +1,4 @@
 -- Laws of line resets and idle cycles.
--- Source: IHI 0031, B4, "Connection and line reset sequence", "Idle cycles".
 use Rattle.std.specs.Prelude.{ℕ, ◌≡◌, ◌≢◌, None}
 use Rattle.swd_port.specs.PlainMemory.{PlainMemory}
 use Rattle.swd_port.specs.Port.{Port, Fresh, made_target, made}
@@ -20,5 +19,6 @@ IdleCyclesAtRest = (s t : Port) → s.target.pending ≡ None → Leads s 0 t �
 
 -- the first line reset of a target as it was made
 abbrev pub FirstLineReset : Type 0
-FirstLineReset = (identification ones : ℕ) (m : PlainMemory) (t : Port) → ones ≢ 0 → Leads (made identification m) ones t →
+FirstLineReset = (identification ones : ℕ) (m : PlainMemory) (t : Port) → ones ≢ 0 →
+    Leads (made identification m) ones t →
     t ≡ record (made identification m) { target = record (made_target identification m) { reset = Fresh } }

@@ -1,5 +1,4 @@
 -- Laws of data phases as numbers: they are the 33 bits in time order, the first least significant.
--- Source: IHI 0031, B4, "Data transfer".
 use Rattle.std.specs.Prelude.{ℕ, ◌≡◌, ◌<◌, ◌^◌, ◌↔◌, true, Some, None, replicate}
 use Rattle.swd_bits.specs.Bits.{low_bits}
 use Rattle.swd_bits.specs.Wire.{phase}
@@ -11,11 +10,13 @@ PhaseSent = (word : ℕ) → word < 2 ^ 32 → low_bits 33 (phase_number word) �
 
 -- no other 33 bits are
 abbrev pub PhaseSentOnly : Type 0
-PhaseSentOnly = (bits word : ℕ) → bits < 2 ^ 33 → word < 2 ^ 32 → low_bits 33 bits ≡ phase word → bits ≡ phase_number word
+PhaseSentOnly = (bits word : ℕ) → bits < 2 ^ 33 → word < 2 ^ 32 → low_bits 33 bits ≡ phase word →
+    bits ≡ phase_number word
 
 -- the word that is read of 33 bits is the one whose phase they are
 abbrev pub PhaseRead : Type 0
-PhaseRead = (bits word : ℕ) → bits < 2 ^ 33 → word < 2 ^ 32 → (word_in bits ≡ Some word) ↔ (low_bits 33 bits ≡ phase word)
+PhaseRead = (bits word : ℕ) → bits < 2 ^ 33 → word < 2 ^ 32 →
+    (word_in bits ≡ Some word) ↔ (low_bits 33 bits ≡ phase word)
 
 -- and none is read where they are no word's phase
 abbrev pub NoPhaseRead : Type 0

@@ -1,6 +1,4 @@
 -- Laws of the words that are read, and of returned values.
--- Source: IHI 0031, B2, "CTRL/STAT, Control/Status register", "RDBUFF, Read Buffer register", "RESEND, Read Resend register",
--- "DPIDR, Debug Port Identification register", "ABORT, AP Abort register"; and B4, "Read accesses".
 use Rattle.std.specs.Prelude.{ℕ, ◌≡◌, ◌<◌, ◌^◌, ◌==◌, ◌⊎◌, Bool, true, false, Option, Some}
 use Rattle.std.specs.Int.RustNames.{bit_and}
 use Rattle.swd_port.specs.Registers.{bit_of, ctrl_stat_read, ctrl_stat_mask}
@@ -9,7 +7,7 @@ use Rattle.swd_port.specs.Port.{Port, Target, Register, DpidrRead, AbortWrite, C
 use Rattle.swd_port.specs.Answers.{is_exempt}
 use Rattle.swd_port.specs.Asking.{is_posted, status_in}
 use Rattle.swd_port.specs.Moves.{Passed, Gave, WasReset}
-use Rattle.swd_port.specs.Outcomes.{Stays, Defers, Accepts}
+use Rattle.swd_port.specs.Outcomes.{Stays, Defers, Accepts, Refuses}
 use Rattle.swd_port.specs.Transfers.{Carries}
 
 -- a set of named bits holds all of these
@@ -32,40 +30,54 @@ pub record StatusReads (sticky_error read_ok write_error debug_power system_powe
 
 abbrev pub StatusWord : Type 0
 StatusWord = (sticky_error read_ok write_error debug_power system_power : Bool) →
-    StatusReads sticky_error read_ok write_error debug_power system_power (ctrl_stat_read sticky_error read_ok write_error debug_power system_power)
+    StatusReads sticky_error read_ok write_error debug_power system_power
+    (ctrl_stat_read sticky_error read_ok write_error debug_power system_power)
 
 -- the line has the phase of a value, which is a word
 pub record OnLine (value : ℕ) (flip : Option ℕ) (t : Port) : Type 0 where
   pub line : t.link.line ≡ Drives (flipped flip (phase_number value))
   pub range : value < 2 ^ 32
 
--- DPIDR returns the identification (IHI 0031, B2, "DPIDR, Debug Port Identification register")
+-- DPIDR returns the identification
 abbrev pub IdentificationReturned : Type 0
-IdentificationReturned = (flip : Option ℕ) (s t : Port) → Accepts DpidrRead true flip s t → OnLine s.target.identification flip t
+IdentificationReturned = (flip : Option ℕ) (s t : Port) → Accepts DpidrRead true flip s t →
+    OnLine s.target.identification flip t
+
+-- the word of CTRL/STAT in a state tells its flags and powers
+abbrev pub StatusTells : Target → Type 0
+StatusTells x =
+    StatusReads x.sticky_error x.read_ok x.write_error x.debug_power x.system_power (status_in x)
 
 -- CTRL/STAT returns the flags and powers as they were when it was answered
 abbrev pub StatusReturned : Type 0
 StatusReturned = (flip : Option ℕ) (s t : Port) → Accepts CtrlStatRead true flip s t →
-    OnLine (status_in s.target) flip t × StatusReads s.target.sticky_error s.target.read_ok s.target.write_error s.target.debug_power s.target.system_power (status_in s.target)
+    OnLine (status_in s.target) flip t × StatusTells s.target
 
 -- RDBUFF, and every AP read, returns the read buffer, and its value is the last returned
 abbrev pub BufferReturned : Type 0
-BufferReturned = (r : Register) (flip : Option ℕ) (value : ℕ) (s t : Port) → is_posted r ≡ true → s.target.buffer ≡ Some value → Accepts r true flip s t →
+BufferReturned = (r : Register) (flip : Option ℕ) (value : ℕ) (s t : Port) → is_posted r ≡ true →
+    s.target.buffer ≡ Some value → Accepts r true flip s t →
     OnLine value flip t × (t.target.last_returned ≡ Some value)
 
 -- RESEND returns the last returned value, which stays that, so that it may be repeated
 abbrev pub ValueResent : Type 0
-ValueResent = (flip : Option ℕ) (value : ℕ) (s t : Port) → s.target.last_returned ≡ Some value → Accepts ResendRead true flip s t →
-    OnLine value flip t × (t.target.last_returned ≡ Some value)
+ValueResent = (flip : Option ℕ) (value : ℕ) (s t : Port) → s.target.last_returned ≡ Some value →
+    Accepts ResendRead true flip s t → OnLine value flip t × (t.target.last_returned ≡ Some value)
 
 -- an exempt request, and RESEND, leave a sent transfer and the last returned value as they were
 abbrev pub CarriedByRequest : Type 0
-CarriedByRequest = (r : Register) (read : Bool) (flip : Option ℕ) (s t : Port) → (is_exempt r ≡ true) ⊎ (r ≡ ResendRead) → Accepts r read flip s t →
+CarriedByRequest = (r : Register) (read : Bool) (flip : Option ℕ) (s t : Port) →
+    (is_exempt r ≡ true) ⊎ (r ≡ ResendRead) → Accepts r read flip s t →
     Carries s.target t.target × (t.target.last_returned ≡ s.target.last_returned)
 
--- a refused request, and one that had no effect, leave a sent transfer as it was where they leave STICKYERR
+-- a request that had no effect, and one that got WAIT, leave a sent transfer as it was
 abbrev pub CarriedWhereHeld : Type 0
 CarriedWhereHeld = (r : Register) (s t : Port) → Stays s t ⊎ Defers r s t → Carries s.target t.target
+
+-- so does one that got FAULT, where it leaves STICKYERR
+abbrev pub CarriedWhereRefused : Type 0
+CarriedWhereRefused = (r : Register) (ap : Bool) (s t : Port) → Refuses r ap s t →
+    t.target.sticky_error ≡ s.target.sticky_error → Carries s.target t.target
 
 -- so do a data phase that is taken and a turnaround
 abbrev pub CarriedWherePassed : Type 0
@@ -75,8 +87,8 @@ CarriedWherePassed = (s t : Port) → Passed s t → Carries s.target t.target
 abbrev pub CarriedByReset : Type 0
 CarriedByReset = (s t : Port) → WasReset s t → Carries s.target t.target
 
--- ABORT's bits 2 and 3 clear STICKYERR and WDATAERR; it leaves the last returned value, the buffer, TAR, the memory and what is pending
--- (IHI 0031, B2, "ABORT, AP Abort register")
+-- ABORT's bits 2 and 3 clear STICKYERR and WDATAERR; it leaves the last returned value, the buffer, TAR, the memory
+-- and what is pending
 pub record Clears (word : ℕ) (x y : Target) : Type 0 where
   pub sticky_cleared : bit_of 2 word ≡ true → y.sticky_error ≡ false
   pub sticky_kept : bit_of 2 word ≡ false → y.sticky_error ≡ x.sticky_error

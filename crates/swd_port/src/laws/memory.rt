@@ -1,8 +1,9 @@
 //! Laws of the memory behind the access port: transfers by DRW, their completion, and whole accesses.
 ghost use Rattle.swd_port.specs.Laws.Completion.{CompletionNotYet, CompletionOfNone, CompletionTwice, CompletionKeeps};
-ghost use Rattle.swd_port.specs.Laws.Transfers.{ReadBegins, WriteBegins, SentStays, SentCarried, SentSucceeds, SentFails};
-ghost use Rattle.swd_port.specs.Laws.Transfers.{SentBecomes, SentMemory, BecomesStays, BecomesCarried, BecomesIs};
-ghost use Rattle.swd_port.specs.Laws.Transfers.{BecomesCompleted, AimedCarried, AimedByTar, AimedByTransfer};
+ghost use Rattle.swd_port.specs.Laws.Transfers.{ReadBegins, WriteBegins, SentStays, SentCarried};
+ghost use Rattle.swd_port.specs.Laws.Transfers.{SentSucceeds, SentFails, SentBecomes, SentMemory, BecomesStays};
+ghost use Rattle.swd_port.specs.Laws.Transfers.{BecomesCarried, BecomesIs, BecomesCompleted};
+ghost use Rattle.swd_port.specs.Laws.Transfers.{AimedCarried, AimedByTar, AimedByTransfer};
 ghost use Rattle.swd_port.specs.Laws.Accesses.{WordWritten, WordRead};
 
 /// Completion of the pending transfer: it may come or not, does nothing where nothing is pending,

@@ -5,8 +5,8 @@ ghost use Rattle.swd_port.specs.Laws.Calls.{DueAfterRequest, AcknowledgementSeen
 ghost use Rattle.swd_port.specs.Laws.Calls.{RequestCounted, OthersUncounted, CountedApart};
 ghost use Rattle.swd_port.specs.Laws.Requests.{ExemptRequest, ExemptRequestAtRest, IdentificationRead};
 ghost use Rattle.swd_port.specs.Laws.Requests.{IdentificationReadAtRest, FlaggedRequest, FlaggedRequestAtRest};
-ghost use Rattle.swd_port.specs.Laws.Requests.{UnpoweredRequestAtRest, FreeRequest, FreeRequestAtRest, FreeRequestExact};
-ghost use Rattle.swd_port.specs.Laws.Requests.{LostRequest, RefusedWithPower, ConfirmingRequest};
+ghost use Rattle.swd_port.specs.Laws.Requests.{UnpoweredRequestAtRest, FreeRequest, FreeRequestAtRest};
+ghost use Rattle.swd_port.specs.Laws.Requests.{FreeRequestExact, LostRequest, RefusedWithPower, ConfirmingRequest};
 ghost use Rattle.swd_port.specs.Laws.Requests.{UnmovedByExempt, UnmovedByFree, UnmovedByRefused};
 ghost use Rattle.swd_port.specs.Laws.DataPhases.{DataTaken, TakeMovesNothing, TakeMovesNothingAtRest};
 ghost use Rattle.swd_port.specs.Laws.DataPhases.{DataGiven, DataGivenAtRest, DataGivenExact};

@@ -3,7 +3,7 @@ ghost use Rattle.swd_port.specs.Laws.Phases.{PhaseSent, PhaseSentOnly, PhaseRead
 ghost use Rattle.swd_port.specs.Laws.Phases.{PlaceChanged, DamagedPhaseRead, UndrivenOnes, UndrivenRead};
 ghost use Rattle.swd_port.specs.Laws.Registers.{SelectKept, CswKept};
 ghost use Rattle.swd_port.specs.Laws.WordsRead.{StatusWord, IdentificationReturned, StatusReturned, BufferReturned};
-ghost use Rattle.swd_port.specs.Laws.WordsRead.{ValueResent, CarriedByRequest, CarriedWhereHeld};
+ghost use Rattle.swd_port.specs.Laws.WordsRead.{ValueResent, CarriedByRequest, CarriedWhereHeld, CarriedWhereRefused};
 ghost use Rattle.swd_port.specs.Laws.WordsRead.{CarriedWherePassed, CarriedByReset, FlagsCleared};
 
 /// Data phases as numbers are the 33 bits in time order: what is sent for a word, which word is
@@ -38,6 +38,7 @@ pub fn words_read()
     ensures resent { ValueResent }
     ensures carried { CarriedByRequest }
     ensures held { CarriedWhereHeld }
+    ensures refused { CarriedWhereRefused }
     ensures passed { CarriedWherePassed }
     ensures reset { CarriedByReset }
     ensures cleared { FlagsCleared }

@@ -1,4 +1,4 @@
-use Rattle.swd_port.proofs.StatusLaws.{status_word, identification_returned, status_returned, buffer_returned, value_resent, carried_by_request, carried_where_held, carried_where_passed, carried_by_reset, flags_cleared}
+use Rattle.swd_port.proofs.StatusLaws.{status_word, identification_returned, status_returned, buffer_returned, value_resent, carried_by_request, carried_where_held, carried_where_refused, carried_where_passed, carried_by_reset, flags_cleared}
 use Rattle.swd_port.proofs.laws.words.words_read.Goals as goal
 
 pub returns-clause-status : goal.returns-clause-status
@@ -21,6 +21,9 @@ returns-clause-carried c = carried_by_request
 
 pub returns-clause-held : goal.returns-clause-held
 returns-clause-held c = carried_where_held
+
+pub returns-clause-refused : goal.returns-clause-refused
+returns-clause-refused c = carried_where_refused
 
 pub returns-clause-passed : goal.returns-clause-passed
 returns-clause-passed c = carried_where_passed

@@ -1,0 +1,13 @@
+use Rattle.std.proofs.Common.{arith}
+use Rattle.swd_port.proofs.OpenWires.{open_reset, open_idle}
+use Rattle.swd_port.proofs.tests.OpenWireWire.lead.Goals as goal
+
+pub returns-then-ones-ne0-clause-step : goal.returns-then-ones-ne0-clause-step
+returns-then-ones-ne0-clause-step c =
+    let old = c.args.self.now in
+    open_reset c.args.ones old.due old.reset old.asked.ticks (grind arith)
+
+pub returns-else-ones-ne0-clause-step : goal.returns-else-ones-ne0-clause-step
+returns-else-ones-ne0-clause-step c =
+    let old = c.args.self.now in
+    open_idle c.args.ones old.due old.reset old.asked.ticks (grind arith)
