@@ -1,0 +1,198 @@
+-- What comes of a request, by what it meets: a law for each kind, and what it leaves of the host's facts.
+use Rattle.std.proofs.Common.{◌≡◌, ◌≢◌, ◌+◌, ◌%◌, ◌^◌, ◌≤◌, ◌<◌, ℕ, Bool, true, false, refl, sym, ap, subst, inl, inr}
+use Rattle.std.proofs.Common.{arith, ◌∙◌}
+use Rattle.std.specs.Prelude.{Option, Some, None, ◌⊎◌, ◌||◌, ◌==◌}
+use Rattle.swd_bits.specs.declared.request.Request.{Request}
+use Rattle.swd_bits.specs.declared.request.Reg4.TheVariants.{R0, R4, R8, RC}
+use Rattle.swd_port.specs.declared.access.Access.{Access}
+use Rattle.swd_port.specs.declared.access.Access.TheVariants.{Read as AccessRead, Write as AccessWrite}
+use Rattle.swd_host.specs.declared.task.Task.{Task}
+use Rattle.swd_host.specs.declared.task.Task.TheVariants.{Read, Write, BurstWrite}
+use Rattle.swd_host.specs.Tasks.{access_of}
+use Rattle.swd_port.specs.declared.access.Answer.TheVariants.{Value, Written, BusFault}
+use Rattle.swd_port.specs.PlainMemory.{PlainMemory, plain_after, address, word_at}
+use Rattle.swd_port.specs.Phases.{phase_number, flipped}
+use Rattle.swd_port.specs.Port.{Port, Target, register}
+use Rattle.swd_port.specs.declared.register.Register.{Register}
+use Rattle.swd_port.specs.declared.register.Register.TheVariants.{DpidrRead, AbortWrite, CtrlStatRead, CtrlStatWrite}
+use Rattle.swd_port.specs.declared.register.Register.TheVariants.{ResendRead, SelectWrite, RdbuffRead, CswRead}
+use Rattle.swd_port.specs.declared.register.Register.TheVariants.{CswWrite, TarWrite, DrwRead, DrwWrite}
+use Rattle.swd_port.specs.declared.state.Reset.TheVariants.{Unreset, Live}
+use Rattle.swd_port.specs.declared.state.Line.{Line}
+use Rattle.swd_port.specs.declared.state.Line.TheVariants.{Drives, Awaits}
+use Rattle.swd_port.specs.Answers.{is_exempt}
+use Rattle.swd_port.specs.Completion.{Completes}
+use Rattle.swd_port.specs.Asking.{Asks, is_posted, status_in}
+use Rattle.swd_port.specs.Outcomes.{Stays, Accepts, Spares, SeesOkay, SeesWait, SeesFault, SeesNone}
+use Rattle.swd_port.specs.Outcomes.{IsNoAcknowledgement, Refuses, Defers, OkayOrLost, OkayWaitOrLost, FaultOrLost}
+use Rattle.swd_port.specs.Outcomes.{okay, wait, fault, lost}
+use Rattle.swd_port.specs.Laws.WordsRead.{OnLine, StatusReads}
+use Rattle.swd_port.proofs.RequestLaws.{exempt_request_at_rest, identification_read_at_rest, flagged_request_at_rest}
+use Rattle.swd_port.proofs.RequestLaws.{free_request_at_rest, free_request_exact, confirming_request}
+use Rattle.swd_port.proofs.RequestLaws.{refused_with_power}
+use Rattle.swd_port.proofs.StatusLaws.{status_returned, identification_returned, buffer_returned, value_resent}
+use Rattle.swd_host.specs.declared.flags.Flags.{Flags}
+use Rattle.swd_host.specs.declared.outcome.End.TheVariants.{Lost}
+use Rattle.swd_host.specs.declared.outcome.Outcome.TheVariants.{Stopped}
+use Rattle.swd_host.specs.declared.request.Place.{Place}
+use Rattle.swd_host.specs.declared.request.Place.TheVariants.{Identify, Wipe, Inspect, Select, Power, Powered}
+use Rattle.swd_host.specs.declared.request.Place.TheVariants.{Configure, Recall, Configured, Aim, Transfer, Confirm}
+use Rattle.swd_host.specs.declared.request.Job.{Job}
+use Rattle.swd_host.specs.declared.request.Job.TheVariants.{At, Resend, Status, LastStatus, Clear, Check}
+use Rattle.swd_host.specs.declared.engine.State.TheVariants.{Resting}
+use Rattle.swd_host.specs.Requests.{request_of, is_exempt as is_exempt_of}
+use Rattle.swd_host.specs.Tracks.{Hand, Counted, no_select, Reachable, Calm, Sure, Before, During, FaultedAt, Waiting}
+use Rattle.swd_host.specs.Tracks.{Within, Tracks, Says, Tells, Reads, Writes, whole, changed}
+use Rattle.swd_host.proofs.Frames.{Frame, Same, frame_waits, same_waits, frame_refuses, same_refuses, frame_accepts}
+use Rattle.swd_host.proofs.Frames.{same_accepts, before_framed, before_within, before_paid, within_carried}
+use Rattle.swd_host.proofs.Frames.{within_stays, lost_within}
+
+-- WHAT CAME OF A REQUEST
+pub data Came (job : Job) (n : ℕ) (base : Counted) (b : Bool) (k : Hand) (v : ℕ) (t : Port) : Type 0 where
+  came_okay : v ≡ 1 → During job n b k t → Came job n base b k v t
+  came_wait : v ≡ 2 → Waiting job n b k t → Came job n base b k v t
+  came_fault : v ≡ 4 → FaultedAt job n b k t → Came job n base b k v t
+  came_lost : IsNoAcknowledgement v → Within b k t.target → base.lost < t.tally.lost → n ≤ t.tally.disturbed
+      → Came job n base b k v t
+
+came_stays : (job : Job) (n : ℕ) (base : Counted) (b : Bool) (k : Hand) (v : ℕ) (s t : Port) → t ≡ s
+    → Came job n base b k v s → Came job n base b k v t
+came_stays job n base b k v s t e h = subst (λ x. Came job n base b k v x) (sym e) h
+
+-- LINES
+pub reads_from : (word n : ℕ) (P : ℕ → Type 0) (flip : Option ℕ) (s t : Port) → OnLine word flip t → Spares flip s t
+    → P n → (t.tally.disturbed ≡ s.tally.disturbed + 1 → P (n + 1)) → Reads word n P t
+reads_from word n P flip s t on (inl none) p q = whole (on.line ∙ ap
+    (λ f. Drives (flipped f (phase_number word))) none) on.range p
+reads_from word n P flip s t on (inr (place, fits, some, more)) p q =
+    changed place (on.line ∙ ap (λ f. Drives (flipped f (phase_number word))) some) on.range (q more)
+
+pub writes_from : (r : Register) (n : ℕ) (P : ℕ → Type 0) (flip : Option ℕ) (s t : Port) → t.link.line ≡ Awaits r flip
+    → Spares flip s t → P n → (t.tally.disturbed ≡ s.tally.disturbed + 1 → P (n + 1)) → Writes r n P t
+writes_from r n P flip s t on (inl none) p q = whole (on ∙ ap (Awaits r) none) p
+writes_from r n P flip s t on (inr (place, fits, some, more)) p q = changed place (on ∙ ap (Awaits r) some) (q more)
+
+-- KINDS OF REQUESTS
+
+-- an exempt one, at rest
+pub exempt_asked : (job : Job) (r : Register) (n : ℕ) (base : Counted) (b : Bool) (k : Hand) (v : ℕ) (s t : Port)
+    (q : Request) → register s.target.select q ≡ r → is_exempt r ≡ true → r ≢ DrwRead → s.target.reset ≡ Live
+    → s.target.pending ≡ None
+    → base.lost ≤ s.tally.lost → Before job n b k s → Asks s q v t
+    → ((flip : Option ℕ) → Spares flip s t → Accepts r q.read flip s t → s.tally.disturbed ≤ t.tally.disturbed
+    → During job n b k t)
+    → Came job n base b k v t
+exempt_asked job r n base b k v s t q reg ex nodrw live rest l h asks go =
+    elim (exempt_request_at_rest r q v s t reg ex live rest asks) [
+      | okay a ↦ came_okay a.is (go a.flip a.spares a.accepts a.heard.disturbed_least)
+      | lost a w ↦ came_lost a.none (lost_within r q.read b b k s t (λ x. x) nodrw w (before_within job n b k s h))
+          (omega (arith, a.lost)) (let p : n ≤ s.tally.disturbed =
+          before_paid job n b k s h in omega (arith, a.disturbed))
+    ]
+
+-- one that nothing weighs on, at rest
+pub free_asked : (job : Job) (r : Register) (n : ℕ) (base : Counted) (b c : Bool) (k : Hand) (v : ℕ) (s t : Port)
+    (q : Request) → register s.target.select q ≡ r → is_exempt r ≡ false → r ≢ DrwRead → s.target.reset ≡ Live
+    → s.target.pending ≡ None
+    → s.target.write_error ≡ false → s.target.sticky_error ≡ false → (q.ap ≡ true → s.target.debug_power ≡ true)
+    → base.lost ≤ s.tally.lost → (b ≡ true → c ≡ true) → Within b k s.target → n ≤ s.tally.disturbed → Asks s q v t
+    → ((flip : Option ℕ) → Spares flip s t → Accepts r q.read flip s t → s.tally.disturbed ≤ t.tally.disturbed
+    → During job n c k t)
+    → is_exempt_of job ≡ false → (Frame s t → Same s t → t.tally.disturbed ≡ s.tally.disturbed + 1 → Before job
+    (n + 1) c k t)
+    → Came job n base c k v t
+free_asked job r n base b c k v s t q reg ex nodrw live rest write sticky power l g within paid asks go free stay =
+    elim (free_request_exact r q v s t reg ex nodrw live rest write sticky power asks) [
+      | okay a ↦ came_okay a.is (go a.flip a.spares a.accepts a.heard.disturbed_least)
+      | wait a ↦ came_wait a.is (record {
+        free = free;
+        before = stay (frame_waits r s t a.defers)
+            (same_waits r s t a.defers) a.disturbed;
+      })
+      | lost a w ↦ came_lost a.none (lost_within r q.read b c k s t g nodrw w within) (omega (arith, a.lost))
+          (omega (arith, a.disturbed))
+    ]
+
+held_within : (r : Register) (access : Bool) (b c : Bool) (k : Hand) (s t : Port) → (b ≡ true → c ≡ true)
+    → Stays s t ⊎ Refuses r access s t → Within b k s.target → Within c k t.target
+held_within r access b c k s t g (inl h) w = within_carried b c k s t g (ap (λ i. i.pending) h.target) (ap
+    (λ i. i.tar) h.target) (ap (λ i. i.memory) h.target) w
+held_within r access b c k s t g (inr h) w = within_carried b c k s t g (ap (λ i. i.pending) h.target) (ap
+    (λ i. i.tar) h.target) (ap (λ i. i.memory) h.target) w
+
+-- one that meets WDATAERR, at rest
+pub flagged_asked : (job : Job) (r : Register) (n : ℕ) (base : Counted) (b c : Bool) (k : Hand) (v : ℕ) (s t : Port)
+    (q : Request) → register s.target.select q ≡ r → is_exempt r ≡ false → s.target.reset ≡ Live
+    → s.target.pending ≡ None
+    → s.target.write_error ≡ true → (q.ap ≡ true → s.target.debug_power ≡ true)
+    → base.lost ≤ s.tally.lost → (b ≡ true → c ≡ true) → Within b k s.target → n ≤ s.tally.disturbed → Asks s q v t
+    → (Frame s t → Same s t → s.tally.disturbed ≤ t.tally.disturbed → FaultedAt job n c k t)
+    → Came job n base c k v t
+flagged_asked job r n base b c k v s t q reg ex live rest write power l g within paid asks go =
+    elim (flagged_request_at_rest r q v s t reg ex live rest (inr write) asks) [
+      | fault a ↦ came_fault a.is (go (frame_refuses r q.ap s t a.refuses)
+          (same_refuses r q.ap s t power a.refuses) a.heard.disturbed_least)
+      | lost a w ↦ came_lost a.none (held_within r q.ap b c k s t g w within) (omega (arith, a.lost))
+          (omega (arith, a.disturbed))
+    ]
+
+-- CTRL/STAT READS
+tells : (word : ℕ) (s t : Port) → Frame s t → Same s t
+    → StatusReads s.target.sticky_error s.target.read_ok s.target.write_error s.target.debug_power
+    s.target.system_power word → Tells word t.target
+tells word s t f e h = record {
+  error = h.sticky_held ∙ sym e.sticky;
+  damaged = h.write_held ∙ sym e.write;
+  debug = h.debug_held ∙ sym f.debug;
+  system = h.system_held ∙ sym f.system;
+}
+
+abbrev pub status : Request
+status = record { ap = false; read = true; addr = R4 }
+
+abbrev pub abort : Request
+abort = record { ap = false; read = false; addr = R0 }
+
+pub status_register : (s : Port) → s.target.select ≡ no_select → register s.target.select status ≡ CtrlStatRead
+status_register s e = ap (λ x. register x status) e
+
+pub says_from : (job : Job) (n : ℕ) (b : Bool) (k : Hand) (s t : Port) (flip : Option ℕ) → s.target.reset ≡ Live
+    → Before job n b k s → Spares flip s t → Accepts CtrlStatRead true flip s t
+    → s.tally.disturbed ≤ t.tally.disturbed → Says job n b k t
+says_from job n b k s t flip live h sp a more =
+    let f = frame_accepts CtrlStatRead true flip s t refl live a in
+    let e = same_accepts CtrlStatRead true flip s t a in
+    let r = status_returned flip s t a in (
+      status_in s.target,
+      tells (status_in s.target) s t f e r.1,
+      reads_from (status_in s.target) n
+          (λ c. Before job c b k t) flip s t r.0 sp (before_framed n n b k s t f e (omega arith) job h)
+          (λ d. before_framed n (n + 1) b k s t f e (omega arith) job h),
+    )
+
+pub status_asked : (job : Job) (n : ℕ) (base : Counted) (b : Bool) (k : Hand) (v : ℕ) (s t : Port)
+    → s.target.select ≡ no_select → s.target.reset ≡ Live → s.target.pending ≡ None → base.lost ≤ s.tally.lost
+    → Before job n b k s → Asks s status v t
+    → (Says job n b k t → During job n b k t) → Came job n base b k v t
+status_asked job n base b k v s t select live rest l h asks go =
+    exempt_asked job CtrlStatRead n base b k v s t status (status_register s select) refl
+    (λ e. absurd (cc)) live rest l h asks
+    (λ flip sp a more. go (says_from job n b k s t flip live h sp a more))
+
+-- ABORT WRITES
+pub abort_register : (s : Port) → s.target.select ≡ no_select → register s.target.select abort ≡ AbortWrite
+abort_register s e = ap (λ x. register x abort) e
+
+pub abort_asked : (job : Job) (n : ℕ) (base : Counted) (b : Bool) (k : Hand) (v : ℕ) (s t : Port) (P : ℕ → Type 0)
+    → s.target.select ≡ no_select → s.target.reset ≡ Live → s.target.pending ≡ None → base.lost ≤ s.tally.lost
+    → Before job n b k s → Asks s abort v t
+    → ((n' : ℕ) → Frame s t → Same s t → n' + s.tally.disturbed ≤ n + t.tally.disturbed → P n')
+    → (Writes AbortWrite n P t → During job n b k t) → Came job n base b k v t
+abort_asked job n base b k v s t P select live rest l h asks keep go =
+    exempt_asked job AbortWrite n base b k v s t abort (abort_register s select) refl
+    (λ e. absurd (cc)) live rest l h asks
+    (λ flip sp a more.
+    (let f : Frame s t = frame_accepts AbortWrite false flip s t refl live a in
+    let e : Same s t = same_accepts AbortWrite false flip s t a in
+    go (writes_from AbortWrite n P flip s t a.line sp (keep n f e (omega arith))
+    (λ d. keep (n + 1) f e (omega arith)))))

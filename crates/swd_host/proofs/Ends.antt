@@ -1,0 +1,244 @@
+-- What an outcome says of the memory.
+use Rattle.std.proofs.Common.{◌≡◌, ◌≢◌, ◌+◌, ◌%◌, ◌^◌, ◌<◌, ◌≤◌, ℕ, Bool, true, false, refl, sym, ap, subst, inl}
+use Rattle.std.proofs.Common.{inr, arith, ◌∙◌}
+use Rattle.std.specs.Prelude.{Option, Some, None, ◌⊎◌, ◌&&◌, not, if◌then◌else◌, Result, Ok, Err}
+use Rattle.swd_port.specs.declared.access.Access.{Access}
+use Rattle.swd_port.specs.declared.access.Access.TheVariants.{Read as AccessRead, Write as AccessWrite}
+use Rattle.swd_port.specs.declared.access.Answer.{Answer}
+use Rattle.swd_port.specs.declared.access.Answer.TheVariants.{Written}
+use Rattle.swd_port.specs.declared.register.Register.TheVariants.{DrwWrite}
+use Rattle.swd_port.specs.PlainMemory.{PlainMemory, address, plain_answer, plain_after}
+use Rattle.swd_port.specs.Port.{Port}
+use Rattle.swd_port.specs.Transfers.{Advanced}
+use Rattle.swd_port.specs.Choices.{Choice}
+use Rattle.swd_port.specs.Completion.{completed}
+use Rattle.swd_port.proofs.CompletionLaws.{becomes_completed}
+use Rattle.swd_host.specs.declared.outcome.End.{End}
+use Rattle.swd_host.specs.declared.outcome.End.TheVariants.{All, Lost, TriesOut, WrongId, Confused}
+use Rattle.swd_host.specs.declared.outcome.Outcome.{Outcome}
+use Rattle.swd_host.specs.declared.outcome.Outcome.TheVariants.{Opened, Answered, Stopped}
+use Rattle.swd_host.specs.declared.task.Task.{Task}
+use Rattle.swd_host.specs.declared.task.Task.TheVariants.{Read, Write, BurstWrite}
+use Rattle.swd_host.specs.declared.request.Place.TheVariants.{Confirm}
+use Rattle.swd_host.specs.declared.request.Job.{Job}
+use Rattle.swd_host.specs.declared.request.Job.TheVariants.{At}
+use Rattle.swd_host.specs.declared.engine.Phase.{Phase}
+use Rattle.swd_host.specs.declared.engine.Phase.TheVariants.{Data}
+use Rattle.swd_host.specs.declared.engine.State.{State}
+use Rattle.swd_host.specs.declared.engine.State.TheVariants.{Leading, Doing, Resting}
+use Rattle.swd_host.specs.declared.engine.Engine.{Engine}
+use Rattle.swd_host.specs.Plain.{IsAccess}
+use Rattle.swd_host.specs.Tasks.{access_of, is_burst}
+use Rattle.swd_host.specs.Engines.{is_ahead_at, is_ahead_in, is_ahead, is_begun, finished_at, finished_of}
+use Rattle.swd_host.specs.Progress.{is_state_of}
+use Rattle.swd_host.specs.Tracks.{Hand, Counted, Writes, whole, changed, Up, Within, IsReady, Finished, Confirmed}
+use Rattle.swd_host.specs.Tracks.{Confirms, StoppedAt, Rests, Tracks, Follows, hand_of, IsTask, DueAt}
+use Rattle.swd_host.specs.Turns.{opened_as}
+use Rattle.swd_host.specs.Reports.{EndsAt}
+use Rattle.swd_host.specs.Standing.{Poised, Waits}
+use Rattle.swd_host.proofs.Starts.{ahead_state, ahead_burst}
+
+-- THE STATE IN WHICH AN OUTCOME CAME
+ahead_or : (ahead : Bool) (outcome : Outcome) → (if ahead then Some (Answered Written) else None) ≡ Some outcome
+    → (ahead ≡ true) × (outcome ≡ Answered Written)
+ahead_or true outcome h = (refl, cc)
+ahead_or false outcome h = absurd (cc)
+
+-- the engine rests at the outcome, or the access is answered by the next one's write
+pub outcome_case : (x : State) (task : Task) (outcome : Outcome) → finished_at x task ≡ Some outcome
+    → (x ≡ Resting outcome) ⊎ ((is_ahead_in x task ≡ true) × (outcome ≡ Answered Written))
+outcome_case Leading task outcome h = absurd (cc)
+outcome_case (Doing job phase) task outcome h = inr (ahead_or (is_ahead_at job phase task) outcome h)
+outcome_case (Resting there) task outcome h = inl (let is : there ≡ outcome = cc in ap Resting is)
+
+pub stopped_state : (x : State) (task : Task) (end : End) → finished_at x task ≡ Some (Stopped end)
+    → x ≡ Resting (Stopped end)
+stopped_state x task end h =
+    elim (outcome_case x task (Stopped end) h) [
+      | inl is ↦ is
+      | inr ahead ↦ absurd (let never = ahead.1 in cc)
+    ]
+
+pub not_opened : (x : State) (task : Task) → is_state_of false x ≡ true → finished_at x task ≡ Some Opened → ⊥
+not_opened x task access h =
+    elim (outcome_case x task Opened h) [
+      | inl is ↦ (let never : false ≡ true = sym (ap (is_state_of false) is) ∙ access in cc)
+      | inr ahead ↦ (let never = ahead.1 in cc)
+    ]
+
+-- an outcome of the opening
+pub opening_state : (x : State) (task : Task) (outcome : Outcome) → is_state_of true x ≡ true
+    → finished_at x task ≡ Some outcome
+    → x ≡ Resting outcome
+opening_state x task outcome opening h =
+    elim (outcome_case x task outcome h) [
+      | inl is ↦ is
+      | inr ahead ↦ absurd (let never : false ≡ true = sym (ap (is_state_of true) (ahead_state x task ahead.0))
+          ∙ opening in cc)
+    ]
+
+opening_rests : (outcome : Outcome) → is_state_of true (Resting outcome) ≡ true
+    → ((end : End) → outcome ≡ Stopped end → ⊥)
+    → outcome ≡ Opened
+opening_rests Opened opening none = refl
+opening_rests (Answered answer) opening none = absurd (cc)
+opening_rests (Stopped end) opening none = absurd (none end refl)
+
+pub opened_state : (x : State) (task : Task) (outcome : Outcome) → is_state_of true x ≡ true
+    → finished_at x task ≡ Some outcome
+    → ((end : End) → outcome ≡ Stopped end → ⊥) → x ≡ Resting Opened
+opened_state x task outcome opening h none =
+    let is : x ≡ Resting outcome = opening_state x task outcome opening h in
+    is ∙ ap Resting (opening_rests outcome (sym (ap (is_state_of true) is) ∙ opening) none)
+
+pub opened_default : (r : Result (Unit {0}) End) (x : State) → x ≡ opened_as r → ((end : End) → r ≡ Err end → ⊥)
+    → x ≡ Resting Opened
+opened_default (Ok u) x is none = is
+opened_default (Err end) x is none = absurd (none end refl)
+
+-- what is known where the engine rests
+pub rests_there : (base : Counted) (m : PlainMemory) (f : Engine) (outcome : Outcome) (t : Port)
+    → f.state ≡ Resting outcome
+    → Follows base m f t → Rests outcome (base.disturbed + f.events) f.tries base f.begun (hand_of f m) t
+rests_there base m f outcome t is h =
+    subst (λ x. Tracks x (base.disturbed + f.events) f.tries base f.begun (hand_of f m) t) is h.tracks
+
+-- AN ACCESS IS ANSWERED
+pub record Answers (answer : Answer) (base : Counted) (m : PlainMemory) (f : Engine) (t : Port) : Type 0 where
+  pub waits : Waits (is_ahead f) (base.disturbed + f.events) (hand_of f (plain_after (access_of f.task) m)) t
+  pub told : plain_answer (access_of f.task) m ≡ answer
+  pub begun : is_ahead f ≡ false → f.begun ≡ false
+
+answered_rests : (base : Counted) (m : PlainMemory) (answer : Answer) (f : Engine) (t : Port)
+    → f.state ≡ Resting (Answered answer)
+    → Follows base m f t → Answers answer base m f t
+answered_rests base m answer f t is h =
+    let n : ℕ = base.disturbed + f.events in
+    let x : Finished answer n f.begun (hand_of f m) t = rests_there base m f (Answered answer) t is h in
+    let k : Hand = hand_of f (plain_after (access_of f.task) m) in
+    record {
+      waits = subst (λ c. Waits c n k t) (sym (ap (λ y. is_ahead_in y f.task) is))
+          (record { up = x.up; known = x.known; flag = x.flag; paid = x.paid });
+      told = x.answered;
+      begun = λ calm. x.begun;
+    }
+
+burst_confirms : (task : Task) (n : ℕ) (b : Bool) (k : Hand) (s : Port) → is_burst task ≡ true → Confirms task n b k s
+    → Writes DrwWrite n (λ c. Confirmed c b k s) s
+burst_confirms (Read at) n b k s burst h = absurd (cc)
+burst_confirms (Write at word) n b k s burst h = absurd (cc)
+burst_confirms (BurstWrite at word) n b k s burst h = h
+
+-- the ranges of a burst's address
+record Aligned (at : ℕ) : Type 0 where
+  range : at < 2 ^ 32
+  aligned : at % 4 ≡ 0
+  below : at % 1024 < 1020
+
+burst_aligned : (task : Task) → is_burst task ≡ true → IsTask task → Aligned (address (access_of task))
+burst_aligned (Read at) burst h = absurd (cc)
+burst_aligned (Write at word) burst h = absurd (cc)
+burst_aligned (BurstWrite at word) burst h = record { range = h.0.0; aligned = h.0.1; below = h.1 }
+
+confirmed_poised : (n : ℕ) (b : Bool) (k : Hand) (s : Port) → Aligned (address (access_of k.task)) → Confirmed n b k s
+    → Poised n (address (access_of k.task) + 4) (plain_after (access_of k.task) k.memory) s
+confirmed_poised n b k s at h = record {
+  up = h.done.up;
+  tar = h.done.advanced h.done.up.increments at.aligned at.range
+      (λ wraps. absurd (let below = at.below in let four = at.aligned in omega arith));
+  flag = h.flag;
+  paid = h.paid;
+}
+
+writes_poised : (n : ℕ) (b : Bool) (k : Hand) (s : Port) → Aligned (address (access_of k.task))
+    → Writes DrwWrite n (λ c. Confirmed c b k s) s
+    → Writes DrwWrite n (λ c. Poised c (address (access_of k.task) + 4) (plain_after (access_of k.task) k.memory) s) s
+writes_poised n b k s at (whole line h) = whole line (confirmed_poised n b k s at h)
+writes_poised n b k s at (changed place line h) = changed place line (confirmed_poised (n + 1) b k s at h)
+
+writes_answered : (n : ℕ) (b : Bool) (k : Hand) (s : Port) → Writes DrwWrite n (λ c. Confirmed c b k s) s
+    → plain_answer (access_of k.task) k.memory ≡ Written
+writes_answered n b k s (whole line h) = h.answered
+writes_answered n b k s (changed place line h) = h.answered
+
+answered_ahead : (base : Counted) (m : PlainMemory) (f : Engine) (t : Port) → is_ahead f ≡ true
+    → Follows base m f t → Answers Written base m f t
+answered_ahead base m f t ahead h =
+    let n : ℕ = base.disturbed + f.events in
+    let is : f.state ≡ Doing (At Confirm) Data = ahead_state f.state f.task ahead in
+    let burst : is_burst f.task ≡ true = ahead_burst f.state f.task ahead in
+    let x : Writes DrwWrite n (λ c. Confirmed c f.begun (hand_of f m) t) t = burst_confirms f.task n f.begun
+    (hand_of f m) t burst
+    (subst (λ y. Tracks y n f.tries base f.begun (hand_of f m) t) is h.tracks) in
+    record {
+      waits = subst (λ c. Waits c n (hand_of f (plain_after (access_of f.task) m)) t) (sym ahead)
+          (writes_poised n f.begun (hand_of f m) t (burst_aligned f.task burst h.task) x);
+      told = writes_answered n f.begun (hand_of f m) t x;
+      begun = λ calm. absurd (let both : true ≡ false = sym ahead ∙ calm in cc);
+    }
+
+pub answered_there : (base : Counted) (m : PlainMemory) (answer : Answer) (f : Engine) (t : Port)
+    → finished_of f ≡ Some (Answered answer) → Follows base m f t → Answers answer base m f t
+answered_there base m answer f t is h =
+    elim (outcome_case f.state f.task (Answered answer) is) [
+      | inl there ↦ answered_rests base m answer f t there h
+      | inr ahead ↦ (let same : answer ≡ Written = (let e = ahead.1 in cc) in
+          subst (λ y. Answers y base m f t) (sym same) (answered_ahead base m f t ahead.0 h))
+    ]
+
+-- A STOP
+pub record Stops (end : End) (base : Counted) (tries n : ℕ) (b : Bool) (k : Hand) (t : Port) : Type 0 where
+  pub within : Within b k t.target
+  -- the disturbances that were met as events, or more than the tries allow
+  pub paid : ((end ≡ Lost) × (n ≤ t.tally.disturbed)) ⊎ (base.disturbed + tries < t.tally.disturbed)
+  pub ends : (s : Port) (task : Task) → s.tally.disturbed ≤ base.disturbed → s.tally.lost ≤ base.lost
+      → DueAt (Resting (Stopped end)) task t.link.due → EndsAt end tries s t
+  pub never : end ≢ All
+
+stops_by : (end : End) (n tries : ℕ) (base : Counted) (b : Bool) (k : Hand) (t : Port)
+    → StoppedAt end n tries base b k t
+    → Stops end base tries n b k t
+stops_by Lost n tries base b k t h = record {
+  within = h.within;
+  paid = inl (refl, h.paid);
+  ends = λ s task fewer less due. (due, omega (arith, h.more), h.select);
+  never = λ is. absurd (cc);
+}
+stops_by TriesOut n tries base b k t h = record {
+  within = h.0;
+  paid = inr h.1;
+  ends = λ s task fewer less due. (due, omega (arith, h.1));
+  never = λ is. absurd (cc);
+}
+stops_by All n tries base b k t h = absurd h
+stops_by (WrongId word) n tries base b k t h = absurd h
+stops_by Confused n tries base b k t h = absurd h
+
+pub stops_there : (base : Counted) (m : PlainMemory) (f : Engine) (end : End) (t : Port)
+    → f.state ≡ Resting (Stopped end)
+    → Follows base m f t → Stops end base f.tries (base.disturbed + f.events) f.begun (hand_of f m) t
+stops_there base m f end t is h =
+    stops_by end (base.disturbed + f.events) f.tries base f.begun (hand_of f m) t
+    (rests_there base m f (Stopped end) t is h)
+
+-- the memory once the transfer that was pending took effect
+pub later_memory : (b : Bool) (k : Hand) (t : Port) (c : Choice) → (w : Within b k t.target)
+    → (completed c t).target.memory ≡ w.later
+later_memory b k t c w = becomes_completed w.later c t.target w.becomes
+
+and_true : (b : Bool) → (b && true) ≡ b
+and_true true = refl
+and_true false = refl
+
+pub begun_there : (f : Engine) (end : End) → f.state ≡ Resting (Stopped end) → is_begun f ≡ f.begun
+begun_there f end is = ap (λ x. f.begun && not (is_ahead_in x f.task)) is ∙ and_true f.begun
+
+-- it stops early only at a lost acknowledgement or past its tries
+pub stops_only : (end : End) (tries : ℕ) (s t : Port) → EndsAt end tries s t → t.tally.lost ≡ s.tally.lost
+    → t.tally.disturbed ≤ s.tally.disturbed + tries → end ≡ All
+stops_only All tries s t h lost disturbed = refl
+stops_only Lost tries s t h lost disturbed = absurd (let more : s.tally.lost < t.tally.lost = h.1 in omega arith)
+stops_only TriesOut tries s t h lost disturbed =
+    absurd (let more : s.tally.disturbed + tries < t.tally.disturbed = h.1 in omega arith)
+stops_only (WrongId word) tries s t h lost disturbed = absurd h
+stops_only Confused tries s t h lost disturbed = absurd h

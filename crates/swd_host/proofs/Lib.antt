@@ -1,0 +1,15 @@
+mod Frames
+mod Asked
+mod Asks
+mod Transfers
+mod Sends
+mod Takes
+mod Gives
+mod Passes
+mod Turning
+mod StepLemmas
+mod Going
+mod Lists
+mod Starts
+mod Ends
+mod Runs

@@ -1,0 +1,184 @@
+-- Every request keeps what the engine knows.
+use Rattle.std.proofs.Common.{◌≡◌, ◌≢◌, ◌+◌, ◌%◌, ◌^◌, ◌≤◌, ◌<◌, ℕ, Bool, true, false, refl, sym, ap, subst, inl, inr}
+use Rattle.std.proofs.Common.{arith, ◌∙◌}
+use Rattle.std.specs.Prelude.{Option, Some, None, ◌⊎◌, ◌||◌, ◌==◌, if◌then◌else◌}
+use Rattle.swd_bits.specs.declared.request.Request.{Request}
+use Rattle.swd_bits.specs.declared.request.Reg4.TheVariants.{R0, R4, R8, RC}
+use Rattle.swd_port.specs.declared.access.Access.{Access}
+use Rattle.swd_port.specs.declared.access.Access.TheVariants.{Read as AccessRead, Write as AccessWrite}
+use Rattle.swd_host.specs.declared.task.Task.{Task}
+use Rattle.swd_host.specs.declared.task.Task.TheVariants.{Read, Write, BurstWrite}
+use Rattle.swd_host.specs.Tasks.{access_of}
+use Rattle.swd_port.specs.declared.access.Answer.TheVariants.{Value, Written, BusFault}
+use Rattle.swd_port.specs.PlainMemory.{PlainMemory, plain_after, plain_answer, answer_of, address, word_at}
+use Rattle.swd_port.specs.Port.{Port, Target, register}
+use Rattle.swd_port.specs.declared.register.Register.{Register}
+use Rattle.swd_port.specs.declared.register.Register.TheVariants.{DpidrRead, AbortWrite, CtrlStatRead, CtrlStatWrite}
+use Rattle.swd_port.specs.declared.register.Register.TheVariants.{ResendRead, SelectWrite, RdbuffRead, CswRead}
+use Rattle.swd_port.specs.declared.register.Register.TheVariants.{CswWrite, TarWrite, DrwRead, DrwWrite}
+use Rattle.swd_port.specs.declared.state.Reset.TheVariants.{Unreset, Live}
+use Rattle.swd_port.specs.declared.state.Line.TheVariants.{Drives, Awaits}
+use Rattle.swd_port.specs.Answers.{is_exempt}
+use Rattle.swd_port.specs.Completion.{Completes}
+use Rattle.swd_port.specs.Asking.{Asks, is_posted, pending_once_read}
+use Rattle.swd_port.specs.Moves.{Kept}
+use Rattle.swd_port.specs.Outcomes.{Stays, Accepts, Refuses, Spares, SeesOkay, SeesWait, SeesFault, SeesNone}
+use Rattle.swd_port.specs.Outcomes.{OkayOrLost, OkayWaitOrLost, okay, wait, lost}
+use Rattle.swd_port.specs.Transfers.{Sent, Advanced, Succeeded, Failed, Aimed, Buffered, Carries}
+use Rattle.swd_port.specs.Laws.Requests.{Confirms as ConfirmsThen, confirms_okay, confirms_wait, confirms_fault}
+use Rattle.swd_port.specs.Laws.Requests.{confirms_lost}
+use Rattle.swd_port.specs.Laws.WordsRead.{OnLine}
+use Rattle.swd_port.proofs.RequestLaws.{free_request_at_rest, confirming_request, refused_with_power}
+use Rattle.swd_port.proofs.StatusLaws.{buffer_returned, carried_where_held}
+use Rattle.swd_port.proofs.CompletionLaws.{none_done, kept as kept_by, sent_stays, sent_carried, read_begins}
+use Rattle.swd_host.specs.declared.flags.Flags.{Flags}
+use Rattle.swd_host.specs.declared.request.Place.{Place}
+use Rattle.swd_host.specs.declared.request.Place.TheVariants.{Identify, Wipe, Inspect, Select, Power, Powered}
+use Rattle.swd_host.specs.declared.request.Place.TheVariants.{Configure, Recall, Configured, Aim, Transfer, Confirm}
+use Rattle.swd_host.specs.declared.request.Job.{Job}
+use Rattle.swd_host.specs.declared.request.Job.TheVariants.{At, Resend, Status, LastStatus, Clear, Check}
+use Rattle.swd_host.specs.declared.engine.Cue.TheVariants.{Ask as CueAsk}
+use Rattle.swd_host.specs.declared.engine.Phase.TheVariants.{Ask, Data, Waited, Faulted}
+use Rattle.swd_host.specs.declared.engine.State.{State}
+use Rattle.swd_host.specs.declared.engine.State.TheVariants.{Leading, Doing, Resting}
+use Rattle.swd_host.specs.declared.engine.Engine.{Engine}
+use Rattle.swd_host.specs.Requests.{request_of, is_exempt_place, begins}
+use Rattle.swd_host.specs.Tracks.{Hand, Saw, saw_okay, saw_wait, saw_fault, saw_none, Counted, no_select}
+use Rattle.swd_host.specs.Tracks.{csw_word_read, Reachable, Calm, Up, IsAimed, Under, Has, is_wipe, Sure, Hurt}
+use Rattle.swd_host.specs.Tracks.{Broken, Facts, Spoilt, Refused, by_damage, by_error, Owes, Checks, cleared, kept}
+use Rattle.swd_host.specs.Tracks.{Done, Returned, Resent, Before, During, Transfers, Confirms, Confirmed, FaultedAt}
+use Rattle.swd_host.specs.Tracks.{Within, Says, Reads, Writes, Awake}
+use Rattle.swd_host.proofs.Frames.{Frame, Same, frame_waits, frame_refuses, frame_accepts, same_accepts, calm_framed}
+use Rattle.swd_host.proofs.Frames.{has_framed, sure_framed, hurt_framed, resent_framed, owes_framed, before_framed}
+use Rattle.swd_host.proofs.Frames.{before_within, has_within, within_carried, within_stays, within_sent, within_idle}
+use Rattle.swd_host.proofs.Frames.{within_done}
+use Rattle.swd_host.proofs.Asked.{Came, came_okay, came_wait, came_fault, came_lost, reads_from, writes_from, status}
+use Rattle.swd_host.proofs.Asked.{abort, status_asked, abort_asked}
+use Rattle.swd_host.proofs.Transfers.{drw_asked, confirm_asked}
+use Rattle.swd_host.proofs.Asks.{hurt_calm, spoilt_calm, hurt_asked, write_asked, wipe_asked, identify_asked}
+use Rattle.swd_host.proofs.Asks.{recall_asked, configured_asked, resend_asked, returned_calm}
+use Rattle.swd_port.proofs.CallLaws.{request_counted}
+
+-- AT REST
+pub record AtRest (s : Port) : Type 0 where
+  pub select : s.target.select ≡ no_select
+  pub live : s.target.reset ≡ Live
+  pub pending : s.target.pending ≡ None
+
+calm_rest : (m : PlainMemory) (s : Port) → Calm m s.target → AtRest s
+calm_rest m s h = record { select = h.select; live = h.live; pending = h.pending }
+
+broken_rest : (p : Place) (b : Bool) (k : Hand) (s : Port) → Broken p b k s.target → AtRest s
+broken_rest p b k s h = record { select = h.select; live = h.live; pending = h.pending }
+
+pub facts_rest : (error : Bool) (p : Place) (b : Bool) (k : Hand) (s : Port) → Facts error p b k s.target → AtRest s
+facts_rest true p b k s h = broken_rest p b k s h
+facts_rest false p b k s h = calm_rest k.memory s (spoilt_calm p b k s h)
+
+pub refused_rest : (p : Place) (n : ℕ) (b : Bool) (k : Hand) (s : Port) → Refused p n b k s → AtRest s
+refused_rest p n b k s (by_damage h) = calm_rest k.memory s (hurt_calm p n b k s h)
+refused_rest p n b k s (by_error h i w paid) = broken_rest p b k s h
+
+pub checks_rest : (p : Place) (owed : Flags) (n : ℕ) (b : Bool) (k : Hand) (s : Port) → Checks p owed n b k s → AtRest s
+checks_rest p owed n b k s (cleared h i w paid) = facts_rest owed.error p b k s h
+checks_rest p owed n b k s (kept h i w paid) = facts_rest owed.error p b k s h
+
+pub inspect_rest : (n : ℕ) (b : Bool) (k : Hand) (s : Port) → Before (At Inspect) n b k s → AtRest s
+inspect_rest n b k s (inl h) = calm_rest k.memory s h.has
+inspect_rest n b k s (inr h) = calm_rest k.memory s (hurt_calm Inspect n b k s h)
+
+pub powered_rest : (n : ℕ) (b : Bool) (k : Hand) (s : Port) → Before (At Powered) n b k s → AtRest s
+powered_rest n b k s (inl h) = calm_rest k.memory s h.has.calm
+powered_rest n b k s (inr h) = calm_rest k.memory s (hurt_calm Powered n b k s h)
+
+-- EVERY REQUEST
+module _ (n : ℕ) (base : Counted) (b : Bool) (k : Hand) (v : ℕ) (s t : Port) (l : base.lost ≤ s.tally.lost) where
+  says_asked : (job : Job) → AtRest s → Before job n b k s → Asks s status v t
+      → (Says job n b k t → During job n b k t) → Came job n base b k v t
+  says_asked job r h asks go = status_asked job n base b k v s t r.select r.live r.pending l h asks go
+
+  sure_asked : (p : Place) → Sure p n b k s → Asks s (request_of (At p) k.task) v t
+      → Came (At p) n base (begins (At p) || b) k v t
+  sure_asked Identify h asks = identify_asked n base b k v s t l h asks
+  sure_asked Wipe h asks = wipe_asked n base b k v s t l h asks
+  sure_asked Inspect h asks = says_asked (At Inspect) (inspect_rest n b k s (inl h)) (inl h) asks (λ x. x)
+  sure_asked Select h asks = write_asked Select n base b b k v s t SelectWrite refl refl refl refl refl refl
+      (λ e. absurd (cc)) (λ x. x) h.has (λ e. absurd (cc)) l h asks (λ w. w)
+  sure_asked Power h asks = write_asked Power n base b b k v s t CtrlStatWrite refl refl refl refl refl refl
+      (λ e. absurd (cc)) (λ x. x) h.has (λ e. absurd (cc)) l h asks (λ w. w)
+  sure_asked Powered h asks = says_asked (At Powered) (powered_rest n b k s (inl h)) (inl h) asks (λ x. x)
+  sure_asked Configure h asks = write_asked Configure n base b b k v s t CswWrite refl refl refl refl refl refl
+      (λ e. absurd (cc)) (λ x. x) h.has.calm (λ e. h.has.debug) l h asks (λ w. w)
+  sure_asked Recall h asks = recall_asked n base b k v s t l h asks
+  sure_asked Configured h asks = configured_asked n base b k v s t l h asks
+  sure_asked Aim h asks = write_asked Aim n base b b k v s t TarWrite refl refl refl refl refl refl (λ e. absurd (cc))
+      (λ x. x) h.has.up.calm (λ e. h.has.up.debug) l h asks (λ w. w)
+  sure_asked Transfer h asks = drw_asked k.task n base b k v s t refl l h asks
+  sure_asked Confirm h asks = confirm_asked n base b k v s t l h asks
+
+  place_hurt : (p : Place) → Hurt p n b k s → Asks s (request_of (At p) k.task) v t
+      → Came (At p) n base (begins (At p) || b) k v t
+  place_hurt Identify h asks = absurd (let c = h.confirms in cc)
+  place_hurt Wipe h asks = absurd (let c = h.confirms in cc)
+  place_hurt Inspect h asks = says_asked (At Inspect) (inspect_rest n b k s (inr h)) (inr h) asks (λ x. x)
+  place_hurt Select h asks = absurd (let c = h.confirms in cc)
+  place_hurt Power h asks = hurt_asked Power n base b b k v s t refl (λ x. x) l h asks
+  place_hurt Powered h asks = says_asked (At Powered) (powered_rest n b k s (inr h)) (inr h) asks (λ x. x)
+  place_hurt Configure h asks = absurd (let c = h.confirms in cc)
+  place_hurt Recall h asks = hurt_asked Recall n base b b k v s t refl (λ x. x) l h asks
+  place_hurt Configured h asks = absurd (let c = h.confirms in cc)
+  place_hurt Aim h asks = absurd (let c = h.confirms in cc)
+  place_hurt Transfer h asks = hurt_asked Transfer n base b true k v s t refl (λ x. refl) l h asks
+  place_hurt Confirm h asks = hurt_asked Confirm n base b b k v s t refl (λ x. x) l h asks
+
+  pub job_asked : (job : Job) → Before job n b k s → Asks s (request_of job k.task) v t
+      → Came job n base (begins job || b) k v t
+  job_asked (At p) (inl h) asks = sure_asked p h asks
+  job_asked (At p) (inr h) asks = place_hurt p h asks
+  job_asked (Resend p) h asks = resend_asked p n base b k v s t l h asks
+  job_asked (Status p) h asks = says_asked (Status p) (refused_rest p n b k s h) h asks (λ x. x)
+  job_asked LastStatus h asks = absurd h
+  job_asked (Clear p owed) h asks =
+      let r : AtRest s = facts_rest owed.error p b k s h.facts in
+      abort_asked (Clear p owed) n base b k v s t (λ c. Owes p owed c b k t) r.select r.live r.pending l h asks
+      (λ n' f e more. owes_framed n n' b k s t f e more p owed h) (λ w. w)
+  job_asked (Check p owed) h asks = says_asked (Check p owed) (checks_rest p owed n b k s h) h asks (λ x. x)
+
+has_select : (p : Place) (b : Bool) (k : Hand) (s : Port) → Has p b k s.target → s.target.select ≡ no_select
+has_select Identify b k s h = h.select
+has_select Wipe b k s h = h.select
+has_select Inspect b k s h = h.select
+has_select Select b k s h = h.select
+has_select Power b k s h = h.select
+has_select Powered b k s h = h.calm.select
+has_select Configure b k s h = h.calm.select
+has_select Recall b k s h = h.up.calm.select
+has_select Configured b k s h = h.up.calm.select
+has_select Aim b k s h = h.up.calm.select
+has_select Transfer b k s h = h.up.calm.select
+has_select Confirm b k s h = h.select
+
+before_select : (job : Job) (n : ℕ) (b : Bool) (k : Hand) (s : Port) → Before job n b k s → s.target.select ≡ no_select
+before_select (At p) n b k s (inl h) = has_select p b k s h.has
+before_select (At p) n b k s (inr h) = has_select h.back b k s h.has
+before_select (Resend p) n b k s h = (returned_calm p h.0 b k s h.1.returned).1.select
+before_select (Status p) n b k s h = (refused_rest p n b k s h).select
+before_select LastStatus n b k s h = absurd h
+before_select (Clear p owed) n b k s h = (facts_rest owed.error p b k s h.facts).select
+before_select (Check p owed) n b k s h = (checks_rest p owed n b k s h).select
+
+-- what an acknowledgement tells the engine
+pub came_saw : (job : Job) (n : ℕ) (base : Counted) (b : Bool) (k : Hand) (v : ℕ) (t : Port)
+    → t.target.select ≡ no_select → Came job n base b k v t → Saw job v n base b k t
+came_saw job n base b k v t select (came_okay is h) = saw_okay is h
+came_saw job n base b k v t select (came_wait is h) = saw_wait is h
+came_saw job n base b k v t select (came_fault is h) = saw_fault is h
+came_saw job n base b k v t select (came_lost none w l d) = saw_none none.not_okay none.not_wait none.not_fault
+    (record { within = w; more = l; paid = d; select = select })
+
+pub ask_saw : (job : Job) (n : ℕ) (base : Counted) (b : Bool) (k : Hand) (v : ℕ) (s t : Port)
+    → base.lost ≤ s.tally.lost → Before job n b k s → Asks s (request_of job k.task) v t
+    → Saw job v n base (begins job || b) k t
+ask_saw job n base b k v s t l h asks =
+    came_saw job n base (begins job || b) k v t ((request_counted (request_of job k.task) v s t asks).select
+    ∙ before_select job n b k s h) (job_asked n base b k v s t l job h asks)

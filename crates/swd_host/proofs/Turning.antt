@@ -1,0 +1,394 @@
+-- One call of the wire, as the engine asks for it: what the engine and the port keep.
+use Rattle.std.proofs.Common.{◌≡◌, ◌+◌, ◌-◌, ◌*◌, ◌^◌, ◌≤◌, ◌<◌, ℕ, Bool, true, false, refl, sym, ap, subst, inl, inr}
+use Rattle.std.proofs.Common.{arith, ◌∙◌}
+use Rattle.std.specs.Prelude.{Option, Some, None, ◌⊎◌, ◌||◌, ◌&&◌, not, ◌==◌, if◌then◌else◌}
+use Rattle.swd_bits.specs.Bits.{bit}
+use Rattle.swd_bits.specs.declared.request.Request.{Request}
+use Rattle.swd_port.specs.declared.wire.Due.{Due}
+use Rattle.swd_port.specs.declared.wire.Due.TheVariants.{Nothing, Take, Give, Pass, Lost as DueLost}
+use Rattle.swd_port.specs.PlainMemory.{PlainMemory}
+use Rattle.swd_port.specs.Port.{Port, Tally}
+use Rattle.swd_port.specs.Phases.{phase_number, word_in}
+use Rattle.swd_port.specs.Answers.{due_after}
+use Rattle.swd_port.specs.Asking.{Asks}
+use Rattle.swd_port.specs.Moving.{Takes, Gives, Passes}
+use Rattle.swd_port.specs.Leading.{Leads}
+use Rattle.swd_port.specs.Laws.Calls.{Asked}
+use Rattle.swd_port.proofs.CallLaws.{request_counted, others_uncounted, due_after_request}
+use Rattle.swd_host.specs.declared.outcome.End.TheVariants.{All, Lost, TriesOut, WrongId, Confused}
+use Rattle.swd_host.specs.declared.outcome.Outcome.TheVariants.{Opened, Answered, Stopped}
+use Rattle.swd_host.specs.declared.task.Task.{Task}
+use Rattle.swd_host.specs.declared.request.Place.{Place}
+use Rattle.swd_host.specs.declared.request.Place.TheVariants.{Identify, Wipe, Inspect, Select, Power, Powered}
+use Rattle.swd_host.specs.declared.request.Place.TheVariants.{Configure, Recall, Configured, Aim, Transfer, Confirm}
+use Rattle.swd_host.specs.declared.request.Job.{Job}
+use Rattle.swd_host.specs.declared.request.Job.TheVariants.{At, Resend, Status, LastStatus, Clear, Check}
+use Rattle.swd_host.specs.declared.engine.Cue.{Cue}
+use Rattle.swd_host.specs.declared.engine.Cue.TheVariants.{Lead, Ask as CueAsk, Take as CueTake, Give as CueGive}
+use Rattle.swd_host.specs.declared.engine.Cue.TheVariants.{Pass as CuePass, Rest}
+use Rattle.swd_host.specs.declared.engine.Phase.TheVariants.{Ask, Data, Waited, Faulted}
+use Rattle.swd_host.specs.declared.engine.State.{State}
+use Rattle.swd_host.specs.declared.engine.State.TheVariants.{Leading, Doing, Resting}
+use Rattle.swd_host.specs.declared.engine.Engine.{Engine}
+use Rattle.swd_host.specs.Requests.{request_of, word_for, confirmed_by, begins}
+use Rattle.swd_host.specs.Engines.{cue_of, cue_at, data_cue, is_ahead_at, is_resting, one_more, job_in}
+use Rattle.swd_host.specs.Progress.{left_at, left_for, left_in, least_in, open_requests, is_opening_place, is_job_of}
+use Rattle.swd_host.specs.Progress.{is_state_of, is_quiet}
+use Rattle.swd_host.specs.Tracks.{Hand, is_confirm, Counted, Before, Refused, by_damage, by_error, Tracks}
+use Rattle.swd_host.specs.Tracks.{TracksEngine, Follows, IsTask, Saw, Left, TakenFor, Hears, HasSent, HasRead}
+use Rattle.swd_host.specs.Tracks.{hand_of, begins_in, state_seen, due_of, DueAt, DueFits}
+use Rattle.swd_host.specs.Turns.{Sees, lands_from, IsCountable, Goes}
+use Rattle.swd_host.proofs.Sends.{ask_saw}
+use Rattle.swd_host.proofs.Takes.{taken_facts}
+use Rattle.swd_host.proofs.Gives.{job_gave}
+use Rattle.swd_host.proofs.Passes.{waiting_passed, faulted_passed, led}
+
+-- THE CUE OF A DATA PHASE
+record IsTaking (ahead : Bool) (word : Option ℕ) : Type 0 where
+  ahead_not : ahead ≡ false
+  reads : word ≡ None
+
+take_cue : (ahead : Bool) (word : Option ℕ) → data_cue ahead word ≡ CueTake → IsTaking ahead word
+take_cue true word e = absurd (cc)
+take_cue false None e = record { ahead_not = refl; reads = refl }
+take_cue false (Some word) e = absurd (cc)
+
+record IsGiving (word : Option ℕ) (sent : ℕ) : Type 0 where
+  gives : ℕ
+  is : word ≡ Some gives
+  sends : sent ≡ phase_number gives
+
+give_cue : (ahead : Bool) (word : Option ℕ) (sent : ℕ) → data_cue ahead word ≡ CueGive sent → IsGiving word sent
+give_cue true word sent e = absurd (cc)
+give_cue false None sent e = absurd (cc)
+give_cue false (Some word) sent e = record {
+  gives = word;
+  is = refl;
+  sends =
+      (let same : sent ≡ phase_number word = cc in same);
+}
+
+pass_cue : (ahead : Bool) (word : Option ℕ) → data_cue ahead word ≡ CuePass → ⊥
+pass_cue true word e = absurd (cc)
+pass_cue false None e = absurd (cc)
+pass_cue false (Some word) e = absurd (cc)
+
+lead_cue : (ahead : Bool) (word : Option ℕ) (ones low : ℕ) (switch : Bool)
+    → data_cue ahead word ≡ Lead ones switch low → ⊥
+lead_cue true word ones low switch e = absurd (cc)
+lead_cue false None ones low switch e = absurd (cc)
+lead_cue false (Some word) ones low switch e = absurd (cc)
+
+ask_cue : (ahead : Bool) (word : Option ℕ) (q : Request) → data_cue ahead word ≡ CueAsk q → ⊥
+ask_cue true word q e = absurd (cc)
+ask_cue false None q e = absurd (cc)
+ask_cue false (Some word) q e = absurd (cc)
+
+-- A REQUEST
+record IsAsking (x : State) (task : Task) (q : Request) : Type 0 where
+  job : Job
+  at : x ≡ Doing job Ask
+  is : q ≡ request_of job task
+
+asking : (x : State) (task : Task) (q : Request) → cue_at x task ≡ CueAsk q → IsAsking x task q
+asking (Doing job Ask) task q e = record {
+  job = job;
+  at = refl;
+  is =
+      (let same : q ≡ request_of job task = cc in same);
+}
+asking (Doing job Data) task q e = absurd (ask_cue (is_ahead_at job Data task) (word_for job task) q e)
+asking Leading task q e = absurd (cc)
+asking (Doing job Waited) task q e = absurd (cc)
+asking (Doing job Faulted) task q e = absurd (cc)
+asking (Resting outcome) task q e = absurd (cc)
+
+-- what holds at a state
+tracked : (base : Counted) (m : PlainMemory) (e : Engine) (s : Port) (x : State) → e.state ≡ x
+    → TracksEngine base m e s → Tracks x (base.disturbed + e.events) e.tries base e.begun (hand_of e m) s
+tracked base m e s x at h = subst (λ y. Tracks y (base.disturbed + e.events) e.tries base e.begun (hand_of e m) s) at h
+
+-- in the opening two requests are open at least, before each that may come
+left_least : (p : Place) → 2 ≤ left_at p
+left_least p = grind arith
+
+-- what confirms a write isn't the opening's last
+confirming_left : (p back : Place) (task : Task) (aims : Bool) → confirmed_by p task aims ≡ Some back → 3 ≤ left_at p
+confirming_left Configured back task aims e = absurd (cc)
+confirming_left Identify back task aims e = omega arith
+confirming_left Wipe back task aims e = omega arith
+confirming_left Inspect back task aims e = omega arith
+confirming_left Select back task aims e = omega arith
+confirming_left Power back task aims e = omega arith
+confirming_left Powered back task aims e = omega arith
+confirming_left Configure back task aims e = omega arith
+confirming_left Recall back task aims e = omega arith
+confirming_left Aim back task aims e = omega arith
+confirming_left Transfer back task aims e = omega arith
+confirming_left Confirm back task aims e = omega arith
+
+no_confirm : (p : Place) → is_confirm p ≡ true → is_opening_place p ≡ false
+no_confirm p h = grind arith
+
+refused_left : (p : Place) (n : ℕ) (b : Bool) (k : Hand) (s : Port) → is_opening_place p ≡ true → Refused p n b k s
+    → 2 ≤ left_at p - 1
+refused_left p n b k s o (by_damage h) = let l : 3 ≤ left_at p =
+    confirming_left p h.back k.task k.aims h.confirms in omega arith
+refused_left p n b k s o (by_error h i w paid) = absurd (let both : true ≡ false = sym o ∙ no_confirm p h.place in cc)
+
+clear_left : (p : Place) (error : Bool) → 2 ≤ (if error then 2 else left_at p + 3)
+clear_left p true = omega arith
+clear_left p false = omega (arith, left_least p)
+
+check_left : (p : Place) (error : Bool) → (is_opening_place p && not error) ≡ true
+    → 2 ≤ (if error then 1 else left_at p + 2)
+check_left p true o = absurd (let none : is_opening_place p && false ≡ false = grind arith in let both : false ≡ true =
+    sym none ∙ o in cc)
+check_left p false o = omega (arith, left_least p)
+
+before_left : (job : Job) (n : ℕ) (b : Bool) (k : Hand) (s : Port) → is_job_of true job ≡ true → Before job n b k s
+    → 2 ≤ left_for job
+before_left (At p) n b k s o h = left_least p
+before_left (Resend p) n b k s o h = left_least p
+before_left (Status p) n b k s o h = refused_left p n b k s o h
+before_left LastStatus n b k s o h = absurd h
+before_left (Clear p owed) n b k s o h = clear_left p owed.error
+before_left (Check p owed) n b k s o h = check_left p owed.error o
+
+opening_begins : (job : Job) → is_job_of true job ≡ true → begins job ≡ false
+opening_begins job h = grind arith
+
+begins_at : (job : Job) → begins job ≡ true → job ≡ At Transfer
+begins_at job h = grind arith
+
+one_more_least : (n : ℕ) → (n ≤ one_more n) × (one_more n ≤ n + 1)
+one_more_least n = grind arith
+
+one_more_exact : (n : ℕ) → n + 1 < 2 ^ 64 → one_more n ≡ n + 1
+one_more_exact n h = grind arith
+
+or_false : (a b : Bool) → a ≡ false → b ≡ false → a || b ≡ false
+or_false a b h i = grind arith
+
+or_true : (a b : Bool) → a || b ≡ true → b ≡ false → a ≡ true
+or_true a b h i = grind arith
+
+pub ask_goes : (e f : Engine) (s t : Port) (q : Request) (v : ℕ) → cue_of e ≡ CueAsk q → Asks s q v t
+    → open_requests f + 1 ≤ open_requests e → f.requests ≡ one_more e.requests → Sees v e f
+    → ((base : Counted) (m : PlainMemory) (u : Port) → Hears v base m e u → TracksEngine base m f u)
+    → Goes e s f t
+ask_goes e f s t q v cue asks left sent sees tracks =
+    let c : Asked s t = request_counted q v s t asks in
+    let a : IsAsking e.state e.task q = asking e.state e.task q cue in
+    let job : job_in e.state ≡ a.job = ap job_in a.at in
+    let more : (e.requests ≤ one_more e.requests) × (one_more e.requests ≤ e.requests + 1) =
+    one_more_least e.requests in
+    let exact : IsCountable e → f.requests ≡ e.requests + 1 =
+    λ few. sent ∙ one_more_exact e.requests (let l = left in omega arith) in
+    let open_here : left_in e.state ≡ left_for a.job = ap left_in a.at in
+    let part_of : (opening : Bool) → is_state_of opening e.state ≡ true
+    → is_job_of opening a.job ≡ true = λ opening h. sym (ap (is_state_of opening) a.at) ∙ h in
+    let begun_is : f.begun ≡ (begins a.job || e.begun) = sees.begun ∙ ap (λ j. begins j || e.begun) job in
+    record {
+      task = sees.task;
+      aims = sees.aims;
+      tries = sees.tries;
+      part = sees.part;
+      unbegun = λ opening h. begun_is ∙ or_false (begins a.job) e.begun (opening_begins a.job (part_of true opening)) h;
+      more = omega (arith, sent, more.0);
+      spends = omega (arith, sent, more.1, left);
+      least = λ few. omega (arith, exact few, sees.least);
+      begun = λ few not_yet now. (
+          let at : a.job ≡ At Transfer = begins_at a.job (or_true (begins a.job) e.begun (sym begun_is ∙ now) not_yet)
+          in
+          let here : least_in e.aims e.state ≡ bit e.aims = ap (least_in e.aims) (a.at ∙ ap (λ j. Doing j Ask) at) in
+          omega (arith, exact few, here));
+      follows = λ base m h. (
+          let before : Before a.job (base.disturbed + e.events) e.begun (hand_of e m) s =
+          tracked base m e s (Doing a.job Ask) a.at h.tracks in
+          let saw : Saw a.job v (base.disturbed + e.events) base (begins a.job || e.begun) (hand_of e m) t =
+          ask_saw a.job (base.disturbed + e.events) base e.begun (hand_of e m) v s t h.lost before
+          (subst (λ r. Asks s r v t) a.is asks) in
+          record {
+            task = subst IsTask (sym sees.task) h.task;
+            lost = omega (arith, c.lost_least, h.lost);
+            tracks = tracks base m t (subst (λ j. Saw j v (base.disturbed + e.events) base (begins j || e.begun)
+                (hand_of e m) t) (sym job) saw);
+          });
+      disturbed = c.disturbed_least;
+      lost = c.lost_least;
+      asked = λ few. omega (arith, exact few, c.asked);
+      lost_early = λ on base m h opening is. (
+          let before : Before a.job (base.disturbed + e.events) e.begun (hand_of e m) s =
+          tracked base m e s (Doing a.job Ask) a.at h.tracks in
+          let two : 2 ≤ left_for a.job = before_left a.job (base.disturbed + e.events) e.begun (hand_of e m) s
+          (part_of true opening) before in
+          let same : 5 * (f.tries - f.events) ≡ 5 * (e.tries - e.events) =
+          ap (λ i. 5 * (i - f.events)) sees.tries ∙ ap (λ i. 5 * (e.tries - i)) sees.events in
+          omega (arith, sent, more.1, open_here, two, same));
+    }
+
+-- what is due after it
+read_due : (read : Bool) → (if read then Take else Give) ≡ due_of read
+read_due true = refl
+read_due false = refl
+
+due_seen : (job : Job) (task : Task) (one two four : Bool) →
+    DueAt (if one then Doing job Data else if two then Doing job Waited else if four then Doing job Faulted else
+    Resting (Stopped Lost)) task
+    (if one then (if (request_of job task).read then Take else Give) else if two || four then Pass else DueLost)
+due_seen job task true two four = read_due (request_of job task).read
+due_seen job task false true four = refl
+due_seen job task false false true = refl
+due_seen job task false false false = refl
+
+pub ask_due : (e f : Engine) (s t : Port) (q : Request) (v : ℕ) → cue_of e ≡ CueAsk q → Asks s q v t → Sees v e f
+    → DueFits f t
+ask_due e f s t q v cue asks sees =
+    let a : IsAsking e.state e.task q = asking e.state e.task q cue in
+    let due : t.link.due ≡ due_after (request_of a.job e.task).read v =
+    due_after_request q v s t asks ∙ ap (λ r. due_after r.read v) a.is in
+    let state : f.state ≡ state_seen a.job v = sees.state ∙ ap (λ j. state_seen j v) (ap job_in a.at) in
+    subst (λ i. DueAt f.state i t.link.due) (sym sees.task) (subst (λ i. DueAt i e.task t.link.due) (sym state)
+    (subst (λ d. DueAt (state_seen a.job v) e.task d) (sym due)
+    (due_seen a.job e.task (v == 1) (v == 2) (v == 4))))
+
+-- EVERY OTHER CALL
+no_lost : (x : State) → is_quiet x ≡ true → x ≡ Resting (Stopped Lost) → ⊥
+no_lost x h is = absurd (let both : true ≡ false = sym h ∙ ap is_quiet is in cc)
+
+not_true : (b : Bool) → (b ≡ true → ⊥) → b ≡ false
+not_true true h = absurd (h refl)
+not_true false h = refl
+
+moves : (e f : Engine) (s t : Port) → lands_from e f → t.tally ≡ s.tally
+    → ((base : Counted) (m : PlainMemory) → Follows base m e s → TracksEngine base m f t) → Goes e s f t
+moves e f s t lands tally tracks = record {
+  task = lands.task;
+  aims = lands.aims;
+  tries = lands.tries;
+  part = lands.part;
+  unbegun = λ opening h. (let back : f.begun ≡ true → ⊥ = (λ now. absurd
+      (let both : true ≡ false = sym (lands.begun now) ∙ h in cc)) in not_true f.begun back);
+  more = omega (arith, lands.requests);
+  spends = omega (arith, lands.requests, lands.left);
+  least = λ few. omega (arith, lands.requests, lands.least);
+  begun = λ few not_yet now. absurd (let both : true ≡ false = sym (lands.begun now) ∙ not_yet in cc);
+  follows = λ base m h. record {
+    task = subst IsTask (sym lands.task) h.task;
+    lost = omega (arith, ap (λ i. i.lost) tally, h.lost);
+    tracks = tracks base m h;
+  };
+  disturbed = omega (arith, ap (λ i. i.disturbed) tally);
+  lost = omega (arith, ap (λ i. i.lost) tally);
+  asked = λ few. omega (arith, ap (λ i. i.asked) tally, lands.requests);
+  lost_early = λ on base m h opening is. absurd (no_lost f.state lands.quiet is);
+}
+
+-- where a data phase is read
+record IsPhase (x : State) (task : Task) (cue : Cue) : Type 0 where
+  job : Job
+  at : x ≡ Doing job Data
+  is : data_cue (is_ahead_at job Data task) (word_for job task) ≡ cue
+
+taking : (x : State) (task : Task) → cue_at x task ≡ CueTake → IsPhase x task CueTake
+taking (Doing job Data) task e = record { job = job; at = refl; is = e }
+taking (Doing job Ask) task e = absurd (cc)
+taking Leading task e = absurd (cc)
+taking (Doing job Waited) task e = absurd (cc)
+taking (Doing job Faulted) task e = absurd (cc)
+taking (Resting outcome) task e = absurd (cc)
+
+giving : (x : State) (task : Task) (sent : ℕ) → cue_at x task ≡ CueGive sent → IsPhase x task (CueGive sent)
+giving (Doing job Data) task sent e = record { job = job; at = refl; is = e }
+giving (Doing job Ask) task sent e = absurd (cc)
+giving Leading task sent e = absurd (cc)
+giving (Doing job Waited) task sent e = absurd (cc)
+giving (Doing job Faulted) task sent e = absurd (cc)
+giving (Resting outcome) task sent e = absurd (cc)
+
+pub take_goes : (e f : Engine) (s t : Port) (bits : ℕ) → bits < 2 ^ 33 → cue_of e ≡ CueTake → Takes s bits t
+    → lands_from e f
+    → ((base : Counted) (m : PlainMemory) (u : Port) → HasRead (word_in bits) base m e u → TracksEngine base m f u)
+    → Goes e s f t
+take_goes e f s t bits range cue takes lands tracks =
+    let p : IsPhase e.state e.task CueTake = taking e.state e.task cue in
+    let c : IsTaking (is_ahead_at p.job Data e.task) (word_for p.job e.task) =
+    take_cue (is_ahead_at p.job Data e.task) (word_for p.job e.task) p.is in
+    moves e f s t lands (others_uncounted.taken bits s t takes)
+    (λ base m h. tracks base m t (
+      h.task,
+      subst
+          (λ j. TakenFor j (word_in bits) (base.disturbed + e.events) e.begun (hand_of e m) t) (sym (ap job_in p.at))
+          (taken_facts (base.disturbed + e.events) e.begun (hand_of e m) s t bits range takes p.job c.reads c.ahead_not
+          (tracked base m e s (Doing p.job Data) p.at h.tracks)),
+    ))
+
+-- a call of `done` says what was left
+abbrev pub Dones : Engine → Engine → Type 0
+Dones e f = (base : Counted) (m : PlainMemory) (u : Port) → HasSent base m e u → TracksEngine base m f u
+
+left_at_state : (base : Counted) (m : PlainMemory) (e : Engine) (t : Port) (x : State) → e.state ≡ x
+    → Left x (base.disturbed + e.events) e.begun (hand_of e m) t
+    → Left e.state (base.disturbed + e.events) e.begun (hand_of e m) t
+left_at_state base m e t x at h = subst (λ y. Left y (base.disturbed + e.events) e.begun (hand_of e m) t) (sym at) h
+
+pub give_goes : (e f : Engine) (s t : Port) (sent : ℕ) → sent < 2 ^ 33 → cue_of e ≡ CueGive sent → Gives s sent t
+    → lands_from e f → Dones e f → Goes e s f t
+give_goes e f s t sent range cue gives lands tracks =
+    let p : IsPhase e.state e.task (CueGive sent) = giving e.state e.task sent cue in
+    let c : IsGiving (word_for p.job e.task) sent = give_cue (is_ahead_at p.job Data e.task)
+    (word_for p.job e.task) sent p.is in
+    moves e f s t lands (others_uncounted.given sent s t gives)
+    (λ base m h. tracks base m t (
+      h.task,
+      left_at_state base m e t (Doing p.job Data) p.at
+          (job_gave (base.disturbed + e.events) e.begun
+          (hand_of e m) s t sent range gives p.job c.gives c.is c.sends h.task
+          (tracked base m e s (Doing p.job Data) p.at h.tracks)),
+    ))
+
+passed_left : (n tries : ℕ) (base : Counted) (b : Bool) (k : Hand) (x : State) (task : Task) (s t : Port)
+    → cue_at x task ≡ CuePass → Passes s t → Tracks x n tries base b k s → Left x n b k t
+passed_left n tries base b k (Doing job Waited) task s t e passes h = waiting_passed job n b k s t passes h
+passed_left n tries base b k (Doing job Faulted) task s t e passes h = faulted_passed job n b k s t passes h
+passed_left n tries base b k (Doing job Data) task s t e passes h =
+    absurd (pass_cue (is_ahead_at job Data task) (word_for job task) e)
+passed_left n tries base b k (Doing job Ask) task s t e passes h = absurd (cc)
+passed_left n tries base b k Leading task s t e passes h = absurd (cc)
+passed_left n tries base b k (Resting outcome) task s t e passes h = absurd (cc)
+
+pub pass_goes : (e f : Engine) (s t : Port) → cue_of e ≡ CuePass → Passes s t → lands_from e f → Dones e f
+    → Goes e s f t
+pass_goes e f s t cue passes lands tracks =
+    moves e f s t lands (others_uncounted.passed s t passes)
+    (λ base m h. tracks base m t (
+      h.task,
+      passed_left (base.disturbed + e.events) e.tries base e.begun
+          (hand_of e m) e.state e.task s t cue passes h.tracks,
+    ))
+
+fifty_six : (ones low : ℕ) (switch : Bool) → Lead 56 true 2 ≡ Lead ones switch low → ones ≡ 0 → ⊥
+fifty_six ones low switch e none = absurd (let is : 56 ≡ ones = cc in omega arith)
+
+led_left : (n tries : ℕ) (base : Counted) (b : Bool) (k : Hand) (x : State) (task : Task) (ones low : ℕ)
+    (switch : Bool) (s t : Port) → cue_at x task ≡ Lead ones switch low → Leads s ones t → Tracks x n tries base b k s
+    → Left x n b k t
+led_left n tries base b k Leading task ones low switch s t e leads h =
+    led n b k ones s t (fifty_six ones low switch e) leads h
+led_left n tries base b k (Doing job Data) task ones low switch s t e leads h =
+    absurd (lead_cue (is_ahead_at job Data task) (word_for job task) ones low switch e)
+led_left n tries base b k (Doing job Ask) task ones low switch s t e leads h = absurd (cc)
+led_left n tries base b k (Doing job Waited) task ones low switch s t e leads h = absurd (cc)
+led_left n tries base b k (Doing job Faulted) task ones low switch s t e leads h = absurd (cc)
+led_left n tries base b k (Resting outcome) task ones low switch s t e leads h = absurd (cc)
+
+pub lead_goes : (e f : Engine) (s t : Port) (ones low : ℕ) (switch : Bool) → cue_of e ≡ Lead ones switch low
+    → Leads s ones t → lands_from e f → Dones e f → Goes e s f t
+lead_goes e f s t ones low switch cue leads lands tracks =
+    moves e f s t lands (others_uncounted.led ones s t leads)
+    (λ base m h. tracks base m t (
+      h.task,
+      led_left (base.disturbed + e.events) e.tries base e.begun
+          (hand_of e m) e.state e.task ones low switch s t cue leads h.tracks,
+    ))

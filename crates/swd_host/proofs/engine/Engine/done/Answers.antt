@@ -1,0 +1,13 @@
+use Rattle.std.proofs.Common.{◌≡◌, ◌+◌, ap, subst, ◌∙◌}
+use Rattle.swd_host.specs.declared.engine.Phase.TheVariants.{Waited}
+use Rattle.swd_host.specs.declared.engine.State.{State}
+use Rattle.swd_host.specs.declared.engine.State.TheVariants.{Doing}
+use Rattle.swd_host.specs.Tracks.{Left, hand_of}
+use Rattle.swd_host.proofs.engine.Engine.done.Goals as goal
+
+pub returns-in-Waited-clause-tracks : goal.returns-in-Waited-clause-tracks
+returns-in-Waited-clause-tracks c base m t h =
+    let e = c.args.self.now in
+    let is : e.state ≡ Doing c.in-Doing.job Waited = c.in-Doing.is ∙ ap (Doing c.in-Doing.job) c.in-Waited.is in
+    c.waited.ensures.tracks base m t h.0 (subst
+    (λ x. Left x (base.disturbed + e.events) e.begun (hand_of e m) t) is h.1)

@@ -1,0 +1,15 @@
+use Rattle.std.proofs.Common.{◌≡◌, ◌-◌, ◌+◌, sym, subst}
+use Rattle.swd_host.specs.declared.engine.Phase.TheVariants.{Ask, Data}
+use Rattle.swd_host.specs.declared.engine.State.TheVariants.{Doing}
+use Rattle.swd_host.specs.Progress.{left_for, least_for}
+use Rattle.swd_host.specs.Turns.{Lands}
+use Rattle.swd_host.proofs.StepLemmas.{again_lands}
+use Rattle.swd_host.proofs.engine.Engine.garbled.Goals as goal
+
+pub returns-in-At-2-clause-lands : goal.returns-in-At-2-clause-lands
+returns-in-At-2-clause-lands c =
+    let e = c.args.self.now in
+    subst (λ j. Lands (left_for j - 1) (least_for e.aims j + 1) (Doing j Data) e c.event.new.self) (sym c.in-At-2.is)
+    (again_lands c.in-At-2.place e c.event.new.self (subst
+    (λ j. Lands (left_for j - 5) (least_for e.aims j) (Doing j Ask) e c.event.new.self) c.again.ensures
+    c.event.ensures.lands))

@@ -1,0 +1,16 @@
+use Rattle.std.proofs.Common.{◌≡◌, false}
+use Rattle.swd_host.proofs.Starts.{start_due, start_access}
+use Rattle.swd_host.proofs.Ends.{not_opened}
+use Rattle.swd_host.proofs.running.access.Goals as goal
+
+pub drive-requires : goal.drive-requires
+drive-requires g c =
+    start_due c.args.access c.args.following c.args.engine.now c.start.new.self (g.W.Wire.port c.args.wire.now)
+    c.start.ensures.starts c.requires.rests c.requires.chain c.requires.due
+
+pub unreachable-requires : goal.unreachable-requires
+unreachable-requires g c =
+    not_opened c.drive.new.engine.state c.drive.new.engine.task
+    (c.drive.ensures.goes.part false (start_access c.args.access c.args.following c.args.engine.now c.start.new.self
+    c.start.ensures.starts))
+    c.in-Opened.ensures.finished

@@ -1,0 +1,20 @@
+use Rattle.std.proofs.Common.{◌≡◌, true, sym, ap, subst, ◌∙◌}
+use Rattle.swd_host.specs.Progress.{is_state_of}
+use Rattle.swd_host.specs.Tracks.{DueAt}
+use Rattle.swd_host.proofs.Ends.{opened_state, stopped_state}
+use Rattle.swd_host.proofs.running.open.Goals as goal
+
+pub drive-requires : goal.drive-requires
+drive-requires g c =
+    subst (λ x. DueAt x c.args.engine.now.task (g.W.Wire.port c.args.wire.now).link.due)
+    (sym c.requires.new.leads) c.requires.due
+
+pub returns-in-Stopped-clause-finished : goal.returns-in-Stopped-clause-finished
+returns-in-Stopped-clause-finished g c =
+    stopped_state c.drive.new.engine.state c.drive.new.engine.task c.in-Stopped.end c.in-Stopped.ensures.finished
+
+pub returns-in_default-clause-finished : goal.returns-in_default-clause-finished
+returns-in_default-clause-finished g c =
+    opened_state c.drive.new.engine.state c.drive.new.engine.task c.drive.result
+    (c.drive.ensures.goes.part true (ap (is_state_of true) c.requires.new.leads)) c.drive.ensures.finished
+    (λ end is. c.in_default.not-Stopped end is)

@@ -1,0 +1,6 @@
+use Rattle.std.proofs.Common.{◌≤◌, take, length}
+use Rattle.swd_host.specs.Plain.{AreAccesses}
+use Rattle.swd_host.proofs.running.refusal.Given as goal
+
+abbrev pub invariant-loop-index : goal.invariant-loop-index
+invariant-loop-index l = record { are : AreAccesses (take l.index l.accesses); few : length l.accesses ≤ 65536 }

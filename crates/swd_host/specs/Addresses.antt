@@ -1,0 +1,21 @@
+-- Addresses along a burst.
+use Rattle.std.specs.Prelude.{ℕ, ◌+◌, ◌/◌, ◌==◌, Bool, false, if◌then◌else◌, Option, Some, None}
+use Rattle.swd_port.specs.declared.access.Access.{Access}
+use Rattle.swd_port.specs.declared.access.Access.TheVariants.{Read, Write}
+
+-- the next word's address, where it is in the same kilobyte: TAR is told there after a transfer
+-- (IHI 0031, MEM-AP, "Auto-incrementing the Transfer Address Register (TAR)")
+abbrev pub next_address : ℕ → Option ℕ
+next_address at = if (at + 4) / 1024 == at / 1024 then Some (at + 4) else None
+
+-- an address is known to be this one
+abbrev pub is_known : Option ℕ → ℕ → Bool
+is_known None at = false
+is_known (Some known) at = known == at
+
+-- the access that follows a write at an address continues its burst: it is a write at the next address in the same
+-- kilobyte
+abbrev pub continues : ℕ → Option Access → Bool
+continues at None = false
+continues at (Some (Read next)) = false
+continues at (Some (Write next word)) = is_known (next_address at) next

@@ -1,0 +1,109 @@
+-- What an engine shows: its cue, its outcome, whether an access is begun.
+use Rattle.std.specs.Prelude.{ℕ, ◌+◌, ◌^◌, ◌<◌, ◌==◌, ◌&&◌, Bool, true, false, not, if◌then◌else◌, Option, Some, None}
+use Rattle.std.specs.Prelude.{is_some}
+use Rattle.swd_port.specs.declared.access.Answer.TheVariants.{Written}
+use Rattle.swd_port.specs.Phases.{phase_number}
+use Rattle.swd_host.specs.declared.task.Task.{Task}
+use Rattle.swd_host.specs.declared.task.Task.TheVariants.{BurstWrite}
+use Rattle.swd_host.specs.declared.outcome.Outcome.{Outcome}
+use Rattle.swd_host.specs.declared.outcome.Outcome.TheVariants.{Opened, Answered, Stopped}
+use Rattle.swd_host.specs.declared.request.Place.TheVariants.{Identify, Confirm}
+use Rattle.swd_host.specs.declared.request.Job.{Job}
+use Rattle.swd_host.specs.declared.request.Job.TheVariants.{At}
+use Rattle.swd_host.specs.declared.engine.Cue.{Cue}
+use Rattle.swd_host.specs.declared.engine.Cue.TheVariants.{Lead, Ask as CueAsk, Take, Give, Pass, Rest}
+use Rattle.swd_host.specs.declared.engine.Phase.{Phase}
+use Rattle.swd_host.specs.declared.engine.Phase.TheVariants.{Ask, Data, Waited, Faulted}
+use Rattle.swd_host.specs.declared.engine.State.{State}
+use Rattle.swd_host.specs.declared.engine.State.TheVariants.{Leading, Doing, Resting}
+use Rattle.swd_host.specs.declared.engine.Engine.{Engine}
+use Rattle.swd_host.specs.Tasks.{is_burst}
+use Rattle.swd_host.specs.Requests.{request_of, word_for}
+
+-- the access in hand is answered by the OK to the next one's DRW write, whose data is due
+abbrev pub is_ahead_at : Job → Phase → Task → Bool
+is_ahead_at (At Confirm) Data task = is_burst task
+is_ahead_at job phase task = false
+
+abbrev pub is_ahead_in : State → Task → Bool
+is_ahead_in (Doing job phase) task = is_ahead_at job phase task
+is_ahead_in state task = false
+
+abbrev pub is_ahead : Engine → Bool
+is_ahead e = is_ahead_in e.state e.task
+
+abbrev pub is_begun : Engine → Bool
+is_begun e = e.begun && not (is_ahead e)
+
+-- the cue of a data phase
+abbrev pub data_cue : Bool → Option ℕ → Cue
+data_cue true word = Rest
+data_cue false (Some word) = Give (phase_number word)
+data_cue false None = Take
+
+abbrev pub cue_at : State → Task → Cue
+cue_at Leading task = Lead 56 true 2
+cue_at (Doing job Ask) task = CueAsk (request_of job task)
+cue_at (Doing job Data) task = data_cue (is_ahead_at job Data task) (word_for job task)
+cue_at (Doing job Waited) task = Pass
+cue_at (Doing job Faulted) task = Pass
+cue_at (Resting outcome) task = Rest
+
+abbrev pub cue_of : Engine → Cue
+cue_of e = cue_at e.state e.task
+
+-- what an engine has come to
+abbrev pub finished_at : State → Task → Option Outcome
+finished_at (Resting outcome) task = Some outcome
+finished_at (Doing job phase) task = if is_ahead_at job phase task then Some (Answered Written) else None
+finished_at Leading task = None
+
+abbrev pub finished_of : Engine → Option Outcome
+finished_of e = finished_at e.state e.task
+
+-- the kinds of cues, by the call that answers them
+abbrev pub is_ask : Cue → Bool
+is_ask (CueAsk q) = true
+is_ask cue = false
+
+abbrev pub is_take : Cue → Bool
+is_take Take = true
+is_take cue = false
+
+abbrev pub is_send : Cue → Bool
+is_send (Lead ones switch zeros) = true
+is_send (Give bits) = true
+is_send Pass = true
+is_send cue = false
+
+-- 33 bits are handed out to be sent
+abbrev pub IsPhaseCue : Cue → Type 0
+IsPhaseCue (Give bits) = bits < 2 ^ 33
+IsPhaseCue cue = Unit {0}
+
+-- an access may be begun: the engine rests, and isn't stopped
+abbrev pub may_start : Option Outcome → Bool
+may_start (Some Opened) = true
+may_start (Some (Answered answer)) = true
+may_start outcome = false
+
+-- one more request; the number stays at its greatest value
+abbrev pub one_more : ℕ → ℕ
+one_more n = if n == 18446744073709551615 then n else n + 1
+
+-- it has come to an outcome
+abbrev pub is_resting : Engine → Bool
+is_resting e = is_some (finished_of e)
+
+-- how many requests were sent
+abbrev pub requests_of : Engine → ℕ
+requests_of e = e.requests
+
+-- the events that each opening and each access may meet
+abbrev pub tries_of : Engine → ℕ
+tries_of e = e.tries
+
+-- the job of a state
+abbrev pub job_in : State → Job
+job_in (Doing job phase) = job
+job_in state = At Identify

@@ -1,0 +1,22 @@
+-- The sticky flags of CTRL/STAT, and the words that clear them: IHI 0031, B2, "CTRL/STAT, Control/Status register"
+-- and "ABORT, AP Abort register".
+use Rattle.std.specs.Prelude.{ℕ, ◌+◌, ◌/◌, ◌%◌, ◌==◌, ◌&&◌, Bool, if◌then◌else◌}
+use Rattle.swd_port.specs.Laws.WordsRead.{holds}
+use Rattle.swd_host.specs.declared.flags.Flags.{Flags}
+
+-- the flags in a word of CTRL/STAT
+abbrev pub flags_in : ℕ → Flags
+flags_in word = record { error = holds 0x20 word; damaged = holds 0x80 word }
+
+-- the word of ABORT that clears flags
+abbrev pub clear_word : Flags → ℕ
+clear_word flags = (if flags.error then 4 else 0) + (if flags.damaged then 8 else 0)
+
+-- both power acknowledgements are set
+abbrev pub is_powered : ℕ → Bool
+is_powered word = holds 0x2000_0000 word && holds 0x8000_0000 word
+
+-- CSW as it was asked for: words, AddrInc single, and an enabled device (IHI 0031, MEM-AP, "CSW, Control/Status Word
+-- register")
+abbrev pub is_configured : ℕ → Bool
+is_configured word = (word % 8 == 2) && (word / 16 % 4 == 1) && (word / 64 % 2 == 1)

@@ -1,0 +1,12 @@
+pub mod Addresses
+pub mod Tasks
+pub mod Flags
+pub mod Requests
+pub mod Engines
+pub mod Progress
+pub mod Plain
+pub mod Events
+pub mod Tracks
+pub mod Turns
+pub mod Reports
+pub mod Standing

@@ -1,0 +1,126 @@
+-- How far the opening or an access has come: the requests that are still open to it, and those that were sent.
+use Rattle.std.specs.Prelude.{ℕ, ◌+◌, ◌-◌, ◌*◌, ◌&&◌, Bool, true, false, not, if◌then◌else◌}
+use Rattle.swd_bits.specs.Bits.{bit}
+use Rattle.swd_host.specs.declared.outcome.End.TheVariants.{Lost}
+use Rattle.swd_host.specs.declared.outcome.Outcome.TheVariants.{Opened, Answered, Stopped}
+use Rattle.swd_host.specs.declared.request.Place.{Place}
+use Rattle.swd_host.specs.declared.request.Place.TheVariants.{Identify, Wipe, Inspect, Select, Power, Powered}
+use Rattle.swd_host.specs.declared.request.Place.TheVariants.{Configure, Recall, Configured, Aim, Transfer, Confirm}
+use Rattle.swd_host.specs.declared.request.Job.{Job}
+use Rattle.swd_host.specs.declared.request.Job.TheVariants.{At, Resend, Status, LastStatus, Clear, Check}
+use Rattle.swd_host.specs.declared.engine.Phase.{Phase}
+use Rattle.swd_host.specs.declared.engine.Phase.TheVariants.{Ask, Data, Waited, Faulted}
+use Rattle.swd_host.specs.declared.engine.State.{State}
+use Rattle.swd_host.specs.declared.engine.State.TheVariants.{Leading, Doing, Resting}
+use Rattle.swd_host.specs.declared.engine.Engine.{Engine}
+
+-- REQUESTS STILL OPEN before the next outcome, at most, where no event comes
+abbrev pub left_at : Place → ℕ
+left_at Identify = 10
+left_at Wipe = 9
+left_at Inspect = 8
+left_at Select = 7
+left_at Power = 6
+left_at Powered = 5
+left_at Configure = 4
+left_at Recall = 3
+left_at Configured = 2
+left_at Aim = 6
+left_at Transfer = 5
+left_at Confirm = 4
+
+abbrev pub left_for : Job → ℕ
+left_for (At p) = left_at p
+left_for (Resend p) = left_at p
+left_for (Status p) = left_at p - 1
+left_for LastStatus = 1
+left_for (Clear p owed) = if owed.error then 2 else left_at p + 3
+left_for (Check p owed) = if owed.error then 1 else left_at p + 2
+
+abbrev pub left_in : State → ℕ
+left_in Leading = 10
+left_in (Doing job Ask) = left_for job
+left_in (Doing job phase) = left_for job - 1
+left_in (Resting Opened) = 1
+left_in (Resting outcome) = 0
+
+-- the requests still open to an engine before its next outcome, at most: each event may bring five more
+abbrev pub open_requests : Engine → ℕ
+open_requests e = 5 * (e.tries - e.events) + left_in e.state
+
+-- a data phase, a turnaround or the lead stands before the next request
+abbrev pub moves_first : State → ℕ
+moves_first Leading = 1
+moves_first (Doing job Ask) = 0
+moves_first (Doing job phase) = 1
+moves_first (Resting outcome) = 0
+
+-- the calls of the wire before the next outcome, at most: between two requests stands at most one other
+abbrev pub calls_left : Engine → ℕ
+calls_left e = 2 * open_requests e + moves_first e.state
+
+-- REQUESTS THAT WERE SENT for the opening or the access in hand, at least; its DRW among them where that went out
+-- with the access before. The flag says whether TAR has to be written.
+abbrev pub least_at : Bool → Place → ℕ
+least_at aims Identify = 0
+least_at aims Wipe = 1
+least_at aims Inspect = 2
+least_at aims Select = 3
+least_at aims Power = 4
+least_at aims Powered = 5
+least_at aims Configure = 6
+least_at aims Recall = 7
+least_at aims Configured = 8
+least_at aims Aim = 0
+least_at aims Transfer = bit aims
+least_at aims Confirm = bit aims + 1
+
+abbrev pub least_for : Bool → Job → ℕ
+least_for aims (At p) = least_at aims p
+least_for aims (Resend p) = least_at aims p + 1
+least_for aims (Status p) = least_at aims p + 1
+least_for aims LastStatus = 0
+least_for aims (Clear p owed) = if owed.error then bit aims + 2 else least_at aims p + 1
+least_for aims (Check p owed) = if owed.error then bit aims + 2 else least_at aims p + 1
+
+abbrev pub least_in : Bool → State → ℕ
+least_in aims Leading = 0
+least_in aims (Doing job Ask) = least_for aims job
+least_in aims (Doing job phase) = least_for aims job + 1
+least_in aims (Resting Opened) = 9
+least_in aims (Resting (Answered answer)) = bit aims + 2
+least_in aims (Resting (Stopped end)) = 0
+
+-- THE OPENING (true) AND AN ACCESS (false)
+abbrev pub is_opening_place : Place → Bool
+is_opening_place Aim = false
+is_opening_place Transfer = false
+is_opening_place Confirm = false
+is_opening_place p = true
+
+abbrev pub is_place_of : Bool → Place → Bool
+is_place_of true p = is_opening_place p
+is_place_of false p = not (is_opening_place p)
+
+abbrev pub is_job_of : Bool → Job → Bool
+is_job_of opening (At p) = is_place_of opening p
+is_job_of opening (Resend p) = is_place_of opening p
+is_job_of opening (Status p) = is_place_of opening p
+is_job_of opening LastStatus = true
+is_job_of opening (Clear p owed) = is_place_of opening p && not (opening && owed.error)
+is_job_of opening (Check p owed) = is_place_of opening p && not (opening && owed.error)
+
+abbrev pub is_state_of : Bool → State → Bool
+is_state_of opening Leading = opening
+is_state_of opening (Doing job phase) = is_job_of opening job
+is_state_of opening (Resting Opened) = opening
+is_state_of opening (Resting (Answered answer)) = not opening
+is_state_of opening (Resting (Stopped end)) = true
+
+-- a request has to be sent, or the engine rests, and not since an acknowledgement was lost
+abbrev pub is_quiet : State → Bool
+is_quiet Leading = false
+is_quiet (Doing job Ask) = true
+is_quiet (Doing job phase) = false
+is_quiet (Resting (Stopped Lost)) = false
+is_quiet (Resting outcome) = true

@@ -1,0 +1,95 @@
+-- What a report says of the plain memory: the theorem of the host.
+use Rattle.std.specs.Prelude.{ℕ, ◌≡◌, ◌≢◌, ◌+◌, ◌-◌, ◌*◌, ◌%◌, ◌<◌, ◌≤◌, List, length, take, false}
+use Rattle.std.specs.Prelude.{slice_index_or as get_or}
+use Rattle.swd_port.specs.declared.access.Access.{Access}
+use Rattle.swd_port.specs.declared.access.Access.TheVariants.{Read}
+use Rattle.swd_port.specs.declared.access.Answer.{Answer}
+use Rattle.swd_port.specs.declared.wire.Due.TheVariants.{Nothing, Lost as DueLost}
+use Rattle.swd_port.specs.PlainMemory.{PlainMemory}
+use Rattle.swd_port.specs.Port.{Port, made}
+use Rattle.swd_port.specs.Choices.{Choice}
+use Rattle.swd_port.specs.Completion.{completed}
+use Rattle.swd_bits.specs.Bits.{bit}
+use Rattle.swd_host.specs.declared.engine.Engine.{Engine}
+use Rattle.swd_host.specs.Engines.{is_begun}
+use Rattle.swd_host.specs.declared.outcome.Report.{Report}
+use Rattle.swd_host.specs.declared.outcome.Refused.{Refused}
+use Rattle.swd_host.specs.declared.outcome.Refused.TheVariants.{TooMany, Unaligned, Memory}
+use Rattle.swd_host.specs.declared.outcome.End.{End}
+use Rattle.swd_host.specs.declared.outcome.End.TheVariants.{All, Lost, TriesOut, WrongId, Confused}
+use Rattle.swd_host.specs.Plain.{memory_after, answers_of, AreAccesses, is_aligned}
+use Rattle.swd_host.specs.Tracks.{no_select}
+
+-- a report: the answers, how many accesses more were begun, the requests that were sent, and how the run ended
+pub record Told : Type 0 where
+  pub answers : List Answer
+  pub begun : ℕ
+  pub requests : ℕ
+  pub ended : End
+
+abbrev pub told_of : Report → Told
+told_of report = record {
+  answers = report.answers.items;
+  begun = report.begun;
+  requests = report.requests;
+  ended = report.ended;
+}
+
+-- the report of an engine
+abbrev pub told_by : List Answer → Engine → End → Told
+told_by answers e ended = record { answers = answers; begun = bit (is_begun e); requests = e.requests; ended = ended }
+
+-- The answers are those of the first k accesses of the list over the plain memory, and the memory is that after them,
+-- or after some of the accesses that were begun besides. At most so many are begun.
+pub record FitsAt (most k : ℕ) (list : List Access) (m : PlainMemory) (told : Told) (now : PlainMemory) : Type 0 where
+  pub reported : k ≤ length list
+  pub answers : told.answers ≡ answers_of (take k list) m
+  pub memory : (j : ℕ) × (j ≤ told.begun) × (now ≡ memory_after (take (k + j) list) m)
+  pub few : told.begun ≤ most
+  -- accesses are begun that the list has, in a run that isn't whole, once a request was sent for each: after nine of
+  -- the opening, one of TAR, and one for each access before
+  pub begun : told.begun ≢ 0 → (k + told.begun ≤ length list) × (told.ended ≢ All) ×
+      (10 + k + told.begun ≤ told.requests)
+  pub all : told.ended ≡ All → k ≡ length list
+
+abbrev pub Fits : ℕ → List Access → PlainMemory → Told → PlainMemory → Type 0
+Fits most list m told now = (k : ℕ) × FitsAt most k list m told now
+
+-- why a list isn't done, in the order of the checks
+abbrev pub RefusedAs : List Access → Refused → Type 0
+RefusedAs list TooMany = 65536 < length list
+RefusedAs list (Unaligned index) =
+    (length list ≤ 65536) × (index < length list) × AreAccesses (take index list)
+    × (is_aligned (get_or list index (Read 0)) ≡ false)
+RefusedAs list Memory = (length list ≤ 65536) × AreAccesses list
+
+-- how a run may end, and what it leaves on the wire: it is never that an identification was wrong, or that the target
+-- confused the host
+abbrev pub EndsAt : End → ℕ → Port → Port → Type 0
+EndsAt All tries s t = t.link.due ≡ Nothing
+EndsAt Lost tries s t = (t.link.due ≡ DueLost) × (s.tally.lost < t.tally.lost) × (t.target.select ≡ no_select)
+EndsAt TriesOut tries s t = (t.link.due ≡ Nothing) × (s.tally.disturbed + tries < t.tally.disturbed)
+EndsAt end tries s t = ⊥
+
+-- The theorem of a run over a target that was just made: the report fits the memory as it is at the end, and as it
+-- will be once a transfer that is still pending took effect; and the run stops early only at a lost acknowledgement
+-- or past its tries.
+pub record RunFits (list : List Access) (tries : ℕ) (m : PlainMemory) (told : Told) (s t : Port) : Type 0 where
+  pub now : Fits 1 list m told t.target.memory
+  pub later : (c : Choice) → Fits 1 list m told (completed c t).target.memory
+  pub ends : EndsAt told.ended tries s t
+  pub stops_only : t.tally.lost ≡ s.tally.lost → t.tally.disturbed ≤ s.tally.disturbed + tries → told.ended ≡ All
+  pub counted : t.tally.asked ≡ s.tally.asked + told.requests
+  pub least : told.ended ≡ All → 9 + length list ≤ told.requests
+  pub most : told.requests ≤ 9 + 6 * length list + 5 * (t.tally.disturbed - s.tally.disturbed)
+
+-- it is the access after the one at i
+pub record Follower (i : ℕ) (list : List Access) (a : Access) : Type 0 where
+  pub number : i + 1 < length list
+  pub same : (d : Access) → get_or list (i + 1) d ≡ a
+
+-- so it is for every memory that the target was made with, where its identification is one of this protocol
+abbrev pub RunsOver : List Access → ℕ → Told → Port → Port → Type 0
+RunsOver list tries told s t =
+    (identification : ℕ) (m : PlainMemory) → s ≡ made identification m → identification % 2 ≡ 1
+    → RunFits list tries m told s t

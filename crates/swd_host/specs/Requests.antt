@@ -1,0 +1,131 @@
+-- The requests that a host sends: the opening, an access, and what is sent where something went wrong.
+use Rattle.std.specs.Prelude.{ℕ, Bool, true, false, not, if◌then◌else◌, Option, Some, None, is_some}
+use Rattle.swd_bits.specs.declared.request.Reg4.{Reg4}
+use Rattle.swd_bits.specs.declared.request.Reg4.TheVariants.{R0, R4, R8, RC}
+use Rattle.swd_bits.specs.declared.request.Request.{Request}
+use Rattle.swd_port.specs.PlainMemory.{address}
+use Rattle.swd_host.specs.declared.task.Task.{Task}
+use Rattle.swd_host.specs.declared.task.Task.TheVariants.{Read, Write, BurstWrite}
+use Rattle.swd_host.specs.declared.request.Place.{Place}
+use Rattle.swd_host.specs.declared.request.Place.TheVariants.{Identify, Wipe, Inspect, Select, Power, Powered}
+use Rattle.swd_host.specs.declared.request.Place.TheVariants.{Configure, Recall, Configured, Aim, Transfer, Confirm}
+use Rattle.swd_host.specs.declared.request.Job.{Job}
+use Rattle.swd_host.specs.declared.request.Job.TheVariants.{At, Resend, Status, LastStatus, Clear, Check}
+use Rattle.swd_host.specs.Tasks.{access_of, is_read}
+use Rattle.swd_host.specs.Flags.{clear_word}
+
+abbrev pub debug_port : Bool → Reg4 → Request
+debug_port read addr = record { ap = false; read = read; addr = addr }
+
+abbrev pub access_port : Bool → Reg4 → Request
+access_port read addr = record { ap = true; read = read; addr = addr }
+
+-- what confirms an access: RDBUFF's OK, or in a burst the OK to the next access's DRW write
+abbrev pub confirming_request : Task → Request
+confirming_request (BurstWrite at word) = access_port false RC
+confirming_request task = debug_port true RC
+
+abbrev pub request_of : Job → Task → Request
+request_of (At Identify) task = debug_port true R0
+request_of (At Wipe) task = debug_port false R0
+request_of (At Inspect) task = debug_port true R4
+request_of (At Select) task = debug_port false R8
+request_of (At Power) task = debug_port false R4
+request_of (At Powered) task = debug_port true R4
+request_of (At Configure) task = access_port false R0
+request_of (At Recall) task = access_port true R0
+request_of (At Configured) task = debug_port true RC
+request_of (At Aim) task = access_port false R4
+request_of (At Transfer) task = access_port (is_read task) RC
+request_of (At Confirm) task = confirming_request task
+request_of (Resend p) task = debug_port true R8
+request_of (Status p) task = debug_port true R4
+request_of LastStatus task = debug_port true R4
+request_of (Clear p owed) task = debug_port false R0
+request_of (Check p owed) task = debug_port true R4
+
+-- the word of an access that is a write
+abbrev pub word_of_task : Task → Option ℕ
+word_of_task (Read at) = None
+word_of_task (Write at word) = Some word
+word_of_task (BurstWrite at word) = Some word
+
+-- the word that is written, where the request is a write whose word the engine has
+abbrev pub word_for : Job → Task → Option ℕ
+word_for (At Wipe) task = Some 0x0000_001e
+word_for (At Select) task = Some 0
+word_for (At Power) task = Some 0x5000_0000
+word_for (At Configure) task = Some 0x2300_0012
+word_for (At Aim) task = Some (address (access_of task))
+word_for (At Transfer) task = word_of_task task
+word_for (At p) task = None
+word_for (Clear p owed) task = Some (clear_word owed)
+word_for (Resend p) task = None
+word_for (Status p) task = None
+word_for LastStatus task = None
+word_for (Check p owed) task = None
+
+-- what follows a place where all is well; the last place of each sequence follows itself
+abbrev pub next_place : Place → Place
+next_place Identify = Wipe
+next_place Wipe = Inspect
+next_place Inspect = Select
+next_place Select = Power
+next_place Power = Powered
+next_place Powered = Configure
+next_place Configure = Recall
+next_place Recall = Configured
+next_place Configured = Configured
+next_place Aim = Transfer
+next_place Transfer = Confirm
+next_place Confirm = Confirm
+
+-- DRW's write, where it is one
+abbrev pub written_by : Task → Option Place
+written_by (Read at) = None
+written_by task = Some Transfer
+
+-- the write that the request at a place confirms; TAR is one of them where it was written for the access
+abbrev pub confirmed_by : Place → Task → Bool → Option Place
+confirmed_by Inspect task aims = Some Wipe
+confirmed_by Power task aims = Some Select
+confirmed_by Powered task aims = Some Power
+confirmed_by Recall task aims = Some Configure
+confirmed_by Transfer task aims = if aims then Some Aim else None
+confirmed_by Confirm task aims = written_by task
+confirmed_by p task aims = None
+
+-- never answered WAIT or FAULT
+abbrev pub is_exempt_place : Place → Bool
+is_exempt_place Identify = true
+is_exempt_place Wipe = true
+is_exempt_place Inspect = true
+is_exempt_place Powered = true
+is_exempt_place p = false
+
+abbrev pub is_exempt : Job → Bool
+is_exempt (At p) = is_exempt_place p
+is_exempt (Resend p) = false
+is_exempt job = true
+
+-- the request that gives the word of a place again, where its parity was wrong: RESEND for what RDBUFF gave
+abbrev pub again_at : Place → Job
+again_at Configured = Resend Configured
+again_at Confirm = Resend Confirm
+again_at p = At p
+
+-- the request is a write whose word the engine has
+abbrev pub is_write : Job → Task → Bool
+is_write job task = is_some (word_for job task)
+
+-- the word that is read here isn't looked at: that of a posted read, and RDBUFF's after a write
+abbrev pub is_unread : Place → Task → Bool
+is_unread Recall task = true
+is_unread Transfer task = true
+is_unread Confirm task = not (is_read task)
+is_unread p task = false
+
+-- the DRW request of the access in hand
+abbrev pub begins : Job → Bool
+begins (At Transfer) = true
+begins job = false

@@ -1,0 +1,522 @@
+-- What the engine's state says of the port at the other end, and of the memory behind it: the invariant of the host.
+use Rattle.std.specs.Prelude.{ℕ, ◌≡◌, ◌≢◌, ◌+◌, ◌-◌, ◌*◌, ◌%◌, ◌^◌, ◌<◌, ◌≤◌, ◌⊎◌, ◌||◌, ◌&&◌, ◌==◌, Bool, true}
+use Rattle.std.specs.Prelude.{false, not, if◌then◌else◌, Option, Some, None}
+use Rattle.swd_port.specs.declared.access.Access.{Access}
+use Rattle.swd_port.specs.declared.access.Access.TheVariants.{Read as AccessRead, Write as AccessWrite}
+use Rattle.swd_port.specs.declared.access.Answer.{Answer}
+use Rattle.swd_port.specs.declared.access.Answer.TheVariants.{Value, Written, BusFault}
+use Rattle.swd_port.specs.declared.select.Select.{Select as SelectWord}
+use Rattle.swd_port.specs.declared.wire.Due.{Due}
+use Rattle.swd_port.specs.declared.wire.Due.TheVariants.{Nothing, Take, Give, Pass, Lost as DueLost}
+use Rattle.swd_port.specs.PlainMemory.{PlainMemory, address, plain_answer, plain_after}
+use Rattle.swd_port.specs.Phases.{phase_number, flipped}
+use Rattle.swd_port.specs.Port.{Port, Target}
+use Rattle.swd_port.specs.declared.register.Register.{Register}
+use Rattle.swd_port.specs.declared.register.Register.TheVariants.{DpidrRead, AbortWrite, CtrlStatRead, CtrlStatWrite}
+use Rattle.swd_port.specs.declared.register.Register.TheVariants.{ResendRead, SelectWrite, RdbuffRead, CswRead}
+use Rattle.swd_port.specs.declared.register.Register.TheVariants.{CswWrite, TarWrite, DrwRead, DrwWrite}
+use Rattle.swd_port.specs.declared.state.Reset.TheVariants.{Unreset, Live}
+use Rattle.swd_port.specs.declared.state.Line.TheVariants.{Idle, Drives, Awaits}
+use Rattle.swd_port.specs.Transfers.{Sent, Becomes, Advanced}
+use Rattle.swd_port.specs.Laws.WordsRead.{holds}
+use Rattle.swd_host.specs.declared.flags.Flags.{Flags}
+use Rattle.swd_host.specs.declared.outcome.End.{End}
+use Rattle.swd_host.specs.declared.outcome.End.TheVariants.{All, Lost, TriesOut, WrongId, Confused}
+use Rattle.swd_host.specs.declared.outcome.Outcome.{Outcome}
+use Rattle.swd_host.specs.declared.outcome.Outcome.TheVariants.{Opened, Answered, Stopped}
+use Rattle.swd_host.specs.declared.task.Task.{Task}
+use Rattle.swd_host.specs.declared.task.Task.TheVariants.{Read, Write, BurstWrite}
+use Rattle.swd_host.specs.declared.request.Place.{Place}
+use Rattle.swd_host.specs.declared.request.Place.TheVariants.{Identify, Wipe, Inspect, Select, Power, Powered}
+use Rattle.swd_host.specs.declared.request.Place.TheVariants.{Configure, Recall, Configured, Aim, Transfer, Confirm}
+use Rattle.swd_host.specs.declared.request.Job.{Job}
+use Rattle.swd_host.specs.declared.request.Job.TheVariants.{At, Resend, Status, LastStatus, Clear, Check}
+use Rattle.swd_host.specs.declared.engine.Phase.{Phase}
+use Rattle.swd_host.specs.declared.engine.Phase.TheVariants.{Ask, Data, Waited, Faulted}
+use Rattle.swd_host.specs.declared.engine.State.{State}
+use Rattle.swd_host.specs.declared.engine.State.TheVariants.{Leading, Doing, Resting}
+use Rattle.swd_host.specs.declared.engine.Engine.{Engine}
+use Rattle.swd_host.specs.Plain.{IsAccess}
+use Rattle.swd_host.specs.Tasks.{access_of}
+use Rattle.swd_host.specs.Engines.{job_in}
+use Rattle.swd_host.specs.Requests.{request_of, next_place, confirmed_by, is_exempt, is_exempt_place, begins}
+
+-- the access in hand, whether TAR has to be written for it, what is known of TAR where the engine rests, and the
+-- memory before the access
+pub record Hand : Type 0 where
+  pub task : Task
+  pub aims : Bool
+  pub tar : Option ℕ
+  pub memory : PlainMemory
+
+abbrev pub no_select : SelectWord
+no_select = record { apsel = 0; apbanksel = 0; dpbanksel = 0 }
+
+-- THE PORT, as the host knows it before each request of its sequences
+
+-- a target that had a line reset, at rest
+pub record Reachable (m : PlainMemory) (s : Target) : Type 0 where
+  pub reset : s.reset ≢ Unreset
+  pub select : s.select ≡ no_select
+  pub pending : s.pending ≡ None
+  pub memory : s.memory ≡ m
+  pub sticky : s.sticky_error ≡ false
+  pub odd : s.identification % 2 ≡ 1
+
+-- a live target at rest, STICKYERR clear
+pub record Calm (m : PlainMemory) (s : Target) : Type 0 where
+  pub live : s.reset ≡ Live
+  pub select : s.select ≡ no_select
+  pub pending : s.pending ≡ None
+  pub memory : s.memory ≡ m
+  pub sticky : s.sticky_error ≡ false
+
+pub record HasPower (m : PlainMemory) (s : Target) : Type 0 where
+  pub calm : Calm m s
+  pub debug : s.debug_power ≡ true
+  pub system : s.system_power ≡ true
+
+-- ready for transfers
+pub record Up (m : PlainMemory) (s : Target) : Type 0 where
+  pub calm : Calm m s
+  pub debug : s.debug_power ≡ true
+  pub increments : s.increments ≡ true
+
+pub record HasCsw (m : PlainMemory) (s : Target) : Type 0 where
+  pub up : Up m s
+  pub upper : s.csw_upper ≡ 0x23
+
+abbrev pub csw_word_read : ℕ
+csw_word_read = 0x2300_0052
+
+pub record HasRecalled (m : PlainMemory) (s : Target) : Type 0 where
+  pub up : Up m s
+  pub buffer : s.buffer ≡ Some csw_word_read
+
+pub record IsAimed (k : Hand) (s : Target) : Type 0 where
+  pub up : Up k.memory s
+  pub tar : s.tar ≡ Some (address (access_of k.task))
+
+-- TAR has to be written
+pub record IsUnaimed (k : Hand) (s : Target) : Type 0 where
+  pub up : Up k.memory s
+  pub aims : k.aims ≡ true
+
+-- the transfer was sent
+pub record Under (b : Bool) (k : Hand) (s : Target) : Type 0 where
+  pub live : s.reset ≡ Live
+  pub select : s.select ≡ no_select
+  pub debug : s.debug_power ≡ true
+  pub increments : s.increments ≡ true
+  pub begun : b ≡ true
+  pub sent : Sent (access_of k.task) k.memory s
+
+-- what holds before the request at a place, but for WDATAERR
+abbrev pub Has : Place → Bool → Hand → Target → Type 0
+Has Identify b k s = Reachable k.memory s
+Has Wipe b k s = Calm k.memory s
+Has Inspect b k s = Calm k.memory s
+Has Select b k s = Calm k.memory s
+Has Power b k s = Calm k.memory s
+Has Powered b k s = HasPower k.memory s
+Has Configure b k s = HasPower k.memory s
+Has Recall b k s = HasCsw k.memory s
+Has Configured b k s = HasRecalled k.memory s
+Has Aim b k s = IsUnaimed k s
+Has Transfer b k s = IsAimed k s
+Has Confirm b k s = Under b k s
+
+abbrev pub is_wipe : Place → Bool
+is_wipe Wipe = true
+is_wipe _ = false
+
+-- n disturbances were met as events: that many there were
+pub record Sure (p : Place) (n : ℕ) (b : Bool) (k : Hand) (s : Port) : Type 0 where
+  pub has : Has p b k s.target
+  pub flag : is_wipe p ≡ false → s.target.write_error ≡ false
+  pub paid : n ≤ s.tally.disturbed
+
+-- the write before, which this request confirms, was damaged
+pub record Hurt (p : Place) (n : ℕ) (b : Bool) (k : Hand) (s : Port) : Type 0 where
+  pub back : Place
+  pub confirms : confirmed_by p k.task k.aims ≡ Some back
+  pub has : Has back b k s.target
+  pub flag : s.target.write_error ≡ true
+  pub paid : n + 1 ≤ s.tally.disturbed
+
+abbrev pub is_confirm : Place → Bool
+is_confirm Confirm = true
+is_confirm _ = false
+
+-- the transfer was a bus error; STICKYERR aside
+pub record Broken (p : Place) (b : Bool) (k : Hand) (s : Target) : Type 0 where
+  pub place : is_confirm p ≡ true
+  pub begun : b ≡ true
+  pub live : s.reset ≡ Live
+  pub select : s.select ≡ no_select
+  pub debug : s.debug_power ≡ true
+  pub increments : s.increments ≡ true
+  pub pending : s.pending ≡ None
+  pub memory : s.memory ≡ k.memory
+  pub after : plain_after (access_of k.task) k.memory ≡ k.memory
+  pub answer : plain_answer (access_of k.task) k.memory ≡ BusFault
+
+-- why a request met a flag
+pub data Refused (p : Place) (n : ℕ) (b : Bool) (k : Hand) (s : Port) : Type 0 where
+  by_damage : Hurt p n b k s → Refused p n b k s
+  by_error : Broken p b k s.target → s.target.sticky_error ≡ true → s.target.write_error ≡ false
+      → n ≤ s.tally.disturbed → Refused p n b k s
+
+-- what the write that was damaged found
+pub record Spoilt (p : Place) (b : Bool) (k : Hand) (s : Target) : Type 0 where
+  pub back : Place
+  pub confirms : confirmed_by p k.task k.aims ≡ Some back
+  pub has : Has back b k s
+
+-- what is behind the flags that are owed
+abbrev pub Facts : Bool → Place → Bool → Hand → Target → Type 0
+Facts true p b k s = Broken p b k s
+Facts false p b k s = Spoilt p b k s
+
+-- the flags that are set are those that are owed
+pub record Owes (p : Place) (owed : Flags) (n : ℕ) (b : Bool) (k : Hand) (s : Port) : Type 0 where
+  pub facts : Facts owed.error p b k s.target
+  pub error : s.target.sticky_error ≡ owed.error
+  pub damaged : s.target.write_error ≡ owed.damaged
+  pub paid : n ≤ s.tally.disturbed
+
+-- ABORT was written: no flag is left, or all that were owed are, since it was damaged
+pub data Checks (p : Place) (owed : Flags) (n : ℕ) (b : Bool) (k : Hand) (s : Port) : Type 0 where
+  cleared : Facts owed.error p b k s.target → s.target.sticky_error ≡ false → s.target.write_error ≡ false
+      → n ≤ s.tally.disturbed → Checks p owed n b k s
+  kept : Facts owed.error p b k s.target → s.target.sticky_error ≡ owed.error → s.target.write_error ≡ true
+      → n + 1 ≤ s.tally.disturbed → Checks p owed n b k s
+
+-- the access was done, and its answer is known but for a word that has to come again
+pub record Done (b : Bool) (k : Hand) (s : Target) : Type 0 where
+  pub begun : b ≡ true
+  pub up : Up (plain_after (access_of k.task) k.memory) s
+  pub advanced : Advanced (address (access_of k.task)) s
+
+abbrev pub Returned : Place → ℕ → Bool → Hand → Target → Type 0
+Returned Configured word b k s = Up k.memory s × (word ≡ csw_word_read)
+Returned Confirm word b k s = Done b k s × (plain_answer (access_of k.task) k.memory ≡ Value word)
+Returned p word b k s = ⊥
+
+-- this word was returned, and RESEND gives it again
+pub record Resent (p : Place) (word : ℕ) (n : ℕ) (b : Bool) (k : Hand) (s : Port) : Type 0 where
+  pub returned : Returned p word b k s.target
+  pub last : s.target.last_returned ≡ Some word
+  pub flag : s.target.write_error ≡ false
+  pub paid : n ≤ s.tally.disturbed
+
+-- what holds before a request
+abbrev pub Before : Job → ℕ → Bool → Hand → Port → Type 0
+Before (At p) n b k s = Sure p n b k s ⊎ Hurt p n b k s
+Before (Resend p) n b k s = (word : ℕ) × Resent p word n b k s
+Before (Status p) n b k s = Refused p n b k s
+Before LastStatus n b k s = ⊥
+Before (Clear p owed) n b k s = Owes p owed n b k s
+Before (Check p owed) n b k s = Checks p owed n b k s
+
+-- DATA PHASES
+
+-- the phase of this word is on the line; where a place of it is changed, there is a disturbance more
+pub data Reads (word : ℕ) (n : ℕ) (P : ℕ → Type 0) (s : Port) : Type 0 where
+  whole : s.link.line ≡ Drives (phase_number word) → word < 2 ^ 32 → P n → Reads word n P s
+  changed : (place : ℕ) → s.link.line ≡ Drives (flipped (Some place) (phase_number word)) → word < 2 ^ 32 → P (n + 1)
+      → Reads word n P s
+
+-- the phase of this write is awaited
+pub data Writes (r : Register) (n : ℕ) (P : ℕ → Type 0) (s : Port) : Type 0 where
+  whole : s.link.line ≡ Awaits r None → P n → Writes r n P s
+  changed : (place : ℕ) → s.link.line ≡ Awaits r (Some place) → P (n + 1) → Writes r n P s
+
+-- a word of CTRL/STAT tells the flags and the powers
+pub record Tells (word : ℕ) (s : Target) : Type 0 where
+  pub error : holds 0x20 word ≡ s.sticky_error
+  pub damaged : holds 0x80 word ≡ s.write_error
+  pub debug : holds 0x2000_0000 word ≡ s.debug_power
+  pub system : holds 0x8000_0000 word ≡ s.system_power
+
+abbrev pub Says : Job → ℕ → Bool → Hand → Port → Type 0
+Says job n b k s = (word : ℕ) × Tells word s.target × Reads word n (λ c. Before job c b k s) s
+
+-- DPIDR was read
+pub record Awake (n : ℕ) (k : Hand) (s : Port) : Type 0 where
+  pub calm : Calm k.memory s.target
+  pub odd : s.target.identification % 2 ≡ 1
+  pub flag : s.target.write_error ≡ false
+  pub paid : n ≤ s.tally.disturbed
+
+-- the access is answered
+pub record Finished (answer : Answer) (n : ℕ) (b : Bool) (k : Hand) (s : Port) : Type 0 where
+  pub begun : b ≡ false
+  pub up : Up (plain_after (access_of k.task) k.memory) s.target
+  pub answered : plain_answer (access_of k.task) k.memory ≡ answer
+  pub known : (at : ℕ) → k.tar ≡ Some at → s.target.tar ≡ Some at
+  pub flag : s.target.write_error ≡ false
+  pub paid : n ≤ s.tally.disturbed
+
+-- a write's OK came
+pub record Confirmed (n : ℕ) (b : Bool) (k : Hand) (s : Port) : Type 0 where
+  pub done : Done b k s.target
+  pub answered : plain_answer (access_of k.task) k.memory ≡ Written
+  pub flag : s.target.write_error ≡ false
+  pub paid : n ≤ s.tally.disturbed
+
+abbrev pub Transfers : Task → ℕ → Bool → Hand → Port → Type 0
+Transfers (Read at) n b k s = Sure Confirm n b k s
+Transfers (Write at word) n b k s = (b ≡ true) × Writes DrwWrite n (λ c. Sure Transfer c b k s) s
+Transfers (BurstWrite at word) n b k s = (b ≡ true) × Writes DrwWrite n (λ c. Sure Transfer c b k s) s
+
+abbrev pub Confirms : Task → ℕ → Bool → Hand → Port → Type 0
+Confirms (Read at) n b k s = (word : ℕ) × Reads word n (λ c. Resent Confirm word c b k s) s
+Confirms (Write at word) n b k s = Confirmed n b k s
+-- the write was done, and the data of the next access is due
+Confirms (BurstWrite at word) n b k s = Writes DrwWrite n (λ c. Confirmed c b k s) s
+
+-- what holds before a data phase
+abbrev pub During : Job → ℕ → Bool → Hand → Port → Type 0
+During (At Identify) n b k s = Reads s.target.identification n (λ c. Awake c k s) s
+During (At Wipe) n b k s = Writes AbortWrite n (λ c. Sure Wipe c b k s) s
+During (At Inspect) n b k s = Says (At Inspect) n b k s
+During (At Select) n b k s = Writes SelectWrite n (λ c. Sure Select c b k s) s
+During (At Power) n b k s = Writes CtrlStatWrite n (λ c. Sure Power c b k s) s
+During (At Powered) n b k s = Says (At Powered) n b k s
+During (At Configure) n b k s = Writes CswWrite n (λ c. Sure Configure c b k s) s
+During (At Recall) n b k s = Sure Configured n b k s
+During (At Configured) n b k s = (word : ℕ) × Reads word n (λ c. Resent Configured word c b k s) s
+During (At Aim) n b k s = Writes TarWrite n (λ c. Sure Aim c b k s) s
+During (At Transfer) n b k s = Transfers k.task n b k s
+During (At Confirm) n b k s = Confirms k.task n b k s
+During (Resend p) n b k s = (word : ℕ) × Reads word n (λ c. Resent p word c b k s) s
+During (Status p) n b k s = Says (Status p) n b k s
+During LastStatus n b k s = ⊥
+During (Clear p owed) n b k s = Writes AbortWrite n (λ c. Owes p owed c b k s) s
+During (Check p owed) n b k s = Says (Check p owed) n b k s
+
+-- ENDS
+
+-- the memory is that before the access, or, where it is begun, that after it
+abbrev pub IsWithin : Bool → Hand → PlainMemory → Type 0
+IsWithin b k m = (m ≡ k.memory) ⊎ ((b ≡ true) × (m ≡ plain_after (access_of k.task) k.memory))
+
+-- so it is now, and so it will be
+pub record Within (b : Bool) (k : Hand) (s : Target) : Type 0 where
+  pub now : IsWithin b k s.memory
+  pub later : PlainMemory
+  pub becomes : Becomes later s
+  pub ends : IsWithin b k later
+
+-- the request at a place met a flag; RESEND meets none
+pub record Faulting (p : Place) (n : ℕ) (b : Bool) (k : Hand) (s : Port) : Type 0 where
+  pub free : is_exempt_place p ≡ false
+  pub refused : Refused p n b k s
+
+abbrev pub FaultedAt : Job → ℕ → Bool → Hand → Port → Type 0
+FaultedAt (At p) n b k s = Faulting p n b k s
+FaultedAt job n b k s = ⊥
+
+-- WAIT was a disturbance, which isn't met as an event yet
+pub record Waiting (job : Job) (n : ℕ) (b : Bool) (k : Hand) (s : Port) : Type 0 where
+  pub free : is_exempt job ≡ false
+  pub before : Before job (n + 1) b k s
+
+-- the counts at the beginning of the opening or the access: disturbed requests and lost ones
+pub record Counted : Type 0 where
+  pub disturbed : ℕ
+  pub lost : ℕ
+
+-- no acknowledgement was seen
+pub record LostAt (n : ℕ) (base : Counted) (b : Bool) (k : Hand) (s : Port) : Type 0 where
+  pub within : Within b k s.target
+  pub more : base.lost < s.tally.lost
+  pub paid : n ≤ s.tally.disturbed
+  pub select : s.target.select ≡ no_select
+
+abbrev pub StoppedAt : End → ℕ → ℕ → Counted → Bool → Hand → Port → Type 0
+StoppedAt Lost n tries base b k s = LostAt n base b k s
+StoppedAt TriesOut n tries base b k s = Within b k s.target × (base.disturbed + tries < s.tally.disturbed)
+StoppedAt end n tries base b k s = ⊥
+
+-- a target before its first line reset, as it was made
+pub record Unled (n : ℕ) (k : Hand) (s : Port) : Type 0 where
+  pub select : s.target.select ≡ no_select
+  pub pending : s.target.pending ≡ None
+  pub memory : s.target.memory ≡ k.memory
+  pub sticky : s.target.sticky_error ≡ false
+  pub odd : s.target.identification % 2 ≡ 1
+  pub flag : s.target.write_error ≡ false
+  pub line : s.link.line ≡ Idle
+  pub paid : n ≤ s.tally.disturbed
+
+pub record IsReady (n : ℕ) (k : Hand) (s : Port) : Type 0 where
+  pub up : Up k.memory s.target
+  pub known : (at : ℕ) → k.tar ≡ Some at → s.target.tar ≡ Some at
+  pub flag : s.target.write_error ≡ false
+  pub paid : n ≤ s.tally.disturbed
+
+abbrev pub Rests : Outcome → ℕ → ℕ → Counted → Bool → Hand → Port → Type 0
+Rests Opened n tries base b k s = IsReady n k s × (k.tar ≡ None)
+Rests (Answered answer) n tries base b k s = Finished answer n b k s
+Rests (Stopped end) n tries base b k s = StoppedAt end n tries base b k s
+
+abbrev pub Tracks : State → ℕ → ℕ → Counted → Bool → Hand → Port → Type 0
+Tracks Leading n tries base b k s = Unled n k s
+Tracks (Doing job Ask) n tries base b k s = Before job n b k s
+Tracks (Doing job Data) n tries base b k s = During job n b k s
+Tracks (Doing job Waited) n tries base b k s = Waiting job n b k s
+Tracks (Doing job Faulted) n tries base b k s = FaultedAt job n b k s
+Tracks (Resting outcome) n tries base b k s = Rests outcome n tries base b k s
+
+abbrev pub hand_of : Engine → PlainMemory → Hand
+hand_of e m = record { task = e.task; aims = e.aims; tar = e.tar; memory = m }
+
+-- the engine's own state of the port, from the counts at the beginning and the memory then
+abbrev pub TracksEngine : Counted → PlainMemory → Engine → Port → Type 0
+TracksEngine base m e s = Tracks e.state (base.disturbed + e.events) e.tries base e.begun (hand_of e m) s
+
+-- the access is one, and the next word's address is in its kilobyte where the next access's write confirms it
+abbrev pub IsTask : Task → Type 0
+IsTask (Read at) = IsAccess (AccessRead at)
+IsTask (Write at word) = IsAccess (AccessWrite at word)
+IsTask (BurstWrite at word) = IsAccess (AccessWrite at word) × (at % 1024 < 1020)
+
+-- the same over a whole engine: what it keeps of a target that keeps the law
+pub record Follows (base : Counted) (m : PlainMemory) (e : Engine) (s : Port) : Type 0 where
+  pub task : IsTask e.task
+  pub lost : base.lost ≤ s.tally.lost
+  pub tracks : TracksEngine base m e s
+
+-- WHAT IS DUE
+abbrev pub due_of : Bool → Due
+due_of true = Take
+due_of false = Give
+
+abbrev pub DueAt : State → Task → Due → Type 0
+DueAt Leading task due = due ≡ Nothing
+DueAt (Doing job Ask) task due = due ≡ Nothing
+DueAt (Doing job Data) task due = due ≡ due_of (request_of job task).read
+DueAt (Doing job Waited) task due = due ≡ Pass
+DueAt (Doing job Faulted) task due = due ≡ Pass
+DueAt (Resting (Stopped Lost)) task due = due ≡ DueLost
+DueAt (Resting outcome) task due = due ≡ Nothing
+
+abbrev pub DueFits : Engine → Port → Type 0
+DueFits e s = DueAt e.state e.task s.link.due
+
+-- WHAT A CALL OF THE ENGINE IS TOLD
+-- what a word that was taken at a place tells
+abbrev pub Taken : Place → ℕ → ℕ → Bool → Hand → Port → Type 0
+Taken Identify word n b k s = Awake n k s × (word % 2 ≡ 1)
+Taken Inspect word n b k s = Tells word s.target × Before (At Inspect) n b k s
+Taken Powered word n b k s = Tells word s.target × Before (At Powered) n b k s
+Taken Configured word n b k s = Resent Configured word n b k s
+Taken Confirm word n b k s = Resent Confirm word n b k s
+Taken p word n b k s = ⊥
+
+-- why an access is answered so
+pub data Earns (answer : Answer) (n : ℕ) (b : Bool) (k : Hand) (s : Port) : Type 0 where
+  by_transfer : Done b k s.target → plain_answer (access_of k.task) k.memory ≡ answer → (answer ≡ BusFault → ⊥)
+      → s.target.write_error ≡ false → n ≤ s.tally.disturbed → Earns answer n b k s
+  by_fault : (p : Place) → Broken p b k s.target → answer ≡ BusFault → s.target.sticky_error ≡ false
+      → s.target.write_error ≡ false → n ≤ s.tally.disturbed → Earns answer n b k s
+
+-- what a request came to
+pub data Saw (job : Job) (seen n : ℕ) (base : Counted) (b : Bool) (k : Hand) (s : Port) : Type 0 where
+  saw_okay : seen ≡ 1 → During job n b k s → Saw job seen n base b k s
+  saw_wait : seen ≡ 2 → Waiting job n b k s → Saw job seen n base b k s
+  saw_fault : seen ≡ 4 → FaultedAt job n b k s → Saw job seen n base b k s
+  saw_none : (seen == 1) ≡ false → (seen == 2) ≡ false → (seen == 4) ≡ false → LostAt n base b k s
+      → Saw job seen n base b k s
+
+-- what a data phase that was written leaves
+abbrev pub WasSent : Job → ℕ → Bool → Hand → Port → Type 0
+WasSent (At p) n b k s = Before (At (next_place p)) n b k s
+WasSent (Clear p owed) n b k s = Before (Check p owed) n b k s
+WasSent job n b k s = ⊥
+
+-- what the lead, a data phase that was written, or a turnaround leaves
+abbrev pub Left : State → ℕ → Bool → Hand → Port → Type 0
+Left Leading n b k s = Before (At Identify) n b k s
+Left (Doing job Ask) n b k s = ⊥
+Left (Doing job Data) n b k s = WasSent job n b k s
+Left (Doing job Waited) n b k s = Waiting job n b k s
+Left (Doing job Faulted) n b k s = FaultedAt job n b k s
+Left (Resting outcome) n b k s = ⊥
+
+-- a read's confirming word, or a write's OK
+abbrev pub ConfirmTook : Task → Option ℕ → ℕ → Bool → Hand → Port → Type 0
+ConfirmTook (Read at) (Some word) n b k s = Resent Confirm word n b k s
+ConfirmTook (Read at) None n b k s = Before (Resend Confirm) (n + 1) b k s
+ConfirmTook (Write at w) word n b k s = Confirmed n b k s
+ConfirmTook (BurstWrite at w) word n b k s = ⊥
+
+-- what a word that was read at a place tells, or that it has to come again
+abbrev pub TookAt : Place → Option ℕ → ℕ → Bool → Hand → Port → Type 0
+TookAt Recall word n b k s = Sure Configured n b k s
+TookAt Transfer word n b k s = Sure Confirm n b k s
+TookAt Confirm word n b k s = ConfirmTook k.task word n b k s
+TookAt Configured None n b k s = Before (Resend Configured) (n + 1) b k s
+TookAt p (Some word) n b k s = Taken p word n b k s
+TookAt p None n b k s = Before (At p) (n + 1) b k s
+
+abbrev pub TakenFor : Job → Option ℕ → ℕ → Bool → Hand → Port → Type 0
+TakenFor (At p) word n b k s = TookAt p word n b k s
+TakenFor (Resend p) (Some word) n b k s = Taken p word n b k s
+TakenFor (Status p) (Some word) n b k s = Tells word s.target × Refused p n b k s
+TakenFor (Check p owed) (Some word) n b k s = Tells word s.target × Checks p owed n b k s
+TakenFor LastStatus (Some word) n b k s = ⊥
+TakenFor (Clear p owed) word n b k s = ⊥
+TakenFor job None n b k s = Before job (n + 1) b k s
+
+abbrev pub ValueOr : Place → Job → Option ℕ → ℕ → Bool → Hand → Port → Type 0
+ValueOr p job (Some word) n b k s = Taken p word n b k s
+ValueOr p job None n b k s = Before job (n + 1) b k s
+
+abbrev pub begins_in : State → Bool
+begins_in state = begins (job_in state)
+
+-- where a request is once its acknowledgement was seen (IHI 0031, B4, "Acknowledge response")
+abbrev pub state_seen : Job → ℕ → State
+state_seen job seen =
+    if seen == 1 then Doing job Data
+    else if seen == 2 then Doing job Waited
+    else if seen == 4 then Doing job Faulted
+    else Resting (Stopped Lost)
+
+-- power was asked for, and this says whether it is there
+abbrev pub HasAsked : Bool → ℕ → Bool → Hand → Port → Type 0
+HasAsked powered n b k s = (powered ≡ (s.target.debug_power && s.target.system_power)) × Before (At Powered) n b k s
+
+-- WHAT A STEP OF THE ENGINE KEEPS: from what was told, of a target whose memory was this before the access, since
+-- these counts
+abbrev pub Comes : (ℕ → Bool → Hand → Port → Type 0) → Engine → Engine → Type 0
+Comes Was e f = (base : Counted) (m : PlainMemory) (s : Port) → IsTask e.task
+    → Was (base.disturbed + e.events) e.begun (hand_of e m) s → TracksEngine base m f s
+
+-- the same, where these are the flags that were read
+abbrev pub ComesWith : Flags → (ℕ → Bool → Hand → Port → Type 0) → Engine → Engine → Type 0
+ComesWith flags Was e f = (base : Counted) (m : PlainMemory) (s : Port) → IsTask e.task →
+    flags.error ≡ s.target.sticky_error → flags.damaged ≡ s.target.write_error
+    → Was (base.disturbed + e.events) e.begun (hand_of e m) s → TracksEngine base m f s
+
+-- WHAT THE CALLS OF AN ENGINE ARE TOLD, of a target whose memory was this before the access, since these counts
+-- three bits were seen after the request
+abbrev pub Hears : ℕ → Counted → PlainMemory → Engine → Port → Type 0
+Hears seen base m e s = Saw (job_in e.state) seen (base.disturbed + e.events) base (begins_in e.state || e.begun)
+    (hand_of e m) s
+
+-- what the cue said was sent
+abbrev pub HasSent : Counted → PlainMemory → Engine → Port → Type 0
+HasSent base m e s = IsTask e.task × Left e.state (base.disturbed + e.events) e.begun (hand_of e m) s
+
+-- a data phase was read: its word, where the parity is right
+abbrev pub HasRead : Option ℕ → Counted → PlainMemory → Engine → Port → Type 0
+HasRead word base m e s = IsTask e.task × TakenFor (job_in e.state) word (base.disturbed + e.events) e.begun
+    (hand_of e m) s
+
+-- a call keeps what the engine and the port keep together
+abbrev pub Keeps : (Counted → PlainMemory → Engine → Port → Type 0) → Engine → Engine → Type 0
+Keeps WasTold e f = (base : Counted) (m : PlainMemory) (s : Port) → WasTold base m e s → TracksEngine base m f s

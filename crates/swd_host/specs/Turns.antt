@@ -1,0 +1,140 @@
+-- What one call of the engine leaves, and what calls of engine and wire keep one after the other.
+use Rattle.std.specs.Prelude.{ℕ, ◌≡◌, ◌+◌, ◌-◌, ◌*◌, ◌^◌, ◌<◌, ◌≤◌, ◌&&◌, ◌||◌, Bool, true, false, not, if◌then◌else◌}
+use Rattle.std.specs.Prelude.{Option, Some, None, Result, Ok, Err}
+use Rattle.swd_bits.specs.Bits.{bit}
+use Rattle.swd_port.specs.declared.access.Access.{Access}
+use Rattle.swd_port.specs.declared.access.Answer.{Answer}
+use Rattle.swd_port.specs.PlainMemory.{PlainMemory, address}
+use Rattle.swd_port.specs.Port.{Port}
+use Rattle.swd_host.specs.declared.outcome.End.{End}
+use Rattle.swd_host.specs.declared.outcome.End.TheVariants.{Lost}
+use Rattle.swd_host.specs.declared.outcome.Outcome.{Outcome}
+use Rattle.swd_host.specs.declared.outcome.Outcome.TheVariants.{Opened, Answered, Stopped}
+use Rattle.swd_host.specs.declared.task.Task.{Task}
+use Rattle.swd_host.specs.declared.request.Place.{Place}
+use Rattle.swd_host.specs.declared.request.Place.TheVariants.{Aim, Transfer, Confirm}
+use Rattle.swd_host.specs.declared.request.Job.{Job}
+use Rattle.swd_host.specs.declared.request.Job.TheVariants.{At}
+use Rattle.swd_host.specs.declared.engine.Phase.{Phase}
+use Rattle.swd_host.specs.declared.engine.Phase.TheVariants.{Ask, Data}
+use Rattle.swd_host.specs.declared.engine.State.{State}
+use Rattle.swd_host.specs.declared.engine.State.TheVariants.{Leading, Doing, Resting}
+use Rattle.swd_host.specs.declared.engine.Engine.{Engine}
+use Rattle.swd_host.specs.Addresses.{is_known, continues}
+use Rattle.swd_host.specs.Tasks.{task_for, access_of, is_burst}
+use Rattle.swd_host.specs.Engines.{is_ahead, is_resting, job_in}
+use Rattle.swd_host.specs.Progress.{left_for, left_in, least_for, least_in, open_requests, is_state_of, is_quiet}
+use Rattle.swd_host.specs.Tracks.{Counted, Follows, IsTask, begins_in, state_seen}
+
+-- an engine at the start of the opening
+pub record IsNew (most : ℕ) (e : Engine) : Type 0 where
+  pub leads : e.state ≡ Leading
+  pub tries : e.tries ≡ most
+  pub events : e.events ≡ 0
+  pub begun : e.begun ≡ false
+  pub task : IsTask e.task
+  pub burst : is_burst e.task ≡ false
+  pub requests : e.requests ≡ 0
+
+-- where an access begins: at the data of its DRW write, which was sent already, or where TAR is written, or where it
+-- is known
+abbrev pub first_state : Bool → Bool → State
+first_state true aims = Doing (At Transfer) Data
+first_state false true = Doing (At Aim) Ask
+first_state false false = Doing (At Transfer) Ask
+
+-- an access begins: no event was met, and it is begun exactly where its DRW request was sent, to confirm the write
+-- before
+pub record Starts (a : Access) (following : Option Access) (e f : Engine) : Type 0 where
+  pub task : f.task ≡ task_for a following
+  pub aims : f.aims ≡ not (is_ahead e || is_known e.tar (address a))
+  pub state : f.state ≡ first_state (is_ahead e) f.aims
+  pub begun : f.begun ≡ is_burst e.task
+  pub events : f.events ≡ 0
+  pub tar : f.tar ≡ e.tar
+  pub tries : f.tries ≡ e.tries
+  pub requests : f.requests ≡ e.requests
+
+-- what an acknowledgement leaves: the access in hand is begun once its DRW request was sent
+pub record Sees (seen : ℕ) (e f : Engine) : Type 0 where
+  pub state : f.state ≡ state_seen (job_in e.state) seen
+  pub task : f.task ≡ e.task
+  pub aims : f.aims ≡ e.aims
+  pub tar : f.tar ≡ e.tar
+  pub tries : f.tries ≡ e.tries
+  pub events : f.events ≡ e.events
+  pub begun : f.begun ≡ (begins_in e.state || e.begun)
+  pub least : least_in f.aims f.state ≤ least_in e.aims e.state + 1
+  pub part : (opening : Bool) → is_state_of opening e.state ≡ true → is_state_of opening f.state ≡ true
+
+-- From a state, with so many requests open and sent: the next request is due, or an outcome came. Only an answer says
+-- that the access isn't begun any more.
+pub record Lands (open_then sent_then : ℕ) (x : State) (e f : Engine) : Type 0 where
+  pub task : f.task ≡ e.task
+  pub aims : f.aims ≡ e.aims
+  pub tries : f.tries ≡ e.tries
+  pub requests : f.requests ≡ e.requests
+  pub begun : f.begun ≡ true → e.begun ≡ true
+  pub left : open_requests f ≤ 5 * (e.tries - e.events) + open_then
+  pub least : least_in f.aims f.state ≤ sent_then
+  pub part : (opening : Bool) → is_state_of opening x ≡ true → is_state_of opening f.state ≡ true
+  pub quiet : is_quiet f.state ≡ true
+
+-- from a job whose data phase or turnaround passed
+abbrev pub LandsFrom : Job → Phase → Engine → Engine → Type 0
+LandsFrom job phase e f = Lands (left_for job - 1) (least_for e.aims job + 1) (Doing job phase) e f
+
+-- after an event: the request is sent again, as one that an event more may have brought
+abbrev pub LandsAt : Job → Engine → Engine → Type 0
+LandsAt job e f = Lands (left_for job - 5) (least_for e.aims job) (Doing job Ask) e f
+
+-- the access is answered
+abbrev pub LandsAnswered : Engine → Engine → Type 0
+LandsAnswered e f = Lands 0 (bit e.aims + 2) (Doing (At Confirm) Data) e f
+
+abbrev pub lands_from : Engine → Engine → Type 0
+lands_from e f = Lands (left_in e.state) (least_in e.aims e.state) e.state e f
+
+-- WHAT AN ENGINE AND THE PORT AT THE OTHER END KEEP, from one moment to a later one; the requests that are counted
+-- don't reach their greatest value
+abbrev pub IsCountable : Engine → Type 0
+IsCountable e = e.requests + open_requests e < 2 ^ 64
+
+pub record Goes (e : Engine) (s : Port) (f : Engine) (t : Port) : Type 0 where
+  -- the engine alone
+  pub task : f.task ≡ e.task
+  pub aims : f.aims ≡ e.aims
+  pub tries : f.tries ≡ e.tries
+  pub part : (opening : Bool) → is_state_of opening e.state ≡ true → is_state_of opening f.state ≡ true
+  pub unbegun : is_state_of true e.state ≡ true → e.begun ≡ false → f.begun ≡ false
+  pub more : e.requests ≤ f.requests
+  pub spends : f.requests + open_requests f ≤ e.requests + open_requests e
+  pub least : IsCountable e → e.requests + least_in f.aims f.state ≤ f.requests + least_in e.aims e.state
+  pub begun : IsCountable e → e.begun ≡ false → f.begun ≡ true
+      → e.requests + bit e.aims + 1 ≤ f.requests + least_in e.aims e.state
+  -- with the port
+  pub follows : (base : Counted) (m : PlainMemory) → Follows base m e s → Follows base m f t
+  pub disturbed : s.tally.disturbed ≤ t.tally.disturbed
+  pub lost : s.tally.lost ≤ t.tally.lost
+  pub asked : IsCountable e → t.tally.asked + e.requests ≡ s.tally.asked + f.requests
+  -- over such a target the opening's last request is never answered FAULT, so a lost one comes a request earlier
+  pub lost_early : is_resting e ≡ false → (base : Counted) (m : PlainMemory) → Follows base m e s
+      → is_state_of true e.state ≡ true →
+      f.state ≡ Resting (Stopped Lost) → f.requests + 1 + 5 * (f.tries - f.events) ≤ e.requests + open_requests e
+
+-- an access from its start
+abbrev pub GoesFrom : Access → Option Access → Engine → Port → Engine → Port → Type 0
+GoesFrom a following e s f t = (g : Engine) × Starts a following e g × Goes g s f t
+
+-- the access is the one that continues the burst, where its DRW write was answered OK
+pub record GoesOn (e : Engine) (a : Access) : Type 0 where
+  pub on : is_ahead e ≡ true → continues (address (access_of e.task)) (Some a) ≡ true
+
+-- the state in which the opening is left, and the outcome to which an access comes
+abbrev pub opened_as : Result (Unit {0}) End → State
+opened_as (Ok u) = Resting Opened
+opened_as (Err end) = Resting (Stopped end)
+
+abbrev pub answered_as : Result Answer End → Outcome
+answered_as (Ok answer) = Answered answer
+answered_as (Err end) = Stopped end

@@ -1,0 +1,282 @@
+//! The engine: what has to be sent next, from what was seen so far. It sends nothing itself.
+ghost use Rattle.std.specs.Prelude.{◌≡◌, ◌+◌, ◌<◌, ◌≤◌, ◌*◌, ◌^◌, ◌||◌, ℕ, true, false, None};
+ghost use Rattle.swd_bits.specs.Bits.{bit};
+ghost use Rattle.swd_port.specs.Phases.{word_in};
+ghost use Rattle.swd_host.specs.Events.{Meets, MeetsRead, MeetsSent};
+ghost use Rattle.swd_host.specs.Engines.{cue_of, finished_of, is_ahead, is_begun, is_ask, is_take, is_send};
+ghost use Rattle.swd_host.specs.Engines.{may_start, one_more, requests_of, tries_of, IsPhaseCue};
+ghost use Rattle.swd_host.specs.Tasks.{task_for};
+ghost use Rattle.swd_host.specs.Progress.{open_requests};
+ghost use Rattle.swd_host.specs.Turns.{IsNew, Starts, Sees, Lands, lands_from};
+ghost use Rattle.swd_host.specs.Tracks.{HasRead, HasSent, Hears, Keeps, state_seen};
+
+use crate::outcome::{End, Outcome};
+use crate::phase::{phase_of, word_in_phase};
+use crate::request::{Job, Place};
+use crate::task::{Task, address_of};
+use swd_bits::{Ack, Request};
+use swd_port::{Access, Answer};
+
+/// What has to be sent next.
+#[derive(Clone, Copy, Debug, PartialEq, Eq)]
+pub enum Cue {
+    /// Ones, with `switch` the switch from JTAG and the ones again, and zeros. Then `Engine::done`.
+    Lead {
+        /// How many ones.
+        ones: u32,
+        /// With the switch.
+        switch: bool,
+        /// How many zeros.
+        zeros: u32,
+    },
+    /// A request. Then `Engine::seen`.
+    Ask(Request),
+    /// The data phase of a read. Then `Engine::taken`.
+    Take,
+    /// These 33 bits, as the data phase of a write. Then `Engine::done`.
+    Give(u64),
+    /// The turnaround after WAIT or FAULT. Then `Engine::done`.
+    Pass,
+    /// Nothing: `Engine::finished` says what it has come to.
+    Rest,
+}
+
+/// Where a request is.
+#[derive(Clone, Copy, Debug, PartialEq, Eq)]
+pub(crate) enum Phase {
+    /// It has to be sent.
+    Ask,
+    /// It was answered OK: its data phase follows.
+    Data,
+    /// It was answered WAIT: a turnaround follows.
+    Waited,
+    /// It was answered FAULT: a turnaround follows.
+    Faulted,
+}
+
+/// Where an engine is.
+#[derive(Clone, Copy, Debug, PartialEq, Eq)]
+pub(crate) enum State {
+    /// The line reset has to be sent.
+    Leading,
+    /// A request and its data phase or turnaround.
+    Doing(Job, Phase),
+    /// The opening or the access has come to this.
+    Resting(Outcome),
+}
+
+/// Says what has to be sent next, from what was seen so far: first the opening, and then an access
+/// for each `start`. It takes no memory, and whatever is seen, it comes to an outcome.
+///
+/// ```text
+/// loop {
+///     match engine.cue() {
+///         Cue::Lead { ones, switch, zeros } => { /* drive them */ engine.done() }
+///         Cue::Ask(request) => { let seen = /* send it */; engine.seen(seen) }
+///         Cue::Take => { let bits = /* clock 33 bits in */; engine.taken(bits) }
+///         Cue::Give(bits) => { /* clock them out */ engine.done() }
+///         Cue::Pass => { /* one cycle */ engine.done() }
+///         Cue::Rest => match engine.finished() { /* start the next access, or stop */ }
+///     }
+/// }
+/// ```
+#[derive(Clone, Copy, Debug, PartialEq, Eq)]
+pub struct Engine {
+    pub(crate) state: State,
+    // The access in hand, or the last one; it means nothing in the opening.
+    pub(crate) task: Task,
+    // TAR has to be written for the access in hand.
+    pub(crate) aims: bool,
+    // The address that TAR is known to hold, where the engine rests.
+    pub(crate) tar: Option<u32>,
+    pub(crate) tries: u32,
+    pub(crate) events: u32,
+    // The DRW request of the access in hand was sent.
+    pub(crate) begun: bool,
+    pub(crate) requests: u64,
+}
+
+impl Engine {
+    /// An engine at the start of the opening. Each of the opening and the accesses may meet as many
+    /// events as `tries`.
+    pub fn new(tries: u32) -> Engine
+        ensures new { IsNew tries result }
+        ensures open { open_requests result ≤ 9 + 5 * (tries + 1) }
+    {
+        Engine {
+            state: State::Leading,
+            task: Task::Read(0),
+            aims: true,
+            tar: None,
+            tries,
+            events: 0,
+            begun: false,
+            requests: 0,
+        }
+    }
+
+    /// Begins an access, with the one that follows it. Where that one continues its burst, which is
+    /// a write at the next address in the same kilobyte after a write, it has to be the next that is
+    /// begun.
+    pub fn start(&mut self, access: Access, following: Option<Access>)
+        requires rests { may_start (finished_of self.old) ≡ true }
+        ensures starts { Starts access following self.old self.new }
+        ensures open { open_requests self.new ≤ 9 + 5 * (tries_of self.old + 1) }
+    {
+        let ahead = self.is_ahead();
+        self.aims = !ahead && self.tar != Some(address_of(access));
+        // The request that confirmed the write before was this one's.
+        self.begun = matches!(&self.task, Task::BurstWrite(_, _));
+        self.task = Task::new(access, following);
+        self.events = 0;
+        self.state = if ahead {
+            State::Doing(Job::At(Place::Transfer), Phase::Data)
+        } else if self.aims {
+            State::Doing(Job::At(Place::Aim), Phase::Ask)
+        } else {
+            State::Doing(Job::At(Place::Transfer), Phase::Ask)
+        };
+    }
+
+    // The access in hand is answered, since the DRW write of the next one was answered OK. The data
+    // of that one is due.
+    pub(crate) fn is_ahead(&self) -> bool
+        ensures { result ≡ is_ahead self.now }
+    {
+        match self.task {
+            Task::BurstWrite(_, _) => {
+                matches!(
+                    self.state,
+                    State::Doing(Job::At(Place::Confirm), Phase::Data)
+                )
+            }
+            _ => false,
+        }
+    }
+
+    /// What has to be sent next.
+    pub fn cue(&self) -> Cue
+        ensures cue { result ≡ cue_of self.now }
+        ensures range { IsPhaseCue result }
+    {
+        match self.state {
+            State::Leading => Cue::Lead {
+                ones: 56,
+                switch: true,
+                zeros: 2,
+            },
+            State::Doing(job, Phase::Ask) => Cue::Ask(job.request(self.task)),
+            State::Doing(job, Phase::Data) => self.data_cue(job),
+            State::Doing(_, Phase::Waited | Phase::Faulted) => Cue::Pass,
+            State::Resting(_) => Cue::Rest,
+        }
+    }
+
+    fn data_cue(&self, job: Job) -> Cue
+        requires { self.now.state ≡ State.Doing job Phase.Data }
+        ensures cue { result ≡ cue_of self.now }
+        ensures range { IsPhaseCue result }
+    {
+        if self.is_ahead() {
+            return Cue::Rest;
+        }
+        match job.word(self.task) {
+            Some(word) => Cue::Give(phase_of(word)),
+            None => Cue::Take,
+        }
+    }
+
+    /// What the engine has come to, where its cue is `Rest`.
+    pub fn finished(&self) -> Option<Outcome>
+        ensures { result ≡ finished_of self.now }
+    {
+        if self.is_ahead() {
+            return Some(Outcome::Answered(Answer::Written));
+        }
+        match self.state {
+            State::Resting(outcome) => Some(outcome),
+            _ => None,
+        }
+    }
+
+    /// 1 where the access in hand isn't answered and its DRW request was sent, else 0.
+    pub fn begun(&self) -> u8
+        ensures { result ≡ bit (is_begun self.now) }
+    {
+        u8::from(self.begun && !self.is_ahead())
+    }
+
+    /// How many requests were sent. It stays at its greatest value once there.
+    pub fn requests(&self) -> u64
+        ensures { result ≡ requests_of self.now }
+    {
+        self.requests
+    }
+
+    /// The three bits that were seen after a request, the first in time least significant.
+    pub fn seen(&mut self, seen: u8)
+        requires range { seen < 8 }
+        requires cue { is_ask (cue_of self.old) ≡ true }
+        ensures open { open_requests self.new + 1 ≤ open_requests self.old }
+        ensures requests { requests_of self.new ≡ one_more (requests_of self.old) }
+        ensures sees { Sees seen self.old self.new }
+        ensures tracks { Keeps (Hears seen) self.old self.new }
+        ensures meets { Meets false None self.old self.new }
+    {
+        let State::Doing(job, _) = self.state else {
+            unreachable!()
+        };
+        self.requests = self.requests.saturating_add(1);
+        self.begun = job.begins() | self.begun;
+        self.state = acknowledged(job, seen);
+    }
+
+    /// What the cue said was sent: a lead, the data phase of a write, or a turnaround.
+    pub fn done(&mut self)
+        requires { is_send (cue_of self.old) ≡ true }
+        ensures lands { lands_from self.old self.new }
+        ensures tracks { Keeps HasSent self.old self.new }
+        ensures meets { MeetsSent self.old self.new }
+    {
+        let State::Doing(job, phase) = self.state else {
+            self.state = State::Doing(Job::At(Place::Identify), Phase::Ask);
+            return;
+        };
+        match phase {
+            Phase::Data => self.sent(job),
+            Phase::Waited => self.waited(job),
+            Phase::Faulted => self.faulted(job),
+            Phase::Ask => unreachable!(),
+        }
+    }
+
+    /// The 33 bits of a read's data phase, the first in time least significant.
+    pub fn taken(&mut self, bits: u64)
+        requires range { bits < 2 ^ 33 }
+        requires cue { is_take (cue_of self.old) ≡ true }
+        ensures lands { lands_from self.old self.new }
+        ensures tracks { Keeps (HasRead (word_in bits)) self.old self.new }
+        ensures meets { MeetsRead (word_in bits) self.old self.new }
+    {
+        let State::Doing(job, _) = self.state else {
+            unreachable!()
+        };
+        match word_in_phase(bits) {
+            Some(word) => self.told(job, word),
+            None => self.garbled(job),
+        }
+    }
+}
+
+// Where a request is once its acknowledgement was seen.
+fn acknowledged(job: Job, seen: u8) -> State
+    requires { seen < 8 }
+    ensures { result ≡ state_seen job seen }
+{
+    match Ack::of(seen) {
+        Some(Ack::Ok) => State::Doing(job, Phase::Data),
+        Some(Ack::Wait) => State::Doing(job, Phase::Waited),
+        Some(Ack::Fault) => State::Doing(job, Phase::Faulted),
+        None => State::Resting(Outcome::Stopped(End::Lost)),
+    }
+}

@@ -1,0 +1,60 @@
+//! The sticky flags of the debug port, as a host reads and clears them.
+ghost use Rattle.std.specs.Prelude.{◌≡◌};
+ghost use Rattle.swd_host.specs.Flags.{flags_in, clear_word, is_powered, is_configured};
+
+use bitflags::Flags as _;
+use swd_port::{Abort, CtrlStat};
+
+/// The sticky flags that a host meets.
+#[derive(Clone, Copy, Debug, PartialEq, Eq)]
+pub struct Flags {
+    /// STICKYERR: a transfer was a bus error.
+    pub error: bool,
+    /// WDATAERR: the data of a write came with wrong parity.
+    pub damaged: bool,
+}
+
+// The flags in a word of CTRL/STAT.
+pub(crate) fn flags_of(word: u32) -> Flags
+    ensures { result ≡ flags_in word }
+{
+    let status = CtrlStat::of(word);
+    Flags {
+        error: status.contains(CtrlStat::STICKYERR),
+        damaged: status.contains(CtrlStat::WDATAERR),
+    }
+}
+
+impl Flags {
+    // The word of ABORT that clears them.
+    pub(crate) fn clearing(self) -> u32
+        ensures { result ≡ clear_word self }
+    {
+        let error = if self.error {
+            Abort::STKERRCLR.bits()
+        } else {
+            0
+        };
+        let damaged = if self.damaged {
+            Abort::WDERRCLR.bits()
+        } else {
+            0
+        };
+        error + damaged
+    }
+}
+
+// Both power acknowledgements are set.
+pub(crate) fn is_powered(word: u32) -> bool
+    ensures { result ≡ is_powered word }
+{
+    let status = CtrlStat::of(word);
+    status.contains(CtrlStat::CDBGPWRUPACK) && status.contains(CtrlStat::CSYSPWRUPACK)
+}
+
+// CSW has words, increments, and an enabled device.
+pub(crate) fn is_configured(word: u32) -> bool
+    ensures { result ≡ is_configured word }
+{
+    word % 8 == 2 && word / 16 % 4 == 1 && word / 64 % 2 == 1
+}

@@ -1,0 +1,16 @@
+//! The host's side of a serial wire: an engine that says what has to be sent next, and `run`, which
+//! does a list of accesses over any wire, each once.
+#![tactic(auto)]
+
+mod engine;
+mod flags;
+mod outcome;
+mod phase;
+mod request;
+mod running;
+mod step;
+mod task;
+
+pub use engine::{Cue, Engine};
+pub use outcome::{End, Outcome, Refused, Report};
+pub use running::run;

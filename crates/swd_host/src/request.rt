@@ -1,0 +1,201 @@
+//! The requests that a host sends: the opening, an access, and what is sent where something went
+//! wrong.
+ghost use Rattle.std.specs.Prelude.{◌≡◌};
+ghost use Rattle.swd_host.specs.Requests.{request_of, word_for, next_place, confirmed_by, again_at, is_exempt};
+ghost use Rattle.swd_host.specs.Requests.{begins, debug_port};
+
+use crate::flags::Flags;
+use crate::task::Task;
+use swd_bits::{Reg4, Request};
+
+/// A place in the two sequences of a host: the opening, and an access.
+#[derive(Clone, Copy, Debug, PartialEq, Eq)]
+pub(crate) enum Place {
+    /// DPIDR is read: it wakes the target.
+    Identify,
+    /// ABORT is written: the flags that an earlier host left are cleared.
+    Wipe,
+    /// CTRL/STAT is read: no flag is left.
+    Inspect,
+    /// SELECT is written: access port 0, bank 0.
+    Select,
+    /// CTRL/STAT is written: power is asked for.
+    Power,
+    /// CTRL/STAT is read: power is there.
+    Powered,
+    /// CSW is written: words, and TAR increments.
+    Configure,
+    /// CSW is read, posted.
+    Recall,
+    /// RDBUFF is read: CSW is as it was written.
+    Configured,
+    /// TAR is written.
+    Aim,
+    /// DRW is read or written.
+    Transfer,
+    /// What confirms the access: RDBUFF is read, or DRW is written for the next access of a burst.
+    Confirm,
+}
+
+/// A request that the engine sends, and why.
+#[derive(Clone, Copy, Debug, PartialEq, Eq)]
+pub(crate) enum Job {
+    /// The request at a place.
+    At(Place),
+    /// RESEND, since the word at this place came with wrong parity.
+    Resend(Place),
+    /// CTRL/STAT is read, since the request at this place was answered FAULT.
+    Status(Place),
+    /// CTRL/STAT is read, since RESEND was answered FAULT.
+    LastStatus,
+    /// ABORT is written, to clear these flags, which the request at this place met.
+    Clear(Place, Flags),
+    /// CTRL/STAT is read after that.
+    Check(Place, Flags),
+}
+
+const fn debug_port(read: bool, addr: Reg4) -> Request
+    ensures { result ≡ debug_port read addr }
+{
+    Request {
+        ap: false,
+        read,
+        addr,
+    }
+}
+
+impl Place {
+    fn request(self, task: Task) -> Request
+        ensures { result ≡ request_of (Job.At self) task }
+    {
+        let (ap, read, addr) = match self {
+            Place::Identify => (false, true, Reg4::R0),
+            Place::Wipe => (false, false, Reg4::R0),
+            Place::Inspect | Place::Powered => (false, true, Reg4::R4),
+            Place::Select => (false, false, Reg4::R8),
+            Place::Power => (false, false, Reg4::R4),
+            Place::Configure => (true, false, Reg4::R0),
+            Place::Recall => (true, true, Reg4::R0),
+            Place::Configured => (false, true, Reg4::RC),
+            Place::Aim => (true, false, Reg4::R4),
+            Place::Transfer => (true, task.is_read(), Reg4::RC),
+            Place::Confirm => match task {
+                Task::BurstWrite(_, _) => (true, false, Reg4::RC),
+                _ => (false, true, Reg4::RC),
+            },
+        };
+        Request { ap, read, addr }
+    }
+
+    // The word that is written here.
+    fn word(self, task: Task) -> Option<u32>
+        ensures { result ≡ word_for (Job.At self) task }
+    {
+        match self {
+            Place::Wipe => Some(0x0000_001e),
+            Place::Select => Some(0x0000_0000),
+            Place::Power => Some(0x5000_0000),
+            Place::Configure => Some(0x2300_0012),
+            Place::Aim => Some(task.address()),
+            Place::Transfer => match task {
+                Task::Read(_) => None,
+                Task::Write(_, word) | Task::BurstWrite(_, word) => Some(word),
+            },
+            _ => None,
+        }
+    }
+
+    // What follows here where all is well.
+    pub(crate) fn next(self) -> Place
+        ensures { result ≡ next_place self }
+    {
+        match self {
+            Place::Identify => Place::Wipe,
+            Place::Wipe => Place::Inspect,
+            Place::Inspect => Place::Select,
+            Place::Select => Place::Power,
+            Place::Power => Place::Powered,
+            Place::Powered => Place::Configure,
+            Place::Configure => Place::Recall,
+            Place::Recall | Place::Configured => Place::Configured,
+            Place::Aim => Place::Transfer,
+            Place::Transfer | Place::Confirm => Place::Confirm,
+        }
+    }
+
+    // The request that gives the word of this place again, where its parity was wrong: what RDBUFF gave
+    // comes by RESEND, since reading it again would give another value.
+    pub(crate) fn again(self) -> Job
+        ensures { result ≡ again_at self }
+    {
+        match self {
+            Place::Configured | Place::Confirm => Job::Resend(self),
+            _ => Job::At(self),
+        }
+    }
+
+    // The write that the request here confirms: where that write's data was damaged, this request
+    // is answered FAULT. `aims` says whether TAR was written for the access.
+    pub(crate) fn confirms(self, task: Task, aims: bool) -> Option<Place>
+        ensures { result ≡ confirmed_by self task aims }
+    {
+        match self {
+            Place::Inspect => Some(Place::Wipe),
+            Place::Power => Some(Place::Select),
+            Place::Powered => Some(Place::Power),
+            Place::Recall => Some(Place::Configure),
+            Place::Transfer => { if aims { Some(Place::Aim) } else { None } }
+            Place::Confirm => match task {
+                Task::Read(_) => None,
+                _ => Some(Place::Transfer),
+            },
+            _ => None,
+        }
+    }
+}
+
+impl Job {
+    // The request, by the access in hand.
+    pub(crate) fn request(self, task: Task) -> Request
+        ensures { result ≡ request_of self task }
+    {
+        match self {
+            Job::At(place) => place.request(task),
+            Job::Resend(_) => debug_port(true, Reg4::R8),
+            Job::Clear(_, _) => debug_port(false, Reg4::R0),
+            Job::Status(_) | Job::LastStatus | Job::Check(_, _) => debug_port(true, Reg4::R4),
+        }
+    }
+
+    // The word that is written, where it is a write.
+    pub(crate) fn word(self, task: Task) -> Option<u32>
+        ensures { result ≡ word_for self task }
+    {
+        match self {
+            Job::At(place) => place.word(task),
+            Job::Clear(_, owed) => Some(owed.clearing()),
+            _ => None,
+        }
+    }
+
+    // It is the DRW request of the access in hand.
+    pub(crate) fn begins(self) -> bool
+        ensures { result ≡ begins self }
+    {
+        matches!(self, Job::At(Place::Transfer))
+    }
+
+    // It is never answered WAIT or FAULT.
+    pub(crate) fn is_exempt(self) -> bool
+        ensures { result ≡ is_exempt self }
+    {
+        match self {
+            Job::At(place) => matches!(
+                place,
+                Place::Identify | Place::Wipe | Place::Inspect | Place::Powered
+            ),
+            Job::Resend(_) => false,
+            _ => true,
+        }
+    }
+}

@@ -1,0 +1,195 @@
+//! Runs an engine over a wire.
+ghost use Rattle.std.specs.Prelude.{◌≡◌, ◌<◌, ◌≤◌, ◌%◌, ℕ, Some, None, true, false, IfOk, IfErr, IfNone, IfSome};
+ghost use Rattle.std.specs.Prelude.{length};
+ghost use Rattle.swd_bits.specs.Bits.{bit};
+ghost use Rattle.swd_port.specs.declared.wire.Due.TheVariants.{Nothing};
+ghost use Rattle.swd_host.specs.Plain.{AreAccesses, HasRanges, is_aligned};
+ghost use Rattle.swd_host.specs.Engines.{finished_of, is_ahead, is_begun, is_resting, may_start};
+ghost use Rattle.swd_host.specs.Progress.{calls_left};
+ghost use Rattle.swd_host.specs.Tasks.{access_of};
+ghost use Rattle.swd_host.specs.Tracks.{DueFits};
+ghost use Rattle.swd_host.specs.Turns.{Goes, GoesFrom, GoesOn, IsNew, Starts, answered_as, opened_as};
+ghost use Rattle.swd_host.specs.Reports.{Follower, RefusedAs, RunsOver, told_by, told_of};
+
+use crate::engine::{Cue, Engine};
+use crate::outcome::{End, Outcome, Refused, Report};
+use std::alloc::Global;
+use swd_port::{Access, Answer, Wire};
+
+const MOST: usize = 65_536;
+
+// One call of the wire, as the engine asks for it.
+fn turn<W: Wire>(wire: &mut W, engine: &mut Engine)
+    requires due { DueFits engine.old (W.port wire.old) }
+    requires goes_on { is_resting engine.old ≡ false }
+    ensures due { DueFits engine.new (W.port wire.new) }
+    ensures goes { Goes engine.old (W.port wire.old) engine.new (W.port wire.new) }
+    ensures falls { calls_left engine.new < calls_left engine.old }
+    ensures plan { W.plan wire.new ≡ W.plan wire.old }
+{
+    match engine.cue() {
+        Cue::Lead {
+            ones,
+            switch,
+            zeros,
+        } => {
+            wire.lead(ones, switch, zeros);
+            engine.done();
+        }
+        Cue::Ask(request) => {
+            let seen = wire.ask(request);
+            engine.seen(seen);
+        }
+        Cue::Take => {
+            let bits = wire.take();
+            engine.taken(bits);
+        }
+        Cue::Give(bits) => {
+            wire.give(bits);
+            engine.done();
+        }
+        Cue::Pass => {
+            wire.pass();
+            engine.done();
+        }
+        Cue::Rest => {}
+    }
+}
+
+// Goes on to the engine's next outcome.
+fn drive<W: Wire>(wire: &mut W, engine: &mut Engine) -> Outcome
+    requires { DueFits engine.old (W.port wire.old) }
+    ensures due { DueFits engine.new (W.port wire.new) }
+    ensures goes { Goes engine.old (W.port wire.old) engine.new (W.port wire.new) }
+    ensures finished { finished_of engine.new ≡ Some result }
+    ensures plan { W.plan wire.new ≡ W.plan wire.old }
+{
+    loop {
+        if let Some(outcome) = engine.finished() {
+            return outcome;
+        }
+        turn(wire, engine);
+    }
+}
+
+// The address is a multiple of 4.
+fn is_aligned(access: Access) -> bool
+    ensures aligned { result ≡ is_aligned access }
+    ensures ranges { HasRanges access }
+{
+    let (Access::Read(addr) | Access::Write(addr, _)) = access;
+    addr % 4 == 0
+}
+
+// Why a list isn't done.
+fn refusal(accesses: &[Access]) -> Option<Refused>
+    ensures none { IfNone result ((length accesses.now ≤ 65536) × AreAccesses accesses.now) }
+    ensures refused { IfSome result (RefusedAs accesses.now) }
+{
+    if accesses.len() > MOST {
+        return Some(Refused::TooMany);
+    }
+    for (index, access) in accesses.iter().enumerate() {
+        if !is_aligned(*access) {
+            return Some(Refused::Unaligned { index });
+        }
+    }
+    None
+}
+
+// The opening.
+fn open<W: Wire>(wire: &mut W, engine: &mut Engine) -> Result<(), End>
+    requires due { (W.port wire.old).link.due ≡ Nothing }
+    requires new { IsNew engine.old.tries engine.old }
+    ensures due { DueFits engine.new (W.port wire.new) }
+    ensures goes { Goes engine.old (W.port wire.old) engine.new (W.port wire.new) }
+    ensures finished { engine.new.state ≡ opened_as result }
+    ensures plan { W.plan wire.new ≡ W.plan wire.old }
+{
+    match drive(wire, engine) {
+        Outcome::Stopped(end) => Err(end),
+        _ => Ok(()),
+    }
+}
+
+// The access after the one at this index.
+fn following(accesses: &[Access], index: usize) -> Option<Access>
+    requires { index < length accesses.now }
+    ensures { IfSome result (Follower index accesses.now) }
+{
+    accesses.get(index + 1).copied()
+}
+
+// One access.
+fn access<W: Wire>(
+    wire: &mut W,
+    engine: &mut Engine,
+    access: Access,
+    following: Option<Access>,
+) -> Result<Answer, End>
+    requires due { DueFits engine.old (W.port wire.old) }
+    requires rests { may_start (finished_of engine.old) ≡ true }
+    requires chain { GoesOn engine.old access }
+    ensures due { DueFits engine.new (W.port wire.new) }
+    ensures goes { GoesFrom access following engine.old (W.port wire.old) engine.new (W.port wire.new) }
+    ensures finished { finished_of engine.new ≡ Some (answered_as result) }
+    ensures plan { W.plan wire.new ≡ W.plan wire.old }
+{
+    engine.start(access, following);
+    match drive(wire, engine) {
+        Outcome::Answered(answer) => Ok(answer),
+        Outcome::Stopped(end) => Err(end),
+        Outcome::Opened => unreachable!(),
+    }
+}
+
+/// Does the accesses in order, each once, over a wire that is just made.
+///
+/// The answers are those of the first accesses of the list. A run that isn't whole ends at a lost
+/// acknowledgement, after which nothing more is sent, or where an access or the opening met more than
+/// `tries` events. A run that is whole ends with eight idle cycles.
+pub fn run<W: Wire>(
+    alloc: Global,
+    wire: &mut W,
+    accesses: &[Access],
+    tries: u32,
+) -> Result<Report, Refused>
+    requires { (W.port wire.old).link.due ≡ Nothing }
+    ensures fits { IfOk result (λ report.
+        RunsOver accesses.now tries (told_of report) (W.port wire.old) (W.port wire.new)) }
+    ensures accepted { IfOk result (λ report. (length accesses.now ≤ 65536) × AreAccesses accesses.now) }
+    ensures refused { IfErr result (RefusedAs accesses.now) }
+    ensures untouched { IfErr result (λ refused. wire.new ≡ wire.old) }
+    ensures plan { W.plan wire.new ≡ W.plan wire.old }
+{
+    if let Some(refused) = refusal(accesses) {
+        return Err(refused);
+    }
+    let Ok(mut answers) = Vec::with_capacity(alloc, accesses.len()) else {
+        return Err(Refused::Memory);
+    };
+    let mut engine = Engine::new(tries);
+    if let Err(end) = open(wire, &mut engine) {
+        return Ok(reported(answers, &engine, end));
+    }
+    for (index, next) in accesses.iter().enumerate() {
+        let following = following(accesses, index);
+        match access(wire, &mut engine, *next, following) {
+            Ok(answer) => answers.push(answer).unwrap(),
+            Err(end) => return Ok(reported(answers, &engine, end)),
+        }
+    }
+    wire.lead(0, false, 8);
+    Ok(reported(answers, &engine, End::All))
+}
+
+fn reported(answers: Vec<Answer>, engine: &Engine, ended: End) -> Report
+    ensures { told_of result ≡ told_by answers.items engine.now ended }
+{
+    Report {
+        answers,
+        begun: engine.begun(),
+        requests: engine.requests(),
+        ended,
+    }
+}

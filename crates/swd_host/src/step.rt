@@ -1,0 +1,256 @@
+//! The steps of the engine's own: from what a request came to, to the next request or an outcome.
+ghost use Rattle.std.specs.Prelude.{◌≡◌, ◌+◌, ◌-◌, ◌&&◌, ℕ, true, false, not, Option, Some, None};
+ghost use Rattle.swd_host.specs.Events.{Meets, is_damaged_clearing, is_damaged_write, is_event, is_event_at};
+ghost use Rattle.swd_host.specs.Events.{is_flagged, is_unpowered, wrong_id, wrong_id_read};
+ghost use Rattle.swd_host.specs.Flags.{is_configured};
+ghost use Rattle.swd_host.specs.Requests.{is_exempt, is_unread, is_write};
+ghost use Rattle.swd_host.specs.Turns.{LandsAnswered, LandsAt, LandsFrom};
+ghost use Rattle.swd_host.specs.Tracks.{Before, Checks, Comes, ComesWith, Earns, FaultedAt, HasAsked, Refused, Taken};
+ghost use Rattle.swd_host.specs.Tracks.{TakenFor, TookAt, Waiting, WasSent};
+
+use crate::engine::{Engine, Phase, State};
+use crate::flags::{Flags, flags_of, is_configured, is_powered};
+use crate::outcome::{End, Outcome};
+use crate::request::{Job, Place};
+use crate::task::next_in_kilobyte;
+use swd_port::Answer;
+
+impl Engine {
+    // An event, and then this request.
+    pub(crate) fn event(&mut self, job: Job)
+        ensures tracks { Comes (λ n b k t. Before job (n + 1) b k t) self.old self.new }
+        ensures lands { LandsAt job self.old self.new }
+        ensures meets { Meets true None self.old self.new }
+    {
+        if self.events >= self.tries {
+            self.state = State::Resting(Outcome::Stopped(End::TriesOut));
+        } else {
+            self.events += 1;
+            self.state = State::Doing(job, Phase::Ask);
+        }
+    }
+
+    // The flags after ABORT was written.
+    pub(crate) fn check(&mut self, place: Place, owed: Flags, now: Flags)
+        ensures tracks { ComesWith now (Checks place owed) self.old self.new }
+        ensures lands { LandsFrom (Job.Check place owed) Phase.Data self.old self.new }
+        ensures meets { Meets (is_damaged_clearing owed now) None self.old self.new }
+    {
+        if !now.error && !now.damaged {
+            if owed.error {
+                self.answer(Answer::BusFault);
+            } else {
+                let again = place.confirms(self.task, self.aims).unwrap_or(place);
+                self.state = State::Doing(Job::At(again), Phase::Ask);
+            }
+        } else if now.damaged && now.error == owed.error {
+            self.event(Job::Clear(place, now));
+        } else {
+            self.state = State::Resting(Outcome::Stopped(End::Confused));
+        }
+    }
+
+    // The access is answered. A transfer that was done leaves TAR at the next address, but at the end
+    // of a kilobyte.
+    pub(crate) fn answer(&mut self, answer: Answer)
+        ensures tracks { Comes (Earns answer) self.old self.new }
+        ensures lands { LandsAnswered self.old self.new }
+        ensures meets { Meets false None self.old self.new }
+    {
+        self.tar = match answer {
+            Answer::BusFault => None,
+            _ => next_in_kilobyte(self.task.address()),
+        };
+        self.begun = false;
+        self.state = State::Resting(Outcome::Answered(answer));
+    }
+
+    // The data phase of a write was sent.
+    pub(crate) fn sent(&mut self, job: Job)
+        requires { is_write job self.old.task ≡ true }
+        ensures tracks { Comes (WasSent job) self.old self.new }
+        ensures lands { LandsFrom job Phase.Data self.old self.new }
+        ensures meets { Meets false None self.old self.new }
+    {
+        let next = match job {
+            Job::At(place) => Job::At(place.next()),
+            Job::Clear(place, owed) => Job::Check(place, owed),
+            _ => unreachable!(),
+        };
+        self.state = State::Doing(next, Phase::Ask);
+    }
+
+    // The request was answered WAIT.
+    pub(crate) fn waited(&mut self, job: Job)
+        ensures tracks { Comes (Waiting job) self.old self.new }
+        ensures lands { LandsFrom job Phase.Waited self.old self.new }
+        ensures meets { Meets (not (is_exempt job)) None self.old self.new }
+    {
+        if job.is_exempt() {
+            self.state = State::Resting(Outcome::Stopped(End::Confused));
+        } else {
+            self.event(job);
+        }
+    }
+
+    // The request was answered FAULT.
+    pub(crate) fn faulted(&mut self, job: Job)
+        ensures tracks { Comes (FaultedAt job) self.old self.new }
+        ensures lands { LandsFrom job Phase.Faulted self.old self.new }
+        ensures meets { Meets false None self.old self.new }
+    {
+        self.state = if job.is_exempt() {
+            State::Resting(Outcome::Stopped(End::Confused))
+        } else {
+            match job {
+                Job::At(place) => State::Doing(Job::Status(place), Phase::Ask),
+                _ => State::Doing(Job::LastStatus, Phase::Ask),
+            }
+        };
+    }
+
+    // The word that was read had wrong parity.
+    pub(crate) fn garbled(&mut self, job: Job)
+        requires { is_write job self.old.task ≡ false }
+        ensures tracks { Comes (TakenFor job None) self.old self.new }
+        ensures lands { LandsFrom job Phase.Data self.old self.new }
+        ensures meets { Meets (is_event job None self.old.task self.old.aims) None self.old self.new }
+    {
+        match job {
+            Job::At(place) if self.is_unread(place) => self.pass_over(place),
+            Job::At(place) => self.event(place.again()),
+            other => self.event(other),
+        }
+    }
+
+    // This word was read.
+    pub(crate) fn told(&mut self, job: Job, word: u32)
+        requires { is_write job self.old.task ≡ false }
+        ensures tracks { Comes (TakenFor job (Some word)) self.old self.new }
+        ensures lands { LandsFrom job Phase.Data self.old self.new }
+        ensures meets { Meets (is_event job (Some word) self.old.task self.old.aims) (wrong_id_read job (Some word)) self.old self.new }
+    {
+        match job {
+            Job::At(place) if self.is_unread(place) => self.pass_over(place),
+            Job::At(place) | Job::Resend(place) => self.value(place, word),
+            Job::Status(place) => self.status(place, flags_of(word)),
+            Job::Check(place, owed) => self.check(place, owed, flags_of(word)),
+            Job::LastStatus | Job::Clear(_, _) => {
+                self.state = State::Resting(Outcome::Stopped(End::Confused));
+            }
+        }
+    }
+
+    // The word that is read here isn't looked at: that of a posted read, and RDBUFF's after a write.
+    fn is_unread(&self, place: Place) -> bool
+        ensures { result ≡ is_unread place self.now.task }
+    {
+        match place {
+            Place::Recall | Place::Transfer => true,
+            Place::Confirm => !self.task.is_read(),
+            _ => false,
+        }
+    }
+
+    // Goes on from a word that isn't looked at.
+    fn pass_over(&mut self, place: Place)
+        requires { is_unread place self.old.task ≡ true }
+        ensures tracks { (word : Option ℕ) → Comes (TookAt place word) self.old self.new }
+        ensures lands { LandsFrom (Job.At place) Phase.Data self.old self.new }
+        ensures meets { Meets false None self.old self.new }
+    {
+        match place {
+            Place::Confirm => self.answer(Answer::Written),
+            _ => self.state = State::Doing(Job::At(place.next()), Phase::Ask),
+        }
+    }
+
+    // The word that was read at a place of the sequence.
+    fn value(&mut self, place: Place, word: u32)
+        ensures tracks { Comes (Taken place word) self.old self.new }
+        ensures lands { LandsFrom (Job.At place) Phase.Data self.old self.new }
+        ensures meets { Meets (is_event_at place word) (wrong_id place word) self.old self.new }
+    {
+        match place {
+            Place::Identify => self.identified(word),
+            Place::Inspect => self.inspected(flags_of(word)),
+            Place::Powered => self.powered(flags_of(word), is_powered(word)),
+            Place::Configured => self.configured(is_configured(word)),
+            Place::Confirm => self.answer(Answer::Value(word)),
+            _ => self.state = State::Resting(Outcome::Stopped(End::Confused)),
+        }
+    }
+
+    // DPIDR was read.
+    fn identified(&mut self, word: u32)
+        ensures tracks { Comes (Taken Place.Identify word) self.old self.new }
+        ensures lands { LandsFrom (Job.At Place.Identify) Phase.Data self.old self.new }
+        ensures meets { Meets false (wrong_id Place.Identify word) self.old self.new }
+    {
+        self.state = if word % 2 == 1 {
+            State::Doing(Job::At(Place::Wipe), Phase::Ask)
+        } else {
+            State::Resting(Outcome::Stopped(End::WrongId(word)))
+        };
+    }
+
+    // CTRL/STAT was read after the flags were cleared.
+    fn inspected(&mut self, flags: Flags)
+        ensures tracks { ComesWith flags (Before (Job.At Place.Inspect)) self.old self.new }
+        ensures lands { LandsFrom (Job.At Place.Inspect) Phase.Data self.old self.new }
+        ensures meets { Meets (is_flagged flags) None self.old self.new }
+    {
+        if flags.error || flags.damaged {
+            self.event(Job::At(Place::Wipe));
+        } else {
+            self.state = State::Doing(Job::At(Place::Select), Phase::Ask);
+        }
+    }
+
+    // CTRL/STAT was read after power was asked for.
+    fn powered(&mut self, flags: Flags, powered: bool)
+        ensures tracks { ComesWith flags (HasAsked powered) self.old self.new }
+        ensures lands { LandsFrom (Job.At Place.Powered) Phase.Data self.old self.new }
+        ensures meets { Meets (is_unpowered flags powered) None self.old self.new }
+    {
+        if flags.error {
+            self.state = State::Resting(Outcome::Stopped(End::Confused));
+        } else if flags.damaged {
+            self.event(Job::Clear(Place::Powered, flags));
+        } else if powered {
+            self.state = State::Doing(Job::At(Place::Configure), Phase::Ask);
+        } else {
+            self.event(Job::At(Place::Powered));
+        }
+    }
+
+    // CSW was read back. TAR isn't known yet.
+    fn configured(&mut self, right: bool)
+        ensures tracks { (word : ℕ) → right ≡ is_configured word → Comes (Taken Place.Configured word) self.old self.new }
+        ensures lands { LandsFrom (Job.At Place.Configured) Phase.Data self.old self.new }
+        ensures meets { Meets false None self.old self.new }
+    {
+        self.tar = None;
+        self.state = if right {
+            State::Resting(Outcome::Opened)
+        } else {
+            State::Resting(Outcome::Stopped(End::Confused))
+        };
+    }
+
+    // The flags after the request at a place was answered FAULT.
+    fn status(&mut self, place: Place, flags: Flags)
+        ensures tracks { ComesWith flags (Refused place) self.old self.new }
+        ensures lands { LandsFrom (Job.Status place) Phase.Data self.old self.new }
+        ensures meets { Meets (is_damaged_write place self.old.task self.old.aims flags) None self.old self.new }
+    {
+        let write = place.confirms(self.task, self.aims);
+        match (flags.error, flags.damaged) {
+            (false, true) if write.is_some() => self.event(Job::Clear(place, flags)),
+            (true, false) if matches!(place, Place::Confirm) => {
+                self.state = State::Doing(Job::Clear(place, flags), Phase::Ask);
+            }
+            _ => self.state = State::Resting(Outcome::Stopped(End::Confused)),
+        }
+    }
+}
