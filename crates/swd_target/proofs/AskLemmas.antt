@@ -17,7 +17,7 @@ use Rattle.swd_port.specs.Asking.{Asks, AsksNow, IsSettled, IsWordRead, value_in
 use Rattle.swd_port.specs.Moving.{Gives, GivesNow, Arrival, after_bits, arrival}
 use Rattle.swd_target.specs.declared.target.Target.{Target}
 use Rattle.swd_target.specs.Flips.{line_flipped, line_under}
-use Rattle.swd_target.specs.Simulations.{Simulation, stepped, transferred, accepted, is_owed, settled, reply_to, phase_to, link_after, asked}
+use Rattle.swd_target.specs.Simulations.{Simulation, stepped, transferred, accepted_after, is_owed, settled, reply_to, phase_to, link_after, asked}
 use Rattle.swd_target.specs.Targets.{state_of, simulation, stand_in, choice_for, answer_at, reply_when, settled_when}
 use Rattle.swd_target.specs.Requests.{port_at, Transfers, AsksUnder, AnswersUnder, DataComes}
 use Rattle.swd_target.proofs.TargetLemmas.{is_choice}
@@ -85,8 +85,7 @@ settled_at mark waits q s deaf wait =
 -- the simulated target after a reply
 abbrev pub after_now : Request → Simulation → Reply → Register → Simulation
 after_now q a reply r =
-    let t = stepped (λ c. target_after reply r q.ap) a in
-    if is_okay reply then accepted t else t
+    accepted_after reply (stepped (λ c. target_after reply r q.ap) a)
 
 -- what a request is exactly, from its parts
 pub record Exactly (mark : Mark) (q : Request) (s t : Simulation) (reply : Reply) (phase : Line) : Type 0 where
@@ -97,7 +96,7 @@ pub record Exactly (mark : Mark) (q : Request) (s t : Simulation) (reply : Reply
 asks_exactly : (mark : Mark) (waits : Bool) (q : Request) (s a b t : Simulation) (r : Register) (reply : Reply) (phase : Line)
     → is_deaf mark ≡ false → is_wait mark ≡ waits → register s.state.select q ≡ r → a ≡ settled_when waits r q.ap s → register a.state.select q ≡ r
     → reply ≡ reply_when waits r (answer_at r q.ap a.state) → phase ≡ line_after reply (phase_after q.read r None (value_in r a.quirks.filler a.state)) Idle
-    → b ≡ stepped (λ c. target_after reply r q.ap) a → t ≡ (if is_okay reply then accepted b else b)
+    → b ≡ stepped (λ c. target_after reply r q.ap) a → t ≡ accepted_after reply b
     → Exactly mark q s t reply (line_under mark phase)
 asks_exactly mark waits q s a b t r reply phase deaf wait named settles same replies phases after last =
     let S : settled mark q s ≡ a =
@@ -112,7 +111,7 @@ asks_exactly mark waits q s a b t r reply phase deaf wait named settles same rep
     let lined : line_under mark phase ≡ line_after reply (phase_after q.read (register a.state.select q) (flip_of mark) (value_in (register a.state.select q) a.quirks.filler a.state)) Idle =
     subst (λ (x : Register). line_under mark phase ≡ line_after reply (phase_after q.read x (flip_of mark) (value_in x a.quirks.filler a.state)) Idle) (sym same) lines in
     let P = λ (x : Simulation) (y : Reply). line_under mark phase ≡ line_after y (phase_after q.read (register x.state.select q) (flip_of mark) (value_in (register x.state.select q) x.quirks.filler x.state)) Idle in
-    let ended : t ≡ after_now q a reply r = last ∙ ap (λ (x : Simulation). if is_okay reply then accepted x else x) after in
+    let ended : t ≡ after_now q a reply r = last ∙ ap (accepted_after reply) after in
     let there' : t ≡ after_now q a reply (register a.state.select q) = subst (λ (x : Register). t ≡ after_now q a reply x) (sym same) ended in
     let Q = λ (x : Simulation) (y : Reply). t ≡ after_now q x y (register x.state.select q) in
     record {
@@ -130,7 +129,7 @@ pub answers_under : (mark : Mark) (waits : Bool) (q : Request) (s a b t : Target
     → phase ≡ line_after reply (phase_after q.read r None (value_in r (stand_in r a) (state_of a))) Idle
     → phase ≡ line_after reply (phase_after q.read r None (value_in r a.quirks.filler (simulation a).state)) Idle
     → state_of b ≡ target_after reply r q.ap (state_of a) → simulation b ≡ stepped (λ c. target_after reply r q.ap) (simulation a)
-    → Transfers (state_of b) (state_of t) → simulation t ≡ (if is_okay reply then accepted (simulation b) else simulation b)
+    → Transfers (state_of b) (state_of t) → simulation t ≡ accepted_after reply (simulation b)
     → AnswersUnder mark q s reply (line_under mark phase) t
 answers_under mark waits q s a b t r reply phase legal deaf wait named same before settles replies settled word lawful exact after after' later last =
     let law = λ (l : Link) (n : Tally). asks_under l n (state_of s) (state_of a) (state_of b) (state_of t) mark r reply (choice_for r a) q (line_under mark phase)

@@ -1,5 +1,5 @@
 -- A bench as a port machine with a plan, and as a simulated target. All of it is this project's choice.
-use Rattle.std.specs.Prelude.{ℕ, List}
+use Rattle.std.specs.Prelude.{ℕ, List, take}
 use Rattle.swd_bits.specs.declared.request.Request.{Request}
 use Rattle.swd_port.specs.declared.mark.Mark.{Mark}
 use Rattle.swd_port.specs.declared.register.Register.TheVariants.{DrwRead}
@@ -16,6 +16,10 @@ use Rattle.swd_target.specs.Marks.{mark_at}
 -- what is due, and the data phase that its target is in
 abbrev pub link_of : Bench → Link
 link_of b = record { due = b.due; line = b.line }
+
+-- the marks of its requests so far, as far as its plan goes
+abbrev pub marks_so_far : Bench → List Mark
+marks_so_far b = take b.plan.asked.ticks b.plan.marks.items
 
 -- its numbers of requests
 abbrev pub tally_of : Bench → Tally
@@ -42,8 +46,10 @@ abbrev pub choice_of : Bench → Choice
 choice_of b = choice_for DrwRead b.target
 
 -- the link after a request
-abbrev pub link_asked : Mark → Request → Simulation → Link → Link
-link_asked mark q s l = link_after mark q (reply_to mark q s) (phase_to mark q s) l
+abbrev pub link_asked : Request → Bench → Link
+link_asked q b =
+    let s = simulation_of b in
+    link_after (next_mark b) q (reply_to (next_mark b) q s) (phase_to (next_mark b) q s) (link_of b)
 
 -- the simulated target after a line reset of so many ones, or none
 abbrev pub led : ℕ → Link → Simulation → Simulation

@@ -25,19 +25,22 @@ Transfers s t = (t ≡ s) ⊎ ((c : Choice) × IsChoice c × (t ≡ completion_o
 
 -- one call of `ask` under a mark: a step of the port machine
 abbrev pub AsksUnder : Mark → Port → Request → ℕ → Port → Type 0
-AsksUnder mark s q seen t = (a : Port) × (b : Port) × (c : Choice) × Completes s a × AsksNow mark c a q seen b × Completes b t
+AsksUnder mark s q seen t =
+    (a : Port) × (b : Port) × (c : Choice) × Completes s a × AsksNow mark c a q seen b × Completes b t
 
--- A request under a mark, with its reply and the data phase as it arrives: a step of the port machine, and exactly the step that the
--- quirks and the mark choose.
+-- A request under a mark, with its reply and the data phase as it arrives: a step of the port machine, and exactly the
+-- step that the quirks and the mark choose.
 pub record AnswersUnder (mark : Mark) (q : Request) (s : Target) (reply : Reply) (phase : Line) (t : Target) : Type 0 where
-  pub step : (l : Link) (n : Tally) → AsksUnder mark (port_at l n (state_of s)) q (seen_at mark reply) (port_at (link_after mark q reply phase l) (tally_after mark n) (state_of t))
+  pub step : (l : Link) (n : Tally) → AsksUnder mark (port_at l n (state_of s)) q (seen_at mark reply)
+      (port_at (link_after mark q reply phase l) (tally_after mark n) (state_of t))
   pub replies : reply ≡ reply_to mark q (simulation s)
   pub phases : phase ≡ phase_to mark q (simulation s)
   pub exact : simulation t ≡ asked mark q (simulation s)
 
 -- a request that the target sees, where WAIT is asked for or not: the same under each mark that asks for no more
 pub record Answers (waits : Bool) (q : Request) (s : Target) (reply : Reply) (phase : Line) (t : Target) : Type 0 where
-  pub under : (mark : Mark) → IsMark mark → is_deaf mark ≡ false → is_wait mark ≡ waits → AnswersUnder mark q s reply (line_under mark phase) t
+  pub under : (mark : Mark) → IsMark mark → is_deaf mark ≡ false → is_wait mark ≡ waits
+      → AnswersUnder mark q s reply (line_under mark phase) t
 
 -- the data of a write: a step of the port machine, and exactly the step that the quirks choose
 pub record DataComes (a : Arrival) (s t : Target) : Type 0 where

@@ -1,5 +1,5 @@
--- What a simulated target does where the port machine leaves it free: when a transfer takes effect, how TAR ends a kilobyte and what
--- becomes of it at a bus error, and what an unknown value reads as. All of it is this project's choice.
+-- What a simulated target does where the port machine leaves it free: when a transfer takes effect, how TAR ends a
+-- kilobyte and what becomes of it at a bus error, and what an unknown value reads as. It is all this project's choice.
 use Rattle.std.specs.Prelude.{ℕ, not, Bool, true, false, Some, None, unwrap_or, if◌then◌else◌}
 use Rattle.swd_bits.specs.declared.request.Request.{Request}
 use Rattle.swd_port.specs.declared.mark.Mark.{Mark}
@@ -22,8 +22,8 @@ pub record Simulation : Type 0 where
   pub quirks : Quirks
   pub state : State
 
--- A state that a step of the port machine leaves: where it has TAR unknown, TAR keeps its address, and where it has a value unknown,
--- that is the filler.
+-- A state that a step of the port machine leaves: where it has TAR unknown, TAR keeps its address, and where it has a
+-- value unknown, that is the filler.
 abbrev pub filled : Simulation → State → Simulation
 filled s t = record s {
   state = record t {
@@ -59,10 +59,11 @@ is_owed r Okay = not (is_exempt r)
 is_owed r Faults = not (is_exempt r)
 is_owed r reply = false
 
--- the state in which a request is replied to: the pending transfer has taken effect where the reply is OK or FAULT then, and else
--- it is pending still
+-- the state in which a request is replied to: the pending transfer has taken effect where the reply is OK or FAULT
+-- then, and else it is pending still
 abbrev pub settled : Mark → Request → Simulation → Simulation
-settled mark q s = if is_owed (register s.state.select q) (reply_in mark (transferred s).state q) then transferred s else s
+settled mark q s =
+    if is_owed (register s.state.select q) (reply_in mark (transferred s).state q) then transferred s else s
 
 -- the reply to a request under a mark
 abbrev pub reply_to : Mark → Request → Simulation → Reply
@@ -79,17 +80,23 @@ phase_to mark q s =
     let r = register a.state.select q in
     line_after (reply_to mark q s) (phase_after q.read r (flip_of mark) (value_in r a.quirks.filler a.state)) Idle
 
+-- what an OK accepted takes effect as the quirks say
+abbrev pub accepted_after : Reply → Simulation → Simulation
+accepted_after reply s = if is_okay reply then accepted s else s
+
 -- what is due after a request, and the data phase that the target is in
 abbrev pub link_after : Mark → Request → Reply → Line → Link → Link
-link_after mark q reply phase l = record { due = due_after q.read (seen_at mark reply); line = line_after reply phase l.line }
+link_after mark q reply phase l = record {
+  due = due_after q.read (seen_at mark reply);
+  line = line_after reply phase l.line;
+}
 
 -- the simulated target after it
 abbrev pub asked : Mark → Request → Simulation → Simulation
 asked mark q s =
     let a = settled mark q s in
     let reply = reply_to mark q s in
-    let t = stepped (λ c. target_after reply (register a.state.select q) q.ap) a in
-    if is_okay reply then accepted t else t
+    accepted_after reply (stepped (λ c. target_after reply (register a.state.select q) q.ap) a)
 
 -- a write is done, and not damaged
 abbrev pub is_done : Arrival → Bool

@@ -1,12 +1,19 @@
 -- The target of the code as that of the port machine, and as a simulated one.
-use Rattle.std.specs.Prelude.{ℕ, ◌≡◌, ◌||◌, ◌&&◌, not, Bool, false, Some, if◌then◌else◌}
+use Rattle.std.specs.Prelude.{ℕ, ◌≡◌, ◌||◌, ◌&&◌, not, Bool, false, Some, None, if◌then◌else◌}
+use Rattle.std.specs.Option.{option_map}
 use Rattle.swd_port.specs.declared.register.Register.{Register}
 use Rattle.swd_port.specs.declared.register.Register.TheVariants.{ResendRead, DrwRead}
+use Rattle.swd_port.specs.declared.state.Line.{Line}
+use Rattle.swd_port.specs.declared.state.Line.TheVariants.{Idle}
+use Rattle.swd_port.specs.declared.state.Reset.TheVariants.{Fresh}
 use Rattle.swd_port.specs.declared.state.Reply.{Reply}
 use Rattle.swd_port.specs.declared.state.Reply.TheVariants.{Okay, Waits, Silent}
+use Rattle.swd_port.specs.Registers.{bit_of}
 use Rattle.swd_port.specs.Port.{Target as State}
 use Rattle.swd_port.specs.Choices.{Choice, IsChoice}
 use Rattle.swd_port.specs.Answers.{answer, is_exempt, is_unpowered, may_wait}
+use Rattle.swd_port.specs.Completion.{fails, next_address}
+use Rattle.swd_port.specs.Asking.{value_in, phase_after, line_after}
 use Rattle.swd_target.specs.declared.quirks.Quirks.{Quirks}
 use Rattle.swd_target.specs.declared.target.Target.{Target}
 use Rattle.swd_target.specs.Contents.{known_word}
@@ -36,7 +43,11 @@ state_of t = record {
 abbrev pub simulation : Target → Simulation
 simulation t = record {
   quirks = t.quirks;
-  state = record (state_of t) { tar = Some t.tar.word; buffer = Some t.buffer.word; last_returned = Some t.last_returned.word };
+  state = record (state_of t) {
+    tar = Some t.tar.word;
+    buffer = Some t.buffer.word;
+    last_returned = Some t.last_returned.word;
+  };
 }
 
 -- the word that stands for the value of a read, where that is unknown
@@ -71,8 +82,35 @@ abbrev pub settled_when : Bool → Register → Bool → Simulation → Simulati
 settled_when waits r ap s =
     if is_owed r (reply_when waits r (answer_at r ap (transferred s).state)) then transferred s else s
 
--- the code's test for it, where the pending transfer would fail or not: WAIT comes in place of an OK alone, and so not over a bus error
+-- the code's test for it, where the pending transfer would fail or not: WAIT comes in place of an OK alone, and so not
+-- over a bus error
 abbrev pub is_settling : Bool → Register → Reply → Bool → Bool
 is_settling waits r Silent failing = false
 is_settling waits r Okay failing = not (is_exempt r) && (not waits || failing)
 is_settling waits r a failing = not (is_exempt r)
+
+-- the same of a target
+abbrev pub settles_first : Bool → Register → Bool → Target → Bool
+settles_first waits r ap t = is_settling waits r (answer_at r ap (state_of t)) (fails t.pending t.tar.word t.memory)
+
+-- the data phase that follows a reply, where this word stands for an unknown one
+abbrev pub phase_in : Reply → Bool → Register → ℕ → State → Line
+phase_in reply read r filler s = line_after reply (phase_after read r None (value_in r filler s)) Idle
+
+-- TAR after a transfer that succeeded
+abbrev pub incremented : Choice → State → State
+incremented c s = record s { tar = if s.increments then option_map (next_address c.wraps) s.tar else s.tar }
+
+-- the flags after a write of ABORT, and the power requests after a write of CTRL/STAT
+abbrev pub flags_cleared : ℕ → State → State
+flags_cleared word s = record s {
+  sticky_error = s.sticky_error && not (bit_of 2 word);
+  write_error = s.write_error && not (bit_of 3 word);
+}
+
+abbrev pub power_set : ℕ → State → State
+power_set word s = record s { debug_power = bit_of 28 word; system_power = bit_of 30 word }
+
+-- a line reset, which ends the data phase of a write or not
+abbrev pub line_reset : Bool → State → State
+line_reset awaiting s = record s { reset = Fresh; write_error = awaiting || s.write_error }

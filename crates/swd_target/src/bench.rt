@@ -26,6 +26,14 @@ use swd_port::{Due, Line, Mark, Wire};
 /// Where the standard leaves a choice it goes by its quirks: when a DRW transfer takes effect, how
 /// TAR ends a kilobyte, and what an unknown value reads as. At a bus error TAR keeps its address.
 /// WAIT is answered at a `Wait` mark alone, where OK would be answered otherwise.
+///
+/// ```ignore
+/// let memory = Memory::new(alloc, 0x2000_0000, 16, 16)?;
+/// let mut bench = Bench::new(memory, quirks, Vec::new(alloc));
+/// bench.lead(56, true, 2);
+/// bench.ask(Register::DpidrRead.request()); // 1: OK, and a data phase is due
+/// word_of(bench.take()); // Some(0x2ba0_1477)
+/// ```
 #[derive(Drop)]
 pub struct Bench {
     target: Target,
@@ -87,7 +95,8 @@ impl Bench {
 }
 
 impl Wire for Bench {
-    ghost use Rattle.swd_target.specs.Benches.{port_of, link_of, tally_of, simulation_of, plan_of, next_mark, link_asked, led, given};
+    ghost use Rattle.swd_target.specs.Benches.{port_of, link_of, tally_of, simulation_of, plan_of, next_mark};
+    ghost use Rattle.swd_target.specs.Benches.{link_asked, led, given};
 
     ghost port = { port_of };
 
@@ -116,7 +125,7 @@ impl Wire for Bench {
         ensures step { Asks (port_of self.old) request result (port_of self.new) }
         ensures sees { result ≡ seen_to (next_mark self.old) request (simulation_of self.old) }
         ensures exact { simulation_of self.new ≡ asked (next_mark self.old) request (simulation_of self.old) }
-        ensures link { link_of self.new ≡ link_asked (next_mark self.old) request (simulation_of self.old) (link_of self.old) }
+        ensures link { link_of self.new ≡ link_asked request self.old }
         ensures tally { tally_of self.new ≡ tally_after (next_mark self.old) (tally_of self.old) }
         ensures plan { plan_of self.new ≡ plan_of self.old }
     {

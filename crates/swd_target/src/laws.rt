@@ -1,14 +1,14 @@
 //! Laws of the bench. A function here does nothing: its contract is the law.
-ghost use Rattle.std.specs.Prelude.{◌≡◌, ◌≤◌, take};
+ghost use Rattle.std.specs.Prelude.{◌≡◌, ◌≤◌};
 ghost use Rattle.swd_port.specs.Choices.{disturbed_among, lost_among};
 ghost use Rattle.swd_target.specs.declared.bench.Bench.{Bench};
-ghost use Rattle.swd_target.specs.Benches.{port_of, plan_of};
+ghost use Rattle.swd_target.specs.Benches.{port_of, plan_of, marks_so_far};
 
 /// The numbers of disturbed and of lost requests of a bench are counts over the marks that it used,
 /// and so at most those over its whole plan.
 pub fn marks_used()
-    ensures disturbed { (b : Bench) → (port_of b).tally.disturbed ≡ disturbed_among (take (port_of b).tally.asked (plan_of b)) }
-    ensures lost { (b : Bench) → (port_of b).tally.lost ≡ lost_among (take (port_of b).tally.asked (plan_of b)) }
+    ensures disturbed { (b : Bench) → (port_of b).tally.disturbed ≡ disturbed_among (marks_so_far b) }
+    ensures lost { (b : Bench) → (port_of b).tally.lost ≡ lost_among (marks_so_far b) }
     ensures disturbed_most { (b : Bench) → (port_of b).tally.disturbed ≤ disturbed_among (plan_of b) }
     ensures lost_most { (b : Bench) → (port_of b).tally.lost ≤ lost_among (plan_of b) }
 {}

@@ -1,5 +1,6 @@
 //! The memory behind a simulated access port.
-ghost use Rattle.std.specs.Prelude.{◌≡◌, ◌≢◌, ◌↔◌, ◌+◌, ◌*◌, ◌<◌, ◌≤◌, ◌%◌, ◌^◌, ℕ, MatchOption, IfOk, IsErrOf};
+ghost use Rattle.std.specs.Prelude.{◌≡◌, ◌≢◌, ◌↔◌, ◌+◌, ◌*◌, ◌<◌, ◌≤◌, ◌%◌, ◌^◌, ℕ, MatchOption};
+ghost use Rattle.std.specs.Prelude.{IfOk, IsErrOf};
 ghost use Rattle.std.specs.FinMap.{get};
 ghost use Rattle.swd_port.specs.PlainMemory.{succeeds_at, plain_answer, plain_after};
 ghost use Rattle.swd_target.specs.MemoryWords.{zero_memory};
@@ -47,13 +48,20 @@ impl Model for Memory {
 
     ghost view = { λ m. record { words = words_from m.base m.words.items; log = m.log.items; room = m.room } };
 
-    ghost invariant = { λ m. record { aligned : m.base % 4 ≡ 0; end : m.base + 4 * vec_len m.words ≤ 2 ^ 32; logged : vec_len m.log ≤ m.room; room : m.room ≤ vec_capacity m.log } };
+    ghost invariant = { λ m. record {
+      aligned : m.base % 4 ≡ 0;
+      end : m.base + 4 * vec_len m.words ≤ 2 ^ 32;
+      logged : vec_len m.log ≤ m.room;
+      room : m.room ≤ vec_capacity m.log;
+    } };
 }
 
 // The place of the word at an address, where there is one.
 fn place(base: u32, words: usize, addr: u32) -> Option<usize>
     requires { base + 4 * words ≤ 2 ^ 32 }
-    ensures { MatchOption result ((i : ℕ) → i < words → base + 4 * i ≡ addr → ⊥) (λ i. (i < words) × (base + 4 * i ≡ addr)) }
+    ensures { MatchOption result
+        ((i : ℕ) → i < words → base + 4 * i ≡ addr → ⊥)
+        (λ i. (i < words) × (base + 4 * i ≡ addr)) }
 {
     if addr < base {
         return None;

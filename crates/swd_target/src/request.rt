@@ -1,13 +1,11 @@
 //! A request at a simulated target, and the data of a write: the port that each bench stands on.
-ghost use Rattle.std.specs.Prelude.{◌≡◌, ◌<◌, ◌^◌, None, if◌then◌else◌};
-ghost use Rattle.swd_port.specs.declared.state.Line.TheVariants.{Idle};
+ghost use Rattle.std.specs.Prelude.{◌≡◌, ◌<◌, ◌^◌};
 ghost use Rattle.swd_port.specs.Phases.{word_in};
 ghost use Rattle.swd_port.specs.Choices.{IsMark};
-ghost use Rattle.swd_port.specs.Answers.{is_okay};
-ghost use Rattle.swd_port.specs.Asking.{IsWordRead, value_in, line_after, phase_after};
+ghost use Rattle.swd_port.specs.Asking.{IsWordRead, value_in};
 ghost use Rattle.swd_port.specs.Moving.{arrival, arrival_of, bits_driven};
 ghost use Rattle.swd_target.specs.Flips.{flip_place, awaited_flip};
-ghost use Rattle.swd_target.specs.Simulations.{accepted};
+ghost use Rattle.swd_target.specs.Simulations.{accepted_after};
 
 use crate::phase::{flip_bit, flip_line, flip_under, phase_of, phase_word};
 use crate::register::register_named;
@@ -16,7 +14,7 @@ use swd_bits::Request;
 use swd_port::{Line, Mark, Register, Reply};
 
 impl Target {
-    ghost use Rattle.swd_target.specs.Targets.{state_of, simulation, stand_in};
+    ghost use Rattle.swd_target.specs.Targets.{state_of, simulation, stand_in, phase_in};
     ghost use Rattle.swd_target.specs.Requests.{Answers, AnswersUnder, DataComes, Transfers};
 
     // A request where WAIT is asked for or not: the reply, and the data phase that follows an OK.
@@ -35,7 +33,7 @@ impl Target {
     // What an OK accepted takes effect as the quirks say.
     fn accept_after(&mut self, reply: Reply)
         ensures effect { Transfers (state_of self.old) (state_of self.new) }
-        ensures exact { simulation self.new ≡ (if is_okay reply then accepted (simulation self.old) else simulation self.old) }
+        ensures exact { simulation self.new ≡ accepted_after reply (simulation self.old) }
     {
         if let Reply::Okay = reply {
             self.accept();
@@ -44,8 +42,8 @@ impl Target {
 
     // The data phase that follows a reply.
     fn phase(&self, reply: Reply, register: Register, read: bool) -> Line
-        ensures phase { result ≡ line_after reply (phase_after read register None (value_in register (stand_in register self.now) (state_of self.now))) Idle }
-        ensures exact { result ≡ line_after reply (phase_after read register None (value_in register self.now.quirks.filler (simulation self.now).state)) Idle }
+        ensures phase { result ≡ phase_in reply read register (stand_in register self.now) (state_of self.now) }
+        ensures exact { result ≡ phase_in reply read register self.now.quirks.filler (simulation self.now).state }
         ensures word { IsWordRead reply read (value_in register (stand_in register self.now) (state_of self.now)) }
         ensures driven { bits_driven result < 2 ^ 33 }
     {

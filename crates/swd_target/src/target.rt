@@ -45,7 +45,8 @@ pub(crate) struct Target {
 }
 
 impl Target {
-    ghost use Rattle.swd_target.specs.Targets.{state_of, simulation, stand_in, Steps, answer_at, reply_when, settled_when};
+    ghost use Rattle.swd_target.specs.Targets.{state_of, simulation, stand_in, answer_at, reply_when, settled_when};
+    ghost use Rattle.swd_target.specs.Targets.{Steps, incremented, flags_cleared, power_set, line_reset};
     ghost use Rattle.swd_target.specs.Requests.{Transfers};
 
     pub(crate) fn new(memory: Memory, quirks: Quirks) -> Target
@@ -113,7 +114,7 @@ impl Target {
 
     // TAR after a transfer that succeeded.
     fn step_address(&mut self)
-        ensures { Steps (λ c s. record s { tar = (if s.increments then option_map (next_address c.wraps) s.tar else s.tar) }) self.old self.new }
+        ensures { Steps incremented self.old self.new }
     {
         if self.increments {
             self.tar.word = next(self.quirks.wrap, self.tar.word);
@@ -288,7 +289,7 @@ impl Target {
 
     // A write of ABORT.
     fn clear_flags(&mut self, word: u32)
-        ensures { Steps (λ c s. record s { sticky_error = s.sticky_error && not (bit_of 2 word); write_error = s.write_error && not (bit_of 3 word) }) self.old self.new }
+        ensures { Steps (λ c. flags_cleared word) self.old self.new }
     {
         let abort = Abort::of(word);
         self.sticky_error &= !abort.contains(Abort::STKERRCLR);
@@ -297,7 +298,7 @@ impl Target {
 
     // A write of CTRL/STAT.
     fn set_power(&mut self, word: u32)
-        ensures { Steps (λ c s. record s { debug_power = bit_of 28 word; system_power = bit_of 30 word }) self.old self.new }
+        ensures { Steps (λ c. power_set word) self.old self.new }
     {
         let control = CtrlStat::of(word);
         self.debug_power = control.contains(CtrlStat::CDBGPWRUPREQ);
@@ -314,7 +315,7 @@ impl Target {
     // A line reset changes no register. Write data that was awaited is taken from its ones, whose
     // parity is wrong.
     pub(crate) fn line_reset(&mut self, awaiting: bool)
-        ensures { Steps (λ c s. record s { reset = Fresh; write_error = awaiting || s.write_error }) self.old self.new }
+        ensures { Steps (λ c. line_reset awaiting) self.old self.new }
     {
         if awaiting {
             self.write_error = true;
@@ -328,7 +329,7 @@ impl Target {
 // late as is allowed, and TAR wraps or carries on at the end of a kilobyte, as the quirks say. WAIT
 // is answered at a mark for it and nowhere else, and not over a bus error.
 impl Target {
-    ghost use Rattle.swd_target.specs.Targets.{state_of, simulation, Steps, answer_at, is_settling};
+    ghost use Rattle.swd_target.specs.Targets.{state_of, simulation, Steps, settles_first};
     ghost use Rattle.swd_target.specs.Requests.{Transfers};
 
     // A register whose value is unknown.
@@ -371,7 +372,7 @@ impl Target {
     // The pending transfer has to take effect before the reply: that is OK or FAULT, to a request
     // that may get WAIT. WAIT comes in place of an OK alone, and so not over a bus error.
     fn settles_before(&self, waits: bool, register: Register, ap: bool) -> bool
-        ensures { result ≡ is_settling waits register (answer_at register ap (state_of self.now)) (fails self.now.pending self.now.tar.word self.now.memory) }
+        ensures { result ≡ settles_first waits register ap self.now }
     {
         if is_exempt(register) {
             return false;
