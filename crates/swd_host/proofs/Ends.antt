@@ -1,15 +1,12 @@
 -- What an outcome says of the memory.
-use Rattle.std.proofs.Common.{◌≡◌, ◌≢◌, ◌+◌, ◌%◌, ◌^◌, ◌<◌, ◌≤◌, ℕ, Bool, true, false, refl, sym, ap, subst, inl}
-use Rattle.std.proofs.Common.{inr, arith, ◌∙◌}
-use Rattle.std.specs.Prelude.{Option, Some, None, ◌⊎◌, ◌&&◌, not, if◌then◌else◌, Result, Ok, Err}
-use Rattle.swd_port.specs.declared.access.Access.{Access}
-use Rattle.swd_port.specs.declared.access.Access.TheVariants.{Read as AccessRead, Write as AccessWrite}
+use Rattle.std.proofs.Common.{◌≡◌, ◌≢◌, ◌+◌, ◌%◌, ◌^◌, ◌<◌, ◌≤◌, ℕ, Bool, true, false, refl, sym, ap, subst, inl, inr}
+use Rattle.std.proofs.Common.{arith, ◌∙◌}
+use Rattle.std.specs.Prelude.{Some, None, ◌⊎◌, ◌&&◌, not, if◌then◌else◌, Result, Ok, Err}
 use Rattle.swd_port.specs.declared.access.Answer.{Answer}
 use Rattle.swd_port.specs.declared.access.Answer.TheVariants.{Written}
 use Rattle.swd_port.specs.declared.register.Register.TheVariants.{DrwWrite}
 use Rattle.swd_port.specs.PlainMemory.{PlainMemory, address, plain_answer, plain_after}
 use Rattle.swd_port.specs.Port.{Port}
-use Rattle.swd_port.specs.Transfers.{Advanced}
 use Rattle.swd_port.specs.Choices.{Choice}
 use Rattle.swd_port.specs.Completion.{completed}
 use Rattle.swd_port.proofs.CompletionLaws.{becomes_completed}
@@ -20,19 +17,16 @@ use Rattle.swd_host.specs.declared.outcome.Outcome.TheVariants.{Opened, Answered
 use Rattle.swd_host.specs.declared.task.Task.{Task}
 use Rattle.swd_host.specs.declared.task.Task.TheVariants.{Read, Write, BurstWrite}
 use Rattle.swd_host.specs.declared.request.Place.TheVariants.{Confirm}
-use Rattle.swd_host.specs.declared.request.Job.{Job}
 use Rattle.swd_host.specs.declared.request.Job.TheVariants.{At}
-use Rattle.swd_host.specs.declared.engine.Phase.{Phase}
 use Rattle.swd_host.specs.declared.engine.Phase.TheVariants.{Data}
 use Rattle.swd_host.specs.declared.engine.State.{State}
 use Rattle.swd_host.specs.declared.engine.State.TheVariants.{Leading, Doing, Resting}
 use Rattle.swd_host.specs.declared.engine.Engine.{Engine}
-use Rattle.swd_host.specs.Plain.{IsAccess}
 use Rattle.swd_host.specs.Tasks.{access_of, is_burst}
 use Rattle.swd_host.specs.Engines.{is_ahead_at, is_ahead_in, is_ahead, is_begun, finished_at, finished_of}
 use Rattle.swd_host.specs.Progress.{is_state_of}
-use Rattle.swd_host.specs.Tracks.{Hand, Counted, Writes, whole, changed, Up, Within, IsReady, Finished, Confirmed}
-use Rattle.swd_host.specs.Tracks.{Confirms, StoppedAt, Rests, Tracks, Follows, hand_of, IsTask, DueAt}
+use Rattle.swd_host.specs.Tracks.{Hand, Counted, Writes, whole, changed, Within, Finished, Confirmed, Confirms}
+use Rattle.swd_host.specs.Tracks.{StoppedAt, Rests, Tracks, Follows, hand_of, IsTask, DueAt}
 use Rattle.swd_host.specs.Turns.{opened_as}
 use Rattle.swd_host.specs.Reports.{EndsAt}
 use Rattle.swd_host.specs.Standing.{Poised, Waits}
@@ -73,8 +67,9 @@ pub opening_state : (x : State) (task : Task) (outcome : Outcome) → is_state_o
 opening_state x task outcome opening h =
     elim (outcome_case x task outcome h) [
       | inl is ↦ is
-      | inr ahead ↦ absurd (let never : false ≡ true = sym (ap (is_state_of true) (ahead_state x task ahead.0))
-          ∙ opening in cc)
+      | inr ahead ↦
+          (let there : is_state_of true x ≡ false = ap (is_state_of true) (ahead_state x task ahead.0) in
+          absurd (let never : false ≡ true = sym there ∙ opening in cc))
     ]
 
 opening_rests : (outcome : Outcome) → is_state_of true (Resting outcome) ≡ true
@@ -167,8 +162,8 @@ answered_ahead base m f t ahead h =
     let n : ℕ = base.disturbed + f.events in
     let is : f.state ≡ Doing (At Confirm) Data = ahead_state f.state f.task ahead in
     let burst : is_burst f.task ≡ true = ahead_burst f.state f.task ahead in
-    let x : Writes DrwWrite n (λ c. Confirmed c f.begun (hand_of f m) t) t = burst_confirms f.task n f.begun
-    (hand_of f m) t burst
+    let x : Writes DrwWrite n (λ c. Confirmed c f.begun (hand_of f m) t) t =
+    burst_confirms f.task n f.begun (hand_of f m) t burst
     (subst (λ y. Tracks y n f.tries base f.begun (hand_of f m) t) is h.tracks) in
     record {
       waits = subst (λ c. Waits c n (hand_of f (plain_after (access_of f.task) m)) t) (sym ahead)

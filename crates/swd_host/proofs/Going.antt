@@ -1,16 +1,11 @@
 -- Calls one after the other.
-use Rattle.std.proofs.Common.{◌≡◌, ◌+◌, ◌-◌, ◌*◌, ◌^◌, ◌≤◌, ◌<◌, ℕ, Bool, true, false, refl, sym, ap, arith, ◌∙◌}
-use Rattle.std.specs.Prelude.{Option, Some, None, is_some}
+use Rattle.std.proofs.Common.{◌≡◌, ◌+◌, ◌-◌, ◌*◌, ◌≤◌, Bool, true, false, refl, sym, ap, arith, ◌∙◌}
+use Rattle.std.specs.Prelude.{is_some}
 use Rattle.swd_bits.specs.Bits.{bit}
-use Rattle.swd_port.specs.PlainMemory.{PlainMemory}
 use Rattle.swd_port.specs.Port.{Port}
-use Rattle.swd_host.specs.declared.outcome.End.TheVariants.{Lost}
-use Rattle.swd_host.specs.declared.outcome.Outcome.TheVariants.{Stopped}
-use Rattle.swd_host.specs.declared.engine.State.TheVariants.{Resting}
 use Rattle.swd_host.specs.declared.engine.Engine.{Engine}
 use Rattle.swd_host.specs.Engines.{is_resting, finished_at}
-use Rattle.swd_host.specs.Progress.{least_in, open_requests, is_state_of}
-use Rattle.swd_host.specs.Tracks.{Counted, Follows}
+use Rattle.swd_host.specs.Progress.{least_in, open_requests}
 use Rattle.swd_host.specs.Turns.{Goes, IsCountable}
 
 pub goes_refl : (e : Engine) (s : Port) → Goes e s e s
@@ -28,8 +23,10 @@ goes_refl e s = record {
   disturbed = omega arith;
   lost = omega arith;
   asked = λ few. omega arith;
-  lost_early = λ on base m h opening is. absurd (let rests : true ≡ is_resting e =
-      sym (ap (λ x. is_some (finished_at x e.task)) is) in let both : true ≡ false = rests ∙ on in cc);
+  lost_early = λ on base m h opening is. absurd (
+      let rests : is_resting e ≡ true = ap (λ x. is_some (finished_at x e.task)) is in
+      let both : true ≡ false = sym rests ∙ on in
+      cc);
 }
 
 by_cases : (b : Bool) (P : Type 0) → (b ≡ true → P) → (b ≡ false → P) → P
@@ -55,7 +52,8 @@ goes_then e f g s t u on a b =
       disturbed = omega (arith, a.disturbed, b.disturbed);
       lost = omega (arith, a.lost, b.lost);
       asked = λ few. omega (arith, a.asked few, b.asked (countable few));
-      lost_early = λ start base m h opening is. (let early : g.requests + 1 + 5 *
-          (g.tries - g.events) ≤ f.requests + open_requests f = b.lost_early on base m (a.follows base m h)
-          (a.part true opening) is in omega (arith, a.spends));
+      lost_early = λ start base m h opening is. (
+          let early : g.requests + 1 + 5 * (g.tries - g.events) ≤ f.requests + open_requests f =
+          b.lost_early on base m (a.follows base m h) (a.part true opening) is in
+          omega (arith, a.spends));
     }

@@ -10,6 +10,7 @@ use Rattle.swd_port.specs.PlainMemory.{PlainMemory, plain_answer, plain_after}
 use Rattle.swd_host.specs.Addresses.{continues}
 use Rattle.swd_host.specs.Plain.{memory_after, answers_of, is_aligned, IsAccess, AreAccesses, HasRanges}
 use Rattle.swd_host.specs.Reports.{Follower}
+use Rattle.swd_host.specs.Standing.{ContinuesAt}
 
 -- WHAT THEY LEAVE, AND WHAT THEY ARE ANSWERED
 memory_append : (xs ys : List Access) (m : PlainMemory)
@@ -28,8 +29,8 @@ memory_next list i d m l =
     ap (λ xs. memory_after xs m) (take_at_read list i d l).1 ∙ memory_append (take i list) (get_or list i d ∷ []) m
 
 pub answers_next : (list : List Access) (i : ℕ) (d : Access) (m : PlainMemory) → i < length list
-    → answers_of (take (i + 1) list) m ≡ answers_of (take i list) m ++ plain_answer (get_or list i d)
-    (memory_after (take i list) m) ∷ []
+    → answers_of (take (i + 1) list) m
+    ≡ answers_of (take i list) m ++ plain_answer (get_or list i d) (memory_after (take i list) m) ∷ []
 answers_next list i d m l =
     ap (λ xs. answers_of xs m) (take_at_read list i d l).1 ∙ answers_append (take i list) (get_or list i d ∷ []) m
 
@@ -54,14 +55,13 @@ are_next list i d l h a =
     subst AreAccesses (sym (take_at_read list i d l).1) (are_more (take i list) (get_or list i d) h a)
 
 -- THE ACCESS THAT FOLLOWS
-pub some_follows : (list : List Access) (i : ℕ) (fo : Option Access) → IfSome fo (Follower i list)
-    → (b : Access) → fo ≡ Some b → Follower i list b
+pub some_follows : (list : List Access) (i : ℕ) (following : Option Access) → IfSome following (Follower i list)
+    → (b : Access) → following ≡ Some b → Follower i list b
 some_follows list i None h b e = absurd (cc)
 some_follows list i (Some a) h b e = let same : a ≡ b = cc in subst (Follower i list) same h
 
-pub follower_continues : (list : List Access) (i at : ℕ) (fo : Option Access) → continues at fo ≡ true
-    → ((b : Access) → fo ≡ Some b → Follower i list b)
-    → (i + 1 < length list) × ((d : Access) → continues at (Some (get_or list (i + 1) d)) ≡ true)
+pub follower_continues : (list : List Access) (i at : ℕ) (following : Option Access) → continues at following ≡ true
+    → ((b : Access) → following ≡ Some b → Follower i list b) → ContinuesAt list (i + 1) at
 follower_continues list i at None on next = absurd (cc)
 follower_continues list i at (Some b) on next =
     let f = next b refl in

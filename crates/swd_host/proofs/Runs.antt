@@ -1,15 +1,12 @@
 -- From what holds between two accesses to what the report says.
-use Rattle.std.proofs.Common.{◌≡◌, ◌≢◌, ◌+◌, ◌-◌, ◌*◌, ◌%◌, ◌^◌, ◌<◌, ◌≤◌, ℕ, Bool, true, false, refl, sym, ap}
-use Rattle.std.proofs.Common.{subst, inl, inr, arith, ◌∙◌, List, [], ◌∷◌, ◌++◌, length, take, zero, suc, get_or}
-use Rattle.std.proofs.Common.{length-append}
-use Rattle.std.specs.Prelude.{Option, Some, None, ◌&&◌, not, is_some}
+use Rattle.std.proofs.Common.{◌≡◌, ◌≢◌, ◌+◌, ◌-◌, ◌*◌, ◌%◌, ◌^◌, ◌<◌, ◌≤◌, ℕ, Bool, true, false, refl, sym, ap, subst}
+use Rattle.std.proofs.Common.{inl, inr, arith, ◌∙◌, List, [], ◌∷◌, ◌++◌, length, take, zero, suc, get_or, length-append}
+use Rattle.std.specs.Prelude.{◌⊎◌, Option, Some, None, ◌&&◌, not, is_some}
 use Rattle.swd_bits.specs.Bits.{bit}
 use Rattle.swd_port.specs.declared.access.Access.{Access}
 use Rattle.swd_port.specs.declared.access.Answer.{Answer}
-use Rattle.swd_port.specs.declared.wire.Due.TheVariants.{Nothing}
 use Rattle.swd_port.specs.PlainMemory.{PlainMemory, address, plain_answer, plain_after}
 use Rattle.swd_port.specs.Port.{Port, made}
-use Rattle.swd_port.specs.Choices.{Choice}
 use Rattle.swd_port.specs.Completion.{completed}
 use Rattle.swd_port.specs.Leading.{Leads}
 use Rattle.swd_port.specs.Moves.{Passed}
@@ -18,40 +15,86 @@ use Rattle.swd_port.proofs.CompletionLaws.{same}
 use Rattle.swd_host.specs.declared.outcome.End.{End}
 use Rattle.swd_host.specs.declared.outcome.End.TheVariants.{All, Lost}
 use Rattle.swd_host.specs.declared.outcome.Outcome.TheVariants.{Opened, Answered, Stopped}
-use Rattle.swd_host.specs.declared.task.Task.{Task}
-use Rattle.swd_host.specs.declared.task.Task.TheVariants.{Read, Write, BurstWrite}
-use Rattle.swd_host.specs.declared.engine.State.TheVariants.{Leading, Resting}
+use Rattle.swd_host.specs.declared.request.Place.TheVariants.{Confirm}
+use Rattle.swd_host.specs.declared.request.Job.TheVariants.{At}
+use Rattle.swd_host.specs.declared.engine.Phase.TheVariants.{Data}
+use Rattle.swd_host.specs.declared.engine.State.TheVariants.{Doing, Resting}
 use Rattle.swd_host.specs.declared.engine.Engine.{Engine}
-use Rattle.swd_host.specs.Addresses.{continues, is_known}
+use Rattle.swd_host.specs.Addresses.{continues}
 use Rattle.swd_host.specs.Plain.{memory_after, answers_of, AreAccesses}
-use Rattle.swd_host.specs.Tasks.{access_of, is_burst, task_for}
+use Rattle.swd_host.specs.Tasks.{access_of, is_burst}
 use Rattle.swd_host.specs.Engines.{is_ahead, is_ahead_in, is_begun, is_resting, finished_at, finished_of, may_start}
 use Rattle.swd_host.specs.Progress.{left_in, least_in, open_requests, is_state_of}
 use Rattle.swd_host.specs.Tracks.{Hand, Counted, IsWithin, IsReady, Tracks, Follows, hand_of, DueAt, DueFits}
-use Rattle.swd_host.specs.Turns.{IsNew, IsCountable, Starts, Goes, GoesOn, first_state}
-use Rattle.swd_host.specs.Reports.{Told, FitsAt, Fits, EndsAt, RunFits, Follower}
-use Rattle.swd_host.specs.Standing.{Waits, Reached, Stands}
+use Rattle.swd_host.specs.Turns.{IsNew, Starts, Goes}
+use Rattle.swd_host.specs.Reports.{Told, Fits, EndsAt, RunFits, Follower, told_by}
+use Rattle.swd_host.specs.Standing.{Waits, Reached, ContinuesAt, Stands}
 use Rattle.swd_host.proofs.Lists.{memory_next, answers_next, access_at, follower_continues}
 use Rattle.swd_host.proofs.Starts.{IsFirst, same_access, ahead_state, ahead_burst, calm_by, burst_continues}
-use Rattle.swd_host.proofs.Starts.{start_follows, start_left, start_least, first_start, rest_due}
-use Rattle.swd_host.proofs.Ends.{Answers, Stops, answered_there, stops_there, stopped_state, rests_there}
-use Rattle.swd_host.proofs.Ends.{outcome_case, later_memory, begun_there, stops_only}
+use Rattle.swd_host.proofs.Starts.{start_follows, start_left, start_least, first_start}
+use Rattle.swd_host.proofs.Ends.{Answers, Stops, answered_there, stops_there, stopped_state, rests_there, outcome_case}
+use Rattle.swd_host.proofs.Ends.{later_memory, begun_there, stops_only}
+
+-- WHAT A REPORT SAYS
+pub told_as : (list : List Access) (tries : ℕ) (m : PlainMemory) (x y : Told) (s t : Port) → y ≡ x
+    → RunFits list tries m x s t → RunFits list tries m y s t
+told_as list tries m x y s t is h = subst (λ told. RunFits list tries m told s t) (sym is) h
+
+-- the memory is that after the accesses that are answered, or after the next one too where that is begun
+abbrev IsLeft : ℕ → List Access → PlainMemory → Bool → PlainMemory → Type 0
+IsLeft i list m b now =
+    (now ≡ memory_after (take i list) m) ⊎ ((b ≡ true) × (now ≡ memory_after (take (i + 1) list) m))
+
+left_after : (i : ℕ) (list : List Access) (m : PlainMemory) (b : Bool) (now : PlainMemory) → IsLeft i list m b now
+    → (j : ℕ) × (j ≤ bit b) × (now ≡ memory_after (take (i + j) list) m)
+left_after i list m b now (inl h) =
+    let same : i ≡ i + 0 = omega arith in
+    (0, omega arith, h ∙ ap (λ n. memory_after (take n list) m) same)
+left_after i list m b now (inr (begun, h)) =
+    let one : bit b ≡ 1 = ap bit begun in
+    (1, omega arith, h)
 
 bit_most : (b : Bool) → bit b ≤ 1
 bit_most true = omega arith
 bit_most false = omega arith
+
+-- an access is begun that the list has, in a run that isn't whole, once a request was sent for it and each before it
+abbrev MayBegin : ℕ → List Access → ℕ → End → Type 0
+MayBegin i list requests end = (i < length list) × (end ≢ All) × (11 + i ≤ requests)
+
+begun_fits : (b : Bool) (i : ℕ) (list : List Access) (requests : ℕ) (end : End)
+    → (b ≡ true → MayBegin i list requests end) → bit b ≢ 0
+    → (i + bit b ≤ length list) × (end ≢ All) × (10 + i + bit b ≤ requests)
+begun_fits true i list requests end may some = let h = may refl in (omega (arith, h.0), h.1, omega (arith, h.2))
+begun_fits false i list requests end may some = absurd (some refl)
+
+fits_by : (i : ℕ) (list : List Access) (m : PlainMemory) (answers : List Answer) (f : Engine) (end : End)
+    (now : PlainMemory) → i ≤ length list → answers ≡ answers_of (take i list) m
+    → (is_begun f ≡ true → MayBegin i list f.requests end) → (end ≡ All → i ≡ length list)
+    → IsLeft i list m (is_begun f) now → Fits 1 list m (told_by answers f end) now
+fits_by i list m answers f end now few answered may all left = (
+  i,
+  record {
+    reported = few;
+    answers = answered;
+    memory = left_after i list m (is_begun f) now left;
+    few = bit_most (is_begun f);
+    begun = begun_fits (is_begun f) i list f.requests end may;
+    all = all;
+  },
+)
 
 -- THE OPENING
 abbrev counted_at : Port → Counted
 counted_at s = record { disturbed = s.tally.disturbed; lost = s.tally.lost }
 
 new_follows : (tries identification : ℕ) (m : PlainMemory) (e : Engine) (s : Port) → IsNew tries e
-    → s ≡ made identification m
-    → identification % 2 ≡ 1 → Follows (counted_at s) m e s
+    → s ≡ made identification m → identification % 2 ≡ 1 → Follows (counted_at s) m e s
 new_follows tries identification m e s new is odd = record {
   task = new.task;
   lost = omega arith;
-  tracks = subst (λ x. Tracks x (s.tally.disturbed + e.events) e.tries (counted_at s) e.begun (hand_of e m) s)
+  tracks =
+      subst (λ x. Tracks x (s.tally.disturbed + e.events) e.tries (counted_at s) e.begun (hand_of e m) s)
       (sym new.leads) (record {
         select = ap (λ p. p.target.select) is;
         pending = ap (λ p. p.target.pending) is;
@@ -64,27 +107,8 @@ new_follows tries identification m e s new is odd = record {
       });
 }
 
-opening_memory : (b : Bool) (k : Hand) (now : PlainMemory) → b ≡ false → IsWithin b k now → now ≡ k.memory
-opening_memory b k now none (inl h) = h
-opening_memory b k now none (inr (some, h)) = absurd (let both : true ≡ false = sym some ∙ none in cc)
-
-opening_fits : (list : List Access) (m : PlainMemory) (b : Bool) (requests : ℕ) (end : End) (now : PlainMemory)
-    → b ≡ false
-    → end ≢ All → now ≡ m → Fits 1 list m (record { answers = []; begun = bit b; requests = requests; ended = end }) now
-opening_fits list m b requests end now none never is = (
-  0,
-  record {
-    reported = omega arith;
-    answers = refl;
-    memory = (0, omega arith, is);
-    few = bit_most b;
-    begun = λ some. absurd (some (ap bit none));
-    all = λ whole. absurd (never whole);
-  },
-)
-
-module _ (list : List Access) (tries : ℕ) (e f : Engine) (s t : Port) (small : tries < 2 ^ 32)
-    (new : IsNew tries e) (goes : Goes e s f t) (due : DueFits f t) where
+module _ (list : List Access) (tries : ℕ) (e f : Engine) (answers : List Answer) (s t : Port) (small : tries < 2 ^ 32)
+    (new : IsNew tries e) (goes : Goes e s f t) (due : DueFits f t) (none : answers ≡ []) where
   new_left : open_requests e ≤ 5 * tries + 10
   new_left = let left : left_in e.state ≡ 10 = ap left_in new.leads in omega (arith, new.tries)
 
@@ -100,13 +124,20 @@ module _ (list : List Access) (tries : ℕ) (e f : Engine) (s t : Port) (small :
   opening_unbegun : f.begun ≡ false
   opening_unbegun = goes.unbegun opening new.begun
 
+  opening_fits : (m now : PlainMemory) (end : End) → end ≢ All → f.state ≡ Resting (Stopped end)
+      → IsWithin f.begun (hand_of f m) now → Fits 1 list m (told_by answers f end) now
+  opening_fits m now end never at within = fits_by 0 list m answers f end now (omega arith) none
+      (λ begun. absurd (let both : true ≡ false = sym begun ∙ (begun_there f end at ∙ opening_unbegun) in cc))
+      (λ all. absurd (never all))
+      (elim within [
+        | inl h ↦ inl h
+        | inr h ↦ absurd (let both : true ≡ false = sym h.0 ∙ opening_unbegun in cc)
+      ])
+
   pub opening_stops : (identification : ℕ) (m : PlainMemory) (end : End) → s ≡ made identification m
-      → identification % 2 ≡ 1
-      → f.state ≡ Resting (Stopped end)
-      → RunFits list tries m (record { answers = []; begun = bit (is_begun f); requests = f.requests; ended = end }) s t
+      → identification % 2 ≡ 1 → f.state ≡ Resting (Stopped end)
+      → RunFits list tries m (told_by answers f end) s t
   opening_stops identification m end is odd at =
-      subst (λ b. RunFits list tries m (record { answers = []; begun = bit b; requests = f.requests; ended = end }) s
-      t) (sym (begun_there f end at)) (
       let first : Follows (counted_at s) m e s = new_follows tries identification m e s new is odd in
       let k : Hand = hand_of f m in
       let stop : Stops end (counted_at s) f.tries (s.tally.disturbed + f.events) f.begun k t =
@@ -115,62 +146,59 @@ module _ (list : List Access) (tries : ℕ) (e f : Engine) (s t : Port) (small :
       (stop.ends s f.task (omega arith) (omega arith) (subst (λ x. DueAt x f.task t.link.due) at due)) in
       let going : is_resting e ≡ false = ap (λ x. is_some (finished_at x e.task)) new.leads in
       record {
-        now = opening_fits list m f.begun f.requests end t.target.memory opening_unbegun stop.never
-            (opening_memory f.begun k t.target.memory opening_unbegun stop.within.now);
-        later = λ c. opening_fits list m f.begun f.requests end (completed c t).target.memory opening_unbegun stop.never
-            (later_memory f.begun k t c stop.within
-            ∙ opening_memory f.begun k stop.within.later opening_unbegun stop.within.ends);
+        now = opening_fits m t.target.memory end stop.never at stop.within.now;
+        later = λ c. opening_fits m (completed c t).target.memory end stop.never at
+            (subst (IsWithin f.begun k) (sym (later_memory f.begun k t c stop.within)) stop.within.ends);
         ends = ends;
         stops_only = stops_only end tries s t ends;
         counted = opening_asked;
         least = λ whole. absurd (stop.never whole);
         most = elim stop.paid [
-          | inl p ↦ (let early = goes.lost_early going (counted_at s) m first opening
-              (at ∙ ap (λ x. Resting (Stopped x)) p.0) in
+          | inl p ↦
+              (let lost : f.state ≡ Resting (Stopped Lost) = at ∙ ap (λ x. Resting (Stopped x)) p.0 in
+              let early = goes.lost_early going (counted_at s) m first opening lost in
               omega (arith, p.1, new_left, new.requests, goes.tries, new.tries))
           | inr p ↦ omega (arith, opening_spends, goes.tries, new.tries)
         ];
-      })
+      }
 
   opened_sent : f.state ≡ Resting Opened → 9 ≤ f.requests
   opened_sent at =
       let least = goes.least (omega (arith, new_left, new.requests)) in
       let nine : least_in f.aims f.state ≡ 9 = ap (least_in f.aims) at in
-      let none : least_in e.aims e.state ≡ 0 = ap (least_in e.aims) new.leads in
+      let zero_before : least_in e.aims e.state ≡ 0 = ap (least_in e.aims) new.leads in
       omega (arith, new.requests)
-
-  opened_calm : f.state ≡ Resting Opened → is_ahead f ≡ false
-  opened_calm at = ap (λ x. is_ahead_in x f.task) at
 
   opened_plain : is_burst f.task ≡ false
   opened_plain = ap is_burst goes.task ∙ new.burst
 
   opened_reached : (identification : ℕ) (m : PlainMemory) → f.state ≡ Resting Opened → s ≡ made identification m
-      → identification % 2 ≡ 1 → Reached 0 list m s f [] t
+      → identification % 2 ≡ 1 → Reached 0 list m s f answers t
   opened_reached identification m at is odd =
       let n : ℕ = s.tally.disturbed + f.events in
       let left : left_in f.state ≡ 1 = ap left_in at in
-      let x = rests_there (counted_at s) m f Opened t at
+      let calm : is_ahead f ≡ false = ap (λ x. is_ahead_in x f.task) at in
+      let opened : IsReady n (hand_of f m) t × (f.tar ≡ None) = rests_there (counted_at s) m f Opened t at
       (goes.follows (counted_at s) m (new_follows tries identification m e s new is odd)) in
       record {
         met = n;
         fewest = omega arith;
-        ready = subst (λ c. Waits c n (hand_of f m) t) (sym (opened_calm at)) x.0;
-        answered = refl;
+        ready = subst (λ c. Waits c n (hand_of f m) t) (sym calm) opened.0;
+        answered = none;
         begun = λ calm. opening_unbegun;
-        first = λ at_first. x.1;
+        first = λ at_first. opened.1;
         later = λ some. absurd (omega arith);
         most = omega (arith, opening_spends);
       }
 
-  pub opened_stands : f.state ≡ Resting Opened → Stands 0 list tries s f [] t
+  pub opened_stands : f.state ≡ Resting Opened → Stands 0 list tries s f answers t
   opened_stands at = record {
     due = due;
     rests = ap (λ x. may_start (finished_at x f.task)) at;
     chain = λ burst. absurd (let both : true ≡ false = sym burst ∙ opened_plain in cc);
     first = λ at_first. opened_plain;
     tried = goes.tries ∙ new.tries;
-    number = refl;
+    number = ap length none;
     bounded = omega (arith, opening_spends);
     sent = opened_sent at;
     asked = opening_asked;
@@ -183,12 +211,6 @@ module _ (list : List Access) (tries : ℕ) (e f : Engine) (s t : Port) (small :
 abbrev counted_from : ℕ → Port → Counted
 counted_from met t = record { disturbed = met; lost = t.tally.lost }
 
--- an access is begun that the list has, once a request was sent for it and each before it
-begun_fits : (b : Bool) (i n r : ℕ) (end : End) → i < n → end ≢ All → (b ≡ true → 11 + i ≤ r) → bit b ≢ 0
-    → (i + bit b ≤ n) × (end ≢ All) × (10 + i + bit b ≤ r)
-begun_fits true i n r end l never sent some = let enough = sent refl in (omega arith, never, omega arith)
-begun_fits false i n r end l never sent some = absurd (some refl)
-
 first_or_later : (i : ℕ) (P : Type 0) → (i ≡ 0 → P) → (1 ≤ i → P) → P
 first_or_later zero P first later = first refl
 first_or_later (suc i) P first later = later (omega arith)
@@ -198,8 +220,10 @@ answered_least : (f : Engine) (answer : Answer) → finished_of f ≡ Some (Answ
 answered_least f answer is =
     elim (outcome_case f.state f.task (Answered answer) is) [
       | inl rests ↦ ap (least_in f.aims) rests
-      | inr ahead ↦ (let least : least_in f.aims f.state ≡ bit f.aims + 1 + 1 = ap (least_in f.aims)
-          (ahead_state f.state f.task ahead.0) in omega arith)
+      | inr ahead ↦
+          (let is : f.state ≡ Doing (At Confirm) Data = ahead_state f.state f.task ahead.0 in
+          let least : least_in f.aims f.state ≡ bit f.aims + 1 + 1 = ap (least_in f.aims) is in
+          omega arith)
     ]
 
 module _ (i : ℕ) (list : List Access) (tries : ℕ) (e g f : Engine) (answers : List Answer) (s t u : Port) (d : Access)
@@ -208,6 +232,10 @@ module _ (i : ℕ) (list : List Access) (tries : ℕ) (e g f : Engine) (answers 
     (due : DueFits f u) where
   access_here : access_of f.task ≡ get_or list i d
   access_here = ap access_of goes.task ∙ same_access (get_or list i d) following e g starts
+
+  after_here : (m : PlainMemory)
+      → plain_after (access_of f.task) (memory_after (take i list) m) ≡ memory_after (take (i + 1) list) m
+  after_here m = ap (λ a. plain_after a (memory_after (take i list) m)) access_here ∙ sym (memory_next list i d m l)
 
   tries_here : f.tries ≡ tries
   tries_here = goes.tries ∙ (starts.tries ∙ stands.tried)
@@ -260,8 +288,7 @@ module _ (i : ℕ) (list : List Access) (tries : ℕ) (e g f : Engine) (answers 
   )
 
   answered_later : (m : PlainMemory) → Reached i list m s e answers t → (answer : Answer)
-      → finished_of f ≡ Some (Answered answer)
-      → 11 + (i + 1) ≤ f.requests
+      → finished_of f ≡ Some (Answered answer) → 11 + (i + 1) ≤ f.requests
   answered_later m r answer is = first_or_later i (11 + (i + 1) ≤ f.requests)
       (λ at_first. (let first : IsFirst g = first_here at_first (r.first at_first) in
       omega (
@@ -285,62 +312,32 @@ module _ (i : ℕ) (list : List Access) (tries : ℕ) (e g f : Engine) (answers 
       ))
 
   -- A STOP
-  stop_memory : (m now : PlainMemory) → IsWithin f.begun (hand_of f (memory_after (take i list) m)) now
-      → (j : ℕ) × (j ≤ bit f.begun) × (now ≡ memory_after (take (i + j) list) m)
-  stop_memory m now (inl h) =
-      let same : i ≡ i + 0 = omega arith in
-      (0, omega arith, h ∙ ap (λ n. memory_after (take n list) m) same)
-  stop_memory m now (inr (begun, h)) =
-      let one : bit f.begun ≡ 1 = ap bit begun in (
-        1,
-        omega arith,
-        h ∙ (ap (λ a. plain_after a (memory_after (take i list) m)) access_here
-            ∙ sym (memory_next list i d m l)),
-      )
-
-  stop_fits : (m now : PlainMemory) (end : End) → end ≢ All → Reached i list m s e answers t
-      → IsWithin f.begun (hand_of f (memory_after (take i list) m)) now
-      → Fits 1 list m (record { answers = answers; begun = bit f.begun; requests = f.requests; ended = end }) now
-  stop_fits m now end never r within = (
-    i,
-    record {
-      reported = omega arith;
-      answers = r.answered;
-      memory = stop_memory m now within;
-      few = bit_most f.begun;
-      begun = begun_fits f.begun i (length list) f.requests end l never (begun_sent m r);
-      all = λ whole. absurd (never whole);
-    },
-  )
+  stop_fits : (m now : PlainMemory) (end : End) → end ≢ All → f.state ≡ Resting (Stopped end)
+      → Reached i list m s e answers t → IsWithin f.begun (hand_of f (memory_after (take i list) m)) now
+      → Fits 1 list m (told_by answers f end) now
+  stop_fits m now end never at r within =
+      let same : is_begun f ≡ f.begun = begun_there f end at in
+      fits_by i list m answers f end now (omega arith) r.answered
+      (λ begun. (l, never, begun_sent m r (sym same ∙ begun)))
+      (λ all. absurd (never all))
+      (elim within [ inl h ↦ inl h | inr h ↦ inr (same ∙ h.0, h.1 ∙ after_here m) ])
 
   pub access_stops : (identification : ℕ) (m : PlainMemory) (end : End) → s ≡ made identification m
-      → identification % 2 ≡ 1
-      → AreAccesses list → finished_of f ≡ Some (Stopped end)
-      → RunFits list tries m (record {
-        answers = answers;
-        begun = bit (is_begun f);
-        requests = f.requests;
-        ended = end;
-      }) s u
+      → identification % 2 ≡ 1 → AreAccesses list → finished_of f ≡ Some (Stopped end)
+      → RunFits list tries m (told_by answers f end) s u
   access_stops identification m end is odd ok finished =
       let at : f.state ≡ Resting (Stopped end) = stopped_state f.state f.task end finished in
-      subst (λ b. RunFits list tries m (record {
-        answers = answers;
-        begun = bit b;
-        requests = f.requests;
-        ended = end;
-      }) s u) (sym (begun_there f end at)) (
       let r : Reached i list m s e answers t = stands.reached identification m is odd ok in
       let base : Counted = counted_from r.met t in
       let before : PlainMemory = memory_after (take i list) m in
       let k : Hand = hand_of f before in
-      let stop : Stops end base f.tries (base.disturbed + f.events) f.begun k u = stops_there base before f end u at
-      (follows_here m ok r) in
+      let stop : Stops end base f.tries (base.disturbed + f.events) f.begun k u =
+      stops_there base before f end u at (follows_here m ok r) in
       let ends : EndsAt end tries s u = subst (λ n. EndsAt end n s u) tries_here
       (stop.ends s f.task r.fewest stands.lost (subst (λ x. DueAt x f.task u.link.due) at due)) in
       record {
-        now = stop_fits m u.target.memory end stop.never r stop.within.now;
-        later = λ c. stop_fits m (completed c u).target.memory end stop.never r
+        now = stop_fits m u.target.memory end stop.never at r stop.within.now;
+        later = λ c. stop_fits m (completed c u).target.memory end stop.never at r
             (subst (IsWithin f.begun k) (sym (later_memory f.begun k u c stop.within)) stop.within.ends);
         ends = ends;
         stops_only = stops_only end tries s u ends;
@@ -350,34 +347,30 @@ module _ (i : ℕ) (list : List Access) (tries : ℕ) (e g f : Engine) (answers 
           | inl p ↦ omega (arith, p.1, spent, tries_here, r.most, r.fewest)
           | inr p ↦ omega (arith, p, spent, tries_here, r.most, r.fewest)
         ];
-      })
+      }
 
   -- AN ANSWER
   chain_here : ((b : Access) → following ≡ Some b → Follower i list b) → is_burst f.task ≡ true
-      → (i + 1 < length list) × ((x : Access) → continues (address (access_of f.task))
-      (Some (get_or list (i + 1) x)) ≡ true)
+      → ContinuesAt list (i + 1) (address (access_of f.task))
   chain_here next burst =
-      let on : continues (address (get_or list i d)) following ≡ true = burst_continues (get_or list i d) following
-      (sym (ap is_burst (goes.task ∙ starts.task)) ∙ burst) in
-      subst (λ a. (i + 1 < length list) × ((x : Access)
-      → continues (address a) (Some (get_or list (i + 1) x)) ≡ true)) (sym access_here)
+      let on : continues (address (get_or list i d)) following ≡ true =
+      burst_continues (get_or list i d) following (sym (ap is_burst (goes.task ∙ starts.task)) ∙ burst) in
+      subst (λ a. ContinuesAt list (i + 1) (address a)) (sym access_here)
       (follower_continues list i (address (get_or list i d)) following on next)
 
   answered_reached : (m : PlainMemory) → AreAccesses list → (answer : Answer) (more : List Answer)
-      → more ≡ answers ++ answer ∷ []
-      → finished_of f ≡ Some (Answered answer) → Reached i list m s e answers t → Reached (i + 1) list m s f more u
+      → more ≡ answers ++ answer ∷ [] → finished_of f ≡ Some (Answered answer)
+      → Reached i list m s e answers t → Reached (i + 1) list m s f more u
   answered_reached m ok answer more is_more finished r =
       let base : Counted = counted_from r.met t in
       let before : PlainMemory = memory_after (take i list) m in
       let x : Answers answer base before f u = answered_there base before answer f u finished (follows_here m ok r) in
-      let after : plain_after (access_of f.task) before ≡ memory_after (take (i + 1) list) m =
-      ap (λ a. plain_after a before) access_here ∙ sym (memory_next list i d m l) in
-      let told : plain_answer (get_or list i d) before ≡ answer = sym (ap (λ a. plain_answer a before) access_here)
-      ∙ x.told in
+      let told : plain_answer (get_or list i d) before ≡ answer =
+      sym (ap (λ a. plain_answer a before) access_here) ∙ x.told in
       record {
         met = r.met + f.events;
         fewest = omega (arith, r.fewest);
-        ready = subst (λ y. Waits (is_ahead f) (r.met + f.events) (hand_of f y) u) after x.waits;
+        ready = subst (λ y. Waits (is_ahead f) (r.met + f.events) (hand_of f y) u) (after_here m) x.waits;
         answered = is_more ∙ (ap (λ y. y ++ answer ∷ []) r.answered
             ∙ (ap (λ y. answers_of (take i list) m ++ y ∷ []) (sym told) ∙ sym (answers_next list i d m l)));
         begun = x.begun;
@@ -406,8 +399,8 @@ module _ (i : ℕ) (list : List Access) (tries : ℕ) (e g f : Engine) (answers 
   }
 
 -- ALL ARE ANSWERED
-module _ (list : List Access) (tries : ℕ) (e : Engine) (answers : List Answer) (s t : Port)
-    (stands : Stands (length list) list tries s e answers t) where
+module _ (i : ℕ) (list : List Access) (tries : ℕ) (e : Engine) (answers : List Answer) (s t : Port)
+    (whole : i ≡ length list) (stands : Stands i list tries s e answers t) where
   -- no access follows the last one
   last_plain : (b : Bool) → is_burst e.task ≡ b → b ≡ false
   last_plain true burst = absurd (let follows = (stands.chain burst).0 in omega arith)
@@ -416,59 +409,27 @@ module _ (list : List Access) (tries : ℕ) (e : Engine) (answers : List Answer)
   last_calm : is_ahead e ≡ false
   last_calm = calm_by e.state e.task (last_plain (is_burst e.task) refl)
 
-  pub all_due : t.link.due ≡ Nothing
-  all_due = rest_due e.state e.task t.link.due stands.rests last_calm stands.due
-
-  all_fit : (m now : PlainMemory) (begun requests : ℕ) → begun ≡ 0 → answers ≡ answers_of (take (length list) list) m
-      → now ≡ memory_after (take (length list) list) m
-      → Fits 1 list m (record { answers = answers; begun = begun; requests = requests; ended = All }) now
-  all_fit m now begun requests none answered is =
-      let same : length list ≡ length list + 0 = omega arith in (
-        length list,
-        record {
-          reported = omega arith;
-          answers = answered;
-          memory = (0, omega arith, is ∙ ap (λ n. memory_after (take n list) m) same);
-          few = omega arith;
-          begun = λ some. absurd (some none);
-          all = λ whole. refl;
-        },
-      )
-
   pub all_fits : (identification : ℕ) (m : PlainMemory) (u : Port) → Leads t 0 u → s ≡ made identification m
       → identification % 2 ≡ 1 → AreAccesses list
-      → RunFits list tries m (record {
-        answers = answers;
-        begun = bit (is_begun e);
-        requests = e.requests;
-        ended = All;
-      }) s u
+      → RunFits list tries m (told_by answers e All) s u
   all_fits identification m u leads is odd ok =
-      let r : Reached (length list) list m s e answers t = stands.reached identification m is odd ok in
-      let last : PlainMemory = memory_after (take (length list) list) m in
+      let r : Reached i list m s e answers t = stands.reached identification m is odd ok in
+      let last : PlainMemory = memory_after (take i list) m in
       let ready : IsReady r.met (hand_of e last) t = subst (λ c. Waits c r.met (hand_of e last) t) last_calm r.ready in
       let passed : Passed t u = (idle_cycles_at_rest t u ready.up.calm.pending leads).0 in
-      let none : bit (is_begun e) ≡ 0 = ap (λ b. bit (b && not (is_ahead e))) (r.begun last_calm) in
+      let unbegun : is_begun e ≡ false = ap (λ b. b && not (is_ahead e)) (r.begun last_calm) in
       let memory : u.target.memory ≡ last = ap (λ x. x.memory) passed.target ∙ ready.up.calm.memory in
       let idle : u.target.pending ≡ None = ap (λ x. x.pending) passed.target ∙ ready.up.calm.pending in
+      let counts : u.tally.disturbed ≡ t.tally.disturbed = ap (λ x. x.disturbed) passed.tally in
+      let fits = λ (now : PlainMemory) (left : now ≡ last).
+      fits_by i list m answers e All now (omega arith) r.answered
+      (λ begun. absurd (let both : true ≡ false = sym begun ∙ unbegun in cc)) (λ all. whole) (inl left) in
       record {
-        now = all_fit m u.target.memory (bit (is_begun e)) e.requests none r.answered memory;
-        later = λ c. all_fit m (completed c u).target.memory (bit (is_begun e)) e.requests none r.answered
-            (ap (λ x. x.target.memory) (same c u idle) ∙ memory);
+        now = fits u.target.memory memory;
+        later = λ c. fits (completed c u).target.memory (ap (λ x. x.target.memory) (same c u idle) ∙ memory);
         ends = passed.due;
         stops_only = λ lost disturbed. refl;
         counted = ap (λ x. x.asked) passed.tally ∙ stands.asked;
-        least = λ whole. stands.sent;
-        most = (let counts : u.tally.disturbed ≡ t.tally.disturbed = ap (λ x. x.disturbed) passed.tally in
-            omega (arith, r.most, r.fewest, ready.paid));
+        least = λ all. omega (arith, stands.sent);
+        most = omega (arith, r.most, r.fewest, ready.paid);
       }
-
--- a report, by its answers
-pub told_as : (list : List Access) (tries : ℕ) (m : PlainMemory) (told : Told) (xs ys : List Answer)
-    (begun requests : ℕ) (ended : End)
-    (s t : Port) → told ≡ record { answers = ys; begun = begun; requests = requests; ended = ended } → ys ≡ xs
-    → RunFits list tries m (record { answers = xs; begun = begun; requests = requests; ended = ended }) s t
-    → RunFits list tries m told s t
-told_as list tries m told xs ys begun requests ended s t is same h =
-    let P : List Answer → Told = λ a. record { answers = a; begun = begun; requests = requests; ended = ended } in
-    subst (λ x. RunFits list tries m x s t) (sym (is ∙ ap P same)) h

@@ -1,6 +1,6 @@
 -- An access begins.
-use Rattle.std.proofs.Common.{◌≡◌, ◌+◌, ◌-◌, ◌*◌, ◌/◌, ◌%◌, ◌^◌, ◌<◌, ◌≤◌, ℕ, Bool, true, false, not, refl, sym, ap}
-use Rattle.std.proofs.Common.{subst, inl, inr, arith, ◌∙◌}
+use Rattle.std.proofs.Common.{◌≡◌, ◌+◌, ◌*◌, ◌/◌, ◌%◌, ◌<◌, ◌≤◌, ℕ, Bool, true, false, not, refl, sym, ap, subst, inl}
+use Rattle.std.proofs.Common.{arith, ◌∙◌}
 use Rattle.std.specs.Prelude.{Option, Some, None, ◌==◌, ◌||◌, if◌then◌else◌}
 use Rattle.std.proofs.lemmas.Bool.{eqb-true}
 use Rattle.swd_bits.specs.Bits.{bit}
@@ -21,7 +21,7 @@ use Rattle.swd_host.specs.declared.engine.Phase.TheVariants.{Ask, Data}
 use Rattle.swd_host.specs.declared.engine.State.{State}
 use Rattle.swd_host.specs.declared.engine.State.TheVariants.{Leading, Doing, Resting}
 use Rattle.swd_host.specs.declared.engine.Engine.{Engine}
-use Rattle.swd_host.specs.Addresses.{next_address, is_known, continues}
+use Rattle.swd_host.specs.Addresses.{is_known, continues}
 use Rattle.swd_host.specs.Plain.{IsAccess}
 use Rattle.swd_host.specs.Tasks.{access_of, is_read, is_burst, task_for}
 use Rattle.swd_host.specs.Requests.{confirming_request}
@@ -33,8 +33,8 @@ use Rattle.swd_host.specs.Turns.{first_state, Starts, GoesOn}
 use Rattle.swd_host.specs.Standing.{Poised, Waits}
 
 -- THE TASK OF AN ACCESS
-burst_or : (on : Bool) (at word : ℕ) → access_of (if on then BurstWrite at word else Write at word) ≡ AccessWrite at
-    word
+burst_or : (on : Bool) (at word : ℕ)
+    → access_of (if on then BurstWrite at word else Write at word) ≡ AccessWrite at word
 burst_or true at word = refl
 burst_or false at word = refl
 
@@ -77,8 +77,8 @@ burst_task false at word ok below = ok
 
 is_task : (a : Access) (following : Option Access) → IsAccess a → IsTask (task_for a following)
 is_task (AccessRead at) following ok = ok
-is_task (AccessWrite at word) following ok = burst_task (continues at following) at word ok
-    (continues_below at following)
+is_task (AccessWrite at word) following ok =
+    burst_task (continues at following) at word ok (continues_below at following)
 
 burst_on : (on : Bool) (at word : ℕ) → is_burst (if on then BurstWrite at word else Write at word) ≡ true → on ≡ true
 burst_on true at word h = refl
@@ -176,7 +176,8 @@ module _ (a : Access) (following : Option Access) (e g : Engine) (starts : Start
       let next = continues_by (address (access_of e.task)) a (chain is) in
       transfers_by g.task n g.begun (hand_of g m) s (ap is_read starts.task ∙ next.writes following)
       (starts.begun ∙ ahead_burst e.state e.task is)
-      (poised_writes n (address (access_of e.task) + 4) g.begun (hand_of g m) s (ap address same_access ∙ next.next) h)
+      (poised_writes n (address (access_of e.task) + 4) g.begun (hand_of g m) s
+      (ap address same_access ∙ next.next) h)
   start_tracks false n tries base m s is chain h =
       let aims : g.aims ≡ not (is_known g.tar (address (access_of g.task))) =
       starts.aims ∙ ap (λ x. not (x || is_known e.tar (address a))) is
@@ -232,7 +233,7 @@ may_start_ahead true h = refl
 may_start_ahead false h = absurd (cc)
 
 -- nothing is due, where the data of the next access isn't
-pub rest_due : (x : State) (task : Task) (due : Due) → may_start (finished_at x task) ≡ true
+rest_due : (x : State) (task : Task) (due : Due) → may_start (finished_at x task) ≡ true
     → is_ahead_in x task ≡ false
     → DueAt x task due → due ≡ Nothing
 rest_due Leading task due may calm h = h

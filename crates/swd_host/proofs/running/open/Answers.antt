@@ -1,4 +1,4 @@
-use Rattle.std.proofs.Common.{◌≡◌, true, sym, ap, subst, ◌∙◌}
+use Rattle.std.proofs.Common.{true, sym, ap, subst}
 use Rattle.swd_host.specs.Progress.{is_state_of}
 use Rattle.swd_host.specs.Tracks.{DueAt}
 use Rattle.swd_host.proofs.Ends.{opened_state, stopped_state}

@@ -1,4 +1,4 @@
-use Rattle.std.proofs.Common.{◌≡◌, sym, subst, arith, length}
+use Rattle.std.proofs.Common.{sym, subst, arith}
 use Rattle.std.proofs.lemmas.List.{take_all}
 use Rattle.swd_host.specs.Plain.{AreAccesses}
 use Rattle.swd_host.proofs.Lists.{are_next, is_access}
