@@ -5,3 +5,4 @@ pub mod Transactions
 pub mod Listing
 pub mod TraceText
 pub mod One
+pub mod Messages

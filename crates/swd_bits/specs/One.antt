@@ -57,6 +57,15 @@ pub record Gathers (seen : List ℕ) (g : Gathered) : Type 0 where
   pub reads : Reads seen bits g.scan
   pub kept : IsHeld g.long g.held bits
 
+-- these are the bytes that were taken, and this is what is kept of them
+pub record HasRead (u : Unit {0}) (g : Gathered × Unit {0}) (seen : List ℕ) : Type 0 where
+  pub gathers : Gathers seen g.0
+  pub place : g.0.place ≡ min (length seen) (2 ^ 64 - 1)
+
+-- whatever follows a text, the place of its first bad byte is told
+abbrev pub TellsLater : Unit {0} → Gathered × Unit {0} → ℕ → List ℕ → Type 0
+TellsLater u g told text = (more : List ℕ) → TellsBad told (text ++ more)
+
 -- what reading to the end gives, where the bytes are known
 abbrev pub GathersAll : Result Gathered OneFault → Option (List ℕ) → Type 0
 GathersAll (Ok g) text = IfSome text (λ bytes. Gathers bytes g)

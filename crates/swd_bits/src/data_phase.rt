@@ -19,7 +19,8 @@ pub fn data_bits(word: u32) -> u64
 pub fn word_of(sent: u64) -> Option<u32>
     requires { sent < 2 ^ 33 }
     ensures found { IfSome result (λ word. phase word ≡ low_bits 33 sent) }
-    ensures only { IfSome result (λ word. (other : ℕ) → other < 2 ^ 32 → phase other ≡ low_bits 33 sent → other ≡ word) }
+    ensures only { IfSome result (λ word. (other : ℕ) → other < 2 ^ 32 → phase other ≡ low_bits 33 sent
+        → other ≡ word) }
     ensures none { IfNone result ((word : ℕ) → word < 2 ^ 32 → phase word ≢ low_bits 33 sent) }
 {
     let word = (sent & 0xffff_ffff) as u32;

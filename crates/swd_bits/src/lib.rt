@@ -8,8 +8,8 @@ mod ack;
 mod data_phase;
 mod gathered;
 mod line;
+mod message;
 mod one;
-mod output;
 mod request;
 mod scan;
 mod tx;
@@ -17,12 +17,13 @@ mod tx_bits;
 
 pub use ack::Ack;
 pub use data_phase::{data_bits, word_of};
-pub use line::{Line, line_of};
+pub use line::{LONGEST_TX_LINE, TxLine, push_word};
 pub use one::{OneFault, one_text};
-pub use output::{Unsent, send};
 pub use request::{Reg4, Request};
 pub use scan::{Scan, Sign};
-pub use tx::{Tx, TxEnd, transactions_are_told_apart};
+pub use tx::{
+    MOVED_BITS, REFUSED_BITS, Tx, TxEnd, UNACKNOWLEDGED_BITS, transactions_are_told_apart,
+};
 pub use tx_bits::TxBits;
 
 #[cfg(test)]

@@ -9,8 +9,11 @@ use crate::tx::{Tx, TxEnd};
 use arrayvec::ArrayString;
 use std::fmt;
 
-/// A listing line, which has at most 32 bytes, and room for its end.
-pub type Line = ArrayString<40>;
+/// The most bytes of a transaction's listing line, without its end.
+pub const LONGEST_TX_LINE: usize = 32;
+
+/// The listing line of a transaction, with room for its end.
+pub type TxLine = ArrayString<40>;
 
 fn digit_text(digit: u8) -> &'static str
     requires { digit < 16 }
@@ -37,8 +40,8 @@ fn digit_text(digit: u8) -> &'static str
 }
 
 #[tactic(auto, unfolding(crate::specs::Listing::hex2))]
-fn push_byte(text: &mut Line, byte: u8)
-    requires { array_string_len text.old ≤ 38 }
+fn push_byte<const N: usize>(text: &mut ArrayString<N>, byte: u8)
+    requires { array_string_len text.old + 2 ≤ N }
     ensures bytes { text.new.bytes ≡ text.old.bytes ++ hex2 byte }
     ensures len { array_string_len text.new ≡ array_string_len text.old + 2 }
 {
@@ -46,9 +49,10 @@ fn push_byte(text: &mut Line, byte: u8)
     text.push_str(digit_text(byte % 16));
 }
 
+/// Adds the eight lower-case hexadecimal digits of a word.
 #[tactic(auto, unfolding(crate::specs::Listing::hex8))]
-fn push_word(text: &mut Line, word: u32)
-    requires { array_string_len text.old ≤ 32 }
+pub fn push_word<const N: usize>(text: &mut ArrayString<N>, word: u32)
+    requires { array_string_len text.old + 8 ≤ N }
     ensures bytes { text.new.bytes ≡ text.old.bytes ++ hex8 word }
     ensures len { array_string_len text.new ≡ array_string_len text.old + 8 }
 {
@@ -58,8 +62,8 @@ fn push_word(text: &mut Line, word: u32)
     push_byte(text, (word % 256) as u8);
 }
 
-fn push_count(text: &mut Line, n: u8)
-    requires { array_string_len text.old ≤ 37 }
+fn push_count<const N: usize>(text: &mut ArrayString<N>, n: u8)
+    requires { array_string_len text.old + 3 ≤ N }
     ensures bytes { text.new.bytes ≡ text.old.bytes ++ decimal n }
     ensures len { array_string_len text.new ≤ array_string_len text.old + 3 }
 {
@@ -67,36 +71,47 @@ fn push_count(text: &mut Line, n: u8)
     text.push_str(digits.format(n));
 }
 
-/// The listing line of a transaction, without its end: `PORT A DIR RESULT`, as in
-/// `dp 0 read ok 2ba01477` or `ap c write none 7`.
-///
-/// `Display` gives the same text. This call can't fail, and a contract knows its bytes.
-pub fn line_of(tx: &Tx) -> Line
-    ensures bytes { result.bytes ≡ tx_line tx.now }
-    ensures len { array_string_len result ≤ 32 }
-{
-    let mut text = Line::new();
-    text.push_str(if tx.request.ap { "ap " } else { "dp " });
-    text.push_str(match tx.request.addr {
-        Reg4::R0 => "0 ",
-        Reg4::R4 => "4 ",
-        Reg4::R8 => "8 ",
-        Reg4::RC => "c ",
-    });
-    text.push_str(if tx.request.read { "read " } else { "write " });
-    match tx.result {
-        TxEnd::Moved { word, parity_ok } => {
-            text.push_str(if parity_ok { "ok " } else { "bad " });
-            push_word(&mut text, word);
-        }
-        TxEnd::Wait => text.push_str("wait"),
-        TxEnd::Fault => text.push_str("fault"),
-        TxEnd::NoAck(seen) => {
-            text.push_str("none ");
-            push_count(&mut text, seen);
+impl Tx {
+    /// The listing line of the transaction, without its end: `PORT A DIR RESULT`, as in
+    /// `dp 0 read ok 2ba01477` or `ap c write none 7`.
+    ///
+    /// `Display` gives the same text. This call can't fail, and a contract knows its bytes.
+    pub fn line(&self) -> TxLine
+        ensures bytes { result.bytes ≡ tx_line self.now }
+        ensures len { array_string_len result ≤ LONGEST_TX_LINE }
+    {
+        let mut text = TxLine::new();
+        self.push_line(&mut text);
+        text
+    }
+
+    /// Adds that line to a text.
+    pub fn push_line<const N: usize>(&self, text: &mut ArrayString<N>)
+        requires { array_string_len text.old + LONGEST_TX_LINE ≤ N }
+        ensures bytes { text.new.bytes ≡ text.old.bytes ++ tx_line self.now }
+        ensures len { array_string_len text.new ≤ array_string_len text.old + LONGEST_TX_LINE }
+    {
+        text.push_str(if self.request.ap { "ap " } else { "dp " });
+        text.push_str(match self.request.addr {
+            Reg4::R0 => "0 ",
+            Reg4::R4 => "4 ",
+            Reg4::R8 => "8 ",
+            Reg4::RC => "c ",
+        });
+        text.push_str(if self.request.read { "read " } else { "write " });
+        match self.result {
+            TxEnd::Moved { word, parity_ok } => {
+                text.push_str(if parity_ok { "ok " } else { "bad " });
+                push_word(text, word);
+            }
+            TxEnd::Wait => text.push_str("wait"),
+            TxEnd::Fault => text.push_str("fault"),
+            TxEnd::NoAck(seen) => {
+                text.push_str("none ");
+                push_count(text, seen);
+            }
         }
     }
-    text
 }
 
 impl fmt::Display for Tx {
@@ -105,6 +120,6 @@ impl fmt::Display for Tx {
     ghost output = { λ tx. Some (tx_line tx) };
 
     fn fmt<W: fmt::Write>(&self, f: &mut fmt::Formatter<W>) -> fmt::Result {
-        f.write_str(line_of(self).as_str())
+        f.write_str(self.line().as_str())
     }
 }

@@ -1,12 +1,10 @@
 //! One transaction, from its trace text to its listing line.
-ghost use Rattle.std.specs.Prelude.{◌≡◌, ℕ, ◌+◌, ◌^◌, ◌<◌, ◌≤◌, ◌++◌, List, length, IfNone, IfSome};
-ghost use Rattle.swd_bits.specs.One.{Gathers, IsFirstBad, Answers, GathersAll};
+ghost use Rattle.swd_bits.specs.One.{Answers, GathersAll};
 
 use crate::gathered::Gathered;
-use crate::line::line_of;
-use crate::output::send;
 use crate::tx::Tx;
 use std::io::{Read, Write};
+use swd_io::{Unread, read_pieces, send};
 
 /// Why a trace text has no listing line.
 #[derive(Clone, Copy, Debug, PartialEq, Eq)]
@@ -22,46 +20,16 @@ pub enum OneFault {
     Write,
 }
 
-// How many bytes are read at once.
-const PIECE: usize = 4096;
-
-// Takes the bytes of a piece, up to the first that cannot stand there.
-fn take_piece(gathered: &mut Gathered, piece: &[u8]) -> Option<usize>
-    ensures good { IfNone result ((seen : List ℕ) → Gathers seen gathered.old → Gathers (seen ++ piece.now) gathered.new) }
-    ensures bad { IfSome result (λ k. (k < length piece.now) × ((seen more : List ℕ) → Gathers seen gathered.old → IsFirstBad ((seen ++ piece.now) ++ more) (length seen + k))) }
-{
-    for (i, byte) in piece.iter().enumerate() {
-        if !gathered.byte(*byte) {
-            return Some(i);
-        }
-    }
-    None
-}
-
-// Reads to the end.
-fn read_all<R: Read>(reader: &mut R) -> Result<Gathered, OneFault>
+// Gathers the bits of the whole text.
+fn gather<R: Read>(reader: &mut R) -> Result<Gathered, OneFault>
     ensures { GathersAll result (R.remaining reader.old) }
 {
     let mut gathered = Gathered::new();
-    let mut place = 0u64;
-    let mut buffer = [0u8; PIECE];
-    for _ in 0..u64::MAX {
-        let Ok(n) = reader.read(&mut buffer) else {
-            return Err(OneFault::Read);
-        };
-        if n == 0 {
-            return Ok(gathered);
-        }
-        match take_piece(&mut gathered, &buffer[..n]) {
-            None => place = place.saturating_add(n as u64),
-            Some(k) => {
-                return Err(OneFault::BadChar {
-                    place: place.saturating_add(k as u64),
-                });
-            }
-        }
+    match read_pieces(reader, &mut (), &mut gathered) {
+        Ok(()) => Ok(gathered),
+        Err(Unread::Reader) => Err(OneFault::Read),
+        Err(Unread::Consumer(place)) => Err(OneFault::BadChar { place }),
     }
-    Err(OneFault::Read)
 }
 
 /// Reads a trace text that holds the bits of one transaction, and writes its listing line and a
@@ -73,14 +41,14 @@ fn read_all<R: Read>(reader: &mut R) -> Result<Gathered, OneFault>
 pub fn one_text<R: Read, W: Write>(reader: &mut R, writer: &mut W) -> Result<(), OneFault>
     ensures { Answers result (R.remaining reader.old) (W.contents writer.old) (W.contents writer.new) }
 {
-    let gathered = read_all(reader)?;
+    let gathered = gather(reader)?;
     if gathered.long {
         return Err(OneFault::NotOne);
     }
     let Some(tx) = Tx::of(gathered.held) else {
         return Err(OneFault::NotOne);
     };
-    let mut line = line_of(&tx);
+    let mut line = tx.line();
     line.push_str("\n");
     match send(writer, line.as_str().as_bytes()) {
         Ok(()) => Ok(()),

@@ -41,6 +41,14 @@ impl Scan {
         Scan { comment: false }
     }
 
+    /// Whether a comment is open.
+    #[inline]
+    pub fn in_comment(&self) -> bool
+        ensures { result ≡ self.now }
+    {
+        self.comment
+    }
+
     /// What the next byte is. After `Bad` the scan is as before.
     #[inline]
     pub fn byte(&mut self, byte: u8) -> Sign

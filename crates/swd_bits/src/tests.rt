@@ -160,3 +160,21 @@ fn other_texts_are_refused(rt: HostRuntime) -> Result<(), Fail> {
     }
     Ok(())
 }
+
+#[test]
+fn faults_have_their_messages(rt: HostRuntime) -> Result<(), Fail> {
+    for (fault, message) in [
+        (
+            OneFault::BadChar {
+                place: 18446744073709551615,
+            },
+            "trace byte 18446744073709551615: bad character",
+        ),
+        (OneFault::NotOne, "not one transaction"),
+        (OneFault::Read, "read failed"),
+        (OneFault::Write, "write failed"),
+    ] {
+        assert_eq!(rt; format!(in rt.alloc(); "{fault}")?.as_str(), message);
+    }
+    Ok(())
+}

@@ -10,6 +10,15 @@ use crate::ack::Ack;
 use crate::request::Request;
 use crate::tx_bits::TxBits;
 
+/// How many bits a transaction has that moved a word, turnarounds among them.
+pub const MOVED_BITS: u8 = 46;
+
+/// How many bits a transaction has that was answered WAIT or FAULT.
+pub const REFUSED_BITS: u8 = 13;
+
+/// How many bits a transaction has that was not acknowledged.
+pub const UNACKNOWLEDGED_BITS: u8 = 12;
+
 /// How a transaction ends.
 #[derive(Clone, Copy, Debug, PartialEq, Eq)]
 pub enum TxEnd {
@@ -58,7 +67,7 @@ impl Tx {
         ensures only { IfSome result (λ tx. (other : Tx) → Spells other (bits_of spelled) → other ≡ tx) }
         ensures none { IfNone result ((tx : Tx) → Spells tx (bits_of spelled) → ⊥) }
     {
-        if spelled.len < 12 {
+        if spelled.len < UNACKNOWLEDGED_BITS {
             return None;
         }
         let (asked, rest) = spelled.split(8);
@@ -157,8 +166,10 @@ fn end_of(read: bool, seen: u8, rest: TxBits) -> Option<TxEnd>
     requires seen { seen < 8 }
     requires whole { IsSpelled rest }
     requires short { rest.len ≤ 63 }
-    ensures found { IfSome result (λ end. IsEnd end × (head end ≡ low_bits 3 seen) × (u : Bool) × (bits_of rest ≡ tail read end u)) }
-    ensures none { IfNone result ((end : TxEnd) (u : Bool) → IsEnd end → head end ≡ low_bits 3 seen → bits_of rest ≡ tail read end u → ⊥) }
+    ensures found { IfSome result (λ end. IsEnd end × (head end ≡ low_bits 3 seen) × (u : Bool)
+        × (bits_of rest ≡ tail read end u)) }
+    ensures none { IfNone result ((end : TxEnd) (u : Bool) → IsEnd end → head end ≡ low_bits 3 seen
+        → bits_of rest ≡ tail read end u → ⊥) }
 {
     match Ack::of(seen) {
         None => {

@@ -16,7 +16,9 @@ over_file name = with_rule (new_app name) file_rule
 
 -- the program without its commands: one of them is required
 abbrev pub bare_app : App
-bare_app = let named = new_app (codes "swd") in record named { top = record named.top { subcommand_required = true } }
+bare_app =
+    let named = new_app (codes "swd") in
+    record named { top = record named.top { subcommand_required = true; has_version = true } }
 
 -- the whole command
 abbrev pub swd_app : App

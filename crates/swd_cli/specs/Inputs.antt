@@ -1,9 +1,16 @@
 -- What a command reads.
-use Rattle.std.specs.Prelude.{Bool, true, false}
-use Rattle.swd_cli.specs.declared.input.Input.{Input}
-use Rattle.swd_cli.specs.declared.input.Input.TheVariants.{File, Stdin}
+use Rattle.std.specs.Prelude.{ℕ, ◌≡◌, ◌⊎◌, List, Option, Some, None, codes}
+use Rattle.std.specs.Option.{option_map}
+use Rattle.std.specs.String.{string_bytes}
+use Rattle.swd_cli.specs.declared.command.Line.{Line}
+use Rattle.swd_cli.specs.declared.command.Line.TheVariants.{One, Decode, Encode}
 
--- it is standard input, and no file
-abbrev pub is_stdin : Input → Bool
-is_stdin (File file) = false
-is_stdin (Stdin stdin) = true
+-- the file that the words name
+abbrev pub named : Line → Option (List ℕ)
+named (One file) = option_map string_bytes file
+named (Decode file) = option_map string_bytes file
+named (Encode file) = option_map string_bytes file
+
+-- standard input is read: no file is named, or `-`
+abbrev pub IsStandard : Line → Type 0
+IsStandard line = (named line ≡ None) ⊎ (named line ≡ Some (codes "-"))

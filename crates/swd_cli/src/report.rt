@@ -1,56 +1,78 @@
 //! What the program says of a fault, and the status that it ends with.
-ghost use Rattle.std.specs.Prelude.{◌≡◌, is_ok, if◌then◌else◌};
-ghost use Rattle.std.specs.Process.{exit_status};
+ghost use Rattle.std.specs.Prelude.{◌≡◌, is_ok};
+ghost use Rattle.swd_cli.specs.Statuses.{status_of};
 
-use std::process::ExitCode;
+use std::fmt;
+use std::fmt::{Display, Formatter};
+use std::io::Write;
 use swd_bits::OneFault;
 use swd_text::EngineFault;
+
+/// The status where all was done.
+pub const DONE: u8 = 0;
 
 /// The status at a fault of words, texts, files or memory.
 pub const FAULT: u8 = 2;
 
+// A name on one line: its control characters are shown by their escapes.
+#[derive(Drop)]
+struct Shown<'a>(&'a str);
+
+impl Display for Shown<'_> {
+    fn fmt<W: fmt::Write>(&self, f: &mut Formatter<W>) -> fmt::Result {
+        for c in self.0.chars() {
+            if c.is_control() {
+                write!(f, "{}", c.escape_default())?;
+            } else {
+                write!(f, "{c}")?;
+            }
+        }
+        Ok(())
+    }
+}
+
 /// Says what is wrong, on one line of standard error. Where that can't be written, the status says
 /// it alone.
-pub fn tell(rt: &impl Eprint, what: &str) -> ExitCode
-    ensures { exit_status result ≡ 2 }
+pub fn tell<E: Write>(errors: &mut E, what: &str) -> u8
+    ensures { result ≡ 2 }
 {
-    let _ = eprintln!(rt; "swd: {what}");
-    ExitCode::from(FAULT)
+    let _ = writeln!(errors, "swd: {what}");
+    FAULT
 }
 
 /// Says that a file can't be opened or made.
-pub fn cannot_open(rt: &impl Eprint, name: &str) -> ExitCode
-    ensures { exit_status result ≡ 2 }
+pub fn cannot_open<E: Write>(errors: &mut E, name: &str) -> u8
+    ensures { result ≡ 2 }
 {
-    let _ = eprintln!(rt; "swd: cannot open {name}");
-    ExitCode::from(FAULT)
+    let _ = writeln!(errors, "swd: cannot open {}", Shown(name));
+    FAULT
 }
 
 /// The status of `swd one`.
-pub fn one_status(rt: &impl Eprint, answer: Result<(), OneFault>) -> ExitCode
-    ensures { exit_status result ≡ (if is_ok answer then 0 else 2) }
+pub fn one_status<E: Write>(errors: &mut E, answer: Result<(), OneFault>) -> u8
+    ensures { result ≡ status_of (is_ok answer) }
 {
     match answer {
-        Ok(()) => ExitCode::SUCCESS,
+        Ok(()) => DONE,
         Err(OneFault::BadChar { place }) => {
-            let _ = eprintln!(rt; "swd: trace byte {place}: bad character");
-            ExitCode::from(FAULT)
+            let _ = writeln!(errors, "swd: trace byte {place}: bad character");
+            FAULT
         }
-        Err(OneFault::NotOne) => tell(rt, "not one transaction"),
-        Err(OneFault::Read) => tell(rt, "read failed"),
-        Err(OneFault::Write) => tell(rt, "write failed"),
+        Err(OneFault::NotOne) => tell(errors, "not one transaction"),
+        Err(OneFault::Read) => tell(errors, "read failed"),
+        Err(OneFault::Write) => tell(errors, "write failed"),
     }
 }
 
 /// The status of a text engine.
-pub fn engine_status(rt: &impl Eprint, answer: Result<(), EngineFault>) -> ExitCode
-    ensures { exit_status result ≡ (if is_ok answer then 0 else 2) }
+pub fn engine_status<E: Write>(errors: &mut E, answer: Result<(), EngineFault>) -> u8
+    ensures { result ≡ status_of (is_ok answer) }
 {
     match answer {
-        Ok(()) => ExitCode::SUCCESS,
+        Ok(()) => DONE,
         Err(fault) => {
-            let _ = eprintln!(rt; "swd: {fault}");
-            ExitCode::from(FAULT)
+            let _ = writeln!(errors, "swd: {fault}");
+            FAULT
         }
     }
 }

@@ -1,7 +1,231 @@
-//! What words ask for.
+//! What words ask for, and what the program does with them.
 use crate::command::{Line, LineFault};
+use crate::files::Files;
+use crate::program::run_words;
+use crate::report::{cannot_open, engine_status};
 use crate::words::line;
+use std::alloc::Global;
+use std::io;
+use std::io::{Read, Write};
 use std::test::Fail;
+use swd_text::{EngineFault, TextFault};
+use swd_trace::ListFault;
+
+const DPIDR_READ: &[u8] = b"10100101 1 100 11101110001010000000010111010100 0 1";
+
+const DPIDR_LINE: &[u8] = b"dp 0 read ok 2ba01477\n";
+
+const DPIDR_BITS: &[u8] = b"1010010111001110111000101000000001011101010001\n";
+
+// Two files, by their names.
+#[derive(Drop)]
+struct Shelf;
+
+impl Files for Shelf {
+    type File = &'static [u8];
+
+    fn open(&self, name: &str) -> io::Result<&'static [u8]> {
+        match name {
+            "trace" => Ok(DPIDR_READ),
+            "list" | "./-" => Ok(DPIDR_LINE),
+            _ => Err(io::Error::from(io::ErrorKind::NotFound)),
+        }
+    }
+}
+
+// What a run of the program gave.
+#[derive(Drop)]
+struct Ran {
+    status: u8,
+    output: Vec<u8>,
+    errors: Vec<u8>,
+}
+
+fn run_on<I: Read>(alloc: Global, words: &[&str], mut input: I) -> Ran
+where
+    I: Drop,
+{
+    let mut output = Vec::new(alloc);
+    let mut errors = Vec::new(alloc);
+    let status = run_words(alloc, words, &mut input, &Shelf, &mut output, &mut errors);
+    Ran {
+        status,
+        output,
+        errors,
+    }
+}
+
+#[test]
+fn each_command_reads_standard_input(rt: HostRuntime) {
+    for (command, input, output) in [
+        ("one", DPIDR_READ, DPIDR_LINE),
+        ("decode", b"000 1".as_slice(), b"idle 3\ncut 1\n".as_slice()),
+        ("encode", DPIDR_LINE, DPIDR_BITS),
+    ] {
+        for words in [
+            ["swd", command].as_slice(),
+            ["swd", command, "-"].as_slice(),
+        ] {
+            let ran = run_on(rt.alloc(), words, input);
+            assert_eq!(rt; ran.output.as_slice(), output);
+            assert!(rt; ran.errors.is_empty());
+            assert_eq!(rt; ran.status, 0);
+        }
+    }
+}
+
+#[test]
+fn each_command_reads_a_file(rt: HostRuntime) {
+    for (command, name, output) in [
+        ("one", "trace", DPIDR_LINE),
+        ("decode", "trace", DPIDR_LINE),
+        ("encode", "list", DPIDR_BITS),
+        ("encode", "./-", DPIDR_BITS),
+    ] {
+        let ran = run_on(
+            rt.alloc(),
+            ["swd", command, name].as_slice(),
+            b"x".as_slice(),
+        );
+        assert_eq!(rt; ran.output.as_slice(), output);
+        assert!(rt; ran.errors.is_empty());
+        assert_eq!(rt; ran.status, 0);
+    }
+}
+
+#[test]
+fn each_fault_takes_its_line(rt: HostRuntime) {
+    for (command, input, errors) in [
+        (
+            "one",
+            b"10x".as_slice(),
+            b"swd: trace byte 2: bad character\n".as_slice(),
+        ),
+        ("one", b"1", b"swd: not one transaction\n"),
+        ("decode", b"10x", b"swd: trace byte 2: bad character\n"),
+        ("encode", b"idle 01\n", b"swd: list line 1: bad line\n"),
+        (
+            "encode",
+            b"idle 1\nidle 1\n",
+            b"swd: list line 1: not normal\n",
+        ),
+    ] {
+        let ran = run_on(rt.alloc(), ["swd", command].as_slice(), input);
+        assert!(rt; ran.output.is_empty());
+        assert_eq!(rt; ran.errors.as_slice(), errors);
+        assert_eq!(rt; ran.status, 2);
+    }
+}
+
+// Fails at each read and write.
+#[derive(Drop)]
+struct Broken;
+
+impl Read for Broken {
+    fn read(&mut self, _buf: &mut [u8]) -> io::Result<usize> {
+        Err(io::Error::from(io::ErrorKind::BrokenPipe))
+    }
+}
+
+impl Write for Broken {
+    fn write(&mut self, _buf: &[u8]) -> io::Result<usize> {
+        Err(io::Error::from(io::ErrorKind::BrokenPipe))
+    }
+
+    fn flush(&mut self) -> io::Result<()> {
+        Ok(())
+    }
+}
+
+#[test]
+fn ends_that_fail_take_their_lines(rt: HostRuntime) {
+    for (command, input) in [
+        ("one", DPIDR_READ),
+        ("decode", DPIDR_READ),
+        ("encode", DPIDR_LINE),
+    ] {
+        let words = ["swd", command];
+        let ran = run_on(rt.alloc(), words.as_slice(), Broken);
+        assert!(rt; ran.output.is_empty());
+        assert_eq!(rt; ran.errors.as_slice(), b"swd: read failed\n".as_slice());
+        assert_eq!(rt; ran.status, 2);
+        let mut input = input;
+        let mut errors = Vec::new(rt.alloc());
+        let status = run_words(
+            rt.alloc(),
+            words.as_slice(),
+            &mut input,
+            &Shelf,
+            &mut Broken,
+            &mut errors,
+        );
+        assert_eq!(rt; errors.as_slice(), b"swd: write failed\n".as_slice());
+        assert_eq!(rt; status, 2);
+    }
+}
+
+#[test]
+fn a_file_that_is_not_there_takes_one_line(rt: HostRuntime) {
+    for (name, errors) in [
+        ("b", b"swd: cannot open b\n".as_slice()),
+        ("a\nb\t\u{1b}[1m", b"swd: cannot open a\\nb\\t\\u{1b}[1m\n"),
+    ] {
+        let ran = run_on(
+            rt.alloc(),
+            ["swd", "decode", name].as_slice(),
+            b"".as_slice(),
+        );
+        assert!(rt; ran.output.is_empty());
+        assert_eq!(rt; ran.errors.as_slice(), errors);
+        assert_eq!(rt; ran.status, 2);
+    }
+    let mut errors = Vec::new(rt.alloc());
+    assert_eq!(rt; cannot_open(&mut errors, "b"), 2);
+}
+
+#[test]
+fn each_fault_of_an_engine_has_its_words(rt: HostRuntime) {
+    for (fault, words) in [
+        (
+            EngineFault::Text(TextFault::BadChar { place: 7 }),
+            b"swd: trace byte 7: bad character\n".as_slice(),
+        ),
+        (
+            EngineFault::Text(TextFault::TooLong),
+            b"swd: trace too long\n",
+        ),
+        (
+            EngineFault::List(ListFault::BadLine { line: 3 }),
+            b"swd: list line 3: bad line\n",
+        ),
+        (
+            EngineFault::List(ListFault::NotNormal { line: 4 }),
+            b"swd: list line 4: not normal\n",
+        ),
+        (EngineFault::Read, b"swd: read failed\n"),
+        (EngineFault::Write { written: 5 }, b"swd: write failed\n"),
+        (EngineFault::Memory, b"swd: no memory\n"),
+    ] {
+        let mut errors = Vec::new(rt.alloc());
+        assert_eq!(rt; engine_status(&mut errors, Err(fault)), 2);
+        assert_eq!(rt; errors.as_slice(), words);
+    }
+}
+
+#[test]
+fn help_and_version_go_to_standard_output(rt: HostRuntime) {
+    let ran = run_on(rt.alloc(), ["swd", "--version"].as_slice(), b"".as_slice());
+    assert_eq!(rt; ran.output.as_slice(), b"swd 0.1.0\n".as_slice());
+    assert_eq!(rt; ran.status, 0);
+    let ran = run_on(rt.alloc(), ["swd", "--help"].as_slice(), b"".as_slice());
+    assert!(rt; !ran.output.is_empty());
+    assert!(rt; ran.errors.is_empty());
+    assert_eq!(rt; ran.status, 0);
+    let ran = run_on(rt.alloc(), ["swd", "two"].as_slice(), b"".as_slice());
+    assert!(rt; ran.output.is_empty());
+    assert!(rt; !ran.errors.is_empty());
+    assert_eq!(rt; ran.status, 2);
+}
 
 #[test]
 fn words_without_a_file(rt: HostRuntime) {

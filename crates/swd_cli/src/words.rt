@@ -11,6 +11,8 @@ use clap::error::ErrorKind;
 use clap::{Arg, ArgMatches, Command};
 use std::alloc::{AllocError, Global};
 
+const VERSION: &str = "0.1.0";
+
 const ABOUT: &str = "Reads and writes traces of the Serial Wire Debug (SWD) line.";
 
 const AFTER: &str = "\
@@ -22,7 +24,10 @@ a transaction as in 'dp 0 read ok 2ba01477' or 'ap c write wait' (also fault, ba
 parity, none N for no acknowledgement), junk B (a bit that belongs to nothing), cut BITS (the end
 of a trace that was cut off).
 
-Status: 0 all done, 2 a fault, which is told on standard error.
+FILE may be - for standard input; a file of that name is ./-
+
+Status: 0 all done; 2 a fault of words, texts, files or memory, which is told on standard error;
+1 is kept for a run of a host that ended before all was done.
 
 Example, a read of the debug port's identification register:
   echo '10100101 1 100 11101110001010000000010111010100 0 1' | swd decode
@@ -49,7 +54,7 @@ fn file_arg<'a>(alloc: Global) -> Arg<'a>
     ensures rule { rule_of result ≡ file_rule }
     ensures local { result.global ≡ false }
 {
-    Arg::new(alloc, "FILE").help("The file to read; without it, standard input")
+    Arg::new(alloc, "FILE").help("The file to read; without it, and for -, standard input")
 }
 
 fn with_arg<'a>(command: Command<'a>, arg: Arg<'a>) -> Result<Command<'a>, AllocError>
@@ -86,6 +91,7 @@ fn bare_command<'a>(alloc: Global) -> Command<'a>
 {
     Command::new(alloc, "swd")
         .about(ABOUT)
+        .version(VERSION)
         .after_help(AFTER)
         .subcommand_required(true)
 }

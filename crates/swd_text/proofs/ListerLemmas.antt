@@ -1,50 +1,88 @@
 -- Laws of a trace text that is listed as it is read.
-use Rattle.std.proofs.Common.{◌≡◌, ℕ, ◌+◌, Bool, List, [], ◌∷◌, ◌++◌, length, Option, Result, Ok, Err, refl, sym, ap, ◌∙◌, subst, append_assoc, arith}
+use Rattle.std.proofs.Common.{◌≡◌, ℕ, ◌+◌, ◌-◌, ◌<◌, ◌^◌, Bool, false, List, [], ◌∷◌, ◌++◌, length, Option, Result, Ok, Err, refl, sym, ap, ◌∙◌, subst, append_assoc, arith, inl}
 use Rattle.std.specs.Prelude.{OnOk, OnErr, IfErr}
-use Rattle.std.proofs.lemmas.List.{length-append}
+use Rattle.std.proofs.KnownBytes.{Appends-nil}
+use Rattle.std.proofs.lemmas.List.{length-append, append-nil}
+use Rattle.swd_io.specs.Blocks.{Sends}
+use Rattle.swd_io.specs.declared.block.Block.{Block}
+use Rattle.swd_bits.proofs.ScanLemmas.{reads_none}
 use Rattle.swd_trace.specs.declared.item.Item.{Item}
 use Rattle.swd_trace.specs.declared.decoder.Decoder.{Decoder}
-use Rattle.swd_trace.specs.Reading.{reading_of}
+use Rattle.swd_trace.specs.Reading.{items_after, reading_of}
+use Rattle.swd_trace.specs.Decided.{IsUndecided}
 use Rattle.swd_trace.specs.Texts.{item_line, listing}
 use Rattle.swd_trace.specs.Held.{rest, fed_of}
-use Rattle.swd_text.specs.Blocks.{Sends}
-use Rattle.swd_text.specs.Listers.{Lists}
+use Rattle.swd_text.specs.Listers.{Lists, Listed, HasRead}
 use Rattle.swd_text.specs.declared.lister.Lister.{Lister}
+
+-- nothing at all decides nothing
+none_undecided : (readings : List Bool → List Item) → readings [] ≡ reading_of [] → IsUndecided readings
+unfolding items_after
+none_undecided readings e = λ item h.
+    let p = h [] (inl refl) in
+    let bad : [] ≡ item ∷ p.0 = sym e ∙ p.1 in
+    absurd cc
+
+-- a lister that has taken nothing
+pub has_read_nothing : {W : Type 0} (contents : W → Option (List ℕ)) (lister : Lister) (writer : W) →
+    ((more : List Bool) → rest lister.decoder more ≡ reading_of more) → fed_of lister.decoder ≡ 0 → lister.scan ≡ false →
+    lister.place ≡ 0 → lister.written ≡ 0 → HasRead contents (contents writer) (lister, writer) []
+has_read_nothing contents lister writer law fed scan place written = record {
+  read = record {
+    bits = [];
+    items = [];
+    reads = reads_none lister.scan scan;
+    undecided = none_undecided _ (law []);
+    law = law;
+    count = fed;
+    counted = omega arith;
+  };
+  gone = Appends-nil _;
+  written = omega arith;
+  place = omega arith;
+}
 
 -- the lines of some items and one more
 pub listing_more : (items : List Item) (item : Item) → listing (items ++ item ∷ []) ≡ listing items ++ (item_line item ++ 10 ∷ [])
-listing_more [] item = append_nil (item_line item ++ 10 ∷ [])
-  where
-    append_nil : (xs : List ℕ) → xs ++ [] ≡ xs
-    append_nil [] = refl
-    append_nil (x ∷ xs) = ap (λ ys. x ∷ ys) (append_nil xs)
+listing_more [] item = append-nil (item_line item ++ 10 ∷ [])
 listing_more (i ∷ items) item =
     ap (λ x. (item_line i ++ 10 ∷ []) ++ x) (listing_more items item) ∙ sym (append_assoc (item_line i ++ 10 ∷ []) (listing items) (item_line item ++ 10 ∷ []))
 
 -- one more item is given, and its line is under way
-pub one_more : (start old new : Option (List ℕ)) (before after : Lister) (d : Decoder) (bits : List Bool) (items : List Item) (item : Item) →
-    ((more : List Bool) → rest before.decoder more ≡ item ∷ rest d more) → fed_of d ≡ fed_of before.decoder → after.decoder ≡ d →
-    ((all : List ℕ) → Sends start old before.block all → Sends start new after.block (all ++ (item_line item ++ 10 ∷ []))) →
-    Lists start old before bits items → Lists start new after bits (items ++ item ∷ [])
-one_more start old new before after d bits items item law fed same sends h = record {
-  law = λ more. ap (λ x. (items ++ item ∷ []) ++ rest x more) same ∙ append_assoc items (item ∷ []) (rest d more) ∙ ap (λ x. items ++ x) (sym (law more)) ∙ h.law more;
-  count = ap fed_of same ∙ fed ∙ h.count;
-  sends = subst (λ all. Sends start new after.block all) (sym (listing_more items item)) (sends (listing items) h.sends);
+pub one_more : {W : Type 0} (contents : W → Option (List ℕ)) (start : Option (List ℕ)) (before after : Decoder) (old new : Block W) (bits : List Bool) (items : List Item) (item : Item) →
+    ((more : List Bool) → rest before more ≡ item ∷ rest after more) → fed_of after ≡ fed_of before →
+    ((all : List ℕ) → Sends contents start old all → Sends contents start new (all ++ (item_line item ++ 10 ∷ []))) →
+    Lists contents start before old bits items → Lists contents start after new bits (items ++ item ∷ [])
+one_more contents start before after old new bits items item law fed sends h = record {
+  law = λ more. append_assoc items (item ∷ []) (rest after more) ∙ ap (λ x. items ++ x) (sym (law more)) ∙ h.law more;
+  count = fed ∙ h.count;
+  counted = h.counted;
+  sends = subst (λ all. Sends contents start new all) (sym (listing_more items item)) (sends (listing items) h.sends);
 }
 
 -- one more bit is taken
-pub one_bit : (start now : Option (List ℕ)) (before after : Lister) (bits : List Bool) (items : List Item) (bit : Bool) →
-    ((more : List Bool) → rest after.decoder more ≡ rest before.decoder (bit ∷ more)) → fed_of after.decoder ≡ fed_of before.decoder + 1 →
-    (Sends start now before.block (listing items) → Sends start now after.block (listing items)) →
-    Lists start now before bits items → Lists start now after (bits ++ bit ∷ []) items
-one_bit start now before after bits items bit law fed sends h =
+pub one_bit : {W : Type 0} (contents : W → Option (List ℕ)) (start : Option (List ℕ)) (before after : Decoder) (block : Block W) (bits : List Bool) (items : List Item) (bit : Bool) →
+    ((more : List Bool) → rest after more ≡ rest before (bit ∷ more)) → fed_of after ≡ fed_of before + 1 → fed_of before < 2 ^ 64 - 1 →
+    Lists contents start before block bits items → Lists contents start after block (bits ++ bit ∷ []) items
+one_bit contents start before after block bits items bit law fed few h =
     let count = h.count in
     let len : length (bits ++ bit ∷ []) ≡ length bits + 1 = length-append bits (bit ∷ []) in
     record {
       law = λ more. ap (λ x. items ++ x) (law more) ∙ h.law (bit ∷ more) ∙ ap reading_of (sym (append_assoc bits (bit ∷ []) more));
       count = omega arith;
-      sends = sends h.sends;
+      counted = omega arith;
+      sends = h.sends;
     }
+
+-- what was listed, by its bits and items
+pub lists_of : {W : Type 0} (contents : W → Option (List ℕ)) (start : Option (List ℕ)) (decoder : Decoder) (comment : Bool) (block : Block W) (seen : List ℕ) →
+    (h : Listed contents start decoder comment block seen) → Lists contents start decoder block h.read.bits h.read.items
+lists_of contents start decoder comment block seen h = record {
+  law = h.read.law;
+  count = h.read.count;
+  counted = h.read.counted;
+  sends = h.sends;
+}
 
 -- two facts of an Ok
 pub on_ok : {A E : Type 0} {P Q R : Type 0} (r : Result A E) → (P → Q → R) → OnOk r P → OnOk r Q → OnOk r R
@@ -55,12 +93,3 @@ on_ok (Err e) f p q = tt
 pub on_err : {A E : Type 0} {Q : Type 0} {P R : E → Type 0} (r : Result A E) → ((e : E) → P e → Q → R e) → IfErr r P → OnErr r Q → IfErr r R
 on_err (Ok x) f p q = tt
 on_err (Err e) f p q = f e p q
-
--- what follows from a fact of an Ok, and of an Err
-pub ok_then : {A E : Type 0} {P Q : Type 0} (r : Result A E) → (P → Q) → OnOk r P → OnOk r Q
-ok_then (Ok x) f p = f p
-ok_then (Err e) f p = tt
-
-pub err_then : {A E : Type 0} {P Q : E → Type 0} (r : Result A E) → ((e : E) → P e → Q e) → IfErr r P → IfErr r Q
-err_then (Ok x) f p = tt
-err_then (Err e) f p = f e p

@@ -1,27 +1,34 @@
 -- What is answered to a trace text that is to be listed.
-use Rattle.std.specs.Prelude.{◌≡◌, ℕ, ◌+◌, ◌-◌, ◌^◌, ◌⊎◌, min, Bool, List, length, take, Option, Some, Result, Ok, Err, IfSome}
-use Rattle.std.specs.Io.KnownBytes.{Appends}
+use Rattle.std.specs.Prelude.{◌≡◌, ℕ, ◌+◌, ◌-◌, ◌^◌, ◌<◌, ◌⊎◌, min, Bool, List, length, take, Option, Some, Result, Ok, Err, IfSome}
+use Rattle.std.specs.Io.KnownBytes.{Appends, Consumes, IsAtEnd}
+use Rattle.swd_io.specs.Blocks.{Stopped}
 use Rattle.swd_bits.specs.TraceText.{bits_of_text}
 use Rattle.swd_bits.specs.One.{IsFirstBad}
 use Rattle.swd_trace.specs.declared.item.Item.{Item}
 use Rattle.swd_trace.specs.Reading.{reading_of}
 use Rattle.swd_trace.specs.Decided.{IsDecided}
 use Rattle.swd_trace.specs.Texts.{listing}
-use Rattle.swd_text.specs.Blocks.{Stopped}
+use Rattle.swd_text.specs.declared.fault.TextFault.{TextFault}
 use Rattle.swd_text.specs.declared.fault.TextFault.TheVariants.{BadChar, TooLong}
 use Rattle.swd_text.specs.declared.fault.EngineFault.{EngineFault}
 use Rattle.swd_text.specs.declared.fault.EngineFault.TheVariants.{Text, List as Listing, Read, Write, Memory}
 
--- the items are those that the bits of the text's first bytes decide
-pub record DecidedAt (text : List ℕ) (place : ℕ) (items : List Item) : Type 0 where
+-- the text has bits, fewer than 2^64, and they decide these items
+pub record DecidedBy (text : List ℕ) (items : List Item) : Type 0 where
   pub bits : List Bool
-  pub has : bits_of_text (take place text) ≡ Some bits
+  pub has : bits_of_text text ≡ Some bits
+  pub counted : length bits < 2 ^ 64
   pub decided : IsDecided bits items
 
--- the items are the reading of all of the text's bits
+-- the items are those that the bits of the text's first bytes decide
+abbrev pub DecidedAt : List ℕ → ℕ → List Item → Type 0
+DecidedAt text place items = DecidedBy (take place text) items
+
+-- the text has bits, fewer than 2^64, and their reading is these items
 pub record ReadsAs (text : List ℕ) (items : List Item) : Type 0 where
   pub bits : List Bool
   pub has : bits_of_text text ≡ Some bits
+  pub counted : length bits < 2 ^ 64
   pub read : items ≡ reading_of bits
 
 -- the byte at this place is the first bad one, and the items are those that were decided before it
@@ -39,17 +46,39 @@ pub record StopsAtLong (items : List Item) (text : List ℕ) : Type 0 where
   pub long : length bits ≡ 2 ^ 64
   pub decided : DecidedAt text place items
 
--- the items are those that some first bytes of the text decide
-abbrev pub DecidedSomewhere : List Item → List ℕ → Type 0
-DecidedSomewhere items text = (place : ℕ) × DecidedAt text place items
+-- the text can't go on at some byte, and the items are those that were decided before it
+abbrev pub StopsWith : TextFault → List Item → List ℕ → Type 0
+StopsWith (BadChar told) items text = StopsAtBad told items text
+StopsWith TooLong items text = StopsAtLong items text
 
--- What an answer says of the reader's text, where its bytes are known, and of what the writer holds before and after.
-abbrev pub Decodes : Result (Unit {0}) EngineFault → Option (List ℕ) → Option (List ℕ) → Option (List ℕ) → Type 0
-Decodes (Ok u) text old new = (items : List Item) × IfSome text (λ bytes. ReadsAs bytes items) × Appends old new (listing items)
-Decodes (Err (Text (BadChar told))) text old new = (items : List Item) × IfSome text (StopsAtBad told items) × Appends old new (listing items)
-Decodes (Err (Text TooLong)) text old new = (items : List Item) × IfSome text (StopsAtLong items) × Appends old new (listing items)
-Decodes (Err Read) text old new = (items : List Item) × IfSome text (DecidedSomewhere items) × Appends old new (listing items)
-Decodes (Err (Write told)) text old new =
-    (items : List Item) × IfSome text (λ bytes. DecidedSomewhere items bytes ⊎ ReadsAs bytes items) × Stopped told old new (listing items)
-Decodes (Err Memory) text old new = ⊥
-Decodes (Err (Listing fault)) text old new = ⊥
+-- the items that are told of what was read of a text: those that it decides, or decides before the byte at which it can't go on
+abbrev pub IsDue : List ℕ → List Item → Type 0
+IsDue text items = DecidedBy text items ⊎ ((fault : TextFault) × StopsWith fault items text)
+
+-- What an answer says of the reader's text, where its bytes are known, of what the reader has left of it, and of what the
+-- writer holds before and after.
+abbrev pub Decodes : Result (Unit {0}) EngineFault → Option (List ℕ) → Option (List ℕ) → Option (List ℕ) →
+    Option (List ℕ) → Type 0
+Decodes (Ok u) text left old new =
+    (items : List Item) × IsAtEnd left × IfSome text (λ bytes. ReadsAs bytes items) × Appends old new (listing items)
+Decodes (Err (Text fault)) text left old new =
+    (items : List Item) × IfSome text (StopsWith fault items) × Appends old new (listing items)
+Decodes (Err Read) text left old new =
+    (read : List ℕ) × (items : List Item) × Consumes text left read × DecidedBy read items
+    × Appends old new (listing items)
+Decodes (Err (Write told)) text left old new =
+    (read : List ℕ) × (items : List Item) × Consumes text left read
+    × (IsDue read items ⊎ (IsAtEnd left × ReadsAs read items))
+    × Stopped told old new (listing items)
+Decodes (Err Memory) text left old new = ⊥
+Decodes (Err (Listing fault)) text left old new = ⊥
+
+-- the reading of a whole text went out, all of it or exactly its first bytes
+abbrev pub Finishes : Result (Unit {0}) EngineFault → List ℕ → Option (List ℕ) → Option (List ℕ) → Type 0
+Finishes (Ok u) text start now = (items : List Item) × ReadsAs text items × Appends start now (listing items)
+Finishes (Err (Write told)) text start now =
+    (items : List Item) × ReadsAs text items × Stopped told start now (listing items)
+Finishes (Err Read) text start now = ⊥
+Finishes (Err Memory) text start now = ⊥
+Finishes (Err (Text fault)) text start now = ⊥
+Finishes (Err (Listing fault)) text start now = ⊥

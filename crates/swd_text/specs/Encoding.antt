@@ -6,7 +6,7 @@ use Rattle.swd_trace.specs.declared.listing.fault.ListFault.{ListFault}
 use Rattle.swd_trace.specs.declared.listing.fault.ListFault.TheVariants.{BadLine, NotNormal, Memory as ListMemory, Read as ListRead}
 use Rattle.swd_trace.specs.Listed.{lines, Lists, IsNormal, Refuses}
 use Rattle.swd_trace.specs.Texts.{trace_text}
-use Rattle.swd_text.specs.Blocks.{Stopped}
+use Rattle.swd_io.specs.Blocks.{Stopped}
 use Rattle.swd_text.specs.declared.fault.EngineFault.{EngineFault}
 use Rattle.swd_text.specs.declared.fault.EngineFault.TheVariants.{Text, List as Listing, Read, Write, Memory}
 

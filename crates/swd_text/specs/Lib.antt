@@ -1,5 +1,3 @@
-pub mod Blocks
-pub mod Halts
 pub mod Listers
 pub mod Decoding
 pub mod Encoding

@@ -1,40 +1,58 @@
 -- A trace text that is listed as it is read.
-use Rattle.std.specs.Prelude.{◌≡◌, ℕ, ◌-◌, ◌^◌, min, Bool, List, [], ◌∷◌, ◌++◌, length, Option, Some, Result, Ok, Err, IfSome}
+use Rattle.std.specs.Prelude.{◌≡◌, ℕ, ◌-◌, ◌^◌, ◌<◌, min, Bool, List, [], ◌∷◌, ◌++◌, length, Option}
+use Rattle.std.specs.Io.KnownBytes.{Appends}
+use Rattle.swd_io.specs.Blocks.{Sends, Stopped}
+use Rattle.swd_io.specs.declared.block.Block.{Block}
 use Rattle.swd_bits.specs.One.{Reads, IsFirstBad}
 use Rattle.swd_trace.specs.declared.item.Item.{Item}
+use Rattle.swd_trace.specs.declared.decoder.Decoder.{Decoder}
 use Rattle.swd_trace.specs.Reading.{reading_of}
 use Rattle.swd_trace.specs.Decided.{IsUndecided}
 use Rattle.swd_trace.specs.Texts.{listing}
 use Rattle.swd_trace.specs.Held.{rest, fed_of}
-use Rattle.swd_text.specs.Blocks.{Sends, stop_of}
+use Rattle.swd_text.specs.Decoding.{StopsWith, IsDue}
 use Rattle.swd_text.specs.declared.lister.Lister.{Lister}
-use Rattle.swd_text.specs.declared.lister.Halt.{Halt}
-use Rattle.swd_text.specs.declared.lister.Halt.TheVariants.{Bad as BadHalt, Long as LongHalt, Unread, Unwritten}
-use Rattle.swd_text.specs.declared.lister.Stop.{Stop}
-use Rattle.swd_text.specs.declared.lister.Stop.TheVariants.{Bad, Long}
+use Rattle.swd_text.specs.declared.fault.TextFault.{TextFault}
+use Rattle.swd_text.specs.declared.fault.TextFault.TheVariants.{BadChar, TooLong}
+use Rattle.swd_text.specs.declared.fault.EngineFault.{EngineFault}
+use Rattle.swd_text.specs.declared.fault.EngineFault.TheVariants.{Text, List as Listing, Read, Write, Memory}
 
 -- The items so far and what the decoder holds are the reading of the bits so far, whatever follows, and the items' lines
--- are under way to a writer that began with `start`.
-pub record Lists (start now : Option (List ℕ)) (lister : Lister) (bits : List Bool) (items : List Item) : Type 0 where
-  pub law : (more : List Bool) → items ++ rest lister.decoder more ≡ reading_of (bits ++ more)
-  pub count : fed_of lister.decoder ≡ length bits
-  pub sends : Sends start now lister.block (listing items)
+-- are under way.
+pub record Lists {W : Type 0} (contents : W → Option (List ℕ)) (start : Option (List ℕ)) (decoder : Decoder)
+    (block : Block W) (bits : List Bool) (items : List Item) : Type 0 where
+  pub law : (more : List Bool) → items ++ rest decoder more ≡ reading_of (bits ++ more)
+  pub count : fed_of decoder ≡ length bits
+  pub counted : length bits < 2 ^ 64
+  pub sends : Sends contents start block (listing items)
 
--- a text was read so far, which ends in a comment or outside, and what it decides is under way
-pub record Listed (start now : Option (List ℕ)) (lister : Lister) (comment : Bool) (seen : List ℕ) : Type 0 where
+-- A text was read so far, which ends in a comment or outside: these are its bits, and the items that they decide.
+pub record IsRead (decoder : Decoder) (comment : Bool) (seen : List ℕ) : Type 0 where
   pub bits : List Bool
   pub items : List Item
   pub reads : Reads seen bits comment
-  pub undecided : IsUndecided (rest lister.decoder)
-  pub lists : Lists start now lister bits items
+  pub undecided : IsUndecided (rest decoder)
+  pub law : (more : List Bool) → items ++ rest decoder more ≡ reading_of (bits ++ more)
+  pub count : fed_of decoder ≡ length bits
+  pub counted : length bits < 2 ^ 64
+
+-- the same, and the lines of these items are under way
+pub record Listed {W : Type 0} (contents : W → Option (List ℕ)) (start : Option (List ℕ)) (decoder : Decoder)
+    (comment : Bool) (block : Block W) (seen : List ℕ) : Type 0 where
+  pub read : IsRead decoder comment seen
+  pub sends : Sends contents start block (listing read.items)
 
 -- the same, and the lister reads on from there
-abbrev pub GoesOn : Option (List ℕ) → Option (List ℕ) → Lister → List ℕ → Type 0
-GoesOn start now lister seen = Listed start now lister lister.scan seen
+abbrev pub GoesOn : {W : Type 0} → (W → Option (List ℕ)) → Option (List ℕ) → Lister → Block W → List ℕ → Type 0
+GoesOn contents start lister block seen = Listed contents start lister.decoder lister.scan block seen
 
--- the same, and the lister reads no further
-abbrev pub Ends : Option (List ℕ) → Option (List ℕ) → Lister → List ℕ → Type 0
-Ends start now lister seen = (comment : Bool) × Listed start now lister comment seen
+-- These bytes were taken, and the lines of the items that they decide went out to a writer that began with `start`.
+pub record HasRead {W : Type 0} (contents : W → Option (List ℕ)) (start : Option (List ℕ)) (state : Lister × W)
+    (seen : List ℕ) : Type 0 where
+  pub read : IsRead state.0.decoder state.0.scan seen
+  pub gone : Appends start (contents state.1) (listing read.items)
+  pub written : state.0.written ≡ min (length (listing read.items)) (2 ^ 64 - 1)
+  pub place : state.0.place ≡ min (length seen) (2 ^ 64 - 1)
 
 -- with one more byte the text has one bit more than 2^64 - 1
 pub record IsLong (seen : List ℕ) (byte : ℕ) : Type 0 where
@@ -43,28 +61,37 @@ pub record IsLong (seen : List ℕ) (byte : ℕ) : Type 0 where
   pub reads : Reads (seen ++ byte ∷ []) bits comment
   pub long : length bits ≡ 2 ^ 64
 
--- why no trace text goes on with this byte
-abbrev pub StopsAt : Stop → List ℕ → ℕ → Type 0
-StopsAt Bad seen byte = (more : List ℕ) → IsFirstBad (seen ++ byte ∷ more) (length seen)
-StopsAt Long seen byte = IsLong seen byte
+-- why no trace text goes on with this byte, which stands at a place
+abbrev pub StopsAt : TextFault → ℕ → List ℕ → ℕ → Type 0
+StopsAt (BadChar told) place seen byte = (told ≡ place) × ((more : List ℕ) → IsFirstBad (seen ++ byte ∷ more) (length seen))
+StopsAt TooLong place seen byte = IsLong seen byte
 
--- with the next byte of the text no trace text goes on
-pub record Meets (stop : Stop) (seen text : List ℕ) : Type 0 where
-  pub byte : ℕ
-  pub more : List ℕ
-  pub whole : text ≡ seen ++ byte ∷ more
-  pub stops : StopsAt stop seen byte
+-- The text can't go on, whatever follows, and what it decides before that is under way.
+pub record StopsIn {W : Type 0} (contents : W → Option (List ℕ)) (start : Option (List ℕ)) (block : Block W)
+    (fault : TextFault) (text : List ℕ) : Type 0 where
+  pub items : List Item
+  pub stops : (more : List ℕ) → StopsWith fault items (text ++ more)
+  pub sends : Sends contents start block (listing items)
 
--- the text begins with what was read
-abbrev pub Begins : List ℕ → List ℕ → Type 0
-Begins seen text = (more : List ℕ) × (text ≡ seen ++ more)
+-- what is told before a fault of the text went out, all of it
+pub record TellsFault (start now : Option (List ℕ)) (fault : TextFault) (text : List ℕ) : Type 0 where
+  pub items : List Item
+  pub stops : (more : List ℕ) → StopsWith fault items (text ++ more)
+  pub gone : Appends start now (listing items)
 
--- What was read of a text, whose bytes are known or not, and that its listing is under way.
-abbrev pub ReadsOn : Result (Unit {0}) Halt → Option (List ℕ) → Option (List ℕ) → Option (List ℕ) → Lister → Type 0
-ReadsOn (Ok u) start text now lister = (seen : List ℕ) × Ends start now lister seen × IfSome text (λ bytes. bytes ≡ seen)
-ReadsOn (Err (BadHalt told)) start text now lister =
-    (seen : List ℕ) × Ends start now lister seen × (told ≡ min (length seen) (2 ^ 64 - 1)) × IfSome text (Meets Bad seen)
-ReadsOn (Err LongHalt) start text now lister = (seen : List ℕ) × Ends start now lister seen × IfSome text (Meets Long seen)
-ReadsOn (Err Unread) start text now lister = (seen : List ℕ) × Ends start now lister seen × IfSome text (Begins seen)
-ReadsOn (Err (Unwritten told)) start text now lister =
-    (seen : List ℕ) × Ends start now lister seen × (stop_of lister.block ≡ Some told) × IfSome text (Begins seen)
+-- a beginning of what is told went out
+pub record TellsCut (start now : Option (List ℕ)) (told : ℕ) (text : List ℕ) : Type 0 where
+  pub items : List Item
+  pub due : IsDue text items
+  pub cut : Stopped told start now (listing items)
+
+-- what a writer that began with `start` holds at a fault
+abbrev pub EndsBy : EngineFault → Option (List ℕ) → Option (List ℕ) → List ℕ → Type 0
+EndsBy (Text fault) start now text = TellsFault start now fault text
+EndsBy (Write told) start now text = TellsCut start now told text
+EndsBy Read start now text = ⊥
+EndsBy Memory start now text = ⊥
+EndsBy (Listing fault) start now text = ⊥
+
+abbrev pub Ends : {W : Type 0} → (W → Option (List ℕ)) → Option (List ℕ) → Lister × W → EngineFault → List ℕ → Type 0
+Ends contents start state fault text = EndsBy fault start (contents state.1) text

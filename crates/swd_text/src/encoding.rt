@@ -1,38 +1,35 @@
 //! The engine of `swd encode`: a listing to its trace text.
 ghost use Rattle.std.specs.Prelude.{◌≡◌, ℕ, List, ◌++◌, Option, IfSome};
-ghost use Rattle.std.specs.Io.KnownBytes.{Appends};
+ghost use Rattle.swd_io.specs.Blocks.{Sends};
 ghost use Rattle.swd_trace.specs.Listed.{IsLegal};
-ghost use Rattle.swd_trace.specs.Front.{AreLegal};
+ghost use Rattle.swd_trace.specs.Listed.{AreLegal};
 ghost use Rattle.swd_trace.specs.Texts.{item_text, trace_text};
-ghost use Rattle.swd_text.specs.Blocks.{Sends};
 ghost use Rattle.swd_text.specs.Encoding.{Encodes, Writes, fault_in};
 
-use crate::block::Block;
 use crate::fault::EngineFault;
 use std::alloc::Allocator;
 use std::io::{Read, Write};
+use swd_io::Block;
 use swd_trace::{Item, ItemBytes, ListFault, read_list};
 
 // How many bytes of an item go out at once.
 const PIECE: usize = 128;
 
 // The trace text of an item is under way, too. A huge count goes by in pieces.
-fn put_item<W: Write>(block: &mut Block, writer: &mut W, item: &Item)
+fn put_item<W: Write>(block: &mut Block<'_, W>, item: &Item)
     requires { IsLegal item.now }
-    ensures { (start : Option (List ℕ)) (all : List ℕ) → Sends start (W.contents writer.old) block.old all
-        → Sends start (W.contents writer.new) block.new (all ++ item_text item.now) }
+    ensures sends { (start : Option (List ℕ)) (all : List ℕ) → Sends W.contents start block.old all
+        → Sends W.contents start block.new (all ++ item_text item.now) }
+    ensures writer { block.new.writer.ghost_name ≡ block.old.writer.ghost_name }
 {
     let mut bytes = ItemBytes::of(item);
     let mut piece = [0u8; PIECE];
     loop {
         let filled = bytes.fill(&mut piece);
-        if filled == 0 {
+        if filled == 0 || block.has_failed() {
             return;
         }
-        if block.stopped().is_some() {
-            return;
-        }
-        block.put(writer, &piece[..filled]);
+        block.put(&piece[..filled]);
     }
 }
 
@@ -41,14 +38,13 @@ fn write_items<W: Write>(writer: &mut W, items: &[Item]) -> Result<(), u64>
     requires { AreLegal items.now }
     ensures { Writes result (W.contents writer.old) (W.contents writer.new) (trace_text items.now) }
 {
-    let mut block = Block::new();
+    let mut block = Block::new(writer, 0);
     for item in items {
-        put_item(&mut block, writer, item);
+        put_item(&mut block, item);
     }
-    block.flush(writer);
-    match block.stopped() {
-        Some(written) => Err(written),
-        None => Ok(()),
+    match block.flush() {
+        Ok(_) => Ok(()),
+        Err(written) => Err(written),
     }
 }
 

@@ -1,7 +1,6 @@
 //! The text engines: trace texts to listings and back.
 #![tactic(auto)]
 
-mod block;
 mod decoding;
 mod encoding;
 mod fault;

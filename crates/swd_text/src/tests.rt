@@ -2,13 +2,23 @@
 mod fakes;
 
 use crate::{EngineFault, TextFault, decode_text, encode_text};
-use fakes::{FailingReader, ShortWriter};
+use fakes::{CountingWriter, FailingReader, ShortWriter, WatchingReader};
 use linked_list_allocator::LocalHeap;
+use std::cell::Cell;
+use std::io::Read;
 use std::test::Fail;
 use swd_bits::{OneFault, one_text};
 use swd_trace::ListFault;
 
-const FIFTY: &str = "11111111111111111111111111111111111111111111111111";
+// Forty-nine ones and a zero; fifty ones and a zero; a line reset, the switch, and a line reset again.
+const FORTY_NINE: &[u8] = b"11111111111111111111111111111111111111111111111110";
+
+const FIFTY: &[u8] = b"111111111111111111111111111111111111111111111111110";
+
+const BRING_UP: &[u8] = b"11111111111111111111111111111111111111111111111111111111\
+    0111100111100111\
+    11111111111111111111111111111111111111111111111111111111\
+    00";
 
 const DPIDR_READ: &[u8] = b"10100101 1 100 11101110001010000000010111010100 0 1";
 
@@ -61,20 +71,6 @@ fn traces_have_their_listings(rt: HostRuntime) -> Result<(), Fail> {
         assert_eq!(rt; decode_text(&mut reader, &mut out), Ok(()));
         assert_eq!(rt; out.as_slice(), listing);
     }
-    Ok(())
-}
-
-#[test]
-fn forty_nine_ones_are_no_reset(rt: HostRuntime) -> Result<(), Fail> {
-    let mut reader = b"1111111111111111111111111111111111111111111111111 0".as_slice();
-    let mut out = Vec::new(rt.alloc());
-    assert_eq!(rt; decode_text(&mut reader, &mut out), Ok(()));
-    let mut lines = Vec::new(rt.alloc());
-    for _ in 0..49u8 {
-        lines.extend_from_slice(b"junk 1\n")?;
-    }
-    lines.extend_from_slice(b"junk 0\n")?;
-    assert_eq!(rt; out.as_slice(), lines.as_slice());
     Ok(())
 }
 
@@ -300,9 +296,78 @@ fn encoding_with_memory_refused(rt: HostRuntime) -> Result<(), Fail> {
 }
 
 #[test]
-fn fifty_ones_are_a_reset(rt: HostRuntime) {
-    let mut reader = FIFTY.as_bytes();
+fn lines_go_out_before_the_next_read(rt: HostRuntime) -> Result<(), Fail> {
+    // Two transactions, and how many bytes of their lines stand written before each read.
+    let mut trace = Vec::new(rt.alloc());
+    trace.extend_from_slice(DPIDR_READ)?;
+    trace.extend_from_slice(b"\n")?;
+    trace.extend_from_slice(DPIDR_READ)?;
+    let taken = Cell::new(0);
+    let mut reader = WatchingReader::new(rt.alloc(), trace.as_slice(), &taken);
+    let mut writer = CountingWriter { taken: &taken };
+    assert_eq!(rt; decode_text(&mut reader, &mut writer), Ok(()));
+    assert_eq!(rt; reader.noted.len(), trace.len() + 1);
+    let first = DPIDR_READ.len();
+    for (read, noted) in reader.noted.iter().enumerate() {
+        let lines = if read < first {
+            0
+        } else if read < trace.len() {
+            1
+        } else {
+            2
+        };
+        assert_eq!(rt; *noted, lines * DPIDR_LINE.len(), "before read {read}");
+    }
+    Ok(())
+}
+
+// A text in two pieces, each of which a read gives whole.
+fn listed_in_two(
+    rt: &HostRuntime,
+    text: &[u8],
+    cut: usize,
+) -> Result<(Result<(), EngineFault>, Vec<u8>), Fail> {
+    let (first, second) = text.split_at_checked(cut).ok_or("cut")?;
+    let mut reader = first.chain(second);
     let mut out = Vec::new(rt.alloc());
-    assert_eq!(rt; decode_text(&mut reader, &mut out), Ok(()));
-    assert_eq!(rt; out.as_slice(), b"reset 50\n".as_slice());
+    let answer = decode_text(&mut reader, &mut out);
+    Ok((answer, out))
+}
+
+#[test]
+fn a_cut_between_two_reads_makes_no_difference(rt: HostRuntime) -> Result<(), Fail> {
+    let mut ones = Vec::new(rt.alloc());
+    for _ in 0..49u8 {
+        ones.extend_from_slice(b"junk 1\n")?;
+    }
+    ones.extend_from_slice(b"junk 0\n")?;
+    for (text, listing) in [
+        (FORTY_NINE, ones.as_slice()),
+        (FIFTY, b"reset 50\nidle 1\n".as_slice()),
+        (BRING_UP, b"reset 56\nswitch\nreset 56\nidle 2\n".as_slice()),
+    ] {
+        for cut in 0..=text.len() {
+            let (answer, out) = listed_in_two(&rt, text, cut)?;
+            assert_eq!(rt; answer, Ok(()));
+            assert_eq!(rt; out.as_slice(), listing, "cut at {cut}");
+        }
+    }
+    Ok(())
+}
+
+#[test]
+fn a_cut_past_a_piece_makes_no_difference(rt: HostRuntime) -> Result<(), Fail> {
+    // Blanks up to the end of a piece, and past it, inside the transaction.
+    for blanks in [4090, 65520] {
+        let mut text = Vec::new(rt.alloc());
+        for _ in 0..blanks {
+            text.extend_from_slice(b" ")?;
+        }
+        text.extend_from_slice(DPIDR_READ)?;
+        let mut reader = text.as_slice();
+        let mut out = Vec::new(rt.alloc());
+        assert_eq!(rt; decode_text(&mut reader, &mut out), Ok(()));
+        assert_eq!(rt; out.as_slice(), DPIDR_LINE);
+    }
+    Ok(())
 }

@@ -125,3 +125,17 @@ other_bit true true e = λ f. cc
 other_bit true false e = λ f. cc
 other_bit false true e = λ f. cc
 other_bit false false e = λ f. cc
+
+-- ---- bits are joined
+
+pub holds_joined : (mode : Mode) (one : Bool) (run len bits count more fed n : ℕ) → run ≡ 0 → bits < 2 ^ len → more < 2 ^ count → len + count ≤ 50 → len ≤ fed → n ≡ count →
+    Holds mode one run (len + count) (bit_or (more * 2 ^ len % 2 ^ 64) bits) 1 (fed + n)
+holds_joined mode one run len bits count more fed n e h k room counted same =
+    subst (λ r. Holds mode one r (len + count) (bit_or (more * 2 ^ len % 2 ^ 64) bits) 1 (fed + n)) (sym e)
+    (holds_bits mode one (len + count) (bit_or (more * 2 ^ len % 2 ^ 64) bits) (fed + n) (join_lt len count more bits k h (omega arith)) room (omega arith))
+
+-- the bits and those after them, and what may follow
+pub joined : (len bits count more : ℕ) (after : List Bool) → bits < 2 ^ len → more < 2 ^ count → len + count ≤ 50 →
+    low_bits (len + count) (bit_or (more * 2 ^ len % 2 ^ 64) bits) ++ after ≡ low_bits len bits ++ (low_bits count more ++ after)
+joined len bits count more after h k room =
+    ap (λ x. x ++ after) (low_bits-join len count more bits k h (omega arith)) ∙ append_assoc (low_bits len bits) (low_bits count more) after

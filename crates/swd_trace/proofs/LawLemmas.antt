@@ -16,7 +16,7 @@ use Rattle.swd_trace.specs.Reading.{ones, all_ones, begins_with}
 use Rattle.swd_trace.specs.Decided.{Begins, IsDecided}
 use Rattle.swd_trace.proofs.StandLemmas.{chosen, lt_leb, settles, whole_fits}
 use Rattle.swd_trace.proofs.SpellingLemmas.{odd_push, spelled_stands, stands_spelled}
-use Rattle.swd_trace.proofs.JudgingLemmas.{asked_of, parity_right}
+use Rattle.swd_trace.proofs.GrammarLemmas.{asked_of, parity_right}
 use Rattle.swd_trace.proofs.ReadingLemmas.{all_ones_is}
 
 -- ---- a whole transaction

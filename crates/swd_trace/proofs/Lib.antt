@@ -8,10 +8,10 @@ pub mod SpellingLemmas
 pub mod ReadingLemmas
 pub mod DecidedLemmas
 pub mod HoldingLemmas
-pub mod JudgingLemmas
+pub mod GrammarLemmas
+pub mod EqualLemmas
 pub mod NormalLemmas
-pub mod FrontLemmas
-pub mod KindLemmas
+pub mod ItemBitsLemmas
 pub mod HeldLemmas
 pub mod BitsStepLemmas
 pub mod SwitchLemmas

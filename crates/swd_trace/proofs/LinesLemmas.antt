@@ -4,7 +4,7 @@ use Rattle.std.specs.Prelude.{if◌then◌else◌}
 use Rattle.std.proofs.lemmas.Bool.{ne_eqb}
 use Rattle.std.proofs.lemmas.List.{take_at, length-append, append-nil}
 use Rattle.swd_trace.specs.declared.item.Item.{Item}
-use Rattle.swd_trace.specs.Front.{AreLegal}
+use Rattle.swd_trace.specs.Listed.{AreLegal}
 use Rattle.swd_trace.specs.Listed.{before_lines, lines, IsLine, AreLines, Lists, IsFirstBadLine}
 use Rattle.swd_trace.specs.Taken.{IsUnbroken, Takes}
 use Rattle.swd_trace.specs.Texts.{item_bits, bits_of_items}

@@ -1,7 +1,8 @@
 -- Laws of numbers that hold bits.
-use Rattle.std.proofs.Common.{◌≡◌, ℕ, zero, suc, ◌+◌, ◌-◌, ◌*◌, ◌/◌, ◌%◌, ◌^◌, ◌<◌, ◌≤◌, true, false, [], ◌∷◌, ◌++◌, replicate, arith, refl, sym, ap, ◌∙◌, subst, bit_and, inl, inr}
+use Rattle.std.proofs.Common.{◌≡◌, ℕ, zero, suc, ◌+◌, ◌-◌, ◌*◌, ◌/◌, ◌%◌, ◌^◌, ◌<◌, ◌≤◌, Bool, true, false, List, [], ◌∷◌, ◌++◌, replicate, arith, refl, sym, ap, ◌∙◌, subst, bit_and, inl, inr}
 use Rattle.std.specs.Prelude.{◌==◌}
 use Rattle.std.proofs.Math.Pow.{shr_lt}
+use Rattle.std.proofs.lemmas.Bool.{eqb-true}
 use Rattle.std.proofs.lemmas.Nat.{one_shl, and_mask, pow_pos, shr-shr}
 use Rattle.std.proofs.Math.Nat.{pow-suc}
 use lib.Count.{count_trailing_zeros, under}
@@ -77,6 +78,11 @@ unfolding low_bits
 low_zeros zero = refl
 low_zeros (suc n) = ap (λ x. false ∷ x) (low_zeros n)
 
+-- one bit
+pub first_bit : (v : ℕ) (more : List Bool) → (v % 2 == 1) ∷ more ≡ low_bits 1 v ++ more
+unfolding low_bits
+first_bit v more = refl
+
 -- ---- trailing zeros
 
 -- the zeros at the front, and a one
@@ -116,3 +122,66 @@ trailing (suc k) (suc len) v h p q =
     let r : Trailing len (v / 2) (count_trailing_zeros k (v / 2)) =
     trailing k len (v / 2) (omega arith) (omega arith) (subst (λ n. v / 2 < 2 ^ n) less small) in
     subst (λ n. Trailing n (v / 2) (count_trailing_zeros k (v / 2))) (sym less) r)
+
+-- as many zeros as are counted at the front
+pub zeros_front : (k n v : ℕ) → n ≤ count_trailing_zeros k v → low_bits n v ≡ replicate n false
+unfolding low_bits count_trailing_zeros
+zeros_front k zero v h = refl
+zeros_front zero (suc n) v h = absurd (omega arith)
+zeros_front (suc k) (suc n) v h = step (v % 2) refl h (zeros_front k n (v / 2))
+  where
+    step : (d : ℕ) → d ≡ v % 2 → suc n ≤ under d (count_trailing_zeros k (v / 2)) → (n ≤ count_trailing_zeros k (v / 2) → low_bits n (v / 2) ≡ replicate n false) →
+        (v % 2 == 1) ∷ low_bits n (v / 2) ≡ false ∷ replicate n false
+    step zero e h others = ap (λ x. (x == 1) ∷ low_bits n (v / 2)) (sym e) ∙ ap (λ x. false ∷ x) (others (omega arith))
+    step (suc d) e h others = absurd (omega arith)
+
+-- as many ones, where the other bits' zeros are counted
+pub ones_front : (k n v : ℕ) → v < 2 ^ k → n ≤ count_trailing_zeros k (2 ^ k - 1 - v) → low_bits n v ≡ replicate n true
+unfolding low_bits count_trailing_zeros
+ones_front k zero v h c = refl
+ones_front zero (suc n) v h c = absurd (omega arith)
+ones_front (suc k) (suc n) v h c =
+    let e : 2 ^ suc k ≡ 2 ^ k * 2 = pow-suc 2 k in
+    let half : (2 ^ suc k - 1 - v) / 2 ≡ 2 ^ k - 1 - v / 2 = omega arith in
+    step ((2 ^ suc k - 1 - v) % 2) (omega arith) (subst (λ m. suc n ≤ under ((2 ^ suc k - 1 - v) % 2) (count_trailing_zeros k m)) half c) (ones_front k n (v / 2) (omega arith))
+  where
+    step : (d : ℕ) → d + v % 2 ≡ 1 → suc n ≤ under d (count_trailing_zeros k (2 ^ k - 1 - v / 2)) →
+        (n ≤ count_trailing_zeros k (2 ^ k - 1 - v / 2) → low_bits n (v / 2) ≡ replicate n true) →
+        (v % 2 == 1) ∷ low_bits n (v / 2) ≡ true ∷ replicate n true
+    step zero e h others = let one : v % 2 ≡ 1 = omega arith in ap (λ x. (x == 1) ∷ low_bits n (v / 2)) one ∙ ap (λ x. true ∷ x) (others (omega arith))
+    step (suc d) e h others = absurd (omega arith)
+
+-- no more than these are at the front
+pub zeros_most : (k n v : ℕ) → n ≤ k → low_bits n v ≡ replicate n false → n ≤ count_trailing_zeros k v
+unfolding low_bits count_trailing_zeros
+zeros_most k zero v h e = omega arith
+zeros_most zero (suc n) v h e = absurd (omega arith)
+zeros_most (suc k) (suc n) v h e =
+    let all : (v % 2 == 1) ∷ low_bits n (v / 2) ≡ false ∷ replicate n false = e in
+    let here : (v % 2 == 1) ≡ false = cc in
+    let others : low_bits n (v / 2) ≡ replicate n false = cc in
+    step (v % 2) refl here (zeros_most k n (v / 2) (omega arith) others)
+  where
+    step : (d : ℕ) → d ≡ v % 2 → (v % 2 == 1) ≡ false → n ≤ count_trailing_zeros k (v / 2) → suc n ≤ under d (count_trailing_zeros k (v / 2))
+    step zero e f g = omega arith
+    step (suc d) e f g =
+        let one : v % 2 ≡ 1 = omega arith in
+        let odd : (1 == 1) ≡ false = ap (λ x. x == 1) (sym one) ∙ f in absurd cc
+
+pub ones_most : (k n v : ℕ) → v < 2 ^ k → n ≤ k → low_bits n v ≡ replicate n true → n ≤ count_trailing_zeros k (2 ^ k - 1 - v)
+unfolding low_bits count_trailing_zeros
+ones_most k zero v s h e = omega arith
+ones_most zero (suc n) v s h e = absurd (omega arith)
+ones_most (suc k) (suc n) v s h e =
+    let double : 2 ^ suc k ≡ 2 ^ k * 2 = pow-suc 2 k in
+    let half : (2 ^ suc k - 1 - v) / 2 ≡ 2 ^ k - 1 - v / 2 = omega arith in
+    let all : (v % 2 == 1) ∷ low_bits n (v / 2) ≡ true ∷ replicate n true = e in
+    let here : (v % 2 == 1) ≡ true = cc in
+    let others : low_bits n (v / 2) ≡ replicate n true = cc in
+    let one : v % 2 ≡ 1 = eqb-true (v % 2) 1 here in
+    let more : n ≤ count_trailing_zeros k (2 ^ k - 1 - v / 2) = ones_most k n (v / 2) (omega arith) (omega arith) others in
+    subst (λ m. suc n ≤ under ((2 ^ suc k - 1 - v) % 2) (count_trailing_zeros k m)) (sym half) (step ((2 ^ suc k - 1 - v) % 2) (omega arith) more)
+  where
+    step : (d : ℕ) → d ≡ 0 → n ≤ count_trailing_zeros k (2 ^ k - 1 - v / 2) → suc n ≤ under d (count_trailing_zeros k (2 ^ k - 1 - v / 2))
+    step zero e g = omega arith
+    step (suc d) e g = absurd (omega arith)

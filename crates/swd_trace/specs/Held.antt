@@ -1,5 +1,5 @@
 -- What a decoder holds.
-use Rattle.std.specs.Prelude.{◌≡◌, ℕ, ◌+◌, ◌<◌, ◌≤◌, Bool, List, [], ◌∷◌, ◌++◌, length, replicate, min, Option, Some, None}
+use Rattle.std.specs.Prelude.{◌≡◌, ℕ, ◌+◌, ◌-◌, ◌<◌, ◌≤◌, Bool, List, [], ◌∷◌, ◌++◌, length, replicate, min, Option, Some, None}
 use Rattle.swd_bits.specs.Bits.{low_bits}
 use Rattle.swd_trace.specs.declared.item.Item.{Item}
 use Rattle.swd_trace.specs.declared.mode.Mode.{Mode}
@@ -31,6 +31,12 @@ held_len d = d.len
 -- no more items than this can come before the next bit is taken
 abbrev pub places : Decoder → ℕ
 places d = d.len + min d.run 50
+
+-- of the low bits of a number so many are taken: all that go on the run that is held, or, where none is, all or as many
+-- as bring the bits that are held to those of the longest transaction
+pub record TakesMany (d : Decoder) (bits count taken : ℕ) : Type 0 where
+  pub run : 0 < d.run → (n : ℕ) → n ≤ count → low_bits n bits ≡ replicate n d.one → n ≤ taken
+  pub alone : d.run ≡ 0 → d.len < 46 → taken ≡ min count (46 - d.len)
 
 -- no item is due
 abbrev pub IsSettled : Decoder → Type 0

@@ -6,7 +6,9 @@ pub mod Listed
 pub mod Taken
 pub mod Holding
 pub mod Held
-pub mod Judged
-pub mod Front
+pub mod Fronts
+pub mod Normality
 pub mod Spelled
+pub mod ItemBits
 pub mod ItemBytes
+pub mod ListReader

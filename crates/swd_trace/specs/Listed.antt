@@ -27,6 +27,21 @@ IsLegal (Tx tx) = IsTx tx
 IsLegal (Junk bit) = Unit {0}
 IsLegal (Cut bits) = IsCut bits
 
+-- the items whose bits can be written: a number that is no acknowledgement is one of five, and what is cut off has
+-- fewer bits than fifty ones, and none set past them
+abbrev pub IsEncodable : Item → Type 0
+IsEncodable (Reset count) = Unit {0}
+IsEncodable Switch = Unit {0}
+IsEncodable (Idle count) = Unit {0}
+IsEncodable (Tx tx) = IsTx tx
+IsEncodable (Junk bit) = Unit {0}
+IsEncodable (Cut bits) = (bits.len ≤ 49) × IsSpelled bits
+
+-- each item has a line
+abbrev pub AreLegal : List Item → Type 0
+AreLegal [] = Unit {0}
+AreLegal (item ∷ items) = IsLegal item × AreLegal items
+
 -- the line, without its end, is the item's
 pub record IsLine (line : List ℕ) (item : Item) : Type 0 where
   pub text : line ≡ item_line item

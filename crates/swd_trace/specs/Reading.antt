@@ -1,5 +1,5 @@
 -- What a list of bits is read as. The division into items is this project's choice; the bits of
--- resets, switches and transactions are those of IHI 0031, B4 and B5.
+-- resets, switches and transactions are the standard's, as `Item` and `Tx` cite it.
 use Rattle.std.specs.Prelude.{ℕ, zero, suc, ◌-◌, nat_le, Bool, true, false, List, [], ◌∷◌, length, if◌then◌else◌}
 use Rattle.swd_bits.specs.Bits.{number}
 use Rattle.swd_bits.specs.declared.tx.TxEnd.{TxEnd}
@@ -37,7 +37,7 @@ begins_with (true ∷ front) (false ∷ bits) = false
 begins_with (false ∷ front) (true ∷ bits) = false
 begins_with (false ∷ front) (false ∷ bits) = begins_with front bits
 
--- the sixteen bits of e79e, least significant first (IHI 0031, B5, "Switching from JTAG to SWD")
+-- the sixteen bits of e79e, least significant first
 abbrev pub switch : List Bool
 switch =
     false ∷ true ∷ true ∷ true ∷ true ∷ false ∷ false ∷ true

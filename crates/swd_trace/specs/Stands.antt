@@ -65,7 +65,6 @@ after_parity q (false ∷ bits) = after_stop q bits
 after_parity q (true ∷ bits) = Broken
 
 -- the start bit is 1; port, direction, address and parity have an even number of ones
--- (IHI 0031, B4, "Packet request")
 abbrev pub stands : List Bool → Stand
 stands (true ∷ ap ∷ read ∷ a ∷ b ∷ parity ∷ bits) =
     if odd (ap ∷ read ∷ a ∷ b ∷ parity ∷ []) then Broken else after_parity (record { ap = ap; read = read; addr = reg4_at a b }) bits

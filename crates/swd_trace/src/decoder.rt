@@ -2,20 +2,31 @@
 ghost use Rattle.std.specs.Prelude.{◌≡◌, ◌+◌, ◌^◌, ◌<◌, ◌≤◌, List, Bool};
 ghost use Rattle.swd_trace.specs.Holding.{Holds};
 
-use crate::item::{Item, SWITCH};
-use crate::judged::Judged;
-use crate::judging::judged;
+use crate::front::Front;
+use crate::grammar::front_of;
+use crate::item::{Item, RESET_ONES, SWITCH, SWITCH_BITS};
 use crate::mode::Mode;
 use arrayvec::ArrayVec;
-use swd_bits::{TxBits, TxEnd};
+use swd_bits::{MOVED_BITS, TxBits, TxEnd};
 
-/// Reads a trace: bits go in one at a time, and each item comes out as soon as it is decided,
-/// whatever may follow. How the bits are cut into pieces makes no difference.
+/// Reads a trace: bits go in one or more at a time, and each item comes out as soon as it is
+/// decided, whatever may follow. How the bits are cut into pieces makes no difference.
 ///
-/// `feed` and `finish` give the items as lists. Where speed matters, call `take` with a bit, and
-/// then `due` until it answers `None`; at the end, `last` until it answers `None`.
+/// `feed` and `finish` give the items as lists. Where speed matters, call `take` with a bit, or
+/// `take_bits` with many, and then `due` until it answers `None`; at the end, `last` until it
+/// answers `None`.
 ///
 /// It holds one count of equal bits and at most 50 bits beside it, and takes no memory.
+///
+/// ```
+/// let mut decoder = Decoder::new();
+/// let none = decoder.feed(false); // more idle cycles may follow
+/// assert!(rt; none.is_empty());
+/// let idle = decoder.feed(true);
+/// assert_eq!(rt; idle.as_slice(), [Item::Idle(1)].as_slice());
+/// let cut = TxBits { len: 1, bits: 1 }; // a transaction has begun
+/// assert_eq!(rt; decoder.finish().as_slice(), [Item::Cut(cut)].as_slice());
+/// ```
 #[derive(Drop)]
 pub struct Decoder {
     mode: Mode,
@@ -42,7 +53,7 @@ impl Decoder {
     ghost use Rattle.swd_trace.specs.Texts.{bits_of_items};
     ghost use Rattle.swd_trace.specs.declared.mode.Mode;
     ghost use Rattle.swd_trace.specs.declared.item.Item;
-    ghost use Rattle.swd_trace.specs.Held.{rest, HasRead, held, fed_of, held_len, places, IsSettled, IsOpen, IsOpenAt, Gives, Waits, Decides, Closes, ClosesWith};
+    ghost use Rattle.swd_trace.specs.Held.{rest, HasRead, held, fed_of, held_len, places, IsSettled, IsOpen, IsOpenAt, Gives, Waits, Decides, Closes, ClosesWith, TakesMany};
 
     /// A decoder that was fed no bit.
     pub fn new() -> Decoder
@@ -75,8 +86,10 @@ impl Decoder {
         requires { fed_of self.old < 2 ^ 64 - 1 }
         ensures law { (more : List Bool) → result.items ++ rest self.new more ≡ rest self.old (bit ∷ more) }
         ensures undecided { IsUndecided (rest self.new) }
-        ensures read { (bits : List Bool) (items : List Item) → HasRead self.old bits items → HasRead self.new (bits ++ bit ∷ []) (items ++ result.items) }
-        ensures decided { (bits : List Bool) (items : List Item) → HasRead self.old bits items → IsDecided (bits ++ bit ∷ []) (items ++ result.items) }
+        ensures read { (bits : List Bool) (items : List Item) → HasRead self.old bits items
+            → HasRead self.new (bits ++ bit ∷ []) (items ++ result.items) }
+        ensures decided { (bits : List Bool) (items : List Item) → HasRead self.old bits items
+            → IsDecided (bits ++ bit ∷ []) (items ++ result.items) }
         ensures settled { IsSettled self.new }
         ensures held { held_len self.new < 50 }
         ensures fed { fed_of self.new ≡ fed_of self.old + 1 }
@@ -92,11 +105,14 @@ impl Decoder {
     /// bits.
     pub fn finish(self) -> ArrayVec<Item, 64>
         ensures law { result.items ≡ rest self [] }
-        ensures read { (bits : List Bool) (items : List Item) → HasRead self bits items → items ++ result.items ≡ reading_of bits }
+        ensures read { (bits : List Bool) (items : List Item) → HasRead self bits items
+            → items ++ result.items ≡ reading_of bits }
         // all items, written as bits, are read as these items
-        ensures again { (bits : List Bool) (items : List Item) → HasRead self bits items → reading_of (bits_of_items (items ++ result.items)) ≡ items ++ result.items }
+        ensures again { (bits : List Bool) (items : List Item) → HasRead self bits items
+            → reading_of (bits_of_items (items ++ result.items)) ≡ items ++ result.items }
         // transactions that were acknowledged are found, all of them and nothing else
-        ensures transactions { (txs : List Tx) (bits : List Bool) (items : List Item) → AreSpelled txs bits → HasRead self bits items → items ++ result.items ≡ map Item.Tx txs }
+        ensures transactions { (txs : List Tx) (bits : List Bool) (items : List Item) → AreSpelled txs bits
+            → HasRead self bits items → items ++ result.items ≡ map Item.Tx txs }
     {
         let mut decoder = self;
         let mut items = ArrayVec::new();
@@ -109,7 +125,8 @@ impl Decoder {
     // Every item that is due.
     fn drain(&mut self, items: &mut ArrayVec<Item, 64>)
         requires { array_vec_len items.old + places self.old < 64 }
-        ensures law { (more : List Bool) → items.new.items ++ rest self.new more ≡ items.old.items ++ rest self.old more }
+        ensures law { (more : List Bool)
+            → items.new.items ++ rest self.new more ≡ items.old.items ++ rest self.old more }
         ensures undecided { IsUndecided (rest self.new) }
         ensures settled { IsSettled self.new }
         ensures room { array_vec_len items.new + places self.new ≤ array_vec_len items.old + places self.old }
@@ -126,7 +143,8 @@ impl Decoder {
         requires settled { IsSettled self.old }
         requires count { fed_of self.old < 2 ^ 64 - 1 }
         ensures law { (more : List Bool) → rest self.new more ≡ rest self.old (bit ∷ more) }
-        ensures read { (bits : List Bool) (items : List Item) → HasRead self.old bits items → HasRead self.new (bits ++ bit ∷ []) items }
+        ensures read { (bits : List Bool) (items : List Item) → HasRead self.old bits items
+            → HasRead self.new (bits ++ bit ∷ []) items }
         ensures places { places self.new ≤ places self.old + 1 }
         ensures fed { fed_of self.new ≡ fed_of self.old + 1 }
     {
@@ -139,6 +157,78 @@ impl Decoder {
         }
     }
 
+    /// Takes one bit or more of the lowest `count`, the first in time least significant, and says
+    /// how many: those at the front. Where a run of equal bits is held, it takes all that go on it;
+    /// else all, or as many as bring the bits that it holds to the 46 of the longest transaction.
+    /// Every item that was due has to be taken before.
+    #[inline]
+    pub fn take_bits(&mut self, bits: u64, count: u8) -> u8
+        requires settled { IsSettled self.old }
+        requires some { 0 < count }
+        requires within { count ≤ 64 }
+        requires room { fed_of self.old + count < 2 ^ 64 }
+        ensures law { (more : List Bool) → rest self.new more ≡ rest self.old (low_bits result bits ++ more) }
+        ensures read { (before : List Bool) (items : List Item) → HasRead self.old before items
+            → HasRead self.new (before ++ low_bits result bits) items }
+        ensures some { 0 < result }
+        ensures most { result ≤ count }
+        ensures many { TakesMany self.old bits count result }
+        ensures places { places self.new ≤ places self.old + result }
+        ensures fed { fed_of self.new ≡ fed_of self.old + result }
+    {
+        if self.run > 0 {
+            return self.continue_run(bits, count);
+        }
+        if self.len >= MOVED_BITS {
+            self.take(bits % 2 == 1);
+            return 1;
+        }
+        let taken = count.min(MOVED_BITS - self.len);
+        self.append_bits(bits & ((1 << taken) - 1), taken);
+        taken
+    }
+
+    // More bits of the run that is held, or the bit that ends it.
+    fn continue_run(&mut self, bits: u64, count: u8) -> u8
+        requires settled { IsSettled self.old }
+        requires run { 0 < self.old.run }
+        requires some { 0 < count }
+        requires within { count ≤ 64 }
+        requires room { fed_of self.old + count < 2 ^ 64 }
+        ensures law { (more : List Bool) → rest self.new more ≡ rest self.old (low_bits result bits ++ more) }
+        ensures some { 0 < result }
+        ensures most { result ≤ count }
+        ensures many { (n : ℕ) → n ≤ count → low_bits n bits ≡ replicate n self.old.one → n ≤ result }
+        ensures places { places self.new ≤ places self.old + result }
+        ensures fed { fed_of self.new ≡ fed_of self.old + result }
+    {
+        let others = if self.one { !bits } else { bits };
+        let same = others.trailing_zeros().min(u32::from(count)) as u8;
+        if same == 0 {
+            self.take(bits % 2 == 1);
+            return 1;
+        }
+        self.extend_run(self.one, u64::from(same));
+        same
+    }
+
+    // More bits after those that are held, where no run is.
+    fn append_bits(&mut self, bits: u64, count: u8)
+        requires run { self.old.run ≡ 0 }
+        requires some { 0 < count }
+        requires short { self.old.len + count ≤ 50 }
+        requires whole { bits < 2 ^ count }
+        requires room { fed_of self.old + count < 2 ^ 64 }
+        ensures law { (more : List Bool) → rest self.new more ≡ rest self.old (low_bits count bits ++ more) }
+        ensures places { places self.new ≡ places self.old + count }
+        ensures fed { fed_of self.new ≡ fed_of self.old + count }
+    {
+        self.bits = bits << self.len | self.bits;
+        self.len += count;
+        self.next = 1;
+        self.fed += u64::from(count);
+    }
+
     /// Takes one bit or more of a run of equal bits, and says how many: all of them where the bits
     /// that are held are a run of that bit too. Every item that was due has to be taken before.
     pub fn take_run(&mut self, bit: bool, count: u64) -> u64
@@ -146,7 +236,8 @@ impl Decoder {
         requires some { 0 < count }
         requires room { fed_of self.old + count < 2 ^ 64 }
         ensures law { (more : List Bool) → rest self.new more ≡ rest self.old (replicate result bit ++ more) }
-        ensures read { (bits : List Bool) (items : List Item) → HasRead self.old bits items → HasRead self.new (bits ++ replicate result bit) items }
+        ensures read { (bits : List Bool) (items : List Item) → HasRead self.old bits items
+            → HasRead self.new (bits ++ replicate result bit) items }
         ensures some { 0 < result }
         ensures most { result ≤ count }
         ensures all { (n : ℕ) → 0 < n → held self.old ≡ replicate n bit → result ≡ count }
@@ -207,10 +298,12 @@ impl Decoder {
     #[inline]
     pub fn due(&mut self) -> Option<Item>
         ensures item { IfSome result (λ item. (more : List Bool) → rest self.old more ≡ item ∷ rest self.new more) }
-        ensures read { IfSome result (λ item. (bits : List Bool) (items : List Item) → HasRead self.old bits items → HasRead self.new bits (items ++ item ∷ [])) }
+        ensures read { IfSome result (λ item. (bits : List Bool) (items : List Item)
+            → HasRead self.old bits items → HasRead self.new bits (items ++ item ∷ [])) }
         ensures fewer { IfSome result (λ item. places self.new < places self.old) }
         ensures none { IfNone result ((more : List Bool) → rest self.old more ≡ rest self.new more) }
-        ensures decided { IfNone result ((bits : List Bool) (items : List Item) → HasRead self.old bits items → HasRead self.new bits items × IsDecided bits items) }
+        ensures decided { IfNone result ((bits : List Bool) (items : List Item) → HasRead self.old bits items
+            → HasRead self.new bits items × IsDecided bits items) }
         ensures undecided { IfNone result (IsUndecided (rest self.new)) }
         ensures settled { IfNone result (IsSettled self.new) }
         ensures places { IfNone result (places self.new ≤ places self.old) }
@@ -230,7 +323,7 @@ impl Decoder {
             if self.len == 0 {
                 return None;
             }
-            if !self.one || self.run >= 50 {
+            if !self.one || self.run >= RESET_ONES {
                 return Some(self.end_run());
             }
             self.unpack();
@@ -313,7 +406,10 @@ impl Decoder {
     fn junk(&mut self) -> Item
         requires run { self.old.run ≡ 0 }
         requires some { 0 < self.old.len }
-        requires first { (more : List Bool) → reading self.old.mode (low_bits self.old.len self.old.bits ++ more) ≡ Item.Junk (self.old.bits % 2 == 1) ∷ reading Mode.Lost (low_bits (self.old.len - 1) (self.old.bits / 2) ++ more) }
+        requires first { (more : List Bool)
+            → reading self.old.mode (low_bits self.old.len self.old.bits ++ more)
+            ≡ Item.Junk (self.old.bits % 2 == 1)
+            ∷ reading Mode.Lost (low_bits (self.old.len - 1) (self.old.bits / 2) ++ more) }
         ensures { Gives self.old self.new result }
     {
         let bit = self.bits % 2 == 1;
@@ -325,6 +421,7 @@ impl Decoder {
     }
 
     // Idle cycles, a transaction or the beginning of one, or neither.
+    #[inline]
     fn synced(&mut self) -> Option<Item>
         requires run { self.old.run ≡ 0 }
         requires some { 0 < self.old.len }
@@ -335,12 +432,12 @@ impl Decoder {
         if self.bits % 2 == 0 {
             return self.idle();
         }
-        match judged(self.bits, self.len) {
-            Judged::Begun(next) => {
+        match front_of(self.bits, self.len) {
+            Front::Begun(next) => {
                 self.next = next;
                 None
             }
-            Judged::Whole(tx, len) => {
+            Front::Whole(tx, len) => {
                 self.bits >>= len;
                 self.len -= len;
                 self.next = 1;
@@ -349,7 +446,7 @@ impl Decoder {
                 }
                 Some(Item::Tx(tx))
             }
-            Judged::Broken => Some(self.junk()),
+            Front::Broken => Some(self.junk()),
         }
     }
 
@@ -380,19 +477,19 @@ impl Decoder {
         requires zero { all_ones (low_bits self.old.len self.old.bits) ≡ false }
         ensures { Decides self.old self.new result }
     {
-        let seen = self.len.min(16);
+        let seen = self.len.min(SWITCH_BITS);
         let mask = (1 << seen) - 1;
         if self.bits & mask != SWITCH & mask {
             self.next = 1;
             self.mode = Mode::Synced;
             return self.synced();
         }
-        if self.len < 16 {
+        if self.len < SWITCH_BITS {
             self.next = self.len + 1;
             return None;
         }
-        self.bits >>= 16;
-        self.len -= 16;
+        self.bits >>= SWITCH_BITS;
+        self.len -= SWITCH_BITS;
         self.next = 1;
         self.mode = Mode::AfterSwitch;
         Some(Item::Switch)
@@ -432,7 +529,7 @@ impl Decoder {
         requires alone { self.old.len ≡ 0 }
         ensures { ClosesWith self.old self.new result }
     {
-        if !self.one || self.run >= 50 {
+        if !self.one || self.run >= RESET_ONES {
             return self.end_run();
         }
         if let Mode::Lost = self.mode {
@@ -471,3 +568,6 @@ impl Decoder {
         Item::Cut(cut)
     }
 }
+
+#[cfg(test)]
+mod tests;

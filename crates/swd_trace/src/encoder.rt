@@ -1,24 +1,26 @@
 //! Writing the trace text of an item.
 ghost use Rattle.std.specs.Prelude.{ℕ, ◌<◌, length, take, OnOk, OnErr};
 ghost use Rattle.std.specs.Io.KnownBytes.{Appends};
-ghost use Rattle.swd_trace.specs.Listed.{IsLegal};
+ghost use Rattle.swd_trace.specs.Listed.{IsEncodable};
 ghost use Rattle.swd_trace.specs.Texts.{item_text};
 
 use crate::item::Item;
+use crate::item_bits::ItemBits;
 use crate::item_bytes::ItemBytes;
 use std::io;
 use std::io::Write;
-use swd_bits::send;
+use swd_io::send;
 
 /// Writes the trace text of an item: its bits as characters `0` and `1` in time order, turnarounds
 /// as 1, and a line feed. At an error a beginning of that text was written; a write that takes no
 /// bytes is the error `WriteZero`. A fault is not tried again.
 pub fn encode<W: Write>(item: &Item, writer: &mut W) -> io::Result<()>
-    requires { IsLegal item.now }
+    requires { IsEncodable item.now }
     ensures ok { OnOk result (Appends (W.contents writer.old) (W.contents writer.new) (item_text item.now)) }
-    ensures err { OnErr result ((k : ℕ) × (k < length (item_text item.now)) × Appends (W.contents writer.old) (W.contents writer.new) (take k (item_text item.now))) }
+    ensures err { OnErr result ((k : ℕ) × (k < length (item_text item.now))
+        × Appends (W.contents writer.old) (W.contents writer.new) (take k (item_text item.now))) }
 {
-    let mut bytes = ItemBytes::of(item);
+    let mut bytes = ItemBytes::with_end(ItemBits::of(item));
     let mut piece = [0u8; 512];
     loop {
         let filled = bytes.fill(&mut piece);
@@ -30,3 +32,6 @@ pub fn encode<W: Write>(item: &Item, writer: &mut W) -> io::Result<()>
         }
     }
 }
+
+#[cfg(test)]
+mod tests;

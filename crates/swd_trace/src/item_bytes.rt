@@ -1,23 +1,19 @@
 //! An item's trace text, byte by byte.
-ghost use Rattle.std.specs.Prelude.{◌≡◌, ◌<◌, ◌≤◌, ◌++◌, [], length, take, true, false};
+ghost use Rattle.std.specs.Prelude.{◌≡◌, ◌<◌, ◌≤◌, ◌++◌, ◌∷◌, [], length, take, map, true, false};
 ghost use Rattle.std.specs.Iterator.{YieldsFirst, item_count};
 ghost use Rattle.swd_trace.specs.Listed.{IsLegal};
 ghost use Rattle.swd_trace.specs.Texts.{item_text, digit as digit_of};
+ghost use Rattle.swd_trace.specs.ItemBits.{bits_left};
 ghost use Rattle.swd_trace.specs.ItemBytes.{bytes_left};
 
-use crate::item::{Item, SWITCH};
-use swd_bits::TxBits;
+use crate::item::Item;
+use crate::item_bits::ItemBits;
 
 /// The bytes of an item's trace text: a character `0` or `1` for each bit in time order,
 /// turnarounds written as 1, and then a line feed.
 #[derive(Clone, Copy, Debug, PartialEq, Eq)]
 pub struct ItemBytes {
-    // equal bits, that many
-    one: bool,
-    run: u64,
-    // the bits after them, the first least significant
-    len: u8,
-    bits: u64,
+    left: ItemBits,
     // whether the line feed is still to come
     unended: bool,
 }
@@ -28,16 +24,16 @@ impl ItemBytes {
         requires { IsLegal item.now }
         ensures { bytes_left result ≡ item_text item.now }
     {
-        match item {
-            Item::Reset(count) => ItemBytes::of_run(true, *count),
-            Item::Switch => ItemBytes::of_bits(TxBits {
-                len: 16,
-                bits: SWITCH,
-            }),
-            Item::Idle(count) => ItemBytes::of_run(false, *count),
-            Item::Tx(tx) => ItemBytes::of_bits(tx.bits()),
-            Item::Junk(bit) => ItemBytes::of_run(*bit, 1),
-            Item::Cut(bits) => ItemBytes::of_bits(*bits),
+        ItemBytes::with_end(ItemBits::of(item))
+    }
+
+    // These bits, and a line feed.
+    pub(crate) fn with_end(left: ItemBits) -> ItemBytes
+        ensures { bytes_left result ≡ map digit_of (bits_left left) ++ 10 ∷ [] }
+    {
+        ItemBytes {
+            left,
+            unended: true,
         }
     }
 
@@ -51,30 +47,6 @@ impl ItemBytes {
         let (filled, left) = put(*self, piece);
         *self = left;
         filled
-    }
-
-    fn of_run(one: bool, run: u64) -> ItemBytes
-        ensures { result ≡ record { one = one; run = run; len = 0; bits = 0; unended = true } }
-    {
-        ItemBytes {
-            one,
-            run,
-            len: 0,
-            bits: 0,
-            unended: true,
-        }
-    }
-
-    fn of_bits(bits: TxBits) -> ItemBytes
-        ensures { result ≡ record { one = false; run = 0; len = bits.len; bits = bits.bits; unended = true } }
-    {
-        ItemBytes {
-            one: false,
-            run: 0,
-            len: bits.len,
-            bits: bits.bits,
-            unended: true,
-        }
     }
 }
 
@@ -115,14 +87,7 @@ impl Iterator for ItemBytes {
 
     #[inline]
     fn next(&mut self) -> Option<u8> {
-        if self.run > 0 {
-            self.run -= 1;
-            return Some(digit(self.one));
-        }
-        if self.len > 0 {
-            let bit = self.bits % 2 == 1;
-            self.bits /= 2;
-            self.len -= 1;
+        if let Some(bit) = self.left.take_bit() {
             return Some(digit(bit));
         }
         if self.unended {

@@ -10,35 +10,51 @@ use arrayvec::ArrayString;
 use std::fmt;
 use swd_bits::TxBits;
 
-// Room for the longest line of any value: `cut ` and 255 bits.
-type Line = ArrayString<264>;
+/// The most bytes of an item's listing line, without its end.
+pub const LONGEST_LINE: usize = 264;
 
-/// The listing line of an item, without its end.
-pub fn line_of(item: &Item) -> Line
-    ensures { result.bytes ≡ item_line item.now }
-{
-    let mut text = Line::new();
-    match item {
-        Item::Reset(count) => {
-            text.push_str("reset ");
-            push_count(&mut text, *count);
-        }
-        Item::Switch => text.push_str("switch"),
-        Item::Idle(count) => {
-            text.push_str("idle ");
-            push_count(&mut text, *count);
-        }
-        Item::Tx(tx) => text.push_str(swd_bits::line_of(tx).as_str()),
-        Item::Junk(bit) => {
-            text.push_str("junk ");
-            text.push_str(bit_text(*bit));
-        }
-        Item::Cut(bits) => {
-            text.push_str("cut ");
-            push_bits(&mut text, *bits);
+/// The listing line of an item.
+pub type ItemLine = ArrayString<LONGEST_LINE>;
+
+impl Item {
+    /// The listing line of the item, without its end, as in `idle 8` or `dp 0 read ok 2ba01477`.
+    ///
+    /// `Display` gives the same text. This call can't fail, and a contract knows its bytes.
+    pub fn line(&self) -> ItemLine
+        ensures { result.bytes ≡ item_line self.now }
+    {
+        let mut text = ItemLine::new();
+        self.push_line(&mut text);
+        text
+    }
+
+    /// Adds that line to a text.
+    pub fn push_line<const N: usize>(&self, text: &mut ArrayString<N>)
+        requires { array_string_len text.old + LONGEST_LINE ≤ N }
+        ensures bytes { text.new.bytes ≡ text.old.bytes ++ item_line self.now }
+        ensures len { array_string_len text.new ≤ array_string_len text.old + LONGEST_LINE }
+    {
+        match self {
+            Item::Reset(count) => {
+                text.push_str("reset ");
+                push_count(text, *count);
+            }
+            Item::Switch => text.push_str("switch"),
+            Item::Idle(count) => {
+                text.push_str("idle ");
+                push_count(text, *count);
+            }
+            Item::Tx(tx) => tx.push_line(text),
+            Item::Junk(bit) => {
+                text.push_str("junk ");
+                text.push_str(bit_text(*bit));
+            }
+            Item::Cut(bits) => {
+                text.push_str("cut ");
+                push_bits(text, *bits);
+            }
         }
     }
-    text
 }
 
 impl fmt::Display for Item {
@@ -47,13 +63,14 @@ impl fmt::Display for Item {
     ghost output = { λ item. Some (item_line item) };
 
     fn fmt<W: fmt::Write>(&self, f: &mut fmt::Formatter<W>) -> fmt::Result {
-        f.write_str(line_of(self).as_str())
+        f.write_str(self.line().as_str())
     }
 }
 
-fn push_count(text: &mut Line, count: u64)
-    requires { array_string_len text.old ≤ 200 }
-    ensures { text.new.bytes ≡ text.old.bytes ++ decimal count }
+fn push_count<const N: usize>(text: &mut ArrayString<N>, count: u64)
+    requires { array_string_len text.old + 20 ≤ N }
+    ensures bytes { text.new.bytes ≡ text.old.bytes ++ decimal count }
+    ensures len { array_string_len text.new ≤ array_string_len text.old + 20 }
 {
     let mut digits = itoa::Buffer::new();
     text.push_str(digits.format(count));
@@ -65,9 +82,10 @@ fn bit_text(bit: bool) -> &'static str
     if bit { "1" } else { "0" }
 }
 
-fn push_bits(text: &mut Line, bits: TxBits)
-    requires { array_string_len text.old ≤ 4 }
-    ensures { text.new.bytes ≡ text.old.bytes ++ map digit (bits_of bits) }
+fn push_bits<const N: usize>(text: &mut ArrayString<N>, bits: TxBits)
+    requires { array_string_len text.old + 255 ≤ N }
+    ensures bytes { text.new.bytes ≡ text.old.bytes ++ map digit (bits_of bits) }
+    ensures len { array_string_len text.new ≤ array_string_len text.old + 255 }
 {
     let mut rest = bits.bits;
     for _ in 0..bits.len {

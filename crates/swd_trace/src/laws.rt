@@ -14,11 +14,16 @@ ghost use Rattle.swd_trace.specs.Texts.{bits_of_items};
 /// one exactly where more bits make them the spelling of a transaction. The same for fifty ones,
 /// whole and begun, and for the switch.
 pub fn tests_of_the_reading()
-    ensures transaction { (bits : List Bool) (tx : Tx) (n : ℕ) → (stands bits ≡ Whole tx n) ↔ ((n ≤ length bits) × Spells tx (take n bits)) }
-    ensures begun { (bits : List Bool) → (stands bits ≡ Begun) ↔ ((tx : Tx) × (more : List Bool) × (more ≢ []) × Spells tx (bits ++ more)) }
-    ensures fifty { (bits : List Bool) → (nat_le 50 (ones bits) ≡ true) ↔ ((more : List Bool) × (bits ≡ replicate 50 true ++ more)) }
-    ensures fewer { (bits : List Bool) → ((nat_le 50 (ones bits) ≡ false) × (all_ones bits ≡ true)) ↔ ((more : List Bool) × (more ≢ []) × (replicate 50 true ≡ bits ++ more)) }
-    ensures switch { (bits : List Bool) → (begins_with switch bits ≡ true) ↔ ((more : List Bool) × (bits ≡ switch ++ more)) }
+    ensures transaction { (bits : List Bool) (tx : Tx) (n : ℕ) → (stands bits ≡ Whole tx n)
+        ↔ ((n ≤ length bits) × Spells tx (take n bits)) }
+    ensures begun { (bits : List Bool) → (stands bits ≡ Begun)
+        ↔ ((tx : Tx) × (more : List Bool) × (more ≢ []) × Spells tx (bits ++ more)) }
+    ensures fifty { (bits : List Bool) → (nat_le 50 (ones bits) ≡ true)
+        ↔ ((more : List Bool) × (bits ≡ replicate 50 true ++ more)) }
+    ensures fewer { (bits : List Bool) → ((nat_le 50 (ones bits) ≡ false) × (all_ones bits ≡ true))
+        ↔ ((more : List Bool) × (more ≢ []) × (replicate 50 true ≡ bits ++ more)) }
+    ensures switch { (bits : List Bool) → (begins_with switch bits ≡ true)
+        ↔ ((more : List Bool) × (bits ≡ switch ++ more)) }
 {}
 
 /// No two lists of items are what the same bits decide.
@@ -35,5 +40,6 @@ pub fn readings_are_read_again()
 /// and no fifty ones in a row stand in their bits.
 pub fn transactions_are_read()
     ensures read { (txs : List Tx) (bits : List Bool) → AreSpelled txs bits → reading_of bits ≡ map Item.Tx txs }
-    ensures no_reset { (txs : List Tx) (bits front back : List Bool) → AreSpelled txs bits → bits ≢ front ++ (replicate 50 true ++ back) }
+    ensures no_reset { (txs : List Tx) (bits front back : List Bool) → AreSpelled txs bits
+        → bits ≢ front ++ (replicate 50 true ++ back) }
 {}

@@ -3,11 +3,12 @@
 
 mod decoder;
 mod encoder;
+mod front;
+mod grammar;
 mod item;
+mod item_bits;
 mod item_bytes;
 mod item_text;
-mod judged;
-mod judging;
 mod laws;
 mod listing;
 mod mode;
@@ -16,13 +17,8 @@ pub use decoder::Decoder;
 pub use encoder::encode;
 pub use item::Item;
 pub use item_bytes::ItemBytes;
-pub use item_text::line_of;
+pub use item_text::{ItemLine, LONGEST_LINE};
 pub use laws::{
     one_list_is_decided, readings_are_read_again, tests_of_the_reading, transactions_are_read,
 };
 pub use listing::{ListFault, read_list};
-
-#[cfg(test)]
-mod decoder_tests;
-#[cfg(test)]
-mod encoder_tests;

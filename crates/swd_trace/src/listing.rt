@@ -1,8 +1,6 @@
 //! Reading a listing: one item a line, as the items are printed.
 
 mod fault;
-mod front;
-mod kind;
 mod line;
 mod lines;
 mod normal;

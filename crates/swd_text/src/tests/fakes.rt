@@ -1,12 +1,14 @@
-//! Readers and writers that fail.
+//! Readers and writers that fail once and then go on, so that a second try would show.
 use std::alloc::Global;
+use std::cell::Cell;
 use std::io;
 use std::io::{Read, Write};
 
-// Gives one byte at a read, and fails at the read that is numbered.
+/// Gives one byte at a read, and fails at the read that is numbered; a later one gives the next byte.
 #[derive(Drop)]
 pub struct FailingReader<'a> {
     text: &'a [u8],
+    given: usize,
     reads: usize,
     fails_at: usize,
 }
@@ -15,6 +17,7 @@ impl<'a> FailingReader<'a> {
     pub fn new(text: &'a [u8], fails_at: usize) -> FailingReader<'a> {
         FailingReader {
             text,
+            given: 0,
             reads: 0,
             fails_at,
         }
@@ -23,13 +26,15 @@ impl<'a> FailingReader<'a> {
 
 impl<'a> Read for FailingReader<'a> {
     fn read(&mut self, buf: &mut [u8]) -> io::Result<usize> {
-        if self.reads == self.fails_at {
+        let read = self.reads;
+        self.reads = self.reads.saturating_add(1);
+        if read == self.fails_at {
             return Err(io::Error::from(io::ErrorKind::BrokenPipe));
         }
-        match (self.text.get(self.reads), buf.first_mut()) {
+        match (self.text.get(self.given), buf.first_mut()) {
             (Some(byte), Some(place)) => {
                 *place = *byte;
-                self.reads = self.reads.saturating_add(1);
+                self.given = self.given.saturating_add(1);
                 Ok(1)
             }
             _ => Ok(0),
@@ -37,12 +42,13 @@ impl<'a> Read for FailingReader<'a> {
     }
 }
 
-// Takes so many bytes, and then fails or takes none.
+/// Takes so many bytes, fails or takes none once, and then takes all.
 #[derive(Drop)]
 pub struct ShortWriter {
     taken: Vec<u8>,
     room: usize,
     fails: bool,
+    failed: bool,
 }
 
 impl ShortWriter {
@@ -51,6 +57,7 @@ impl ShortWriter {
             taken: Vec::new(alloc),
             room,
             fails,
+            failed: false,
         }
     }
 
@@ -61,13 +68,70 @@ impl ShortWriter {
 
 impl Write for ShortWriter {
     fn write(&mut self, buf: &[u8]) -> io::Result<usize> {
+        if self.failed {
+            self.taken.extend_from_slice(buf)?;
+            return Ok(buf.len());
+        }
         let left = self.room.saturating_sub(self.taken.len());
-        if left == 0 && self.fails {
-            return Err(io::Error::from(io::ErrorKind::BrokenPipe));
+        if left == 0 {
+            self.failed = true;
+            if self.fails {
+                return Err(io::Error::from(io::ErrorKind::BrokenPipe));
+            }
         }
         let n = left.min(buf.len());
         self.taken.extend_from_slice(&buf[..n])?;
         Ok(n)
+    }
+
+    fn flush(&mut self) -> io::Result<()> {
+        Ok(())
+    }
+}
+
+/// Gives one byte at a read, and notes before it how many bytes a writer took so far.
+#[derive(Drop)]
+pub struct WatchingReader<'a> {
+    text: &'a [u8],
+    taken: &'a Cell<usize>,
+    /// How many bytes were taken before each read.
+    pub noted: Vec<usize>,
+}
+
+impl<'a> WatchingReader<'a> {
+    pub fn new(alloc: Global, text: &'a [u8], taken: &'a Cell<usize>) -> WatchingReader<'a> {
+        WatchingReader {
+            text,
+            taken,
+            noted: Vec::new(alloc),
+        }
+    }
+}
+
+impl<'a> Read for WatchingReader<'a> {
+    fn read(&mut self, buf: &mut [u8]) -> io::Result<usize> {
+        let read = self.noted.len();
+        self.noted.push(self.taken.get())?;
+        match (self.text.get(read), buf.first_mut()) {
+            (Some(byte), Some(place)) => {
+                *place = *byte;
+                Ok(1)
+            }
+            _ => Ok(0),
+        }
+    }
+}
+
+/// Counts the bytes that it takes.
+#[derive(Drop)]
+pub struct CountingWriter<'a> {
+    pub taken: &'a Cell<usize>,
+}
+
+impl<'a> Write for CountingWriter<'a> {
+    fn write(&mut self, buf: &[u8]) -> io::Result<usize> {
+        self.taken.set(self.taken.get().saturating_add(buf.len()));
+        Ok(buf.len())
     }
 
     fn flush(&mut self) -> io::Result<()> {

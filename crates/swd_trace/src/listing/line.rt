@@ -11,8 +11,7 @@ ghost use Rattle.swd_trace.specs.Listed.{IsLegal, IsLine};
 ghost use Rattle.swd_trace.specs.Texts.{item_line};
 
 use crate::item::Item;
-use crate::item_text::line_of;
-use crate::listing::word::{bits_in, count_of, seen_of, word_of};
+use crate::listing::word::{bits_in, count_in, seen_in, word_in};
 use swd_bits::{Reg4, Request, Tx, TxEnd};
 
 /// The item whose line this is, without its end. `None` where it is the line of no item: there are
@@ -23,7 +22,7 @@ pub(crate) fn item_of(line: &[u8]) -> Option<Item>
 {
     let item = candidate(line)?;
     // only what is printed so is read so
-    let text = line_of(&item);
+    let text = item.line();
     if text.as_str().as_bytes() == line {
         Some(item)
     } else {
@@ -40,10 +39,10 @@ fn candidate(line: &[u8]) -> Option<Item>
         return Some(Item::Switch);
     }
     if let Some(digits) = line.strip_prefix(b"reset ") {
-        return Some(Item::Reset(count_of(digits)?));
+        return Some(Item::Reset(count_in(digits)?));
     }
     if let Some(digits) = line.strip_prefix(b"idle ") {
-        return Some(Item::Idle(count_of(digits)?));
+        return Some(Item::Idle(count_in(digits)?));
     }
     if let Some(digit) = line.strip_prefix(b"junk ") {
         return Some(Item::Junk(digit == b"1".as_slice()));
@@ -71,7 +70,8 @@ fn transaction_of(line: &[u8]) -> Option<Tx>
 
 // Whether the access port is named, and what follows.
 fn port_of(line: &[u8]) -> Option<(bool, &[u8])>
-    ensures { (ap : Bool) (rest : List ℕ) → line.now ≡ port ap ++ rest → IsSomeAnd result (λ r. (r.0 ≡ ap) × (r.1.now ≡ rest)) }
+    ensures { (ap : Bool) (rest : List ℕ) → line.now ≡ port ap ++ rest
+        → IsSomeAnd result (λ r. (r.0 ≡ ap) × (r.1.now ≡ rest)) }
 {
     if let Some(rest) = line.strip_prefix(b"ap ") {
         return Some((true, rest));
@@ -81,7 +81,8 @@ fn port_of(line: &[u8]) -> Option<(bool, &[u8])>
 
 // The register that is named, and what follows.
 fn address_of(line: &[u8]) -> Option<(Reg4, &[u8])>
-    ensures { (addr : Reg4) (rest : List ℕ) → line.now ≡ address addr ++ rest → IsSomeAnd result (λ r. (r.0 ≡ addr) × (r.1.now ≡ rest)) }
+    ensures { (addr : Reg4) (rest : List ℕ) → line.now ≡ address addr ++ rest
+        → IsSomeAnd result (λ r. (r.0 ≡ addr) × (r.1.now ≡ rest)) }
 {
     if let Some(rest) = line.strip_prefix(b"0 ") {
         return Some((Reg4::R0, rest));
@@ -97,7 +98,8 @@ fn address_of(line: &[u8]) -> Option<(Reg4, &[u8])>
 
 // Whether a read is named, and what follows.
 fn direction_of(line: &[u8]) -> Option<(bool, &[u8])>
-    ensures { (read : Bool) (rest : List ℕ) → line.now ≡ direction read ++ rest → IsSomeAnd result (λ r. (r.0 ≡ read) × (r.1.now ≡ rest)) }
+    ensures { (read : Bool) (rest : List ℕ) → line.now ≡ direction read ++ rest
+        → IsSomeAnd result (λ r. (r.0 ≡ read) × (r.1.now ≡ rest)) }
 {
     if let Some(rest) = line.strip_prefix(b"read ") {
         return Some((true, rest));
@@ -121,12 +123,12 @@ fn result_of(text: &[u8]) -> Option<TxEnd>
     }
     if let Some(digits) = text.strip_prefix(b"ok ") {
         return Some(TxEnd::Moved {
-            word: word_of(digits)?,
+            word: word_in(digits)?,
             parity_ok: true,
         });
     }
     Some(TxEnd::Moved {
-        word: word_of(text.strip_prefix(b"bad ")?)?,
+        word: word_in(text.strip_prefix(b"bad ")?)?,
         parity_ok: false,
     })
 }
@@ -134,9 +136,10 @@ fn result_of(text: &[u8]) -> Option<TxEnd>
 // The number as seen of a missing acknowledgement. OK, WAIT and FAULT are none.
 fn no_ack_of(digits: &[u8]) -> Option<TxEnd>
     ensures legal { IfSome result IsEnd }
-    ensures found { (seen : ℕ) → IsEnd (TxEnd.NoAck seen) → digits.now ≡ decimal seen → result ≡ Some (TxEnd.NoAck seen) }
+    ensures found { (seen : ℕ) → IsEnd (TxEnd.NoAck seen) → digits.now ≡ decimal seen
+        → result ≡ Some (TxEnd.NoAck seen) }
 {
-    match seen_of(digits) {
+    match seen_in(digits) {
         Some(seen) if matches!(seen, 0 | 3 | 5 | 6 | 7) => Some(TxEnd::NoAck(seen)),
         _ => None,
     }

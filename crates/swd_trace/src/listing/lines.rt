@@ -1,10 +1,10 @@
 //! The lines of a listing, one byte after another.
-ghost use Rattle.std.specs.Prelude.{◌≡◌, ◌+◌, ◌∷◌, ◌++◌, [], ℕ, List, length, true, OnOk, IfOk, IfErr};
+ghost use Rattle.std.specs.Prelude.{◌≡◌, ◌+◌, ◌^◌, ◌<◌, ◌∷◌, ◌++◌, [], ℕ, List, length, true, OnOk, IfOk, IfErr};
 ghost use Rattle.swd_bits.specs.Transactions.{spelling};
-ghost use Rattle.swd_trace.specs.Front.{AreLegal};
+ghost use Rattle.swd_trace.specs.Listed.{AreLegal};
 ghost use Rattle.swd_trace.specs.Listed.{lines, Lists, Refuses};
 ghost use Rattle.swd_trace.specs.Taken.{Takes};
-ghost use Rattle.swd_trace.specs.Texts.{item_bits};
+ghost use Rattle.swd_trace.specs.Texts.{item_bits, bits_of_items};
 
 use crate::item::Item;
 use crate::listing::fault::ListFault;
@@ -40,8 +40,12 @@ impl<A: Allocator> Lines<A> {
     /// Takes a byte. After an `Err` nothing is known of what is kept.
     #[inline]
     pub(crate) fn byte(&mut self, byte: u8) -> Result<(), ListFault>
-        ensures ok { OnOk result ((seen : List ℕ) → Takes seen self.old.items.items self.old.line.items self.old.total → Takes (seen ++ byte ∷ []) self.new.items.items self.new.line.items self.new.total) }
-        ensures err { IfErr result (λ fault. (seen more : List ℕ) → Takes seen self.old.items.items self.old.line.items self.old.total → Refuses fault (lines (seen ++ byte ∷ more))) }
+        ensures ok { OnOk result ((seen : List ℕ)
+            → Takes seen self.old.items.items self.old.line.items self.old.total
+            → Takes (seen ++ byte ∷ []) self.new.items.items self.new.line.items self.new.total) }
+        ensures err { IfErr result (λ fault. (seen more : List ℕ)
+            → Takes seen self.old.items.items self.old.line.items self.old.total
+            → Refuses fault (lines (seen ++ byte ∷ more))) }
     {
         if byte == b'\n' {
             return self.end_line();
@@ -64,9 +68,13 @@ impl<A: Allocator> Lines<A> {
 
     // Takes the line that has begun as a whole one.
     fn end_line(&mut self) -> Result<(), ListFault>
-        ensures ok { OnOk result ((seen : List ℕ) → Takes seen self.old.items.items self.old.line.items self.old.total → Takes (seen ++ 10 ∷ []) self.new.items.items self.new.line.items self.new.total) }
+        ensures ok { OnOk result ((seen : List ℕ)
+            → Takes seen self.old.items.items self.old.line.items self.old.total
+            → Takes (seen ++ 10 ∷ []) self.new.items.items self.new.line.items self.new.total) }
         ensures empty { OnOk result (self.new.line.items ≡ []) }
-        ensures err { IfErr result (λ fault. (seen more : List ℕ) → Takes seen self.old.items.items self.old.line.items self.old.total → Refuses fault (lines (seen ++ 10 ∷ more))) }
+        ensures err { IfErr result (λ fault. (seen more : List ℕ)
+            → Takes seen self.old.items.items self.old.line.items self.old.total
+            → Refuses fault (lines (seen ++ 10 ∷ more))) }
     {
         let Some(item) = item_of(self.line.as_slice()) else {
             return Err(self.bad_line());
@@ -84,9 +92,14 @@ impl<A: Allocator> Lines<A> {
 
     /// The items of the whole text, the last line of which may lack its end.
     pub(crate) fn finish(mut self) -> Result<Vec<Item, A>, ListFault>
-        ensures legal { IfOk result (λ items. (seen : List ℕ) → Takes seen self.items.items self.line.items self.total → AreLegal items.items) }
-        ensures ok { IfOk result (λ items. (seen : List ℕ) → Takes seen self.items.items self.line.items self.total → Lists (lines seen) items.items) }
-        ensures err { IfErr result (λ fault. (seen : List ℕ) → Takes seen self.items.items self.line.items self.total → Refuses fault (lines seen)) }
+        ensures legal { IfOk result (λ items. (seen : List ℕ)
+            → Takes seen self.items.items self.line.items self.total → AreLegal items.items) }
+        ensures counted { IfOk result (λ items. (seen : List ℕ)
+            → Takes seen self.items.items self.line.items self.total → length (bits_of_items items.items) < 2 ^ 64) }
+        ensures ok { IfOk result (λ items. (seen : List ℕ)
+            → Takes seen self.items.items self.line.items self.total → Lists (lines seen) items.items) }
+        ensures err { IfErr result (λ fault. (seen : List ℕ)
+            → Takes seen self.items.items self.line.items self.total → Refuses fault (lines seen)) }
     {
         if self.line.is_empty() {
             return Ok(self.items);

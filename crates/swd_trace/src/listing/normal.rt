@@ -1,76 +1,107 @@
 //! Whether a list of items is the reading of its own bits.
-ghost use Rattle.std.specs.Prelude.{◌≡◌, ◌<◌, ◌≤◌, ◌++◌, ℕ, Bool, List, Some, length, take, IfSome, IsTrue, IsFalse};
-ghost use Rattle.swd_bits.specs.BitLists.{bits_of};
-ghost use Rattle.swd_trace.specs.Front.{IsShort, AreLegal, IsJudgedFrom, first_of, mode_at, mode_from};
-ghost use Rattle.swd_trace.specs.Listed.{IsLegal};
-ghost use Rattle.swd_trace.specs.Texts.{item_bits};
+ghost use Rattle.std.specs.Prelude.{◌≡◌, ◌+◌, ◌^◌, ◌<◌, ◌≤◌, ◌++◌, [], List, Bool, length, IsTrue, IsFalse, IfSome};
+ghost use Rattle.swd_trace.specs.Held.{fed_of, IsSettled};
+ghost use Rattle.swd_trace.specs.Listed.{IsLegal, AreLegal};
+ghost use Rattle.swd_trace.specs.Normality.{Agrees, Differs, HasNext, TellsDifference};
+ghost use Rattle.swd_trace.specs.Texts.{item_bits, bits_of_items};
 
+use crate::decoder::Decoder;
 use crate::item::Item;
-use crate::listing::front::{front_of, joined};
-use crate::listing::kind::{first_kind, goes_on, is_same, kind_of};
-use crate::mode::Mode;
-use swd_bits::{TxBits, TxEnd};
+use crate::item_bits::ItemBits;
 
-/// The first item, from 0, at which a list and the reading of its bits differ, and `None` where they
-/// are the same. It takes a step for each item, however many bits the items have.
+/// The first item, from 0, at which a list and the reading of its bits differ. `None` where they are
+/// the same.
+///
+/// A decoder reads the bits, a run in one step, so that no work grows with a count.
 pub(crate) fn first_difference(items: &[Item]) -> Option<usize>
-    requires { AreLegal items.now }
-    ensures judged { IsJudgedFrom Mode.Synced items.now result }
-    ensures within { IfSome result (λ at. at < length items.now) }
+    requires legal { AreLegal items.now }
+    requires counted { length (bits_of_items items.now) < 2 ^ 64 }
+    ensures tells { TellsDifference items.now result }
+    ensures within { IfSome result (λ at. at ≤ length items.now) }
 {
-    let mut difference = None;
-    // the first bits of the items after the place
-    let mut after = TxBits { len: 0, bits: 0 };
-    let mut at = items.len();
-    while at > 0 {
-        at -= 1;
-        let item = items[at];
-        if !is_next(mode_before(items, at), &item, after) {
-            difference = Some(at);
+    let mut decoder = Decoder::new();
+    let mut same = 0;
+    for item in items {
+        if !take_item(&mut decoder, item, items, &mut same) {
+            return Some(same);
         }
-        after = joined(front_of(&item), after);
     }
-    difference
+    last_difference(decoder, items, same)
 }
 
-// Whether the item is what is read first of its bits and those after it, of which the first fifty are
-// at hand.
-fn is_next(mode: Mode, item: &Item, after: TxBits) -> bool
+// Gives an item's bits to a decoder, and says whether what it reads is what the list has next.
+fn take_item(decoder: &mut Decoder, item: &Item, items: &[Item], same: &mut usize) -> bool
+    requires settled { IsSettled decoder.old }
     requires legal { IsLegal item.now }
-    requires after { IsShort after }
-    ensures yes { IsTrue result → (rest : List Bool) → bits_of after ≡ take 50 rest → first_of mode (item_bits item.now ++ rest) ≡ Some item.now }
-    ensures no { IsFalse result → (rest : List Bool) → bits_of after ≡ take 50 rest → first_of mode (item_bits item.now ++ rest) ≡ Some item.now → ⊥ }
+    requires room { fed_of decoder.old + length (item_bits item.now) < 2 ^ 64 }
+    ensures yes { IsTrue result → (ahead : List Bool)
+        → Agrees items.now same.old decoder.old (item_bits item.now ++ ahead)
+        → Agrees items.now same.new decoder.new ahead }
+    ensures settled { IsTrue result → IsSettled decoder.new }
+    ensures fed { IsTrue result → fed_of decoder.new ≡ fed_of decoder.old + length (item_bits item.now) }
+    ensures no { IsFalse result → (ahead : List Bool)
+        → Agrees items.now same.old decoder.old (item_bits item.now ++ ahead)
+        → Differs items.now same.new }
 {
-    match first_kind(mode, joined(front_of(item), after)) {
-        Some(kind) => is_same(kind, kind_of(item)) && !goes_on(item, after),
-        None => false,
+    let mut left = ItemBits::of(item);
+    while !left.is_empty() {
+        left.feed(decoder);
+        if !take_due(decoder, items, same) {
+            return false;
+        }
     }
+    true
 }
 
-// The mode before the item at a place, where the items before it are as they are read.
-fn mode_before(items: &[Item], at: usize) -> Mode
-    requires { at ≤ length items.now }
-    ensures { result ≡ mode_at Mode.Synced items.now at }
+// Takes the items that are due, and says whether the list has them next.
+fn take_due(decoder: &mut Decoder, items: &[Item], same: &mut usize) -> bool
+    ensures yes { IsTrue result → (ahead : List Bool) → Agrees items.now same.old decoder.old ahead
+        → Agrees items.now same.new decoder.new ahead }
+    ensures settled { IsTrue result → IsSettled decoder.new }
+    ensures fed { fed_of decoder.new ≡ fed_of decoder.old }
+    ensures no { IsFalse result → (ahead : List Bool) → Agrees items.now same.old decoder.old ahead
+        → Differs items.now same.new }
 {
-    if at == 0 {
-        Mode::Synced
+    while let Some(item) = decoder.due() {
+        if !has_next(items, *same, &item) {
+            return false;
+        }
+        *same += 1;
+    }
+    true
+}
+
+// The same at the end of the trace, where the list and its reading have so many items in common.
+fn last_difference(mut decoder: Decoder, items: &[Item], same: usize) -> Option<usize>
+    requires { Agrees items.now same decoder [] }
+    ensures tells { TellsDifference items.now result }
+    ensures within { IfSome result (λ at. at ≤ length items.now) }
+{
+    let mut same = same;
+    while let Some(item) = decoder.last() {
+        if !has_next(items, same, &item) {
+            return Some(same);
+        }
+        same += 1;
+    }
+    if same == items.len() {
+        None
     } else {
-        mode_after(&items[at - 1])
+        Some(same)
     }
 }
 
-// The mode after an item.
-fn mode_after(item: &Item) -> Mode
-    ensures { result ≡ mode_from item.now }
+// Whether the list goes on with this item after its first ones, of which there are so many.
+fn has_next(items: &[Item], same: usize, item: &Item) -> bool
+    ensures yes { IsTrue result → HasNext items.now same item.now }
+    ensures no { IsFalse result → HasNext items.now same item.now → ⊥ }
 {
-    match item {
-        Item::Reset(_) => Mode::AfterReset,
-        Item::Switch => Mode::AfterSwitch,
-        Item::Idle(_) | Item::Cut(_) => Mode::Synced,
-        Item::Junk(_) => Mode::Lost,
-        Item::Tx(tx) => match tx.result {
-            TxEnd::NoAck(_) => Mode::Lost,
-            _ => Mode::Synced,
-        },
-    }
+    same < items.len() && is_same(&items[same], item)
+}
+
+fn is_same(item: &Item, other: &Item) -> bool
+    ensures yes { IsTrue result → item.now ≡ other.now }
+    ensures no { IsFalse result → item.now ≡ other.now → ⊥ }
+{
+    *item == *other
 }

@@ -1,8 +1,7 @@
 //! Reading a listing from any reader.
-ghost use Rattle.std.specs.Prelude.{◌≡◌, ◌∷◌, ◌++◌, [], ℕ, List, Option, OnOk, IfOk, IfErr, IfSome};
-ghost use Rattle.swd_trace.specs.Front.{AreLegal};
-ghost use Rattle.swd_trace.specs.Listed.{lines as lines_of, Lists, IsNormal, Refuses};
-ghost use Rattle.swd_trace.specs.Taken.{Takes};
+ghost use Rattle.std.specs.Prelude.{◌^◌, ◌<◌, length, IfOk, IfErr, IfSome};
+ghost use Rattle.swd_trace.specs.Listed.{lines as lines_of, AreLegal, Lists, IsNormal, Refuses};
+ghost use Rattle.swd_trace.specs.Texts.{bits_of_items};
 
 use crate::item::Item;
 use crate::listing::fault::ListFault;
@@ -10,6 +9,7 @@ use crate::listing::lines::Lines;
 use crate::listing::normal::first_difference;
 use std::alloc::Allocator;
 use std::io::Read;
+use swd_io::{Consumer, read_pieces};
 
 /// The items of a listing, from a reader, which is read to its end or up to the first bad line.
 ///
@@ -25,7 +25,8 @@ use std::io::Read;
 /// again, or did not end within 2^64 - 1 reads.
 pub fn read_list<R: Read, A: Allocator>(alloc: A, reader: &mut R) -> Result<Vec<Item, A>, ListFault>
     ensures legal { IfOk result (λ items. AreLegal items.items) }
-    ensures ok { IfOk result (λ items. IfSome (R.remaining reader.old) (λ text. Lists (lines_of text) items.items × IsNormal items.items)) }
+    ensures ok { IfOk result (λ items. IfSome (R.remaining reader.old)
+        (λ text. Lists (lines_of text) items.items × IsNormal items.items)) }
     ensures err { IfErr result (λ fault. IfSome (R.remaining reader.old) (λ text. Refuses fault (lines_of text))) }
 {
     let items = match read_lines(alloc, reader) {
@@ -40,37 +41,45 @@ pub fn read_list<R: Read, A: Allocator>(alloc: A, reader: &mut R) -> Result<Vec<
     }
 }
 
-// Takes the bytes of a piece, up to a fault.
-fn take_piece<A: Allocator>(lines: &mut Lines<A>, piece: &[u8]) -> Result<(), ListFault>
-    ensures ok { OnOk result ((seen : List ℕ) → Takes seen lines.old.items.items lines.old.line.items lines.old.total → Takes (seen ++ piece.now) lines.new.items.items lines.new.line.items lines.new.total) }
-    ensures err { IfErr result (λ fault. (seen more : List ℕ) → Takes seen lines.old.items.items lines.old.line.items lines.old.total → Refuses fault (lines_of ((seen ++ piece.now) ++ more))) }
-{
-    for byte in piece {
-        if let Err(fault) = lines.byte(*byte) {
-            return Err(fault);
-        }
-    }
-    Ok(())
-}
-
 // The items of the lines of a text.
 fn read_lines<R: Read, A: Allocator>(alloc: A, reader: &mut R) -> Result<Vec<Item, A>, ListFault>
     ensures legal { IfOk result (λ items. AreLegal items.items) }
+    ensures counted { IfOk result (λ items. length (bits_of_items items.items) < 2 ^ 64) }
     ensures ok { IfOk result (λ items. IfSome (R.remaining reader.old) (λ text. Lists (lines_of text) items.items)) }
     ensures err { IfErr result (λ fault. IfSome (R.remaining reader.old) (λ text. Refuses fault (lines_of text))) }
 {
     let mut lines = Lines::new(alloc);
-    let mut buffer = [0u8; 4096];
-    for _ in 0..u64::MAX {
-        let Ok(n) = reader.read(&mut buffer) else {
-            return Err(ListFault::Read);
-        };
-        if n == 0 {
-            return lines.finish();
-        }
-        if let Err(fault) = take_piece(&mut lines, &buffer[..n]) {
-            return Err(fault);
-        }
+    match read_pieces(reader, &mut (), &mut lines) {
+        Ok(()) => lines.finish(),
+        Err(unread) => Err(unread.fault_or(ListFault::Read)),
     }
-    Err(ListFault::Read)
+}
+
+impl<A: Allocator> Consumer<()> for Lines<A> {
+    ghost use Rattle.swd_io.specs.Pieces.{LeadsOn, LeadsToEnd};
+    ghost use Rattle.swd_io.proofs.PieceLemmas.{leads_nowhere, leads_further, leads_to_later_end};
+    ghost use Rattle.swd_trace.specs.ListReader.{HasRead, RefusesLater};
+
+    type Fault = ListFault;
+
+    ghost can_take = { λ _. Unit {0} };
+
+    ghost takes = { LeadsOn HasRead };
+
+    ghost stops = { LeadsToEnd HasRead RefusesLater };
+
+    fn take(&mut self, _writer: &mut (), piece: &[u8]) -> Result<(), ListFault> {
+        for byte in piece {
+            if let Err(fault) = self.byte(*byte) {
+                return Err(fault);
+            }
+        }
+        Ok(())
+    }
+
+    ghost takes_nothing = { leads_nowhere HasRead };
+
+    ghost takes_on = { leads_further HasRead };
+
+    ghost stops_later = { leads_to_later_end HasRead RefusesLater };
 }

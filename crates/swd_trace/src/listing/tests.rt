@@ -1,6 +1,5 @@
 use super::*;
 use crate::item::Item;
-use crate::item_text::line_of;
 use linked_list_allocator::LocalHeap;
 use std::io;
 use std::io::Read;
@@ -58,7 +57,7 @@ fn listings_that_are_normal_are_read_as_they_are_printed(rt: HostRuntime) -> Res
         let items = read_list(rt.alloc(), &mut reader)?;
         let mut again = String::new(rt.alloc());
         for item in items.as_slice() {
-            again.push_str(line_of(item).as_str())?;
+            again.push_str(item.line().as_str())?;
             again.push_str("\n")?;
         }
         assert_eq!(rt; again.as_str(), text);

@@ -14,7 +14,7 @@ use swd_bits::TxBits;
 const LONGEST_CUT: usize = 49;
 
 /// The number that is printed as these digits. Other texts may be read as some number.
-pub(crate) fn count_of(digits: &[u8]) -> Option<u64>
+pub(crate) fn count_in(digits: &[u8]) -> Option<u64>
     ensures { (count : ℕ) → count < 2 ^ 64 → digits.now ≡ decimal count → result ≡ Some count }
 {
     match str::from_utf8(digits) {
@@ -25,7 +25,7 @@ pub(crate) fn count_of(digits: &[u8]) -> Option<u64>
 
 /// The acknowledgement as seen that is printed as this number. Other texts may be read as some
 /// number.
-pub(crate) fn seen_of(digits: &[u8]) -> Option<u8>
+pub(crate) fn seen_in(digits: &[u8]) -> Option<u8>
     ensures { (seen : ℕ) → seen < 8 → digits.now ≡ decimal seen → result ≡ Some seen }
 {
     match str::from_utf8(digits) {
@@ -36,7 +36,7 @@ pub(crate) fn seen_of(digits: &[u8]) -> Option<u8>
 
 /// The word that is printed as these eight hexadecimal digits. Other texts may be read as some
 /// word.
-pub(crate) fn word_of(digits: &[u8]) -> Option<u32>
+pub(crate) fn word_in(digits: &[u8]) -> Option<u32>
     ensures { (word : ℕ) → word < 2 ^ 32 → digits.now ≡ hex8 word → result ≡ Some word }
 {
     match str::from_utf8(digits) {

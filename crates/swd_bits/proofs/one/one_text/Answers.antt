@@ -44,12 +44,12 @@ found text g tx h e f = judged text g (Spells tx) h (λ bits k. let k' = rw e at
 
 pub returns-in-Ok : goal.returns-in-Ok
 returns-in-Ok g c =
-    let e = c.as_bytes.ensures.value ∙ c.as_str.ensures.value ∙ c.push_str.ensures.bytes ∙ ap (λ x. x ++ 10 ∷ []) c.line_of-line.ensures.bytes in
+    let e = c.as_bytes.ensures.value ∙ c.as_str.ensures.value ∙ c.push_str.ensures.bytes ∙ ap (λ x. x ++ 10 ∷ []) c.line-line.ensures.bytes in
     (c.in-Some.tx, found (g.R.Read.remaining c.args.reader.now) c.in_ok-gathered.gathered c.in-Some.tx c.in_ok-gathered.ensures c.if-gathered.false c.in-Some.ensures.found, subst (Appends (g.W.Write.contents c.args.writer.now) (g.W.Write.contents c.send.new.writer)) e c.in-Ok.ensures.ok)
 
 pub returns-in-Err : goal.returns-in-Err
 returns-in-Err g c =
-    let e = c.as_bytes.ensures.value ∙ c.as_str.ensures.value ∙ c.push_str.ensures.bytes ∙ ap (λ x. x ++ 10 ∷ []) c.line_of-line.ensures.bytes in (
+    let e = c.as_bytes.ensures.value ∙ c.as_str.ensures.value ∙ c.push_str.ensures.bytes ∙ ap (λ x. x ++ 10 ∷ []) c.line-line.ensures.bytes in (
       c.in-Some.tx,
       c.in-Err.field-0.sent,
       subst (λ x. c.in-Err.field-0.sent < length x) e c.in-Err.ensures.err.0,

@@ -3,9 +3,9 @@ use Rattle.std.proofs.lemmas.List.{append-nil}
 use Rattle.std.proofs.Math.Seq.{take-suc}
 use Rattle.swd_trace.specs.declared.item.Item.{Item}
 use Rattle.swd_trace.specs.Listed.{IsLegal}
-use Rattle.swd_trace.specs.Front.{AreLegal}
+use Rattle.swd_trace.specs.Listed.{AreLegal}
 use Rattle.swd_trace.specs.Texts.{item_text, trace_text}
-use Rattle.swd_text.specs.Blocks.{Sends}
+use Rattle.swd_io.specs.Blocks.{Sends}
 use Rattle.swd_text.proofs.encoding.write_items.Goals as goal
 
 legal_at : (items : List Item) (k : ℕ) (d : Item) → k < length items → AreLegal items → IsLegal (get_or items k d)
@@ -26,7 +26,10 @@ pub put_item-requires : goal.put_item-requires
 put_item-requires g c = legal_at c.args.items.now c.loop-item.item-index _ c.loop-item-test.true c.requires
 
 pub loop-item-preserved : goal.loop-item-preserved
-loop-item-preserved g c =
-    subst (λ x. Sends (g.W.Write.contents c.args.writer.now) (g.W.Write.contents c.put_item.new.writer) c.put_item.new.block x)
-    (sym (trace_next c.args.items.now c.loop-item.item-index _ c.loop-item-test.true))
-    (c.put_item.ensures (g.W.Write.contents c.args.writer.now) (trace_text (take c.loop-item.item-index c.args.items.now)) c.loop-item.invariant)
+loop-item-preserved g c = record {
+  sends =
+      subst (Sends g.W.Write.contents (g.W.Write.contents c.args.writer.now) c.put_item.new.block)
+      (sym (trace_next c.args.items.now c.loop-item.item-index _ c.loop-item-test.true))
+      (c.put_item.ensures.sends (g.W.Write.contents c.args.writer.now) (trace_text (take c.loop-item.item-index c.args.items.now)) c.loop-item.invariant.sends);
+  writer = c.put_item.ensures.writer ∙ c.loop-item.invariant.writer;
+}

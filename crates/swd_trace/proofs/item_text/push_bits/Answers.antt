@@ -18,7 +18,7 @@ step old new all len at v h e k =
     ∙ ap (λ x. old ++ map digit x) (sym front) ∙ k
 
 pub loop-preserved : goal.loop-preserved
-loop-preserved c = record {
+loop-preserved g c = record {
   room = search rules;
   kept = step c.loop.text.bytes c.push_str.new.self.bytes _ c.args.bits.len c.loop.counter c.loop.rest c.loop-test.true
       (c.push_str.ensures.bytes ∙ ap (λ x. c.loop.text.bytes ++ x) c.bit_text.ensures) c.loop.invariant.kept;
@@ -30,5 +30,5 @@ done text all len at v h k =
     let none : len - at ≡ 0 = omega arith in
     sym (append-nil text) ∙ ap (λ x. text ++ map digit x) (sym (no_bits (len - at) v none)) ∙ k
 
-pub returns : goal.returns
-returns c = done c.loop.text.bytes _ c.args.bits.len c.loop.counter c.loop.rest c.loop-test.false c.loop.invariant.kept
+pub returns-clause-bytes : goal.returns-clause-bytes
+returns-clause-bytes g c = done c.loop.text.bytes _ c.args.bits.len c.loop.counter c.loop.rest c.loop-test.false c.loop.invariant.kept

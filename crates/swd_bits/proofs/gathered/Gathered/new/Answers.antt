@@ -5,4 +5,7 @@ use Rattle.swd_bits.proofs.gathered.Gathered.new.Goals as goal
 
 pub returns : goal.returns
 unfolding low_bits
-returns c = record { bits = []; reads = reads_none c.new.result c.new.ensures; kept = (omega arith, refl) }
+returns c = record {
+  gathers = record { bits = []; reads = reads_none c.new.result c.new.ensures; kept = (omega arith, refl) };
+  place = omega arith;
+}

@@ -7,8 +7,8 @@ use Rattle.swd_bits.proofs.BitsLemmas.{length-low_bits}
 use Rattle.swd_bits.proofs.TxLemmas.{spells, parts, same_read, same_tx, long, split_same, length_request}
 use Rattle.swd_bits.proofs.tx.Tx.of.Goals as goal
 
-pub returns-then-spelled-lt12-clause-none : goal.returns-then-spelled-lt12-clause-none
-returns-then-spelled-lt12-clause-none c = λ tx p.
+pub returns-then-spelled-lt-UNACKNOWLEDGED_BITS-clause-none : goal.returns-then-spelled-lt-UNACKNOWLEDGED_BITS-clause-none
+returns-then-spelled-lt-UNACKNOWLEDGED_BITS-clause-none c = λ tx p.
     let n : 12 ≤ length (bits_of c.args.spelled) = long tx (bits_of c.args.spelled) p in
     let m : length (bits_of c.args.spelled) ≡ c.args.spelled.len = length-low_bits c.args.spelled.len c.args.spelled.bits in
     omega arith

@@ -1,72 +1,73 @@
-use Rattle.std.proofs.Common.{◌≡◌, ℕ, ◌+◌, Bool, List, [], ◌∷◌, ◌++◌, length, Option, sym, ◌∙◌, subst, arith}
+use Rattle.std.proofs.Common.{◌≡◌, ◌+◌, ◌-◌, ◌^◌, min, [], ◌∷◌, ◌++◌, length, sym, ◌∙◌, subst, arith}
 use Rattle.std.proofs.lemmas.List.{length-append}
 use Rattle.swd_bits.proofs.ScanLemmas.{reads_passed, reads_bit, first_bad}
-use Rattle.swd_trace.specs.declared.item.Item.{Item}
-use Rattle.swd_text.specs.Listers.{Lists, GoesOn, Ends, StopsAt}
-use Rattle.swd_text.specs.declared.lister.Lister.{Lister}
-use Rattle.swd_text.proofs.ListerLemmas.{on_ok, on_err}
+use Rattle.swd_text.specs.Listers.{Listed, StopsAt}
+use Rattle.swd_text.proofs.ListerLemmas.{on_ok, on_err, lists_of}
 use Rattle.swd_text.proofs.lister.Lister.byte.Goals as goal
 
--- the scan alone changed
-same_lists : (start now : Option (List ℕ)) (lister : Lister) (scan : Bool) (bits : List Bool) (items : List Item) →
-    Lists start now lister bits items → Lists start now (record lister { scan = scan }) bits items
-same_lists start now lister scan bits items h = record { law = h.law; count = h.count; sends = h.sends }
-
 pub returns-in-Passed-clause-ok : goal.returns-in-Passed-clause-ok
-returns-in-Passed-clause-ok g c = λ start seen h. record {
-  bits = h.bits;
-  items = h.items;
-  reads = reads_passed seen h.bits c.args.self.now.scan c.byte.new.self c.args.byte c.in-Passed.ensures.sign c.in-Passed.ensures.comment h.reads;
-  undecided = h.undecided;
-  lists = same_lists start (g.W.Write.contents c.args.writer.now) c.args.self.now c.byte.new.self h.bits h.items h.lists;
-}
-
--- nothing but the scan changed, and the text ends where it did
-ended : (start now : Option (List ℕ)) (lister : Lister) (scan : Bool) (seen : List ℕ) → GoesOn start now lister seen → Ends start now (record lister { scan = scan }) seen
-ended start now lister scan seen h = (
-  lister.scan,
-  record {
-    bits = h.bits;
-    items = h.items;
-    reads = h.reads;
-    undecided = h.undecided;
-    lists = same_lists start now lister scan h.bits h.items h.lists;
-  },
-)
+returns-in-Passed-clause-ok g c = λ start seen h.
+    let lister = c.args.self.now in
+    let r = h.read in
+    record {
+      read = record {
+        bits = r.bits;
+        items = r.items;
+        reads = reads_passed seen r.bits lister.scan c.byte.new.self c.args.byte c.in-Passed.ensures.sign c.in-Passed.ensures.comment r.reads;
+        undecided = r.undecided;
+        law = r.law;
+        count = r.count;
+        counted = r.counted;
+      };
+      sends = h.sends;
+    }
 
 pub returns-in-Bad-clause-err : goal.returns-in-Bad-clause-err
-returns-in-Bad-clause-err g c = λ start seen h. (
-  λ more. first_bad seen more h.bits c.args.self.now.scan c.args.byte c.in-Bad.ensures.sign h.reads,
-  ended start (g.W.Write.contents c.args.writer.now) c.args.self.now c.byte.new.self seen h,
-)
+returns-in-Bad-clause-err g c = λ start seen h.
+    let lister = c.args.self.now in (
+      (c.saturating_add.ensures, λ more. first_bad seen more h.read.bits lister.scan c.args.byte c.in-Bad.ensures.sign h.read.reads),
+      (lister.scan, h),
+    )
 
 pub returns-in-Bit-clause-ok : goal.returns-in-Bit-clause-ok
 returns-in-Bit-clause-ok g c = on_ok c.bit.result
     (λ lists undecided start seen h.
-    let m = lists start h.bits h.items (same_lists start (g.W.Write.contents c.args.writer.now) c.args.self.now c.byte.new.self h.bits h.items h.lists) in
+    let lister = c.args.self.now in
+    let r = h.read in
+    let m = lists start r.bits r.items (lists_of g.W.Write.contents start lister.decoder lister.scan c.args.block.now seen h) in
     record {
-      bits = h.bits ++ c.in-Bit.bit ∷ [];
-      items = m.0;
-      reads = reads_bit seen h.bits c.args.self.now.scan c.bit.new.self.scan c.in-Bit.bit c.args.byte c.in-Bit.ensures.sign (c.bit.ensures.scan ∙ c.in-Bit.ensures.comment) h.reads;
-      undecided = undecided;
-      lists = m.1;
+      read = record {
+        bits = r.bits ++ c.in-Bit.bit ∷ [];
+        items = m.0;
+        reads = reads_bit seen r.bits lister.scan c.bit.new.self.scan c.in-Bit.bit c.args.byte c.in-Bit.ensures.sign (c.bit.ensures.scan ∙ c.in-Bit.ensures.comment) r.reads;
+        undecided = undecided;
+        law = m.1.law;
+        count = m.1.count;
+        counted = m.1.counted;
+      };
+      sends = m.1.sends;
     })
     c.bit.ensures.ok c.bit.ensures.undecided
 
 pub returns-in-Bit-clause-err : goal.returns-in-Bit-clause-err
 returns-in-Bit-clause-err g c = on_err c.bit.result
-    (λ stop long same start seen h.
-    let lister : Lister = record c.args.self.now { scan = c.byte.new.self } in
-    let count = h.lists.count in
+    (λ fault long same start seen h.
+    let lister = c.args.self.now in
+    let r = h.read in
+    let place = min (lister.place + c.args.index) (2 ^ 64 - 1) in
+    let count = r.count in
     let full = long.1 in
-    let len : length (h.bits ++ c.in-Bit.bit ∷ []) ≡ length h.bits + 1 = length-append h.bits (c.in-Bit.bit ∷ []) in (
-      subst (λ s. StopsAt s seen c.args.byte) (sym long.0) (record {
-        bits = h.bits ++ c.in-Bit.bit ∷ [];
+    let len : length (r.bits ++ c.in-Bit.bit ∷ []) ≡ length r.bits + 1 = length-append r.bits (c.in-Bit.bit ∷ []) in (
+      subst (λ f. StopsAt f place seen c.args.byte) (sym long.0) (record {
+        bits = r.bits ++ c.in-Bit.bit ∷ [];
         comment = c.byte.new.self;
-        reads = reads_bit seen h.bits c.args.self.now.scan c.byte.new.self c.in-Bit.bit c.args.byte c.in-Bit.ensures.sign c.in-Bit.ensures.comment h.reads;
+        reads = reads_bit seen r.bits lister.scan c.byte.new.self c.in-Bit.bit c.args.byte c.in-Bit.ensures.sign c.in-Bit.ensures.comment r.reads;
         long = omega arith;
       }),
-      subst (λ x. Ends start x c.bit.new.self seen) (sym same.1) (subst (λ l. Ends start (g.W.Write.contents c.args.writer.now) l seen) (sym same.0)
-          (ended start (g.W.Write.contents c.args.writer.now) c.args.self.now c.byte.new.self seen h)),
+      (
+        lister.scan,
+        subst (λ b. Listed g.W.Write.contents start c.bit.new.self.decoder lister.scan b seen) (sym same.1)
+            (subst (λ l. Listed g.W.Write.contents start l.decoder lister.scan c.args.block.now seen) (sym same.0) h),
+      ),
     ))
     c.bit.ensures.long c.bit.ensures.same

@@ -1,19 +1,29 @@
-use Rattle.swd_bits.proofs.ScanLemmas.{reads_all}
+use Rattle.std.proofs.Common.{Ok, Err, sym, ◌∙◌, subst}
 use Rattle.swd_trace.specs.Reading.{reading_of}
 use Rattle.swd_trace.specs.Texts.{listing}
-use Rattle.swd_text.proofs.ListerLemmas.{ok_then, err_then}
+use Rattle.swd_text.specs.Decoding.{Finishes}
+use Rattle.swd_text.specs.declared.fault.EngineFault.TheVariants.{Write}
+use Rattle.swd_text.proofs.DecodingLemmas.{reads_as}
 use Rattle.swd_text.proofs.lister.Lister.finish.Goals as goal
 
-pub returns-clause-ok : goal.returns-clause-ok
-returns-clause-ok g c = ok_then c.close.result
-    (λ close start seen e.
-    let h = e.1 in
-    (h.bits, reads_all seen h.bits e.0 h.reads, close start (listing (reading_of h.bits)) (c.send_last.ensures start h.bits h.items h.lists)))
-    c.close.ensures.ok
+pub returns-in-Ok : goal.returns-in-Ok
+returns-in-Ok g c = λ start seen h.
+    let contents = g.W.Write.contents in
+    let lister = c.args.self.now in
+    let r = h.read in
+    let same = c.writer-1.given.1 (sym (c.flush.ensures.writer ∙ c.put_last.ensures.writer ∙ c.new-block.ensures.writer)) in
+    let sends = c.new-block.ensures.sends start (listing r.items) h.gone h.written in
+    let all = c.put_last.ensures.sends start r.bits r.items (record { law = r.law; count = r.count; counted = r.counted; sends = sends }) in
+    subst (λ w. Finishes (Ok tt) seen start (contents w)) (sym same)
+    (reading_of r.bits, reads_as lister.decoder lister.scan seen r, (c.in-Ok.ensures.ok start (listing (reading_of r.bits)) all).0)
 
-pub returns-clause-err : goal.returns-clause-err
-returns-clause-err g c = err_then c.close.result
-    (λ told close start seen e.
-    let h = e.1 in
-    (h.bits, reads_all seen h.bits e.0 h.reads, close start (listing (reading_of h.bits)) (c.send_last.ensures start h.bits h.items h.lists)))
-    c.close.ensures.err
+pub returns-in-Err : goal.returns-in-Err
+returns-in-Err g c = λ start seen h.
+    let contents = g.W.Write.contents in
+    let lister = c.args.self.now in
+    let r = h.read in
+    let same = c.writer-1.given.1 (sym (c.flush.ensures.writer ∙ c.put_last.ensures.writer ∙ c.new-block.ensures.writer)) in
+    let sends = c.new-block.ensures.sends start (listing r.items) h.gone h.written in
+    let all = c.put_last.ensures.sends start r.bits r.items (record { law = r.law; count = r.count; counted = r.counted; sends = sends }) in
+    subst (λ w. Finishes (Err (Write c.in-Err.written)) seen start (contents w)) (sym same)
+    (reading_of r.bits, reads_as lister.decoder lister.scan seen r, c.in-Err.ensures.err start (listing (reading_of r.bits)) all)

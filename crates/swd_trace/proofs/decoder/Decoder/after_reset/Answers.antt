@@ -16,23 +16,23 @@ returns-then-self-mask c =
     (no_switch_law c.args.self.now.mode c.args.self.now.one c.args.self.now.len c.args.self.now.bits c.min-seen.result c.requires.mode (omega arith) (omega arith) c.if-self-mask.true more))
     refl refl
 
-pub invariant_of-self-then-self-lt16 : goal.invariant_of-self-then-self-lt16
-invariant_of-self-then-self-lt16 c =
+pub invariant_of-self-then-self-lt-SWITCH_BITS : goal.invariant_of-self-then-self-lt-SWITCH_BITS
+invariant_of-self-then-self-lt-SWITCH_BITS c =
     let seen : c.min-seen.result ≡ c.args.self.now.len = c.min-seen.ensures ∙ omega arith in
     record {
       holds = holds_switching c.args.self.now.mode c.args.self.now.one c.args.self.now.run c.args.self.now.len c.args.self.now.bits c.args.self.now.next c.args.self.now.fed
-          c.args.self.now.holds c.requires.run c.requires.mode c.requires.some c.if-self-lt16.true
+          c.args.self.now.holds c.requires.run c.requires.mode c.requires.some c.if-self-lt-SWITCH_BITS.true
           (subst (λ n. bit_and c.args.self.now.bits (mask_of n) ≡ bit_and 59294 (mask_of n)) seen c.if-self-mask.false);
     }
 
-pub returns-then-self-lt16 : goal.returns-then-self-lt16
-returns-then-self-lt16 c =
+pub returns-then-self-lt-SWITCH_BITS : goal.returns-then-self-lt-SWITCH_BITS
+returns-then-self-lt-SWITCH_BITS c =
     let seen : c.min-seen.result ≡ c.args.self.now.len = c.min-seen.ensures ∙ omega arith in
     record {
       law = λ more. refl;
       open_end = record {
         ran = λ p. let none : c.args.self.now.run ≡ 0 = c.requires.run in absurd (omega arith);
-        held = λ e p. switch_open c.args.self.now.mode c.args.self.now.len c.args.self.now.bits c.requires.mode c.if-self-lt16.true
+        held = λ e p. switch_open c.args.self.now.mode c.args.self.now.len c.args.self.now.bits c.requires.mode c.if-self-lt-SWITCH_BITS.true
             (subst (λ n. bit_and c.args.self.now.bits (mask_of n) ≡ bit_and 59294 (mask_of n)) seen c.if-self-mask.false);
       };
       settled = omega arith;
@@ -43,13 +43,13 @@ returns-then-self-lt16 c =
 pub invariant_of-self-2 : goal.invariant_of-self-2
 invariant_of-self-2 c = record {
   holds = holds_fewer c.args.self.now.mode AfterSwitch c.args.self.now.one c.args.self.now.run c.args.self.now.len c.args.self.now.bits c.args.self.now.next c.args.self.now.fed
-      16 c.args.self.now.holds c.requires.run c.if-self-lt16.false;
+      16 c.args.self.now.holds c.requires.run c.if-self-lt-SWITCH_BITS.false;
 }
 
 pub returns : goal.returns
 returns c =
     let seen : c.min-seen.result ≡ 16 = c.min-seen.ensures ∙ omega arith in
-    let long : 16 ≤ c.args.self.now.len = c.if-self-lt16.false in
+    let long : 16 ≤ c.args.self.now.len = c.if-self-lt-SWITCH_BITS.false in
     record {
       law = λ more.
           bits_law c.args.self.now.mode AfterSwitch c.args.self.now.one c.args.self.now.run Switch (low_bits c.args.self.now.len c.args.self.now.bits ++ more)

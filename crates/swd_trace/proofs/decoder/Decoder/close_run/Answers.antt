@@ -17,7 +17,7 @@ invariant_of-self-2 c = record {
 
 pub returns-in-Lost : goal.returns-in-Lost
 returns-in-Lost c = record {
-  law = lost_ones c.args.self.now.mode c.args.self.now.one c.args.self.now.run c.args.self.now.len c.args.self.now.bits c.in-Lost.is c.if-not-self.false c.requires.run c.if-self-ge50.false
+  law = lost_ones c.args.self.now.mode c.args.self.now.one c.args.self.now.run c.args.self.now.len c.args.self.now.bits c.in-Lost.is c.if-not-self.false c.requires.run c.if-self-ge-RESET_ONES.false
       c.requires.alone;
   fewer = omega arith;
   fed = refl;
@@ -25,7 +25,7 @@ returns-in-Lost c = record {
 
 pub returns : goal.returns
 returns c = record {
-  law = cut_run c.args.self.now.mode c.args.self.now.one c.args.self.now.run c.args.self.now.len c.args.self.now.bits c.in_default.not-Lost c.if-not-self.false c.requires.run c.if-self-ge50.false
+  law = cut_run c.args.self.now.mode c.args.self.now.one c.args.self.now.run c.args.self.now.len c.args.self.now.bits c.in_default.not-Lost c.if-not-self.false c.requires.run c.if-self-ge-RESET_ONES.false
       c.requires.alone;
   fewer = omega arith;
   fed = refl;

@@ -1,18 +1,12 @@
-use Rattle.std.proofs.Common.{◌≡◌, ◌<◌, ◌≤◌, IfSome, length, take, drop}
-use Rattle.swd_bits.specs.BitLists.{bits_of}
-use Rattle.swd_trace.specs.Front.{IsShort}
+use Rattle.std.proofs.Common.{◌≡◌, ◌+◌, length, drop}
+use Rattle.swd_trace.specs.Held.{fed_of, IsSettled}
+use Rattle.swd_trace.specs.Normality.{Agrees}
 use Rattle.swd_trace.specs.Texts.{bits_of_items}
-use Rattle.swd_trace.proofs.NormalLemmas.{IsJudgedAt}
 use Rattle.swd_trace.proofs.listing.normal.first_difference.Given as goal
 
-abbrev pub invariant-loop-at : goal.invariant-loop-at
-invariant-loop-at l = record {
-  within : l.at ≤ length l.items;
-  found : IfSome l.difference (λ at. at < length l.items);
-  short : IsShort l.after;
-  bits : bits_of l.after ≡ take 50 (bits_of_items (drop l.at l.items));
-  judged : IsJudgedAt l.items l.at l.difference;
+abbrev pub invariant-loop-item : goal.invariant-loop-item
+invariant-loop-item l = record {
+  settled : IsSettled l.decoder;
+  fed : fed_of l.decoder + length (bits_of_items (drop l.item-index l.items)) ≡ length (bits_of_items l.items);
+  agrees : Agrees l.items l.same l.decoder (bits_of_items (drop l.item-index l.items));
 }
-
-abbrev pub decreases-loop-at : goal.decreases-loop-at
-decreases-loop-at l = l.at

@@ -1,35 +1,72 @@
-use Rattle.std.proofs.Common.{ℕ, List, ◌++◌, take, sym, subst, Option, None, Some, IfSome, Result, Ok, Err, IfOk}
-use Rattle.std.specs.Io.KnownBytes.{Consumes}
-use Rattle.std.proofs.KnownBytes.{Consumes-trans}
-use Rattle.swd_trace.specs.Front.{AreLegal}
-use Rattle.swd_trace.specs.Taken.{Takes}
-use Rattle.swd_trace.specs.Listed.{lines, Refuses}
+use Rattle.std.proofs.Common.{ℕ, List, [], ◌++◌, Option, None, Some, IfSome, Result, Ok, Err, sym, subst}
+use Rattle.std.specs.Prelude.{IfErr}
+use Rattle.std.specs.Io.KnownBytes.{Consumes, IsAtEnd}
+use Rattle.std.proofs.KnownBytes.{Consumes-whole}
+use Rattle.std.proofs.lemmas.Result.{IfOk-weaker}
+use Rattle.swd_io.specs.Pieces.{Reads, LeadsOn, LeadsToEnd, fault_or}
+use Rattle.swd_io.specs.declared.pieces.Unread.{Unread}
+use Rattle.swd_io.specs.declared.pieces.Unread.TheVariants.{Reader, Consumer}
+use Rattle.swd_trace.specs.Listed.{lines, Lists, Refuses}
+use Rattle.swd_trace.specs.ListReader.{HasRead, RefusesLater}
 use Rattle.swd_trace.specs.declared.listing.fault.ListFault.{ListFault}
+use Rattle.swd_trace.specs.declared.listing.fault.ListFault.TheVariants.{Read}
+use Rattle.swd_trace.specs.declared.listing.lines.Lines.{Lines}
 use Rattle.swd_trace.proofs.listing.reader.read_lines.Goals as goal
 
 -- a fault that was found, whatever follows
-found : (a b : Option (List ℕ)) (seen : List ℕ) (fault : ListFault) → Consumes a b seen → ((more : List ℕ) → Refuses fault (lines (seen ++ more))) → IfSome a (λ text. Refuses fault (lines text))
-found None b seen fault c f = tt
-found (Some x) None seen fault c f = absurd c
-found (Some x) (Some rest) seen fault c f = subst (λ y. Refuses fault (lines y)) (sym c) (f rest)
+found : (a b : Option (List ℕ)) (text : List ℕ) (fault : ListFault) → Consumes a b text →
+    ((more : List ℕ) → Refuses fault (lines (text ++ more))) → IfSome a (λ x. Refuses fault (lines x))
+found None b text fault h f = tt
+found (Some x) None text fault h f = absurd h
+found (Some x) (Some rest) text fault h f = subst (λ y. Refuses fault (lines y)) (sym h) (f rest)
+
+-- a reader that failed says nothing of its text
+unread : (a : Option (List ℕ)) → IfSome a (λ x. Refuses Read (lines x))
+unread None = tt
+unread (Some x) = tt
+
+refused : {A : Type 0} (old new : Option (List ℕ)) (before after : Lines A × Unit {0}) (fault : Unread ListFault) → HasRead tt before [] →
+    Reads (LeadsOn HasRead) (LeadsToEnd HasRead RefusesLater) (Err fault) old new before after →
+    IfSome old (λ x. Refuses (fault_or fault Read) (lines x))
+refused old new before after Reader h r = unread old
+refused old new before after (Consumer fault) h r = found old new r.0 fault r.1 (r.2 tt [] h)
+
+-- what is said of each text that was read, is said of the reader's
+of_text : (old new : Option (List ℕ)) (text : List ℕ) (P : List ℕ → Type 0) → Consumes old new text → IsAtEnd new → P text → IfSome old P
+of_text old new text P = Consumes-whole old new text P
+
+err_of_text : (old new : Option (List ℕ)) (text : List ℕ) {V : Type 0} (r : Result V ListFault) → Consumes old new text → IsAtEnd new →
+    IfErr r (λ fault. Refuses fault (lines text)) → IfErr r (λ fault. IfSome old (λ x. Refuses fault (lines x)))
+err_of_text old new text (Ok v) h e p = tt
+err_of_text old new text (Err fault) h e p = Consumes-whole old new text (λ x. Refuses fault (lines x)) h e p
+
+pub returns-in-Ok-clause-legal : goal.returns-in-Ok-clause-legal
+returns-in-Ok-clause-legal g c =
+    let read = c.in-Ok.ensures in
+    IfOk-weaker c.finish.result _ _ (λ items f. f read.0 (read.3 tt [] c.new-lines.ensures)) c.finish.ensures.legal
+
+pub returns-in-Ok-clause-counted : goal.returns-in-Ok-clause-counted
+returns-in-Ok-clause-counted g c =
+    let read = c.in-Ok.ensures in
+    IfOk-weaker c.finish.result _ _ (λ items f. f read.0 (read.3 tt [] c.new-lines.ensures)) c.finish.ensures.counted
+
+pub returns-in-Ok-clause-ok : goal.returns-in-Ok-clause-ok
+returns-in-Ok-clause-ok g c =
+    let read = c.in-Ok.ensures in
+    IfOk-weaker c.finish.result _ _
+    (λ items f. of_text _ _ read.0 (λ x. Lists (lines x) items.items) read.1 read.2 (f read.0 (read.3 tt [] c.new-lines.ensures))) c.finish.ensures.ok
+
+pub returns-in-Ok-clause-err : goal.returns-in-Ok-clause-err
+returns-in-Ok-clause-err g c =
+    let read = c.in-Ok.ensures in
+    err_of_text _ _ read.0 c.finish.result read.1 read.2
+    (err_then c.finish.result (λ fault f. f read.0 (read.3 tt [] c.new-lines.ensures)) c.finish.ensures.err)
+  where
+    err_then : {A E : Type 0} {P Q : E → Type 0} (r : Result A E) → ((e : E) → P e → Q e) → IfErr r P → IfErr r Q
+    err_then (Ok x) f p = tt
+    err_then (Err e) f p = f e p
 
 pub returns-in-Err-clause-err : goal.returns-in-Err-clause-err
 returns-in-Err-clause-err g c =
-    let i = c.loop.invariant in
-    found _ _ (i.0 ++ take c.in-Ok.n c.read.new.buf) _ (Consumes-trans _ _ _ _ _ i.1 c.in-Ok.ensures.bytes.0) (λ more. c.in-Err.ensures.err i.0 more i.2)
-
-pub loop-preserved : goal.loop-preserved
-loop-preserved g c =
-    let i = c.loop.invariant in
-    (i.0 ++ take c.in-Ok.n c.read.new.buf, Consumes-trans _ _ _ _ _ i.1 c.in-Ok.ensures.bytes.0, c.in_default-take_piece.ensures.ok i.0 i.2)
-
-kept : {T E : Type 0} (r : Result T E) (P Q : T → Type 0) → ((x : T) → P x → Q x) → IfOk r P → IfOk r Q
-kept (Ok x) P Q f h = f x h
-kept (Err e) P Q f h = tt
-
-pub returns-then-n-eq0-clause-legal : goal.returns-then-n-eq0-clause-legal
-returns-then-n-eq0-clause-legal g c =
-    let i = c.loop.invariant in
-    let l = c.loop.lines in
-    kept c.finish.result (λ items. (seen : List ℕ) → Takes seen l.items.items l.line.items l.total → AreLegal items.items) (λ items. AreLegal items.items)
-    (λ items h. h i.0 i.2) c.finish.ensures.legal
+    subst (λ fault. IfSome (g.R.Read.remaining c.args.reader.now) (λ x. Refuses fault (lines x))) (sym c.fault_or.ensures)
+    (refused _ (g.R.Read.remaining c.read_pieces.new.reader) (c.new-lines.result, tt) (c.read_pieces.new.consumer, tt) c.in-Err.unread c.new-lines.ensures c.in-Err.ensures)

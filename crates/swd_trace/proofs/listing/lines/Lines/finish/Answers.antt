@@ -1,4 +1,4 @@
-use Rattle.std.proofs.Common.{◌≡◌, ◌≢◌, ℕ, Bool, true, false, List, [], ◌∷◌, ◌++◌, length, ap, ◌∙◌, subst}
+use Rattle.std.proofs.Common.{◌≡◌, ◌≢◌, ℕ, Bool, true, false, List, [], ◌∷◌, ◌++◌, length, ap, ◌∙◌, subst, arith}
 use Rattle.std.specs.Prelude.{◌==◌}
 use Rattle.swd_trace.specs.Listed.{Lists, Refuses}
 use Rattle.swd_trace.proofs.LinesLemmas.{are_legal, takes_all, last_same}
@@ -27,3 +27,11 @@ pub returns-in-Ok-clause-legal : goal.returns-in-Ok-clause-legal
 returns-in-Ok-clause-legal g c = λ seen t.
     let u = c.in-Ok.ensures.ok seen t in
     are_legal u.ended c.end_line.new.self.items.items u.each
+
+pub returns-then-is_empty-clause-counted : goal.returns-then-is_empty-clause-counted
+returns-then-is_empty-clause-counted g c = λ seen t. omega (arith, t.total_is, t.counted)
+
+pub returns-in-Ok-clause-counted : goal.returns-in-Ok-clause-counted
+returns-in-Ok-clause-counted g c = λ seen t.
+    let u = c.in-Ok.ensures.ok seen t in
+    omega (arith, u.total_is, u.counted)

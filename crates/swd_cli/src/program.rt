@@ -1,0 +1,97 @@
+//! What the program does with its words.
+ghost use Rattle.std.specs.Prelude.{◌≡◌, ◌≢◌, IfNone, IfSome, None, Some, codes};
+ghost use Rattle.swd_cli.specs.Inputs.{IsStandard, named};
+ghost use Rattle.swd_cli.specs.Statuses.{Performs};
+
+use crate::command::{Line, LineFault};
+use crate::files::Files;
+use crate::report::{DONE, FAULT, cannot_open, engine_status, one_status, tell};
+use crate::words::line;
+use clap::Error;
+use std::alloc::Global;
+use std::io::{Read, Write};
+use swd_bits::one_text;
+use swd_text::{decode_text, encode_text};
+
+/// Does what the words ask for, the program's name first, and returns the status: 0 where all was
+/// done, 2 at a fault of words, texts, files or memory, which takes one line on standard error
+/// (where `clap` refuses the words, its own lines). Standard output gets the text that was asked
+/// for and nothing else.
+pub fn run_words<I: Read, F: Files, O: Write, E: Write>(
+    alloc: Global,
+    words: &[&str],
+    input: &mut I,
+    files: &F,
+    output: &mut O,
+    errors: &mut E,
+) -> u8 {
+    match line(alloc, words) {
+        Ok(line) => carry_out(alloc, &line, input, files, output, errors),
+        Err(LineFault::Clap(error)) => answer_by_clap(&error, output, errors),
+        Err(LineFault::Memory) => tell(errors, "no memory"),
+    }
+}
+
+// The help or the version that was asked for, or what is wrong with the words.
+fn answer_by_clap<O: Write, E: Write>(error: &Error, output: &mut O, errors: &mut E) -> u8 {
+    if error.use_stderr() {
+        let _ = write!(errors, "{error}");
+        return FAULT;
+    }
+    match write!(output, "{error}") {
+        Ok(()) => DONE,
+        Err(_) => tell(errors, "write failed"),
+    }
+}
+
+// The file that a command reads. Without one, and for `-`, it is standard input.
+fn file_of(line: &Line) -> Option<&str>
+    ensures standard { IfNone result (IsStandard line.now) }
+    ensures file { IfSome result (λ name. (named line.now ≡ Some name.now) × (name.now ≢ codes "-")) }
+{
+    let (Line::One(file) | Line::Decode(file) | Line::Encode(file)) = line;
+    match file {
+        Some(name) if name.as_str() != "-" => Some(name.as_str()),
+        _ => None,
+    }
+}
+
+// Opens what a command reads, and performs it.
+fn carry_out<I: Read, F: Files, O: Write, E: Write>(
+    alloc: Global,
+    line: &Line,
+    input: &mut I,
+    files: &F,
+    output: &mut O,
+    errors: &mut E,
+) -> u8
+    ensures { IsStandard line.now
+        → Performs line.now result (I.remaining input.old) (I.remaining input.new)
+        (O.contents output.old) (O.contents output.new) }
+{
+    let Some(name) = file_of(line) else {
+        return perform(alloc, line, input, output, errors);
+    };
+    match files.open(name) {
+        Ok(mut file) => perform(alloc, line, &mut file, output, errors),
+        Err(_) => cannot_open(errors, name),
+    }
+}
+
+// Makes the one call of a command.
+fn perform<R: Read, O: Write, E: Write>(
+    alloc: Global,
+    line: &Line,
+    input: &mut R,
+    output: &mut O,
+    errors: &mut E,
+) -> u8
+    ensures { Performs line.now result (R.remaining input.old) (R.remaining input.new)
+        (O.contents output.old) (O.contents output.new) }
+{
+    match line {
+        Line::One(_) => one_status(errors, one_text(input, output)),
+        Line::Decode(_) => engine_status(errors, decode_text(input, output)),
+        Line::Encode(_) => engine_status(errors, encode_text(alloc, input, output)),
+    }
+}

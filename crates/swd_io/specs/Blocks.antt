@@ -1,0 +1,37 @@
+-- A text that goes out in blocks.
+use Rattle.std.specs.Prelude.{◌≡◌, ℕ, ◌-◌, ◌^◌, ◌<◌, min, Bool, true, false, List, ◌++◌, length, take, Option}
+use Rattle.std.specs.Io.KnownBytes.{Appends}
+use Rattle.swd_io.specs.declared.block.Block.{Block}
+
+-- how many bytes are held back
+abbrev pub held_len : {W : Type 0} → Block W → ℕ
+held_len block = length block.held.items
+
+-- whether the writer failed
+abbrev pub is_failed : {W : Type 0} → Block W → Bool
+is_failed block = block.failed
+
+-- The writer began with `start`, and holds the text but for what the block holds back; the count is that of
+-- the bytes that went out, or 2^64 - 1 where that is less.
+pub record Carries {W : Type 0} (contents : W → Option (List ℕ)) (start : Option (List ℕ)) (block : Block W)
+    (all : List ℕ) : Type 0 where
+  pub sent : List ℕ
+  pub gone : Appends start (contents block.writer.now) sent
+  pub whole : all ≡ sent ++ block.held.items
+  pub count : block.written ≡ min (length sent) (2 ^ 64 - 1)
+
+-- The writer began with `start`, and exactly the first bytes of the text went out, as many as are told, and not all;
+-- more than 2^64 - 1 are told as that.
+pub record Stopped (told : ℕ) (start now : Option (List ℕ)) (all : List ℕ) : Type 0 where
+  pub sent : ℕ
+  pub short : sent < length all
+  pub gone : Appends start now (take sent all)
+  pub count : told ≡ min sent (2 ^ 64 - 1)
+
+abbrev pub SendsBy : {W : Type 0} → Bool → (W → Option (List ℕ)) → Option (List ℕ) → Block W → List ℕ → Type 0
+SendsBy false contents start block all = Carries contents start block all
+SendsBy true contents start block all = Stopped block.written start (contents block.writer.now) all
+
+-- the text is on its way to a writer that began with `start`, or the writer failed in it
+abbrev pub Sends : {W : Type 0} → (W → Option (List ℕ)) → Option (List ℕ) → Block W → List ℕ → Type 0
+Sends contents start block all = SendsBy block.failed contents start block all

@@ -1,0 +1,31 @@
+-- A text that is read piece by piece.
+use Rattle.std.specs.Prelude.{ℕ, List, ◌++◌, Option, Result, Ok, Err}
+use Rattle.std.specs.Io.KnownBytes.{Consumes, IsAtEnd}
+use Rattle.swd_io.specs.declared.pieces.Unread.{Unread}
+use Rattle.swd_io.specs.declared.pieces.Unread.TheVariants.{Reader, Consumer}
+
+-- the consumer's fault, or another where the reader failed
+abbrev pub fault_or : {F : Type 0} → Unread F → F → F
+fault_or Reader other = other
+fault_or (Consumer fault) other = fault
+
+-- What was read of a reader, all of it or not, led a consumer from one state to another, or made it stop.
+abbrev pub Reads : {C F : Type 0} → (C → List ℕ → C → Type 0) → (C → List ℕ → F → C → Type 0) →
+    Result (Unit {0}) (Unread F) → Option (List ℕ) → Option (List ℕ) → C → C → Type 0
+Reads takes stops (Ok u) old new before after =
+    (text : List ℕ) × Consumes old new text × IsAtEnd new × takes before text after
+Reads takes stops (Err Reader) old new before after = (text : List ℕ) × Consumes old new text × takes before text after
+Reads takes stops (Err (Consumer fault)) old new before after =
+    (text : List ℕ) × Consumes old new text × stops before text fault after
+
+-- Whatever text a consumer has read, with these bytes after it, it has read the more. The index is what such a text is
+-- read against, as what a writer began with.
+abbrev pub LeadsOn : {I C : Type 0} → (I → C → List ℕ → Type 0) → C → List ℕ → C → Type 0
+LeadsOn {I} HasRead before bytes after =
+    (i : I) (seen : List ℕ) → HasRead i before seen → HasRead i after (seen ++ bytes)
+
+-- Whatever text a consumer has read, with these bytes after it, it ends with a fault.
+abbrev pub LeadsToEnd : {I C F : Type 0} → (I → C → List ℕ → Type 0) → (I → C → F → List ℕ → Type 0) →
+    C → List ℕ → F → C → Type 0
+LeadsToEnd {I} HasRead Ends before bytes fault after =
+    (i : I) (seen : List ℕ) → HasRead i before seen → Ends i after fault (seen ++ bytes)

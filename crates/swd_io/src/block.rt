@@ -1,0 +1,117 @@
+//! A block of text on its way to a writer.
+ghost use Rattle.std.specs.Prelude.{◌≡◌, ℕ, ◌-◌, ◌^◌, ◌≤◌, min, List, Option, ◌++◌, length, false, IfOk, IfErr};
+ghost use Rattle.std.specs.Io.KnownBytes.{Appends};
+ghost use Rattle.swd_io.specs.Blocks.{Sends, Stopped, held_len, is_failed};
+
+use crate::output::send;
+use arrayvec::ArrayVec;
+use std::io::Write;
+
+// The most bytes that are held back.
+const SIZE: usize = 8192;
+
+/// The longest piece that is put in at once, in bytes.
+pub const LONGEST: usize = 1024;
+
+/// A text that goes out to a writer in blocks, with an exact count of what went out. Once the
+/// writer failed, nothing more goes out.
+///
+/// `io::BufWriter` takes memory, tries again and loses the count.
+#[derive(Drop)]
+pub struct Block<'a, W> {
+    writer: &'a mut W,
+    held: ArrayVec<u8, SIZE>,
+    // How many bytes went out, at most 2^64 - 1.
+    written: u64,
+    // Whether the writer failed.
+    failed: bool,
+}
+
+impl<'a, W: Write> Block<'a, W> {
+    /// A text of which so many bytes went out before, at most 2^64 - 1. Nothing is held.
+    pub fn new(writer: &'a mut W, written: u64) -> Block<'a, W>
+        ensures writer { result.writer.ghost_name ≡ writer.entry.ghost_name }
+        ensures sends { (start : Option (List ℕ)) (all : List ℕ) → Appends start (W.contents writer.old) all
+            → written ≡ min (length all) (2 ^ 64 - 1) → Sends W.contents start result all }
+    {
+        Block {
+            writer,
+            held: ArrayVec::new(),
+            written,
+            failed: false,
+        }
+    }
+
+    /// Whether the writer failed.
+    pub fn has_failed(&self) -> bool
+        ensures { result ≡ is_failed self.now }
+    {
+        self.failed
+    }
+
+    /// Sends what is held, and tells how many bytes of the text went out, at most 2^64 - 1: all of
+    /// them, or at an `Err` those before the writer failed.
+    pub fn flush(&mut self) -> Result<u64, u64>
+        ensures writer { self.new.writer.ghost_name ≡ self.old.writer.ghost_name }
+        ensures sends { (start : Option (List ℕ)) (all : List ℕ) → Sends W.contents start self.old all
+            → Sends W.contents start self.new all }
+        ensures ok { IfOk result (λ told. (start : Option (List ℕ)) (all : List ℕ) → Sends W.contents start self.old all
+            → Appends start (W.contents self.new.writer.now) all × (told ≡ min (length all) (2 ^ 64 - 1))) }
+        ensures err { IfErr result (λ told. (start : Option (List ℕ)) (all : List ℕ) → Sends W.contents start self.old all
+            → Stopped told start (W.contents self.new.writer.now) all) }
+    {
+        self.send_held();
+        if self.failed {
+            Err(self.written)
+        } else {
+            Ok(self.written)
+        }
+    }
+
+    // Sends what is held.
+    fn send_held(&mut self)
+        ensures writer { self.new.writer.ghost_name ≡ self.old.writer.ghost_name }
+        ensures sends { (start : Option (List ℕ)) (all : List ℕ) → Sends W.contents start self.old all
+            → Sends W.contents start self.new all }
+        ensures empty { is_failed self.new ≡ false → held_len self.new ≡ 0 }
+    {
+        if self.failed {
+            return;
+        }
+        match send(self.writer, self.held.as_slice()) {
+            Ok(()) => {
+                self.written = self.written.saturating_add(self.held.len() as u64);
+                self.held.clear();
+            }
+            Err(unsent) => {
+                self.written = self.written.saturating_add(unsent.sent as u64);
+                self.failed = true;
+            }
+        }
+    }
+
+    // Sends what is held where there is no room for a piece.
+    fn make_room(&mut self)
+        ensures writer { self.new.writer.ghost_name ≡ self.old.writer.ghost_name }
+        ensures sends { (start : Option (List ℕ)) (all : List ℕ) → Sends W.contents start self.old all
+            → Sends W.contents start self.new all }
+        ensures room { is_failed self.new ≡ false → held_len self.new ≤ SIZE - LONGEST }
+    {
+        if self.held.len() > SIZE - LONGEST {
+            self.send_held();
+        }
+    }
+
+    /// Adds a piece to the text, and sends what is held where there is no room for it.
+    pub fn put(&mut self, piece: &[u8])
+        requires { length piece.now ≤ LONGEST }
+        ensures writer { self.new.writer.ghost_name ≡ self.old.writer.ghost_name }
+        ensures sends { (start : Option (List ℕ)) (all : List ℕ) → Sends W.contents start self.old all
+            → Sends W.contents start self.new (all ++ piece.now) }
+    {
+        self.make_room();
+        if !self.failed {
+            self.held.try_extend_from_slice(piece).unwrap();
+        }
+    }
+}

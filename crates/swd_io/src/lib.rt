@@ -1,0 +1,14 @@
+//! Texts that are read piece by piece and written in blocks, with nothing tried again and what went
+//! out counted exactly.
+#![tactic(auto)]
+
+mod block;
+mod output;
+mod pieces;
+
+pub use block::{Block, LONGEST};
+pub use output::{Unsent, send};
+pub use pieces::{Consumer, Unread, read_pieces};
+
+#[cfg(test)]
+mod tests;

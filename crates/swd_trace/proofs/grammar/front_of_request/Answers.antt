@@ -1,0 +1,40 @@
+use Rattle.std.proofs.Common.{◌≡◌, ◌-◌, ◌/◌, ◌^◌, ◌≤◌, ◌++◌, length, ap, ◌∙◌, sym, arith}
+use Rattle.swd_bits.specs.Bits.{low_bits}
+use Rattle.swd_bits.proofs.BitsLemmas.{length-low_bits}
+use Rattle.swd_trace.specs.Stands.{Whole, len_of}
+use Rattle.swd_trace.proofs.GrammarLemmas.{request_few, length_after, ack_of, len_of_least, len_of_most, begun_by_len, whole_by_len, spelled_front, front_spelled}
+use Rattle.swd_trace.proofs.grammar.front_of_request.Goals as goal
+
+pub returns-then-len-lt12 : goal.returns-then-len-lt12
+returns-then-len-lt12 c =
+    let l : length (low_bits c.args.len c.args.bits) ≡ c.args.len = length-low_bits c.args.len c.args.bits in (
+      omega arith,
+      omega arith,
+      λ more s.
+          let m = length_after 8 c.args.len (c.args.bits / 2 ^ 8) more in
+          c.requires.request.1 more ∙ request_few c.requires.request.0 (low_bits (c.args.len - 8) (c.args.bits / 2 ^ 8) ++ more) (omega arith),
+    )
+
+pub returns-then-len-whole : goal.returns-then-len-whole
+returns-then-len-whole c =
+    let l : length (low_bits c.args.len c.args.bits) ≡ c.args.len = length-low_bits c.args.len c.args.bits in
+    let w : c.whole_len-whole.result ≡ len_of (ack_of c.args.bits) = c.whole_len-whole.ensures in
+    let m : len_of (ack_of c.args.bits) ≤ 46 = len_of_most (ack_of c.args.bits) in (
+      omega arith,
+      omega arith,
+      λ more s.
+          begun_by_len c.requires.request.0 c.args.len c.args.bits c.requires.request.1 c.if-len-lt12.false more (omega arith),
+    )
+
+pub returns-in-Some : goal.returns-in-Some
+returns-in-Some c =
+    let w : c.whole_len-whole.result ≡ len_of (ack_of c.args.bits) = c.whole_len-whole.ensures in
+    let m : 12 ≤ len_of (ack_of c.args.bits) = len_of_least (ack_of c.args.bits) in
+    (spelled_front c.args.len c.args.bits c.whole_len-whole.result c.in-Some.tx c.if-len-whole.false (omega arith) c.in-Some.ensures.found, omega arith)
+
+pub returns-in-None : goal.returns-in-None
+returns-in-None c =
+    let w : c.whole_len-whole.result ≡ len_of (ack_of c.args.bits) = c.whole_len-whole.ensures in
+    let r = whole_by_len c.requires.request.0 c.args.len c.args.bits c.requires.request.1 c.if-len-lt12.false (omega arith) in
+    absurd (c.in-None.ensures.none r.0
+    (front_spelled c.args.len c.args.bits c.whole_len-whole.result r.0 c.if-len-whole.false (omega arith) (r.1 ∙ ap (Whole r.0) (sym w))))

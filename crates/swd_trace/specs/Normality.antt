@@ -1,0 +1,27 @@
+-- Whether a list of items is the reading of its own bits.
+use Rattle.std.specs.Prelude.{◌≡◌, ℕ, suc, ◌+◌, ◌<◌, ◌≤◌, Bool, List, [], ◌∷◌, ◌++◌, length, take, Option, Some, None}
+use Rattle.swd_trace.specs.declared.item.Item.{Item}
+use Rattle.swd_trace.specs.declared.decoder.Decoder.{Decoder}
+use Rattle.swd_trace.specs.Held.{rest}
+use Rattle.swd_trace.specs.Listed.{IsNormal, DiffersFirst}
+use Rattle.swd_trace.specs.Reading.{reading_of}
+use Rattle.swd_trace.specs.Texts.{bits_of_items}
+
+-- the reading of a list's bits begins with so many of the list's items, and goes on as a decoder reads the bits that
+-- are ahead of it
+pub record Agrees (items : List Item) (same : ℕ) (d : Decoder) (ahead : List Bool) : Type 0 where
+  pub within : same ≤ length items
+  pub law : take same items ++ rest d ahead ≡ reading_of (bits_of_items items)
+
+-- after the first items, of which there are so many, the list has this one
+abbrev pub HasNext : List Item → ℕ → Item → Type 0
+HasNext items same item = (same < length items) × (take (same + 1) items ≡ take same items ++ item ∷ [])
+
+-- a list and the reading of its bits differ first at this item, counted from 0
+pub record Differs (items : List Item) (at : ℕ) : Type 0 where
+  pub within : at ≤ length items
+  pub first : DiffersFirst items (reading_of (bits_of_items items)) (suc at)
+
+abbrev pub TellsDifference : List Item → Option ℕ → Type 0
+TellsDifference items None = IsNormal items
+TellsDifference items (Some at) = DiffersFirst items (reading_of (bits_of_items items)) (suc at)

@@ -1,0 +1,78 @@
+//! Finding the transaction at the front of held bits.
+ghost use Rattle.std.specs.Prelude.{◌≡◌, ◌-◌, ◌/◌, ◌%◌, ◌^◌, ◌<◌, ◌≤◌, List, Bool, ◌++◌};
+ghost use Rattle.swd_bits.specs.Bits.{low_bits};
+ghost use Rattle.swd_bits.specs.declared.request.Request.{Request};
+ghost use Rattle.swd_trace.specs.Stands.{stands, after_request, len_of};
+ghost use Rattle.swd_trace.specs.Fronts.{IsFront};
+
+use crate::front::Front;
+use swd_bits::{MOVED_BITS, REFUSED_BITS, Tx, TxBits, UNACKNOWLEDGED_BITS};
+
+// What the held bits, of which the first is a one, begin as.
+#[inline(always)]
+pub(crate) fn front_of(bits: u64, len: u8) -> Front
+    requires whole { bits < 2 ^ len }
+    requires started { bits % 2 ≡ 1 }
+    requires some { 0 < len }
+    requires short { len ≤ 50 }
+    ensures { IsFront result (low_bits len bits) }
+{
+    if len < 6 {
+        return Front::Begun(6);
+    }
+    if (bits >> 1 & 0x1f).count_ones() % 2 == 1 {
+        return Front::Broken;
+    }
+    if len < 7 {
+        return Front::Begun(7);
+    }
+    if bits >> 6 & 1 == 1 {
+        return Front::Broken;
+    }
+    if len < 8 {
+        return Front::Begun(8);
+    }
+    if bits >> 7 & 1 == 0 {
+        return Front::Broken;
+    }
+    front_of_request(bits, len)
+}
+
+// The same, where the first eight bits are a request.
+#[inline(always)]
+fn front_of_request(bits: u64, len: u8) -> Front
+    requires whole { bits < 2 ^ len }
+    requires asked { 8 ≤ len }
+    requires short { len ≤ 50 }
+    requires request { (q : Request) × ((more : List Bool)
+        → stands (low_bits len bits ++ more) ≡ after_request q (low_bits (len - 8) (bits / 2 ^ 8) ++ more)) }
+    ensures { IsFront result (low_bits len bits) }
+{
+    if len < 12 {
+        return Front::Begun(12);
+    }
+    let whole = whole_len(bits >> 9 & 7);
+    if len < whole {
+        return Front::Begun(whole);
+    }
+    let front = TxBits {
+        len: whole,
+        bits: bits & ((1 << whole) - 1),
+    };
+    match Tx::of(front) {
+        Some(tx) => Front::Whole(tx, whole),
+        None => Front::Broken,
+    }
+}
+
+// How many bits a transaction has, by the number of its acknowledgement.
+fn whole_len(seen: u64) -> u8
+    requires { seen < 8 }
+    ensures { result ≡ len_of seen }
+{
+    match seen {
+        1 => MOVED_BITS,
+        2 | 4 => REFUSED_BITS,
+        _ => UNACKNOWLEDGED_BITS,
+    }
+}

@@ -1,0 +1,113 @@
+//! The bits of an item, as they go by.
+ghost use Rattle.std.specs.Prelude.{◌≡◌, ◌+◌, ◌^◌, ◌<◌, ◌≤◌, ◌++◌, ◌∷◌, ◌↔◌, [], Bool, true, false, List, length, IsTrue, IfSome, IfNone};
+
+use crate::decoder::Decoder;
+use crate::item::{Item, SWITCH, SWITCH_BITS};
+use swd_bits::TxBits;
+
+/// Bits of an item: equal bits, and others after them.
+#[derive(Clone, Copy, Debug, PartialEq, Eq)]
+pub(crate) struct ItemBits {
+    // equal bits, that many
+    pub(crate) one: bool,
+    pub(crate) run: u64,
+    // the bits after them, the first least significant
+    pub(crate) len: u8,
+    pub(crate) bits: u64,
+}
+
+impl ItemBits {
+    ghost use Rattle.swd_trace.specs.Held.{rest, fed_of, IsSettled};
+    ghost use Rattle.swd_trace.specs.ItemBits.{bits_left};
+    ghost use Rattle.swd_trace.specs.Listed.{IsEncodable};
+    ghost use Rattle.swd_trace.specs.Texts.{item_bits};
+
+    /// The bits of an item, turnarounds as 1.
+    pub(crate) fn of(item: &Item) -> ItemBits
+        requires { IsEncodable item.now }
+        ensures bits { bits_left result ≡ item_bits item.now }
+        ensures short { result.len ≤ 63 }
+    {
+        match item {
+            Item::Reset(count) => ItemBits::of_run(true, *count),
+            Item::Switch => ItemBits::of_bits(TxBits {
+                len: SWITCH_BITS,
+                bits: SWITCH,
+            }),
+            Item::Idle(count) => ItemBits::of_run(false, *count),
+            Item::Tx(tx) => ItemBits::of_bits(tx.bits()),
+            Item::Junk(bit) => ItemBits::of_run(*bit, 1),
+            Item::Cut(bits) => ItemBits::of_bits(*bits),
+        }
+    }
+
+    fn of_run(one: bool, run: u64) -> ItemBits
+        ensures { result ≡ record { one = one; run = run; len = 0; bits = 0 } }
+    {
+        ItemBits {
+            one,
+            run,
+            len: 0,
+            bits: 0,
+        }
+    }
+
+    fn of_bits(bits: TxBits) -> ItemBits
+        ensures { result ≡ record { one = false; run = 0; len = bits.len; bits = bits.bits } }
+    {
+        ItemBits {
+            one: false,
+            run: 0,
+            len: bits.len,
+            bits: bits.bits,
+        }
+    }
+
+    /// Whether no bit is left.
+    pub(crate) fn is_empty(&self) -> bool
+        ensures { IsTrue result ↔ (length (bits_left self.now) ≡ 0) }
+    {
+        self.run == 0 && self.len == 0
+    }
+
+    /// The next bit. `None` where none is left.
+    #[inline]
+    pub(crate) fn take_bit(&mut self) -> Option<bool>
+        ensures bit { IfSome result (λ bit. bits_left self.old ≡ bit ∷ bits_left self.new) }
+        ensures none { IfNone result ((bits_left self.old ≡ []) × (self.new ≡ self.old)) }
+    {
+        if self.run > 0 {
+            self.run -= 1;
+            return Some(self.one);
+        }
+        if self.len > 0 {
+            let bit = self.bits % 2 == 1;
+            self.bits /= 2;
+            self.len -= 1;
+            return Some(bit);
+        }
+        None
+    }
+
+    /// Gives the next bits to a decoder: one or more, and of a run that is held there, all.
+    pub(crate) fn feed(&mut self, decoder: &mut Decoder)
+        requires some { 0 < length (bits_left self.old) }
+        requires short { self.old.len ≤ 63 }
+        requires settled { IsSettled decoder.old }
+        requires room { fed_of decoder.old + length (bits_left self.old) < 2 ^ 64 }
+        ensures law { (more : List Bool)
+            → rest decoder.new (bits_left self.new ++ more) ≡ rest decoder.old (bits_left self.old ++ more) }
+        ensures short { self.new.len ≤ 63 }
+        ensures fewer { length (bits_left self.new) < length (bits_left self.old) }
+        ensures fed { fed_of decoder.new + length (bits_left self.new)
+            ≡ fed_of decoder.old + length (bits_left self.old) }
+    {
+        if self.run > 0 {
+            self.run -= decoder.take_run(self.one, self.run);
+        } else {
+            let taken = decoder.take_bits(self.bits, self.len);
+            self.bits >>= taken;
+            self.len -= taken;
+        }
+    }
+}
