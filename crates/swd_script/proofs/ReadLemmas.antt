@@ -1,0 +1,180 @@
+-- Laws of a text that is read line by line.
+use Rattle.std.proofs.Common.{◌≡◌, ◌≢◌, ℕ, suc, ◌+◌, ◌-◌, ◌^◌, ◌<◌, ◌≤◌, take, drop, get_or, drop-cons, take-append-drop, List, [], ◌∷◌, ◌++◌, length, append_assoc, refl, sym, ap, ◌∙◌, subst, arith, add-one, Option, Some, None, Result, Ok, Err}
+use Rattle.std.specs.Prelude.{min, IsOk}
+use Rattle.std.proofs.lemmas.List.{append-nil, length-append}
+use Rattle.std.proofs.Math.Seq.{take-suc}
+use Rattle.arrayvec.specs.ArrayVec.{ArrayVec}
+use Rattle.swd_port.specs.declared.mark.Mark.{Mark}
+use Rattle.swd_script.specs.declared.fault.LineFault.{LineFault}
+use Rattle.swd_script.specs.declared.fault.LineFault.TheVariants.{Word, Number, Range, NoMemoryLine, Memory}
+use Rattle.swd_script.specs.declared.fault.ScriptFault.{ScriptFault}
+use Rattle.swd_script.specs.declared.line_scan.LineScan.{LineScan}
+use Rattle.swd_script.specs.declared.lines.Lines.{Lines}
+use Rattle.swd_script.specs.Faults.{line_number, after_lines, then_lines, fault_at}
+use Rattle.swd_script.specs.Lines.{lines, line_words}
+use Rattle.swd_script.specs.Readers.{EndsLine, IsFaultOf, IsFed, IsLast, IsPlanFault, IsScriptFault, RunsOut, Splits}
+use Rattle.swd_script.specs.Plans.{plan_line, plan_of}
+use Rattle.swd_script.specs.Scripts.{nothing_said, script_line, script_meaning, script_of, whole_script, Sayings}
+use Rattle.swd_script.specs.declared.draft.Extent.{Extent}
+use Rattle.swd_script.specs.declared.fault.ScriptFault.TheVariants.{NoMemoryLine as NoMemoryLineAt}
+use Rattle.swd_script.specs.Scans.{without_return, Holds, IsScanned}
+use Rattle.swd_script.proofs.LineLemmas.{lines_fed, lines_last, unbroken_more}
+
+-- a byte of a line more
+pub splits_byte : (seen : List ℕ) (ended : List (List ℕ)) (old new : Lines) (byte : ℕ) → byte ≢ 10 → new.number ≡ old.number →
+    ((line : List ℕ) → Holds line old.scan → Holds (line ++ byte ∷ []) new.scan) → Splits seen ended old → Splits (seen ++ byte ∷ []) ended new
+splits_byte seen ended old new byte h e f s = record {
+  line = s.line ++ byte ∷ [];
+  law = λ more. ap lines (append_assoc seen (byte ∷ []) more) ∙ s.law (byte ∷ more) ∙ ap (λ x. ended ++ lines x) (sym (append_assoc s.line (byte ∷ []) more));
+  unbroken = unbroken_more s.line byte s.unbroken h;
+  holds = f s.line s.holds;
+  number = e ∙ s.number;
+}
+
+next_number : (number before : ℕ) → number ≡ line_number before → min (number + 1) (2 ^ 64 - 1) ≡ line_number (before + 1)
+next_number number before e = omega arith
+
+-- a line feed more
+pub splits_fed : (seen : List ℕ) (ended : List (List ℕ)) (old new : Lines) (scanned : Option (ArrayVec (ArrayVec ℕ))) → new.number ≡ min (old.number + 1) (2 ^ 64 - 1) → Holds [] new.scan →
+    ((line : List ℕ) → Holds line old.scan → IsScanned (without_return line) scanned) → Splits seen ended old → IsFed seen ended scanned new
+splits_fed seen ended old new scanned e h f s =
+    let line = without_return s.line in
+    let law : (more : List ℕ) → lines (seen ++ 10 ∷ more) ≡ ended ++ line ∷ lines more =
+    λ more. s.law (10 ∷ more) ∙ ap (λ x. ended ++ x) (lines_fed s.line more s.unbroken) in
+    record {
+      line = line;
+      scan = f s.line s.holds;
+      law = law;
+      next = record {
+        line = [];
+        law = λ more. ap lines (append_assoc seen (10 ∷ []) more) ∙ law more ∙ sym (append_assoc ended (line ∷ []) (lines more));
+        unbroken = tt;
+        holds = h;
+        number = e ∙ next_number old.number (length ended) s.number ∙ ap line_number (sym (length-append ended (line ∷ [])));
+      };
+    }
+
+-- the end of the text
+pub splits_last : (seen : List ℕ) (ended : List (List ℕ)) (old : Lines) (scanned : Option (ArrayVec (ArrayVec ℕ))) → ((line : List ℕ) → Holds line old.scan → IsScanned line scanned) → Splits seen ended old → IsLast seen ended scanned
+splits_last seen ended old scanned f s = record {
+  line = s.line;
+  scan = f s.line s.holds;
+  law = ap lines (sym (append-nil seen)) ∙ s.law [] ∙ ap (λ x. ended ++ lines x) (append-nil s.line) ∙ ap (λ x. ended ++ x) (lines_last s.line s.unbroken);
+}
+
+step_before : {S : Type 0} (take : S → Option (List (List ℕ)) → Result S LineFault) (state : S) (before count : ℕ) (rest : List (List ℕ)) →
+    after_lines take state (suc before + count) rest ≡ after_lines take state (before + suc count) rest
+step_before take state before count rest = ap (λ n. after_lines take state n rest) (omega arith)
+
+same_ok : {S : Type 0} (a b : S) → (let left : Result S ScriptFault = Ok a in left ≡ Ok b) → a ≡ b
+same_ok a b e = cc
+
+append_step : {S : Type 0} (take : S → Option (List (List ℕ)) → Result S LineFault) (next : S) (before : ℕ) (front rest : List (List ℕ)) (result : Result S LineFault) →
+    ((s : S) → after_lines take s (suc before) front ≡ Ok next → after_lines take s (suc before) (front ++ rest) ≡ after_lines take next (suc before + length front) rest) →
+    then_lines before (λ s. after_lines take s (suc before) front) result ≡ Ok next →
+    then_lines before (λ s. after_lines take s (suc before) (front ++ rest)) result ≡ after_lines take next (before + suc (length front)) rest
+append_step take next before front rest (Ok s) f e = f s e ∙ step_before take next before (length front) rest
+append_step take next before front rest (Err fault) f e = absurd cc
+
+-- lines after others
+pub after_append : {S : Type 0} (take : S → Option (List (List ℕ)) → Result S LineFault) (start next : S) (before : ℕ) (front rest : List (List ℕ)) →
+    after_lines take start before front ≡ Ok next → after_lines take start before (front ++ rest) ≡ after_lines take next (before + length front) rest
+after_append take start next before [] rest e = ap (λ s. after_lines take s before rest) (same_ok start next e) ∙ ap (λ n. after_lines take next n rest) (omega arith)
+after_append take start next before (line ∷ front) rest e =
+    append_step take next before front rest (take start (line_words line)) (λ s h. after_append take s next (suc before) front rest h) e
+
+-- a line without a fault
+pub after_line : {S : Type 0} (take : S → Option (List (List ℕ)) → Result S LineFault) (start mid next : S) (ended : List (List ℕ)) (line : List ℕ) →
+    after_lines take start 0 ended ≡ Ok mid → take mid (line_words line) ≡ Ok next → after_lines take start 0 (ended ++ line ∷ []) ≡ Ok next
+after_line take start mid next ended line e f =
+    after_append take start mid 0 ended (line ∷ []) e ∙ ap (then_lines (0 + length ended) (λ s. after_lines take s (suc (0 + length ended)) [])) f
+
+-- a line at fault, whatever follows
+pub after_fault : {S : Type 0} (take : S → Option (List (List ℕ)) → Result S LineFault) (start mid : S) (ended rest : List (List ℕ)) (line : List ℕ) (fault : LineFault) →
+    after_lines take start 0 ended ≡ Ok mid → take mid (line_words line) ≡ Err fault → after_lines take start 0 (ended ++ line ∷ rest) ≡ Err (fault_at fault (line_number (length ended)))
+after_fault take start mid ended rest line fault e f =
+    after_append take start mid 0 ended (line ∷ rest) e ∙ ap (then_lines (0 + length ended) (λ s. after_lines take s (suc (0 + length ended)) rest)) f
+    ∙ ap (λ n. Err (fault_at fault (line_number n))) (omega arith)
+
+-- a fault of a line is one of the text
+pub runs_out : {S : Type 0} (take : S → Option (List (List ℕ)) → Result S LineFault) (start mid : S) (text : List ℕ) (ended : List (List ℕ)) (line : List ℕ) (number : ℕ) →
+    EndsLine text ended line → number ≡ line_number (length ended) → after_lines take start 0 ended ≡ Ok mid → IsOk (take mid (line_words line)) → RunsOut take start text number
+runs_out {S} take start mid text ended line number l n e f = record {
+  ended = ended;
+  line = line;
+  ends = l;
+  fine = subst IsOk (sym (after_append take start mid 0 ended (line ∷ []) e)) (fine_step (take mid (line_words line)) f);
+  number_is = n;
+}
+  where
+    fine_step : (result : Result S LineFault) → IsOk result → IsOk (then_lines (0 + length ended) (λ s. after_lines take s (suc (0 + length ended)) []) result)
+    fine_step (Ok next) h = h
+    fine_step (Err fault) h = absurd cc
+
+number_at : (take_result : Result Sayings ScriptFault) (fault : LineFault) (number told : ℕ) → number ≡ told → take_result ≡ Err (fault_at fault told) → whole_script take_result ≡ Err (fault_at fault number)
+number_at take_result fault number told e f = ap whole_script f ∙ ap (λ n. Err (fault_at fault n)) (sym e)
+
+script_err : (said : Sayings) (text : List ℕ) (ended : List (List ℕ)) (line : List ℕ) (number : ℕ) (fault : LineFault) →
+    EndsLine text ended line → number ≡ line_number (length ended) → after_lines script_line nothing_said 0 ended ≡ Ok said → script_line said (line_words line) ≡ Err fault →
+    script_of text ≡ Err (fault_at fault number)
+script_err said text ended line number fault l n e f =
+    number_at (after_lines script_line nothing_said 0 (lines text)) fault number (line_number (length ended)) n
+    (ap (after_lines script_line nothing_said 0) l.law ∙ after_fault script_line nothing_said said ended l.rest line fault e f)
+
+pub script_fault : (said : Sayings) (text : List ℕ) (ended : List (List ℕ)) (line : List ℕ) (number : ℕ) (fault : LineFault) →
+    EndsLine text ended line → number ≡ line_number (length ended) → after_lines script_line nothing_said 0 ended ≡ Ok said → IsFaultOf fault (script_line said (line_words line)) →
+    IsScriptFault (fault_at fault number) text
+script_fault said text ended line number Word l n e f = script_err said text ended line number Word l n e f
+script_fault said text ended line number Number l n e f = script_err said text ended line number Number l n e f
+script_fault said text ended line number Range l n e f = script_err said text ended line number Range l n e f
+script_fault said text ended line number NoMemoryLine l n e f = script_err said text ended line number NoMemoryLine l n e f
+script_fault said text ended line number Memory l n e f = runs_out script_line nothing_said said text ended line number l n e f
+
+plan_err : (marks : List Mark) (text : List ℕ) (ended : List (List ℕ)) (line : List ℕ) (number : ℕ) (fault : LineFault) →
+    EndsLine text ended line → number ≡ line_number (length ended) → after_lines plan_line [] 0 ended ≡ Ok marks → plan_line marks (line_words line) ≡ Err fault →
+    plan_of text ≡ Err (fault_at fault number)
+plan_err marks text ended line number fault l n e f =
+    ap (after_lines plan_line [] 0) l.law ∙ after_fault plan_line [] marks ended l.rest line fault e f ∙ ap (λ n. Err (fault_at fault n)) (sym n)
+
+pub plan_fault : (marks : List Mark) (text : List ℕ) (ended : List (List ℕ)) (line : List ℕ) (number : ℕ) (fault : LineFault) →
+    EndsLine text ended line → number ≡ line_number (length ended) → after_lines plan_line [] 0 ended ≡ Ok marks → IsFaultOf fault (plan_line marks (line_words line)) →
+    IsPlanFault (fault_at fault number) text
+plan_fault marks text ended line number Word l n e f = plan_err marks text ended line number Word l n e f
+plan_fault marks text ended line number Number l n e f = plan_err marks text ended line number Number l n e f
+plan_fault marks text ended line number Range l n e f = plan_err marks text ended line number Range l n e f
+plan_fault marks text ended line number NoMemoryLine l n e f = plan_err marks text ended line number NoMemoryLine l n e f
+plan_fault marks text ended line number Memory l n e f = runs_out plan_line [] marks text ended line number l n e f
+
+-- the line that a line feed ends, or the text
+pub fed_line : (seen more : List ℕ) (ended : List (List ℕ)) (scanned : Option (ArrayVec (ArrayVec ℕ))) (state : Lines) (fed : IsFed seen ended scanned state) → EndsLine (seen ++ 10 ∷ more) ended fed.line
+fed_line seen more ended scanned state fed = record { rest = lines more; law = fed.law more }
+
+pub last_line : (text : List ℕ) (ended : List (List ℕ)) (scanned : Option (ArrayVec (ArrayVec ℕ))) (last : IsLast text ended scanned) → EndsLine text ended last.line
+last_line text ended scanned last = record { rest = []; law = last.law }
+
+-- one byte more of a piece
+pub next_of : (seen piece : List ℕ) (i : ℕ) → i < length piece → (seen ++ take i piece) ++ get_or piece i 0 ∷ [] ≡ seen ++ take (i + 1) piece
+next_of seen piece i h =
+    append_assoc seen (take i piece) (get_or piece i 0 ∷ []) ∙ ap (λ x. seen ++ x) (sym (take-suc piece i 0 h) ∙ ap (λ n. take n piece) (sym (add-one i)))
+
+-- the piece about a byte
+pub parted : (seen piece more : List ℕ) (i : ℕ) → i < length piece → (seen ++ take i piece) ++ (get_or piece i 0 ∷ (drop (suc i) piece ++ more)) ≡ (seen ++ piece) ++ more
+parted seen piece more i h =
+    append_assoc seen (take i piece) (get_or piece i 0 ∷ (drop (suc i) piece ++ more))
+    ∙ ap (λ x. seen ++ x) (ap (λ x. take i piece ++ (x ++ more)) (sym (drop-cons piece i 0 h)) ∙ sym (append_assoc (take i piece) (drop i piece) more) ∙ ap (λ x. x ++ more) (take-append-drop i piece))
+    ∙ sym (append_assoc seen piece more)
+
+-- what a whole script says, or that `memory` is missing
+pub whole_said : (text : List ℕ) (ended : List (List ℕ)) (line : List ℕ) (old new : Sayings) → lines text ≡ ended ++ line ∷ [] → after_lines script_line nothing_said 0 ended ≡ Ok old →
+    script_line old (line_words line) ≡ Ok new → script_of text ≡ script_meaning new.memory new
+whole_said text ended line old new l e f =
+    ap (λ x. whole_script (after_lines script_line nothing_said 0 x)) l ∙ ap whole_script (after_line script_line nothing_said old new ended line e f)
+
+fault_of_meaning : (memory : Option Extent) (said : Sayings) (fault : ScriptFault) → script_meaning memory said ≡ Err fault → fault ≡ NoMemoryLineAt 1
+fault_of_meaning None said fault e = cc
+fault_of_meaning (Some extent) said fault e = absurd cc
+
+pub meaning_fault : (text : List ℕ) (memory : Option Extent) (said : Sayings) (fault : ScriptFault) → script_of text ≡ script_meaning memory said → script_meaning memory said ≡ Err fault → IsScriptFault fault text
+meaning_fault text memory said fault e f =
+    let k : fault ≡ NoMemoryLineAt 1 = fault_of_meaning memory said fault f in
+    subst (λ x. IsScriptFault x text) (sym k) (e ∙ f ∙ ap (λ x. Err x) k)

@@ -1,0 +1,141 @@
+-- Laws of the lines of a script.
+use Rattle.std.proofs.Common.{◌≡◌, ◌≢◌, ℕ, suc, zero, ◌+◌, ◌*◌, ◌<◌, ◌≤◌, Bool, true, false, List, [], ◌∷◌, ◌++◌, length, map, take, refl, sym, ap, ◌∙◌, subst, arith, add-one, Option, Some, None, Result, Ok, Err}
+use Rattle.std.specs.Prelude.{if◌then◌else◌, ◌&&◌, nat_le, nat_eq, codes, min}
+use Rattle.std.specs.Option.{option_and_then}
+use Rattle.std.specs.Cmp.Lexicographic.{pointwise}
+use Rattle.std.specs.Str.{bytes_eq}
+use Rattle.std.proofs.lemmas.Bool.Decides.{nat_tests}
+use Rattle.std.proofs.lemmas.List.{take_all, length-take-le}
+use Rattle.swd_port.specs.declared.access.Access.{Access}
+use Rattle.swd_port.specs.declared.access.Access.TheVariants.{Read, Write}
+use Rattle.swd_script.specs.declared.command.Command.{Command}
+use Rattle.swd_script.specs.declared.command.Command.TheVariants.{Memory, Room, Read as ReadCommand, Write as WriteCommand, ReadMany}
+use Rattle.swd_script.specs.Numerals.{decimal_of, hex_of, number_from, numeral, word_sized}
+use Rattle.swd_script.specs.Plans.{bare_mark, mark_of, marked, place_below, placed_mark, plan_line, with_mark}
+use Rattle.swd_script.specs.Scripts.{after_command, command_of, long_command, reads, script_line, short_command, Sayings}
+use Rattle.arrayvec.specs.ArrayVec.{ArrayVec}
+use Rattle.swd_script.specs.Lines.{line_words}
+use Rattle.swd_script.specs.Scans.{HasWords}
+use Rattle.swd_script.specs.Words.{first_words, texts}
+use Rattle.swd_port.specs.declared.mark.Mark.{Mark}
+use Rattle.swd_port.specs.declared.mark.Mark.TheVariants.{Clean, Wait, Flip, Deaf, Mute}
+use Rattle.swd_script.specs.declared.fault.LineFault.{LineFault}
+use Rattle.swd_script.specs.declared.fault.LineFault.TheVariants.{Word}
+
+-- one read more
+pub reads_more : (addr count : ℕ) → reads addr (suc count) ≡ reads addr count ++ Read (addr + 4 * count) ∷ []
+reads_more addr zero = ap (λ a. Read a ∷ []) (omega arith)
+reads_more addr (suc count) =
+    ap (λ x. Read addr ∷ x) (reads_more (addr + 4) count ∙ ap (λ a. reads (addr + 4) count ++ Read a ∷ []) (omega arith))
+
+-- what is cut off a word that is longer than any that means something
+same_name : (n : ℕ) (word name : List ℕ) → length name < n → bytes_eq (take n word) name ≡ bytes_eq word name
+same_name zero word name h = absurd (omega arith)
+same_name (suc n) [] name h = refl
+same_name (suc n) (byte ∷ word) [] h = refl
+same_name (suc n) (byte ∷ word) (first ∷ name) h = let k : length name < n = omega arith in ap (λ t. nat_eq byte first && t) (same_name n word name k)
+
+no_numeral : (base longest : ℕ) (word : List ℕ) → longest < length word → numeral base longest word ≡ None
+no_numeral base longest word h =
+    let e : (nat_le 1 (length word) && nat_le (length word) longest) ≡ false = grind (arith, nat_tests) in
+    ap (λ t. if t then option_and_then word_sized (number_from base 0 word) else None) e
+
+numeral_cut : (base longest : ℕ) (word : List ℕ) (t : Bool) → nat_le (length word) 11 ≡ t → longest ≤ 10 → numeral base longest (take 11 word) ≡ numeral base longest word
+numeral_cut base longest word true e h =
+    let n : length word ≤ 11 = grind (arith, nat_tests) in
+    ap (numeral base longest) (take_all 11 word n)
+numeral_cut base longest word false e h =
+    let n : 11 < length word = grind (arith, nat_tests) in
+    let m : length (take 11 word) ≡ 11 = length-take-le 11 word (omega arith) in
+    no_numeral base longest (take 11 word) (omega arith) ∙ sym (no_numeral base longest word (omega arith))
+
+hex_cut : (word : List ℕ) → hex_of (take 11 word) ≡ hex_of word
+hex_cut word = numeral_cut 16 8 word (nat_le (length word) 11) refl (omega arith)
+
+decimal_cut : (word : List ℕ) → decimal_of (take 11 word) ≡ decimal_of word
+decimal_cut word = numeral_cut 10 10 word (nat_le (length word) 11) refl (omega arith)
+
+name_cut : (word name : List ℕ) → length name < 11 → bytes_eq (take 11 word) name ≡ bytes_eq word name
+name_cut word name h = same_name 11 word name h
+
+short_cut : (name first : List ℕ) → short_command (take 11 name) (take 11 first) ≡ short_command name first
+short_cut name first =
+    ap (λ t. if t then Some (Room (decimal_of (take 11 first))) else (if bytes_eq (take 11 name) (codes "r") then Some (ReadCommand (hex_of (take 11 first))) else None)) (name_cut name (codes "room") (omega arith))
+    ∙ ap (λ t. if bytes_eq name (codes "room") then Some (Room (decimal_of (take 11 first))) else (if t then Some (ReadCommand (hex_of (take 11 first))) else None)) (name_cut name (codes "r") (omega arith))
+    ∙ ap (λ n. if bytes_eq name (codes "room") then Some (Room n) else (if bytes_eq name (codes "r") then Some (ReadCommand (hex_of (take 11 first))) else None)) (decimal_cut first)
+    ∙ ap (λ n. if bytes_eq name (codes "room") then Some (Room (decimal_of first)) else (if bytes_eq name (codes "r") then Some (ReadCommand n) else None)) (hex_cut first)
+
+abbrev long_shape : Bool → Bool → Bool → Option ℕ → Option ℕ → Option ℕ → Option Command
+long_shape memory write reads first second count =
+    if memory then Some (Memory first count) else (if write then Some (WriteCommand first second) else (if reads then Some (ReadMany first count) else None))
+
+long_cut : (name first second : List ℕ) → long_command (take 11 name) (take 11 first) (take 11 second) ≡ long_command name first second
+long_cut name first second =
+    let kept = take 11 name in
+    let f = hex_of (take 11 first) in
+    let s = hex_of (take 11 second) in
+    let d = decimal_of (take 11 second) in
+    let memory = bytes_eq name (codes "memory") in
+    let write = bytes_eq name (codes "w") in
+    let many = bytes_eq name (codes "rn") in
+    ap (λ t. long_shape t (bytes_eq kept (codes "w")) (bytes_eq kept (codes "rn")) f s d) (name_cut name (codes "memory") (omega arith))
+    ∙ ap (λ t. long_shape memory t (bytes_eq kept (codes "rn")) f s d) (name_cut name (codes "w") (omega arith))
+    ∙ ap (λ t. long_shape memory write t f s d) (name_cut name (codes "rn") (omega arith))
+    ∙ ap (λ n. long_shape memory write many n s d) (hex_cut first)
+    ∙ ap (λ n. long_shape memory write many (hex_of first) n d) (hex_cut second)
+    ∙ ap (λ n. long_shape memory write many (hex_of first) (hex_of second) n) (decimal_cut second)
+
+command_cut : (all : List (List ℕ)) → command_of (first_words all) ≡ command_of all
+command_cut [] = refl
+command_cut (name ∷ []) = refl
+command_cut (name ∷ first ∷ []) = short_cut name first
+command_cut (name ∷ first ∷ second ∷ []) = long_cut name first second
+command_cut (name ∷ first ∷ second ∷ third ∷ more) = refl
+
+-- the first words of a line say what all of them say
+pub script_cut : (said : Sayings) (all : List (List ℕ)) → script_line said (Some (first_words all)) ≡ script_line said (Some all)
+script_cut said [] = refl
+script_cut said (name ∷ arguments) = ap (after_command said) (command_cut (name ∷ arguments))
+
+abbrev bare_shape : Bool → Bool → Bool → Result Mark LineFault
+bare_shape clean wait deaf = if clean then Ok Clean else (if wait then Ok Wait else (if deaf then Ok Deaf else Err Word))
+
+abbrev placed_shape : Bool → Bool → Option ℕ → Result Mark LineFault
+placed_shape flip mute place =
+    if flip then marked (λ bit. Flip bit) (place_below 33 place) else (if mute then marked (λ bit. Mute bit) (place_below 3 place) else Err Word)
+
+bare_cut : (name : List ℕ) → bare_mark (take 11 name) ≡ bare_mark name
+bare_cut name =
+    let kept = take 11 name in
+    let clean = bytes_eq name (codes ".") in
+    let wait = bytes_eq name (codes "wait") in
+    ap (λ t. bare_shape t (bytes_eq kept (codes "wait")) (bytes_eq kept (codes "deaf"))) (name_cut name (codes ".") (omega arith))
+    ∙ ap (λ t. bare_shape clean t (bytes_eq kept (codes "deaf"))) (name_cut name (codes "wait") (omega arith))
+    ∙ ap (λ t. bare_shape clean wait t) (name_cut name (codes "deaf") (omega arith))
+
+placed_cut : (name place : List ℕ) → placed_mark (take 11 name) (take 11 place) ≡ placed_mark name place
+placed_cut name place =
+    let kept = take 11 name in
+    let number = decimal_of (take 11 place) in
+    let flip = bytes_eq name (codes "flip") in
+    ap (λ t. placed_shape t (bytes_eq kept (codes "mute")) number) (name_cut name (codes "flip") (omega arith))
+    ∙ ap (λ t. placed_shape flip t number) (name_cut name (codes "mute") (omega arith))
+    ∙ ap (λ n. placed_shape flip (bytes_eq name (codes "mute")) n) (decimal_cut place)
+
+mark_cut : (all : List (List ℕ)) → mark_of (first_words all) ≡ mark_of all
+mark_cut [] = refl
+mark_cut (name ∷ []) = bare_cut name
+mark_cut (name ∷ place ∷ []) = placed_cut name place
+mark_cut (name ∷ place ∷ third ∷ []) = refl
+mark_cut (name ∷ place ∷ third ∷ fourth ∷ more) = refl
+
+pub plan_cut : (marks : List Mark) (all : List (List ℕ)) → plan_line marks (Some (first_words all)) ≡ plan_line marks (Some all)
+plan_cut marks [] = refl
+plan_cut marks (name ∷ arguments) = ap (with_mark marks) (mark_cut (name ∷ arguments))
+
+-- what the first words of a line say is what the line says
+pub script_words : (said : Sayings) (line : List ℕ) (kept : List (ArrayVec ℕ)) → HasWords line kept → script_line said (Some (texts kept)) ≡ script_line said (line_words line)
+script_words said line kept h = ap (λ x. script_line said (Some x)) h.first ∙ script_cut said h.all ∙ ap (script_line said) (sym h.are)
+
+pub plan_words : (marks : List Mark) (line : List ℕ) (kept : List (ArrayVec ℕ)) → HasWords line kept → plan_line marks (Some (texts kept)) ≡ plan_line marks (line_words line)
+plan_words marks line kept h = ap (λ x. plan_line marks (Some x)) h.first ∙ plan_cut marks h.all ∙ ap (plan_line marks) (sym h.are)

@@ -1,0 +1,95 @@
+-- The definitions at worked texts.
+use Rattle.std.proofs.Common.{◌≡◌, ℕ, List, [], ◌∷◌, ◌++◌, refl, Ok, Err, Result}
+use Rattle.std.specs.Prelude.{codes, replicate}
+use Rattle.swd_bits.specs.Listing.{hex2, hex8}
+use Rattle.swd_port.specs.declared.access.Access.TheVariants.{Read, Write}
+use Rattle.swd_port.specs.declared.access.Answer.TheVariants.{Value, Written, BusFault}
+use Rattle.swd_port.specs.declared.mark.Mark.TheVariants.{Clean, Wait, Flip, Deaf, Mute}
+use Rattle.swd_script.specs.declared.fault.ScriptFault.TheVariants.{Word, Number, Range, NoMemoryLine}
+use Rattle.swd_script.specs.declared.report.LastLine.TheVariants.{WrongId}
+use Rattle.swd_script.specs.Plans.{plan_of}
+use Rattle.swd_script.specs.Reports.{report_text}
+use Rattle.swd_script.specs.Scripts.{script_of, reads}
+
+-- a line and its line feed
+fed : List ℕ → List ℕ
+fed line = line ++ 10 ∷ []
+
+script : script_of (fed (codes "memory 20000000 16") ++ fed (codes "w 20000000 deadbeef") ++ fed (codes "rn 20000000 2") ++ codes "r 30000000") ≡
+    Ok (record {
+      base = 536870912;
+      words = 16;
+      room = 65536;
+      accesses = Write 536870912 3735928559 ∷ Read 536870912 ∷ Read 536870916 ∷ Read 805306368 ∷ [];
+    })
+unfolding fed
+script = refl
+
+memory_alone : script_of (codes "memory 20000000 1") ≡ Ok (record { base = 536870912; words = 1; room = 65536; accesses = [] })
+memory_alone = refl
+
+-- blanks, a comment at a word's end, carriage returns before line feeds
+laid_out : script_of (fed (codes "# a script" ++ 13 ∷ []) ++ fed (9 ∷ codes "memory  20000000 1#6" ++ 13 ∷ []) ++ fed [] ++ codes "room 7 ") ≡
+    Ok (record { base = 536870912; words = 1; room = 7; accesses = [] })
+unfolding fed
+laid_out = refl
+
+return_at_the_end : script_of (codes "memory 20000000 1" ++ 13 ∷ []) ≡ Err (Word 1)
+return_at_the_end = refl
+
+return_within : script_of (fed (codes "memory" ++ 13 ∷ codes " 20000000 1")) ≡ Err (Word 1)
+unfolding fed
+return_within = refl
+
+no_memory : script_of (codes "r 20000000") ≡ Err (NoMemoryLine 1)
+no_memory = refl
+
+nothing : script_of [] ≡ Err (NoMemoryLine 1)
+nothing = refl
+
+unaligned_memory : script_of (codes "memory 20000002 1") ≡ Err (Range 1)
+unaligned_memory = refl
+
+no_digit : script_of (fed (codes "memory 20000000 1") ++ codes "r 2000000g") ≡ Err (Number 2)
+unfolding fed
+no_digit = refl
+
+past_the_end : script_of (fed (codes "memory 20000000 1") ++ codes "rn fffffffc 2") ≡ Err (Range 2)
+unfolding fed
+past_the_end = refl
+
+late_room : script_of (fed (codes "memory 20000000 1") ++ fed (codes "r 20000000") ++ codes "room 3") ≡ Err (Word 3)
+unfolding fed
+late_room = refl
+
+block : script_of (fed (codes "memory 20000000 1") ++ codes "block 20000000 1") ≡ Err (Word 2)
+unfolding fed
+block = refl
+
+-- the first line at fault, and in it the word before the number
+first_fault : script_of (fed (codes "memory 20000000 1") ++ fed (codes "r g g") ++ codes "r 1") ≡ Err (Word 2)
+unfolding fed
+first_fault = refl
+
+greatest_decimal : script_of (fed (codes "memory 0 1") ++ codes "rn 0 4294967295") ≡ Err (Range 2)
+unfolding fed
+greatest_decimal = refl
+
+past_decimals : script_of (fed (codes "memory 0 1") ++ codes "rn 0 4294967296") ≡ Err (Number 2)
+unfolding fed
+past_decimals = refl
+
+plan : plan_of (fed (codes ".") ++ fed (codes "wait # not now") ++ fed (codes "flip 32") ++ fed (codes "deaf") ++ codes "mute 2") ≡ Ok (Clean ∷ Wait ∷ Flip 32 ∷ Deaf ∷ Mute 2 ∷ [])
+unfolding fed
+plan = refl
+
+no_plan : plan_of [] ≡ Ok []
+no_plan = refl
+
+place_past_the_phase : plan_of (codes "flip 33") ≡ Err (Range 1)
+place_past_the_phase = refl
+
+report : report_text (Write 536870912 3735928559 ∷ Read 536870912 ∷ Read 805306368 ∷ []) (Written ∷ Value 3735928559 ∷ BusFault ∷ []) (WrongId 731911286) ≡
+    fed (codes "w 20000000 written") ++ fed (codes "r 20000000 deadbeef") ++ fed (codes "r 30000000 busfault") ++ fed (codes "end id 2ba01476")
+unfolding fed hex8 hex2
+report = refl

@@ -1,0 +1,11 @@
+use Rattle.std.proofs.Common.{suc, ◌++◌, take, drop, subst}
+use Rattle.swd_script.specs.Readers.{IsScriptFault}
+use Rattle.swd_script.proofs.ReadLemmas.{parted}
+use Rattle.swd_script.proofs.script.ScriptReader.piece.Goals as goal
+
+pub returns-in-Err-clause-err : goal.returns-in-Err-clause-err
+returns-in-Err-clause-err g c = λ seen more r.
+    let piece = c.args.piece.now in
+    let i = c.loop-byte.byte-index in
+    subst (IsScriptFault c.in-Err.fault) (parted seen piece more i c.loop-byte-test.true)
+    (c.in-Err.ensures.err (seen ++ take i piece) (drop (suc i) piece ++ more) (c.loop-byte.invariant seen r))

@@ -1,0 +1,32 @@
+-- The first fault of a text that is read line by line.
+use Rattle.std.specs.Prelude.{ℕ, suc, ◌+◌, ◌-◌, ◌^◌, min, List, [], ◌∷◌, Option, Result, Ok, Err}
+use Rattle.swd_script.specs.declared.fault.LineFault.{LineFault}
+use Rattle.swd_script.specs.declared.fault.LineFault.TheVariants.{Word, Number, Range, NoMemoryLine, Memory}
+use Rattle.swd_script.specs.declared.fault.ScriptFault.{ScriptFault}
+use Rattle.swd_script.specs.declared.fault.ScriptFault.TheVariants.{Word as WordAt, Number as NumberAt, Range as RangeAt, NoMemoryLine as NoMemoryLineAt, Memory as MemoryAt}
+use Rattle.swd_script.specs.Lines.{line_words}
+
+-- the number, from 1, of the line after so many; more than 2^64 - 1 are told as that
+abbrev pub line_number : ℕ → ℕ
+line_number before = min (before + 1) (2 ^ 64 - 1)
+
+-- the fault of the line with this number
+abbrev pub fault_at : LineFault → ℕ → ScriptFault
+fault_at Word line = WordAt line
+fault_at Number line = NumberAt line
+fault_at Range line = RangeAt line
+fault_at NoMemoryLine line = NoMemoryLineAt line
+fault_at Memory line = MemoryAt line
+
+-- the fault of the line after so many, or else what follows from the line's value
+abbrev pub then_lines : {S : Type 0} → ℕ → (S → Result S ScriptFault) → Result S LineFault →
+    Result S ScriptFault
+then_lines before rest (Ok state) = rest state
+then_lines before rest (Err fault) = Err (fault_at fault (line_number before))
+
+-- what some lines make of a state, each by its words, after so many other lines; or the first fault
+abbrev pub after_lines : {S : Type 0} → (S → Option (List (List ℕ)) → Result S LineFault) → S → ℕ →
+    List (List ℕ) → Result S ScriptFault
+after_lines take state before [] = Ok state
+after_lines take state before (line ∷ rest) =
+    then_lines before (λ next. after_lines take next (suc before) rest) (take state (line_words line))

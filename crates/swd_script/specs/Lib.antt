@@ -1,0 +1,9 @@
+pub mod Lines
+pub mod Numerals
+pub mod Faults
+pub mod Scripts
+pub mod Plans
+pub mod Words
+pub mod Scans
+pub mod Readers
+pub mod Reports

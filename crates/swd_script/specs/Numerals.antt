@@ -1,0 +1,38 @@
+-- The numbers of a script or plan.
+use Rattle.std.specs.Prelude.{ℕ, ◌+◌, ◌-◌, ◌*◌, ◌^◌, nat_lt, nat_le, ◌&&◌, List, [], ◌∷◌, length, Option, Some, None, if◌then◌else◌}
+use Rattle.std.specs.Option.{option_and_then}
+
+-- what a hexadecimal digit of either case stands for; any other byte gives 16
+abbrev pub digit_value : ℕ → ℕ
+digit_value byte =
+    if nat_le 48 byte && nat_le byte 57 then byte - 48 else
+    (if nat_le 65 byte && nat_le byte 70 then byte - 55 else
+    (if nat_le 97 byte && nat_le byte 102 then byte - 87 else 16))
+
+-- what a digit of this base stands for
+abbrev pub digit_of : ℕ → ℕ → Option ℕ
+digit_of base byte = if nat_lt (digit_value byte) base then Some (digit_value byte) else None
+
+-- what digits, the most significant first, stand for after those that stand for `value`
+abbrev pub number_from : ℕ → ℕ → List ℕ → Option ℕ
+number_from base value [] = Some value
+number_from base value (byte ∷ word) =
+    option_and_then (λ digit. number_from base (base * value + digit) word) (digit_of base byte)
+
+-- a number below 2^32
+abbrev pub word_sized : ℕ → Option ℕ
+word_sized value = if nat_lt value (2 ^ 32) then Some value else None
+
+-- the number below 2^32 that 1 to `longest` digits stand for
+abbrev pub numeral : ℕ → ℕ → List ℕ → Option ℕ
+numeral base longest word =
+    if nat_le 1 (length word) && nat_le (length word) longest
+    then option_and_then word_sized (number_from base 0 word) else None
+
+-- 1 to 8 hexadecimal digits of either case
+abbrev pub hex_of : List ℕ → Option ℕ
+hex_of word = numeral 16 8 word
+
+-- 1 to 10 decimal digits
+abbrev pub decimal_of : List ℕ → Option ℕ
+decimal_of word = numeral 10 10 word

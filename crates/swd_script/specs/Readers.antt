@@ -1,0 +1,105 @@
+-- What the readers of scripts and plans have read.
+use Rattle.std.specs.Prelude.{◌≡◌, ◌≢◌, ℕ, ◌+◌, List, [], ◌∷◌, ◌++◌, length, Option, Result, Ok, Err, IsOk}
+use Rattle.arrayvec.specs.ArrayVec.{ArrayVec}
+use Rattle.swd_port.specs.declared.mark.Mark.{Mark}
+use Rattle.swd_script.specs.declared.draft.Draft.{Draft}
+use Rattle.swd_script.specs.declared.fault.LineFault.{LineFault}
+use Rattle.swd_script.specs.declared.fault.LineFault.TheVariants.{Word, Number, Range, NoMemoryLine, Memory}
+use Rattle.swd_script.specs.declared.fault.ScriptFault.{ScriptFault}
+use Rattle.swd_script.specs.declared.fault.ScriptFault.TheVariants.{Word as WordAt, Number as NumberAt, Range as RangeAt, NoMemoryLine as NoMemoryLineAt, Memory as MemoryAt}
+use Rattle.swd_script.specs.declared.lines.Lines.{Lines}
+use Rattle.swd_script.specs.declared.script.Script.{Script}
+use Rattle.swd_script.specs.declared.script.ScriptReader.{ScriptReader}
+use Rattle.swd_script.specs.declared.plan.PlanReader.{PlanReader}
+use Rattle.swd_script.specs.Faults.{line_number, after_lines}
+use Rattle.swd_script.specs.Lines.{lines}
+use Rattle.swd_script.specs.Plans.{plan_line, plan_of}
+use Rattle.swd_script.specs.Scans.{Holds, IsScanned}
+use Rattle.swd_script.specs.Scripts.{Meaning, Sayings, nothing_said, script_line, script_of}
+
+-- no line feed
+abbrev pub IsUnbroken : List ℕ → Type 0
+IsUnbroken [] = Unit {0}
+IsUnbroken (byte ∷ line) = (byte ≢ 10) × IsUnbroken line
+
+-- of a text so far these lines ended, and another has begun
+pub record Splits (seen : List ℕ) (ended : List (List ℕ)) (state : Lines) : Type 0 where
+  pub line : List ℕ
+  pub law : (more : List ℕ) → lines (seen ++ more) ≡ ended ++ lines (line ++ more)
+  pub unbroken : IsUnbroken line
+  pub holds : Holds line state.scan
+  pub number : state.number ≡ line_number (length ended)
+
+-- of a text so far these lines ended, and this one is next
+pub record EndsLine (text : List ℕ) (ended : List (List ℕ)) (line : List ℕ) : Type 0 where
+  pub rest : List (List ℕ)
+  pub law : lines text ≡ ended ++ line ∷ rest
+
+-- a line feed has ended a line with these first words, or a spoiled one
+pub record IsFed (seen : List ℕ) (ended : List (List ℕ))
+    (scanned : Option (ArrayVec (ArrayVec ℕ))) (state : Lines) : Type 0 where
+  pub line : List ℕ
+  pub scan : IsScanned line scanned
+  pub law : (more : List ℕ) → lines (seen ++ 10 ∷ more) ≡ ended ++ line ∷ lines more
+  pub next : Splits (seen ++ 10 ∷ []) (ended ++ line ∷ []) state
+
+-- the last line of a text has these first words, or is spoiled
+pub record IsLast (text : List ℕ) (ended : List (List ℕ))
+    (scanned : Option (ArrayVec (ArrayVec ℕ))) : Type 0 where
+  pub line : List ℕ
+  pub scan : IsScanned line scanned
+  pub law : lines text ≡ ended ++ line ∷ []
+
+-- what the lines so far say
+abbrev pub said : {A : Type 0} → Draft A → Sayings
+said draft = record { memory = draft.memory; room = draft.room; accesses = draft.accesses.items }
+
+-- a line at fault; where memory was refused, it has no other fault
+abbrev pub IsFaultOf : {S : Type 0} → LineFault → Result S LineFault → Type 0
+IsFaultOf Memory result = IsOk result
+IsFaultOf Word result = result ≡ Err Word
+IsFaultOf Number result = result ≡ Err Number
+IsFaultOf Range result = result ≡ Err Range
+IsFaultOf NoMemoryLine result = result ≡ Err NoMemoryLine
+
+-- memory was refused at the line with this number: the lines up to it, and it, have no fault
+pub record RunsOut {S : Type 0} (take : S → Option (List (List ℕ)) → Result S LineFault)
+    (start : S) (text : List ℕ) (number : ℕ) : Type 0 where
+  pub ended : List (List ℕ)
+  pub line : List ℕ
+  pub ends : EndsLine text ended line
+  pub fine : IsOk (after_lines take start 0 (ended ++ line ∷ []))
+  pub number_is : number ≡ line_number (length ended)
+
+-- the reader has read these bytes, and met no fault
+pub record ReadsScript {A : Type 0} (reader : ScriptReader A) (seen : List ℕ) : Type 0 where
+  pub ended : List (List ℕ)
+  pub splits : Splits seen ended reader.lines
+  pub so_far : after_lines script_line nothing_said 0 ended ≡ Ok (said reader.draft)
+
+-- the reader has read these bytes, and met no fault
+pub record ReadsPlan {A : Type 0} (reader : PlanReader A) (seen : List ℕ) : Type 0 where
+  pub ended : List (List ℕ)
+  pub splits : Splits seen ended reader.lines
+  pub so_far : after_lines plan_line [] 0 ended ≡ Ok reader.marks.items
+
+-- what a script that was read says
+abbrev pub meaning : {A : Type 0} → Script A → Meaning
+meaning script =
+    record { base = script.base; words = script.words; room = script.room; accesses = script.accesses.items }
+
+-- the first fault of a script, or memory was refused
+abbrev pub IsScriptFault : ScriptFault → List ℕ → Type 0
+IsScriptFault (WordAt number) text = script_of text ≡ Err (WordAt number)
+IsScriptFault (NumberAt number) text = script_of text ≡ Err (NumberAt number)
+IsScriptFault (RangeAt number) text = script_of text ≡ Err (RangeAt number)
+IsScriptFault (NoMemoryLineAt number) text = script_of text ≡ Err (NoMemoryLineAt number)
+IsScriptFault (MemoryAt number) text = RunsOut script_line nothing_said text number
+
+-- the first fault of a plan, or memory was refused
+abbrev pub IsPlanFault : ScriptFault → List ℕ → Type 0
+IsPlanFault (WordAt number) text = plan_of text ≡ Err (WordAt number)
+IsPlanFault (NumberAt number) text = plan_of text ≡ Err (NumberAt number)
+IsPlanFault (RangeAt number) text = plan_of text ≡ Err (RangeAt number)
+IsPlanFault (NoMemoryLineAt number) text = plan_of text ≡ Err (NoMemoryLineAt number)
+IsPlanFault (MemoryAt number) text = RunsOut plan_line [] text number

@@ -1,0 +1,46 @@
+-- The report of a run: a line for each answer, and one for how the run ended. The text is this project's choice.
+use Rattle.std.specs.Prelude.{ℕ, List, [], ◌∷◌, ◌++◌, codes}
+use Rattle.std.specs.Fmt.{decimal}
+use Rattle.swd_bits.specs.Listing.{hex8}
+use Rattle.swd_port.specs.declared.access.Access.{Access}
+use Rattle.swd_port.specs.declared.access.Access.TheVariants.{Read, Write}
+use Rattle.swd_port.specs.declared.access.Answer.{Answer}
+use Rattle.swd_port.specs.declared.access.Answer.TheVariants.{Value, Written, BusFault}
+use Rattle.swd_script.specs.declared.report.LastLine.{LastLine}
+use Rattle.swd_script.specs.declared.report.LastLine.TheVariants.{All, Lost, TriesOut, WrongId, Confused}
+
+abbrev pub access_text : Access → List ℕ
+access_text (Read addr) = codes "r " ++ hex8 addr
+access_text (Write addr value) = codes "w " ++ hex8 addr
+
+abbrev pub answer_text : Answer → List ℕ
+answer_text (Value word) = hex8 word
+answer_text Written = codes "written"
+answer_text BusFault = codes "busfault"
+
+-- the line of an answered access, without its end
+abbrev pub answer_line : Access → Answer → List ℕ
+answer_line access answer = access_text access ++ codes " " ++ answer_text answer
+
+-- how many accesses were answered, and how many were begun and not answered
+abbrev pub stop_text : ℕ → ℕ → List ℕ
+stop_text answered begun = decimal answered ++ codes " begun " ++ decimal begun
+
+-- the last line, without its end
+abbrev pub last_line : LastLine → List ℕ
+last_line (All answered) = codes "end all " ++ decimal answered
+last_line (Lost answered begun) = codes "end lost " ++ stop_text answered begun
+last_line (TriesOut answered begun) = codes "end tries " ++ stop_text answered begun
+last_line (WrongId word) = codes "end id " ++ hex8 word
+last_line (Confused answered begun) = codes "end confused " ++ stop_text answered begun
+
+-- the lines of the accesses that have answers, each with its end
+abbrev pub answer_lines : List Access → List Answer → List ℕ
+answer_lines [] answers = []
+answer_lines (access ∷ accesses) [] = []
+answer_lines (access ∷ accesses) (answer ∷ answers) =
+    (answer_line access answer ++ 10 ∷ []) ++ answer_lines accesses answers
+
+-- a whole report, over the accesses that were asked for
+abbrev pub report_text : List Access → List Answer → LastLine → List ℕ
+report_text accesses answers last = answer_lines accesses answers ++ last_line last ++ 10 ∷ []

@@ -1,0 +1,142 @@
+-- What a script means, or its first fault.
+use Rattle.std.specs.Prelude.{ℕ, suc, zero, Bool, true, false, ◌+◌, ◌*◌, ◌%◌, ◌^◌, ◌==◌, nat_le, ◌&&◌, ◌||◌, is_some, is_none, unwrap_or, List, [], ◌∷◌, ◌++◌, length, codes, Option, Some, None, Result, Ok, Err, if◌then◌else◌}
+use Rattle.std.specs.Str.{bytes_eq}
+use Rattle.swd_port.specs.declared.access.Access.{Access}
+use Rattle.swd_port.specs.declared.access.Access.TheVariants.{Read as ReadAccess, Write as WriteAccess}
+use Rattle.swd_script.specs.declared.command.Command.{Command}
+use Rattle.swd_script.specs.declared.command.Command.TheVariants.{Memory, Room, Read, Write, ReadMany}
+use Rattle.swd_script.specs.declared.draft.Extent.{Extent}
+use Rattle.swd_script.specs.declared.fault.LineFault.{LineFault}
+use Rattle.swd_script.specs.declared.fault.LineFault.TheVariants.{Word, Number, Range, NoMemoryLine}
+use Rattle.swd_script.specs.declared.fault.ScriptFault.{ScriptFault}
+use Rattle.swd_script.specs.declared.fault.ScriptFault.TheVariants.{NoMemoryLine as NoMemoryLineAt}
+use Rattle.swd_script.specs.Faults.{after_lines}
+use Rattle.swd_script.specs.Lines.{lines}
+use Rattle.swd_script.specs.Numerals.{hex_of, decimal_of}
+
+-- the memory, the room of its log, and the accesses
+pub record Meaning : Type 0 where
+  pub base : ℕ
+  pub words : ℕ
+  pub room : ℕ
+  pub accesses : List Access
+
+-- what the lines so far say
+pub record Sayings : Type 0 where
+  pub memory : Option Extent
+  pub room : Option ℕ
+  pub accesses : List Access
+
+abbrev pub nothing_said : Sayings
+nothing_said = record { memory = None; room = None; accesses = [] }
+
+-- a name and one number
+abbrev pub short_command : List ℕ → List ℕ → Option Command
+short_command name first =
+    if bytes_eq name (codes "room") then Some (Room (decimal_of first)) else
+    (if bytes_eq name (codes "r") then Some (Read (hex_of first)) else None)
+
+-- a name and two numbers
+abbrev pub long_command : List ℕ → List ℕ → List ℕ → Option Command
+long_command name first second =
+    if bytes_eq name (codes "memory") then Some (Memory (hex_of first) (decimal_of second)) else
+    (if bytes_eq name (codes "w") then Some (Write (hex_of first) (hex_of second)) else
+    (if bytes_eq name (codes "rn") then Some (ReadMany (hex_of first) (decimal_of second)) else None))
+
+-- the command of a line's words, where the first is known and they are as many as it takes
+abbrev pub command_of : List (List ℕ) → Option Command
+command_of [] = None
+command_of (name ∷ []) = None
+command_of (name ∷ first ∷ []) = short_command name first
+command_of (name ∷ first ∷ second ∷ []) = long_command name first second
+command_of (name ∷ first ∷ second ∷ third ∷ more) = None
+
+abbrev pub has_access : List Access → Bool
+has_access [] = false
+has_access (access ∷ accesses) = true
+
+-- a line other than `memory` has to come after it
+abbrev pub without_memory : Sayings → Option LineFault
+without_memory said = if is_none said.memory then Some NoMemoryLine else None
+
+-- why a command may not stand here: a second `memory`, a second `room` or one after an access, or no `memory` before it
+abbrev pub misplaced : Sayings → Command → Option LineFault
+misplaced said (Memory base words) = if is_some said.memory then Some Word else None
+misplaced said (Room count) = if is_some said.room || has_access said.accesses then Some Word else without_memory said
+misplaced said (Read addr) = without_memory said
+misplaced said (Write addr value) = without_memory said
+misplaced said (ReadMany addr count) = without_memory said
+
+-- what follows from a number, which has to be one
+abbrev pub with_number : Option ℕ → (ℕ → Result Sayings LineFault) → Result Sayings LineFault
+with_number None next = Err Number
+with_number (Some number) next = next number
+
+-- `count` words from an address on: one at least, at multiples of 4, within 32 bits
+abbrev pub are_words : ℕ → ℕ → Bool
+are_words addr count = (addr % 4 == 0) && nat_le 1 count && nat_le (addr + 4 * count) (2 ^ 32)
+
+abbrev pub with_memory : Sayings → ℕ → ℕ → Result Sayings LineFault
+with_memory said base words =
+    if are_words base words && nat_le words 65536
+    then Ok (record said { memory = Some (record { base = base; words = words }) }) else Err Range
+
+abbrev pub with_room : Sayings → ℕ → Result Sayings LineFault
+with_room said count = if nat_le count 65536 then Ok (record said { room = Some count }) else Err Range
+
+-- `count` accesses more, from an address on; a script has at most 65,536
+abbrev pub with_accesses : Sayings → ℕ → ℕ → List Access → Result Sayings LineFault
+with_accesses said addr count accesses =
+    if are_words addr count && nat_le (length said.accesses + count) 65536
+    then Ok (record said { accesses = said.accesses ++ accesses }) else Err Range
+
+-- reads at an address, at the address plus 4, and so on
+abbrev pub reads : ℕ → ℕ → List Access
+reads addr zero = []
+reads addr (suc count) = ReadAccess addr ∷ reads (addr + 4) count
+
+-- what a command that may stand here adds
+abbrev pub carried_out : Sayings → Command → Result Sayings LineFault
+carried_out said (Memory base words) =
+    with_number base (λ base. with_number words (λ words. with_memory said base words))
+carried_out said (Room count) = with_number count (λ count. with_room said count)
+carried_out said (Read addr) =
+    with_number addr (λ addr. with_accesses said addr 1 (ReadAccess addr ∷ []))
+carried_out said (Write addr value) =
+    with_number addr (λ addr. with_number value (λ value. with_accesses said addr 1 (WriteAccess addr value ∷ [])))
+carried_out said (ReadMany addr count) =
+    with_number addr (λ addr. with_number count (λ count. with_accesses said addr count (reads addr count)))
+
+abbrev pub fault_before : Option LineFault → Result Sayings LineFault → Result Sayings LineFault
+fault_before (Some fault) result = Err fault
+fault_before None result = result
+
+abbrev pub after_command : Sayings → Option Command → Result Sayings LineFault
+after_command said None = Err Word
+after_command said (Some command) = fault_before (misplaced said command) (carried_out said command)
+
+-- what a line adds, by its words; a line without words adds nothing
+abbrev pub script_line : Sayings → Option (List (List ℕ)) → Result Sayings LineFault
+script_line said None = Err Word
+script_line said (Some []) = Ok said
+script_line said (Some (name ∷ arguments)) = after_command said (command_of (name ∷ arguments))
+
+-- what a whole script says, once its last line has been read: `memory` is there, and without `room` there is room
+-- for 65,536
+abbrev pub script_meaning : Option Extent → Sayings → Result Meaning ScriptFault
+script_meaning None said = Err (NoMemoryLineAt 1)
+script_meaning (Some extent) said =
+    Ok (record {
+      base = extent.base;
+      words = extent.words;
+      room = unwrap_or said.room 65536;
+      accesses = said.accesses;
+    })
+
+abbrev pub whole_script : Result Sayings ScriptFault → Result Meaning ScriptFault
+whole_script (Err fault) = Err fault
+whole_script (Ok said) = script_meaning said.memory said
+
+-- what a script means, or the fault of its first line at fault
+abbrev pub script_of : List ℕ → Result Meaning ScriptFault
+script_of text = whole_script (after_lines script_line nothing_said 0 (lines text))

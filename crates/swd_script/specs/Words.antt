@@ -1,0 +1,36 @@
+-- What is kept of the words of a line.
+use Rattle.std.specs.Prelude.{◌≡◌, ℕ, false, List, [], ◌∷◌, ◌++◌, map, take}
+use Rattle.arrayvec.specs.ArrayVec.{ArrayVec}
+use Rattle.swd_script.specs.declared.words.Words.{Words}
+use Rattle.swd_script.specs.Lines.{is_blank, words}
+
+-- the bytes of the words that are kept
+abbrev pub texts : List (ArrayVec ℕ) → List (List ℕ)
+texts kept = map (λ word. word.items) kept
+
+-- what is kept of some words: the first 11 bytes of the first four
+abbrev pub first_words : List (List ℕ) → List (List ℕ)
+first_words all = take 4 (map (λ word. take 11 word) all)
+
+-- the word that has begun, if one has
+abbrev pub begun : List ℕ → List (List ℕ)
+begun [] = []
+begun (byte ∷ word) = (byte ∷ word) ∷ []
+
+-- no blank among the bytes
+abbrev pub IsUnblank : List ℕ → Type 0
+IsUnblank [] = Unit {0}
+IsUnblank (byte ∷ word) = (is_blank byte ≡ false) × IsUnblank word
+
+-- of a line so far these words ended, and this one has begun
+pub record Gathers (line : List ℕ) (kept : Words) : Type 0 where
+  pub ended : List (List ℕ)
+  pub last : List ℕ
+  pub split : (more : List ℕ) → words (line ++ more) ≡ ended ++ words (last ++ more)
+  pub unblank : IsUnblank last
+  pub kept_ended : texts kept.ended.items ≡ first_words ended
+  pub kept_last : kept.last.items ≡ take 11 last
+
+-- these are the first words of a line
+abbrev pub AreFirst : List (ArrayVec ℕ) → List ℕ → Type 0
+AreFirst kept line = texts kept ≡ first_words (words line)

@@ -1,0 +1,91 @@
+//! The commands of a script.
+ghost use Rattle.std.specs.Prelude.{◌≡◌};
+ghost use Rattle.swd_script.specs.Scripts.{command_of, long_command, short_command};
+ghost use Rattle.swd_script.specs.Words.{texts};
+
+use crate::numeral::{decimal_of, hex_of};
+use crate::words::Word;
+
+/// A line of a script. `None` stands for a word that is no number.
+#[derive(Clone, Copy, Debug, PartialEq, Eq)]
+pub(crate) enum Command {
+    /// The memory: the address of its first word, and how many words it has.
+    Memory {
+        base: Option<u32>,
+        words: Option<u32>,
+    },
+    /// How many transfers the memory's log has room for.
+    Room {
+        count: Option<u32>,
+    },
+    /// A read.
+    Read {
+        addr: Option<u32>,
+    },
+    /// A write.
+    Write {
+        addr: Option<u32>,
+        value: Option<u32>,
+    },
+    /// Reads at an address, at the address plus 4, and so on.
+    ReadMany {
+        addr: Option<u32>,
+        count: Option<u32>,
+    },
+}
+
+/// The command of a line's first words. `None` where the first is unknown, or where they are not as
+/// many as it takes.
+pub(crate) fn command_of(words: &[Word]) -> Option<Command>
+    ensures { result ≡ command_of (texts words.now) }
+{
+    match words {
+        [name, first] => short_command(name.as_slice(), first.as_slice()),
+        [name, first, second] => {
+            long_command(name.as_slice(), first.as_slice(), second.as_slice())
+        }
+        _ => None,
+    }
+}
+
+// The command that is a name and one number.
+fn short_command(name: &[u8], first: &[u8]) -> Option<Command>
+    ensures { result ≡ short_command name.now first.now }
+{
+    if name == b"room".as_slice() {
+        return Some(Command::Room {
+            count: decimal_of(first),
+        });
+    }
+    if name == b"r".as_slice() {
+        return Some(Command::Read {
+            addr: hex_of(first),
+        });
+    }
+    None
+}
+
+// The command that is a name and two numbers.
+fn long_command(name: &[u8], first: &[u8], second: &[u8]) -> Option<Command>
+    ensures { result ≡ long_command name.now first.now second.now }
+{
+    if name == b"memory".as_slice() {
+        return Some(Command::Memory {
+            base: hex_of(first),
+            words: decimal_of(second),
+        });
+    }
+    if name == b"w".as_slice() {
+        return Some(Command::Write {
+            addr: hex_of(first),
+            value: hex_of(second),
+        });
+    }
+    if name == b"rn".as_slice() {
+        return Some(Command::ReadMany {
+            addr: hex_of(first),
+            count: decimal_of(second),
+        });
+    }
+    None
+}

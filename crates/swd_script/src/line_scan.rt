@@ -1,0 +1,93 @@
+//! One line of a script or a plan, a byte at a time.
+ghost use Rattle.std.specs.Prelude.{◌≡◌, ◌≢◌, ◌∷◌, ◌++◌, [], ℕ, List};
+ghost use Rattle.swd_script.specs.Lines.{is_blank};
+
+use crate::words::{FirstWords, Words};
+
+/// Where in a line a scan is.
+#[derive(Clone, Copy, Debug, PartialEq, Eq)]
+pub(crate) enum Place {
+    /// Before a comment.
+    Code,
+    /// After a carriage return, which only a line feed may follow.
+    Return,
+    /// In a comment.
+    Comment,
+    /// After a byte that may not stand there.
+    Spoiled,
+}
+
+/// A line that has begun. However long it is, only its first words are kept, and of these only
+/// the first bytes.
+#[derive(Drop)]
+pub(crate) struct LineScan {
+    pub(crate) words: Words,
+    pub(crate) place: Place,
+}
+
+impl LineScan {
+    ghost use Rattle.swd_script.specs.Scans.{Holds, IsScanned, without_return};
+
+    /// Nothing of a line yet.
+    pub(crate) fn new() -> LineScan
+        ensures { Holds [] result }
+    {
+        LineScan {
+            words: Words::new(),
+            place: Place::Code,
+        }
+    }
+
+    /// Takes a byte of the line.
+    pub(crate) fn byte(&mut self, byte: u8)
+        requires { byte ≢ 10 }
+        ensures { (line : List ℕ) → Holds line self.old → Holds (line ++ byte ∷ []) self.new }
+    {
+        match self.place {
+            Place::Code => self.code(byte),
+            Place::Return => self.place = Place::Spoiled,
+            Place::Comment | Place::Spoiled => {}
+        }
+    }
+
+    // Takes a byte of the line before a comment.
+    fn code(&mut self, byte: u8)
+        requires code { self.old.place ≡ Place.Code }
+        requires unbroken { byte ≢ 10 }
+        ensures { (line : List ℕ) → Holds line self.old → Holds (line ++ byte ∷ []) self.new }
+    {
+        match byte {
+            b'#' => self.place = Place::Comment,
+            b'\r' => self.place = Place::Return,
+            _ if is_blank(byte) => self.words.blank(byte),
+            b'!'..=b'~' => self.words.push(byte),
+            _ => self.place = Place::Spoiled,
+        }
+    }
+
+    /// The first words of the line, which a line feed ends. `None` where a byte has spoiled it.
+    pub(crate) fn feed(self) -> Option<FirstWords>
+        ensures { (line : List ℕ) → Holds line self → IsScanned (without_return line) result }
+    {
+        match self.place {
+            Place::Code | Place::Return | Place::Comment => Some(self.words.finish()),
+            Place::Spoiled => None,
+        }
+    }
+
+    /// The first words of the line, which the text ends. `None` where a byte has spoiled it.
+    pub(crate) fn finish(self) -> Option<FirstWords>
+        ensures { (line : List ℕ) → Holds line self → IsScanned line result }
+    {
+        match self.place {
+            Place::Code | Place::Comment => Some(self.words.finish()),
+            Place::Return | Place::Spoiled => None,
+        }
+    }
+}
+
+fn is_blank(byte: u8) -> bool
+    ensures { result ≡ is_blank byte }
+{
+    byte == b' ' || byte == b'\t'
+}

@@ -1,0 +1,64 @@
+//! The numbers of a script or a plan.
+ghost use Rattle.std.specs.Prelude.{◌≡◌, ◌≤◌, ◌<◌, length, IfSome};
+ghost use Rattle.swd_script.specs.Numerals.{decimal_of, digit_of, digit_value, hex_of, number_from};
+ghost use Rattle.swd_script.specs.Numerals.{numeral as numeral_of};
+
+/// The number that 1 to 8 hexadecimal digits of either case stand for.
+pub(crate) fn hex_of(word: &[u8]) -> Option<u32>
+    ensures { result ≡ hex_of word.now }
+{
+    numeral(16, 8, word)
+}
+
+/// The number that 1 to 10 decimal digits stand for, where it is below 2^32.
+pub(crate) fn decimal_of(word: &[u8]) -> Option<u32>
+    ensures { result ≡ decimal_of word.now }
+{
+    numeral(10, 10, word)
+}
+
+// The number below 2^32 that 1 to `longest` digits of a base stand for.
+fn numeral(base: u64, longest: usize, word: &[u8]) -> Option<u32>
+    requires small { base ≤ 16 }
+    requires short { longest ≤ 10 }
+    ensures { result ≡ numeral_of base longest word.now }
+{
+    if word.is_empty() || word.len() > longest {
+        return None;
+    }
+    u32::try_from(number(base, word)?).ok()
+}
+
+// The number that digits of a base stand for.
+fn number(base: u64, word: &[u8]) -> Option<u64>
+    requires small { base ≤ 16 }
+    requires short { length word.now ≤ 10 }
+    ensures { result ≡ number_from base 0 word.now }
+{
+    let mut value = 0u64;
+    for byte in word {
+        value = base * value + digit(base, *byte)?;
+    }
+    Some(value)
+}
+
+// What a digit of a base stands for.
+fn digit(base: u64, byte: u8) -> Option<u64>
+    ensures value { result ≡ digit_of base byte }
+    ensures small { IfSome result (λ digit. digit < base) }
+{
+    let value = u64::from(digit_value(byte));
+    if value < base { Some(value) } else { None }
+}
+
+// What a hexadecimal digit stands for. Any other byte gives 16.
+fn digit_value(byte: u8) -> u8
+    ensures { result ≡ digit_value byte }
+{
+    match byte {
+        b'0'..=b'9' => byte - b'0',
+        b'A'..=b'F' => byte - b'A' + 10,
+        b'a'..=b'f' => byte - b'a' + 10,
+        _ => 16,
+    }
+}

@@ -1,0 +1,109 @@
+//! Scripts: a memory, and accesses of it.
+ghost use Rattle.std.specs.Prelude.{◌≡◌, ◌++◌, ◌∷◌, [], ℕ, List, Ok, OnOk, IfErr, IfOk};
+ghost use Rattle.swd_script.specs.Scripts.{script_of};
+
+use crate::draft::Draft;
+use crate::fault::ScriptFault;
+use crate::lines::Lines;
+use std::alloc::Allocator;
+use swd_port::Access;
+
+/// What a script says.
+#[derive(Drop)]
+pub struct Script<A: Allocator> {
+    /// The address of the memory's first word, a multiple of 4.
+    pub base: u32,
+    /// How many words the memory has, 1 to 65,536.
+    pub words: u32,
+    /// How many transfers its log has room for, at most 65,536.
+    pub room: u32,
+    /// At most 65,536 accesses, each at a multiple of 4.
+    pub accesses: Vec<Access, A>,
+}
+
+/// Reads a script, which comes in pieces.
+///
+/// However long a line is, the reader holds a few bytes of it, beside the accesses of the lines
+/// before.
+#[derive(Drop)]
+pub struct ScriptReader<A: Allocator> {
+    lines: Lines,
+    draft: Draft<A>,
+}
+
+impl<A: Allocator> ScriptReader<A> {
+    ghost use Rattle.swd_script.specs.Readers.{IsScriptFault, ReadsScript, meaning};
+
+    /// A reader that has read nothing.
+    pub fn new(alloc: A) -> ScriptReader<A>
+        ensures { ReadsScript result [] }
+    {
+        ScriptReader {
+            lines: Lines::new(),
+            draft: Draft::new(alloc),
+        }
+    }
+
+    /// Reads the next piece of the text.
+    ///
+    /// # Errors
+    ///
+    /// The first fault of the text, whatever follows the piece. `Memory` where the list of accesses
+    /// could not grow, which is not tried again.
+    pub fn piece(mut self, piece: &[u8]) -> Result<ScriptReader<A>, ScriptFault>
+        ensures ok { IfOk result (λ reader. (seen : List ℕ) → ReadsScript self seen
+            → ReadsScript reader (seen ++ piece.now)) }
+        ensures err { IfErr result (λ fault. (seen more : List ℕ) → ReadsScript self seen
+            → IsScriptFault fault ((seen ++ piece.now) ++ more)) }
+    {
+        for byte in piece {
+            if let Err(fault) = self.byte(*byte) {
+                return Err(fault);
+            }
+        }
+        Ok(self)
+    }
+
+    // Takes a byte. After an `Err` nothing is known of what is kept.
+    fn byte(&mut self, byte: u8) -> Result<(), ScriptFault>
+        ensures ok { OnOk result ((seen : List ℕ) → ReadsScript self.old seen
+            → ReadsScript self.new (seen ++ byte ∷ [])) }
+        ensures err { IfErr result (λ fault. (seen more : List ℕ) → ReadsScript self.old seen
+            → IsScriptFault fault (seen ++ byte ∷ more)) }
+    {
+        if byte != b'\n' {
+            self.lines.byte(byte);
+            return Ok(());
+        }
+        let line = self.lines.number;
+        let Some(words) = self.lines.feed() else {
+            return Err(ScriptFault::Word { line });
+        };
+        match self.draft.line(words.as_slice()) {
+            Ok(()) => Ok(()),
+            Err(fault) => Err(fault.at(line)),
+        }
+    }
+
+    /// What the whole text says, which ends here.
+    ///
+    /// # Errors
+    ///
+    /// The first fault of the text. `Memory` where the list of accesses could not grow.
+    pub fn finish(self) -> Result<Script<A>, ScriptFault>
+        ensures ok { IfOk result (λ script. (seen : List ℕ) → ReadsScript self seen
+            → script_of seen ≡ Ok (meaning script)) }
+        ensures err { IfErr result (λ fault. (seen : List ℕ) → ReadsScript self seen
+            → IsScriptFault fault seen) }
+    {
+        let ScriptReader { lines, mut draft } = self;
+        let line = lines.number;
+        let Some(words) = lines.finish() else {
+            return Err(ScriptFault::Word { line });
+        };
+        match draft.line(words.as_slice()) {
+            Ok(()) => draft.finish(),
+            Err(fault) => Err(fault.at(line)),
+        }
+    }
+}
