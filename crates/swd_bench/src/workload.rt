@@ -1,0 +1,129 @@
+//! What is measured.
+ghost use Rattle.std.specs.Prelude.{IsTrue};
+ghost use Rattle.swd_target.specs.Marks.{IsPlan};
+
+use crate::random::Random;
+use std::alloc::{AllocError, Global};
+use swd_host::{Report, run};
+use swd_port::{Access, Answer};
+use swd_target::{Bench, Mark, Memory, Quirks};
+
+const SEED: u64 = 0x1234_5678_9abc_def1;
+
+const ROUNDS: u8 = 20;
+
+/// The accesses of a list, which is as many as one may have.
+const ACCESSES: u32 = 65_536;
+
+/// More than the requests of a list.
+const MARKS: u32 = 120_000;
+
+const BASE: u32 = 0x2000_0000;
+
+const WORDS: u32 = 4_096;
+
+const QUIRKS: Quirks = Quirks {
+    wrap: true,
+    late: false,
+    filler: 0,
+};
+
+/// Reads, and bursts of writes. A few of the addresses are behind the memory.
+#[derive(Drop)]
+struct Source {
+    random: Random,
+    addr: u32,
+    // How many writes of a burst are still to come.
+    burst: u32,
+}
+
+impl Source {
+    fn next(&mut self) -> Access {
+        if self.burst > 0 {
+            self.burst -= 1;
+            self.addr = self.addr.wrapping_add(4);
+            return Access::Write(self.addr, self.random.word());
+        }
+        self.addr = BASE + 4 * self.random.below(WORDS + 8);
+        if self.random.below(2) == 0 {
+            return Access::Read(self.addr);
+        }
+        self.burst = self.random.below(16);
+        Access::Write(self.addr, self.random.word())
+    }
+}
+
+fn accesses(alloc: Global, random: Random) -> Result<Vec<Access>, AllocError> {
+    let mut list = Vec::with_capacity(alloc, ACCESSES as usize)?;
+    let mut source = Source {
+        random,
+        addr: BASE,
+        burst: 0,
+    };
+    for _ in 0..ACCESSES {
+        list.push(source.next())?;
+    }
+    Ok(list)
+}
+
+// The mark of a request: mostly none.
+fn next_mark(random: &mut Random) -> Mark {
+    match random.below(128) {
+        0 | 1 => Mark::Wait,
+        2 => Mark::Flip(random.below(33) as u8),
+        _ => Mark::Clean,
+    }
+}
+
+fn plan(alloc: Global, random: &mut Random) -> Result<Vec<Mark>, AllocError> {
+    let mut plan = Vec::with_capacity(alloc, MARKS as usize)?;
+    for _ in 0..MARKS {
+        plan.push(next_mark(random))?;
+    }
+    Ok(plan)
+}
+
+fn are_legal(marks: &[Mark]) -> bool
+    ensures { IsTrue result → IsPlan marks.now }
+{
+    marks.iter().all(|mark| mark.legal())
+}
+
+// One run of the list under other marks. None for want of memory.
+fn one_run(alloc: Global, accesses: &[Access], random: &mut Random) -> Option<Report> {
+    let plan = plan(alloc, random).ok()?;
+    if !are_legal(&plan) {
+        return None;
+    }
+    let memory = Memory::new(alloc, BASE, WORDS, ACCESSES).ok()?;
+    let mut bench = Bench::new(memory, QUIRKS, plan);
+    run(alloc, &mut bench, accesses, 100).ok()
+}
+
+fn number(answer: Answer) -> u64 {
+    match answer {
+        Answer::Value(word) => u64::from(word),
+        Answer::Written => 1 << 32,
+        Answer::BusFault => 2 << 32,
+    }
+}
+
+fn added(sum: u64, report: &Report) -> u64 {
+    let mut sum = sum.wrapping_mul(31).wrapping_add(report.requests);
+    for answer in report.answers.iter() {
+        sum = sum.wrapping_mul(31).wrapping_add(number(*answer));
+    }
+    sum
+}
+
+/// A sum over the reports of twenty runs. None for want of memory.
+pub fn checksum(alloc: Global) -> Option<u64> {
+    let mut random = Random(SEED);
+    let accesses = accesses(alloc, random).ok()?;
+    let mut sum = 0;
+    for _ in 0..ROUNDS {
+        let report = one_run(alloc, &accesses, &mut random)?;
+        sum = added(sum, &report);
+    }
+    Some(sum)
+}

@@ -1,0 +1,41 @@
+//! What the tests need of a simulated target, whichever it is.
+ghost use Rattle.std.specs.Prelude.{◌≡◌, IfOk};
+ghost use Rattle.swd_port.specs.Port.{made};
+ghost use Rattle.swd_port.specs.Choices.{Choice, IsChoice};
+ghost use Rattle.swd_port.specs.Completion.{completed};
+ghost use Rattle.swd_target.specs.Marks.{IsPlan};
+
+use std::alloc::AllocError;
+use swd_port::Wire;
+use swd_target::{Bench, Mark, Memory, Quirks};
+
+/// A simulated target: a wire whose memory can be looked at.
+pub trait Simulated: Wire {
+    /// A target that had no line reset yet, with this memory behind its access port. The marks are
+    /// those of its requests, one after the other.
+    fn simulate(memory: Memory, quirks: Quirks, plan: Vec<Mark>) -> Result<Self, AllocError>
+        requires { IsPlan plan.items }
+        ensures { IfOk result (λ target. Self.Wire.port target ≡ made 0x2ba0_1477 memory) };
+
+    /// Completes the transfer that was accepted and has not taken effect yet, where there is one.
+    fn settle(&mut self)
+        ensures { (c : Choice) × IsChoice c × (Self.Wire.port self.new ≡ completed c (Self.Wire.port self.old)) };
+
+    /// The memory behind the access port.
+    fn memory(&self) -> &Memory
+        ensures { result.now ≡ (Self.Wire.port self.now).target.memory };
+}
+
+impl Simulated for Bench {
+    fn simulate(memory: Memory, quirks: Quirks, plan: Vec<Mark>) -> Result<Bench, AllocError> {
+        Ok(Bench::new(memory, quirks, plan))
+    }
+
+    fn settle(&mut self) {
+        Bench::settle(self)
+    }
+
+    fn memory(&self) -> &Memory {
+        Bench::memory(self)
+    }
+}

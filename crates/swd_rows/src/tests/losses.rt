@@ -1,0 +1,79 @@
+//! Runs over wires that lose an acknowledgement.
+use super::recording::{Recording, lost};
+use super::row::{
+    BASE, QUIRKS, WORD, WRITE, all_come_out, report_of, run_of, stopped, target_of, written,
+};
+use crate::Simulated as _;
+use std::test::Fail;
+use swd_host::End;
+use swd_port::Access;
+use swd_target::{Bench, Mark, Quirks};
+
+#[test]
+fn a_lost_acknowledgement_ends_the_run(rt: HostRuntime) -> Result<(), Fail> {
+    let log = [written(BASE, WORD)];
+    let rows = [
+        (
+            run_of(&[(1, Mark::Deaf)], &[]),
+            stopped(End::Lost, &[], 0, 1, &[]),
+        ),
+        (
+            run_of(&[(10, Mark::Mute(2))], &[WRITE]),
+            stopped(End::Lost, &[], 0, 10, &[]),
+        ),
+        // The word of the write is never sent.
+        (
+            run_of(&[(11, Mark::Mute(0))], &[WRITE]),
+            stopped(End::Lost, &[], 1, 11, &[]),
+        ),
+        (
+            run_of(&[(12, Mark::Deaf)], &[WRITE]),
+            stopped(End::Lost, &[], 1, 12, &log),
+        ),
+        (
+            run_of(&[(12, Mark::Wait), (13, Mark::Mute(0))], &[WRITE]),
+            stopped(End::Lost, &[], 1, 13, &log),
+        ),
+    ];
+    all_come_out(&rt, rt.alloc(), &rows)
+}
+
+#[test]
+fn a_begun_write_that_is_late_takes_effect_after_the_run(rt: HostRuntime) -> Result<(), Fail> {
+    let run = run_of(&[(12, Mark::Deaf)], &[WRITE]);
+    let quirks = Quirks {
+        late: true,
+        ..QUIRKS
+    };
+    let Some(mut bench) = target_of::<Bench>(rt.alloc(), &run, quirks)? else {
+        panic!(rt; "no target");
+    };
+    let _ = report_of(rt.alloc(), &mut bench, &run)?;
+    assert!(rt; bench.memory().log().is_empty());
+    bench.settle();
+    assert_eq!(rt; bench.memory().log(), [written(BASE, WORD)].as_slice());
+    Ok(())
+}
+
+// Each bit of OK, at the first request, and of FAULT, at the one that confirms a write where there
+// is no memory.
+#[test]
+fn a_changed_bit_makes_no_acknowledgement_of_another(rt: HostRuntime) -> Result<(), Fail> {
+    for (place, asked, seen) in [(1, 0xa5, [0, 3, 5]), (12, 0xbd, [5, 6, 0])] {
+        for (bit, seen) in [0, 1, 2].into_iter().zip(seen) {
+            let marks = [(place, Mark::Mute(bit))];
+            let accesses = [Access::Write(0x3000_0000, 1)];
+            let run = run_of(&marks, &accesses);
+            let Some(bench) = target_of::<Bench>(rt.alloc(), &run, QUIRKS)? else {
+                panic!(rt; "no target");
+            };
+            let mut wire = Recording::new(rt.alloc(), bench);
+            let Some(report) = report_of(rt.alloc(), &mut wire, &run)? else {
+                panic!(rt; "no new target");
+            };
+            assert_eq!(rt; report.ended, End::Lost);
+            assert_eq!(rt; wire.sent().last().copied(), Some(lost(asked, seen)));
+        }
+    }
+    Ok(())
+}

@@ -1,0 +1,258 @@
+//! Runs of a host over a simulated target, and what has to come of them.
+ghost use Rattle.std.specs.Prelude.{IsTrue};
+ghost use Rattle.swd_target.specs.Marks.{IsPlan};
+
+use crate::Simulated;
+use std::alloc::Global;
+use std::process::Abort;
+use std::test::Fail;
+use swd_host::{End, Report};
+use swd_port::{Access, Answer, Due, Transfer, Wire};
+use swd_target::{Bench, Mark, Memory, Quirks};
+
+/// Where the memory begins.
+pub const BASE: u32 = 0x2000_0000;
+
+/// The word that most rows write.
+pub const WORD: u32 = 0xdead_beef;
+
+pub const READ: Access = Access::Read(BASE);
+
+pub const WRITE: Access = Access::Write(BASE, WORD);
+
+/// Three writes at addresses that follow each other.
+pub const BURST: [Access; 3] = [
+    WRITE,
+    Access::Write(0x2000_0004, 1),
+    Access::Write(0x2000_0008, 2),
+];
+
+pub const FILLER: u32 = 0xa5a5_a5a5;
+
+/// The choices of a target, where a test names none.
+pub const QUIRKS: Quirks = Quirks {
+    wrap: true,
+    late: false,
+    filler: FILLER,
+};
+
+/// The same, and with each of the choices made the other way.
+pub const ALL_QUIRKS: [Quirks; 4] = [
+    QUIRKS,
+    Quirks {
+        wrap: false,
+        late: false,
+        filler: FILLER,
+    },
+    Quirks {
+        wrap: true,
+        late: true,
+        filler: FILLER,
+    },
+    Quirks {
+        wrap: true,
+        late: false,
+        filler: 0xffff_ffff,
+    },
+];
+
+/// The accesses of a run, and what they meet: a memory of so many words from 20000000, with room
+/// for so many transfers; the marks that aren't clean, each by the number of its request from 1; and
+/// the tries.
+#[derive(Clone, Copy)]
+pub struct Run<'m, 'a> {
+    pub words: u32,
+    pub room: u32,
+    pub marks: &'m [(usize, Mark)],
+    pub tries: u32,
+    pub accesses: &'a [Access],
+}
+
+/// These accesses under these marks, with a memory of sixteen words, room for sixteen transfers, and
+/// eight tries.
+pub fn run_of<'m, 'a>(marks: &'m [(usize, Mark)], accesses: &'a [Access]) -> Run<'m, 'a> {
+    Run {
+        words: 16,
+        room: 16,
+        marks,
+        tries: 8,
+        accesses,
+    }
+}
+
+impl<'m, 'a> Run<'m, 'a> {
+    /// The run with so many tries.
+    pub fn tries(self, tries: u32) -> Run<'m, 'a> {
+        let mut run = self;
+        run.tries = tries;
+        run
+    }
+
+    /// The run over so many words.
+    pub fn words(self, words: u32) -> Run<'m, 'a> {
+        let mut run = self;
+        run.words = words;
+        run
+    }
+
+    /// The run with room for so many transfers.
+    pub fn room(self, room: u32) -> Run<'m, 'a> {
+        let mut run = self;
+        run.room = room;
+        run
+    }
+}
+
+/// What has to come of a run: the report, and the memory's log once nothing is pending.
+#[derive(Clone, Copy)]
+pub struct Wanted<'a, 'l> {
+    pub answers: &'a [Answer],
+    pub begun: u8,
+    pub requests: u64,
+    pub ended: End,
+    pub log: &'l [Transfer],
+}
+
+/// Every access is answered so, with so many requests.
+pub fn whole<'a, 'l>(answers: &'a [Answer], requests: u64, log: &'l [Transfer]) -> Wanted<'a, 'l> {
+    Wanted {
+        answers,
+        begun: 0,
+        requests,
+        ended: End::All,
+        log,
+    }
+}
+
+/// The run stops after these answers.
+pub fn stopped<'a, 'l>(
+    ended: End,
+    answers: &'a [Answer],
+    begun: u8,
+    requests: u64,
+    log: &'l [Transfer],
+) -> Wanted<'a, 'l> {
+    Wanted {
+        answers,
+        begun,
+        requests,
+        ended,
+        log,
+    }
+}
+
+pub fn read(addr: u32, word: u32) -> Transfer {
+    Transfer {
+        read: true,
+        addr,
+        word,
+    }
+}
+
+pub fn written(addr: u32, word: u32) -> Transfer {
+    Transfer {
+        read: false,
+        addr,
+        word,
+    }
+}
+
+fn are_legal(marks: &[Mark]) -> bool
+    ensures { IsTrue result → IsPlan marks.now }
+{
+    marks.iter().all(|mark| mark.legal())
+}
+
+// The plan with these marks.
+fn plan_of(alloc: Global, marks: &[(usize, Mark)]) -> Result<Vec<Mark>, Fail> {
+    let mut plan = Vec::with_capacity(alloc, 40)?;
+    for place in 1..=40_usize {
+        let named = marks.iter().find(|(at, _)| *at == place);
+        plan.push(named.map_or(Mark::Clean, |(_, mark)| *mark))?;
+    }
+    Ok(plan)
+}
+
+/// The target of a run. None where a mark isn't legal.
+pub fn target_of<S: Simulated>(
+    alloc: Global,
+    run: &Run,
+    quirks: Quirks,
+) -> Result<Option<S>, Fail> {
+    let memory = Memory::new(alloc, BASE, run.words, run.room)?;
+    let plan = plan_of(alloc, run.marks)?;
+    if !are_legal(&plan) {
+        return Ok(None);
+    }
+    let target = S::simulate(memory, quirks, plan)?;
+    Ok(Some(target))
+}
+
+/// The report of a run over a wire. None where something is due on it.
+pub fn report_of<W: Wire>(alloc: Global, wire: &mut W, run: &Run) -> Result<Option<Report>, Fail> {
+    match wire.due() {
+        Due::Nothing => Ok(Some(swd_host::run(alloc, wire, run.accesses, run.tries)?)),
+        _ => Ok(None),
+    }
+}
+
+// One run under one choice of quirks.
+fn comes_out<S: Simulated + Drop, R: Abort>(
+    rt: &R,
+    alloc: Global,
+    row: usize,
+    (run, wanted): (Run, Wanted),
+    quirks: Quirks,
+) -> Result<(), Fail> {
+    let Some(mut target) = target_of::<S>(alloc, &run, quirks)? else {
+        panic!(rt; "row {row}: a mark isn't legal");
+    };
+    let Some(report) = report_of(alloc, &mut target, &run)? else {
+        panic!(rt; "row {row}: the target isn't new");
+    };
+    let Quirks { wrap, late, filler } = quirks;
+    assert_eq!(rt; report.ended, wanted.ended, "{row} {wrap} {late} {filler}");
+    assert_eq!(rt;
+        report.requests,
+        wanted.requests,
+        "{row} {wrap} {late} {filler}"
+    );
+    assert_eq!(rt; report.begun, wanted.begun, "{row} {wrap} {late} {filler}");
+    assert_eq!(rt;
+        report.answers.as_slice(),
+        wanted.answers,
+        "{row} {wrap} {late} {filler}"
+    );
+    // Only a late transfer is still pending where a run has ended.
+    assert!(rt;
+        late || target.memory().log() == wanted.log,
+        "{row} {wrap} {filler}"
+    );
+    target.settle();
+    assert_eq!(rt;
+        target.memory().log(),
+        wanted.log,
+        "{row} {wrap} {late} {filler}"
+    );
+    Ok(())
+}
+
+fn each_comes_out<S: Simulated + Drop, R: Abort>(
+    rt: &R,
+    alloc: Global,
+    rows: &[(Run, Wanted)],
+    quirks: Quirks,
+) -> Result<(), Fail> {
+    for (index, row) in rows.iter().enumerate() {
+        comes_out::<S, R>(rt, alloc, index, *row, quirks)?;
+    }
+    Ok(())
+}
+
+/// Each run comes out as it has to, over each simulated target, and with each choice of its quirks.
+pub fn all_come_out<R: Abort>(rt: &R, alloc: Global, rows: &[(Run, Wanted)]) -> Result<(), Fail> {
+    for quirks in ALL_QUIRKS {
+        each_comes_out::<Bench, R>(rt, alloc, rows, quirks)?;
+    }
+    Ok(())
+}
