@@ -1,8 +1,9 @@
 -- What a target chooses, as a choice of the port machine, and when its transfers take effect.
-use Rattle.std.proofs.Common.{◌≡◌, ℕ, ◌<◌, ◌^◌, ◌||◌, Bool, true, false, Option, None, refl, sym, ap, subst, arith}
+use Rattle.std.proofs.Common.{◌≡◌, ◌<◌, ◌^◌, ◌||◌, Bool, true, false, Option, None, refl, sym, ap, subst, arith, if◌then◌else◌}
+use Rattle.std.specs.Prelude.{is_some}
 use Rattle.swd_port.specs.Port.{Target as State}
 use Rattle.swd_port.specs.declared.register.Register.{Register}
-use Rattle.swd_port.specs.declared.register.Register.TheVariants.{ResendRead, DrwRead}
+use Rattle.swd_port.specs.declared.register.Register.TheVariants.{ResendRead}
 use Rattle.swd_port.specs.declared.state.Drw.{Drw}
 use Rattle.swd_port.specs.declared.state.Reset.{Reset}
 use Rattle.swd_port.specs.declared.state.Reply.{Reply}
@@ -12,7 +13,7 @@ use Rattle.swd_port.specs.Answers.{answer, is_exempt, is_unpowered}
 use Rattle.swd_port.specs.Completion.{completion_of, fails}
 use Rattle.swd_port.specs.Asking.{IsSettled}
 use Rattle.swd_target.specs.declared.target.Target.{Target}
-use Rattle.swd_target.specs.Simulations.{is_owed, transferred}
+use Rattle.swd_target.specs.Simulations.{Simulation, is_owed, transferred}
 use Rattle.swd_target.specs.Targets.{state_of, simulation, stand_in, choice_for, answer_at, reply_when, settled_when, is_settling, IsChosen}
 
 stand_in-fits : (r : Register) (t : Target) → stand_in r t < 2 ^ 32
@@ -50,3 +51,19 @@ settled_none r Silent = tt
 -- after a completion nothing is pending
 pub settled_after : (r : Register) (reply : Reply) (c : Choice) (s : State) (u : Target) → state_of u ≡ completion_of c s → IsSettled reply r u.pending
 settled_after r reply c s u e = subst (λ (p : Option Drw). IsSettled reply r p) (sym (ap (λ (s : State). s.pending) e)) (settled_none r reply)
+
+-- with nothing pending no completion changes anything
+at_rest : (t : Target) → t.pending ≡ None → transferred (simulation t) ≡ simulation t
+at_rest t e = grind arith
+
+unchanged : (b : Bool) (s t : Simulation) → t ≡ s → s ≡ (if b then t else s)
+unchanged true s t e = sym e
+unchanged false s t e = refl
+
+pub none_pending : (pending : Option Drw) → is_some pending ≡ false → pending ≡ None
+none_pending pending e = grind arith
+
+-- so it doesn't matter whether the code settles then
+pub settled_at_rest : (waits : Bool) (r : Register) (ap_ : Bool) (t : Target) → t.pending ≡ None
+    → simulation t ≡ settled_when waits r ap_ (simulation t)
+settled_at_rest waits r ap_ t e = unchanged _ (simulation t) (transferred (simulation t)) (at_rest t e)

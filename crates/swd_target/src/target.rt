@@ -165,10 +165,24 @@ impl Target {
         ensures select { self.new.select ≡ self.old.select }
         ensures exact { simulation self.new ≡ settled_when waits register ap (simulation self.old) }
     {
+        // Mostly nothing is pending, and to find out whether it has to settle costs as much as the reply.
+        if self.pending.is_some() {
+            self.settle(waits, register, ap);
+        }
+        self.reply_now(waits, register, ap)
+    }
+
+    // The pending transfer takes effect, where it has to before the reply.
+    fn settle(&mut self, waits: bool, register: Register, ap: bool)
+        ensures settles { Transfers (state_of self.old) (state_of self.new) }
+        ensures settled { IsSettled (reply_when waits register (answer_at register ap (state_of self.new)))
+            register self.new.pending }
+        ensures select { self.new.select ≡ self.old.select }
+        ensures exact { simulation self.new ≡ settled_when waits register ap (simulation self.old) }
+    {
         if self.settles_before(waits, register, ap) {
             self.complete();
         }
-        self.reply_now(waits, register, ap)
     }
 
     // What a reply changes at the target.
