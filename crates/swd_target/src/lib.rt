@@ -4,7 +4,7 @@
 mod acknowledgement;
 mod bench;
 mod content;
-mod laws;
+pub mod laws;
 mod memory;
 mod phase;
 mod plan;
@@ -14,7 +14,6 @@ mod request;
 mod target;
 
 pub use bench::Bench;
-pub use laws::marks_used;
 pub use memory::{MakeFault, Memory};
 pub use quirks::Quirks;
 pub use swd_port::{Mark, Transfer};
