@@ -1,5 +1,5 @@
 -- A text that goes out in blocks.
-use Rattle.std.specs.Prelude.{◌≡◌, ℕ, ◌-◌, ◌^◌, ◌<◌, min, Bool, true, false, List, ◌++◌, length, take, Option}
+use Rattle.std.specs.Prelude.{◌≡◌, ℕ, ◌-◌, ◌^◌, ◌<◌, min, Bool, true, false, List, ◌++◌, length, take, Option, Result, Ok, Err}
 use Rattle.std.specs.Io.KnownBytes.{Appends}
 use Rattle.swd_io.specs.declared.block.Block.{Block}
 
@@ -35,3 +35,8 @@ SendsBy true contents start block all = Stopped block.written start (contents bl
 -- the text is on its way to a writer that began with `start`, or the writer failed in it
 abbrev pub Sends : {W : Type 0} → (W → Option (List ℕ)) → Option (List ℕ) → Block W → List ℕ → Type 0
 Sends contents start block all = SendsBy block.failed contents start block all
+
+-- all of the text went out, or exactly its first bytes, as many as are told
+abbrev pub Writes : Result (Unit {0}) ℕ → Option (List ℕ) → Option (List ℕ) → List ℕ → Type 0
+Writes (Ok u) old new text = Appends old new text
+Writes (Err told) old new text = Stopped told old new text

@@ -1,5 +1,5 @@
 -- A text that is read piece by piece.
-use Rattle.std.specs.Prelude.{ℕ, List, ◌++◌, Option, Result, Ok, Err}
+use Rattle.std.specs.Prelude.{◌≡◌, ℕ, List, ◌++◌, Option, Result, Ok, Err, IfSome}
 use Rattle.std.specs.Io.KnownBytes.{Consumes, IsAtEnd}
 use Rattle.swd_io.specs.declared.pieces.Unread.{Unread}
 use Rattle.swd_io.specs.declared.pieces.Unread.TheVariants.{Reader, Consumer}
@@ -8,6 +8,15 @@ use Rattle.swd_io.specs.declared.pieces.Unread.TheVariants.{Reader, Consumer}
 abbrev pub fault_or : {F : Type 0} → Unread F → F → F
 fault_or Reader other = other
 fault_or (Consumer fault) other = fault
+
+-- a text is the reader's, where that is known
+abbrev pub IsText : Option (List ℕ) → List ℕ → Type 0
+IsText known text = IfSome known (λ all. all ≡ text)
+
+-- what the consumer's fault says of a text; a reader that failed says nothing of it
+abbrev pub IsUnread : {F : Type 0} → (F → List ℕ → Type 0) → Unread F → List ℕ → Type 0
+IsUnread Refuses Reader text = Unit {0}
+IsUnread Refuses (Consumer fault) text = Refuses fault text
 
 -- What was read of a reader, all of it or not, led a consumer from one state to another, or made it stop.
 abbrev pub Reads : {C F : Type 0} → (C → List ℕ → C → Type 0) → (C → List ℕ → F → C → Type 0) →

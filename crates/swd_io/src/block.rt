@@ -1,5 +1,5 @@
 //! A block of text on its way to a writer.
-ghost use Rattle.std.specs.Prelude.{◌≡◌, ℕ, ◌-◌, ◌^◌, ◌≤◌, min, List, Option, ◌++◌, length, false, IfOk, IfErr};
+ghost use Rattle.std.specs.Prelude.{◌≡◌, ℕ, ◌-◌, ◌^◌, ◌≤◌, min, List, Option, ◌++◌, ◌∷◌, [], length, false, IfOk, IfErr};
 ghost use Rattle.std.specs.Io.KnownBytes.{Appends};
 ghost use Rattle.swd_io.specs.Blocks.{Sends, Stopped, held_len, is_failed};
 
@@ -100,6 +100,17 @@ impl<'a, W: Write> Block<'a, W> {
         if self.held.len() > SIZE - LONGEST {
             self.send_held();
         }
+    }
+
+    /// Adds a line and its end to the text.
+    pub fn put_line(&mut self, line: &[u8])
+        requires { length line.now ≤ LONGEST }
+        ensures writer { self.new.writer.ghost_name ≡ self.old.writer.ghost_name }
+        ensures sends { (start : Option (List ℕ)) (all : List ℕ) → Sends W.contents start self.old all
+            → Sends W.contents start self.new (all ++ (line.now ++ 10 ∷ [])) }
+    {
+        self.put(line);
+        self.put(b"\n");
     }
 
     /// Adds a piece to the text, and sends what is held where there is no room for it.

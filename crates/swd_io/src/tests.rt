@@ -1,8 +1,8 @@
 //! A text read and sent, with ends that fail once and then go on.
 use crate::{Consumer, Unread, read_pieces, send};
 use std::io;
-use std::io::{Read, Write};
 use std::test::Fail;
+use swd_fakes::{FailingReader, ShortWriter};
 
 // Keeps what it takes, and stops at a full stop.
 #[derive(Drop)]
@@ -35,40 +35,8 @@ impl Consumer<()> for Sentence {
     ghost stops_later = { λ _ _ _ _ _ _ _ _. tt };
 }
 
-// Gives a byte at a read, fails once at the read that is numbered, and then goes on.
-#[derive(Drop)]
-struct Stutter {
-    text: &'static [u8],
-    reads: usize,
-    given: usize,
-    fails_at: usize,
-}
-
-impl Read for Stutter {
-    fn read(&mut self, buf: &mut [u8]) -> io::Result<usize> {
-        let read = self.reads;
-        self.reads = self.reads.saturating_add(1);
-        if read == self.fails_at {
-            return Err(io::Error::from(io::ErrorKind::BrokenPipe));
-        }
-        match (self.text.get(self.given), buf.first_mut()) {
-            (Some(byte), Some(place)) => {
-                *place = *byte;
-                self.given = self.given.saturating_add(1);
-                Ok(1)
-            }
-            _ => Ok(0),
-        }
-    }
-}
-
 fn read_of(rt: &HostRuntime, fails_at: usize) -> (Result<(), Unread<usize>>, Vec<u8>) {
-    let mut reader = Stutter {
-        text: b"one. two",
-        reads: 0,
-        given: 0,
-        fails_at,
-    };
+    let mut reader = FailingReader::new(b"one. two", fails_at);
     let mut sentence = Sentence {
         text: Vec::new(rt.alloc()),
     };
@@ -97,48 +65,11 @@ fn a_consumer_has_its_own_fault(rt: HostRuntime) {
     assert_eq!(rt; Unread::Consumer(3u8).fault_or(7), 3);
 }
 
-// Takes some bytes, fails or takes none once, and then takes all.
-#[derive(Drop)]
-struct Hiccup {
-    taken: Vec<u8>,
-    room: usize,
-    fails: bool,
-    failed: bool,
-}
-
-impl Write for Hiccup {
-    fn write(&mut self, buf: &[u8]) -> io::Result<usize> {
-        if self.failed {
-            self.taken.extend_from_slice(buf)?;
-            return Ok(buf.len());
-        }
-        let left = self.room.saturating_sub(self.taken.len());
-        if left == 0 {
-            self.failed = true;
-            if self.fails {
-                return Err(io::Error::from(io::ErrorKind::BrokenPipe));
-            }
-        }
-        let n = left.min(buf.len());
-        self.taken.extend_from_slice(&buf[..n])?;
-        Ok(n)
-    }
-
-    fn flush(&mut self) -> io::Result<()> {
-        Ok(())
-    }
-}
-
 #[test]
 fn the_error_that_is_told_is_the_writers(rt: HostRuntime) -> Result<(), Fail> {
     for room in 0..5usize {
         for fails in [false, true] {
-            let mut writer = Hiccup {
-                taken: Vec::new(rt.alloc()),
-                room,
-                fails,
-                failed: false,
-            };
+            let mut writer = ShortWriter::new(rt.alloc(), room, fails);
             let unsent = send(&mut writer, b"hello").err().ok_or("all went out")?;
             let kind = if fails {
                 io::ErrorKind::BrokenPipe
@@ -147,7 +78,7 @@ fn the_error_that_is_told_is_the_writers(rt: HostRuntime) -> Result<(), Fail> {
             };
             assert_eq!(rt; unsent.sent, room);
             assert!(rt; unsent.error.kind() == kind);
-            assert_eq!(rt; writer.taken.as_slice().len(), room);
+            assert_eq!(rt; writer.taken().len(), room);
         }
     }
     Ok(())

@@ -1,13 +1,11 @@
 //! The engines on worked texts, with failing readers and writers, and with memory refused.
-mod fakes;
-
 use crate::{EngineFault, TextFault, decode_text, encode_text};
-use fakes::{CountingWriter, FailingReader, ShortWriter, WatchingReader};
 use linked_list_allocator::LocalHeap;
 use std::cell::Cell;
 use std::io::Read;
 use std::test::Fail;
 use swd_bits::{OneFault, one_text};
+use swd_fakes::{CountingWriter, FailingReader, ShortWriter, WatchingReader};
 use swd_trace::ListFault;
 
 // Forty-nine ones and a zero; fifty ones and a zero; a line reset, the switch, and a line reset again.

@@ -1,4 +1,6 @@
-//! Readers and writers that fail once and then go on, so that a second try would show.
+//! Readers and writers for tests: some fail once and then go on, so that a second try would show.
+#![tactic(auto)]
+
 use std::alloc::Global;
 use std::cell::Cell;
 use std::io;
@@ -14,6 +16,7 @@ pub struct FailingReader<'a> {
 }
 
 impl<'a> FailingReader<'a> {
+    /// Nothing was read yet. The first read has the number 0.
     pub fn new(text: &'a [u8], fails_at: usize) -> FailingReader<'a> {
         FailingReader {
             text,
@@ -52,6 +55,7 @@ pub struct ShortWriter {
 }
 
 impl ShortWriter {
+    /// Nothing was taken yet. Where it `fails`, it answers an error once, else it takes no bytes once.
     pub fn new(alloc: Global, room: usize, fails: bool) -> ShortWriter {
         ShortWriter {
             taken: Vec::new(alloc),
@@ -61,6 +65,7 @@ impl ShortWriter {
         }
     }
 
+    /// The bytes that it took.
     pub fn taken(&self) -> &[u8] {
         self.taken.as_slice()
     }
@@ -99,6 +104,7 @@ pub struct WatchingReader<'a> {
 }
 
 impl<'a> WatchingReader<'a> {
+    /// Nothing was read yet. The writer keeps its count in `taken`.
     pub fn new(alloc: Global, text: &'a [u8], taken: &'a Cell<usize>) -> WatchingReader<'a> {
         WatchingReader {
             text,
@@ -125,6 +131,7 @@ impl<'a> Read for WatchingReader<'a> {
 /// Counts the bytes that it takes.
 #[derive(Drop)]
 pub struct CountingWriter<'a> {
+    /// How many bytes it took.
     pub taken: &'a Cell<usize>,
 }
 
