@@ -4,3 +4,4 @@ pub mod ScanLemmas
 pub mod ReadLemmas
 pub mod ScriptLemmas
 pub mod WorkedTexts
+pub mod TextLaws

@@ -1,14 +1,10 @@
 -- The definitions at worked texts.
 use Rattle.std.proofs.Common.{◌≡◌, ℕ, List, [], ◌∷◌, ◌++◌, refl, Ok, Err, Result}
 use Rattle.std.specs.Prelude.{codes, replicate}
-use Rattle.swd_bits.specs.Listing.{hex2, hex8}
 use Rattle.swd_port.specs.declared.access.Access.TheVariants.{Read, Write}
-use Rattle.swd_port.specs.declared.access.Answer.TheVariants.{Value, Written, BusFault}
 use Rattle.swd_port.specs.declared.mark.Mark.TheVariants.{Clean, Wait, Flip, Deaf, Mute}
 use Rattle.swd_script.specs.declared.fault.ScriptFault.TheVariants.{Word, Number, Range, NoMemoryLine}
-use Rattle.swd_script.specs.declared.report.LastLine.TheVariants.{WrongId}
 use Rattle.swd_script.specs.Plans.{plan_of}
-use Rattle.swd_script.specs.Reports.{report_text}
 use Rattle.swd_script.specs.Scripts.{script_of, reads}
 
 -- a line and its line feed
@@ -88,8 +84,3 @@ no_plan = refl
 
 place_past_the_phase : plan_of (codes "flip 33") ≡ Err (Range 1)
 place_past_the_phase = refl
-
-report : report_text (Write 536870912 3735928559 ∷ Read 536870912 ∷ Read 805306368 ∷ []) (Written ∷ Value 3735928559 ∷ BusFault ∷ []) (WrongId 731911286) ≡
-    fed (codes "w 20000000 written") ++ fed (codes "r 20000000 deadbeef") ++ fed (codes "r 30000000 busfault") ++ fed (codes "end id 2ba01476")
-unfolding fed hex8 hex2
-report = refl

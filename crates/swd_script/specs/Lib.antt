@@ -6,4 +6,4 @@ pub mod Plans
 pub mod Words
 pub mod Scans
 pub mod Readers
-pub mod Reports
+pub mod Laws

@@ -103,3 +103,17 @@ IsPlanFault (NumberAt number) text = plan_of text ≡ Err (NumberAt number)
 IsPlanFault (RangeAt number) text = plan_of text ≡ Err (RangeAt number)
 IsPlanFault (NoMemoryLineAt number) text = plan_of text ≡ Err (NoMemoryLineAt number)
 IsPlanFault (MemoryAt number) text = RunsOut plan_line [] text number
+
+-- these are the bytes that were taken
+abbrev pub HasReadScript : {A : Type 0} → Unit {0} → ScriptReader A × Unit {0} → List ℕ → Type 0
+HasReadScript u state seen = ReadsScript state.0 seen
+
+abbrev pub HasReadPlan : {A : Type 0} → Unit {0} → PlanReader A × Unit {0} → List ℕ → Type 0
+HasReadPlan u state seen = ReadsPlan state.0 seen
+
+-- whatever follows, the text has this fault
+abbrev pub RefusesScript : {A : Type 0} → Unit {0} → ScriptReader A × Unit {0} → ScriptFault → List ℕ → Type 0
+RefusesScript u state fault text = (more : List ℕ) → IsScriptFault fault (text ++ more)
+
+abbrev pub RefusesPlan : {A : Type 0} → Unit {0} → PlanReader A × Unit {0} → ScriptFault → List ℕ → Type 0
+RefusesPlan u state fault text = (more : List ℕ) → IsPlanFault fault (text ++ more)

@@ -1,22 +1,20 @@
-//! Texts of a run: the script with its accesses, the plan of what befalls the requests, and the
-//! report.
+//! Texts of a run: the script with its accesses, and the plan of what befalls the requests.
 #![tactic(auto)]
 
 mod command;
 mod draft;
 mod fault;
+pub mod laws;
 mod line_scan;
 mod lines;
 mod numeral;
 mod plan;
-mod report;
 mod script;
 mod words;
 
 pub use fault::ScriptFault;
-pub use plan::PlanReader;
-pub use report::{LastLine, ReportLine, answer_line, last_line};
-pub use script::{Script, ScriptReader};
+pub use plan::{PlanReader, read_plan};
+pub use script::{Script, ScriptReader, read_script};
 
 #[cfg(test)]
 mod tests;

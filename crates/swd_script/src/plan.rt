@@ -1,8 +1,9 @@
 //! Plans: what befalls each request.
-ghost use Rattle.std.specs.Prelude.{◌≡◌, ◌++◌, ◌∷◌, [], ℕ, List, Some, Ok, OnOk, IfErr, IfOk};
+ghost use Rattle.std.specs.Prelude.{◌≡◌, ◌++◌, ◌∷◌, [], ℕ, List, Some, Ok, OnOk, IfErr, IfOk, IfSome};
+ghost use Rattle.swd_io.specs.Pieces.{IsText, IsUnread};
 ghost use Rattle.swd_script.specs.Numerals.{decimal_of as decimal_in};
 ghost use Rattle.swd_script.specs.Plans.{bare_mark, mark_of, place_below, placed_mark, plan_line, plan_of};
-ghost use Rattle.swd_script.specs.Readers.{IsFaultOf};
+ghost use Rattle.swd_script.specs.Readers.{IsFaultOf, IsPlanFault};
 ghost use Rattle.swd_script.specs.Words.{texts};
 
 use crate::fault::{LineFault, ScriptFault};
@@ -10,9 +11,12 @@ use crate::lines::Lines;
 use crate::numeral::decimal_of;
 use crate::words::Word;
 use std::alloc::Allocator;
+use std::io::Read;
+use swd_io::{Consumer, Unread, read_pieces};
 use swd_port::Mark;
 
-/// Reads a plan, which comes in pieces.
+/// Reads a plan, which comes in pieces (`Consumer::take`). At the first fault of the text it stops,
+/// whatever follows the piece.
 ///
 /// However long a line is, the reader holds a few bytes of it, beside the marks of the lines before.
 #[derive(Drop)]
@@ -22,7 +26,7 @@ pub struct PlanReader<A: Allocator> {
 }
 
 impl<A: Allocator> PlanReader<A> {
-    ghost use Rattle.swd_script.specs.Readers.{IsPlanFault, ReadsPlan};
+    ghost use Rattle.swd_script.specs.Readers.{ReadsPlan};
 
     /// A reader that has read nothing.
     pub fn new(alloc: A) -> PlanReader<A>
@@ -32,26 +36,6 @@ impl<A: Allocator> PlanReader<A> {
             lines: Lines::new(),
             marks: Vec::new(alloc),
         }
-    }
-
-    /// Reads the next piece of the text.
-    ///
-    /// # Errors
-    ///
-    /// The first fault of the text, whatever follows the piece. `Memory` where the list of marks
-    /// could not grow, which is not tried again.
-    pub fn piece(mut self, piece: &[u8]) -> Result<PlanReader<A>, ScriptFault>
-        ensures ok { IfOk result (λ reader. (seen : List ℕ) → ReadsPlan self seen
-            → ReadsPlan reader (seen ++ piece.now)) }
-        ensures err { IfErr result (λ fault. (seen more : List ℕ) → ReadsPlan self seen
-            → IsPlanFault fault ((seen ++ piece.now) ++ more)) }
-    {
-        for byte in piece {
-            if let Err(fault) = self.byte(*byte) {
-                return Err(fault);
-            }
-        }
-        Ok(self)
     }
 
     // Takes a byte. After an `Err` nothing is known of what is kept.
@@ -95,6 +79,61 @@ impl<A: Allocator> PlanReader<A> {
             Ok(()) => Ok(marks),
             Err(fault) => Err(fault.at(line)),
         }
+    }
+}
+
+impl<A: Allocator> Consumer<()> for PlanReader<A> {
+    ghost use Rattle.swd_io.specs.Pieces.{LeadsOn, LeadsToEnd};
+    ghost use Rattle.swd_io.proofs.PieceLemmas.{leads_nowhere, leads_further, leads_to_later_end};
+    ghost use Rattle.swd_script.specs.Readers.{HasReadPlan, RefusesPlan};
+
+    type Fault = ScriptFault;
+
+    ghost can_take = { λ _. Unit {0} };
+
+    ghost takes = { LeadsOn HasReadPlan };
+
+    ghost stops = { LeadsToEnd HasReadPlan RefusesPlan };
+
+    // Takes the next piece of the text. After an `Err` nothing is known of what is kept.
+    fn take(&mut self, _writer: &mut (), piece: &[u8]) -> Result<(), ScriptFault> {
+        for byte in piece {
+            if let Err(fault) = self.byte(*byte) {
+                return Err(fault);
+            }
+        }
+        Ok(())
+    }
+
+    ghost takes_nothing = { leads_nowhere HasReadPlan };
+
+    ghost takes_on = { leads_further HasReadPlan };
+
+    ghost stops_later = { leads_to_later_end HasReadPlan RefusesPlan };
+}
+
+/// The plan that a reader gives, which is read to its end or up to the first fault. Nothing is tried
+/// again.
+///
+/// # Errors
+///
+/// The first fault of the text. `Memory` where the list of marks could not grow. `Reader` where the
+/// reader failed, or did not end within 2^64 - 1 reads.
+pub fn read_plan<R: Read, A: Allocator>(
+    alloc: A,
+    reader: &mut R,
+) -> Result<Vec<Mark, A>, Unread<ScriptFault>>
+    ensures ok { IfOk result (λ marks.
+        (text : List ℕ) × IsText (R.remaining reader.old) text × (plan_of text ≡ Ok marks.items)) }
+    ensures err { IfErr result (λ unread. IfSome (R.remaining reader.old) (IsUnread IsPlanFault unread)) }
+{
+    let mut plan = PlanReader::new(alloc);
+    match read_pieces(reader, &mut (), &mut plan) {
+        Ok(()) => match plan.finish() {
+            Ok(marks) => Ok(marks),
+            Err(fault) => Err(Unread::Consumer(fault)),
+        },
+        Err(unread) => Err(unread),
     }
 }
 

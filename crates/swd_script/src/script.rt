@@ -1,11 +1,15 @@
 //! Scripts: a memory, and accesses of it.
-ghost use Rattle.std.specs.Prelude.{◌≡◌, ◌++◌, ◌∷◌, [], ℕ, List, Ok, OnOk, IfErr, IfOk};
+ghost use Rattle.std.specs.Prelude.{◌≡◌, ◌++◌, ◌∷◌, [], ℕ, List, Ok, OnOk, IfErr, IfOk, IfSome};
+ghost use Rattle.swd_io.specs.Pieces.{IsText, IsUnread};
+ghost use Rattle.swd_script.specs.Readers.{IsScriptFault, meaning};
 ghost use Rattle.swd_script.specs.Scripts.{script_of};
 
 use crate::draft::Draft;
 use crate::fault::ScriptFault;
 use crate::lines::Lines;
 use std::alloc::Allocator;
+use std::io::Read;
+use swd_io::{Consumer, Unread, read_pieces};
 use swd_port::Access;
 
 /// What a script says.
@@ -21,7 +25,8 @@ pub struct Script<A: Allocator> {
     pub accesses: Vec<Access, A>,
 }
 
-/// Reads a script, which comes in pieces.
+/// Reads a script, which comes in pieces (`Consumer::take`). At the first fault of the text it stops,
+/// whatever follows the piece.
 ///
 /// However long a line is, the reader holds a few bytes of it, beside the accesses of the lines
 /// before.
@@ -32,7 +37,7 @@ pub struct ScriptReader<A: Allocator> {
 }
 
 impl<A: Allocator> ScriptReader<A> {
-    ghost use Rattle.swd_script.specs.Readers.{IsScriptFault, ReadsScript, meaning};
+    ghost use Rattle.swd_script.specs.Readers.{ReadsScript};
 
     /// A reader that has read nothing.
     pub fn new(alloc: A) -> ScriptReader<A>
@@ -42,26 +47,6 @@ impl<A: Allocator> ScriptReader<A> {
             lines: Lines::new(),
             draft: Draft::new(alloc),
         }
-    }
-
-    /// Reads the next piece of the text.
-    ///
-    /// # Errors
-    ///
-    /// The first fault of the text, whatever follows the piece. `Memory` where the list of accesses
-    /// could not grow, which is not tried again.
-    pub fn piece(mut self, piece: &[u8]) -> Result<ScriptReader<A>, ScriptFault>
-        ensures ok { IfOk result (λ reader. (seen : List ℕ) → ReadsScript self seen
-            → ReadsScript reader (seen ++ piece.now)) }
-        ensures err { IfErr result (λ fault. (seen more : List ℕ) → ReadsScript self seen
-            → IsScriptFault fault ((seen ++ piece.now) ++ more)) }
-    {
-        for byte in piece {
-            if let Err(fault) = self.byte(*byte) {
-                return Err(fault);
-            }
-        }
-        Ok(self)
     }
 
     // Takes a byte. After an `Err` nothing is known of what is kept.
@@ -105,5 +90,60 @@ impl<A: Allocator> ScriptReader<A> {
             Ok(()) => draft.finish(),
             Err(fault) => Err(fault.at(line)),
         }
+    }
+}
+
+impl<A: Allocator> Consumer<()> for ScriptReader<A> {
+    ghost use Rattle.swd_io.specs.Pieces.{LeadsOn, LeadsToEnd};
+    ghost use Rattle.swd_io.proofs.PieceLemmas.{leads_nowhere, leads_further, leads_to_later_end};
+    ghost use Rattle.swd_script.specs.Readers.{HasReadScript, RefusesScript};
+
+    type Fault = ScriptFault;
+
+    ghost can_take = { λ _. Unit {0} };
+
+    ghost takes = { LeadsOn HasReadScript };
+
+    ghost stops = { LeadsToEnd HasReadScript RefusesScript };
+
+    // Takes the next piece of the text. After an `Err` nothing is known of what is kept.
+    fn take(&mut self, _writer: &mut (), piece: &[u8]) -> Result<(), ScriptFault> {
+        for byte in piece {
+            if let Err(fault) = self.byte(*byte) {
+                return Err(fault);
+            }
+        }
+        Ok(())
+    }
+
+    ghost takes_nothing = { leads_nowhere HasReadScript };
+
+    ghost takes_on = { leads_further HasReadScript };
+
+    ghost stops_later = { leads_to_later_end HasReadScript RefusesScript };
+}
+
+/// The script that a reader gives, which is read to its end or up to the first fault. Nothing is
+/// tried again.
+///
+/// # Errors
+///
+/// The first fault of the text. `Memory` where the list of accesses could not grow. `Reader` where
+/// the reader failed, or did not end within 2^64 - 1 reads.
+pub fn read_script<R: Read, A: Allocator>(
+    alloc: A,
+    reader: &mut R,
+) -> Result<Script<A>, Unread<ScriptFault>>
+    ensures ok { IfOk result (λ script.
+        (text : List ℕ) × IsText (R.remaining reader.old) text × (script_of text ≡ Ok (meaning script))) }
+    ensures err { IfErr result (λ unread. IfSome (R.remaining reader.old) (IsUnread IsScriptFault unread)) }
+{
+    let mut script = ScriptReader::new(alloc);
+    match read_pieces(reader, &mut (), &mut script) {
+        Ok(()) => match script.finish() {
+            Ok(script) => Ok(script),
+            Err(fault) => Err(Unread::Consumer(fault)),
+        },
+        Err(unread) => Err(unread),
     }
 }

@@ -1,22 +1,27 @@
-//! Scripts, plans and report lines on worked texts, for every cut, and with memory refused.
-use crate::{LastLine, PlanReader, Script, ScriptFault, ScriptReader, answer_line, last_line};
+//! Scripts and plans on worked texts, for every cut, and with memory refused.
+use crate::{PlanReader, Script, ScriptFault, ScriptReader};
 use linked_list_allocator::LocalHeap;
 use std::alloc::{Allocator, Global};
 use std::test::Fail;
-use swd_port::{Access, Answer, Mark};
+use swd_io::Consumer;
+use swd_port::{Access, Mark};
 
 // The script that a text in two pieces says.
 fn script_in<A: Allocator>(alloc: A, text: &[u8], cut: usize) -> Result<Script<A>, ScriptFault> {
     let cut = cut.min(text.len());
-    let reader = ScriptReader::new(alloc).piece(&text[..cut])?;
-    reader.piece(&text[cut..])?.finish()
+    let mut reader = ScriptReader::new(alloc);
+    reader.take(&mut (), &text[..cut])?;
+    reader.take(&mut (), &text[cut..])?;
+    reader.finish()
 }
 
 // The marks that a text in two pieces says.
 fn plan_in<A: Allocator>(alloc: A, text: &[u8], cut: usize) -> Result<Vec<Mark, A>, ScriptFault> {
     let cut = cut.min(text.len());
-    let reader = PlanReader::new(alloc).piece(&text[..cut])?;
-    reader.piece(&text[cut..])?.finish()
+    let mut reader = PlanReader::new(alloc);
+    reader.take(&mut (), &text[..cut])?;
+    reader.take(&mut (), &text[cut..])?;
+    reader.finish()
 }
 
 fn script_fault(alloc: Global, text: &[u8]) -> Option<ScriptFault> {
@@ -334,28 +339,31 @@ fn a_script_has_at_most_65536_accesses(rt: HostRuntime) -> Result<(), Fail> {
         script_fault(rt.alloc(), b"memory 0 1\nw 0 0\nrn 0 65536\n".as_slice()),
         Some(ScriptFault::Range { line: 3 })
     );
-    let mut reader = ScriptReader::new(rt.alloc()).piece(b"memory 0 1\n".as_slice())?;
+    let mut reader = ScriptReader::new(rt.alloc());
+    reader.take(&mut (), b"memory 0 1\n".as_slice())?;
     for _ in 0..65536u32 {
-        reader = reader.piece(b"r 4\n".as_slice())?;
+        reader.take(&mut (), b"r 4\n".as_slice())?;
     }
-    match reader.piece(b"w 0 0\n".as_slice()) {
-        Ok(_) => assert!(rt; false),
-        Err(fault) => assert_eq!(rt; fault, ScriptFault::Range { line: 65538 }),
-    }
+    assert_eq!(rt;
+        reader.take(&mut (), b"w 0 0\n".as_slice()),
+        Err(ScriptFault::Range { line: 65538 })
+    );
     Ok(())
 }
 
 #[test]
 fn a_long_line_is_read(rt: HostRuntime) -> Result<(), Fail> {
-    let mut reader = ScriptReader::new(rt.alloc()).piece(b"memory 0 1 #".as_slice())?;
+    let mut reader = ScriptReader::new(rt.alloc());
+    reader.take(&mut (), b"memory 0 1 #".as_slice())?;
     for _ in 0..1000u32 {
-        reader = reader.piece([b'x'; 1000].as_slice())?;
+        reader.take(&mut (), [b'x'; 1000].as_slice())?;
     }
-    reader = reader.piece(b"\nr".as_slice())?;
+    reader.take(&mut (), b"\nr".as_slice())?;
     for _ in 0..1000u32 {
-        reader = reader.piece([b' '; 1000].as_slice())?;
+        reader.take(&mut (), [b' '; 1000].as_slice())?;
     }
-    let script = reader.piece(b"8".as_slice())?.finish()?;
+    reader.take(&mut (), b"8".as_slice())?;
+    let script = reader.finish()?;
     assert_eq!(rt; script.accesses.as_slice(), [Access::Read(8)].as_slice());
     Ok(())
 }
@@ -451,21 +459,22 @@ fn each_growth_of_a_script_is_refused(rt: HostRuntime) -> Result<(), Fail> {
     Ok(())
 }
 
+// A plan of so many lines, a piece each.
+fn quiet_plan<A: Allocator>(alloc: A, lines: u32) -> Result<Vec<Mark, A>, ScriptFault> {
+    let mut reader = PlanReader::new(alloc);
+    for _ in 0..lines {
+        reader.take(&mut (), b".\n".as_slice())?;
+    }
+    reader.finish()
+}
+
 #[test]
 fn each_growth_of_a_plan_is_refused(rt: HostRuntime) -> Result<(), Fail> {
-    let text = [b".\n"; 40];
     let mut refused = 0u32;
     for size in 1..100usize {
         let heap = LocalHeap::new(rt.alloc(), size * 16)?;
-        let mut reader = Ok(PlanReader::new(&heap));
-        for line in text {
-            reader = match reader {
-                Ok(reader) => reader.piece(line.as_slice()),
-                Err(fault) => Err(fault),
-            };
-        }
-        match reader {
-            Ok(reader) => assert_eq!(rt; reader.finish()?.len(), 40),
+        match quiet_plan(&heap, 40) {
+            Ok(marks) => assert_eq!(rt; marks.len(), 40),
             Err(ScriptFault::Memory { line }) => {
                 assert!(rt; line <= 40);
                 refused = refused.saturating_add(1);
@@ -494,64 +503,4 @@ fn faults_are_told_with_their_lines(rt: HostRuntime) -> Result<(), Fail> {
         assert_eq!(rt; told.as_str(), text);
     }
     Ok(())
-}
-
-#[test]
-fn answers_and_ends_have_their_lines(rt: HostRuntime) {
-    for (access, answer, text) in [
-        (
-            Access::Write(0x2000_0000, 0xdead_beef),
-            Answer::Written,
-            "w 20000000 written",
-        ),
-        (
-            Access::Read(0x2000_0000),
-            Answer::Value(0xdead_beef),
-            "r 20000000 deadbeef",
-        ),
-        (
-            Access::Read(0x2000_0004),
-            Answer::Value(0),
-            "r 20000004 00000000",
-        ),
-        (
-            Access::Read(0x3000_0000),
-            Answer::BusFault,
-            "r 30000000 busfault",
-        ),
-        (
-            Access::Write(0x3000_0000, 1),
-            Answer::BusFault,
-            "w 30000000 busfault",
-        ),
-    ] {
-        assert_eq!(rt; answer_line(&access, &answer).as_str(), text);
-    }
-    for (last, text) in [
-        (LastLine::All { answered: 4 }, "end all 4"),
-        (
-            LastLine::Lost {
-                answered: 0,
-                begun: 1,
-            },
-            "end lost 0 begun 1",
-        ),
-        (
-            LastLine::TriesOut {
-                answered: 0,
-                begun: 1,
-            },
-            "end tries 0 begun 1",
-        ),
-        (LastLine::WrongId { word: 0x2ba0_1476 }, "end id 2ba01476"),
-        (
-            LastLine::Confused {
-                answered: 65536,
-                begun: 2,
-            },
-            "end confused 65536 begun 2",
-        ),
-    ] {
-        assert_eq!(rt; last_line(&last).as_str(), text);
-    }
 }

@@ -8,7 +8,7 @@ use Rattle.swd_trace.specs.Listed.{lines, Lists, IsNormal, Refuses}
 use Rattle.swd_trace.specs.Texts.{trace_text}
 use Rattle.swd_io.specs.Blocks.{Stopped}
 use Rattle.swd_text.specs.declared.fault.EngineFault.{EngineFault}
-use Rattle.swd_text.specs.declared.fault.EngineFault.TheVariants.{Text, List as Listing, Read, Write, Memory}
+use Rattle.swd_text.specs.declared.fault.EngineFault.TheVariants.{Script, Plan, Text, List as Listing, Read, Write, Memory}
 
 -- the text lists these items, and the list is normal: it is the reading of its own bits
 pub record ListsNormal (items : List Item) (text : List ℕ) : Type 0 where
@@ -30,6 +30,8 @@ Encodes (Err Read) text old new = Appends old new []
 Encodes (Err Memory) text old new = Appends old new []
 Encodes (Err (Write told)) text old new = (items : List Item) × IfSome text (ListsNormal items) × Stopped told old new (trace_text items)
 Encodes (Err (Text fault)) text old new = ⊥
+Encodes (Err (Script fault)) text old new = ⊥
+Encodes (Err (Plan fault)) text old new = ⊥
 
 -- a fault of the listing is told as that, one of its reader or its memory as such
 abbrev pub fault_in : ListFault → EngineFault
@@ -37,8 +39,3 @@ fault_in (BadLine line) = Listing (BadLine line)
 fault_in (NotNormal line) = Listing (NotNormal line)
 fault_in ListMemory = Memory
 fault_in ListRead = Read
-
--- all of the text went out, or exactly its first bytes, as many as are told
-abbrev pub Writes : Result (Unit {0}) ℕ → Option (List ℕ) → Option (List ℕ) → List ℕ → Type 0
-Writes (Ok u) old new text = Appends old new text
-Writes (Err told) old new text = Stopped told old new text

@@ -1,10 +1,10 @@
 //! The engine of `swd encode`: a listing to its trace text.
 ghost use Rattle.std.specs.Prelude.{◌≡◌, ℕ, List, ◌++◌, Option, IfSome};
-ghost use Rattle.swd_io.specs.Blocks.{Sends};
+ghost use Rattle.swd_io.specs.Blocks.{Sends, Writes};
 ghost use Rattle.swd_trace.specs.Listed.{IsLegal};
 ghost use Rattle.swd_trace.specs.Listed.{AreLegal};
 ghost use Rattle.swd_trace.specs.Texts.{item_text, trace_text};
-ghost use Rattle.swd_text.specs.Encoding.{Encodes, Writes, fault_in};
+ghost use Rattle.swd_text.specs.Encoding.{Encodes, fault_in};
 
 use crate::fault::EngineFault;
 use std::alloc::Allocator;

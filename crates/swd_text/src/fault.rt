@@ -1,4 +1,5 @@
 //! Why a text engine stopped.
+use swd_script::ScriptFault;
 use swd_trace::ListFault;
 use thiserror::Error;
 
@@ -17,6 +18,12 @@ pub enum TextFault {
 /// Why a text engine stopped.
 #[derive(Clone, Copy, Debug, PartialEq, Eq, Error)]
 pub enum EngineFault {
+    /// The script is at fault.
+    #[error("script {0}")]
+    Script(ScriptFault),
+    /// The plan is at fault.
+    #[error("plan {0}")]
+    Plan(ScriptFault),
     /// The trace text is at fault.
     #[error(transparent)]
     Text(TextFault),

@@ -35,8 +35,7 @@ fn put_line<W: Write>(block: &mut Block<'_, W>, item: &Item)
         → Sends W.contents start block.new (all ++ (item_line item.now ++ 10 ∷ [])) }
     ensures writer { block.new.writer.ghost_name ≡ block.old.writer.ghost_name }
 {
-    block.put(item.line().as_str().as_bytes());
-    block.put(b"\n");
+    block.put_line(item.line().as_str().as_bytes());
 }
 
 impl Lister {

@@ -1,13 +1,14 @@
 -- The report of a run: a line for each answer, and one for how the run ended. The text is this project's choice.
-use Rattle.std.specs.Prelude.{ℕ, List, [], ◌∷◌, ◌++◌, codes}
+use Rattle.std.specs.Prelude.{ℕ, List, [], ◌∷◌, ◌++◌, length, codes}
 use Rattle.std.specs.Fmt.{decimal}
 use Rattle.swd_bits.specs.Listing.{hex8}
 use Rattle.swd_port.specs.declared.access.Access.{Access}
 use Rattle.swd_port.specs.declared.access.Access.TheVariants.{Read, Write}
 use Rattle.swd_port.specs.declared.access.Answer.{Answer}
 use Rattle.swd_port.specs.declared.access.Answer.TheVariants.{Value, Written, BusFault}
-use Rattle.swd_script.specs.declared.report.LastLine.{LastLine}
-use Rattle.swd_script.specs.declared.report.LastLine.TheVariants.{All, Lost, TriesOut, WrongId, Confused}
+use Rattle.swd_host.specs.declared.outcome.End.{End}
+use Rattle.swd_host.specs.declared.outcome.End.TheVariants.{All, Lost, TriesOut, WrongId, Confused}
+use Rattle.swd_host.specs.Reports.{Told}
 
 abbrev pub access_text : Access → List ℕ
 access_text (Read addr) = codes "r " ++ hex8 addr
@@ -26,13 +27,13 @@ answer_line access answer = access_text access ++ codes " " ++ answer_text answe
 abbrev pub stop_text : ℕ → ℕ → List ℕ
 stop_text answered begun = decimal answered ++ codes " begun " ++ decimal begun
 
--- the last line, without its end
-abbrev pub last_line : LastLine → List ℕ
-last_line (All answered) = codes "end all " ++ decimal answered
-last_line (Lost answered begun) = codes "end lost " ++ stop_text answered begun
-last_line (TriesOut answered begun) = codes "end tries " ++ stop_text answered begun
-last_line (WrongId word) = codes "end id " ++ hex8 word
-last_line (Confused answered begun) = codes "end confused " ++ stop_text answered begun
+-- the line of how a run ended, without its end
+abbrev pub last_line : End → ℕ → ℕ → List ℕ
+last_line All answered begun = codes "end all " ++ decimal answered
+last_line Lost answered begun = codes "end lost " ++ stop_text answered begun
+last_line TriesOut answered begun = codes "end tries " ++ stop_text answered begun
+last_line (WrongId word) answered begun = codes "end id " ++ hex8 word
+last_line Confused answered begun = codes "end confused " ++ stop_text answered begun
 
 -- the lines of the accesses that have answers, each with its end
 abbrev pub answer_lines : List Access → List Answer → List ℕ
@@ -41,6 +42,7 @@ answer_lines (access ∷ accesses) [] = []
 answer_lines (access ∷ accesses) (answer ∷ answers) =
     (answer_line access answer ++ 10 ∷ []) ++ answer_lines accesses answers
 
--- a whole report, over the accesses that were asked for
-abbrev pub report_text : List Access → List Answer → LastLine → List ℕ
-report_text accesses answers last = answer_lines accesses answers ++ last_line last ++ 10 ∷ []
+-- the text of a report, over the accesses that were asked for
+abbrev pub report_text : List Access → Told → List ℕ
+report_text accesses told =
+    answer_lines accesses told.answers ++ (last_line told.ended (length told.answers) told.begun ++ 10 ∷ [])

@@ -1,10 +1,11 @@
 use Rattle.std.proofs.Common.{suc, ◌++◌, take, drop, subst}
-use Rattle.swd_script.specs.Readers.{IsScriptFault}
-use Rattle.swd_script.proofs.ReadLemmas.{parted}
-use Rattle.swd_script.proofs.script.ScriptReader.piece.Goals as goal
+use Rattle.std.proofs.lemmas.List.{take_all}
+use Rattle.swd_script.specs.Readers.{IsScriptFault, ReadsScript}
+use Rattle.swd_script.proofs.ReadLemmas.{next_of, parted}
+use Rattle.swd_script.proofs.script.ScriptReaderConsumerUnit.take.Goals as goal
 
 pub returns-in-Err-clause-err : goal.returns-in-Err-clause-err
-returns-in-Err-clause-err g c = λ seen more r.
+returns-in-Err-clause-err g c = λ u seen r more.
     let piece = c.args.piece.now in
     let i = c.loop-byte.byte-index in
     subst (IsScriptFault c.in-Err.fault) (parted seen piece more i c.loop-byte-test.true)

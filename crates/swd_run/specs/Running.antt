@@ -1,0 +1,89 @@
+-- What an answer to a script and a plan says: the theorem of the host, over texts.
+use Rattle.std.specs.Prelude.{◌≡◌, ℕ, ◌+◌, ◌*◌, ◌<◌, ◌≤◌, List, [], length, Option, Result, Ok, Err, IfSome, IsOk}
+use Rattle.std.specs.Io.KnownBytes.{Appends}
+use Rattle.swd_io.specs.Blocks.{Stopped}
+use Rattle.swd_io.specs.Pieces.{IsText}
+use Rattle.swd_io.specs.declared.pieces.Unread.{Unread}
+use Rattle.swd_io.specs.declared.pieces.Unread.TheVariants.{Reader, Consumer}
+use Rattle.swd_port.specs.declared.mark.Mark.{Mark}
+use Rattle.swd_port.specs.Choices.{disturbed_among, lost_among}
+use Rattle.swd_port.specs.PlainMemory.{PlainMemory}
+use Rattle.swd_target.specs.MemoryWords.{zero_memory}
+use Rattle.swd_host.specs.declared.outcome.End.{End}
+use Rattle.swd_host.specs.declared.outcome.End.TheVariants.{All, Lost, TriesOut, WrongId, Confused}
+use Rattle.swd_host.specs.Reports.{Told, Fits}
+use Rattle.swd_script.specs.Scripts.{Meaning, script_of}
+use Rattle.swd_script.specs.Plans.{plan_of}
+use Rattle.swd_script.specs.Readers.{IsScriptFault, IsPlanFault}
+use Rattle.swd_script.specs.declared.fault.ScriptFault.{ScriptFault}
+use Rattle.swd_text.specs.declared.fault.EngineFault.{EngineFault}
+use Rattle.swd_text.specs.declared.fault.EngineFault.TheVariants.{Script, Plan, Text, List as Listing, Read, Write, Memory}
+use Rattle.swd_run.specs.Reports.{report_text}
+
+-- the memory of a script, before its run
+abbrev pub memory_of : Meaning → PlainMemory
+memory_of script = zero_memory script.base script.words script.room
+
+-- a run stops early only where the plan loses a request, or disturbs more than the tries allow
+abbrev pub IsExcused : End → ℕ → List Mark → Type 0
+IsExcused All tries marks = Unit {0}
+IsExcused Lost tries marks = 0 < lost_among marks
+IsExcused TriesOut tries marks = tries < disturbed_among marks
+IsExcused (WrongId word) tries marks = ⊥
+IsExcused Confused tries marks = ⊥
+
+-- What a run of a script under a plan comes to. The report fits the plain memory of the script, and that after the run.
+pub record RunsAs (tries : ℕ) (script : Meaning) (marks : List Mark) (told : Told) : Type 0 where
+  pub memory : PlainMemory
+  pub fits : Fits 1 script.accesses (memory_of script) told memory
+  pub excused : IsExcused told.ended tries marks
+  pub whole : lost_among marks ≡ 0 → disturbed_among marks ≤ tries → told.ended ≡ All
+  pub least : told.ended ≡ All → 9 + length script.accesses ≤ told.requests
+  pub most : told.requests ≤ 9 + 6 * length script.accesses + 5 * disturbed_among marks
+
+-- the readers' texts are a script and a plan, and a run of them came to a report
+pub record Ran (tries : ℕ) (script plan : Option (List ℕ)) : Type 0 where
+  pub script_text : List ℕ
+  pub is_script : IsText script script_text
+  pub meaning : Meaning
+  pub means : script_of script_text ≡ Ok meaning
+  pub plan_text : List ℕ
+  pub is_plan : IsText plan plan_text
+  pub marks : List Mark
+  pub plans : plan_of plan_text ≡ Ok marks
+  pub told : Told
+  pub runs : RunsAs tries meaning marks told
+
+-- the text of its report
+abbrev pub report_of : {tries : ℕ} {script plan : Option (List ℕ)} → Ran tries script plan → List ℕ
+report_of ran = report_text ran.meaning.accesses ran.told
+
+-- the text, where it is known, is a script, or a plan
+abbrev pub IsScript : Option (List ℕ) → Type 0
+IsScript known = IfSome known (λ text. IsOk (script_of text))
+
+abbrev pub IsPlan : Option (List ℕ) → Type 0
+IsPlan known = IfSome known (λ text. IsOk (plan_of text))
+
+-- What an answer says of the readers' texts, where their bytes are known, and of what the writer holds before and after.
+abbrev pub RunsText : ℕ → Result End EngineFault → Option (List ℕ) → Option (List ℕ) → Option (List ℕ) → Option (List ℕ) → Type 0
+RunsText tries (Ok ended) script plan old new =
+    (ran : Ran tries script plan) × (ended ≡ ran.told.ended) × Appends old new (report_of ran)
+RunsText tries (Err (Write written)) script plan old new =
+    (ran : Ran tries script plan) × Stopped written old new (report_of ran)
+RunsText tries (Err (Script fault)) script plan old new = IfSome script (IsScriptFault fault) × Appends old new []
+RunsText tries (Err (Plan fault)) script plan old new =
+    IsScript script × IfSome plan (IsPlanFault fault) × Appends old new []
+RunsText tries (Err Read) script plan old new = Appends old new []
+RunsText tries (Err Memory) script plan old new = IsScript script × IsPlan plan × Appends old new []
+RunsText tries (Err (Text fault)) script plan old new = ⊥
+RunsText tries (Err (Listing fault)) script plan old new = ⊥
+
+-- a fault of a script, or of its reader
+abbrev pub script_fault : Unread ScriptFault → EngineFault
+script_fault Reader = Read
+script_fault (Consumer fault) = Script fault
+
+abbrev pub plan_fault : Unread ScriptFault → EngineFault
+plan_fault Reader = Read
+plan_fault (Consumer fault) = Plan fault

@@ -1,0 +1,133 @@
+//! The report of a run, as text.
+ghost use Rattle.std.specs.Prelude.{◌≡◌, ℕ, ◌+◌, ◌≤◌, List, ◌++◌, Option};
+ghost use Rattle.std.specs.Fmt.{decimal};
+ghost use Rattle.arrayvec.specs.ArrayString.{array_string_len};
+ghost use Rattle.swd_bits.specs.Listing.{hex8};
+ghost use Rattle.swd_host.specs.Reports.{told_of};
+ghost use Rattle.swd_io.specs.Blocks.{Sends, Writes};
+ghost use Rattle.swd_run.specs.Reports.{answer_line, last_line, report_text, stop_text};
+
+use arrayvec::ArrayString;
+use std::io::Write;
+use swd_bits::push_word;
+use swd_host::{End, Report};
+use swd_io::Block;
+use swd_port::{Access, Answer};
+
+/// The line of a report.
+pub type ReportLine = ArrayString<48>;
+
+/// The line of an answered access, without its end: as `r 20000000 deadbeef`, `w 20000000 written`
+/// or `r 30000000 busfault`.
+pub fn answer_line(access: &Access, answer: &Answer) -> ReportLine
+    ensures bytes { result.bytes ≡ answer_line access.now answer.now }
+    ensures len { array_string_len result ≤ 32 }
+{
+    let mut text = ReportLine::new();
+    match access {
+        Access::Read(addr) => {
+            text.push_str("r ");
+            push_word(&mut text, *addr);
+        }
+        Access::Write(addr, _) => {
+            text.push_str("w ");
+            push_word(&mut text, *addr);
+        }
+    }
+    text.push_str(" ");
+    match answer {
+        Answer::Value(word) => push_word(&mut text, *word),
+        Answer::Written => text.push_str("written"),
+        Answer::BusFault => text.push_str("busfault"),
+    }
+    text
+}
+
+/// The line of how a run ended, with the number of its answers and of the accesses that were begun
+/// after these; without its end. As `end all 4`, `end lost 0 begun 1`, `end tries 0 begun 1`,
+/// `end id 2ba01476` or `end confused 0 begun 0`.
+pub fn last_line(ended: End, answered: usize, begun: u8) -> ReportLine
+    ensures bytes { result.bytes ≡ last_line ended answered begun }
+    ensures len { array_string_len result ≤ 48 }
+{
+    let mut text = ReportLine::new();
+    match ended {
+        End::All => {
+            text.push_str("end all ");
+            push_count(&mut text, answered);
+        }
+        End::Lost => {
+            text.push_str("end lost ");
+            push_stop(&mut text, answered, begun);
+        }
+        End::TriesOut => {
+            text.push_str("end tries ");
+            push_stop(&mut text, answered, begun);
+        }
+        End::WrongId(word) => {
+            text.push_str("end id ");
+            push_word(&mut text, word);
+        }
+        End::Confused => {
+            text.push_str("end confused ");
+            push_stop(&mut text, answered, begun);
+        }
+    }
+    text
+}
+
+// How many accesses were answered, and how many begun.
+fn push_stop(text: &mut ReportLine, answered: usize, begun: u8)
+    requires { array_string_len text.old ≤ 13 }
+    ensures bytes { text.new.bytes ≡ text.old.bytes ++ stop_text answered begun }
+    ensures len { array_string_len text.new ≤ array_string_len text.old + 30 }
+{
+    push_count(text, answered);
+    text.push_str(" begun ");
+    let mut digits = itoa::Buffer::new();
+    text.push_str(digits.format(begun));
+}
+
+fn push_count(text: &mut ReportLine, count: usize)
+    requires { array_string_len text.old ≤ 28 }
+    ensures bytes { text.new.bytes ≡ text.old.bytes ++ decimal count }
+    ensures len { array_string_len text.new ≤ array_string_len text.old + 20 }
+{
+    let mut digits = itoa::Buffer::new();
+    text.push_str(digits.format(count));
+}
+
+// The report of a run of these accesses is under way, too.
+fn put_report<W: Write>(block: &mut Block<'_, W>, accesses: &[Access], report: &Report)
+    ensures sends { (start : Option (List ℕ)) (all : List ℕ) → Sends W.contents start block.old all
+        → Sends W.contents start block.new (all ++ report_text accesses.now (told_of report.now)) }
+    ensures writer { block.new.writer.ghost_name ≡ block.old.writer.ghost_name }
+{
+    for (access, answer) in accesses.iter().zip(report.answers.iter()) {
+        block.put_line(answer_line(access, answer).as_str().as_bytes());
+    }
+    let last = last_line(report.ended, report.answers.len(), report.begun);
+    block.put_line(last.as_str().as_bytes());
+}
+
+/// Writes the report of a run of these accesses. It takes no memory.
+///
+/// # Errors
+///
+/// How many bytes of the text went out, where the writer failed or took no bytes: exactly its first
+/// ones. Nothing is tried again.
+pub fn write_report<W: Write>(
+    writer: &mut W,
+    accesses: &[Access],
+    report: &Report,
+) -> Result<(), u64>
+    ensures { Writes result (W.contents writer.old) (W.contents writer.new)
+        (report_text accesses.now (told_of report.now)) }
+{
+    let mut block = Block::new(writer, 0);
+    put_report(&mut block, accesses, report);
+    match block.flush() {
+        Ok(_) => Ok(()),
+        Err(written) => Err(written),
+    }
+}

@@ -1,0 +1,234 @@
+-- What a script means, a run takes; and the marks of a plan are legal.
+use Rattle.std.proofs.Common.{◌≡◌, ◌≢◌, ℕ, suc, zero, ◌+◌, ◌*◌, ◌%◌, ◌^◌, ◌<◌, ◌≤◌, Bool, true, false, List, [], ◌∷◌, ◌++◌, length, refl, sym, ap, ◌∙◌, subst, arith, Option, Some, None, IfSome, Result, Ok, Err}
+use Rattle.std.specs.Prelude.{if◌then◌else◌, ◌&&◌, ◌==◌, nat_le, nat_lt, All, codes, unwrap_or, get_or}
+use Rattle.std.specs.List.{list_all}
+use Rattle.std.specs.Str.{bytes_eq}
+use Rattle.std.proofs.lemmas.Bool.Decides.{nat_tests}
+use Rattle.std.proofs.lemmas.List.{length-append}
+use Rattle.std.proofs.lemmas.List.Elements.{All-append}
+use Rattle.std.proofs.lemmas.List.Folds.{list_all-append}
+use Rattle.swd_port.specs.declared.access.Access.{Access}
+use Rattle.swd_port.specs.declared.access.Access.TheVariants.{Read as ReadAccess, Write as WriteAccess}
+use Rattle.swd_port.specs.declared.mark.Mark.{Mark}
+use Rattle.swd_port.specs.declared.mark.Mark.TheVariants.{Clean, Wait, Flip, Deaf, Mute}
+use Rattle.swd_port.specs.Choices.{IsMark}
+use Rattle.swd_script.specs.declared.command.Command.{Command}
+use Rattle.swd_script.specs.declared.command.Command.TheVariants.{Memory, Room, Read, Write, ReadMany}
+use Rattle.swd_script.specs.declared.draft.Extent.{Extent}
+use Rattle.swd_script.specs.declared.fault.LineFault.{LineFault}
+use Rattle.swd_script.specs.declared.fault.LineFault.TheVariants.{Word, Number, Range}
+use Rattle.swd_script.specs.declared.fault.ScriptFault.{ScriptFault}
+use Rattle.swd_script.specs.Faults.{after_lines, then_lines}
+use Rattle.swd_script.specs.Lines.{lines, line_words}
+use Rattle.swd_script.specs.Numerals.{decimal_of}
+use Rattle.swd_script.specs.Plans.{bare_mark, mark_of, marked, place_below, placed_mark, plan_line, plan_of, with_mark}
+use Rattle.swd_script.specs.Scripts.{Meaning, Sayings, after_command, are_words, carried_out, command_of, fault_before, misplaced, nothing_said, reads, script_line, script_meaning, script_of, whole_script, with_accesses, with_memory, with_number, with_room}
+use Rattle.swd_script.specs.Laws.{IsRunnable, is_at_word}
+
+and_left : (a b : Bool) → (a && b) ≡ true → a ≡ true
+and_left true b e = refl
+and_left false b e = absurd cc
+
+and_right : (a b : Bool) → (a && b) ≡ true → b ≡ true
+and_right true b e = e
+and_right false b e = absurd cc
+
+both : (a b : Bool) → a ≡ true → b ≡ true → (a && b) ≡ true
+both true b e f = f
+both false b e f = absurd cc
+
+-- what a test that passed answers
+if_ok : {S E : Type 0} (test : Bool) (value : S) (fault : E) (next : S) → (let r : Result S E = if test then Ok value else Err fault in r ≡ Ok next) → (test ≡ true) × (value ≡ next)
+if_ok true value fault next e = (refl, cc)
+if_ok false value fault next e = absurd cc
+
+if_number : (n : Option ℕ) (f : ℕ → Result Sayings LineFault) (next : Sayings) → with_number n f ≡ Ok next → (v : ℕ) × (f v ≡ Ok next)
+if_number None f next e = absurd cc
+if_number (Some v) f next e = (v, e)
+
+-- words of a memory
+record AreWords (base words : ℕ) : Type 0 where
+  pub aligned : base % 4 ≡ 0
+  pub some : words ≢ 0
+  pub end : base + 4 * words ≤ 2 ^ 32
+
+are_words_so : (base words : ℕ) → are_words base words ≡ true → AreWords base words
+are_words_so base words e =
+    let whole = nat_le (base + 4 * words) (2 ^ 32) in
+    let front : ((base % 4 == 0) && nat_le 1 words) ≡ true = and_left ((base % 4 == 0) && nat_le 1 words) whole e in
+    let a : (base % 4 == 0) ≡ true = and_left (base % 4 == 0) (nat_le 1 words) front in
+    let s : nat_le 1 words ≡ true = and_right (base % 4 == 0) (nat_le 1 words) front in
+    let t : nat_le (base + 4 * words) (2 ^ 32) ≡ true = and_right ((base % 4 == 0) && nat_le 1 words) whole e in
+    record {
+      aligned = grind (arith, nat_tests);
+      some = grind (arith, nat_tests);
+      end = grind (arith, nat_tests);
+    }
+
+-- what the lines so far say, a run takes
+record IsSound (said : Sayings) : Type 0 where
+  pub memory : IfSome said.memory (λ extent. AreWords extent.base extent.words)
+  pub few : length said.accesses ≤ 65536
+  pub accesses : list_all is_at_word said.accesses ≡ true
+
+length_reads : (addr count : ℕ) → length (reads addr count) ≡ count
+length_reads addr zero = refl
+length_reads addr (suc count) = ap suc (length_reads (addr + 4) count)
+
+aligned_reads : (addr count : ℕ) → addr % 4 ≡ 0 → list_all is_at_word (reads addr count) ≡ true
+aligned_reads addr zero h = refl
+aligned_reads addr (suc count) h =
+    let a : (addr % 4 == 0) ≡ true = grind (arith, nat_tests) in
+    both (addr % 4 == 0) (list_all is_at_word (reads (addr + 4) count)) a (aligned_reads (addr + 4) count (omega arith))
+
+sound_memory : (said next : Sayings) (base words : ℕ) → with_memory said base words ≡ Ok next → IsSound said → IsSound next
+sound_memory said next base words e s =
+    let test = are_words base words && nat_le words 65536 in
+    let ok = if_ok test (record said { memory = Some (record { base = base; words = words }) }) Range next e in
+    subst IsSound ok.1 (record {
+      memory = are_words_so base words (and_left (are_words base words) (nat_le words 65536) ok.0);
+      few = s.few;
+      accesses = s.accesses;
+    })
+
+sound_room : (said next : Sayings) (count : ℕ) → with_room said count ≡ Ok next → IsSound said → IsSound next
+sound_room said next count e s =
+    let ok = if_ok (nat_le count 65536) (record said { room = Some count }) Range next e in
+    subst IsSound ok.1 (record { memory = s.memory; few = s.few; accesses = s.accesses })
+
+sound_accesses : (said next : Sayings) (addr count : ℕ) (more : List Access) → with_accesses said addr count more ≡ Ok next → length more ≡ count → (addr % 4 ≡ 0 → list_all is_at_word more ≡ true) → IsSound said → IsSound next
+sound_accesses said next addr count more e n a s =
+    let room = nat_le (length said.accesses + count) 65536 in
+    let ok = if_ok (are_words addr count && room) (record said { accesses = said.accesses ++ more }) Range next e in
+    let few : room ≡ true = and_right (are_words addr count) room ok.0 in
+    let words = are_words_so addr count (and_left (are_words addr count) room ok.0) in
+    let len : length (said.accesses ++ more) ≡ length said.accesses + length more = length-append said.accesses more in
+    subst IsSound ok.1 (record {
+      memory = s.memory;
+      few = grind (arith, nat_tests);
+      accesses = list_all-append is_at_word said.accesses more ∙ both (list_all is_at_word said.accesses) (list_all is_at_word more) s.accesses (a words.aligned);
+    })
+
+one_aligned : (addr : ℕ) → addr % 4 ≡ 0 → ((addr % 4 == 0) && true) ≡ true
+one_aligned addr h = let a : (addr % 4 == 0) ≡ true = grind (arith, nat_tests) in both (addr % 4 == 0) true a refl
+
+sound_command : (said next : Sayings) (command : Command) → carried_out said command ≡ Ok next → IsSound said → IsSound next
+sound_command said next (Memory base words) e s =
+    let b = if_number base (λ base. with_number words (λ words. with_memory said base words)) next e in
+    let w = if_number words (λ words. with_memory said b.0 words) next b.1 in
+    sound_memory said next b.0 w.0 w.1 s
+sound_command said next (Room count) e s =
+    let c = if_number count (λ count. with_room said count) next e in
+    sound_room said next c.0 c.1 s
+sound_command said next (Read addr) e s =
+    let a = if_number addr (λ addr. with_accesses said addr 1 (ReadAccess addr ∷ [])) next e in
+    sound_accesses said next a.0 1 (ReadAccess a.0 ∷ []) a.1 refl (one_aligned a.0) s
+sound_command said next (Write addr value) e s =
+    let a = if_number addr (λ addr. with_number value (λ value. with_accesses said addr 1 (WriteAccess addr value ∷ []))) next e in
+    let v = if_number value (λ value. with_accesses said a.0 1 (WriteAccess a.0 value ∷ [])) next a.1 in
+    sound_accesses said next a.0 1 (WriteAccess a.0 v.0 ∷ []) v.1 refl (one_aligned a.0) s
+sound_command said next (ReadMany addr count) e s =
+    let a = if_number addr (λ addr. with_number count (λ count. with_accesses said addr count (reads addr count))) next e in
+    let c = if_number count (λ count. with_accesses said a.0 count (reads a.0 count)) next a.1 in
+    sound_accesses said next a.0 c.0 (reads a.0 c.0) c.1 (length_reads a.0 c.0) (aligned_reads a.0 c.0) s
+
+no_fault : (fault : Option LineFault) (result : Result Sayings LineFault) (next : Sayings) → fault_before fault result ≡ Ok next → result ≡ Ok next
+no_fault (Some fault) result next e = absurd cc
+no_fault None result next e = e
+
+sound_after : (said next : Sayings) (command : Option Command) → after_command said command ≡ Ok next → IsSound said → IsSound next
+sound_after said next None e s = absurd cc
+sound_after said next (Some command) e s = sound_command said next command (no_fault (misplaced said command) (carried_out said command) next e) s
+
+same_value : {S E : Type 0} (a b : S) → (let left : Result S E = Ok a in left ≡ Ok b) → a ≡ b
+same_value a b e = cc
+
+sound_line : (said next : Sayings) (words : Option (List (List ℕ))) → script_line said words ≡ Ok next → IsSound said → IsSound next
+sound_line said next None e s = absurd cc
+sound_line said next (Some []) e s = subst IsSound (same_value said next e) s
+sound_line said next (Some (name ∷ arguments)) e s = sound_after said next (command_of (name ∷ arguments)) e s
+
+after_one : {S : Type 0} (line : S → Option (List (List ℕ)) → Result S LineFault) (P : S → Type 0) (words : Option (List (List ℕ))) (old new : S) (before : ℕ) (rest : List (List ℕ)) (r : Result S LineFault) →
+    line old words ≡ r → ((state : S) → line old words ≡ Ok state → P state) → ((state : S) → after_lines line state (suc before) rest ≡ Ok new → P state → P new) →
+    then_lines before (λ state. after_lines line state (suc before) rest) r ≡ Ok new → P new
+after_one line P words old new before rest (Ok state) k f g e = g state e (f state k)
+after_one line P words old new before rest (Err fault) k f g e = absurd cc
+
+-- what each line keeps, all lines keep
+after_all : {S : Type 0} (line : S → Option (List (List ℕ)) → Result S LineFault) (P : S → Type 0) → ((old new : S) (words : Option (List (List ℕ))) → line old words ≡ Ok new → P old → P new) →
+    (texts : List (List ℕ)) (old new : S) (before : ℕ) → after_lines line old before texts ≡ Ok new → P old → P new
+after_all line P f [] old new before e h = subst P (same_value old new e) h
+after_all line P f (text ∷ rest) old new before e h =
+    after_one line P (line_words text) old new before rest (line old (line_words text)) refl (λ state k. f old state (line_words text) k h) (λ state k p. after_all line P f rest state new (suc before) k p) e
+
+meaning_runs : (memory : Option Extent) (said : Sayings) (m : Meaning) → IfSome memory (λ extent. AreWords extent.base extent.words) → length said.accesses ≤ 65536 → list_all is_at_word said.accesses ≡ true →
+    script_meaning memory said ≡ Ok m → IsRunnable m
+meaning_runs None said m w few accesses e = absurd cc
+meaning_runs (Some extent) said m w few accesses e =
+    subst IsRunnable (same_value (record { base = extent.base; words = extent.words; room = unwrap_or said.room 65536; accesses = said.accesses }) m e)
+    (record { aligned = w.aligned; some = w.some; end = w.end; few = few; accesses = accesses })
+
+whole_runs : (r : Result Sayings ScriptFault) (m : Meaning) → ((said : Sayings) → r ≡ Ok said → IsSound said) → whole_script r ≡ Ok m → IsRunnable m
+whole_runs (Err fault) m f e = absurd cc
+whole_runs (Ok said) m f e = let s = f said refl in meaning_runs said.memory said m s.memory s.few s.accesses e
+
+pub is_runnable : (text : List ℕ) (m : Meaning) → script_of text ≡ Ok m → IsRunnable m
+is_runnable text m e =
+    whole_runs (after_lines script_line nothing_said 0 (lines text)) m
+    (λ said f. after_all script_line IsSound sound_line (lines text) nothing_said said 0 f (record { memory = tt; few = omega arith; accesses = refl })) e
+
+legal_flip : (place : ℕ) (r : Option ℕ) (mark : Mark) → marked (λ bit. Flip bit) (place_below 33 r) ≡ Ok mark → IsMark mark
+legal_flip place None mark e = absurd cc
+legal_flip place (Some bit) mark e = flip (nat_lt bit 33) refl e
+  where
+    flip : (test : Bool) → nat_lt bit 33 ≡ test → marked (λ bit. Flip bit) (if test then Ok bit else Err Range) ≡ Ok mark → IsMark mark
+    flip true t e = let small : bit < 33 = grind (arith, nat_tests) in subst IsMark (same_value (Flip bit) mark e) small
+    flip false t e = absurd cc
+
+legal_mute : (place : ℕ) (r : Option ℕ) (mark : Mark) → marked (λ bit. Mute bit) (place_below 3 r) ≡ Ok mark → IsMark mark
+legal_mute place None mark e = absurd cc
+legal_mute place (Some bit) mark e = mute (nat_lt bit 3) refl e
+  where
+    mute : (test : Bool) → nat_lt bit 3 ≡ test → marked (λ bit. Mute bit) (if test then Ok bit else Err Range) ≡ Ok mark → IsMark mark
+    mute true t e = let small : bit < 3 = grind (arith, nat_tests) in subst IsMark (same_value (Mute bit) mark e) small
+    mute false t e = absurd cc
+
+abbrev bare_shape : Bool → Bool → Bool → Result Mark LineFault
+bare_shape clean wait deaf = if clean then Ok Clean else (if wait then Ok Wait else (if deaf then Ok Deaf else Err Word))
+
+legal_bare : (clean wait deaf : Bool) (mark : Mark) → bare_shape clean wait deaf ≡ Ok mark → IsMark mark
+legal_bare true wait deaf mark e = subst IsMark (same_value Clean mark e) tt
+legal_bare false true deaf mark e = subst IsMark (same_value Wait mark e) tt
+legal_bare false false true mark e = subst IsMark (same_value Deaf mark e) tt
+legal_bare false false false mark e = absurd cc
+
+legal_placed : (flip mute : Bool) (place : List ℕ) (mark : Mark) →
+    (if flip then marked (λ bit. Flip bit) (place_below 33 (decimal_of place)) else (if mute then marked (λ bit. Mute bit) (place_below 3 (decimal_of place)) else Err Word)) ≡ Ok mark → IsMark mark
+legal_placed true mute place mark e = legal_flip 0 (decimal_of place) mark e
+legal_placed false true place mark e = legal_mute 0 (decimal_of place) mark e
+legal_placed false false place mark e = absurd cc
+
+legal_mark : (words : List (List ℕ)) (mark : Mark) → mark_of words ≡ Ok mark → IsMark mark
+legal_mark [] mark e = absurd cc
+legal_mark (name ∷ []) mark e = legal_bare (bytes_eq name (codes ".")) (bytes_eq name (codes "wait")) (bytes_eq name (codes "deaf")) mark e
+legal_mark (name ∷ place ∷ []) mark e = legal_placed (bytes_eq name (codes "flip")) (bytes_eq name (codes "mute")) place mark e
+legal_mark (name ∷ place ∷ third ∷ more) mark e = absurd cc
+
+one_legal : (mark : Mark) → IsMark mark → All IsMark (mark ∷ [])
+one_legal mark h = at
+  where
+    at : (k : ℕ) (d : Mark) → k < 1 → IsMark (get_or (mark ∷ []) k d)
+    at zero d l = h
+    at (suc k) d l = absurd (omega arith)
+
+legal_line : (old new : List Mark) (words : Option (List (List ℕ))) → plan_line old words ≡ Ok new → All IsMark old → All IsMark new
+legal_line old new None e h = absurd cc
+legal_line old new (Some []) e h = subst (All IsMark) (same_value old new e) h
+legal_line old new (Some (name ∷ arguments)) e h = with_one (mark_of (name ∷ arguments)) refl e
+  where
+    with_one : (r : Result Mark LineFault) → mark_of (name ∷ arguments) ≡ r → with_mark old r ≡ Ok new → All IsMark new
+    with_one (Ok mark) k e = subst (All IsMark) (same_value (old ++ mark ∷ []) new e) (All-append IsMark old (mark ∷ []) h (one_legal mark (legal_mark (name ∷ arguments) mark k)))
+    with_one (Err fault) k e = absurd cc
+
+pub is_plan : (text : List ℕ) (marks : List Mark) → plan_of text ≡ Ok marks → All IsMark marks
+is_plan text marks e = after_all plan_line (All IsMark) legal_line (lines text) [] marks 0 e (λ k d l. absurd (omega arith))

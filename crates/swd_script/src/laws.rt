@@ -1,0 +1,17 @@
+//! Laws of scripts and plans. A function here does nothing: its contract is the law.
+ghost use Rattle.std.specs.Prelude.{◌≡◌, ℕ, List, All, Ok};
+ghost use Rattle.swd_port.specs.declared.mark.Mark.{Mark};
+ghost use Rattle.swd_port.specs.Choices.{IsMark};
+ghost use Rattle.swd_script.specs.Laws.{IsRunnable};
+ghost use Rattle.swd_script.specs.Plans.{plan_of};
+ghost use Rattle.swd_script.specs.Scripts.{Meaning, script_of};
+
+/// What a script means can be run: its memory can be made, and a host takes its accesses.
+pub fn scripts_are_runnable()
+    ensures { (text : List ℕ) (m : Meaning) → script_of text ≡ Ok m → IsRunnable m }
+{}
+
+/// The marks of a plan are legal.
+pub fn plans_are_legal()
+    ensures { (text : List ℕ) (marks : List Mark) → plan_of text ≡ Ok marks → All IsMark marks }
+{}
