@@ -1,10 +1,12 @@
 -- The program's command, as a parse reads it, and what its words mean.
-use Rattle.std.specs.Prelude.{◌≡◌, List, Option, IsSomeAnd, true, codes}
+use Rattle.std.specs.Prelude.{◌≡◌, List, [], ◌∷◌, Option, Some, IsSomeAnd, true, codes, pos}
 use Rattle.std.specs.Option.{option_map}
 use Rattle.std.specs.String.{string_bytes}
 use Rattle.clap.specs.Words.{App, Row, first_of, Rule, Text, new_app, new_rule, with_rule, with_subcommand}
 use Rattle.swd_cli.specs.declared.command.Line.{Line}
-use Rattle.swd_cli.specs.declared.command.Line.TheVariants.{One, Decode, Encode}
+use Rattle.swd_cli.specs.declared.command.Line.TheVariants.{One, Decode, Encode, Run}
+use Rattle.swd_cli.specs.declared.command.RunLine.{RunLine}
+use Rattle.clap.specs.declared.builder.value_parser.ValueParser.TheVariants.{Signed}
 
 -- the file, which may be left out
 abbrev pub file_rule : Rule
@@ -20,18 +22,47 @@ bare_app =
     let named = new_app (codes "swd") in
     record named { top = record named.top { subcommand_required = true; has_version = true } }
 
+-- the script, which has to be there
+abbrev pub script_rule : Rule
+script_rule = let rule = new_rule (codes "SCRIPT") in record rule { required = true }
+
+-- the plan, after --plan
+abbrev pub plan_rule : Rule
+plan_rule = let rule = new_rule (codes "plan") in record rule { long = Some (codes "plan"); value_names = 1 }
+
+-- the number of tries, after --tries: 0 to 1,000, and 8 without it
+abbrev pub tries_rule : Rule
+tries_rule =
+    let rule = new_rule (codes "tries") in
+    record rule {
+      long = Some (codes "tries");
+      value_names = 1;
+      parser = Some (Signed (pos 0) (pos 1000));
+      defaults = codes "8" ∷ [];
+    }
+
+-- the command that runs a script
+abbrev pub run_app : App
+run_app = with_rule (with_rule (with_rule (new_app (codes "run")) script_rule) plan_rule) tries_rule
+
 -- the whole command
 abbrev pub swd_app : App
 swd_app =
-    with_subcommand (with_subcommand (with_subcommand bare_app (over_file (codes "one")).top)
-    (over_file (codes "decode")).top) (over_file (codes "encode")).top
+    with_subcommand (with_subcommand (with_subcommand (with_subcommand bare_app (over_file (codes "one")).top)
+    (over_file (codes "decode")).top) (over_file (codes "encode")).top) run_app.top
 
 -- the words have this command, and this file or none
 abbrev pub HasFile : Text → Option Text → Option (Text × List Row) → Type 0
 HasFile name file rows = IsSomeAnd rows (λ p. (p.0 ≡ name) × (file ≡ first_of (codes "FILE") p.1))
+
+-- the script and the plan that the words name
+pub record IsRunOf (run : RunLine) (rows : List Row) : Type 0 where
+  pub script : Some (string_bytes run.script) ≡ first_of (codes "SCRIPT") rows
+  pub plan : option_map string_bytes run.plan ≡ first_of (codes "plan") rows
 
 -- the line is the command that the words have
 abbrev pub IsLineOf : Line → Option (Text × List Row) → Type 0
 IsLineOf (One file) rows = HasFile (codes "one") (option_map string_bytes file) rows
 IsLineOf (Decode file) rows = HasFile (codes "decode") (option_map string_bytes file) rows
 IsLineOf (Encode file) rows = HasFile (codes "encode") (option_map string_bytes file) rows
+IsLineOf (Run run) rows = IsSomeAnd rows (λ p. (p.0 ≡ codes "run") × IsRunOf run p.1)

@@ -10,6 +10,19 @@ pub enum Line {
     Decode(Option<String>),
     /// `swd encode [FILE]`: without a file, standard input.
     Encode(Option<String>),
+    /// `swd run SCRIPT [--plan FILE] [--tries N]`.
+    Run(RunLine),
+}
+
+/// What `swd run` is given.
+#[derive(Debug, Drop)]
+pub struct RunLine {
+    /// The file of the script, or `-` for standard input.
+    pub script: String,
+    /// The file of the plan, where one is named.
+    pub plan: Option<String>,
+    /// How many events an access may meet.
+    pub tries: u32,
 }
 
 /// Why the words are no command.

@@ -1,22 +1,23 @@
 //! What the program does with its words.
-ghost use Rattle.std.specs.Prelude.{◌≡◌, ◌≢◌, IfNone, IfSome, None, Some, codes};
+ghost use Rattle.std.specs.Prelude.{◌≡◌, ◌≢◌, [], IfNone, IfSome, None, Some, codes};
 ghost use Rattle.swd_cli.specs.Inputs.{IsStandard, named};
-ghost use Rattle.swd_cli.specs.Statuses.{Performs};
+ghost use Rattle.swd_cli.specs.Statuses.{Performs, PerformsRun};
 
-use crate::command::{Line, LineFault};
+use crate::command::{Line, LineFault, RunLine};
 use crate::files::Files;
-use crate::report::{DONE, FAULT, cannot_open, engine_status, one_status, tell};
+use crate::report::{DONE, FAULT, cannot_open, engine_status, one_status, run_status, tell};
 use crate::words::line;
 use clap::Error;
 use std::alloc::Global;
 use std::io::{Read, Write};
 use swd_bits::one_text;
+use swd_run::run_text;
 use swd_text::{decode_text, encode_text};
 
 /// Does what the words ask for, the program's name first, and returns the status: 0 where all was
-/// done, 2 at a fault of words, texts, files or memory, which takes one line on standard error
-/// (where `clap` refuses the words, its own lines). Standard output gets the text that was asked
-/// for and nothing else.
+/// done, 1 where a run ended before all was done, 2 at a fault of words, texts, files or memory, which
+/// takes one line on standard error (where `clap` refuses the words, its own lines). Standard output
+/// gets the text that was asked for and nothing else.
 pub fn run_words<I: Read, F: Files, O: Write, E: Write>(
     alloc: Global,
     words: &[&str],
@@ -44,16 +45,19 @@ fn answer_by_clap<O: Write, E: Write>(error: &Error, output: &mut O, errors: &mu
     }
 }
 
-// The file that a command reads. Without one, and for `-`, it is standard input.
+// The file that a command reads, the script of a run. Without one, and for `-`, it is standard input.
 fn file_of(line: &Line) -> Option<&str>
     ensures standard { IfNone result (IsStandard line.now) }
     ensures file { IfSome result (λ name. (named line.now ≡ Some name.now) × (name.now ≢ codes "-")) }
 {
-    let (Line::One(file) | Line::Decode(file) | Line::Encode(file)) = line;
-    match file {
-        Some(name) if name.as_str() != "-" => Some(name.as_str()),
-        _ => None,
-    }
+    let name = match line {
+        Line::One(file) | Line::Decode(file) | Line::Encode(file) => match file {
+            Some(name) => name.as_str(),
+            None => return None,
+        },
+        Line::Run(run) => run.script.as_str(),
+    };
+    if name == "-" { None } else { Some(name) }
 }
 
 // Opens what a command reads, and performs it.
@@ -70,19 +74,20 @@ fn carry_out<I: Read, F: Files, O: Write, E: Write>(
         (O.contents output.old) (O.contents output.new) }
 {
     let Some(name) = file_of(line) else {
-        return perform(alloc, line, input, output, errors);
+        return perform(alloc, line, input, files, output, errors);
     };
     match files.open(name) {
-        Ok(mut file) => perform(alloc, line, &mut file, output, errors),
+        Ok(mut file) => perform(alloc, line, &mut file, files, output, errors),
         Err(_) => cannot_open(errors, name),
     }
 }
 
 // Makes the one call of a command.
-fn perform<R: Read, O: Write, E: Write>(
+fn perform<R: Read, F: Files, O: Write, E: Write>(
     alloc: Global,
     line: &Line,
     input: &mut R,
+    files: &F,
     output: &mut O,
     errors: &mut E,
 ) -> u8
@@ -93,5 +98,32 @@ fn perform<R: Read, O: Write, E: Write>(
         Line::One(_) => one_status(errors, one_text(input, output)),
         Line::Decode(_) => engine_status(errors, decode_text(input, output)),
         Line::Encode(_) => engine_status(errors, encode_text(alloc, input, output)),
+        Line::Run(run) => perform_run(alloc, run, input, files, output, errors),
+    }
+}
+
+// Opens the plan, and runs the script under it. Without a plan nothing befalls the requests.
+fn perform_run<S: Read, F: Files, O: Write, E: Write>(
+    alloc: Global,
+    run: &RunLine,
+    script: &mut S,
+    files: &F,
+    output: &mut O,
+    errors: &mut E,
+) -> u8
+    ensures { run.now.plan ≡ None
+        → PerformsRun run.now.tries result (S.remaining script.old) (Some []) (O.contents output.old) (O.contents output.new) }
+{
+    let Some(name) = &run.plan else {
+        let mut nothing = [].as_slice();
+        let answer = run_text(alloc, script, &mut nothing, run.tries, output);
+        return run_status(errors, answer);
+    };
+    match files.open(name.as_str()) {
+        Ok(mut plan) => {
+            let answer = run_text(alloc, script, &mut plan, run.tries, output);
+            run_status(errors, answer)
+        }
+        Err(_) => cannot_open(errors, name.as_str()),
     }
 }

@@ -1,15 +1,19 @@
 //! What the program says of a fault, and the status that it ends with.
 ghost use Rattle.std.specs.Prelude.{◌≡◌, is_ok};
-ghost use Rattle.swd_cli.specs.Statuses.{status_of};
+ghost use Rattle.swd_cli.specs.Statuses.{status_of, status_of_run};
 
 use std::fmt;
 use std::fmt::{Display, Formatter};
 use std::io::Write;
 use swd_bits::OneFault;
+use swd_host::End;
 use swd_text::EngineFault;
 
 /// The status where all was done.
 pub const DONE: u8 = 0;
+
+/// The status of a run that ended before all was done.
+pub const STOPPED: u8 = 1;
 
 /// The status at a fault of words, texts, files or memory.
 pub const FAULT: u8 = 2;
@@ -74,5 +78,16 @@ pub fn engine_status<E: Write>(errors: &mut E, answer: Result<(), EngineFault>) 
             let _ = writeln!(errors, "swd: {fault}");
             FAULT
         }
+    }
+}
+
+/// The status of a run.
+pub fn run_status<E: Write>(errors: &mut E, answer: Result<End, EngineFault>) -> u8
+    ensures { result ≡ status_of_run answer }
+{
+    match answer {
+        Ok(End::All) => DONE,
+        Ok(_) => STOPPED,
+        Err(fault) => engine_status(errors, Err(fault)),
     }
 }

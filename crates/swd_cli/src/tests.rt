@@ -8,6 +8,7 @@ use std::alloc::Global;
 use std::io;
 use std::io::{Read, Write};
 use std::test::Fail;
+use swd_script::ScriptFault;
 use swd_text::{EngineFault, TextFault};
 use swd_trace::ListFault;
 
@@ -17,7 +18,15 @@ const DPIDR_LINE: &[u8] = b"dp 0 read ok 2ba01477\n";
 
 const DPIDR_BITS: &[u8] = b"1010010111001110111000101000000001011101010001\n";
 
-// Two files, by their names.
+const SCRIPT: &[u8] = b"memory 20000000 16\nw 20000000 deadbeef\nrn 20000000 2\nr 30000000\n";
+
+const REPORT: &[u8] = b"w 20000000 written\nr 20000000 deadbeef\nr 20000004 00000000\n\
+    r 30000000 busfault\nend all 4\n";
+
+// The acknowledgement of the DRW request is not seen as it was sent.
+const CUT: &[u8] = b".\n.\n.\n.\n.\n.\n.\n.\n.\n.\nmute 0\n";
+
+// Files, by their names.
 #[derive(Drop)]
 struct Shelf;
 
@@ -28,6 +37,10 @@ impl Files for Shelf {
         match name {
             "trace" => Ok(DPIDR_READ),
             "list" | "./-" => Ok(DPIDR_LINE),
+            "script" => Ok(SCRIPT),
+            "quiet" => Ok(b"# nothing\n.\n"),
+            "cut" => Ok(CUT),
+            "flip33" => Ok(b"flip 33"),
             _ => Err(io::Error::from(io::ErrorKind::NotFound)),
         }
     }
@@ -90,6 +103,68 @@ fn each_command_reads_a_file(rt: HostRuntime) {
         assert_eq!(rt; ran.output.as_slice(), output);
         assert!(rt; ran.errors.is_empty());
         assert_eq!(rt; ran.status, 0);
+    }
+}
+
+#[test]
+fn a_script_is_run(rt: HostRuntime) {
+    for words in [
+        ["swd", "run", "script"].as_slice(),
+        ["swd", "run", "script", "--plan", "quiet"].as_slice(),
+        ["swd", "run", "--tries", "0", "--plan=quiet", "script"].as_slice(),
+    ] {
+        let ran = run_on(rt.alloc(), words, b"x".as_slice());
+        assert_eq!(rt; ran.output.as_slice(), REPORT);
+        assert!(rt; ran.errors.is_empty());
+        assert_eq!(rt; ran.status, 0);
+    }
+    let ran = run_on(rt.alloc(), ["swd", "run", "-"].as_slice(), SCRIPT);
+    assert_eq!(rt; ran.output.as_slice(), REPORT);
+    assert_eq!(rt; ran.status, 0);
+}
+
+#[test]
+fn a_run_that_ends_early_has_a_status(rt: HostRuntime) {
+    let words = ["swd", "run", "script", "--plan", "cut"];
+    let ran = run_on(rt.alloc(), words.as_slice(), b"".as_slice());
+    assert_eq!(rt; ran.output.as_slice(), b"end lost 0 begun 1\n".as_slice());
+    assert!(rt; ran.errors.is_empty());
+    assert_eq!(rt; ran.status, 1);
+}
+
+#[test]
+fn a_run_that_is_at_fault_takes_a_line(rt: HostRuntime) {
+    for (words, input, errors) in [
+        (
+            ["swd", "run", "-", "--plan", "flip33"].as_slice(),
+            b"r 20000000".as_slice(),
+            b"swd: script line 1: no memory line\n".as_slice(),
+        ),
+        (
+            ["swd", "run", "-"].as_slice(),
+            b"memory 0 1\nr 2",
+            b"swd: script line 2: range\n",
+        ),
+        (
+            ["swd", "run", "script", "--plan", "flip33"].as_slice(),
+            b"",
+            b"swd: plan line 1: range\n",
+        ),
+        (
+            ["swd", "run", "nope", "--plan", "none"].as_slice(),
+            b"",
+            b"swd: cannot open nope\n",
+        ),
+        (
+            ["swd", "run", "script", "--plan", "none"].as_slice(),
+            b"",
+            b"swd: cannot open none\n",
+        ),
+    ] {
+        let ran = run_on(rt.alloc(), words, input);
+        assert!(rt; ran.output.is_empty());
+        assert_eq!(rt; ran.errors.as_slice(), errors);
+        assert_eq!(rt; ran.status, 2);
     }
 }
 
@@ -202,6 +277,18 @@ fn each_fault_of_an_engine_has_its_words(rt: HostRuntime) {
             EngineFault::List(ListFault::NotNormal { line: 4 }),
             b"swd: list line 4: not normal\n",
         ),
+        (
+            EngineFault::Script(ScriptFault::Word { line: 1 }),
+            b"swd: script line 1: word\n",
+        ),
+        (
+            EngineFault::Script(ScriptFault::Memory { line: 9 }),
+            b"swd: script line 9: memory\n",
+        ),
+        (
+            EngineFault::Plan(ScriptFault::Number { line: 2 }),
+            b"swd: plan line 2: number\n",
+        ),
         (EngineFault::Read, b"swd: read failed\n"),
         (EngineFault::Write { written: 5 }, b"swd: write failed\n"),
         (EngineFault::Memory, b"swd: no memory\n"),
@@ -253,6 +340,37 @@ fn words_with_a_file(rt: HostRuntime) -> Result<(), Fail> {
     Ok(())
 }
 
+fn tries_in(alloc: Global, words: &[&str]) -> Option<u32> {
+    match line(alloc, words) {
+        Ok(Line::Run(run)) => Some(run.tries),
+        _ => None,
+    }
+}
+
+#[test]
+fn words_of_a_run(rt: HostRuntime) -> Result<(), Fail> {
+    let words = ["swd", "run", "s", "--plan", "p"];
+    let Ok(Line::Run(run)) = line(rt.alloc(), words.as_slice()) else {
+        return Err(Fail::from("no run"));
+    };
+    assert_eq!(rt; run.script.as_str(), "s");
+    assert_eq!(rt; run.plan.ok_or("no plan")?.as_str(), "p");
+    assert_eq!(rt; run.tries, 8);
+    for (text, tries) in [
+        ("0", Some(0)),
+        ("3", Some(3)),
+        ("1000", Some(1000)),
+        ("1001", None),
+        ("-1", None),
+        ("x", None),
+        ("", None),
+    ] {
+        let words = ["swd", "run", "s", "--tries", text];
+        assert_eq!(rt; tries_in(rt.alloc(), words.as_slice()), tries);
+    }
+    Ok(())
+}
+
 #[test]
 fn words_that_are_no_command(rt: HostRuntime) {
     for words in [
@@ -260,6 +378,10 @@ fn words_that_are_no_command(rt: HostRuntime) {
         ["swd"].as_slice(),
         ["swd", "one", "a", "b"].as_slice(),
         ["swd", "one", "--tries", "3"].as_slice(),
+        ["swd", "run"].as_slice(),
+        ["swd", "run", "a", "b"].as_slice(),
+        ["swd", "run", "a", "--plan"].as_slice(),
+        ["swd", "run", "a", "--trace", "t"].as_slice(),
     ] {
         let refused = matches!(line(rt.alloc(), words), Err(LineFault::Clap(_)));
         assert!(rt; refused);

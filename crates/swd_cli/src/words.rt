@@ -2,18 +2,21 @@
 ghost use Rattle.std.specs.Prelude.{◌≡◌, IfOk, map, false};
 ghost use Rattle.std.specs.Option.{option_map};
 ghost use Rattle.std.specs.String.{string_bytes};
-ghost use Rattle.clap.specs.Words.{app_of, subcommand_of, subcommand_rows_of, rule_of, shape_of, with_rule, with_subcommand};
+ghost use Rattle.clap.specs.Words.{app_of, found_of, rows_of, subcommand_of, subcommand_rows_of, rule_of, shape_of};
+ghost use Rattle.clap.specs.Words.{with_rule, with_subcommand};
 ghost use Rattle.clap.specs.declared.builder.command.Command.TheViews.{out-Command};
-ghost use Rattle.swd_cli.specs.Commands.{file_rule, over_file, bare_app, swd_app, IsLineOf};
+ghost use Rattle.swd_cli.specs.Commands.{file_rule, plan_rule, script_rule, tries_rule};
+ghost use Rattle.swd_cli.specs.Commands.{bare_app, over_file, run_app, swd_app, IsLineOf, IsRunOf};
 
-use crate::command::{Line, LineFault};
+use crate::command::{Line, LineFault, RunLine};
 use clap::error::ErrorKind;
-use clap::{Arg, ArgMatches, Command};
+use clap::{Arg, ArgMatches, Command, value_parser};
 use std::alloc::{AllocError, Global};
 
 const VERSION: &str = "0.1.0";
 
-const ABOUT: &str = "Reads and writes traces of the Serial Wire Debug (SWD) line.";
+const ABOUT: &str =
+    "Runs accesses over the Serial Wire Debug (SWD) line, and reads and writes its traces.";
 
 const AFTER: &str = "\
 A trace is text: a character 0 or 1 for each bit on the line, in time order. Blanks and line
@@ -26,8 +29,8 @@ of a trace that was cut off).
 
 FILE may be - for standard input; a file of that name is ./-
 
-Status: 0 all done; 2 a fault of words, texts, files or memory, which is told on standard error;
-1 is kept for a run of a host that ended before all was done.
+Status: 0 all done; 1 a run that ended before all was done; 2 a fault of words, texts, files or
+memory, which is told on standard error.
 
 Example, a read of the debug port's identification register:
   echo '10100101 1 100 11101110001010000000010111010100 0 1' | swd decode
@@ -38,6 +41,34 @@ const ONE_ABOUT: &str = "Lists the one transaction that a trace holds";
 const DECODE_ABOUT: &str = "Lists a trace, one line an item";
 
 const ENCODE_ABOUT: &str = "Writes the trace of a listing, one line an item";
+
+const RUN_ABOUT: &str = "Runs a script's accesses over a simulated target, each once";
+
+const RUN_AFTER: &str = "\
+A script has one command a line; # begins a comment. Addresses and values are hexadecimal, counts
+decimal:
+  memory 20000000 16       the target's words, all zero: the first address, and how many
+  room 100                 how many transfers the target does, before the first access; after so
+                           many each is a bus error
+  w 20000000 deadbeef      writes a word
+  r 20000000               reads a word
+  rn 20000000 4            reads words, here four, one after the other
+
+A plan has one mark a line, what befalls the first request, the second and so on. After its last
+line nothing does:
+  .         nothing
+  wait      the target says WAIT
+  flip 3    bit 3 of the data arrives changed (0 to 31, and 32 for the parity bit)
+  deaf      the target does not see the request
+  mute 0    bit 0 of the acknowledgement arrives changed (0 to 2)
+
+The report has one line an answer, and then how the run ended: all, with the number of answers;
+lost (no acknowledgement was seen) or tries (more WAITs or changed data than --tries for one
+access), with the number of accesses that were begun then and may have taken place.
+
+Status: 0 where the run ended all, 1 where it ended otherwise, 2 at a fault.";
+
+const TRIES: u32 = 8;
 
 // A value as an owned text.
 fn owned(alloc: Global, text: Option<&str>) -> Result<Option<String>, AllocError>
@@ -55,6 +86,39 @@ fn file_arg<'a>(alloc: Global) -> Arg<'a>
     ensures local { result.global ≡ false }
 {
     Arg::new(alloc, "FILE").help("The file to read; without it, and for -, standard input")
+}
+
+// The file of the script, which has to be there.
+fn script_arg<'a>(alloc: Global) -> Arg<'a>
+    ensures rule { rule_of result ≡ script_rule }
+    ensures local { result.global ≡ false }
+{
+    Arg::new(alloc, "SCRIPT")
+        .required(true)
+        .help("The file with the script; - for standard input")
+}
+
+// The file of the plan.
+fn plan_arg<'a>(alloc: Global) -> Arg<'a>
+    ensures rule { rule_of result ≡ plan_rule }
+    ensures local { result.global ≡ false }
+{
+    Arg::new(alloc, "plan").long("plan").value_name("FILE").help(
+        "The file with the plan; without it nothing befalls the requests",
+    )
+}
+
+// How many events an access may meet.
+fn tries_arg<'a>(alloc: Global) -> Arg<'a>
+    ensures rule { rule_of result ≡ tries_rule }
+    ensures local { result.global ≡ false }
+{
+    Arg::new(alloc, "tries")
+        .long("tries")
+        .value_name("N")
+        .value_parser(value_parser!(u32).range(0..=1000))
+        .default_value("8")
+        .help("How many WAITs and changed data each access may meet")
 }
 
 fn with_arg<'a>(command: Command<'a>, arg: Arg<'a>) -> Result<Command<'a>, AllocError>
@@ -84,6 +148,19 @@ fn over_a_file<'a>(alloc: Global, name: &'a str, about: &'a str) -> Result<Comma
     with_arg(bare, file_arg(alloc))
 }
 
+// The command that runs a script.
+fn run_command<'a>(alloc: Global) -> Result<Command<'a>, AllocError>
+    ensures app { IfOk result (λ c. app_of c ≡ run_app) }
+    ensures local { IfOk result (λ c. (out-Command c).has_globals ≡ false) }
+{
+    let bare = Command::new(alloc, "run")
+        .about(RUN_ABOUT)
+        .after_help(RUN_AFTER);
+    let script = with_arg(bare, script_arg(alloc))?;
+    let plan = with_arg(script, plan_arg(alloc))?;
+    with_arg(plan, tries_arg(alloc))
+}
+
 // The program without its commands, of which one is required.
 fn bare_command<'a>(alloc: Global) -> Command<'a>
     ensures app { app_of result ≡ bare_app }
@@ -104,7 +181,8 @@ fn swd_command<'a>(alloc: Global) -> Result<Command<'a>, AllocError>
     let bare = bare_command(alloc);
     let one = with_sub(bare, over_a_file(alloc, "one", ONE_ABOUT)?)?;
     let decode = with_sub(one, over_a_file(alloc, "decode", DECODE_ABOUT)?)?;
-    with_sub(decode, over_a_file(alloc, "encode", ENCODE_ABOUT)?)
+    let encode = with_sub(decode, over_a_file(alloc, "encode", ENCODE_ABOUT)?)?;
+    with_sub(encode, run_command(alloc)?)
 }
 
 fn unknown(alloc: Global) -> LineFault {
@@ -113,6 +191,24 @@ fn unknown(alloc: Global) -> LineFault {
         Ok(error) => LineFault::Clap(error),
         Err(_) => LineFault::Memory,
     }
+}
+
+// What `swd run` is given.
+fn run_line(alloc: Global, matches: &ArgMatches<'_>) -> Result<RunLine, LineFault>
+    ensures { IfOk result (λ run. IsRunOf run (rows_of (found_of matches.now))) }
+{
+    let Ok(Some(script)) = owned(alloc, matches.get_str("SCRIPT")) else {
+        return Err(LineFault::Memory);
+    };
+    let Ok(plan) = owned(alloc, matches.get_str("plan")) else {
+        return Err(LineFault::Memory);
+    };
+    let tries = matches.get_one::<u32>("tries").unwrap_or(TRIES);
+    Ok(RunLine {
+        script,
+        plan,
+        tries,
+    })
 }
 
 // The command that was matched.
@@ -129,6 +225,10 @@ fn line_of(alloc: Global, matches: &ArgMatches<'_>) -> Result<Line, LineFault>
         "one" => Ok(Line::One(file)),
         "decode" => Ok(Line::Decode(file)),
         "encode" => Ok(Line::Encode(file)),
+        "run" => match run_line(alloc, rest) {
+            Ok(run) => Ok(Line::Run(run)),
+            Err(fault) => Err(fault),
+        },
         _ => Err(unknown(alloc)),
     }
 }
