@@ -1,5 +1,5 @@
-//! Runs `swd_bench` and the plain-Rust baseline, and prints the time and the memory of each, their
-//! ratio, and whether both printed the same.
+//! Runs a command and another that stands behind `--`, the plain-Rust baseline, and prints the time and the
+//! memory of each, their ratio, and whether both printed the same.
 use std::io::{self, Read};
 use std::os::unix::process::CommandExt;
 use std::process::{Command, Stdio};
@@ -25,9 +25,12 @@ struct Figures {
     output: String,
 }
 
-fn run(program: &str) -> io::Result<Figures> {
+fn run(command: &[String]) -> io::Result<Figures> {
+    let [program, words @ ..] = command else {
+        return Err(io::Error::other("no command"));
+    };
     let start = Instant::now();
-    let mut child = Command::new(program).stdout(Stdio::piped()).process_group(0).spawn()?;
+    let mut child = Command::new(program).args(words).stdout(Stdio::piped()).process_group(0).spawn()?;
     let mut output = String::new();
     if let Some(stdout) = child.stdout.as_mut() {
         stdout.read_to_string(&mut output)?;
@@ -49,10 +52,10 @@ fn run(program: &str) -> io::Result<Figures> {
 }
 
 /// The least of each figure over the runs, which others on the machine disturb least.
-fn best(program: &str) -> io::Result<Figures> {
-    let mut best = run(program)?;
+fn best(command: &[String]) -> io::Result<Figures> {
+    let mut best = run(command)?;
     for _ in 1..RUNS {
-        let figures = run(program)?;
+        let figures = run(command)?;
         best.wall = best.wall.min(figures.wall);
         best.processor = best.processor.min(figures.processor);
         best.kilobytes = best.kilobytes.max(figures.kilobytes);
@@ -68,12 +71,13 @@ fn print(name: &str, figures: &Figures) {
 }
 
 fn main() -> io::Result<()> {
-    let words: Vec<String> = std::env::args().collect();
-    let [_, swd, baseline] = words.as_slice() else {
-        return Err(io::Error::other("harness SWD BASELINE"));
+    let words: Vec<String> = std::env::args().skip(1).collect();
+    let mut commands = words.split(|word| word == "--");
+    let (Some([name, ours @ ..]), Some(theirs)) = (commands.next(), commands.next()) else {
+        return Err(io::Error::other("harness NAME COMMAND.. -- COMMAND.."));
     };
-    let (ours, theirs) = (best(swd)?, best(baseline)?);
-    print("swd_bench", &ours);
+    let (ours, theirs) = (best(ours)?, best(theirs)?);
+    print(name, &ours);
     print("baseline", &theirs);
     let same = if ours.output == theirs.output { "same output" } else { "OTHER OUTPUT" };
     println!(
