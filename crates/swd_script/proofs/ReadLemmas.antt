@@ -1,5 +1,5 @@
 -- Laws of a text that is read line by line.
-use Rattle.std.proofs.Common.{◌≡◌, ◌≢◌, ℕ, suc, ◌+◌, ◌-◌, ◌^◌, ◌<◌, ◌≤◌, take, drop, get_or, drop-cons, take-append-drop, List, [], ◌∷◌, ◌++◌, length, append_assoc, refl, sym, ap, ◌∙◌, subst, arith, add-one, Option, Some, None, Result, Ok, Err}
+use Rattle.std.proofs.Common.{◌≡◌, ◌≢◌, ℕ, suc, ◌+◌, ◌-◌, ◌^◌, ◌<◌, take, drop, get_or, drop-cons, take-append-drop, List, [], ◌∷◌, ◌++◌, length, append_assoc, sym, ap, ◌∙◌, subst, arith, add-one, Option, Some, None, Result, Ok, Err}
 use Rattle.std.specs.Prelude.{min, IsOk}
 use Rattle.std.proofs.lemmas.List.{append-nil, length-append}
 use Rattle.std.proofs.Math.Seq.{take-suc}
@@ -8,7 +8,6 @@ use Rattle.swd_port.specs.declared.mark.Mark.{Mark}
 use Rattle.swd_script.specs.declared.fault.LineFault.{LineFault}
 use Rattle.swd_script.specs.declared.fault.LineFault.TheVariants.{Word, Number, Range, NoMemoryLine, Memory}
 use Rattle.swd_script.specs.declared.fault.ScriptFault.{ScriptFault}
-use Rattle.swd_script.specs.declared.line_scan.LineScan.{LineScan}
 use Rattle.swd_script.specs.declared.lines.Lines.{Lines}
 use Rattle.swd_script.specs.Faults.{line_number, after_lines, then_lines, fault_at}
 use Rattle.swd_script.specs.Lines.{lines, line_words}

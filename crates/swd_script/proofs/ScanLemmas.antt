@@ -1,5 +1,5 @@
 -- Laws of one line that is scanned.
-use Rattle.std.proofs.Common.{◌≡◌, ◌≢◌, ℕ, ◌<◌, ◌≤◌, ◌⊎◌, inl, inr, Bool, true, false, List, [], ◌∷◌, ◌++◌, append_assoc, refl, sym, ap, ◌∙◌, subst, arith, Option, Some, None}
+use Rattle.std.proofs.Common.{◌≡◌, ◌≢◌, ℕ, ◌<◌, ◌≤◌, ◌⊎◌, inl, inr, Bool, true, false, List, [], ◌∷◌, ◌++◌, append_assoc, refl, sym, ap, ◌∙◌, subst, arith, Some, None}
 use Rattle.std.specs.Prelude.{if◌then◌else◌, ◌==◌, ◌&&◌, ◌||◌, nat_le}
 use Rattle.std.specs.List.{list_all}
 use Rattle.std.proofs.lemmas.Bool.{ne_eqb}
@@ -11,7 +11,7 @@ use Rattle.swd_script.specs.declared.line_scan.Place.TheVariants.{Code, Return, 
 use Rattle.swd_script.specs.declared.words.Words.{Words}
 use Rattle.swd_script.specs.Lines.{is_blank, is_plain, line_words, uncommented, words}
 use Rattle.swd_script.specs.Scans.{without_return, HasWords, HoldsAt, IsCode, IsCodeSoFar, IsCodeThen, IsSpoiled}
-use Rattle.swd_script.specs.Words.{texts, first_words, AreFirst, Gathers}
+use Rattle.swd_script.specs.Words.{AreFirst, Gathers}
 
 uncommented_byte : (byte : ℕ) (line : List ℕ) → (byte == 35) ≡ false → uncommented (byte ∷ line) ≡ byte ∷ uncommented line
 uncommented_byte byte line e = ap (λ t. if t then [] else byte ∷ uncommented line) e
@@ -135,9 +135,6 @@ comment_more line front rest byte old h = record {
   is = ap (λ x. x ++ byte ∷ []) h.is ∙ append_assoc front (35 ∷ rest) (byte ∷ []);
   front_is = h.front_is;
 }
-
-pub code_then : (line : List ℕ) (byte : ℕ) (old : Words) → IsCodeSoFar line old → IsCodeThen (line ++ byte ∷ []) byte [] line old
-code_then line byte old h = record { is = refl; front_is = h }
 
 -- what the tests say of a byte
 pub record Tests (byte : ℕ) (plain : Bool) : Type 0 where

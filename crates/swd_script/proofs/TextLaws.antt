@@ -1,5 +1,5 @@
 -- What a script means, a run takes; and the marks of a plan are legal.
-use Rattle.std.proofs.Common.{◌≡◌, ◌≢◌, ℕ, suc, zero, ◌+◌, ◌*◌, ◌%◌, ◌^◌, ◌<◌, ◌≤◌, Bool, true, false, List, [], ◌∷◌, ◌++◌, length, refl, sym, ap, ◌∙◌, subst, arith, Option, Some, None, IfSome, Result, Ok, Err}
+use Rattle.std.proofs.Common.{◌≡◌, ◌≢◌, ℕ, suc, zero, ◌+◌, ◌*◌, ◌%◌, ◌^◌, ◌<◌, ◌≤◌, Bool, true, false, List, [], ◌∷◌, ◌++◌, length, refl, ap, ◌∙◌, subst, arith, Option, Some, None, IfSome, Result, Ok, Err}
 use Rattle.std.specs.Prelude.{if◌then◌else◌, ◌&&◌, ◌==◌, nat_le, nat_lt, All, codes, unwrap_or, get_or}
 use Rattle.std.specs.List.{list_all}
 use Rattle.std.specs.Str.{bytes_eq}
@@ -16,12 +16,12 @@ use Rattle.swd_script.specs.declared.command.Command.{Command}
 use Rattle.swd_script.specs.declared.command.Command.TheVariants.{Memory, Room, Read, Write, ReadMany}
 use Rattle.swd_script.specs.declared.draft.Extent.{Extent}
 use Rattle.swd_script.specs.declared.fault.LineFault.{LineFault}
-use Rattle.swd_script.specs.declared.fault.LineFault.TheVariants.{Word, Number, Range}
+use Rattle.swd_script.specs.declared.fault.LineFault.TheVariants.{Word, Range}
 use Rattle.swd_script.specs.declared.fault.ScriptFault.{ScriptFault}
 use Rattle.swd_script.specs.Faults.{after_lines, then_lines}
 use Rattle.swd_script.specs.Lines.{lines, line_words}
 use Rattle.swd_script.specs.Numerals.{decimal_of}
-use Rattle.swd_script.specs.Plans.{bare_mark, mark_of, marked, place_below, placed_mark, plan_line, plan_of, with_mark}
+use Rattle.swd_script.specs.Plans.{mark_of, marked, place_below, plan_line, plan_of, with_mark}
 use Rattle.swd_script.specs.Scripts.{Meaning, Sayings, after_command, are_words, carried_out, command_of, fault_before, misplaced, nothing_said, reads, script_line, script_meaning, script_of, whole_script, with_accesses, with_memory, with_number, with_room}
 use Rattle.swd_script.specs.Laws.{IsRunnable, is_at_word}
 

@@ -1,5 +1,5 @@
 -- Laws of the words of a line, and of what is kept of them.
-use Rattle.std.proofs.Common.{◌≡◌, ◌≢◌, ℕ, suc, zero, ◌+◌, ◌<◌, ◌≤◌, Bool, true, false, List, [], ◌∷◌, ◌++◌, length, map, take, append_assoc, refl, sym, ap, ◌∙◌, subst, arith}
+use Rattle.std.proofs.Common.{◌≡◌, ℕ, suc, zero, ◌<◌, ◌≤◌, true, false, List, [], ◌∷◌, ◌++◌, length, map, take, append_assoc, refl, sym, ap, ◌∙◌, arith}
 use Rattle.std.specs.Prelude.{if◌then◌else◌, min}
 use Rattle.std.proofs.lemmas.List.{take_all, take-append-le, length-append, length-map, length-take, append-nil, map-append}
 use Rattle.arrayvec.specs.ArrayVec.{ArrayVec}
@@ -112,13 +112,3 @@ texts_same kept [] k e =
     let n : length (texts kept) ≡ length kept = length-map kept (λ word. word.items) in
     sym (ap (take 4) (append-nil (texts kept)) ∙ take_all 4 (texts kept) (omega arith))
 texts_same kept (byte ∷ word) k e = absurd (omega arith)
-
-pub texts_push : (kept next : List (ArrayVec ℕ)) (word : ArrayVec ℕ) → length kept < 4 → length word.items ≢ 0 → next ≡ kept ++ word ∷ [] → texts next ≡ take 4 (texts kept ++ begun word.items)
-texts_push kept next word h n e =
-    let m : length (texts kept) ≡ length kept = length-map kept (λ word. word.items) in
-    let k : length (texts kept ++ word.items ∷ []) ≤ 4 = omega (arith, length-append (texts kept) (word.items ∷ [])) in
-    ap texts e ∙ map-append (λ word. word.items) kept (word ∷ []) ∙ sym (take_all 4 (texts kept ++ word.items ∷ []) k) ∙ ap (λ x. take 4 (texts kept ++ x)) (sym (begun_some word.items n))
-  where
-    begun_some : (word : List ℕ) → length word ≢ 0 → begun word ≡ word ∷ []
-    begun_some [] n = absurd (n refl)
-    begun_some (byte ∷ word) n = refl

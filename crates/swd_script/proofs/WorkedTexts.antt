@@ -1,11 +1,11 @@
 -- The definitions at worked texts.
-use Rattle.std.proofs.Common.{◌≡◌, ℕ, List, [], ◌∷◌, ◌++◌, refl, Ok, Err, Result}
-use Rattle.std.specs.Prelude.{codes, replicate}
+use Rattle.std.proofs.Common.{◌≡◌, ℕ, List, [], ◌∷◌, ◌++◌, refl, Ok, Err}
+use Rattle.std.specs.Prelude.{codes}
 use Rattle.swd_port.specs.declared.access.Access.TheVariants.{Read, Write}
 use Rattle.swd_port.specs.declared.mark.Mark.TheVariants.{Clean, Wait, Flip, Deaf, Mute}
 use Rattle.swd_script.specs.declared.fault.ScriptFault.TheVariants.{Word, Number, Range, NoMemoryLine}
 use Rattle.swd_script.specs.Plans.{plan_of}
-use Rattle.swd_script.specs.Scripts.{script_of, reads}
+use Rattle.swd_script.specs.Scripts.{script_of}
 
 -- a line and its line feed
 fed : List ℕ → List ℕ

@@ -1,7 +1,6 @@
 -- What the readers of scripts and plans have read.
-use Rattle.std.specs.Prelude.{◌≡◌, ◌≢◌, ℕ, ◌+◌, List, [], ◌∷◌, ◌++◌, length, Option, Result, Ok, Err, IsOk}
+use Rattle.std.specs.Prelude.{◌≡◌, ◌≢◌, ℕ, List, [], ◌∷◌, ◌++◌, length, Option, Result, Ok, Err, IsOk}
 use Rattle.arrayvec.specs.ArrayVec.{ArrayVec}
-use Rattle.swd_port.specs.declared.mark.Mark.{Mark}
 use Rattle.swd_script.specs.declared.draft.Draft.{Draft}
 use Rattle.swd_script.specs.declared.fault.LineFault.{LineFault}
 use Rattle.swd_script.specs.declared.fault.LineFault.TheVariants.{Word, Number, Range, NoMemoryLine, Memory}

@@ -1,11 +1,11 @@
 -- What is kept of a line that has begun.
-use Rattle.std.specs.Prelude.{◌≡◌, ℕ, ◌==◌, Bool, true, false, ◌&&◌, List, [], ◌∷◌, ◌++◌, Option, Some, None, if◌then◌else◌}
+use Rattle.std.specs.Prelude.{◌≡◌, ℕ, ◌==◌, true, false, List, [], ◌∷◌, ◌++◌, Option, Some, None, if◌then◌else◌}
 use Rattle.arrayvec.specs.ArrayVec.{ArrayVec}
 use Rattle.swd_script.specs.declared.line_scan.LineScan.{LineScan}
 use Rattle.swd_script.specs.declared.line_scan.Place.{Place}
 use Rattle.swd_script.specs.declared.line_scan.Place.TheVariants.{Code, Return, Comment, Spoiled}
 use Rattle.swd_script.specs.declared.words.Words.{Words}
-use Rattle.swd_script.specs.Lines.{is_plain, words, line_words}
+use Rattle.swd_script.specs.Lines.{is_plain, line_words}
 use Rattle.swd_script.specs.Words.{texts, first_words, Gathers}
 
 -- a line without the carriage return at its end

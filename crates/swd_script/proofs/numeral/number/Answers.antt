@@ -1,4 +1,4 @@
-use Rattle.std.proofs.Common.{◌≡◌, ℕ, suc, ◌+◌, ◌*◌, ◌^◌, ◌<◌, ◌≤◌, List, ◌∷◌, length, drop, drop-cons, get_or, sym, ap, ◌∙◌, arith, add-one, Option, Some}
+use Rattle.std.proofs.Common.{◌≡◌, ℕ, suc, ◌+◌, ◌*◌, ◌^◌, ◌<◌, ◌≤◌, List, length, drop, drop-cons, get_or, sym, ap, ◌∙◌, arith, add-one, Some}
 use Rattle.std.specs.Option.{option_and_then}
 use Rattle.std.proofs.Math.Nat.{pow-le-pow_right, mul-le-mul_right, pow-succ'}
 use Rattle.swd_script.specs.Numerals.{number_from, digit_of}

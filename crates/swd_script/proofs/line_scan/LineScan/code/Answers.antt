@@ -1,5 +1,4 @@
-use Rattle.std.proofs.Common.{◌≡◌, ◌≢◌, ℕ, ◌<◌, ◌≤◌, ◌++◌, ◌∷◌, [], false, true, sym, subst, ◌∙◌, arith}
-use Rattle.swd_script.specs.declared.line_scan.Place.TheVariants.{Code}
+use Rattle.std.proofs.Common.{◌≡◌, ◌≢◌, ◌<◌, ◌≤◌, ◌++◌, ◌∷◌, [], false, true, sym, subst, ◌∙◌, arith}
 use Rattle.swd_script.specs.Lines.{is_blank}
 use Rattle.swd_script.specs.Scans.{HoldsAt, IsCodeSoFar}
 use Rattle.swd_script.proofs.ScanLemmas.{blank_tests, code_so_far, code_spoils, high_tests, low_tests, word_tests}

@@ -1,4 +1,4 @@
-use Rattle.std.proofs.Common.{◌≡◌, List, [], ◌∷◌, ◌++◌, Some, None, Ok, sym, ap, ◌∙◌, subst}
+use Rattle.std.proofs.Common.{◌≡◌, [], Some, None, sym, ap, ◌∙◌, subst}
 use Rattle.swd_script.specs.declared.fault.LineFault.TheVariants.{Word}
 use Rattle.swd_script.specs.Faults.{after_lines}
 use Rattle.swd_script.specs.Lines.{line_words}

@@ -1,4 +1,4 @@
-use Rattle.std.proofs.Common.{◌≡◌, ℕ, List, [], ◌∷◌, ◌++◌, Some, None, Ok, refl, sym, ap, ◌∙◌, subst, arith}
+use Rattle.std.proofs.Common.{◌≡◌, [], ◌∷◌, ◌++◌, Some, None, sym, ap, ◌∙◌, subst, arith}
 use Rattle.swd_script.specs.declared.fault.LineFault.TheVariants.{Word}
 use Rattle.swd_script.specs.declared.fault.ScriptFault.TheVariants.{Word as WordAt}
 use Rattle.swd_script.specs.Readers.{said, IsFaultOf, IsFed, IsScriptFault, Splits}

@@ -1,7 +1,6 @@
 use Rattle.std.proofs.Common.{suc, ◌++◌, take, drop, subst}
-use Rattle.std.proofs.lemmas.List.{take_all}
-use Rattle.swd_script.specs.Readers.{IsScriptFault, ReadsScript}
-use Rattle.swd_script.proofs.ReadLemmas.{next_of, parted}
+use Rattle.swd_script.specs.Readers.{IsScriptFault}
+use Rattle.swd_script.proofs.ReadLemmas.{parted}
 use Rattle.swd_script.proofs.script.ScriptReaderConsumerUnit.take.Goals as goal
 
 pub returns-in-Err-clause-err : goal.returns-in-Err-clause-err

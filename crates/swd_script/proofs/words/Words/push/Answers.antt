@@ -1,5 +1,4 @@
-use Rattle.std.proofs.Common.{rules, ◌<◌, ◌≤◌, length, refl, arith}
-use Rattle.std.proofs.lemmas.Bool.Decides.{nat_tests}
+use Rattle.std.proofs.Common.{rules, ◌<◌, ◌≤◌, length, refl}
 use Rattle.swd_script.proofs.WordLemmas.{gathers_push, last_more, last_full}
 use Rattle.swd_script.proofs.words.Words.push.Goals as goal
 
