@@ -26,7 +26,7 @@ loop-access-preserved g c =
       sends = λ start all h.
           subst (λ x. Sends g.W.Write.contents start c.put_line.new.self x)
           (ap (λ x. (all ++ so_far) ++ (x ++ 10 ∷ [])) line ∙ append_assoc all so_far (answer_line (get_or accesses i access) (get_or answers i answer) ++ 10 ∷ [])
-           ∙ ap (λ x. all ++ x) (sym (lines_more accesses answers i access answer turn.0 turn.1) ∙ ap (λ n. answer_lines (take n accesses) (take n answers)) (sym next)))
+          ∙ ap (λ x. all ++ x) (sym (lines_more accesses answers i access answer turn.0 turn.1) ∙ ap (λ n. answer_lines (take n accesses) (take n answers)) (sym next)))
           (c.put_line.ensures.sends start (all ++ so_far) (c.loop-access.invariant.sends start all h));
       writer = c.put_line.ensures.writer ∙ c.loop-access.invariant.writer;
     }
