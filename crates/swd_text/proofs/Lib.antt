@@ -1,2 +1,3 @@
 pub mod ListerLemmas
 pub mod DecodingLemmas
+mod DigitLemmas

@@ -1,5 +1,5 @@
 -- Laws of a trace text that is listed as it is read.
-use Rattle.std.proofs.Common.{◌≡◌, ℕ, ◌+◌, ◌-◌, ◌<◌, ◌^◌, Bool, false, List, [], ◌∷◌, ◌++◌, length, Option, Result, Ok, Err, refl, sym, ap, ◌∙◌, subst, append_assoc, arith, inl}
+use Rattle.std.proofs.Common.{◌≡◌, ℕ, ◌+◌, ◌<◌, ◌^◌, Bool, false, List, [], ◌∷◌, ◌++◌, length, Option, Result, Ok, Err, refl, sym, ap, ◌∙◌, subst, append_assoc, arith, inl}
 use Rattle.std.specs.Prelude.{OnOk, OnErr, IfErr}
 use Rattle.std.proofs.KnownBytes.{Appends-nil}
 use Rattle.std.proofs.lemmas.List.{length-append, append-nil}
@@ -60,15 +60,15 @@ one_more contents start before after old new bits items item law fed sends h = r
   sends = subst (λ all. Sends contents start new all) (sym (listing_more items item)) (sends (listing items) h.sends);
 }
 
--- one more bit is taken
-pub one_bit : {W : Type 0} (contents : W → Option (List ℕ)) (start : Option (List ℕ)) (before after : Decoder) (block : Block W) (bits : List Bool) (items : List Item) (bit : Bool) →
-    ((more : List Bool) → rest after more ≡ rest before (bit ∷ more)) → fed_of after ≡ fed_of before + 1 → fed_of before < 2 ^ 64 - 1 →
-    Lists contents start before block bits items → Lists contents start after block (bits ++ bit ∷ []) items
-one_bit contents start before after block bits items bit law fed few h =
+-- more bits are taken
+pub more_bits : {W : Type 0} (contents : W → Option (List ℕ)) (start : Option (List ℕ)) (before after : Decoder) (block : Block W) (bits : List Bool) (items : List Item) (next : List Bool) →
+    ((more : List Bool) → rest after more ≡ rest before (next ++ more)) → fed_of after ≡ fed_of before + length next → fed_of before + length next < 2 ^ 64 →
+    Lists contents start before block bits items → Lists contents start after block (bits ++ next) items
+more_bits contents start before after block bits items next law fed few h =
     let count = h.count in
-    let len : length (bits ++ bit ∷ []) ≡ length bits + 1 = length-append bits (bit ∷ []) in
+    let len : length (bits ++ next) ≡ length bits + length next = length-append bits next in
     record {
-      law = λ more. ap (λ x. items ++ x) (law more) ∙ h.law (bit ∷ more) ∙ ap reading_of (sym (append_assoc bits (bit ∷ []) more));
+      law = λ more. ap (λ x. items ++ x) (law more) ∙ h.law (next ++ more) ∙ ap reading_of (sym (append_assoc bits next more));
       count = omega arith;
       counted = omega arith;
       sends = h.sends;

@@ -1,3 +1,4 @@
 pub mod Listers
 pub mod Decoding
 pub mod Encoding
+pub mod Digits

@@ -2,6 +2,7 @@
 #![tactic(auto)]
 
 mod decoding;
+mod digits;
 mod encoding;
 mod fault;
 mod lister;

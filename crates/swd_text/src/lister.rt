@@ -1,5 +1,5 @@
 //! A trace text on its way to its listing.
-ghost use Rattle.std.specs.Prelude.{◌≡◌, ℕ, ◌+◌, ◌-◌, ◌^◌, min, List, Bool, false, ◌∷◌, ◌++◌, [], length, Option, OnOk, OnErr, IfErr};
+ghost use Rattle.std.specs.Prelude.{◌≡◌, ℕ, ◌+◌, ◌-◌, ◌^◌, ◌<◌, ◌≤◌, min, List, Bool, false, true, ◌∷◌, ◌++◌, [], length, take, Option, OnOk, OnErr, IfErr};
 ghost use Rattle.std.specs.Io.KnownBytes.{Appends};
 ghost use Rattle.swd_io.specs.Blocks.{Sends};
 ghost use Rattle.swd_io.specs.Pieces.{LeadsOn, LeadsToEnd};
@@ -12,13 +12,22 @@ ghost use Rattle.swd_trace.specs.Decided.{IsUndecided};
 ghost use Rattle.swd_text.specs.Decoding.{Finishes};
 ghost use Rattle.swd_text.specs.Listers.{Lists, GoesOn, Listed, HasRead, StopsAt, StopsIn, Ends};
 
+use crate::digits::{WIDTH, digits_of};
 use crate::fault::{EngineFault, TextFault};
+use arrayvec::ArrayString;
 use std::io::Write;
 use swd_bits::{Scan, Sign};
 use swd_io::{Block, Consumer};
-use swd_trace::{Decoder, Item};
+use swd_trace::{Decoder, Item, LONGEST_LINE};
 
-/// Takes a trace text piece by piece, and sends the line of each item as soon as it is decided.
+// Room for the longest line and its end.
+const ROOM: usize = LONGEST_LINE + 1;
+
+// So many bits at most were fed where digits are taken at once, so that the count has room for them.
+const MOST_FED: u64 = u64::MAX - WIDTH as u64;
+
+/// Takes a trace text piece by piece, digits many at once and any other byte alone, and sends the
+/// line of each item as soon as it is decided.
 #[derive(Drop)]
 pub(crate) struct Lister {
     scan: Scan,
@@ -27,15 +36,20 @@ pub(crate) struct Lister {
     place: u64,
     // How many bytes went out, at most 2^64 - 1.
     written: u64,
+    // What it holds has no meaning: making it anew for each line takes time.
+    line: ArrayString<ROOM>,
 }
 
 // The line of an item is under way, too.
-fn put_line<W: Write>(block: &mut Block<'_, W>, item: &Item)
+fn put_line<W: Write>(block: &mut Block<'_, W>, line: &mut ArrayString<ROOM>, item: &Item)
     ensures sends { (start : Option (List ℕ)) (all : List ℕ) → Sends W.contents start block.old all
         → Sends W.contents start block.new (all ++ (item_line item.now ++ 10 ∷ [])) }
     ensures writer { block.new.writer.ghost_name ≡ block.old.writer.ghost_name }
 {
-    block.put_line(item.line().as_str().as_bytes());
+    line.clear();
+    item.push_line(line);
+    line.push_str("\n");
+    block.put(line.as_str().as_bytes());
 }
 
 impl Lister {
@@ -52,6 +66,7 @@ impl Lister {
             decoder: Decoder::new(),
             place: 0,
             written: 0,
+            line: ArrayString::new(),
         }
     }
 
@@ -67,7 +82,7 @@ impl Lister {
         ensures writer { block.new.writer.ghost_name ≡ block.old.writer.ghost_name }
     {
         while let Some(item) = self.decoder.due() {
-            put_line(block, &item);
+            put_line(block, &mut self.line, &item);
         }
     }
 
@@ -121,6 +136,39 @@ impl Lister {
         }
     }
 
+    // Whether digits at the front of a text may be taken at once: not where a comment is open, where
+    // the text is short, or where the count of bits may run full. The bytes are then taken one by one.
+    #[inline]
+    fn may_take_digits(&self, text: &[u8]) -> bool
+        ensures long { result ≡ true → WIDTH ≤ length text.now }
+        ensures outside { result ≡ true → self.now.scan ≡ false }
+        ensures room { result ≡ true → fed_of self.now.decoder + WIDTH < 2 ^ 64 }
+    {
+        text.len() >= WIDTH && !self.scan.in_comment() && self.decoder.fed() <= MOST_FED
+    }
+
+    // Takes digits at the front of a text at once, perhaps none, and says how many.
+    fn digits<W: Write>(&mut self, block: &mut Block<'_, W>, text: &[u8]) -> usize
+        requires { IsSettled self.old.decoder }
+        ensures settled { IsSettled self.new.decoder }
+        ensures place { self.new.place ≡ self.old.place }
+        ensures writer { block.new.writer.ghost_name ≡ block.old.writer.ghost_name }
+        ensures within { result ≤ length text.now }
+        ensures taken { (start : Option (List ℕ)) (seen : List ℕ) → GoesOn W.contents start self.old block.old seen
+            → GoesOn W.contents start self.new block.new (seen ++ take result text.now) }
+    {
+        if !self.may_take_digits(text) {
+            return 0;
+        }
+        let digits = digits_of(text);
+        if digits.count == 0 {
+            return 0;
+        }
+        let taken = self.decoder.take_bits(digits.bits, digits.count);
+        self.put_due(block);
+        usize::from(taken)
+    }
+
     // Takes the bytes of a piece, up to one at which no trace text goes on.
     fn bytes<W: Write>(&mut self, block: &mut Block<'_, W>, piece: &[u8]) -> Result<(), TextFault>
         requires { IsSettled self.old.decoder }
@@ -134,10 +182,17 @@ impl Lister {
             → GoesOn W.contents start self.old block.old seen → self.old.place ≡ min (length seen) (2 ^ 64 - 1)
             → StopsIn W.contents start block.new fault (seen ++ piece.now)) }
     {
-        for (index, byte) in piece.iter().enumerate() {
-            if let Err(fault) = self.byte(block, *byte, index) {
+        let mut index = 0;
+        while index < piece.len() {
+            let taken = self.digits(block, &piece[index..]);
+            if taken > 0 {
+                index += taken;
+                continue;
+            }
+            if let Err(fault) = self.byte(block, piece[index], index) {
                 return Err(fault);
             }
+            index += 1;
         }
         self.place = self.place.saturating_add(piece.len() as u64);
         Ok(())
@@ -151,7 +206,7 @@ impl Lister {
         ensures writer { block.new.writer.ghost_name ≡ block.old.writer.ghost_name }
     {
         while let Some(item) = self.decoder.last() {
-            put_line(block, &item);
+            put_line(block, &mut self.line, &item);
         }
     }
 

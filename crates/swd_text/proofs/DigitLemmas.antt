@@ -1,0 +1,82 @@
+-- Laws of the characters of bits.
+use Rattle.std.proofs.Common.{◌≡◌, ℕ, zero, suc, ◌+◌, ◌*◌, ◌/◌, ◌%◌, ◌≤◌, Bool, true, false, not, cond, List, [], ◌∷◌, ◌++◌, length, take, map, refl, sym, ap, ◌∙◌, subst, append_assoc, arith, inl, inr}
+use Rattle.std.specs.Prelude.{◌==◌}
+use Rattle.std.specs.List.{prefix_len}
+use Rattle.std.specs.Simd.Lanes.{mask_l}
+use Rattle.std.proofs.lemmas.List.{append-nil}
+use Rattle.std.proofs.lemmas.Simd.{trailing_mask_l, leading_from_mask_l}
+use Rattle.std.proofs.lemmas.Bool.{cases_lt, cases_eq, ne_eqb}
+use lib.Count.{count_trailing_zeros, trailing_le}
+use Rattle.swd_bits.specs.Bits.{low_bits}
+use Rattle.swd_bits.specs.One.{Reads}
+use Rattle.swd_bits.proofs.ScanLemmas.{reads_bit}
+use Rattle.swd_trace.specs.Texts.{digit}
+use Rattle.swd_text.specs.Digits.{is_other}
+
+-- the lowest bit of a mask, and the others
+lowest : (b : Bool) (m : ℕ) → ((cond b 1 0 + 2 * m) % 2 == 1) ≡ b
+lowest true m = let e : (1 + 2 * m) % 2 ≡ 1 = omega arith in rw e refl
+lowest false m = let e : (0 + 2 * m) % 2 ≡ 0 = omega arith in rw e refl
+
+half : (b : Bool) (m : ℕ) → (cond b 1 0 + 2 * m) / 2 ≡ m
+half true m = omega arith
+half false m = omega arith
+
+next_bit : (n : ℕ) (b : Bool) (m : ℕ) → low_bits (suc n) (cond b 1 0 + 2 * m) ≡ b ∷ low_bits n m
+unfolding low_bits
+next_bit n b m = rw (lowest b m, half b m) refl
+
+-- a byte that is no other is a digit
+digit_of : (byte : ℕ) → is_other byte ≡ false → byte ≡ digit (byte == 49)
+digit_of byte e = elim (cases_eq byte 49) [
+  | inl p ↦ rw p refl
+  | inr q ↦ elim (cases_eq (byte / 2) 24) [
+    | inl h ↦ (let zero_is : byte ≡ 48 = omega arith in rw zero_is refl)
+    | inr n ↦ (let other : not (byte / 2 == 24) ≡ true = ap not (ne_eqb _ _ n) in absurd cc)
+  ]
+]
+
+-- the digits at the front
+pub front : (bytes : List ℕ) (n : ℕ) → n ≤ prefix_len (λ x. not (is_other x)) bytes → take n bytes ≡ map digit (low_bits n (mask_l (map (λ byte. byte == 49) bytes)))
+unfolding low_bits
+front bytes zero h = refl
+front [] (suc n) h = absurd (omega arith)
+front (byte ∷ bytes) (suc n) h =
+    step (is_other byte) refl h (front bytes n)
+  where
+    step : (b : Bool) → is_other byte ≡ b → suc n ≤ cond (not b) (1 + prefix_len (λ x. not (is_other x)) bytes) 0 →
+        (n ≤ prefix_len (λ x. not (is_other x)) bytes → take n bytes ≡ map digit (low_bits n (mask_l (map (λ x. x == 49) bytes)))) →
+        byte ∷ take n bytes ≡ map digit (low_bits (suc n) (cond (byte == 49) 1 0 + 2 * mask_l (map (λ x. x == 49) bytes)))
+    step true e h others = absurd (omega arith)
+    step false e h others =
+        let rest = others (omega arith) in
+        ap (λ x. x ∷ take n bytes) (digit_of byte e) ∙ ap (λ x. digit (byte == 49) ∷ x) rest
+        ∙ ap (map digit) (sym (next_bit n (byte == 49) (mask_l (map (λ x. x == 49) bytes))))
+
+-- as many as the mask of the others has zeros at its end
+pub front_of : (bytes : List ℕ) → length bytes ≡ 64 → count_trailing_zeros 64 (mask_l (map is_other bytes)) ≤ prefix_len (λ x. not (is_other x)) bytes
+front_of bytes h = elim (cases_lt 0 (mask_l (map is_other bytes))) [
+  | inl p ↦ omega (arith, trailing_mask_l is_other 64 bytes (omega arith) p)
+  | inr q ↦
+      let none : mask_l (map is_other bytes) ≡ 0 = omega arith in
+      omega (arith, trailing_le 64 (mask_l (map is_other bytes)), leading_from_mask_l is_other bytes none)
+]
+
+-- a text that is read goes on with digits
+pub reads_digits : (more : List Bool) (seen : List ℕ) (bits : List Bool) → Reads seen bits false → Reads (seen ++ map digit more) (bits ++ more) false
+reads_digits [] seen bits h = rw (append-nil seen, append-nil bits) h
+reads_digits (b ∷ more) seen bits h =
+    rw (← append_assoc seen (digit b ∷ []) (map digit more), ← append_assoc bits (b ∷ []) more)
+    (reads_digits more (seen ++ digit b ∷ []) (bits ++ b ∷ []) (one b h))
+  where
+    one : (b : Bool) → Reads seen bits false → Reads (seen ++ digit b ∷ []) (bits ++ b ∷ []) false
+    one true h = reads_bit seen bits false false true 49 refl refl h
+    one false h = reads_bit seen bits false false false 48 refl refl h
+
+-- so many of them
+pub reads_taken : (seen text : List ℕ) (bits : List Bool) (before after : Bool) (n k v : ℕ) → before ≡ false → after ≡ before → k ≡ n →
+    take n text ≡ map digit (low_bits n v) → Reads seen bits before → Reads (seen ++ take k text) (bits ++ low_bits n v) after
+reads_taken seen text bits before after n k v e f same digits h =
+    subst (λ c. Reads (seen ++ take k text) (bits ++ low_bits n v) c) (sym (f ∙ e))
+    (subst (λ t. Reads (seen ++ t) (bits ++ low_bits n v) false) (sym (ap (λ m. take m text) same ∙ digits))
+    (reads_digits (low_bits n v) seen bits (subst (λ c. Reads seen bits c) e h)))

@@ -1,0 +1,51 @@
+//! The characters `0` and `1` at the front of a text, many at once.
+ghost use Rattle.std.specs.Prelude.{◌≡◌, ℕ, ◌≤◌, ◌==◌, length, take, map};
+ghost use Rattle.std.specs.Simd.Lanes.{mask_l};
+ghost use Rattle.swd_bits.specs.Bits.{low_bits};
+ghost use Rattle.swd_trace.specs.Texts.{digit};
+ghost use Rattle.swd_text.specs.Digits.{is_other};
+
+use std::simd::prelude::*;
+
+/// How many bytes are looked at at once.
+pub(crate) const WIDTH: usize = 64;
+
+/// So many bits, the first least significant, and beyond them any.
+#[derive(Clone, Copy)]
+pub(crate) struct Digits {
+    pub(crate) count: u8,
+    pub(crate) bits: u64,
+}
+
+/// The digits at the front of a text, of which the first 64 bytes are looked at.
+#[inline]
+pub(crate) fn digits_of(text: &[u8]) -> Digits
+    requires { WIDTH ≤ length text.now }
+    ensures most { result.count ≤ WIDTH }
+    ensures bits { (n : ℕ) → n ≤ result.count → take n text.now ≡ map digit (low_bits n result.bits) }
+{
+    let bytes = u8x64::from_slice(text);
+    Digits {
+        count: others(bytes).trailing_zeros() as u8,
+        bits: ones(bytes),
+    }
+}
+
+// Bit k is set where byte k is `1`.
+#[inline(always)]
+fn ones(bytes: u8x64) -> u64
+    ensures { result ≡ mask_l (map (λ byte. byte == 49) bytes) }
+{
+    bytes.simd_eq(u8x64::splat(b'1')).to_bitmask()
+}
+
+// Bit k is set where byte k is neither `0` nor `1`.
+#[inline(always)]
+fn others(bytes: u8x64) -> u64
+    ensures { result ≡ mask_l (map is_other bytes) }
+{
+    // `0` and `1` are 48 and 49.
+    (bytes >> u8x64::splat(1))
+        .simd_ne(u8x64::splat(24))
+        .to_bitmask()
+}
