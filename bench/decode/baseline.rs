@@ -1,6 +1,7 @@
 //! A plain-Rust streaming decoder and encoder of traces, byte by byte: what `swd decode` and
-//! `swd encode` are measured against. Written for this bench, and proved in nothing. `encode` refuses a
-//! list that isn't normal, as `swd encode` does; `encode-unchecked` leaves that out.
+//! `swd encode` are measured against. Written for this bench, and proved in nothing. `decode-whole` takes
+//! the 46 characters of a whole transaction at once, where they stand together, and else a byte. `encode`
+//! refuses a list that isn't normal, as `swd encode` does; `encode-unchecked` leaves that out.
 use std::io::{self, BufRead, BufReader, BufWriter, Read, Write};
 
 const SWITCH: u64 = 0xe79e;
@@ -168,6 +169,97 @@ impl<W: Write> Decoder<W> {
     }
 }
 
+/// How many characters a whole transaction has.
+const WHOLE: usize = 46;
+
+/// The bits of eight characters from a place on, the first least significant, and whether each of
+/// them is a digit.
+fn eight(chars: &[u8; WHOLE], place: usize) -> (u64, bool) {
+    let word = chars[place..place + 8].iter().rev().fold(0, |word, &byte| word << 8 | u64::from(byte));
+    let bits = word ^ 0x3030_3030_3030_3030;
+    (bits.wrapping_mul(0x0102_0408_1020_4080) >> 56, bits & 0xfefe_fefe_fefe_fefe == 0)
+}
+
+/// The bits of a whole transaction that was acknowledged, where the characters are one.
+fn whole(chars: &[u8; WHOLE]) -> Option<u64> {
+    let mut bits = 0;
+    let mut digits = true;
+    for place in [0, 8, 16, 24, 32, 38] {
+        let (some, all) = eight(chars, place);
+        bits |= some << place;
+        digits &= all;
+    }
+    (digits && is_request(bits & 0xff) && bits >> 9 & 7 == 1).then_some(bits)
+}
+
+/// The line of such a transaction, and how long it is.
+fn whole_line(bits: u64) -> ([u8; 32], usize) {
+    let mut line = [b' '; 32];
+    line[0] = if bits >> 1 & 1 == 1 { b'a' } else { b'd' };
+    line[1] = b'p';
+    line[3] = b"048c"[(bits >> 3 & 3) as usize];
+    let read = bits >> 2 & 1 == 1;
+    let mut len = if read { 10 } else { 11 };
+    line[5..10].copy_from_slice(if read { b"read " } else { b"write" });
+    let phase = bits >> (if read { 12 } else { 13 }) & ((1 << 33) - 1);
+    let good = phase.count_ones() % 2 == 0;
+    line[len..len + 4].copy_from_slice(if good { b"ok  " } else { b"bad " });
+    len += if good { 3 } else { 4 };
+    for (digit, place) in line[len..len + 8].iter_mut().zip(0..) {
+        *digit = b"0123456789abcdef"[(phase >> (28 - 4 * place) & 15) as usize];
+    }
+    line[len + 8] = b'\n';
+    (line, len + 9)
+}
+
+impl<W: Write> Decoder<W> {
+    /// Takes a whole transaction at the front of a piece, where one stands there and nothing is held.
+    fn take_whole(&mut self, piece: &[u8]) -> io::Result<bool> {
+        let (Held::Bits { len: 0, .. }, Mode::Synced) = (self.held, self.mode) else {
+            return Ok(false);
+        };
+        let Some(bits) = piece.first_chunk().and_then(whole) else {
+            return Ok(false);
+        };
+        let (line, len) = whole_line(bits);
+        self.out.write_all(&line[..len])?;
+        Ok(true)
+    }
+}
+
+fn decode_whole() -> io::Result<()> {
+    let mut decoder = Decoder::new(BufWriter::with_capacity(65536, io::stdout().lock()));
+    let mut comment = false;
+    let mut reader = BufReader::with_capacity(65536, io::stdin().lock());
+    loop {
+        let piece = reader.fill_buf()?;
+        if piece.is_empty() {
+            break;
+        }
+        let len = piece.len();
+        let mut place = 0;
+        while place < len {
+            if !comment && decoder.take_whole(&piece[place..])? {
+                place += WHOLE;
+                continue;
+            }
+            match piece[place] {
+                b'\n' => comment = false,
+                _ if comment => {}
+                b'0' => decoder.bit(false)?,
+                b'1' => decoder.bit(true)?,
+                b' ' | b'\t' | b'\r' => {}
+                b'#' => comment = true,
+                _ => return Err(io::Error::other("bad character")),
+            }
+            place += 1;
+        }
+        reader.consume(len);
+    }
+    decoder.finish()?;
+    decoder.out.flush()
+}
+
 fn decode() -> io::Result<()> {
     let mut decoder = Decoder::new(BufWriter::new(io::stdout().lock()));
     let mut comment = false;
@@ -275,8 +367,9 @@ fn encode_normal() -> io::Result<()> {
 fn main() -> io::Result<()> {
     match std::env::args().nth(1).as_deref() {
         Some("decode") => decode(),
+        Some("decode-whole") => decode_whole(),
         Some("encode") => encode_normal(),
         Some("encode-unchecked") => encode(),
-        _ => Err(io::Error::other("decode, encode or encode-unchecked")),
+        _ => Err(io::Error::other("decode, decode-whole, encode or encode-unchecked")),
     }
 }

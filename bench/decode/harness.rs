@@ -1,5 +1,5 @@
-//! Makes traces, runs `swd` and the plain-Rust baseline on the same ones, and prints throughput,
-//! their ratio, and the most memory that each held.
+//! Makes traces, runs `swd` and the plain-Rust baseline on the same ones, and prints the time and the
+//! processor time of each, the most memory that it held, and how many times as fast `swd` is.
 use std::fs::File;
 use std::io::{self, BufRead, BufReader, BufWriter, Write};
 use std::os::unix::process::CommandExt;
@@ -7,7 +7,7 @@ use std::process::{Command, Stdio};
 use std::time::Instant;
 
 const BYTES: usize = 100_000_000;
-const RUNS: usize = 3;
+const RUNS: usize = 5;
 
 /// A small generator of numbers (xorshift64*), so that each run has the same traces.
 struct Random(u64);
@@ -51,6 +51,14 @@ fn make(kind: &str, path: &str) -> io::Result<()> {
         text.clear();
         match kind {
             "transactions" => transaction(&mut random, &mut text),
+            "one a line" => {
+                transaction(&mut random, &mut text);
+                text.push(b'\n');
+            }
+            "with 8 idle" => {
+                transaction(&mut random, &mut text);
+                text.extend_from_slice(b"00000000");
+            }
             "random bits" => push(&mut text, random.next(), 64),
             "long runs" => {
                 let len = 50 + (random.next() % 100_000) as usize;
@@ -79,8 +87,15 @@ unsafe extern "C" {
     fn wait4(pid: i32, status: *mut i32, options: i32, usage: *mut Usage) -> i32;
 }
 
-/// Seconds and kilobytes of one run.
-fn run(program: &str, word: &str, input: &str, output: &str) -> io::Result<(f64, i64)> {
+#[derive(Clone, Copy)]
+struct Figures {
+    wall: f64,
+    processor: f64,
+    kilobytes: i64,
+}
+
+/// The figures of one run.
+fn run(program: &str, word: &str, input: &str, output: &str) -> io::Result<Figures> {
     let start = Instant::now();
     let child = Command::new(program)
         .arg(word)
@@ -95,19 +110,23 @@ fn run(program: &str, word: &str, input: &str, output: &str) -> io::Result<(f64,
     if waited < 0 || status != 0 {
         return Err(io::Error::other(format!("{program} {word} ended with {status}")));
     }
-    Ok((start.elapsed().as_secs_f64(), usage.max_rss))
+    let [user, user_micros, system, system_micros] = usage.times;
+    Ok(Figures {
+        wall: start.elapsed().as_secs_f64(),
+        processor: (user + system) as f64 + (user_micros + system_micros) as f64 / 1e6,
+        kilobytes: usage.max_rss,
+    })
 }
 
-/// The best of the runs, which disturbs it least.
-fn best(program: &str, word: &str, input: &str, output: &str) -> io::Result<(f64, i64)> {
-    let mut seconds = f64::INFINITY;
-    let mut kilobytes = 0;
-    for _ in 0..RUNS {
-        let (s, k) = run(program, word, input, output)?;
-        seconds = seconds.min(s);
-        kilobytes = kilobytes.max(k);
+impl Figures {
+    /// The least of each time, which others on the machine disturb least.
+    fn better(self, other: Figures) -> Figures {
+        Figures {
+            wall: self.wall.min(other.wall),
+            processor: self.processor.min(other.processor),
+            kilobytes: self.kilobytes.max(other.kilobytes),
+        }
     }
-    Ok((seconds, kilobytes))
 }
 
 /// Whether two files are equal. A piece at a time: a child's figure of memory begins with ours.
@@ -127,17 +146,21 @@ fn same(a: &str, b: &str) -> io::Result<bool> {
     }
 }
 
+/// Runs both by turns, so that what disturbs the one disturbs the other.
 fn compare(title: &str, programs: [&str; 2], words: [&str; 2], input: &str, folder: &str) -> io::Result<()> {
-    let ours = format!("{folder}/ours");
-    let theirs = format!("{folder}/theirs");
-    let bytes = std::fs::metadata(input)?.len() as f64 / 1e6;
-    let (s, k) = best(programs[0], words[0], input, &ours)?;
-    let (bs, bk) = best(programs[1], words[1], input, &theirs)?;
-    let same = if same(&ours, &theirs)? { "same output" } else { "OTHER OUTPUT" };
-    println!(
-        "{:<16} {title:<12} swd {:7.1} MB/s {:6} kB   baseline {:7.1} MB/s {:6} kB   ratio {:.2}   {same}",
-        words[1], bytes / s, k, bytes / bs, bk, bs / s
-    );
+    let outputs = [format!("{folder}/ours"), format!("{folder}/theirs")];
+    let turn = |i: usize| run(programs[i], words[i], input, &outputs[i]);
+    let [mut ours, mut theirs] = [turn(0)?, turn(1)?];
+    for _ in 1..RUNS {
+        ours = ours.better(turn(0)?);
+        theirs = theirs.better(turn(1)?);
+    }
+    let same = if same(&outputs[0], &outputs[1])? { "same" } else { "OTHER" };
+    print!("{:<16} {title:<12}", words[1]);
+    for one in [ours, theirs] {
+        print!(" {:6.3} {:6.3} {:6}   ", one.wall, one.processor, one.kilobytes);
+    }
+    println!("{:5.2} {:5.2}   {same}", theirs.wall / ours.wall, theirs.processor / ours.processor);
     Ok(())
 }
 
@@ -147,10 +170,15 @@ fn main() -> io::Result<()> {
         return Err(io::Error::other("harness SWD BASELINE FOLDER"));
     };
     let programs = [swd.as_str(), baseline.as_str()];
-    for kind in ["transactions", "random bits", "long runs", "comments"] {
+    println!(
+        "{:<29} {:<24} {:<24} {:<13} output",
+        "", "swd: s, processor s, kB", "baseline: the same", "times as fast"
+    );
+    for kind in ["transactions", "one a line", "with 8 idle", "random bits", "long runs", "comments"] {
         let trace = format!("{folder}/trace");
         make(kind, &trace)?;
         compare(kind, programs, ["decode"; 2], &trace, folder)?;
+        compare(kind, programs, ["decode", "decode-whole"], &trace, folder)?;
         if kind == "transactions" {
             // The list that was decoded is a normal one.
             let list = format!("{folder}/list");
