@@ -23,7 +23,7 @@ const DPIDR_READ: &[u8] = b"10100101 1 100 11101110001010000000010111010100 0 1"
 const DPIDR_LINE: &[u8] = b"dp 0 read ok 2ba01477\n";
 
 // Traces and their listings.
-const LISTED: [(&[u8], &[u8]); 8] = [
+const LISTED: [(&[u8], &[u8]); 9] = [
     (b"", b""),
     (DPIDR_READ, DPIDR_LINE),
     (
@@ -50,6 +50,15 @@ const LISTED: [(&[u8], &[u8]); 8] = [
     (
         b"10100101 1 010 1 10000001 1 001 1 00",
         b"dp 0 read wait\ndp 0 write fault\nidle 2\n",
+    ),
+    // Long enough that digits are taken many at once, up to a comment of digits and after it.
+    (
+        b"1010010111001110111000101000000001011101010001\
+          1010010111001110111000101000000001011101010001#\
+          1111111111111111111111111111111111111111111111111111111111111111\n\
+          0000000000000000000000000000000000000000000000000000000000000000\
+          000000101001011100",
+        b"dp 0 read ok 2ba01477\ndp 0 read ok 2ba01477\nidle 70\ncut 101001011100\n",
     ),
 ];
 
