@@ -40,7 +40,7 @@ step mode after l tail item e f g = ap (reading mode) (again mode after l tail i
 -- ---- runs, and what ends them
 
 -- the bits are none, or begin with this one
-abbrev StartsWith : Bool → List Bool → Type 0
+abbrev pub StartsWith : Bool → List Bool → Type 0
 StartsWith b [] = Unit {0}
 StartsWith b (x ∷ bits) = x ≡ b
 
@@ -54,12 +54,12 @@ zeros_split [] = ([], refl, tt)
 zeros_split (true ∷ l) = (true ∷ l, refl, refl)
 zeros_split (false ∷ l) = let r = zeros_split l in (r.0, ap (λ x. false ∷ x) r.1, r.2)
 
-reset_any : (mode : Mode) (n : ℕ) (tail : List Bool) → 50 ≤ n → StartsWith false tail → reading mode (replicate n true ++ tail) ≡ Reset n ∷ reading AfterReset tail
+pub reset_any : (mode : Mode) (n : ℕ) (tail : List Bool) → 50 ≤ n → StartsWith false tail → reading mode (replicate n true ++ tail) ≡ Reset n ∷ reading AfterReset tail
 reset_any mode n [] h s = ap (reading mode) (append-nil (replicate n true)) ∙ reset_end mode n h ∙ ap (λ x. Reset n ∷ x) (sym (reading_none AfterReset))
 reset_any mode n (true ∷ tail) h s = absurd cc
 reset_any mode n (false ∷ tail) h s = reset_law mode n tail h
 
-idle_any : (n : ℕ) (tail : List Bool) → 0 < n → StartsWith true tail → reading Synced (replicate n false ++ tail) ≡ Idle n ∷ reading Synced tail
+pub idle_any : (n : ℕ) (tail : List Bool) → 0 < n → StartsWith true tail → reading Synced (replicate n false ++ tail) ≡ Idle n ∷ reading Synced tail
 idle_any n [] h s = ap (reading Synced) (append-nil (replicate n false)) ∙ idle_end n h ∙ ap (λ x. Idle n ∷ x) (sym (reading_none Synced))
 idle_any n (false ∷ tail) h s = absurd cc
 idle_any n (true ∷ tail) h s = idle_law n tail h

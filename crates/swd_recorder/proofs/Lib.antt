@@ -1,0 +1,4 @@
+pub mod ChainLemmas
+pub mod AddLemmas
+pub mod AckLemmas
+pub mod StepLemmas

@@ -1,0 +1,20 @@
+use Rattle.std.proofs.Common.{sym, subst}
+use Rattle.swd_port.specs.declared.wire.Due.{Due}
+use Rattle.swd_port.proofs.CallLaws.{nothing_due, counted_apart}
+use Rattle.swd_recorder.specs.Kept.{kept_of}
+use Rattle.swd_recorder.proofs.StepLemmas.{InStep, refused}
+use Rattle.swd_recorder.proofs.recorder.RecorderWire.pass.Goals as goal
+
+pub invariant_of-self : goal.invariant_of-self
+invariant_of-self g c =
+    let old = c.args.self.now in
+    let due = (g.W.Wire.port old.wire).link.due in
+    let before : InStep due (kept_of old.recording) old.asked.ticks = record { held = old.held; placed = old.placed; counted = old.counted } in
+    let passing = subst (λ (d : Due). InStep d (kept_of old.recording) old.asked.ticks) c.requires before in
+    let after = refused (kept_of old.recording) (kept_of c.refusal.new.self) old.asked.ticks passing c.refusal.ensures in
+    let rest = sym (nothing_due.passed (g.W.Wire.port old.wire) (g.W.Wire.port c.pass.new.self) c.pass.ensures.step) in
+    let now = subst (λ (d : Due). InStep d (kept_of c.refusal.new.self) old.asked.ticks) rest after in
+    record { held = now.held; placed = now.placed; counted = now.counted }
+
+pub returns-clause-step : goal.returns-clause-step
+returns-clause-step g c = counted_apart.passed c.args.self.now.asked.ticks _ _ c.pass.ensures.step

@@ -1,0 +1,5 @@
+pub mod Chains
+pub mod Recordings
+pub mod Steps
+pub mod Kept
+pub mod Recorders

@@ -1,0 +1,19 @@
+-- What a recorder keeps, and the state of the port machine behind it.
+use Rattle.std.specs.Prelude.{List}
+use Rattle.swd_port.specs.declared.mark.Mark.{Mark}
+use Rattle.swd_port.specs.declared.wire.Wire.{Ghosts}
+use Rattle.swd_port.specs.Port.{Port}
+use Rattle.swd_port.specs.Laws.Calls.{with_asked}
+use Rattle.swd_recorder.specs.declared.recorder.Recorder.{Recorder}
+use Rattle.swd_recorder.specs.Recordings.{Kept}
+use Rattle.swd_recorder.specs.Kept.{kept_of}
+
+abbrev pub kept_by : {W A : Type 0} {g : Ghosts W} → Recorder W A g → Kept
+kept_by recorder = kept_of recorder.recording
+
+-- the state of the wire behind it, with a number of requests of the recorder's own
+abbrev pub port_by : {W A : Type 0} {g : Ghosts W} → Recorder W A g → Port
+port_by {W} {A} {g} recorder = with_asked recorder.asked.ticks (g.port recorder.wire)
+
+abbrev pub plan_by : {W A : Type 0} {g : Ghosts W} → Recorder W A g → List Mark
+plan_by {W} {A} {g} recorder = g.plan recorder.wire

@@ -1,0 +1,8 @@
+//! A recorder: a wire that hands every call on to another, and keeps what went over it as the items of
+//! a trace.
+#![tactic(auto)]
+
+mod recorder;
+mod recording;
+
+pub use recorder::Recorder;
