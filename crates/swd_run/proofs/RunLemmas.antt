@@ -1,13 +1,19 @@
 -- What a run over a simulated target says in terms of its plan.
-use Rattle.std.proofs.Common.{◌≡◌, ℕ, ◌+◌, ◌*◌, ◌<◌, ◌≤◌, List, length, arith}
-use Rattle.swd_port.specs.Port.{Port}
+use Rattle.std.proofs.Common.{◌≡◌, ℕ, ◌+◌, ◌*◌, ◌<◌, ◌≤◌, List, length, Option, refl, ap, ◌∙◌, arith}
+use Rattle.std.specs.Prelude.{◌↔◌}
+use Rattle.swd_trace.specs.declared.item.Item.{Item}
+use Rattle.swd_port.specs.declared.wire.Due.{Due}
+use Rattle.swd_port.specs.declared.wire.Due.TheVariants.{Nothing, Lost as DueLost}
+use Rattle.swd_port.specs.Port.{Port, made}
+use Rattle.swd_recorder.specs.Steps.{transactions, pending, EndsUnacknowledged}
 use Rattle.swd_port.specs.declared.mark.Mark.{Mark}
 use Rattle.swd_port.specs.Choices.{disturbed_among, lost_among}
 use Rattle.swd_host.specs.declared.outcome.End.{End}
 use Rattle.swd_host.specs.declared.outcome.End.TheVariants.{All, Lost, TriesOut, WrongId, Confused}
-use Rattle.swd_host.specs.Reports.{EndsAt, RunFits, Told}
+use Rattle.swd_host.specs.Reports.{EndsAt, RunFits, RunsOver, Told}
 use Rattle.swd_script.specs.Scripts.{Meaning}
-use Rattle.swd_run.specs.Running.{IsExcused, RunsAs, memory_of}
+use Rattle.swd_run.specs.Running.{IsExcused, RunsAs, AreRead, Ran, memory_of}
+use Rattle.swd_run.specs.Tracing.{AreItems, IsTraceOf, IsRecorded}
 
 excused : (ended : End) (tries : ℕ) (marks : List Mark) (s t : Port) → s.tally.disturbed ≡ 0 → s.tally.lost ≡ 0 →
     t.tally.disturbed ≤ disturbed_among marks → t.tally.lost ≤ lost_among marks → EndsAt ended tries s t → IsExcused ended tries marks
@@ -17,10 +23,13 @@ excused TriesOut tries marks s t d l p q e = let grew = e.1 in omega arith
 excused (WrongId word) tries marks s t d l p q e = absurd e
 excused Confused tries marks s t d l p q e = absurd e
 
--- a run from a state in which no request was sent, with at most the marks of a plan
-pub run_as : (tries : ℕ) (script : Meaning) (marks : List Mark) (told : Told) (s t : Port) → s.tally.disturbed ≡ 0 → s.tally.lost ≡ 0 →
-    t.tally.disturbed ≤ disturbed_among marks → t.tally.lost ≤ lost_among marks → RunFits script.accesses tries (memory_of script) told s t → RunsAs tries script marks told
-run_as tries script marks told s t d l p q fits =
+-- a run from a target that was just made, which met at most the marks of a plan
+pub run_as : (tries : ℕ) (script : Meaning) (marks : List Mark) (told : Told) (s t : Port) → s ≡ made 731911287 (memory_of script) →
+    t.tally.disturbed ≤ disturbed_among marks → t.tally.lost ≤ lost_among marks → RunsOver script.accesses tries told s t → RunsAs tries script marks told
+run_as tries script marks told s t is_made p q over =
+    let fits : RunFits script.accesses tries (memory_of script) told s t = over 731911287 (memory_of script) is_made refl in
+    let d : s.tally.disturbed ≡ 0 = ap (λ x. x.tally.disturbed) is_made in
+    let l : s.tally.lost ≡ 0 = ap (λ x. x.tally.lost) is_made in
     let most = fits.most in
     record {
       memory = t.target.memory;
@@ -30,3 +39,49 @@ run_as tries script marks told s t d l p q fits =
       least = fits.least;
       most = omega arith;
     }
+
+-- ---- what a recorded run leaves
+
+ends_at : (ended : End) (tries : ℕ) (s t : Port) → EndsAt ended tries s t → (pending t.link.due ≡ 0) × ((t.link.due ≡ DueLost) ↔ (ended ≡ Lost))
+ends_at All tries s t e = (ap pending e, (λ d. absurd (apart t.link.due e d), λ f. absurd cc))
+  where
+    apart : (due : Due) → due ≡ Nothing → due ≡ DueLost → ⊥
+    apart due e d = cc
+ends_at Lost tries s t e = (ap pending e.0, (λ d. refl, λ f. e.0))
+ends_at TriesOut tries s t e = (ap pending e.0, (λ d. absurd (apart t.link.due e.0 d), λ f. absurd cc))
+  where
+    apart : (due : Due) → due ≡ Nothing → due ≡ DueLost → ⊥
+    apart due e d = cc
+ends_at (WrongId word) tries s t e = absurd e
+ends_at Confused tries s t e = absurd e
+
+pub run_recorded : (tries : ℕ) (script : Meaning) (told : Told) (s t : Port) → s ≡ made 731911287 (memory_of script) → RunsOver script.accesses tries told s t → IsRecorded told t
+run_recorded tries script told s t is_made over =
+    let fits : RunFits script.accesses tries (memory_of script) told s t = over 731911287 (memory_of script) is_made refl in
+    let (rests, lost) = ends_at told.ended tries s t fits.ends in
+    record {
+      asked = (let counted = fits.counted in let none : s.tally.asked ≡ 0 = ap (λ x. x.tally.asked) is_made in omega (arith, counted, none));
+      rests = rests;
+      lost = lost;
+    }
+
+-- its items are its trace
+pub trace_of : (told : Told) (port : Port) (items : List Item) → IsRecorded told port → AreItems items →
+    transactions items + pending port.link.due ≡ port.tally.asked → EndsUnacknowledged items ↔ (port.link.due ≡ DueLost) → IsTraceOf told items
+trace_of told port items recorded read count lost = record {
+  read = read;
+  counted = (let asked = recorded.asked in let rests = recorded.rests in omega (arith, count, asked, rests));
+  lost = (λ e. recorded.lost.0 (lost.0 e), λ e. lost.1 (recorded.lost.1 e));
+}
+
+-- ---- what was read, and what came of it
+
+abbrev pub ran_as : (tries : ℕ) (script plan : Option (List ℕ)) (m : Meaning) (marks : List Mark) (told : Told) → AreRead script plan m marks →
+    RunsAs tries m marks told → Ran tries script plan
+ran_as tries script plan m marks told read runs = record {
+  meaning = m;
+  marks = marks;
+  read = read;
+  told = told;
+  runs = runs;
+}

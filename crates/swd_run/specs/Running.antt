@@ -17,7 +17,7 @@ use Rattle.swd_script.specs.Plans.{plan_of}
 use Rattle.swd_script.specs.Readers.{IsScriptFault, IsPlanFault}
 use Rattle.swd_script.specs.declared.fault.ScriptFault.{ScriptFault}
 use Rattle.swd_text.specs.declared.fault.EngineFault.{EngineFault}
-use Rattle.swd_text.specs.declared.fault.EngineFault.TheVariants.{Script, Plan, Text, List as Listing, Read, Write, Memory}
+use Rattle.swd_text.specs.declared.fault.EngineFault.TheVariants.{Script, Plan, Text, List as Listing, Read, Write, Memory, TraceCut}
 use Rattle.swd_run.specs.Reports.{report_text}
 
 -- the memory of a script, before its run
@@ -41,16 +41,20 @@ pub record RunsAs (tries : ℕ) (script : Meaning) (marks : List Mark) (told : T
   pub least : told.ended ≡ All → 9 + length script.accesses ≤ told.requests
   pub most : told.requests ≤ 9 + 6 * length script.accesses + 5 * disturbed_among marks
 
--- the readers' texts are a script and a plan, and a run of them came to a report
-pub record Ran (tries : ℕ) (script plan : Option (List ℕ)) : Type 0 where
+-- the readers' texts are a script and a plan with these meanings
+pub record AreRead (script plan : Option (List ℕ)) (meaning : Meaning) (marks : List Mark) : Type 0 where
   pub script_text : List ℕ
   pub is_script : IsText script script_text
-  pub meaning : Meaning
   pub means : script_of script_text ≡ Ok meaning
   pub plan_text : List ℕ
   pub is_plan : IsText plan plan_text
-  pub marks : List Mark
   pub plans : plan_of plan_text ≡ Ok marks
+
+-- and a run of them came to a report
+pub record Ran (tries : ℕ) (script plan : Option (List ℕ)) : Type 0 where
+  pub meaning : Meaning
+  pub marks : List Mark
+  pub read : AreRead script plan meaning marks
   pub told : Told
   pub runs : RunsAs tries meaning marks told
 
@@ -65,19 +69,30 @@ IsScript known = IfSome known (λ text. IsOk (script_of text))
 abbrev pub IsPlan : Option (List ℕ) → Type 0
 IsPlan known = IfSome known (λ text. IsOk (plan_of text))
 
+-- why the texts were not run: the first fault of the script, or of the plan of a good script, or a reader failed
+abbrev pub AreUnread : EngineFault → Option (List ℕ) → Option (List ℕ) → Type 0
+AreUnread (Script fault) script plan = IfSome script (IsScriptFault fault)
+AreUnread (Plan fault) script plan = IsScript script × IfSome plan (IsPlanFault fault)
+AreUnread Read script plan = Unit {0}
+AreUnread Memory script plan = ⊥
+AreUnread (Write written) script plan = ⊥
+AreUnread (Text fault) script plan = ⊥
+AreUnread (Listing fault) script plan = ⊥
+AreUnread TraceCut script plan = ⊥
+
 -- What an answer says of the readers' texts, where their bytes are known, and of what the writer holds before and after.
 abbrev pub RunsText : ℕ → Result End EngineFault → Option (List ℕ) → Option (List ℕ) → Option (List ℕ) → Option (List ℕ) → Type 0
 RunsText tries (Ok ended) script plan old new =
     (ran : Ran tries script plan) × (ended ≡ ran.told.ended) × Appends old new (report_of ran)
 RunsText tries (Err (Write written)) script plan old new =
     (ran : Ran tries script plan) × Stopped written old new (report_of ran)
-RunsText tries (Err (Script fault)) script plan old new = IfSome script (IsScriptFault fault) × Appends old new []
-RunsText tries (Err (Plan fault)) script plan old new =
-    IsScript script × IfSome plan (IsPlanFault fault) × Appends old new []
+RunsText tries (Err (Script fault)) script plan old new = AreUnread (Script fault) script plan × Appends old new []
+RunsText tries (Err (Plan fault)) script plan old new = AreUnread (Plan fault) script plan × Appends old new []
 RunsText tries (Err Read) script plan old new = Appends old new []
 RunsText tries (Err Memory) script plan old new = IsScript script × IsPlan plan × Appends old new []
 RunsText tries (Err (Text fault)) script plan old new = ⊥
 RunsText tries (Err (Listing fault)) script plan old new = ⊥
+RunsText tries (Err TraceCut) script plan old new = ⊥
 
 -- a fault of a script, or of its reader
 abbrev pub script_fault : Unread ScriptFault → EngineFault

@@ -1,12 +1,15 @@
 //! The engine of `swd run`: a script's accesses over a simulated target, each once, whatever the plan
-//! does to the wire; and its report, as text.
+//! does to the wire; its report, as text, and the trace of what went over the wire.
 #![tactic(auto)]
 
 mod report;
 mod running;
+mod texts;
+mod tracing;
 
 pub use report::{ReportLine, answer_line, last_line, write_report};
 pub use running::run_text;
+pub use tracing::run_traced;
 
 #[cfg(test)]
 mod tests;

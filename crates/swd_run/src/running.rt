@@ -1,19 +1,21 @@
 //! A script and a plan, to the report of their run.
 ghost use Rattle.std.specs.Prelude.{◌≡◌, IfSome};
-ghost use Rattle.swd_host.specs.Reports.{told_of};
+ghost use Rattle.swd_port.specs.declared.wire.Due.TheVariants.{Nothing};
+ghost use Rattle.swd_port.specs.Port.{made};
+ghost use Rattle.swd_host.specs.Reports.{told_of, RunsOver};
 ghost use Rattle.swd_script.specs.Readers.{meaning};
-ghost use Rattle.swd_target.specs.Marks.{IsPlan};
 ghost use Rattle.swd_script.specs.Laws.{IsRunnable};
+ghost use Rattle.swd_target.specs.Marks.{IsPlan};
+ghost use Rattle.swd_target.specs.Benches.{port_of, plan_of};
 ghost use Rattle.swd_run.specs.Running.{RunsAs, RunsText, memory_of};
-ghost use Rattle.swd_run.specs.Running.{plan_fault as plan_fault_of, script_fault as script_fault_of};
 
 use crate::report::write_report;
+use crate::texts::{Texts, read_texts};
 use std::alloc::Global;
 use std::io::{Read, Write};
 use swd_host::{End, Refused, Report, run};
-use swd_io::Unread;
-use swd_port::Mark;
-use swd_script::{Script, ScriptFault, read_plan, read_script};
+use swd_port::{Mark, Wire};
+use swd_script::Script;
 use swd_target::laws::marks_used;
 use swd_target::{Bench, MakeFault, Memory, Quirks};
 use swd_text::EngineFault;
@@ -24,26 +26,6 @@ const QUIRKS: Quirks = Quirks {
     late: false,
     filler: 0,
 };
-
-// The fault of a script that was not read.
-fn script_fault(unread: Unread<ScriptFault>) -> EngineFault
-    ensures { result ≡ script_fault_of unread }
-{
-    match unread {
-        Unread::Reader => EngineFault::Read,
-        Unread::Consumer(fault) => EngineFault::Script(fault),
-    }
-}
-
-// The fault of a plan that was not read.
-fn plan_fault(unread: Unread<ScriptFault>) -> EngineFault
-    ensures { result ≡ plan_fault_of unread }
-{
-    match unread {
-        Unread::Reader => EngineFault::Read,
-        Unread::Consumer(fault) => EngineFault::Plan(fault),
-    }
-}
 
 // The memory of a script. `None` where memory was refused.
 fn zero_memory(alloc: Global, script: &Script<Global>) -> Option<Memory>
@@ -57,6 +39,37 @@ fn zero_memory(alloc: Global, script: &Script<Global>) -> Option<Memory>
     }
 }
 
+/// The simulated target of a script, whose requests meet these marks. `None` where memory was refused.
+pub(crate) fn target_of(alloc: Global, script: &Script<Global>, plan: Vec<Mark>) -> Option<Bench>
+    requires script { IsRunnable (meaning script.now) }
+    requires plan { IsPlan plan.items }
+    ensures port { IfSome result (λ bench. port_of bench ≡ made 0x2ba0_1477 (memory_of (meaning script.now))) }
+    ensures plan { IfSome result (λ bench. plan_of bench ≡ plan.items) }
+{
+    let memory = zero_memory(alloc, script)?;
+    Some(Bench::new(memory, QUIRKS, plan))
+}
+
+/// Runs the accesses of a script over a wire. `None` where memory was refused, before the first bit.
+pub(crate) fn run_over<W: Wire>(
+    alloc: Global,
+    wire: &mut W,
+    script: &Script<Global>,
+    tries: u32,
+) -> Option<Report>
+    requires script { IsRunnable (meaning script.now) }
+    requires due { (W.port wire.old).link.due ≡ Nothing }
+    ensures fits { IfSome result (λ report. RunsOver (meaning script.now).accesses tries (told_of report)
+        (W.port wire.old) (W.port wire.new)) }
+    ensures plan { W.plan wire.new ≡ W.plan wire.old }
+{
+    match run(alloc, wire, script.accesses.as_slice(), tries) {
+        Ok(report) => Some(report),
+        Err(Refused::Memory) => None,
+        Err(_) => unreachable!(),
+    }
+}
+
 // Runs a script over a simulated target, whose requests meet these marks. `None` where memory was
 // refused, before the first bit.
 fn run_script(alloc: Global, script: &Script<Global>, plan: Vec<Mark>, tries: u32) -> Option<Report>
@@ -64,15 +77,11 @@ fn run_script(alloc: Global, script: &Script<Global>, plan: Vec<Mark>, tries: u3
     requires plan { IsPlan plan.items }
     ensures { IfSome result (λ report. RunsAs tries (meaning script.now) plan.items (told_of report)) }
 {
-    let memory = zero_memory(alloc, script)?;
-    let mut bench = Bench::new(memory, QUIRKS, plan);
+    let mut bench = target_of(alloc, script, plan)?;
     // The marks that a run meets are among those of the plan.
     marks_used();
-    match run(alloc, &mut bench, script.accesses.as_slice(), tries) {
-        Ok(report) => Some(report),
-        Err(Refused::Memory) => None,
-        Err(_) => unreachable!(),
-    }
+    let report = run_over(alloc, &mut bench, script, tries)?;
+    Some(report)
 }
 
 /// Reads a script and a plan, runs the script's accesses over a simulated target whose requests meet
@@ -98,13 +107,9 @@ pub fn run_text<S: Read, P: Read, W: Write>(
     ensures { RunsText tries result (S.remaining script.old) (P.remaining plan.old)
         (W.contents writer.old) (W.contents writer.new) }
 {
-    let script = match read_script(alloc, script) {
-        Ok(script) => script,
-        Err(unread) => return Err(script_fault(unread)),
-    };
-    let plan = match read_plan(alloc, plan) {
-        Ok(plan) => plan,
-        Err(unread) => return Err(plan_fault(unread)),
+    let Texts { script, plan } = match read_texts(alloc, script, plan) {
+        Ok(texts) => texts,
+        Err(fault) => return Err(fault),
     };
     let Some(report) = run_script(alloc, &script, plan, tries) else {
         return Err(EngineFault::Memory);

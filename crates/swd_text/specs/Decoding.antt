@@ -11,7 +11,7 @@ use Rattle.swd_trace.specs.Texts.{listing}
 use Rattle.swd_text.specs.declared.fault.TextFault.{TextFault}
 use Rattle.swd_text.specs.declared.fault.TextFault.TheVariants.{BadChar, TooLong}
 use Rattle.swd_text.specs.declared.fault.EngineFault.{EngineFault}
-use Rattle.swd_text.specs.declared.fault.EngineFault.TheVariants.{Script, Plan, Text, List as Listing, Read, Write, Memory}
+use Rattle.swd_text.specs.declared.fault.EngineFault.TheVariants.{Script, Plan, Text, List as Listing, Read, Write, Memory, TraceCut}
 
 -- the text has bits, fewer than 2^64, and they decide these items
 pub record DecidedBy (text : List ℕ) (items : List Item) : Type 0 where
@@ -74,6 +74,7 @@ Decodes (Err Memory) text left old new = ⊥
 Decodes (Err (Listing fault)) text left old new = ⊥
 Decodes (Err (Script fault)) text left old new = ⊥
 Decodes (Err (Plan fault)) text left old new = ⊥
+Decodes (Err TraceCut) text left old new = ⊥
 
 -- the reading of a whole text went out, all of it or exactly its first bytes
 abbrev pub Finishes : Result (Unit {0}) EngineFault → List ℕ → Option (List ℕ) → Option (List ℕ) → Type 0
@@ -86,3 +87,4 @@ Finishes (Err (Text fault)) text start now = ⊥
 Finishes (Err (Listing fault)) text start now = ⊥
 Finishes (Err (Script fault)) text start now = ⊥
 Finishes (Err (Plan fault)) text start now = ⊥
+Finishes (Err TraceCut) text start now = ⊥

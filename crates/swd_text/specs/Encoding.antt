@@ -8,7 +8,7 @@ use Rattle.swd_trace.specs.Listed.{lines, Lists, IsNormal, Refuses}
 use Rattle.swd_trace.specs.Texts.{trace_text}
 use Rattle.swd_io.specs.Blocks.{Stopped}
 use Rattle.swd_text.specs.declared.fault.EngineFault.{EngineFault}
-use Rattle.swd_text.specs.declared.fault.EngineFault.TheVariants.{Script, Plan, Text, List as Listing, Read, Write, Memory}
+use Rattle.swd_text.specs.declared.fault.EngineFault.TheVariants.{Script, Plan, Text, List as Listing, Read, Write, Memory, TraceCut}
 
 -- the text lists these items, and the list is normal: it is the reading of its own bits
 pub record ListsNormal (items : List Item) (text : List ℕ) : Type 0 where
@@ -32,6 +32,7 @@ Encodes (Err (Write told)) text old new = (items : List Item) × IfSome text (Li
 Encodes (Err (Text fault)) text old new = ⊥
 Encodes (Err (Script fault)) text old new = ⊥
 Encodes (Err (Plan fault)) text old new = ⊥
+Encodes (Err TraceCut) text old new = ⊥
 
 -- a fault of the listing is told as that, one of its reader or its memory as such
 abbrev pub fault_in : ListFault → EngineFault

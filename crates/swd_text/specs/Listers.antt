@@ -15,7 +15,7 @@ use Rattle.swd_text.specs.declared.lister.Lister.{Lister}
 use Rattle.swd_text.specs.declared.fault.TextFault.{TextFault}
 use Rattle.swd_text.specs.declared.fault.TextFault.TheVariants.{BadChar, TooLong}
 use Rattle.swd_text.specs.declared.fault.EngineFault.{EngineFault}
-use Rattle.swd_text.specs.declared.fault.EngineFault.TheVariants.{Script, Plan, Text, List as Listing, Read, Write, Memory}
+use Rattle.swd_text.specs.declared.fault.EngineFault.TheVariants.{Script, Plan, Text, List as Listing, Read, Write, Memory, TraceCut}
 
 -- The items so far and what the decoder holds are the reading of the bits so far, whatever follows, and the items' lines
 -- are under way.
@@ -94,6 +94,7 @@ EndsBy Memory start now text = ⊥
 EndsBy (Listing fault) start now text = ⊥
 EndsBy (Script fault) start now text = ⊥
 EndsBy (Plan fault) start now text = ⊥
+EndsBy TraceCut start now text = ⊥
 
 abbrev pub Ends : {W : Type 0} → (W → Option (List ℕ)) → Option (List ℕ) → Lister × W → EngineFault → List ℕ → Type 0
 Ends contents start state fault text = EndsBy fault start (contents state.1) text

@@ -33,8 +33,13 @@ fn put_item<W: Write>(block: &mut Block<'_, W>, item: &Item)
     }
 }
 
-// Writes the trace text of some items.
-fn write_items<W: Write>(writer: &mut W, items: &[Item]) -> Result<(), u64>
+/// Writes the trace text of some items, one line an item. It takes no memory.
+///
+/// # Errors
+///
+/// How many bytes of the text went out, where the writer failed or took no bytes: exactly its first
+/// ones. Nothing is tried again.
+pub fn write_items<W: Write>(writer: &mut W, items: &[Item]) -> Result<(), u64>
     requires { AreLegal items.now }
     ensures { Writes result (W.contents writer.old) (W.contents writer.new) (trace_text items.now) }
 {

@@ -40,4 +40,7 @@ pub enum EngineFault {
     /// Memory was refused.
     #[error("no memory")]
     Memory,
+    /// The trace of a run was cut off: memory was refused for it.
+    #[error("trace cut")]
+    TraceCut,
 }

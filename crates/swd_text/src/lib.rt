@@ -8,7 +8,7 @@ mod fault;
 mod lister;
 
 pub use decoding::decode_text;
-pub use encoding::encode_text;
+pub use encoding::{encode_text, write_items};
 pub use fault::{EngineFault, TextFault};
 
 #[cfg(test)]

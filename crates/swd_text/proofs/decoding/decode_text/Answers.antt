@@ -9,7 +9,7 @@ use Rattle.swd_text.specs.Decoding.{Decodes, Finishes, ReadsAs, StopsWith}
 use Rattle.swd_text.specs.Listers.{HasRead, Ends}
 use Rattle.swd_text.specs.declared.fault.TextFault.{TextFault}
 use Rattle.swd_text.specs.declared.fault.EngineFault.{EngineFault}
-use Rattle.swd_text.specs.declared.fault.EngineFault.TheVariants.{Script, Plan, Text, List as Listing, Read, Write, Memory}
+use Rattle.swd_text.specs.declared.fault.EngineFault.TheVariants.{Script, Plan, Text, List as Listing, Read, Write, Memory, TraceCut}
 use Rattle.swd_text.specs.declared.lister.Lister.{Lister}
 use Rattle.swd_text.proofs.DecodingLemmas.{decided_by}
 use Rattle.swd_text.proofs.ListerLemmas.{has_read_nothing}
@@ -25,6 +25,7 @@ finished (Err (Text fault)) text left start now read h e f = absurd f
 finished (Err (Listing fault)) text left start now read h e f = absurd f
 finished (Err (Script fault)) text left start now read h e f = absurd f
 finished (Err (Plan fault)) text left start now read h e f = absurd f
+finished (Err TraceCut) text left start now read h e f = absurd f
 
 -- a fault that was found, whatever follows
 found : (text left : Option (List ℕ)) (read : List ℕ) (fault : TextFault) (items : List Item) → Consumes text left read →
@@ -42,6 +43,7 @@ ended contents Memory text left start state read h e = absurd e
 ended contents (Listing fault) text left start state read h e = absurd e
 ended contents (Script fault) text left start state read h e = absurd e
 ended contents (Plan fault) text left start state read h e = absurd e
+ended contents TraceCut text left start state read h e = absurd e
 
 unread : {W : Type 0} (contents : W → Option (List ℕ)) (fault : Unread EngineFault) (text left start : Option (List ℕ)) (before after : Lister × W) →
     HasRead contents start before [] →

@@ -1,0 +1,55 @@
+-- What an answer to a run with its trace says: the report as without it, and the trace of what went over the wire.
+use Rattle.std.specs.Prelude.{◌≡◌, ℕ, ◌↔◌, ◌⊎◌, List, [], Option, Result, Ok, Err}
+use Rattle.std.specs.Io.KnownBytes.{Appends}
+use Rattle.swd_io.specs.Blocks.{Stopped}
+use Rattle.swd_trace.specs.declared.item.Item.{Item}
+use Rattle.swd_trace.specs.Reading.{reading_of}
+use Rattle.swd_trace.specs.Texts.{bits_of_items, trace_text}
+use Rattle.swd_recorder.specs.Steps.{transactions, pending, EndsUnacknowledged}
+use Rattle.swd_port.specs.Port.{Port}
+use Rattle.swd_port.specs.declared.wire.Due.TheVariants.{Lost as DueLost}
+use Rattle.swd_host.specs.declared.outcome.End.{End}
+use Rattle.swd_host.specs.declared.outcome.End.TheVariants.{Lost}
+use Rattle.swd_host.specs.Reports.{Told}
+use Rattle.swd_text.specs.declared.fault.EngineFault.{EngineFault}
+use Rattle.swd_text.specs.declared.fault.EngineFault.TheVariants.{Script, Plan, Text, List as Listing, Read, Write, Memory, TraceCut}
+use Rattle.swd_run.specs.Running.{Ran, report_of, IsScript, IsPlan, AreUnread}
+
+-- items that their own bits are read as
+abbrev pub AreItems : List Item → Type 0
+AreItems items = reading_of (bits_of_items items) ≡ items
+
+-- The whole trace of a run: a transaction for each request that was sent, the last of all items one without an
+-- acknowledgement exactly where the run was lost.
+pub record IsTraceOf (told : Told) (items : List Item) : Type 0 where
+  pub read : AreItems items
+  pub counted : transactions items ≡ told.requests
+  pub lost : EndsUnacknowledged items ↔ (told.ended ≡ Lost)
+
+-- how a run leaves the wire that was recorded from its start
+pub record IsRecorded (told : Told) (port : Port) : Type 0 where
+  pub asked : port.tally.asked ≡ told.requests
+  pub rests : pending port.link.due ≡ 0
+  pub lost : (port.link.due ≡ DueLost) ↔ (told.ended ≡ Lost)
+
+-- What an answer says of the readers' texts, where their bytes are known, of what the report's writer holds before and
+-- after, and of what the trace's holds. The report is written first.
+abbrev pub RunsTraced : ℕ → Result End EngineFault → Option (List ℕ) → Option (List ℕ) → Option (List ℕ) → Option (List ℕ) → Option (List ℕ) → Option (List ℕ) → Type 0
+RunsTraced tries (Ok ended) script plan old new before after =
+    (ran : Ran tries script plan) × (ended ≡ ran.told.ended) × Appends old new (report_of ran)
+    × (items : List Item) × IsTraceOf ran.told items × Appends before after (trace_text items)
+RunsTraced tries (Err TraceCut) script plan old new before after =
+    (ran : Ran tries script plan) × Appends old new (report_of ran)
+    × (items : List Item) × AreItems items × Appends before after (trace_text items)
+RunsTraced tries (Err (Write written)) script plan old new before after =
+    (ran : Ran tries script plan) × ((Stopped written old new (report_of ran) × Appends before after [])
+    ⊎ (Appends old new (report_of ran) × (items : List Item) × AreItems items × Stopped written before after (trace_text items)))
+RunsTraced tries (Err (Script fault)) script plan old new before after =
+    AreUnread (Script fault) script plan × Appends old new [] × Appends before after []
+RunsTraced tries (Err (Plan fault)) script plan old new before after =
+    AreUnread (Plan fault) script plan × Appends old new [] × Appends before after []
+RunsTraced tries (Err Read) script plan old new before after = Appends old new [] × Appends before after []
+RunsTraced tries (Err Memory) script plan old new before after =
+    IsScript script × IsPlan plan × Appends old new [] × Appends before after []
+RunsTraced tries (Err (Text fault)) script plan old new before after = ⊥
+RunsTraced tries (Err (Listing fault)) script plan old new before after = ⊥

@@ -1,0 +1,59 @@
+//! The script and the plan of a run, read before it.
+ghost use Rattle.std.specs.Prelude.{◌≡◌, IfOk, IfErr};
+ghost use Rattle.swd_script.specs.Readers.{meaning};
+ghost use Rattle.swd_run.specs.Running.{AreRead, AreUnread};
+ghost use Rattle.swd_run.specs.Running.{plan_fault as plan_fault_of, script_fault as script_fault_of};
+
+use std::alloc::Global;
+use std::io::Read;
+use swd_io::Unread;
+use swd_port::Mark;
+use swd_script::{Script, ScriptFault, read_plan, read_script};
+use swd_text::EngineFault;
+
+/// A script and the marks of a plan.
+#[derive(Drop)]
+pub(crate) struct Texts {
+    pub(crate) script: Script<Global>,
+    pub(crate) plan: Vec<Mark>,
+}
+
+// The fault of a script that was not read.
+fn script_fault(unread: Unread<ScriptFault>) -> EngineFault
+    ensures { result ≡ script_fault_of unread }
+{
+    match unread {
+        Unread::Reader => EngineFault::Read,
+        Unread::Consumer(fault) => EngineFault::Script(fault),
+    }
+}
+
+// The fault of a plan that was not read.
+fn plan_fault(unread: Unread<ScriptFault>) -> EngineFault
+    ensures { result ≡ plan_fault_of unread }
+{
+    match unread {
+        Unread::Reader => EngineFault::Read,
+        Unread::Consumer(fault) => EngineFault::Plan(fault),
+    }
+}
+
+/// Reads a script and then a plan.
+pub(crate) fn read_texts<S: Read, P: Read>(
+    alloc: Global,
+    script: &mut S,
+    plan: &mut P,
+) -> Result<Texts, EngineFault>
+    ensures read { IfOk result (λ texts. AreRead (S.remaining script.old) (P.remaining plan.old)
+        (meaning texts.script) texts.plan.items) }
+    ensures fault { IfErr result (λ fault. AreUnread fault (S.remaining script.old) (P.remaining plan.old)) }
+{
+    let script = match read_script(alloc, script) {
+        Ok(script) => script,
+        Err(unread) => return Err(script_fault(unread)),
+    };
+    match read_plan(alloc, plan) {
+        Ok(plan) => Ok(Texts { script, plan }),
+        Err(unread) => Err(plan_fault(unread)),
+    }
+}
