@@ -8,7 +8,7 @@ use arrayvec::ArrayVec;
 use std::io::Write;
 
 // The most bytes that are held back.
-const SIZE: usize = 8192;
+const SIZE: usize = 32768;
 
 /// The longest piece that is put in at once, in bytes.
 pub const LONGEST: usize = 1024;

@@ -181,19 +181,19 @@ fn a_run_at_each_write_that_fails(rt: HostRuntime) {
 #[test]
 fn a_long_report_where_a_write_fails(rt: HostRuntime) -> Result<(), Fail> {
     let mut report = Vec::new(rt.alloc());
-    for _ in 0..1000u16 {
+    for _ in 0..2000u16 {
         report.extend_from_slice(b"r 00000000 00000000\n")?;
     }
-    report.extend_from_slice(b"end all 1000\n")?;
+    report.extend_from_slice(b"end all 2000\n")?;
     let mut line = Vec::new(rt.alloc());
     line.extend_from_slice(b"memory 0 1\n")?;
-    for _ in 0..1000u16 {
+    for _ in 0..2000u16 {
         line.extend_from_slice(b"r 0\n")?;
     }
     let run = run_on(&rt, line.as_slice(), b"".as_slice(), TRIES);
     assert_eq!(rt; run.answer, Ok(End::All));
     assert!(rt; run.text.as_slice() == report.as_slice());
-    for room in [0, 1, 19, 20, 21, 7000, 8191, 8192, 8193, 20012] {
+    for room in [0, 1, 19, 20, 21, 7000, 32767, 32768, 32769, 40012] {
         let mut script = line.as_slice();
         let mut plan = b"".as_slice();
         let mut writer = ShortWriter::new(rt.alloc(), room, true);

@@ -240,12 +240,12 @@ fn decoding_more_than_a_block_where_a_write_fails(rt: HostRuntime) -> Result<(),
     trace.extend_from_slice(b"10100101 1 111 ")?;
     let mut lines = Vec::new(rt.alloc());
     lines.extend_from_slice(b"dp 0 read none 7\n")?;
-    for _ in 0..1500u16 {
+    for _ in 0..5000u16 {
         trace.extend_from_slice(b"0")?;
         lines.extend_from_slice(b"junk 0\n")?;
     }
     for fails in [false, true] {
-        for room in [0, 1, 16, 17, 18, 7000, 8191, 8192, 8193, 10516] {
+        for room in [0, 1, 16, 17, 18, 7000, 32767, 32768, 32769, 35016] {
             let mut writer = ShortWriter::new(rt.alloc(), room, fails);
             let mut reader = trace.as_slice();
             let answer = decode_text(&mut reader, &mut writer);
@@ -255,7 +255,7 @@ fn decoding_more_than_a_block_where_a_write_fails(rt: HostRuntime) -> Result<(),
             assert_eq!(rt; writer.taken(), &lines.as_slice()[..room]);
         }
     }
-    assert_eq!(rt; lines.len(), 10517);
+    assert_eq!(rt; lines.len(), 35017);
     Ok(())
 }
 

@@ -161,7 +161,7 @@ impl Decoder {
     /// how many: those at the front. Where a run of equal bits is held, it takes all that go on it;
     /// else all, or as many as bring the bits that it holds to the 46 of the longest transaction.
     /// Every item that was due has to be taken before.
-    #[inline]
+    #[inline(always)]
     pub fn take_bits(&mut self, bits: u64, count: u8) -> u8
         requires settled { IsSettled self.old }
         requires some { 0 < count }
@@ -295,7 +295,7 @@ impl Decoder {
     }
 
     /// The next item that is decided, whatever bits may follow. `None` where none is.
-    #[inline]
+    #[inline(always)]
     pub fn due(&mut self) -> Option<Item>
         ensures item { IfSome result (λ item. (more : List Bool) → rest self.old more ≡ item ∷ rest self.new more) }
         ensures read { IfSome result (λ item. (bits : List Bool) (items : List Item)
@@ -316,6 +316,7 @@ impl Decoder {
     }
 
     // The next item that is decided, by all that is held.
+    #[inline(always)]
     fn decide(&mut self) -> Option<Item>
         ensures { Decides self.old self.new result }
     {
@@ -383,6 +384,7 @@ impl Decoder {
     }
 
     // The next item of held bits without a run.
+    #[inline(always)]
     fn decide_bits(&mut self) -> Option<Item>
         requires { self.old.run ≡ 0 }
         ensures { Decides self.old self.new result }
@@ -421,7 +423,7 @@ impl Decoder {
     }
 
     // Idle cycles, a transaction or the beginning of one, or neither.
-    #[inline]
+    #[inline(always)]
     fn synced(&mut self) -> Option<Item>
         requires run { self.old.run ≡ 0 }
         requires some { 0 < self.old.len }
