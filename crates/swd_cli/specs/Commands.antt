@@ -1,7 +1,8 @@
 -- The program's command, as a parse reads it, and what its words mean.
-use Rattle.std.specs.Prelude.{◌≡◌, List, [], ◌∷◌, Option, Some, IsSomeAnd, true, codes, pos}
+use Rattle.std.specs.Prelude.{ℕ, ◌≡◌, ◌≤◌, List, [], ◌∷◌, Option, Some, None, IsSomeAnd, true, codes, pos}
 use Rattle.std.specs.Option.{option_map}
 use Rattle.std.specs.String.{string_bytes}
+use Rattle.std.specs.Str.Parse.{signed_digits_value}
 use Rattle.clap.specs.Words.{App, Row, first_of, Rule, Text, new_app, new_rule, with_rule, with_subcommand}
 use Rattle.swd_cli.specs.declared.command.Line.{Line}
 use Rattle.swd_cli.specs.declared.command.Line.TheVariants.{One, Decode, Encode, Run}
@@ -41,9 +42,13 @@ tries_rule =
       defaults = codes "8" ∷ [];
     }
 
+-- the trace, after --trace
+abbrev pub trace_rule : Rule
+trace_rule = let rule = new_rule (codes "trace") in record rule { long = Some (codes "trace"); value_names = 1 }
+
 -- the command that runs a script
 abbrev pub run_app : App
-run_app = with_rule (with_rule (with_rule (new_app (codes "run")) script_rule) plan_rule) tries_rule
+run_app = with_rule (with_rule (with_rule (with_rule (new_app (codes "run")) script_rule) plan_rule) tries_rule) trace_rule
 
 -- the whole command
 abbrev pub swd_app : App
@@ -55,10 +60,17 @@ swd_app =
 abbrev pub HasFile : Text → Option Text → Option (Text × List Row) → Type 0
 HasFile name file rows = IsSomeAnd rows (λ p. (p.0 ≡ name) × (file ≡ first_of (codes "FILE") p.1))
 
--- the script and the plan that the words name
+-- the number of tries, at most 1,000, is the one that the word stands for; 8 without a word
+abbrev pub AreTries : ℕ → Option Text → Type 0
+AreTries tries None = tries ≡ 8
+AreTries tries (Some text) = (tries ≤ 1000) × (pos tries ≡ signed_digits_value 10 text)
+
+-- the script, the plan, the number of tries and the trace that the words name
 pub record IsRunOf (run : RunLine) (rows : List Row) : Type 0 where
   pub script : Some (string_bytes run.script) ≡ first_of (codes "SCRIPT") rows
   pub plan : option_map string_bytes run.plan ≡ first_of (codes "plan") rows
+  pub tries : AreTries run.tries (first_of (codes "tries") rows)
+  pub trace : option_map string_bytes run.trace ≡ first_of (codes "trace") rows
 
 -- the line is the command that the words have
 abbrev pub IsLineOf : Line → Option (Text × List Row) → Type 0

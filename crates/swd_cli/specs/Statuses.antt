@@ -1,5 +1,5 @@
 -- What a command does, and the status that it ends with.
-use Rattle.std.specs.Prelude.{◌≡◌, ℕ, Bool, List, [], Option, None, Some, Result, Ok, Err, is_ok, if◌then◌else◌}
+use Rattle.std.specs.Prelude.{◌≡◌, ◌⊎◌, ℕ, Bool, List, [], Option, None, Some, Result, Ok, Err, is_ok, if◌then◌else◌}
 use Rattle.swd_bits.specs.One.{Answers}
 use Rattle.swd_bits.specs.declared.one.OneFault.{OneFault}
 use Rattle.swd_text.specs.Decoding.{Decodes}
@@ -11,6 +11,8 @@ use Rattle.swd_cli.specs.declared.command.RunLine.{RunLine}
 use Rattle.swd_host.specs.declared.outcome.End.{End}
 use Rattle.swd_host.specs.declared.outcome.End.TheVariants.{All, Lost, TriesOut, WrongId, Confused}
 use Rattle.swd_run.specs.Running.{RunsText}
+use Rattle.swd_run.specs.Tracing.{RunsTraced}
+use Rattle.std.specs.Io.KnownBytes.{Appends}
 
 -- 0 where all was done, 2 at a fault
 abbrev pub status_of : Bool → ℕ
@@ -25,13 +27,27 @@ status_of_run (Ok (WrongId word)) = 1
 status_of_run (Ok Confused) = 1
 status_of_run (Err fault) = 2
 
--- a run reads a script and a plan and writes a report, and its status is that of its end
-abbrev pub PerformsRun : ℕ → ℕ → Option (List ℕ) → Option (List ℕ) → Option (List ℕ) → Option (List ℕ) → Type 0
-PerformsRun tries status script plan old new =
-    (answer : Result End EngineFault) × RunsText tries answer script plan old new × (status ≡ status_of_run answer)
+-- a file can't be opened or made: status 2, and nothing was written
+abbrev pub NotOpened : ℕ → Option (List ℕ) → Option (List ℕ) → Type 0
+NotOpened status old new = (status ≡ 2) × Appends old new []
 
--- A command reads a text and writes another as its engine says, and its status is that of the engine's answer. A run
--- without a plan has an empty one.
+-- A run reads a script and a plan and writes a report, and its status is that of its end. The trace goes to the file
+-- that is named for it, of which nothing else is known.
+abbrev pub PerformsUnder : {S : Type 0} → Option S → ℕ → ℕ → Option (List ℕ) → Option (List ℕ) → Option (List ℕ) → Option (List ℕ) → Type 0
+PerformsUnder None tries status script plan old new =
+    (answer : Result End EngineFault) × RunsText tries answer script plan old new × (status ≡ status_of_run answer)
+PerformsUnder (Some trace) tries status script plan old new =
+    NotOpened status old new
+    ⊎ ((answer : Result End EngineFault) × (before : Option (List ℕ)) × (after : Option (List ℕ))
+    × RunsTraced tries answer script plan old new before after × (status ≡ status_of_run answer))
+
+-- The plan is empty where none is named, and else the text of the file that is.
+abbrev pub PerformsRun : {S : Type 0} → Option S → RunLine → ℕ → Option (List ℕ) → Option (List ℕ) → Option (List ℕ) → Type 0
+PerformsRun None run status script old new = PerformsUnder run.trace run.tries status script (Some []) old new
+PerformsRun (Some plan) run status script old new =
+    NotOpened status old new ⊎ ((text : Option (List ℕ)) × PerformsUnder run.trace run.tries status script text old new)
+
+-- A command reads a text and writes another as its engine says, and its status is that of the engine's answer.
 abbrev pub Performs : Line → ℕ → Option (List ℕ) → Option (List ℕ) → Option (List ℕ) → Option (List ℕ) → Type 0
 Performs (One file) status text left old new =
     (answer : Result (Unit {0}) OneFault) × Answers answer text old new × (status ≡ status_of (is_ok answer))
@@ -39,5 +55,4 @@ Performs (Decode file) status text left old new =
     (answer : Result (Unit {0}) EngineFault) × Decodes answer text left old new × (status ≡ status_of (is_ok answer))
 Performs (Encode file) status text left old new =
     (answer : Result (Unit {0}) EngineFault) × Encodes answer text old new × (status ≡ status_of (is_ok answer))
-Performs (Run run) status text left old new =
-    run.plan ≡ None → PerformsRun run.tries status text (Some []) old new
+Performs (Run run) status text left old new = PerformsRun run.plan run status text old new

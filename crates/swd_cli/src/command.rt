@@ -10,7 +10,7 @@ pub enum Line {
     Decode(Option<String>),
     /// `swd encode [FILE]`: without a file, standard input.
     Encode(Option<String>),
-    /// `swd run SCRIPT [--plan FILE] [--tries N]`.
+    /// `swd run SCRIPT [--plan FILE] [--tries N] [--trace FILE]`.
     Run(RunLine),
 }
 
@@ -21,8 +21,10 @@ pub struct RunLine {
     pub script: String,
     /// The file of the plan, where one is named.
     pub plan: Option<String>,
-    /// How many events an access may meet.
+    /// How many events an access may meet, at most 1,000.
     pub tries: u32,
+    /// The file that the trace is written to, where one is named.
+    pub trace: Option<String>,
 }
 
 /// Why the words are no command.

@@ -1,7 +1,7 @@
 //! What the program does with its words.
-ghost use Rattle.std.specs.Prelude.{◌≡◌, ◌≢◌, [], IfNone, IfSome, None, Some, codes};
+ghost use Rattle.std.specs.Prelude.{◌≡◌, ◌≢◌, IfNone, IfSome, Some, codes};
 ghost use Rattle.swd_cli.specs.Inputs.{IsStandard, named};
-ghost use Rattle.swd_cli.specs.Statuses.{Performs, PerformsRun};
+ghost use Rattle.swd_cli.specs.Statuses.{Performs, PerformsRun, PerformsUnder};
 
 use crate::command::{Line, LineFault, RunLine};
 use crate::files::Files;
@@ -11,7 +11,7 @@ use clap::Error;
 use std::alloc::Global;
 use std::io::{Read, Write};
 use swd_bits::one_text;
-use swd_run::run_text;
+use swd_run::{run_text, run_traced};
 use swd_text::{decode_text, encode_text};
 
 /// Does what the words ask for, the program's name first, and returns the status: 0 where all was
@@ -111,17 +111,38 @@ fn perform_run<S: Read, F: Files, O: Write, E: Write>(
     output: &mut O,
     errors: &mut E,
 ) -> u8
-    ensures { run.now.plan ≡ None
-        → PerformsRun run.now.tries result (S.remaining script.old) (Some []) (O.contents output.old) (O.contents output.new) }
+    ensures { PerformsRun run.now.plan run.now result (S.remaining script.old) (O.contents output.old) (O.contents output.new) }
 {
     let Some(name) = &run.plan else {
         let mut nothing = [].as_slice();
-        let answer = run_text(alloc, script, &mut nothing, run.tries, output);
-        return run_status(errors, answer);
+        return perform_under(alloc, run, script, &mut nothing, files, output, errors);
     };
     match files.open(name.as_str()) {
-        Ok(mut plan) => {
-            let answer = run_text(alloc, script, &mut plan, run.tries, output);
+        Ok(mut plan) => perform_under(alloc, run, script, &mut plan, files, output, errors),
+        Err(_) => cannot_open(errors, name.as_str()),
+    }
+}
+
+// Makes the file of the trace, where one is named, and runs the script under the plan.
+fn perform_under<S: Read, P: Read, F: Files, O: Write, E: Write>(
+    alloc: Global,
+    run: &RunLine,
+    script: &mut S,
+    plan: &mut P,
+    files: &F,
+    output: &mut O,
+    errors: &mut E,
+) -> u8
+    ensures { PerformsUnder run.now.trace run.now.tries result (S.remaining script.old) (P.remaining plan.old)
+        (O.contents output.old) (O.contents output.new) }
+{
+    let Some(name) = &run.trace else {
+        let answer = run_text(alloc, script, plan, run.tries, output);
+        return run_status(errors, answer);
+    };
+    match files.create(name.as_str()) {
+        Ok(mut trace) => {
+            let answer = run_traced(alloc, script, plan, run.tries, output, &mut trace);
             run_status(errors, answer)
         }
         Err(_) => cannot_open(errors, name.as_str()),

@@ -1,12 +1,12 @@
 //! The words of the command line.
-ghost use Rattle.std.specs.Prelude.{◌≡◌, IfOk, map, false};
+ghost use Rattle.std.specs.Prelude.{◌≡◌, IfOk, IfSome, Some, map, false};
 ghost use Rattle.std.specs.Option.{option_map};
 ghost use Rattle.std.specs.String.{string_bytes};
 ghost use Rattle.clap.specs.Words.{app_of, found_of, rows_of, subcommand_of, subcommand_rows_of, rule_of, shape_of};
 ghost use Rattle.clap.specs.Words.{with_rule, with_subcommand};
 ghost use Rattle.clap.specs.declared.builder.command.Command.TheViews.{out-Command};
-ghost use Rattle.swd_cli.specs.Commands.{file_rule, plan_rule, script_rule, tries_rule};
-ghost use Rattle.swd_cli.specs.Commands.{bare_app, over_file, run_app, swd_app, IsLineOf, IsRunOf};
+ghost use Rattle.swd_cli.specs.Commands.{file_rule, plan_rule, script_rule, trace_rule, tries_rule};
+ghost use Rattle.swd_cli.specs.Commands.{bare_app, over_file, run_app, swd_app, AreTries, IsLineOf, IsRunOf};
 
 use crate::command::{Line, LineFault, RunLine};
 use clap::error::ErrorKind;
@@ -66,9 +66,13 @@ The report has one line an answer, and then how the run ended: all, with the num
 lost (no acknowledgement was seen) or tries (more WAITs or changed data than --tries for one
 access), with the number of accesses that were begun then and may have taken place.
 
+A trace has what went over the line, one item a line: swd decode lists it.
+
 Status: 0 where the run ended all, 1 where it ended otherwise, 2 at a fault.";
 
+// How many events an access may meet, where the words don't say it, and at most.
 const TRIES: u32 = 8;
+const MOST_TRIES: i64 = 1000;
 
 // A value as an owned text.
 fn owned(alloc: Global, text: Option<&str>) -> Result<Option<String>, AllocError>
@@ -106,6 +110,17 @@ fn plan_arg<'a>(alloc: Global) -> Arg<'a>
     Arg::new(alloc, "plan").long("plan").value_name("FILE").help(
         "The file with the plan; without it nothing befalls the requests",
     )
+}
+
+// The file that the trace is written to.
+fn trace_arg<'a>(alloc: Global) -> Arg<'a>
+    ensures rule { rule_of result ≡ trace_rule }
+    ensures local { result.global ≡ false }
+{
+    Arg::new(alloc, "trace")
+        .long("trace")
+        .value_name("FILE")
+        .help("The file to write the trace to: all that went over the line")
 }
 
 // How many events an access may meet.
@@ -158,7 +173,8 @@ fn run_command<'a>(alloc: Global) -> Result<Command<'a>, AllocError>
         .after_help(RUN_AFTER);
     let script = with_arg(bare, script_arg(alloc))?;
     let plan = with_arg(script, plan_arg(alloc))?;
-    with_arg(plan, tries_arg(alloc))
+    let tries = with_arg(plan, tries_arg(alloc))?;
+    with_arg(tries, trace_arg(alloc))
 }
 
 // The program without its commands, of which one is required.
@@ -185,11 +201,40 @@ fn swd_command<'a>(alloc: Global) -> Result<Command<'a>, AllocError>
     with_sub(encode, run_command(alloc)?)
 }
 
-fn unknown(alloc: Global) -> LineFault {
+// Words that `clap` took and that ask for nothing: there are none.
+fn refused(alloc: Global, kind: ErrorKind, why: &str) -> LineFault {
     let mut command = Command::new(alloc, "swd");
-    match command.error(ErrorKind::InvalidSubcommand, "unknown command") {
+    match command.error(kind, why) {
         Ok(error) => LineFault::Clap(error),
         Err(_) => LineFault::Memory,
+    }
+}
+
+fn unknown(alloc: Global) -> LineFault {
+    refused(alloc, ErrorKind::InvalidSubcommand, "unknown command")
+}
+
+// The number that a word stands for. `None` where it is none of 0 to 1,000.
+fn number_in(word: &str) -> Option<u32>
+    ensures { IfSome result (λ tries. AreTries tries (Some word.now)) }
+{
+    let Ok(number) = word.parse::<i64>() else {
+        return None;
+    };
+    if 0 <= number && number <= MOST_TRIES {
+        Some(number as u32)
+    } else {
+        None
+    }
+}
+
+// The number of tries, by its word. `None` where that stands for none.
+fn tries_in(word: Option<&str>) -> Option<u32>
+    ensures { IfSome result (λ tries. AreTries tries (option_map (λ s. s.now) word.entry)) }
+{
+    match word {
+        Some(word) => number_in(word),
+        None => Some(TRIES),
     }
 }
 
@@ -203,11 +248,17 @@ fn run_line(alloc: Global, matches: &ArgMatches<'_>) -> Result<RunLine, LineFaul
     let Ok(plan) = owned(alloc, matches.get_str("plan")) else {
         return Err(LineFault::Memory);
     };
-    let tries = matches.get_one::<u32>("tries").unwrap_or(TRIES);
+    let Ok(trace) = owned(alloc, matches.get_str("trace")) else {
+        return Err(LineFault::Memory);
+    };
+    let Some(tries) = tries_in(matches.get_str("tries")) else {
+        return Err(refused(alloc, ErrorKind::InvalidValue, "a number of tries is wrong"));
+    };
     Ok(RunLine {
         script,
         plan,
         tries,
+        trace,
     })
 }
 

@@ -113,3 +113,6 @@ pub fn run_traced<S: Read, P: Read, W: Write, T: Write>(
 {
     run_traced_in(alloc, alloc, script, plan, tries, writer, trace)
 }
+
+#[cfg(test)]
+mod tests;

@@ -1,12 +1,15 @@
-use Rattle.std.proofs.Common.{◌∙◌, sym, ap, codes}
+use Rattle.std.proofs.Common.{◌∙◌, Option, sym, ap, subst, codes}
 use Rattle.std.specs.Option.{option_map}
 use Rattle.std.specs.String.{string_bytes}
-use Rattle.clap.specs.Words.{found_of}
+use Rattle.clap.specs.Words.{Text, found_of}
 use Rattle.clap.proofs.WalkLemmas.{first_value-rows}
+use Rattle.swd_cli.specs.Commands.{AreTries}
 use Rattle.swd_cli.proofs.words.run_line.Goals as goal
 
 pub returns : goal.returns
 returns c = record {
   script = ap (option_map string_bytes) (sym c.in-Ok-Some.field-0-is) ∙ c.in-Ok-Some.ensures ∙ c.get_str.ensures ∙ first_value-rows (found_of c.args.matches.now) (codes "SCRIPT");
   plan = c.in-Ok.ensures ∙ c.get_str-2.ensures ∙ first_value-rows (found_of c.args.matches.now) (codes "plan");
+  tries = subst (λ (word : Option Text). AreTries c.in-Some.tries word) (c.get_str-4.ensures ∙ first_value-rows (found_of c.args.matches.now) (codes "tries")) c.in-Some.ensures;
+  trace = c.in-Ok-owned.ensures ∙ c.get_str-3.ensures ∙ first_value-rows (found_of c.args.matches.now) (codes "trace");
 }

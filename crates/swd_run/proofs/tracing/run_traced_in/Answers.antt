@@ -32,7 +32,9 @@ returns-in-Err-write_items g c =
       ran_as c.args.tries (g.S.Read.remaining c.args.script.now) (g.P.Read.remaining c.args.plan.now) (meaning c.in-Ok.texts.script) c.in-Ok.texts.plan.items told c.in-Ok.ensures.read c.in-Some.ensures.runs,
       inr (
         subst (λ list. Appends start end (report_text list told)) c.as_slice.ensures.value c.in-Ok-write_report.ensures,
-        c.items.result.now, c.items.ensures.read, c.in-Err-write_items.ensures,
+        c.items.result.now,
+        c.items.ensures.read,
+        c.in-Err-write_items.ensures,
       ),
     )
 
@@ -43,7 +45,9 @@ returns-then-is_cut g c =
     let end = g.W.Write.contents c.write_report.new.writer in (
       ran_as c.args.tries (g.S.Read.remaining c.args.script.now) (g.P.Read.remaining c.args.plan.now) (meaning c.in-Ok.texts.script) c.in-Ok.texts.plan.items told c.in-Ok.ensures.read c.in-Some.ensures.runs,
       subst (λ list. Appends start end (report_text list told)) c.as_slice.ensures.value c.in-Ok-write_report.ensures,
-      c.items.result.now, c.items.ensures.read, c.in-Ok-write_items.ensures,
+      c.items.result.now,
+      c.items.ensures.read,
+      c.in-Ok-write_items.ensures,
     )
 
 pub returns : goal.returns
