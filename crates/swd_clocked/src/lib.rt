@@ -9,3 +9,6 @@ mod phases;
 
 pub use clocked::Clocked;
 pub use clocked_bench::ClockedBench;
+
+#[cfg(test)]
+mod tests;
