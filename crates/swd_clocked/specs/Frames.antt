@@ -6,12 +6,13 @@ use Rattle.swd_bits.specs.Bits.{bit}
 use Rattle.swd_port.specs.declared.register.Register.{Register}
 use Rattle.swd_port.specs.declared.register.Register.TheVariants.{DpIgnoredWrite}
 use Rattle.swd_port.specs.declared.state.Reply.{Reply}
-use Rattle.swd_port.specs.declared.state.Reply.TheVariants.{Okay, Waits, Faults, Silent}
+use Rattle.swd_port.specs.declared.state.Reply.TheVariants.{Waits, Faults, Silent}
 use Rattle.swd_port.specs.declared.state.Reset.TheVariants.{Fresh}
 use Rattle.swd_port.specs.declared.state.Line.{Line}
 use Rattle.swd_port.specs.declared.state.Line.TheVariants as lines
 use Rattle.swd_port.specs.Port.{Target as State}
 use Rattle.swd_port.specs.Phases.{undriven}
+use Rattle.swd_port.specs.Answers.{is_okay}
 use Rattle.swd_port.specs.Moving.{bits_driven}
 use Rattle.swd_clocked.specs.declared.frame.Frame.{Frame}
 use Rattle.swd_clocked.specs.declared.frame.Frame.TheVariants.{Asks, Lost, High, Switches, Replies, Drives, Awaits, Passes}
@@ -73,10 +74,7 @@ abbrev pub frame_seen : Reply → Line → Frame
 frame_seen Silent phase = Lost 5
 frame_seen reply phase = frame_of phase
 
-abbrev pub is_okay : Reply → Bool
-is_okay Okay = true
-is_okay reply = false
-
+-- which acknowledgement is driven
 abbrev pub is_waits : Reply → Bool
 is_waits Waits = true
 is_waits reply = false
