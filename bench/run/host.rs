@@ -170,7 +170,7 @@ impl Bench {
         }
     }
 
-    fn answer(&self, request: u8, mark: Mark) -> Ack {
+    fn answer(&self, request: u8, waits: bool) -> Ack {
         match self.reset {
             Reset::Unreset => return Ack::Lost,
             Reset::Fresh if request != DPIDR => return Ack::Lost,
@@ -183,7 +183,7 @@ impl Bench {
         if self.sticky_error || self.write_error || access_port && !self.debug_power {
             return Ack::Fault;
         }
-        if matches!(mark, Mark::Wait) { Ack::Wait } else { Ack::Ok }
+        if waits { Ack::Wait } else { Ack::Ok }
     }
 
     fn value(&self, request: u8) -> u32 {
@@ -246,33 +246,26 @@ pub trait Wire {
     fn pass(&mut self);
 }
 
-impl Wire for Bench {
-    fn lead(&mut self, ones: u32, _switch: bool, _zeros: u32) {
-        if ones == 0 {
-            return;
-        }
-        if let Line::Awaits(..) = self.line {
-            self.write_error = true;
-        }
-        self.reset = Reset::Fresh;
-        self.line = Line::Idle;
-    }
-
-    fn ask(&mut self, request: u8) -> u8 {
+impl Bench {
+    /// The mark of the next request.
+    pub fn mark(&mut self) -> Mark {
         let mark = self.plan.get(self.next).copied().unwrap_or(Mark::Clean);
         self.next += 1;
-        let ack = self.answer(request, mark);
+        mark
+    }
+
+    /// A request: the three bits of the acknowledgement, and the data of a read that is answered OK.
+    #[inline]
+    pub fn request(&mut self, request: u8, waits: bool) -> (u8, Option<u64>) {
+        let ack = self.answer(request, waits);
         match ack {
             Ack::Ok => {
-                let flip = if let Mark::Flip(place) = mark { Some(place) } else { None };
-                if is_read(request) {
-                    let bits = phase(self.value(request)) ^ flip.map_or(0, |place| 1 << place);
+                let data = is_read(request).then(|| {
+                    let bits = phase(self.value(request));
                     self.read(request);
-                    self.line = Line::Drives(bits);
-                } else {
-                    self.line = Line::Awaits(request, flip);
-                }
-                1
+                    bits
+                });
+                (1, data)
             }
             Ack::Wait | Ack::Fault => {
                 if matches!(request, RDBUFF | CSW | TAR_READ | DRW) {
@@ -281,10 +274,58 @@ impl Wire for Bench {
                 if ack == Ack::Fault && request & 2 != 0 && !self.debug_power {
                     self.sticky_error = true;
                 }
-                if ack == Ack::Wait { 2 } else { 4 }
+                (if ack == Ack::Wait { 2 } else { 4 }, None)
             }
-            Ack::Lost => 7,
+            Ack::Lost => (7, None),
         }
+    }
+
+    /// The data of a write.
+    #[inline]
+    pub fn arrive(&mut self, request: u8, bits: u64) {
+        match word_of(bits) {
+            Some(word) => self.write(request, word),
+            None => self.write_error = true,
+        }
+    }
+
+    pub fn line_reset(&mut self) {
+        self.reset = Reset::Fresh;
+    }
+}
+
+/// A data phase as the other side gets it.
+pub fn flipped(flip: Option<u8>, bits: u64) -> u64 {
+    bits ^ flip.map_or(0, |place| 1 << place)
+}
+
+/// The place of a data phase that arrives changed.
+pub fn flip_of(mark: Mark) -> Option<u8> {
+    if let Mark::Flip(place) = mark { Some(place) } else { None }
+}
+
+impl Wire for Bench {
+    fn lead(&mut self, ones: u32, _switch: bool, _zeros: u32) {
+        if ones == 0 {
+            return;
+        }
+        if let Line::Awaits(..) = self.line {
+            self.write_error = true;
+        }
+        self.line_reset();
+        self.line = Line::Idle;
+    }
+
+    fn ask(&mut self, request: u8) -> u8 {
+        let mark = self.mark();
+        let (ack, data) = self.request(request, matches!(mark, Mark::Wait));
+        let flip = flip_of(mark);
+        if let Some(bits) = data {
+            self.line = Line::Drives(flipped(flip, bits));
+        } else if ack == 1 {
+            self.line = Line::Awaits(request, flip);
+        }
+        ack
     }
 
     fn take(&mut self) -> u64 {
@@ -295,10 +336,7 @@ impl Wire for Bench {
 
     fn give(&mut self, bits: u64) {
         let Line::Awaits(request, flip) = self.line else { unreachable!() };
-        match word_of(bits ^ flip.map_or(0, |place| 1 << place)) {
-            Some(word) => self.write(request, word),
-            None => self.write_error = true,
-        }
+        self.arrive(request, flipped(flip, bits));
         self.line = Line::Idle;
     }
 

@@ -14,7 +14,7 @@ impl Random {
         Random(0x1234_5678_9abc_def1)
     }
 
-    fn word(&mut self) -> u32 {
+    pub fn word(&mut self) -> u32 {
         self.0 ^= self.0 >> 12;
         self.0 ^= self.0 << 25;
         self.0 ^= self.0 >> 27;

@@ -1,6 +1,9 @@
 //! A small generator of numbers.
 ghost use Rattle.std.specs.Prelude.{◌<◌};
 
+/// Where each workload begins.
+pub const SEED: u64 = 0x1234_5678_9abc_def1;
+
 /// Gives the same numbers in each run (xorshift64*).
 #[derive(Clone, Copy, Debug)]
 pub struct Random(pub u64);

@@ -2,15 +2,17 @@
 ghost use Rattle.std.specs.Prelude.{IsTrue};
 ghost use Rattle.swd_target.specs.Marks.{IsPlan};
 
-use crate::random::Random;
+use crate::random::{Random, SEED};
 use std::alloc::{AllocError, Global};
+use swd_clocked::ClockedBench;
 use swd_host::{Report, run};
 use swd_port::{Access, Answer};
 use swd_target::{Bench, Mark, Memory, Quirks};
 
-const SEED: u64 = 0x1234_5678_9abc_def1;
-
 const ROUNDS: u8 = 20;
+
+/// The runs clock by clock, which take longer.
+const CLOCKED_ROUNDS: u8 = 5;
 
 /// The accesses of a list, which is as many as one may have.
 const ACCESSES: u32 = 65_536;
@@ -100,6 +102,17 @@ fn one_run(alloc: Global, accesses: &[Access], random: &mut Random) -> Option<Re
     run(alloc, &mut bench, accesses, 100).ok()
 }
 
+// The same clock by clock.
+fn one_clocked_run(alloc: Global, accesses: &[Access], random: &mut Random) -> Option<Report> {
+    let plan = plan(alloc, random).ok()?;
+    if !are_legal(&plan) {
+        return None;
+    }
+    let memory = Memory::new(alloc, BASE, WORDS, ACCESSES).ok()?;
+    let mut bench = ClockedBench::new(alloc, memory, QUIRKS, plan).ok()?;
+    run(alloc, &mut bench, accesses, 100).ok()
+}
+
 fn number(answer: Answer) -> u64 {
     match answer {
         Answer::Value(word) => u64::from(word),
@@ -123,6 +136,18 @@ pub fn checksum(alloc: Global) -> Option<u64> {
     let mut sum = 0;
     for _ in 0..ROUNDS {
         let report = one_run(alloc, &accesses, &mut random)?;
+        sum = added(sum, &report);
+    }
+    Some(sum)
+}
+
+/// A sum over the reports of five runs clock by clock. None for want of memory.
+pub fn clocked_checksum(alloc: Global) -> Option<u64> {
+    let mut random = Random(SEED);
+    let accesses = accesses(alloc, random).ok()?;
+    let mut sum = 0;
+    for _ in 0..CLOCKED_ROUNDS {
+        let report = one_clocked_run(alloc, &accesses, &mut random)?;
         sum = added(sum, &report);
     }
     Some(sum)

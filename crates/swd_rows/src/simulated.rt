@@ -5,7 +5,8 @@ ghost use Rattle.swd_port.specs.Choices.{Choice, IsChoice};
 ghost use Rattle.swd_port.specs.Completion.{completed};
 ghost use Rattle.swd_target.specs.Marks.{IsPlan};
 
-use std::alloc::AllocError;
+use std::alloc::{AllocError, Global};
+use swd_clocked::ClockedBench;
 use swd_port::Wire;
 use swd_target::{Bench, Mark, Memory, Quirks};
 
@@ -13,7 +14,12 @@ use swd_target::{Bench, Mark, Memory, Quirks};
 pub trait Simulated: Wire {
     /// A target that had no line reset yet, with this memory behind its access port. The marks are
     /// those of its requests, one after the other.
-    fn simulate(memory: Memory, quirks: Quirks, plan: Vec<Mark>) -> Result<Self, AllocError>
+    fn simulate(
+        alloc: Global,
+        memory: Memory,
+        quirks: Quirks,
+        plan: Vec<Mark>,
+    ) -> Result<Self, AllocError>
         requires { IsPlan plan.items }
         ensures { IfOk result (λ target. Self.Wire.port target ≡ made 0x2ba0_1477 memory) };
 
@@ -27,7 +33,13 @@ pub trait Simulated: Wire {
 }
 
 impl Simulated for Bench {
-    fn simulate(memory: Memory, quirks: Quirks, plan: Vec<Mark>) -> Result<Bench, AllocError> {
+    fn simulate(
+        alloc: Global,
+        memory: Memory,
+        quirks: Quirks,
+        plan: Vec<Mark>,
+    ) -> Result<Bench, AllocError> {
+        let _ = alloc;
         Ok(Bench::new(memory, quirks, plan))
     }
 
@@ -37,5 +49,27 @@ impl Simulated for Bench {
 
     fn memory(&self) -> &Memory {
         Bench::memory(self)
+    }
+}
+
+impl Simulated for ClockedBench {
+    fn simulate(
+        alloc: Global,
+        memory: Memory,
+        quirks: Quirks,
+        plan: Vec<Mark>,
+    ) -> Result<ClockedBench, AllocError> {
+        match ClockedBench::new(alloc, memory, quirks, plan) {
+            Ok(bench) => Ok(bench),
+            Err(_) => Err(AllocError),
+        }
+    }
+
+    fn settle(&mut self) {
+        ClockedBench::settle(self)
+    }
+
+    fn memory(&self) -> &Memory {
+        ClockedBench::memory(self)
     }
 }

@@ -1,4 +1,4 @@
-//! What hosts do over simulated targets, by worked values.
+//! What simulated targets do, and what hosts do over them, by worked values.
 mod accesses;
 mod bursts;
 mod damage;
@@ -8,3 +8,6 @@ mod order;
 mod recording;
 mod refusals;
 mod row;
+mod steps;
+mod tables;
+mod target;

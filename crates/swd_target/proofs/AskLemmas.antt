@@ -11,7 +11,7 @@ use Rattle.swd_port.specs.declared.state.Line.TheVariants.{Idle}
 use Rattle.swd_port.specs.declared.state.Reply.{Reply}
 use Rattle.swd_port.specs.declared.state.Reply.TheVariants.{Okay, Waits, Faults, Silent}
 use Rattle.swd_port.specs.Choices.{IsMark, is_deaf, is_wait, flip_of, disturbs, loses, Choice, IsChoice}
-use Rattle.swd_port.specs.Answers.{reply_under, is_okay, seen_at, due_after}
+use Rattle.swd_port.specs.Answers.{reply_under, seen_at, due_after}
 use Rattle.swd_port.specs.Completion.{Completes}
 use Rattle.swd_port.specs.Asking.{Asks, AsksNow, IsSettled, IsWordRead, value_in, line_after, phase_after, after_reply, target_after, tally_after}
 use Rattle.swd_port.specs.Moving.{Gives, GivesNow, Arrival, after_bits, arrival}

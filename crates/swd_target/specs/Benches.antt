@@ -11,7 +11,7 @@ use Rattle.swd_target.specs.declared.bench.Bench.{Bench}
 use Rattle.swd_target.specs.Simulations.{Simulation, stepped, reply_to, phase_to, link_after, arrived}
 use Rattle.swd_target.specs.Targets.{state_of, simulation, choice_for}
 use Rattle.swd_target.specs.Requests.{port_at}
-use Rattle.swd_target.specs.Marks.{mark_at}
+use Rattle.swd_target.specs.Plans as plans
 
 -- what is due, and the data phase that its target is in
 abbrev pub link_of : Bench → Link
@@ -19,11 +19,11 @@ link_of b = record { due = b.due; line = b.line }
 
 -- the marks of its requests so far, as far as its plan goes
 abbrev pub marks_so_far : Bench → List Mark
-marks_so_far b = take b.plan.asked.ticks b.plan.marks.items
+marks_so_far b = take (plans.tally_of b.plan).asked (plans.marks_of b.plan)
 
 -- its numbers of requests
 abbrev pub tally_of : Bench → Tally
-tally_of b = record { asked = b.plan.asked.ticks; disturbed = b.plan.disturbed.ticks; lost = b.plan.lost.ticks }
+tally_of b = plans.tally_of b.plan
 
 -- the state of the port machine, in which TAR, the read buffer and the last returned value may be unknown
 abbrev pub port_of : Bench → Port
@@ -35,11 +35,11 @@ simulation_of b = simulation b.target
 
 -- the marks of its requests
 abbrev pub plan_of : Bench → List Mark
-plan_of b = b.plan.marks.items
+plan_of b = plans.marks_of b.plan
 
 -- the mark of its next request
 abbrev pub next_mark : Bench → Mark
-next_mark b = mark_at (plan_of b) b.plan.asked.ticks
+next_mark b = plans.mark_next b.plan
 
 -- what it chooses when a transfer takes effect
 abbrev pub choice_of : Bench → Choice

@@ -1,5 +1,6 @@
 pub mod MemoryWords
 pub mod Marks
+pub mod Plans
 pub mod Contents
 pub mod Flips
 pub mod Simulations

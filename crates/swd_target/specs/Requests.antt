@@ -11,7 +11,7 @@ use Rattle.swd_port.specs.Completion.{Completes, completion_of}
 use Rattle.swd_port.specs.Asking.{AsksNow, tally_after}
 use Rattle.swd_port.specs.Moving.{Arrival, after_bits}
 use Rattle.swd_target.specs.declared.target.Target.{Target}
-use Rattle.swd_target.specs.Simulations.{asked, reply_to, phase_to, link_after, arrived}
+use Rattle.swd_target.specs.Simulations.{asked, reply_to, phase_to, link_after, is_done, arrived}
 use Rattle.swd_target.specs.Targets.{state_of, simulation}
 use Rattle.swd_target.specs.Flips.{line_under}
 
@@ -42,7 +42,9 @@ pub record Answers (waits : Bool) (q : Request) (s : Target) (reply : Reply) (ph
   pub under : (mark : Mark) → IsMark mark → is_deaf mark ≡ false → is_wait mark ≡ waits
       → AnswersUnder mark q s reply (line_under mark phase) t
 
--- the data of a write: a step of the port machine, and exactly the step that the quirks choose
+-- The data of a write: a step of the port machine, and exactly the step that the quirks choose. Nothing takes effect with
+-- it where the write isn't done.
 pub record DataComes (a : Arrival) (s t : Target) : Type 0 where
   pub later : Transfers (after_bits a (state_of s)) (state_of t)
+  pub undone : is_done a ≡ false → state_of t ≡ after_bits a (state_of s)
   pub exact : simulation t ≡ arrived a (simulation s)

@@ -1,6 +1,6 @@
 -- What a simulated target does where the port machine leaves it free: when a transfer takes effect, how TAR ends a
 -- kilobyte and what becomes of it at a bus error, and what an unknown value reads as. It is all this project's choice.
-use Rattle.std.specs.Prelude.{ℕ, not, Bool, true, false, Some, None, unwrap_or, if◌then◌else◌}
+use Rattle.std.specs.Prelude.{ℕ, not, Bool, true, false, Some, unwrap_or, if◌then◌else◌}
 use Rattle.swd_bits.specs.declared.request.Request.{Request}
 use Rattle.swd_port.specs.declared.mark.Mark.{Mark}
 use Rattle.swd_port.specs.declared.register.Register.{Register}

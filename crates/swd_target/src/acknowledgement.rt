@@ -18,8 +18,8 @@ fn bits_of(reply: Reply) -> u8
     }
 }
 
-// The three bits that the host sees.
-pub(crate) fn seen_under(mark: Mark, reply: Reply) -> u8
+/// The three bits that the host sees of a reply under a mark, the first bit least significant.
+pub fn seen_under(mark: Mark, reply: Reply) -> u8
     requires { IsMark mark }
     ensures value { result ≡ seen_at mark reply }
     ensures range { result < 8 }
@@ -31,8 +31,8 @@ pub(crate) fn seen_under(mark: Mark, reply: Reply) -> u8
     }
 }
 
-// What has to come after an acknowledgement that was seen.
-pub(crate) fn due_after_seen(read: bool, seen: u8) -> Due
+/// What has to come after an acknowledgement that was seen, for a read or a write.
+pub fn due_after_seen(read: bool, seen: u8) -> Due
     ensures { result ≡ due_after read seen }
 {
     match seen {

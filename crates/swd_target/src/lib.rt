@@ -8,6 +8,7 @@ pub mod laws;
 mod memory;
 mod phase;
 mod plan;
+pub mod port;
 mod quirks;
 mod register;
 mod request;

@@ -10,8 +10,8 @@ ghost use Rattle.swd_target.specs.Flips.{flip_place, awaited_flip, line_flipped}
 use swd_bits::{data_bits, word_of};
 use swd_port::{Line, Mark, Register, Reply};
 
-// The bit of the data phase that arrives changed.
-pub(crate) fn flip_under(mark: Mark) -> Option<u8>
+/// The bit of the data phase that arrives changed under a mark, counted from 0, the first in time.
+pub fn flip_under(mark: Mark) -> Option<u8>
     ensures { result ≡ flip_of mark }
 {
     match mark {
@@ -87,8 +87,8 @@ fn phase_bits(word: u32) -> u64
     data_bits(word)
 }
 
-// A data phase as the other side gets it.
-pub(crate) fn flip_bit(flip: Option<u8>, bits: u64) -> u64
+/// The 33 bits of a data phase as the other side gets them, one of them changed or none.
+pub fn flip_bit(flip: Option<u8>, bits: u64) -> u64
     requires bits { bits < 2 ^ 33 }
     requires place { flip_place flip < 33 }
     ensures value { result ≡ flipped flip bits }

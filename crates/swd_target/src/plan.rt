@@ -2,12 +2,14 @@
 ghost use Rattle.std.specs.Prelude.{◌≡◌, ◌+◌, ◌≤◌, ℕ, true, length, min, take};
 ghost use Rattle.std.specs.List.{list_all};
 ghost use Rattle.swd_port.specs.Choices.{IsMark, disturbs, loses, disturbed_among, lost_among};
-ghost use Rattle.swd_target.specs.Marks.{mark_at, is_legal, IsPlan};
+ghost use Rattle.swd_target.specs.Marks.{is_legal, IsPlan};
 
 use swd_port::{Count, Mark};
 
+/// The marks of a simulated wire's requests, in their order. After the last one nothing befalls a
+/// request.
 #[derive(Drop)]
-pub(crate) struct Plan {
+pub struct Plan {
     marks: Vec<Mark>,
     next: usize,
     // Requests so far, and how many of them were disturbed and lost, for contracts alone.
@@ -21,12 +23,15 @@ pub(crate) struct Plan {
 }
 
 impl Plan {
-    pub(crate) fn new(marks: Vec<Mark>) -> Plan
+    ghost use Rattle.swd_target.specs.Plans.{marks_of, tally_of, mark_next};
+
+    /// A plan of which no mark was used yet.
+    pub fn new(marks: Vec<Mark>) -> Plan
         requires { IsPlan marks.items }
-        ensures marks { result.marks.items ≡ marks.items }
-        ensures asked { result.asked.ticks ≡ 0 }
-        ensures disturbed { result.disturbed.ticks ≡ 0 }
-        ensures lost { result.lost.ticks ≡ 0 }
+        ensures marks { marks_of result ≡ marks.items }
+        ensures asked { (tally_of result).asked ≡ 0 }
+        ensures disturbed { (tally_of result).disturbed ≡ 0 }
+        ensures lost { (tally_of result).lost ≡ 0 }
     {
         Plan {
             marks,
@@ -37,14 +42,14 @@ impl Plan {
         }
     }
 
-    // The mark of the next request.
-    pub(crate) fn use_mark(&mut self) -> Mark
-        ensures mark { result ≡ mark_at self.old.marks.items self.old.asked.ticks }
+    /// The mark of the next request, which is used by this.
+    pub fn use_mark(&mut self) -> Mark
+        ensures mark { result ≡ mark_next self.old }
         ensures legal { IsMark result }
-        ensures marks { self.new.marks.items ≡ self.old.marks.items }
-        ensures asked { self.new.asked.ticks ≡ self.old.asked.ticks + 1 }
-        ensures disturbed { self.new.disturbed.ticks ≡ self.old.disturbed.ticks + disturbs result }
-        ensures lost { self.new.lost.ticks ≡ self.old.lost.ticks + loses result }
+        ensures marks { marks_of self.new ≡ marks_of self.old }
+        ensures asked { (tally_of self.new).asked ≡ (tally_of self.old).asked + 1 }
+        ensures disturbed { (tally_of self.new).disturbed ≡ (tally_of self.old).disturbed + disturbs result }
+        ensures lost { (tally_of self.new).lost ≡ (tally_of self.old).lost + loses result }
     {
         let mark = self.next_mark();
         self.asked.tick();
@@ -60,7 +65,7 @@ impl Plan {
     }
 
     fn next_mark(&self) -> Mark
-        ensures mark { result ≡ mark_at self.now.marks.items self.now.asked.ticks }
+        ensures mark { result ≡ mark_next self.now }
         ensures legal { IsMark result }
     {
         match self.marks.get(self.next) {

@@ -17,8 +17,8 @@ impl Target {
     ghost use Rattle.swd_target.specs.Targets.{state_of, simulation, stand_in, phase_in};
     ghost use Rattle.swd_target.specs.Requests.{Answers, AnswersUnder, DataComes, Transfers};
 
-    // A request where WAIT is asked for or not: the reply, and the data phase that follows an OK.
-    pub(crate) fn request(&mut self, waits: bool, request: Request) -> (Reply, Line)
+    /// A request where WAIT is asked for or not: the reply, and the data phase that follows an OK.
+    pub fn request(&mut self, waits: bool, request: Request) -> (Reply, Line)
         ensures answers { Answers waits request self.old result.0 result.1 self.new }
         ensures driven { bits_driven result.1 < 2 ^ 33 }
     {
@@ -67,8 +67,8 @@ impl Target {
         (reply, flip_line(flip_under(mark), phase))
     }
 
-    // The 33 bits of a write reach the target, and their parity says whether it is done.
-    pub(crate) fn arrive(&mut self, register: Register, bits: u64)
+    /// The 33 bits of a write reach the target, and their parity says whether it is done.
+    pub fn arrive(&mut self, register: Register, bits: u64)
         requires { bits < 2 ^ 33 }
         ensures { DataComes (arrival_of register (word_in bits)) self.old self.new }
     {

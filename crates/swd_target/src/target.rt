@@ -23,10 +23,11 @@ use swd_port::{Abort, Access, Answer, Csw, CtrlStat, Drw, Register, Reply, Reset
 // What DPIDR gives.
 const IDENTIFICATION: u32 = 0x2ba0_1477;
 
-/// The state of a debug port and its access port. The choices that the standard leaves to a target
-/// are its `quirks`, and the word that each `Content` keeps where its register is unknown.
+/// A debug port and its access port, behind whatever stands at the wire. The choices that the
+/// standard leaves to a target are its quirks, and the word that a register keeps where the port
+/// machine calls it unknown.
 #[derive(Drop)]
-pub(crate) struct Target {
+pub struct Target {
     pub(crate) quirks: Quirks,
     pub(crate) reset: Reset,
     pub(crate) sticky_error: bool,
@@ -49,8 +50,10 @@ impl Target {
     ghost use Rattle.swd_target.specs.Targets.{Steps, incremented, flags_cleared, power_set, line_reset};
     ghost use Rattle.swd_target.specs.Requests.{Transfers};
 
-    pub(crate) fn new(memory: Memory, quirks: Quirks) -> Target
-        ensures state { state_of result ≡ made_target IDENTIFICATION memory }
+    /// A target that had no line reset yet, with this memory behind its access port. DPIDR gives
+    /// 2ba01477.
+    pub fn new(memory: Memory, quirks: Quirks) -> Target
+        ensures state { state_of result ≡ made_target 0x2ba0_1477 memory }
         ensures exact { simulation result ≡ made_with quirks memory }
     {
         Target {
@@ -76,8 +79,23 @@ impl Target {
         }
     }
 
-    // The pending transfer takes effect, at the address that TAR keeps.
-    pub(crate) fn complete(&mut self)
+    /// The memory behind the access port.
+    pub fn memory(&self) -> &Memory
+        ensures { result.now ≡ (state_of self.now).memory }
+    {
+        &self.memory
+    }
+
+    /// The same, once nothing else of the target is wanted.
+    pub fn into_memory(self) -> Memory
+        ensures { result ≡ (state_of self).memory }
+    {
+        self.memory
+    }
+
+    /// The DRW transfer that was accepted and has not taken effect yet takes effect, where there is
+    /// one.
+    pub fn complete(&mut self)
         ensures { Steps completion_of self.old self.new }
     {
         match self.pending {
@@ -326,9 +344,9 @@ impl Target {
         self.write_error = true;
     }
 
-    // A line reset changes no register. Write data that was awaited is taken from its ones, whose
-    // parity is wrong.
-    pub(crate) fn line_reset(&mut self, awaiting: bool)
+    /// A line reset, which changes no register. Write data that was awaited is taken from its ones,
+    /// whose parity is wrong.
+    pub fn line_reset(&mut self, awaiting: bool)
         ensures { Steps (λ c. line_reset awaiting) self.old self.new }
     {
         if awaiting {

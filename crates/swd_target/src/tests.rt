@@ -1,4 +1,1 @@
-mod bench;
 mod memory;
-mod rows;
-mod steps;

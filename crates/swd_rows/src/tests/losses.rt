@@ -3,8 +3,11 @@ use super::recording::{Recording, lost};
 use super::row::{
     BASE, QUIRKS, WORD, WRITE, all_come_out, report_of, run_of, stopped, target_of, written,
 };
-use crate::Simulated as _;
+use crate::Simulated;
+use std::alloc::Global;
+use std::process::Abort;
 use std::test::Fail;
+use swd_clocked::ClockedBench;
 use swd_host::End;
 use swd_port::Access;
 use swd_target::{Bench, Mark, Quirks};
@@ -38,21 +41,26 @@ fn a_lost_acknowledgement_ends_the_run(rt: HostRuntime) -> Result<(), Fail> {
     all_come_out(&rt, rt.alloc(), &rows)
 }
 
-#[test]
-fn a_begun_write_that_is_late_takes_effect_after_the_run(rt: HostRuntime) -> Result<(), Fail> {
+fn takes_effect_late<S: Simulated + Drop, R: Abort>(rt: &R, alloc: Global) -> Result<(), Fail> {
     let run = run_of(&[(12, Mark::Deaf)], &[WRITE]);
     let quirks = Quirks {
         late: true,
         ..QUIRKS
     };
-    let Some(mut bench) = target_of::<Bench>(rt.alloc(), &run, quirks)? else {
+    let Some(mut bench) = target_of::<S>(alloc, &run, quirks)? else {
         panic!(rt; "no target");
     };
-    let _ = report_of(rt.alloc(), &mut bench, &run)?;
+    let _ = report_of(alloc, &mut bench, &run)?;
     assert!(rt; bench.memory().log().is_empty());
     bench.settle();
     assert_eq!(rt; bench.memory().log(), [written(BASE, WORD)].as_slice());
     Ok(())
+}
+
+#[test]
+fn a_begun_write_that_is_late_takes_effect_after_the_run(rt: HostRuntime) -> Result<(), Fail> {
+    takes_effect_late::<Bench, HostRuntime>(&rt, rt.alloc())?;
+    takes_effect_late::<ClockedBench, HostRuntime>(&rt, rt.alloc())
 }
 
 // Each bit of OK, at the first request, and of FAULT, at the one that confirms a write where there

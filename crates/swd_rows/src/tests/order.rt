@@ -3,9 +3,11 @@ use super::recording::{Recording, Sent, damaged, faulted, lost, moved, waited};
 use super::row::{
     BASE, BURST, FILLER, QUIRKS, READ, Run, WORD, WRITE, report_of, run_of, target_of,
 };
+use crate::Simulated;
 use std::alloc::Global;
 use std::process::Abort;
 use std::test::Fail;
+use swd_clocked::ClockedBench;
 use swd_port::Access;
 use swd_target::{Bench, Mark, Quirks};
 
@@ -63,7 +65,7 @@ fn opening(filler: u32) -> [Sent; 10] {
     ]
 }
 
-// The run sends the opening and then these.
+// The run sends the opening and then these, over each simulated target.
 fn sends<R: Abort>(
     rt: &R,
     alloc: Global,
@@ -71,7 +73,18 @@ fn sends<R: Abort>(
     quirks: Quirks,
     after: &[Sent],
 ) -> Result<(), Fail> {
-    let Some(bench) = target_of::<Bench>(alloc, run, quirks)? else {
+    sends_over::<Bench, R>(rt, alloc, run, quirks, after)?;
+    sends_over::<ClockedBench, R>(rt, alloc, run, quirks, after)
+}
+
+fn sends_over<S: Simulated + Drop, R: Abort>(
+    rt: &R,
+    alloc: Global,
+    run: &Run,
+    quirks: Quirks,
+    after: &[Sent],
+) -> Result<(), Fail> {
+    let Some(bench) = target_of::<S>(alloc, run, quirks)? else {
         panic!(rt; "a mark isn't legal");
     };
     let mut wire = Recording::new(alloc, bench);
@@ -92,6 +105,11 @@ fn a_run_of_nothing_is_552_bits(rt: HostRuntime) -> Result<(), Fail> {
         bits = bits.saturating_add(sent.bits());
     }
     assert_eq!(rt; bits, 552);
+    let Some(mut bench) = target_of::<ClockedBench>(rt.alloc(), &run, QUIRKS)? else {
+        panic!(rt; "no target");
+    };
+    let _ = report_of(rt.alloc(), &mut bench, &run)?;
+    assert_eq!(rt; bench.cycles(), 552);
     Ok(())
 }
 

@@ -6,6 +6,7 @@ use crate::Simulated;
 use std::alloc::Global;
 use std::process::Abort;
 use std::test::Fail;
+use swd_clocked::ClockedBench;
 use swd_host::{End, Report};
 use swd_port::{Access, Answer, Due, Transfer, Wire};
 use swd_target::{Bench, Mark, Memory, Quirks};
@@ -157,7 +158,8 @@ pub fn written(addr: u32, word: u32) -> Transfer {
     }
 }
 
-fn are_legal(marks: &[Mark]) -> bool
+/// Each mark is legal.
+pub fn are_legal(marks: &[Mark]) -> bool
     ensures { IsTrue result → IsPlan marks.now }
 {
     marks.iter().all(|mark| mark.legal())
@@ -184,7 +186,7 @@ pub fn target_of<S: Simulated>(
     if !are_legal(&plan) {
         return Ok(None);
     }
-    let target = S::simulate(memory, quirks, plan)?;
+    let target = S::simulate(alloc, memory, quirks, plan)?;
     Ok(Some(target))
 }
 
@@ -253,6 +255,7 @@ fn each_comes_out<S: Simulated + Drop, R: Abort>(
 pub fn all_come_out<R: Abort>(rt: &R, alloc: Global, rows: &[(Run, Wanted)]) -> Result<(), Fail> {
     for quirks in ALL_QUIRKS {
         each_comes_out::<Bench, R>(rt, alloc, rows, quirks)?;
+        each_comes_out::<ClockedBench, R>(rt, alloc, rows, quirks)?;
     }
     Ok(())
 }

@@ -1,4 +1,3 @@
-use Rattle.swd_port.specs.declared.mark.Mark.{Mark}
 use Rattle.swd_target.specs.Benches.{link_of, tally_of}
 use Rattle.swd_target.proofs.AskLemmas.{asks_wired, asks_lawful}
 use Rattle.swd_target.proofs.bench.BenchWire.ask.Goals as goal

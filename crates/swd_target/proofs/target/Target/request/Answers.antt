@@ -1,5 +1,4 @@
 use Rattle.std.proofs.Common.{◌≡◌, sym, ap, ◌∙◌}
-use Rattle.swd_port.specs.declared.mark.Mark.{Mark}
 use Rattle.swd_port.specs.declared.select.Select.{Select}
 use Rattle.swd_port.specs.Port.{register}
 use Rattle.swd_target.proofs.AskLemmas.{answers_under}

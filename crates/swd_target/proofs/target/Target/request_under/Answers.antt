@@ -1,6 +1,5 @@
-use Rattle.std.proofs.Common.{◌≡◌, refl, sym, ap, subst, ◌∙◌}
+use Rattle.std.proofs.Common.{sym, subst}
 use Rattle.swd_port.specs.declared.mark.Mark.{Mark}
-use Rattle.swd_port.specs.declared.mark.Mark.TheVariants.{Deaf}
 use Rattle.swd_port.specs.declared.state.Line.TheVariants.{Idle}
 use Rattle.swd_port.specs.declared.state.Reply.TheVariants.{Silent}
 use Rattle.swd_target.specs.Requests.{AnswersUnder}

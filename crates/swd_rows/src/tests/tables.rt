@@ -1,11 +1,13 @@
 //! What each simulated end of a wire has to do, by the tables of the debug port and the access port.
-use super::steps::{FILLER, Simulated, Step, failing, make};
-use crate::quirks::Quirks;
+use super::row::FILLER;
+use super::steps::{Step, failing, make};
+use crate::Simulated;
 use std::alloc::Global;
-use swd_port::{Mark, Register};
+use swd_port::Register;
+use swd_target::{Mark, Quirks};
 
 // Whether all steps go as they say, from a target just made with these words and marks.
-fn goes<W: Simulated>(
+fn goes<W: Simulated + Drop>(
     alloc: Global,
     wrap: bool,
     late: bool,
@@ -24,7 +26,7 @@ fn goes<W: Simulated>(
     }
 }
 
-pub(super) fn debug_port<W: Simulated>(alloc: Global) -> bool {
+pub(super) fn debug_port<W: Simulated + Drop>(alloc: Global) -> bool {
     let rows: [&[Step]; 4] = [
         &[Step::Ask(Register::DpidrRead, 7), Step::Lost],
         &[
@@ -60,7 +62,7 @@ pub(super) fn debug_port<W: Simulated>(alloc: Global) -> bool {
     true
 }
 
-pub(super) fn access_port<W: Simulated>(alloc: Global) -> bool {
+pub(super) fn access_port<W: Simulated + Drop>(alloc: Global) -> bool {
     let rows: [&[Step]; 4] = [
         &[
             Step::Reset,
@@ -100,7 +102,7 @@ pub(super) fn access_port<W: Simulated>(alloc: Global) -> bool {
     true
 }
 
-pub(super) fn kilobyte<W: Simulated>(alloc: Global) -> bool {
+pub(super) fn kilobyte<W: Simulated + Drop>(alloc: Global) -> bool {
     for (wrap, late, tar) in [
         (true, false, 0x2000_0000),
         (true, true, 0x2000_0000),
@@ -121,7 +123,7 @@ pub(super) fn kilobyte<W: Simulated>(alloc: Global) -> bool {
     true
 }
 
-pub(super) fn late_transfer<W: Simulated>(alloc: Global) -> bool {
+pub(super) fn late_transfer<W: Simulated + Drop>(alloc: Global) -> bool {
     for (late, before) in [(false, 1), (true, 0)] {
         let steps = [
             Step::Up,
@@ -140,7 +142,7 @@ pub(super) fn late_transfer<W: Simulated>(alloc: Global) -> bool {
 }
 
 // An AP access without power while a flag is set sets the other one.
-pub(super) fn both_flags<W: Simulated>(alloc: Global) -> bool {
+pub(super) fn both_flags<W: Simulated + Drop>(alloc: Global) -> bool {
     let plan = [Mark::Clean, Mark::Flip(5)];
     let steps = [
         Step::Reset,
@@ -153,7 +155,7 @@ pub(super) fn both_flags<W: Simulated>(alloc: Global) -> bool {
 }
 
 // A damaged write leaves the values that were read.
-pub(super) fn damaged_write<W: Simulated>(alloc: Global) -> bool {
+pub(super) fn damaged_write<W: Simulated + Drop>(alloc: Global) -> bool {
     let plan = [
         Mark::Clean,
         Mark::Clean,
@@ -174,7 +176,7 @@ pub(super) fn damaged_write<W: Simulated>(alloc: Global) -> bool {
 }
 
 // An unanswered read leaves READOK, and a bus error leaves TAR.
-pub(super) fn left_alone<W: Simulated>(alloc: Global) -> bool {
+pub(super) fn left_alone<W: Simulated + Drop>(alloc: Global) -> bool {
     let steps = [
         Step::Reset,
         Step::Read(Register::DpidrRead, Some(0x2ba0_1477)),
@@ -199,7 +201,7 @@ pub(super) fn left_alone<W: Simulated>(alloc: Global) -> bool {
 }
 
 // What the sixth request meets: the RDBUFF read that confirms a DRW write at one of these addresses.
-pub(super) fn marks<W: Simulated>(alloc: Global) -> bool {
+pub(super) fn marks<W: Simulated + Drop>(alloc: Global) -> bool {
     let rows: [(bool, u32, Mark, &[Step]); 13] = [
         (
             false,
@@ -324,7 +326,7 @@ pub(super) fn marks<W: Simulated>(alloc: Global) -> bool {
 }
 
 // Whether all steps go as they say, and then those that follow.
-fn goes_after<W: Simulated>(
+fn goes_after<W: Simulated + Drop>(
     alloc: Global,
     late: bool,
     marks: &[Mark],

@@ -1,39 +1,11 @@
 //! Runs of a simulated end of a wire, step by step.
-ghost use Rattle.std.specs.Prelude.{IsTrue};
-ghost use Rattle.swd_target.specs.Marks.{IsPlan};
 
-use crate::bench::Bench;
-use crate::memory::Memory;
-use crate::quirks::Quirks;
+use super::row::are_legal;
+use crate::Simulated;
 use std::alloc::Global;
 use swd_bits::{data_bits, word_of};
-use swd_port::{Due, Mark, Register, Transfer, Wire};
-
-pub(super) const FILLER: u32 = 0xa5a5_a5a5;
-
-// A simulated target at the end of a wire.
-pub(super) trait Simulated: Wire + Drop {
-    fn make(memory: Memory, quirks: Quirks, plan: Vec<Mark>) -> Option<Self>
-        requires { IsPlan plan.items };
-
-    fn complete(&mut self);
-
-    fn words(&self) -> &Memory;
-}
-
-impl Simulated for Bench {
-    fn make(memory: Memory, quirks: Quirks, plan: Vec<Mark>) -> Option<Bench> {
-        Some(Bench::new(memory, quirks, plan))
-    }
-
-    fn complete(&mut self) {
-        self.settle();
-    }
-
-    fn words(&self) -> &Memory {
-        self.memory()
-    }
-}
+use swd_port::{Due, Register, Transfer};
+use swd_target::{Mark, Memory, Quirks};
 
 #[derive(Clone, Copy)]
 pub(super) enum Step {
@@ -59,14 +31,8 @@ pub(super) enum Step {
     Wrote(u32, u32),
 }
 
-fn are_legal(marks: &[Mark]) -> bool
-    ensures { IsTrue result → IsPlan marks.now }
-{
-    marks.iter().all(|mark| mark.legal())
-}
-
 // A target with so many words from 20000000 and room for sixteen transfers.
-pub(super) fn make<W: Simulated>(
+pub(super) fn make<W: Simulated + Drop>(
     alloc: Global,
     words: u32,
     quirks: Quirks,
@@ -77,10 +43,10 @@ pub(super) fn make<W: Simulated>(
     }
     let memory = Memory::new(alloc, 0x2000_0000, words, 16).ok()?;
     let plan = Vec::from_slice(alloc, marks).ok()?;
-    W::make(memory, quirks, plan)
+    W::simulate(alloc, memory, quirks, plan).ok()
 }
 
-fn ask<W: Simulated>(wire: &mut W, register: Register) -> Option<u8> {
+fn ask<W: Simulated + Drop>(wire: &mut W, register: Register) -> Option<u8> {
     match wire.due() {
         Due::Nothing => Some(wire.ask(register.request())),
         _ => None,
@@ -88,7 +54,7 @@ fn ask<W: Simulated>(wire: &mut W, register: Register) -> Option<u8> {
 }
 
 // The word that is read, where the request is answered OK; None in it where its parity is wrong.
-fn read<W: Simulated>(wire: &mut W, register: Register) -> Option<Option<u32>> {
+fn read<W: Simulated + Drop>(wire: &mut W, register: Register) -> Option<Option<u32>> {
     let _ = ask(wire, register)?;
     match wire.due() {
         Due::Take => Some(word_of(wire.take())),
@@ -96,7 +62,7 @@ fn read<W: Simulated>(wire: &mut W, register: Register) -> Option<Option<u32>> {
     }
 }
 
-fn write<W: Simulated>(wire: &mut W, register: Register, word: u32) -> bool {
+fn write<W: Simulated + Drop>(wire: &mut W, register: Register, word: u32) -> bool {
     let _ = ask(wire, register);
     match wire.due() {
         Due::Give => {
@@ -107,7 +73,7 @@ fn write<W: Simulated>(wire: &mut W, register: Register, word: u32) -> bool {
     }
 }
 
-fn reset<W: Simulated>(wire: &mut W) -> bool {
+fn reset<W: Simulated + Drop>(wire: &mut W) -> bool {
     match wire.due() {
         Due::Nothing => {
             wire.lead(56, true, 2);
@@ -117,14 +83,14 @@ fn reset<W: Simulated>(wire: &mut W) -> bool {
     }
 }
 
-fn power_up<W: Simulated>(wire: &mut W) -> bool {
+fn power_up<W: Simulated + Drop>(wire: &mut W) -> bool {
     reset(wire)
         && read(wire, Register::DpidrRead) == Some(Some(0x2ba0_1477))
         && write(wire, Register::CtrlStatWrite, 0x5000_0000)
         && write(wire, Register::CswWrite, 0x2300_0012)
 }
 
-fn refused<W: Simulated>(wire: &mut W, register: Register) -> Option<u8> {
+fn refused<W: Simulated + Drop>(wire: &mut W, register: Register) -> Option<u8> {
     let seen = ask(wire, register);
     match wire.due() {
         Due::Pass => {
@@ -136,7 +102,7 @@ fn refused<W: Simulated>(wire: &mut W, register: Register) -> Option<u8> {
 }
 
 // Whether a step goes as it says.
-fn goes<W: Simulated>(wire: &mut W, step: Step) -> bool {
+fn goes<W: Simulated + Drop>(wire: &mut W, step: Step) -> bool {
     match step {
         Step::Reset => reset(wire),
         Step::Recover => {
@@ -149,25 +115,25 @@ fn goes<W: Simulated>(wire: &mut W, step: Step) -> bool {
         Step::Ask(register, seen) => ask(wire, register) == Some(seen),
         Step::Refused(register, seen) => refused(wire, register) == Some(seen),
         Step::Settle => {
-            wire.complete();
+            wire.settle();
             true
         }
         Step::Lost => wire.due() == Due::Lost,
-        Step::Logged(count) => wire.words().log().len() == count,
+        Step::Logged(count) => wire.memory().log().len() == count,
         Step::Wrote(addr, word) => {
             let written = Transfer {
                 read: false,
                 addr,
                 word,
             };
-            wire.words().log().first().copied() == Some(written)
-                && wire.words().word(addr) == Some(word)
+            wire.memory().log().first().copied() == Some(written)
+                && wire.memory().word(addr) == Some(word)
         }
     }
 }
 
 // The place of the first step that doesn't go as it says.
-pub(super) fn failing<W: Simulated>(wire: &mut W, steps: &[Step]) -> Option<usize> {
+pub(super) fn failing<W: Simulated + Drop>(wire: &mut W, steps: &[Step]) -> Option<usize> {
     for (index, step) in steps.iter().enumerate() {
         if !goes(wire, *step) {
             return Some(index);

@@ -1,0 +1,48 @@
+-- What contracts see of a clocked target. All of it is this project's choice.
+use Rattle.std.specs.Prelude.{ℕ, ◌≡◌, Bool, true, Option, unwrap_or}
+use Rattle.swd_port.specs.Port.{Target as State}
+use Rattle.swd_port.specs.Completion.{completion_of}
+use Rattle.swd_target.specs.Simulations.{Simulation, stepped}
+use Rattle.swd_target.specs.Targets as target
+use Rattle.swd_clocked.specs.declared.frame.Frame.{Frame}
+use Rattle.swd_clocked.specs.declared.clocked.Clocked.{Clocked}
+use Rattle.swd_clocked.specs.Cycles.{Cycles, Moved}
+use Rattle.swd_clocked.specs.Frames.{risen}
+
+-- the state of the port machine, in which a word may be unknown, and the same as a simulated target
+abbrev pub state_of : Clocked → State
+state_of c = target.state_of c.target
+
+abbrev pub simulation_of : Clocked → Simulation
+simulation_of c = target.simulation c.target
+
+-- what it is doing
+abbrev pub frame_in : Clocked → Frame
+frame_in c = c.frame
+
+-- WAIT is asked for
+abbrev pub is_held : Clocked → Bool
+is_held c = c.waits
+
+-- its cycles so far
+abbrev pub cycles_of : Clocked → ℕ
+cycles_of c = c.cycles
+
+-- one cycle, with the bit that the host drives, or none: an undriven line reads 1
+abbrev pub Clocks : Option Bool → Bool → Clocked → Clocked → Type 0
+Clocks drive answer s t = Cycles s.frame (unwrap_or drive true) answer s.target s.waits t
+
+-- nothing but what is held changed
+abbrev pub Holds : Bool → Clocked → Clocked → Type 0
+Holds w s t = Moved s.frame s.target w t
+
+-- the pending transfer took effect, and nothing else changed
+pub record Settles (s t : Clocked) : Type 0 where
+  pub target : target.Steps completion_of s.target t.target
+  pub frame : t.frame ≡ s.frame
+  pub waits : t.waits ≡ s.waits
+
+-- ones went by: the line reset that they lead to is the same
+pub record Rises (s t : Clocked) : Type 0 where
+  pub state : risen t.frame (state_of t) ≡ risen s.frame (state_of s)
+  pub exact : stepped (λ c. risen t.frame) (simulation_of t) ≡ stepped (λ c. risen s.frame) (simulation_of s)

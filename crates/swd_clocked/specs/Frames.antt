@@ -1,0 +1,168 @@
+-- What a clocked target is doing, by its frame. All of it is this project's choice, but for the bits of the switch:
+-- IHI 0031, B5, "JTAG-to-SWD sequence".
+use Rattle.std.specs.Prelude.{ℕ, zero, suc, ◌≡◌, ◌+◌, ◌*◌, ◌-◌, ◌/◌, ◌%◌, ◌^◌, ◌==◌, ◌&&◌, not, Bool, true, false, min, if◌then◌else◌}
+use Rattle.std.specs.Int.{w8, leading_ones}
+use Rattle.swd_bits.specs.Bits.{bit}
+use Rattle.swd_port.specs.declared.register.Register.{Register}
+use Rattle.swd_port.specs.declared.register.Register.TheVariants.{DpIgnoredWrite}
+use Rattle.swd_port.specs.declared.state.Reply.{Reply}
+use Rattle.swd_port.specs.declared.state.Reply.TheVariants.{Waits, Faults, Silent}
+use Rattle.swd_port.specs.declared.state.Reset.TheVariants.{Fresh}
+use Rattle.swd_port.specs.declared.state.Line.{Line}
+use Rattle.swd_port.specs.declared.state.Line.TheVariants as lines
+use Rattle.swd_port.specs.Port.{Target as State}
+use Rattle.swd_port.specs.Phases.{undriven}
+use Rattle.swd_port.specs.Answers.{is_okay}
+use Rattle.swd_port.specs.Moving.{bits_driven}
+use Rattle.swd_clocked.specs.declared.frame.Frame.{Frame}
+use Rattle.swd_clocked.specs.declared.frame.Frame.TheVariants.{Asks, Lost, High, Switches, Replies, Drives, Awaits, Passes}
+
+-- the 33 bits that a frame holds
+abbrev pub frame_bits : Frame → ℕ
+frame_bits (Drives bits left) = bits
+frame_bits (Awaits r bits place) = bits
+frame_bits (Replies reply line place) = bits_driven line
+frame_bits frame = 0
+
+-- its count, and what that is below
+abbrev pub frame_place : Frame → ℕ
+frame_place (Asks bits count) = count
+frame_place (Lost ones) = ones
+frame_place High = 0
+frame_place (Switches place) = place
+frame_place (Replies reply line place) = place
+frame_place (Drives bits left) = left
+frame_place (Awaits r bits place) = place
+frame_place Passes = 0
+
+abbrev pub frame_limit : Frame → ℕ
+frame_limit (Asks bits count) = 8
+frame_limit (Lost ones) = 50
+frame_limit High = 1
+frame_limit (Switches place) = 16
+frame_limit (Replies reply line place) = 4
+frame_limit (Drives bits left) = 34
+frame_limit (Awaits r bits place) = 34
+frame_limit Passes = 1
+
+-- the write that is awaited
+abbrev pub frame_register : Frame → Register
+frame_register (Awaits r bits place) = r
+frame_register frame = DpIgnoredWrite
+
+-- the frame between transactions
+abbrev pub idle : Frame
+idle = Asks 255 0
+
+-- a bit shifted into the top of a register
+abbrev pub shifted : ℕ → ℕ → Bool → ℕ
+shifted top bits b = bits / 2 + bit b * top
+
+-- the frame after a reply was driven
+abbrev pub frame_of : Line → Frame
+frame_of lines.Idle = Passes
+frame_of (lines.Drives bits) = Drives bits 33
+frame_of (lines.Awaits r flip) = Awaits r undriven 0
+
+-- the frame once a request came: the reply begins, or fifty ones are awaited, of which its last bit is one
+abbrev pub frame_replied : Reply → Line → Frame
+frame_replied Silent phase = Lost 1
+frame_replied reply phase = Replies reply phase 0
+
+-- the frame after the reply was seen
+abbrev pub frame_seen : Reply → Line → Frame
+frame_seen Silent phase = Lost 5
+frame_seen reply phase = frame_of phase
+
+-- which acknowledgement is driven
+abbrev pub is_waits : Reply → Bool
+is_waits Waits = true
+is_waits reply = false
+
+abbrev pub is_faults : Reply → Bool
+is_faults Faults = true
+is_faults reply = false
+
+-- a driven cycle of a reply, the turnaround being 0
+abbrev pub reply_bit : Reply → ℕ → Bool
+reply_bit reply place = if place == 1 then is_okay reply else (if place == 2 then is_waits reply else is_faults reply)
+
+-- the bit of the switch with this number, the first in time being 0: the sixteen bits of e79e
+abbrev pub switch_bit : ℕ → Bool
+switch_bit place = 0xe79e / 2 ^ place % 2 == 1
+
+-- what that bit leads to; after the last, fifty ones are awaited
+abbrev pub switched : ℕ → Frame
+switched place = if place == 15 then Lost 0 else Switches (place + 1)
+
+-- How many ones stand at the end of eight bits, the first in time least significant.
+abbrev pub ones_at_end : ℕ → ℕ
+ones_at_end byte = leading_ones w8 byte
+
+-- What a bit leads to that ends neither a request nor fifty ones: idle, the beginning of a request, or one that is broken,
+-- with the ones since its last zero. After a line reset a zero is idle.
+abbrev pub heard : Bool → Frame → Frame
+heard b (Asks bits count) =
+    if (count == 0) && not b then idle
+    else if count == 7 then Lost (ones_at_end (shifted 128 bits b))
+    else Asks (shifted 128 bits b) (count + 1)
+heard b (Lost ones) = if b then Lost (ones + 1) else Lost 0
+heard b frame = if b then frame else idle
+
+-- what the first so many bits of the switch are after a line reset, where they turn out to be no switch
+abbrev pub unswitched : ℕ → Frame
+unswitched zero = High
+unswitched (suc place) = heard (switch_bit place) (unswitched place)
+
+-- so many cycles more; the number stays at its greatest value
+abbrev pub counted : ℕ → ℕ → ℕ
+counted more cycles = min (cycles + more) (2 ^ 64 - 1)
+
+-- the cycles of ones, with the switch and the ones again or without
+abbrev pub reset_cycles : ℕ → Bool → ℕ
+reset_cycles ones switch = if switch then ones + 16 + ones else ones
+
+-- Ones lead to a line reset from here: the registers have had none but ones.
+abbrev pub IsRising : Frame → Type 0
+IsRising (Asks bits count) = bits ≡ 255
+IsRising (Lost ones) = Unit {0}
+IsRising High = Unit {0}
+IsRising (Switches place) = ⊥
+IsRising (Replies reply line place) = ⊥
+IsRising (Drives bits left) = Unit {0}
+IsRising (Awaits r bits place) = bits ≡ undriven
+IsRising Passes = Unit {0}
+
+-- so many ones
+abbrev pub rise : Frame → ℕ
+rise (Asks bits count) = 50 - count
+rise (Lost ones) = 50 - ones
+rise High = 0
+rise (Switches place) = 0
+rise (Replies reply line place) = 0
+rise (Drives bits left) = 51 + left
+rise (Awaits r bits place) = 84 - place
+rise Passes = 51
+
+-- and the target then
+abbrev pub risen : Frame → State → State
+risen High s = s
+risen (Awaits r bits place) s = record s { reset = Fresh; write_error = true }
+risen frame s = record s { reset = Fresh }
+
+-- zeros lead to the idle frame from here
+abbrev pub IsFalling : Frame → Type 0
+IsFalling (Asks bits count) = (bits ≡ 255) × (count ≡ 0)
+IsFalling High = Unit {0}
+IsFalling (Switches place) = place ≡ 1
+IsFalling frame = ⊥
+
+-- so many zeros
+abbrev pub fall : Frame → ℕ
+fall High = 2
+fall (Switches place) = 1
+fall frame = 0
+
+-- the frame after so many bits of the switch
+abbrev pub switching : ℕ → Frame
+switching place = if place == 0 then High else (if place == 16 then Lost 0 else Switches place)

@@ -1,0 +1,5 @@
+pub mod Frames
+pub mod Cycles
+pub mod Clocks
+pub mod Rests
+pub mod ClockedBenches

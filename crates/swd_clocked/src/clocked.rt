@@ -1,0 +1,297 @@
+//! A simulated target, clock by clock.
+ghost use Rattle.std.specs.Prelude.{◌≡◌, ◌<◌, ◌^◌, false};
+ghost use Rattle.swd_port.specs.Port.{made_target};
+ghost use Rattle.swd_target.specs.Simulations.{made_with};
+ghost use Rattle.swd_clocked.specs.Frames.{frame_bits, frame_place, frame_limit, idle, counted, reply_bit, unswitched};
+
+use crate::frame::Frame;
+use swd_bits::Request;
+use swd_port::{Line, Register, Reply};
+use swd_target::port::Target;
+use swd_target::{Memory, Quirks};
+
+// The sixteen bits of the switch from JTAG, the first in time least significant.
+pub(crate) const SWITCH: u16 = 0xe79e;
+
+/// A simulated target at the end of a wire, clock by clock: the same target as that of
+/// `swd_target::Bench`, without marks.
+///
+/// Each cycle has one bit on the line. What the bits mean is told by `docs/PROTOCOL.md`, 'The clocked
+/// target'. It takes every sequence of cycles.
+///
+/// ```ignore
+/// let mut target = Clocked::new(memory, quirks);
+/// for _ in 0..50 {
+///     target.cycle(Some(true)); // a line reset
+/// }
+/// target.cycle(Some(false));
+/// // then DPIDR's request, bit by bit, and the acknowledgement with None
+/// ```
+#[derive(Drop)]
+pub struct Clocked {
+    pub(crate) target: Target,
+    pub(crate) frame: Frame,
+    pub(crate) waits: bool,
+    pub(crate) cycles: u64,
+    ghost bits: { frame_bits frame < 2 ^ 33 },
+    ghost place: { frame_place frame < frame_limit frame },
+    ghost counts: { cycles < 2 ^ 64 },
+}
+
+impl Clocked {
+    ghost use Rattle.swd_clocked.specs.Clocks.{state_of, simulation_of, frame_in, is_held, cycles_of};
+    ghost use Rattle.swd_clocked.specs.Clocks.{Clocks, Holds, Settles};
+    ghost use Rattle.swd_clocked.specs.Cycles.{Requested, ByteCame, AsksBit, LostBit, HeardBit, DataCame};
+    ghost use Rattle.swd_clocked.specs.Cycles.{AwaitsBit, DrivesBit, RepliesBit, SwitchesBit};
+
+    /// Makes a target that had no line reset yet, with this memory behind its access port. Nothing
+    /// is held, and DPIDR gives 2ba01477.
+    pub fn new(memory: Memory, quirks: Quirks) -> Clocked
+        ensures state { state_of result ≡ made_target 0x2ba0_1477 memory }
+        ensures exact { simulation_of result ≡ made_with quirks memory }
+        ensures frame { frame_in result ≡ idle }
+        ensures held { is_held result ≡ false }
+        ensures cycles { cycles_of result ≡ 0 }
+    {
+        Clocked {
+            target: Target::new(memory, quirks),
+            frame: Frame::IDLE,
+            waits: false,
+            cycles: 0,
+        }
+    }
+
+    /// While it is set, each request that may get WAIT gets it in place of OK.
+    pub fn hold(&mut self, wait: bool)
+        ensures holds { Holds wait self.old self.new }
+        ensures cycles { cycles_of self.new ≡ cycles_of self.old }
+    {
+        self.waits = wait;
+    }
+
+    /// Completes the DRW transfer that was accepted and has not taken effect yet, where there is
+    /// one. Without the quirk `late` there never is.
+    pub fn settle(&mut self)
+        ensures settles { Settles self.old self.new }
+        ensures cycles { cycles_of self.new ≡ cycles_of self.old }
+    {
+        self.target.complete();
+    }
+
+    /// The memory behind the access port.
+    pub fn memory(&self) -> &Memory
+        ensures { result.now ≡ (state_of self.now).memory }
+    {
+        self.target.memory()
+    }
+
+    // The same, once nothing else of the target is wanted.
+    pub(crate) fn into_memory(self) -> Memory
+        ensures { result ≡ (state_of self).memory }
+    {
+        self.target.into_memory()
+    }
+
+    /// One clock, with the bit that the host drives, or none. Gives the bit on the line: the
+    /// target's where it drives, else the host's, and 1 where nobody drives.
+    pub fn cycle(&mut self, drive: Option<bool>) -> bool
+        ensures clocks { Clocks drive result self.old self.new }
+        ensures cycles { cycles_of self.new ≡ counted 1 (cycles_of self.old) }
+    {
+        self.cycles = self.cycles.saturating_add(1);
+        let bit = drive.unwrap_or(true);
+        match self.frame {
+            Frame::Asks(bits, count) => {
+                self.ask_bit(bits, count, bit);
+                bit
+            }
+            Frame::Lost(ones) => {
+                self.lost_bit(ones, bit);
+                bit
+            }
+            Frame::High => {
+                if !bit {
+                    self.frame = Frame::Switches(1);
+                }
+                bit
+            }
+            Frame::Switches(place) => {
+                self.switch_bit(place, bit);
+                bit
+            }
+            Frame::Replies(reply, line, place) => self.reply_bit(reply, line, place, bit),
+            Frame::Drives(bits, left) => self.drive_bit(bits, left, bit),
+            Frame::Awaits(register, bits, place) => {
+                self.await_bit(register, bits, place, bit);
+                bit
+            }
+            Frame::Passes => {
+                self.frame = Frame::IDLE;
+                bit
+            }
+        }
+    }
+
+    fn ask_bit(&mut self, bits: u8, count: u8, bit: bool)
+        requires { count < 8 }
+        ensures asks { AsksBit bits count bit self.old.target self.old.waits self.new }
+        ensures cycles { self.new.cycles ≡ self.old.cycles }
+    {
+        if count == 0 && !bit {
+            self.frame = Frame::IDLE;
+            return;
+        }
+        let bits = bits / 2 + u8::from(bit) * 128;
+        if count == 7 {
+            self.byte(bits);
+        } else {
+            self.frame = Frame::Asks(bits, count + 1);
+        }
+    }
+
+    // Eight bits that begin with Start.
+    fn byte(&mut self, bits: u8)
+        ensures came { ByteCame bits self.old.target self.old.waits self.new }
+        ensures cycles { self.new.cycles ≡ self.old.cycles }
+    {
+        match Request::of(bits) {
+            Some(request) => self.request(request),
+            None => self.frame = Frame::Lost(bits.leading_ones() as u8),
+        }
+    }
+
+    fn request(&mut self, request: Request)
+        ensures requested { Requested request self.old.target self.old.waits self.new }
+        ensures cycles { self.new.cycles ≡ self.old.cycles }
+    {
+        let (reply, phase) = self.target.request(self.waits, request);
+        self.frame = Frame::replied(reply, phase);
+    }
+
+    fn lost_bit(&mut self, ones: u8, bit: bool)
+        requires { ones < 50 }
+        ensures hears { LostBit ones bit self.old.target self.old.waits self.new }
+        ensures cycles { self.new.cycles ≡ self.old.cycles }
+    {
+        if !bit {
+            self.frame = Frame::Lost(0);
+        } else if ones < 49 {
+            self.frame = Frame::Lost(ones + 1);
+        } else {
+            self.target.line_reset(false);
+            self.frame = Frame::High;
+        }
+    }
+
+    fn switch_bit(&mut self, place: u8, bit: bool)
+        requires { place < 16 }
+        ensures switches { SwitchesBit place bit self.old.target self.old.waits self.new }
+        ensures cycles { self.new.cycles ≡ self.old.cycles }
+    {
+        if bit == (SWITCH >> place & 1 == 1) {
+            self.frame = if place == 15 {
+                Frame::Lost(0)
+            } else {
+                Frame::Switches(place + 1)
+            };
+        } else {
+            self.other_bit(place, bit);
+        }
+    }
+
+    // The bits since the ones are no switch.
+    fn other_bit(&mut self, place: u8, bit: bool)
+        requires { place < 16 }
+        ensures hears { HeardBit (unswitched place) bit self.old.target self.old.waits self.new }
+        ensures cycles { self.new.cycles ≡ self.old.cycles }
+    {
+        match place {
+            1 => self.ask_bit(255, 0, bit),
+            2 => self.ask_bit(255, 1, bit),
+            3 => self.ask_bit(255, 2, bit),
+            4 => self.ask_bit(255, 3, bit),
+            5 => self.ask_bit(255, 4, bit),
+            6 => self.ask_bit(127, 5, bit),
+            7 => self.ask_bit(63, 6, bit),
+            8 => self.ask_bit(159, 7, bit),
+            9 => self.lost_bit(2, bit),
+            10 => self.lost_bit(3, bit),
+            11 => self.lost_bit(4, bit),
+            12 => self.lost_bit(0, bit),
+            13 => self.lost_bit(0, bit),
+            14 => self.lost_bit(1, bit),
+            _ => self.lost_bit(2, bit),
+        }
+    }
+
+    fn reply_bit(&mut self, reply: Reply, line: Line, place: u8, bit: bool) -> bool
+        requires frame { self.old.frame ≡ Frame.Replies reply line place }
+        requires place { place < 4 }
+        ensures replies { RepliesBit reply line place bit result self.old.target self.old.waits self.new }
+        ensures cycles { self.new.cycles ≡ self.old.cycles }
+    {
+        self.frame = if place == 3 {
+            Frame::after_reply(line)
+        } else {
+            Frame::Replies(reply, line, place + 1)
+        };
+        if place == 0 {
+            bit
+        } else {
+            is_driving(reply, place)
+        }
+    }
+
+    fn drive_bit(&mut self, bits: u64, left: u8, bit: bool) -> bool
+        requires bits { bits < 2 ^ 33 }
+        requires left { left < 34 }
+        ensures drives { DrivesBit bits left bit result self.old.target self.old.waits self.new }
+        ensures cycles { self.new.cycles ≡ self.old.cycles }
+    {
+        if left == 0 {
+            self.frame = Frame::IDLE;
+            return bit;
+        }
+        self.frame = Frame::Drives(bits / 2, left - 1);
+        bits % 2 == 1
+    }
+
+    fn await_bit(&mut self, register: Register, bits: u64, place: u8, bit: bool)
+        requires bits { bits < 2 ^ 33 }
+        requires place { place < 34 }
+        ensures awaits { AwaitsBit register bits place bit self.old.target self.old.waits self.new }
+        ensures cycles { self.new.cycles ≡ self.old.cycles }
+    {
+        if place == 0 {
+            self.frame = Frame::Awaits(register, bits, 1);
+            return;
+        }
+        let bits = bits / 2 + u64::from(bit) * 0x1_0000_0000;
+        if place < 33 {
+            self.frame = Frame::Awaits(register, bits, place + 1);
+            return;
+        }
+        self.arrive(register, bits);
+    }
+
+    // The 33 bits of a write came.
+    fn arrive(&mut self, register: Register, bits: u64)
+        requires { bits < 2 ^ 33 }
+        ensures came { DataCame register bits self.old.target self.old.waits self.new }
+        ensures cycles { self.new.cycles ≡ self.old.cycles }
+    {
+        self.frame = Frame::IDLE;
+        self.target.arrive(register, bits);
+    }
+}
+
+// Whether the cycle of a reply with this number is driven high, the turnaround being 0.
+fn is_driving(reply: Reply, place: u8) -> bool
+    ensures { result ≡ reply_bit reply place }
+{
+    match place {
+        1 => matches!(&reply, Reply::Okay),
+        2 => matches!(&reply, Reply::Waits),
+        _ => matches!(&reply, Reply::Faults),
+    }
+}

@@ -1,0 +1,247 @@
+//! A simulated target, clock by clock, at the end of a wire, with a plan of what befalls each request.
+ghost use Rattle.std.specs.Prelude.{◌≡◌, ◌<◌, ◌^◌, true, IfOk, IfErr};
+ghost use Rattle.swd_port.specs.declared.wire.Due.TheVariants.{Nothing, Take, Give, Pass};
+ghost use Rattle.swd_port.specs.Port.{idle_link, made};
+ghost use Rattle.swd_port.specs.Choices.{is_deaf, is_wait};
+ghost use Rattle.swd_port.specs.Completion.{completed};
+ghost use Rattle.swd_port.specs.Asking.{Asks, tally_after};
+ghost use Rattle.swd_port.specs.Leading.{MayLead, Leads, LeadsNow};
+ghost use Rattle.swd_port.specs.Moving.{Takes, TakesNow, Gives, Passes, PassesNow};
+ghost use Rattle.swd_target.specs.Marks.{IsPlan};
+ghost use Rattle.swd_target.specs.Flips.{flip_place};
+ghost use Rattle.swd_target.specs.Simulations.{made_with, transferred, asked, seen_to};
+ghost use Rattle.swd_target.specs.Benches.{led, given};
+ghost use Rattle.swd_target.specs.Targets.{IsChosen};
+ghost use Rattle.swd_clocked.specs.Frames.{counted};
+ghost use Rattle.swd_clocked.specs.Rests.{rests};
+
+use crate::clocked::Clocked;
+use std::alloc::Global;
+use swd_bits::Request;
+use swd_port::{Due, Mark, Wire};
+use swd_target::port::{Plan, due_after_seen, flip_bit, flip_under, seen_under};
+use swd_target::{Memory, Quirks};
+
+/// A clocked target at the end of a wire: it drives each call of `Wire` by cycles alone. Each
+/// request uses the next mark of the plan; after its end all marks are `Clean`.
+///
+/// It does exactly what a `swd_target::Bench` with the same memory, quirks and plan does.
+///
+/// ```ignore
+/// let memory = Memory::new(alloc, 0x2000_0000, 16, 16)?;
+/// let mut bench = ClockedBench::new(alloc, memory, quirks, Vec::new(alloc))?;
+/// bench.lead(56, true, 2);
+/// bench.ask(Register::DpidrRead.request()); // 1: OK, and a data phase is due
+/// bench.cycles(); // 142
+/// ```
+#[derive(Drop)]
+pub struct ClockedBench {
+    clocked: Box<Clocked>,
+    due: Due,
+    flip: Option<u8>,
+    plan: Plan,
+    ghost flipped: { flip_place flip < 33 },
+    ghost resting: { rests due clocked.value.frame ≡ true },
+}
+
+// The target doesn't see the request.
+fn is_deaf(mark: Mark) -> bool
+    ensures { result ≡ is_deaf mark }
+{
+    matches!(&mark, Mark::Deaf)
+}
+
+// WAIT is asked for.
+fn is_wait(mark: Mark) -> bool
+    ensures { result ≡ is_wait mark }
+{
+    matches!(&mark, Mark::Wait)
+}
+
+impl ClockedBench {
+    ghost use Rattle.swd_clocked.specs.ClockedBenches.{port_of, link_of, simulation_of, plan_of};
+    ghost use Rattle.swd_clocked.specs.ClockedBenches.{choice_of, cycles_of, lead_cycles};
+
+    /// Makes a clocked target that had no line reset yet, with this memory behind its access port.
+    /// Where there is no memory for it, memory and plan are handed back.
+    pub fn new(
+        alloc: Global,
+        memory: Memory,
+        quirks: Quirks,
+        plan: Vec<Mark>,
+    ) -> Result<ClockedBench, (Memory, Vec<Mark>)>
+        requires { IsPlan plan.items }
+        ensures port { IfOk result (λ b. port_of b ≡ made 0x2ba0_1477 memory) }
+        ensures exact { IfOk result (λ b. simulation_of b ≡ made_with quirks memory) }
+        ensures plan { IfOk result (λ b. plan_of b ≡ plan.items) }
+        ensures cycles { IfOk result (λ b. cycles_of b ≡ 0) }
+        ensures handed_back { IfErr result (λ e. (e.0 ≡ memory) × (e.1.items ≡ plan.items)) }
+    {
+        match Box::new(alloc, Clocked::new(memory, quirks)) {
+            Ok(clocked) => Ok(ClockedBench {
+                clocked,
+                due: Due::Nothing,
+                flip: None,
+                plan: Plan::new(plan),
+            }),
+            Err(refused) => Err((refused.value.into_memory(), plan)),
+        }
+    }
+
+    /// Completes the DRW transfer that was accepted and has not taken effect yet, where there is
+    /// one. Without the quirk `late` there never is.
+    pub fn settle(&mut self)
+        ensures port { port_of self.new ≡ completed (choice_of self.old) (port_of self.old) }
+        ensures choice { IsChosen (simulation_of self.old).quirks (choice_of self.old) }
+        ensures exact { simulation_of self.new ≡ transferred (simulation_of self.old) }
+        ensures plan { plan_of self.new ≡ plan_of self.old }
+        ensures cycles { cycles_of self.new ≡ cycles_of self.old }
+    {
+        self.clocked.settle();
+    }
+
+    /// The memory behind the access port.
+    pub fn memory(&self) -> &Memory
+        ensures { result.now ≡ (port_of self.now).target.memory }
+    {
+        self.clocked.memory()
+    }
+
+    /// The cycles so far; it stays at its greatest value once there.
+    pub fn cycles(&self) -> u64
+        ensures { result ≡ cycles_of self.now }
+    {
+        self.clocked.cycles
+    }
+
+    // Ones and zeros, cycle by cycle.
+    fn lead_now(&mut self, ones: u32, switch: bool, zeros: u32)
+        requires { MayLead (port_of self.old).link.due ones switch zeros }
+        ensures now { LeadsNow (port_of self.old) ones (port_of self.new) }
+        ensures exact { simulation_of self.new ≡ led ones (link_of self.old) (simulation_of self.old) }
+        ensures plan { plan_of self.new ≡ plan_of self.old }
+        ensures cycles { cycles_of self.new ≡ counted (lead_cycles ones switch zeros) (cycles_of self.old) }
+    {
+        if ones > 0 {
+            let undriven = if matches!(&self.due, Due::Nothing) {
+                0
+            } else {
+                34
+            };
+            self.clocked.send_reset(ones, undriven, switch);
+        }
+        self.clocked.send_zeros(zeros);
+        self.due = Due::Nothing;
+    }
+
+    // The data phase of a read.
+    fn take_now(&mut self) -> u64
+        requires { (port_of self.old).link.due ≡ Take }
+        ensures range { result < 2 ^ 33 }
+        ensures now { TakesNow (port_of self.old) result (port_of self.new) }
+        ensures exact { simulation_of self.new ≡ simulation_of self.old }
+        ensures plan { plan_of self.new ≡ plan_of self.old }
+        ensures cycles { cycles_of self.new ≡ counted 34 (cycles_of self.old) }
+    {
+        let bits = self.clocked.take_bits();
+        self.due = Due::Nothing;
+        flip_bit(self.flip, bits)
+    }
+
+    // The turnaround after WAIT or FAULT.
+    fn pass_now(&mut self)
+        requires { (port_of self.old).link.due ≡ Pass }
+        ensures now { PassesNow (port_of self.old) (port_of self.new) }
+        ensures exact { simulation_of self.new ≡ simulation_of self.old }
+        ensures plan { plan_of self.new ≡ plan_of self.old }
+        ensures cycles { cycles_of self.new ≡ counted 1 (cycles_of self.old) }
+    {
+        self.clocked.pass_by();
+        self.due = Due::Nothing;
+    }
+}
+
+impl Wire for ClockedBench {
+    ghost use Rattle.swd_clocked.specs.ClockedBenches.{port_of, link_of, tally_of, simulation_of, plan_of, next_mark};
+    ghost use Rattle.swd_clocked.specs.ClockedBenches.{link_asked, cycles_of, ask_cycles, lead_cycles};
+
+    ghost port = { port_of };
+
+    ghost plan = { plan_of };
+
+    fn due(&self) -> Due {
+        self.due
+    }
+
+    fn lead(&mut self, ones: u32, switch: bool, zeros: u32)
+        requires { MayLead (port_of self.old).link.due ones switch zeros }
+        ensures step { Leads (port_of self.old) ones (port_of self.new) }
+        ensures now { LeadsNow (port_of self.old) ones (port_of self.new) }
+        ensures exact { simulation_of self.new ≡ led ones (link_of self.old) (simulation_of self.old) }
+        ensures plan { plan_of self.new ≡ plan_of self.old }
+        ensures cycles { cycles_of self.new ≡ counted (lead_cycles ones switch zeros) (cycles_of self.old) }
+    {
+        self.lead_now(ones, switch, zeros);
+    }
+
+    /// The mark of the request is the one in the plan with the number of requests before it.
+    fn ask(&mut self, request: Request) -> u8
+        requires { (port_of self.old).link.due ≡ Nothing }
+        ensures range { result < 8 }
+        ensures step { Asks (port_of self.old) request result (port_of self.new) }
+        ensures sees { result ≡ seen_to (next_mark self.old) request (simulation_of self.old) }
+        ensures exact { simulation_of self.new ≡ asked (next_mark self.old) request (simulation_of self.old) }
+        ensures link { link_of self.new ≡ link_asked request self.old }
+        ensures tally { tally_of self.new ≡ tally_after (next_mark self.old) (tally_of self.old) }
+        ensures plan { plan_of self.new ≡ plan_of self.old }
+        ensures cycles { cycles_of self.new ≡ counted (ask_cycles (next_mark self.old)) (cycles_of self.old) }
+    {
+        let mark = self.plan.use_mark();
+        if is_deaf(mark) {
+            self.due = Due::Lost;
+            return 7;
+        }
+        self.flip = flip_under(mark);
+        let reply = self.clocked.ask_request(is_wait(mark), request);
+        let seen = seen_under(mark, reply);
+        self.due = due_after_seen(request.read, seen);
+        seen
+    }
+
+    fn take(&mut self) -> u64
+        requires { (port_of self.old).link.due ≡ Take }
+        ensures range { result < 2 ^ 33 }
+        ensures step { Takes (port_of self.old) result (port_of self.new) }
+        ensures now { TakesNow (port_of self.old) result (port_of self.new) }
+        ensures exact { simulation_of self.new ≡ simulation_of self.old }
+        ensures plan { plan_of self.new ≡ plan_of self.old }
+        ensures cycles { cycles_of self.new ≡ counted 34 (cycles_of self.old) }
+    {
+        self.take_now()
+    }
+
+    fn give(&mut self, bits: u64)
+        requires due { (port_of self.old).link.due ≡ Give }
+        requires range { bits < 2 ^ 33 }
+        ensures step { Gives (port_of self.old) bits (port_of self.new) }
+        ensures link { link_of self.new ≡ idle_link }
+        ensures tally { tally_of self.new ≡ tally_of self.old }
+        ensures exact { simulation_of self.new ≡ given bits (link_of self.old) (simulation_of self.old) }
+        ensures plan { plan_of self.new ≡ plan_of self.old }
+        ensures cycles { cycles_of self.new ≡ counted 34 (cycles_of self.old) }
+    {
+        self.clocked.give_bits(flip_bit(self.flip, bits));
+        self.due = Due::Nothing;
+    }
+
+    fn pass(&mut self)
+        requires { (port_of self.old).link.due ≡ Pass }
+        ensures step { Passes (port_of self.old) (port_of self.new) }
+        ensures now { PassesNow (port_of self.old) (port_of self.new) }
+        ensures exact { simulation_of self.new ≡ simulation_of self.old }
+        ensures plan { plan_of self.new ≡ plan_of self.old }
+        ensures cycles { cycles_of self.new ≡ counted 1 (cycles_of self.old) }
+    {
+        self.pass_now();
+    }
+}

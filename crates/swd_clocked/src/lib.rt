@@ -1,0 +1,14 @@
+//! A simulated target clock by clock, as a bit-banging host or a logic analyser sees it, and a bench
+//! that drives it as one end of a wire.
+#![tactic(auto)]
+
+mod clocked;
+mod clocked_bench;
+mod frame;
+mod phases;
+
+pub use clocked::Clocked;
+pub use clocked_bench::ClockedBench;
+
+#[cfg(test)]
+mod tests;

@@ -1,0 +1,5 @@
+//! Worked cycles at a clocked target, and at its bench.
+mod cycles;
+mod lists;
+mod parts;
+mod recorded;
