@@ -6,6 +6,7 @@ use std::{fs, io};
 /// What opens files by their names.
 pub trait Files {
     type File: Read + Drop;
+
     type Made: Write + Drop;
 
     /// Opens a file to read it.
@@ -23,6 +24,7 @@ pub struct Disk<'a> {
 
 impl Files for Disk<'_> {
     type File = File;
+
     type Made = File;
 
     fn open(&self, name: &str) -> io::Result<File> {

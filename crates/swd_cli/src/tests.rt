@@ -5,9 +5,11 @@ use crate::program::run_words;
 use crate::report::{cannot_open, engine_status};
 use crate::words::line;
 use std::alloc::Global;
+use std::cell::Cell;
 use std::io;
 use std::io::{Read, Write};
 use std::test::Fail;
+use swd_fakes::CountingWriter;
 use swd_script::ScriptFault;
 use swd_text::{EngineFault, TextFault};
 use swd_trace::ListFault;
@@ -28,10 +30,24 @@ const CUT: &[u8] = b".\n.\n.\n.\n.\n.\n.\n.\n.\n.\nmute 0\n";
 
 // Files, by their names.
 #[derive(Drop)]
-struct Shelf;
+struct Shelf<'a> {
+    // how many bytes were written to a file that was made
+    written: &'a Cell<usize>,
+}
 
-impl Files for Shelf {
+impl<'a> Files for Shelf<'a> {
     type File = &'static [u8];
+
+    type Made = CountingWriter<'a>;
+
+    fn create(&self, name: &str) -> io::Result<CountingWriter<'a>> {
+        match name {
+            "traced" => Ok(CountingWriter {
+                taken: self.written,
+            }),
+            _ => Err(io::Error::from(io::ErrorKind::PermissionDenied)),
+        }
+    }
 
     fn open(&self, name: &str) -> io::Result<&'static [u8]> {
         match name {
@@ -52,6 +68,8 @@ struct Ran {
     status: u8,
     output: Vec<u8>,
     errors: Vec<u8>,
+    // how many bytes of the trace
+    traced: usize,
 }
 
 fn run_on<I: Read>(alloc: Global, words: &[&str], mut input: I) -> Ran
@@ -60,11 +78,14 @@ where
 {
     let mut output = Vec::new(alloc);
     let mut errors = Vec::new(alloc);
-    let status = run_words(alloc, words, &mut input, &Shelf, &mut output, &mut errors);
+    let written = Cell::new(0);
+    let shelf = Shelf { written: &written };
+    let status = run_words(alloc, words, &mut input, &shelf, &mut output, &mut errors);
     Ran {
         status,
         output,
         errors,
+        traced: written.get(),
     }
 }
 
@@ -132,6 +153,33 @@ fn a_run_that_ends_early_has_a_status(rt: HostRuntime) {
     assert_eq!(rt; ran.status, 1);
 }
 
+// The file of the trace is made before anything is read, and so stands there, empty, where the script is at fault.
+#[test]
+fn a_run_is_traced(rt: HostRuntime) {
+    for (script, plan, output, traced, status) in [
+        ("-", "quiet", b"end all 0\n".as_slice(), 566, 0),
+        ("-", "cut", b"end all 0\n".as_slice(), 566, 0),
+        ("trace", "quiet", b"".as_slice(), 0, 2),
+    ] {
+        let words = ["swd", "run", script, "--plan", plan, "--trace", "traced"];
+        let ran = run_on(
+            rt.alloc(),
+            words.as_slice(),
+            b"memory 20000000 1\n".as_slice(),
+        );
+        assert_eq!(rt; ran.output.as_slice(), output);
+        assert_eq!(rt; ran.traced, traced);
+        assert_eq!(rt; ran.status, status);
+    }
+    // Without the option nothing is made.
+    let ran = run_on(
+        rt.alloc(),
+        ["swd", "run", "-"].as_slice(),
+        b"memory 20000000 1\n".as_slice(),
+    );
+    assert_eq!(rt; ran.traced, 0);
+}
+
 #[test]
 fn a_run_that_is_at_fault_takes_a_line(rt: HostRuntime) {
     for (words, input, errors) in [
@@ -159,6 +207,11 @@ fn a_run_that_is_at_fault_takes_a_line(rt: HostRuntime) {
             ["swd", "run", "script", "--plan", "none"].as_slice(),
             b"",
             b"swd: cannot open none\n",
+        ),
+        (
+            ["swd", "run", "script", "--trace", "locked"].as_slice(),
+            b"",
+            b"swd: cannot open locked\n",
         ),
     ] {
         let ran = run_on(rt.alloc(), words, input);
@@ -230,7 +283,9 @@ fn ends_that_fail_take_their_lines(rt: HostRuntime) {
             rt.alloc(),
             words.as_slice(),
             &mut input,
-            &Shelf,
+            &Shelf {
+                written: &Cell::new(0),
+            },
             &mut Broken,
             &mut errors,
         );
@@ -292,6 +347,7 @@ fn each_fault_of_an_engine_has_its_words(rt: HostRuntime) {
         (EngineFault::Read, b"swd: read failed\n"),
         (EngineFault::Write { written: 5 }, b"swd: write failed\n"),
         (EngineFault::Memory, b"swd: no memory\n"),
+        (EngineFault::TraceCut, b"swd: trace cut\n"),
     ] {
         let mut errors = Vec::new(rt.alloc());
         assert_eq!(rt; engine_status(&mut errors, Err(fault)), 2);
@@ -356,6 +412,15 @@ fn words_of_a_run(rt: HostRuntime) -> Result<(), Fail> {
     assert_eq!(rt; run.script.as_str(), "s");
     assert_eq!(rt; run.plan.ok_or("no plan")?.as_str(), "p");
     assert_eq!(rt; run.tries, 8);
+    assert!(rt; run.trace.is_none());
+    let words = ["swd", "run", "s", "--plan", "p", "--trace", "t"];
+    let Ok(Line::Run(run)) = line(rt.alloc(), words.as_slice()) else {
+        return Err(Fail::from("no run"));
+    };
+    assert_eq!(rt; run.script.as_str(), "s");
+    assert_eq!(rt; run.plan.ok_or("no plan")?.as_str(), "p");
+    assert_eq!(rt; run.tries, 8);
+    assert_eq!(rt; run.trace.ok_or("no trace")?.as_str(), "t");
     for (text, tries) in [
         ("0", Some(0)),
         ("3", Some(3)),
@@ -381,7 +446,7 @@ fn words_that_are_no_command(rt: HostRuntime) {
         ["swd", "run"].as_slice(),
         ["swd", "run", "a", "b"].as_slice(),
         ["swd", "run", "a", "--plan"].as_slice(),
-        ["swd", "run", "a", "--trace", "t"].as_slice(),
+        ["swd", "run", "a", "--trace"].as_slice(),
     ] {
         let refused = matches!(line(rt.alloc(), words), Err(LineFault::Clap(_)));
         assert!(rt; refused);

@@ -72,6 +72,7 @@ Status: 0 where the run ended all, 1 where it ended otherwise, 2 at a fault.";
 
 // How many events an access may meet, where the words don't say it, and at most.
 const TRIES: u32 = 8;
+
 const MOST_TRIES: i64 = 1000;
 
 // A value as an owned text.

@@ -1,5 +1,5 @@
 //! Runs over wires that lose an acknowledgement.
-use super::recording::{Recording, lost};
+use super::items::lost;
 use super::row::{
     BASE, QUIRKS, WORD, WRITE, all_come_out, report_of, run_of, stopped, target_of, written,
 };
@@ -10,6 +10,7 @@ use std::test::Fail;
 use swd_clocked::ClockedBench;
 use swd_host::End;
 use swd_port::Access;
+use swd_recorder::Recorder;
 use swd_target::{Bench, Mark, Quirks};
 
 #[test]
@@ -75,12 +76,12 @@ fn a_changed_bit_makes_no_acknowledgement_of_another(rt: HostRuntime) -> Result<
             let Some(bench) = target_of::<Bench>(rt.alloc(), &run, QUIRKS)? else {
                 panic!(rt; "no target");
             };
-            let mut wire = Recording::new(rt.alloc(), bench);
+            let mut wire = Recorder::new(rt.alloc(), bench);
             let Some(report) = report_of(rt.alloc(), &mut wire, &run)? else {
                 panic!(rt; "no new target");
             };
             assert_eq!(rt; report.ended, End::Lost);
-            assert_eq!(rt; wire.sent().last().copied(), Some(lost(asked, seen)));
+            assert_eq!(rt; wire.items().last().copied(), Some(lost(asked, seen)));
         }
     }
     Ok(())

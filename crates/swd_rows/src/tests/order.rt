@@ -1,5 +1,5 @@
 //! What a host sends, request by request.
-use super::recording::{Recording, Sent, damaged, faulted, lost, moved, waited};
+use super::items::{bits, damaged, faulted, lost, moved, waited};
 use super::row::{
     BASE, BURST, FILLER, QUIRKS, READ, Run, WORD, WRITE, report_of, run_of, target_of,
 };
@@ -9,7 +9,9 @@ use std::process::Abort;
 use std::test::Fail;
 use swd_clocked::ClockedBench;
 use swd_port::Access;
+use swd_recorder::Recorder;
 use swd_target::{Bench, Mark, Quirks};
+use swd_trace::Item;
 
 // The requests, as bytes.
 const DPIDR: u8 = 0xa5;
@@ -36,23 +38,16 @@ const DRW: u8 = 0x9f;
 
 const DRW_WRITE: u8 = 0xbb;
 
-const LEAD: Sent = Sent::Lead {
-    ones: 56,
-    switch: true,
-    zeros: 2,
-};
-
 // Eight zeros, after a run that is whole.
-const IDLE: Sent = Sent::Lead {
-    ones: 0,
-    switch: false,
-    zeros: 8,
-};
+const IDLE: Item = Item::Idle(8);
 
 // The lead and the opening, where CSW's read returns this unknown word.
-fn opening(filler: u32) -> [Sent; 10] {
+fn opening(filler: u32) -> [Item; 13] {
     [
-        LEAD,
+        Item::Reset(56),
+        Item::Switch,
+        Item::Reset(56),
+        Item::Idle(2),
         moved(DPIDR, 0x2ba0_1477),
         moved(ABORT, 0x0000_001e),
         moved(CTRL_STAT, 0x0000_0000),
@@ -71,7 +66,7 @@ fn sends<R: Abort>(
     alloc: Global,
     run: &Run,
     quirks: Quirks,
-    after: &[Sent],
+    after: &[Item],
 ) -> Result<(), Fail> {
     sends_over::<Bench, R>(rt, alloc, run, quirks, after)?;
     sends_over::<ClockedBench, R>(rt, alloc, run, quirks, after)
@@ -82,16 +77,16 @@ fn sends_over<S: Simulated + Drop, R: Abort>(
     alloc: Global,
     run: &Run,
     quirks: Quirks,
-    after: &[Sent],
+    after: &[Item],
 ) -> Result<(), Fail> {
     let Some(bench) = target_of::<S>(alloc, run, quirks)? else {
         panic!(rt; "a mark isn't legal");
     };
-    let mut wire = Recording::new(alloc, bench);
+    let mut wire = Recorder::new(alloc, bench);
     let _ = report_of(alloc, &mut wire, run)?;
     let opening = opening(quirks.filler);
-    assert!(rt; wire.sent().starts_with(&opening));
-    assert_eq!(rt; wire.sent().get(10..), Some(after));
+    assert!(rt; wire.items().starts_with(&opening));
+    assert_eq!(rt; wire.items().get(13..), Some(after));
     Ok(())
 }
 
@@ -99,12 +94,11 @@ fn sends_over<S: Simulated + Drop, R: Abort>(
 fn a_run_of_nothing_is_552_bits(rt: HostRuntime) -> Result<(), Fail> {
     let run = run_of(&[], &[]);
     sends(&rt, rt.alloc(), &run, QUIRKS, &[IDLE])?;
-    assert_eq!(rt; LEAD.bits(), 130);
-    let mut bits = IDLE.bits();
-    for sent in opening(FILLER) {
-        bits = bits.saturating_add(sent.bits());
+    let mut sum = bits(IDLE);
+    for item in opening(FILLER) {
+        sum = sum.saturating_add(bits(item));
     }
-    assert_eq!(rt; bits, 552);
+    assert_eq!(rt; sum, 552);
     let Some(mut bench) = target_of::<ClockedBench>(rt.alloc(), &run, QUIRKS)? else {
         panic!(rt; "no target");
     };

@@ -1,11 +1,11 @@
 //! Lists that a host doesn't do, and want of memory.
-use super::recording::Recording;
 use super::row::{BASE, QUIRKS, READ, Run, WORD, WRITE, report_of, run_of, target_of};
 use std::alloc::Global;
 use std::process::Abort;
 use std::test::Fail;
 use swd_host::{End, Refused, run};
 use swd_port::{Access, Answer, Due, Wire};
+use swd_recorder::Recorder;
 use swd_target::Bench;
 
 // What refuses these accesses. None where nothing does, or something is due on the wire.
@@ -48,9 +48,9 @@ fn a_list_is_refused_before_anything_is_sent(rt: HostRuntime) -> Result<(), Fail
         let Some(bench) = target_of::<Bench>(rt.alloc(), &run_of(&[], &[]), QUIRKS)? else {
             panic!(rt; "no target");
         };
-        let mut wire = Recording::new(rt.alloc(), bench);
+        let mut wire = Recorder::new(rt.alloc(), bench);
         assert_eq!(rt; refusal(rt.alloc(), &mut wire, accesses), Some(refused));
-        assert!(rt; wire.sent().is_empty());
+        assert!(rt; wire.items().is_empty());
         is_as_new(&rt, rt.alloc(), &mut wire)?;
     }
     Ok(())
@@ -63,9 +63,9 @@ fn want_of_memory_is_told_before_anything_is_sent(rt: HostRuntime) -> Result<(),
     let Some(bench) = target_of::<Bench>(rt.alloc(), &run_of(&[], &[]), QUIRKS)? else {
         panic!(rt; "no target");
     };
-    let mut wire = Recording::new(rt.alloc(), bench);
+    let mut wire = Recorder::new(rt.alloc(), bench);
     if refusal(rt.alloc(), &mut wire, &[WRITE, READ]) == Some(Refused::Memory) {
-        assert!(rt; wire.sent().is_empty());
+        assert!(rt; wire.items().is_empty());
         is_as_new(&rt, rt.alloc(), &mut wire)?;
     }
     Ok(())

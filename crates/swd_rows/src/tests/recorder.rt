@@ -1,0 +1,106 @@
+//! A recorder over a simulated target, call by call.
+use super::items::{lost, moved};
+use super::row::{QUIRKS, run_of, target_of};
+use crate::Simulated;
+use std::test::Fail;
+use swd_bits::Request;
+use swd_port::{Due, Register, Wire};
+use swd_recorder::Recorder;
+use swd_target::{Bench, Mark};
+use swd_trace::Item;
+
+const DPIDR: u8 = 0xa5;
+
+// The calls with their conditions looked at, so that a test may make any.
+fn lead<W: Wire>(wire: &mut W, ones: u32, zeros: u32) {
+    let inside = ones >= 100;
+    if (wire.due() == Due::Nothing || inside) && (ones == 0 || ones >= 50 && zeros >= 2) {
+        wire.lead(ones, false, zeros);
+    }
+}
+
+fn ask<W: Wire>(wire: &mut W, request: Request) -> u8 {
+    if wire.due() == Due::Nothing {
+        wire.ask(request)
+    } else {
+        8
+    }
+}
+
+fn take<W: Wire>(wire: &mut W) -> Option<u64> {
+    if wire.due() == Due::Take {
+        Some(wire.take())
+    } else {
+        None
+    }
+}
+
+#[test]
+fn zeros_after_zeros_are_one_item(rt: HostRuntime) -> Result<(), Fail> {
+    let Some(bench) = target_of::<Bench>(rt.alloc(), &run_of(&[], &[]), QUIRKS)? else {
+        panic!(rt; "no target");
+    };
+    let mut wire = Recorder::new(rt.alloc(), bench);
+    lead(&mut wire, 0, 0);
+    assert!(rt; wire.items().is_empty());
+    lead(&mut wire, 0, 3);
+    lead(&mut wire, 0, 4);
+    lead(&mut wire, 50, 2);
+    lead(&mut wire, 0, 5);
+    assert_eq!(rt;
+        wire.items(),
+        &[Item::Idle(7), Item::Reset(50), Item::Idle(7)]
+    );
+    assert!(rt; !wire.is_cut());
+    Ok(())
+}
+
+// What the line carries in a line reset inside a transaction is no item. The run goes on as it would.
+#[test]
+fn a_line_reset_inside_a_transaction_cuts_the_items(rt: HostRuntime) -> Result<(), Fail> {
+    let Some(bench) = target_of::<Bench>(rt.alloc(), &run_of(&[], &[]), QUIRKS)? else {
+        panic!(rt; "no target");
+    };
+    let mut wire = Recorder::new(rt.alloc(), bench);
+    let request = Register::DpidrRead.request();
+    lead(&mut wire, 56, 2);
+    assert_eq!(rt; ask(&mut wire, request), 1);
+    // A transaction is an item once it is whole.
+    assert_eq!(rt; wire.items(), &[Item::Reset(56), Item::Idle(2)]);
+    lead(&mut wire, 100, 2);
+    assert!(rt; wire.is_cut());
+    assert_eq!(rt; wire.due(), Due::Nothing);
+    assert_eq!(rt; ask(&mut wire, request), 1);
+    assert!(rt; take(&mut wire).is_some());
+    assert_eq!(rt; wire.items(), &[Item::Reset(56), Item::Idle(2)]);
+    Ok(())
+}
+
+// After a lost acknowledgement a line reset goes on with the items, and the wire under them is handed back.
+#[test]
+fn items_go_on_after_a_lost_acknowledgement(rt: HostRuntime) -> Result<(), Fail> {
+    let run = run_of(&[(1, Mark::Deaf)], &[]);
+    let Some(bench) = target_of::<Bench>(rt.alloc(), &run, QUIRKS)? else {
+        panic!(rt; "no target");
+    };
+    let mut wire = Recorder::new(rt.alloc(), bench);
+    let request = Register::DpidrRead.request();
+    lead(&mut wire, 56, 2);
+    assert_eq!(rt; ask(&mut wire, request), 7);
+    assert_eq!(rt; wire.due(), Due::Lost);
+    lead(&mut wire, 100, 2);
+    assert_eq!(rt; ask(&mut wire, request), 1);
+    assert!(rt; take(&mut wire).is_some());
+    let items = [
+        Item::Reset(56),
+        Item::Idle(2),
+        lost(DPIDR, 7),
+        Item::Reset(100),
+        Item::Idle(2),
+        moved(DPIDR, 0x2ba0_1477),
+    ];
+    assert_eq!(rt; wire.items(), &items);
+    let bench = wire.into_wire();
+    assert!(rt; Simulated::memory(&bench).log().is_empty());
+    Ok(())
+}
