@@ -1,6 +1,17 @@
 //! What a host sends over a wire and sees, as items.
+use std::alloc::Global;
 use swd_bits::{Reg4, Request, Tx, TxEnd};
+use swd_port::{Due, Wire};
+use swd_recorder::Recorder;
 use swd_trace::Item;
+
+/// A recorder over a wire. `None` where something is due there.
+pub fn recorder_over<W: Wire + Drop>(alloc: Global, wire: W) -> Option<Recorder<W>> {
+    if wire.due() != Due::Nothing {
+        return None;
+    }
+    Some(Recorder::new(alloc, wire))
+}
 
 // The request with this byte. A byte that is none is taken for the read of DPIDR, which the items then show.
 fn request(byte: u8) -> Request {
@@ -14,9 +25,12 @@ fn request(byte: u8) -> Request {
     }
 }
 
-fn ended(byte: u8, result: TxEnd) -> Item {
+fn ended(byte: u8, end: TxEnd) -> Item {
     let request = request(byte);
-    Item::Tx(Tx { request, result })
+    Item::Tx(Tx {
+        request,
+        result: end,
+    })
 }
 
 /// The request was answered OK, and this word was read or written.

@@ -1,5 +1,5 @@
 //! Runs over wires that lose an acknowledgement.
-use super::items::lost;
+use super::items::{lost, recorder_over};
 use super::row::{
     BASE, QUIRKS, WORD, WRITE, all_come_out, report_of, run_of, stopped, target_of, written,
 };
@@ -10,7 +10,6 @@ use std::test::Fail;
 use swd_clocked::ClockedBench;
 use swd_host::End;
 use swd_port::Access;
-use swd_recorder::Recorder;
 use swd_target::{Bench, Mark, Quirks};
 
 #[test]
@@ -76,7 +75,9 @@ fn a_changed_bit_makes_no_acknowledgement_of_another(rt: HostRuntime) -> Result<
             let Some(bench) = target_of::<Bench>(rt.alloc(), &run, QUIRKS)? else {
                 panic!(rt; "no target");
             };
-            let mut wire = Recorder::new(rt.alloc(), bench);
+            let Some(mut wire) = recorder_over(rt.alloc(), bench) else {
+                panic!(rt; "something is due");
+            };
             let Some(report) = report_of(rt.alloc(), &mut wire, &run)? else {
                 panic!(rt; "no new target");
             };

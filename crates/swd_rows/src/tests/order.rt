@@ -1,5 +1,5 @@
 //! What a host sends, request by request.
-use super::items::{bits, damaged, faulted, lost, moved, waited};
+use super::items::{bits, damaged, faulted, lost, moved, recorder_over, waited};
 use super::row::{
     BASE, BURST, FILLER, QUIRKS, READ, Run, WORD, WRITE, report_of, run_of, target_of,
 };
@@ -9,7 +9,6 @@ use std::process::Abort;
 use std::test::Fail;
 use swd_clocked::ClockedBench;
 use swd_port::Access;
-use swd_recorder::Recorder;
 use swd_target::{Bench, Mark, Quirks};
 use swd_trace::Item;
 
@@ -82,7 +81,9 @@ fn sends_over<S: Simulated + Drop, R: Abort>(
     let Some(bench) = target_of::<S>(alloc, run, quirks)? else {
         panic!(rt; "a mark isn't legal");
     };
-    let mut wire = Recorder::new(alloc, bench);
+    let Some(mut wire) = recorder_over(alloc, bench) else {
+        panic!(rt; "something is due");
+    };
     let _ = report_of(alloc, &mut wire, run)?;
     let opening = opening(quirks.filler);
     assert!(rt; wire.items().starts_with(&opening));

@@ -1,11 +1,10 @@
 //! A recorder over a simulated target, call by call.
-use super::items::{lost, moved};
+use super::items::{lost, moved, recorder_over};
 use super::row::{QUIRKS, run_of, target_of};
 use crate::Simulated;
 use std::test::Fail;
 use swd_bits::Request;
 use swd_port::{Due, Register, Wire};
-use swd_recorder::Recorder;
 use swd_target::{Bench, Mark};
 use swd_trace::Item;
 
@@ -40,17 +39,17 @@ fn zeros_after_zeros_are_one_item(rt: HostRuntime) -> Result<(), Fail> {
     let Some(bench) = target_of::<Bench>(rt.alloc(), &run_of(&[], &[]), QUIRKS)? else {
         panic!(rt; "no target");
     };
-    let mut wire = Recorder::new(rt.alloc(), bench);
+    let Some(mut wire) = recorder_over(rt.alloc(), bench) else {
+        panic!(rt; "something is due");
+    };
     lead(&mut wire, 0, 0);
     assert!(rt; wire.items().is_empty());
     lead(&mut wire, 0, 3);
     lead(&mut wire, 0, 4);
     lead(&mut wire, 50, 2);
     lead(&mut wire, 0, 5);
-    assert_eq!(rt;
-        wire.items(),
-        &[Item::Idle(7), Item::Reset(50), Item::Idle(7)]
-    );
+    let items = [Item::Idle(7), Item::Reset(50), Item::Idle(7)];
+    assert_eq!(rt; wire.items(), items.as_slice());
     assert!(rt; !wire.is_cut());
     Ok(())
 }
@@ -61,18 +60,21 @@ fn a_line_reset_inside_a_transaction_cuts_the_items(rt: HostRuntime) -> Result<(
     let Some(bench) = target_of::<Bench>(rt.alloc(), &run_of(&[], &[]), QUIRKS)? else {
         panic!(rt; "no target");
     };
-    let mut wire = Recorder::new(rt.alloc(), bench);
+    let Some(mut wire) = recorder_over(rt.alloc(), bench) else {
+        panic!(rt; "something is due");
+    };
     let request = Register::DpidrRead.request();
     lead(&mut wire, 56, 2);
     assert_eq!(rt; ask(&mut wire, request), 1);
     // A transaction is an item once it is whole.
-    assert_eq!(rt; wire.items(), &[Item::Reset(56), Item::Idle(2)]);
+    let items = [Item::Reset(56), Item::Idle(2)];
+    assert_eq!(rt; wire.items(), items.as_slice());
     lead(&mut wire, 100, 2);
     assert!(rt; wire.is_cut());
     assert_eq!(rt; wire.due(), Due::Nothing);
     assert_eq!(rt; ask(&mut wire, request), 1);
     assert!(rt; take(&mut wire).is_some());
-    assert_eq!(rt; wire.items(), &[Item::Reset(56), Item::Idle(2)]);
+    assert_eq!(rt; wire.items(), items.as_slice());
     Ok(())
 }
 
@@ -83,7 +85,9 @@ fn items_go_on_after_a_lost_acknowledgement(rt: HostRuntime) -> Result<(), Fail>
     let Some(bench) = target_of::<Bench>(rt.alloc(), &run, QUIRKS)? else {
         panic!(rt; "no target");
     };
-    let mut wire = Recorder::new(rt.alloc(), bench);
+    let Some(mut wire) = recorder_over(rt.alloc(), bench) else {
+        panic!(rt; "something is due");
+    };
     let request = Register::DpidrRead.request();
     lead(&mut wire, 56, 2);
     assert_eq!(rt; ask(&mut wire, request), 7);
@@ -99,7 +103,7 @@ fn items_go_on_after_a_lost_acknowledgement(rt: HostRuntime) -> Result<(), Fail>
         Item::Idle(2),
         moved(DPIDR, 0x2ba0_1477),
     ];
-    assert_eq!(rt; wire.items(), &items);
+    assert_eq!(rt; wire.items(), items.as_slice());
     let bench = wire.into_wire();
     assert!(rt; Simulated::memory(&bench).log().is_empty());
     Ok(())

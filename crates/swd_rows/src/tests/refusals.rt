@@ -1,11 +1,11 @@
 //! Lists that a host doesn't do, and want of memory.
+use super::items::recorder_over;
 use super::row::{BASE, QUIRKS, READ, Run, WORD, WRITE, report_of, run_of, target_of};
 use std::alloc::Global;
 use std::process::Abort;
 use std::test::Fail;
 use swd_host::{End, Refused, run};
 use swd_port::{Access, Answer, Due, Wire};
-use swd_recorder::Recorder;
 use swd_target::Bench;
 
 // What refuses these accesses. None where nothing does, or something is due on the wire.
@@ -48,7 +48,9 @@ fn a_list_is_refused_before_anything_is_sent(rt: HostRuntime) -> Result<(), Fail
         let Some(bench) = target_of::<Bench>(rt.alloc(), &run_of(&[], &[]), QUIRKS)? else {
             panic!(rt; "no target");
         };
-        let mut wire = Recorder::new(rt.alloc(), bench);
+        let Some(mut wire) = recorder_over(rt.alloc(), bench) else {
+            panic!(rt; "something is due");
+        };
         assert_eq!(rt; refusal(rt.alloc(), &mut wire, accesses), Some(refused));
         assert!(rt; wire.items().is_empty());
         is_as_new(&rt, rt.alloc(), &mut wire)?;
@@ -63,7 +65,9 @@ fn want_of_memory_is_told_before_anything_is_sent(rt: HostRuntime) -> Result<(),
     let Some(bench) = target_of::<Bench>(rt.alloc(), &run_of(&[], &[]), QUIRKS)? else {
         panic!(rt; "no target");
     };
-    let mut wire = Recorder::new(rt.alloc(), bench);
+    let Some(mut wire) = recorder_over(rt.alloc(), bench) else {
+        panic!(rt; "something is due");
+    };
     if refusal(rt.alloc(), &mut wire, &[WRITE, READ]) == Some(Refused::Memory) {
         assert!(rt; wire.items().is_empty());
         is_as_new(&rt, rt.alloc(), &mut wire)?;
