@@ -2,7 +2,7 @@
 use Rattle.std.proofs.Common.{◌≡◌, List, Option, None, Some, refl, sym, ap, ◌∙◌, true}
 use Rattle.std.specs.Prelude.{IsSomeAnd}
 use Rattle.clap.proofs.OnLiterals.{clap_on_literals}
-use Rattle.clap.specs.Words.{is_simple, Row, Text, first_of, subcommand_rows_of, subcommand_name_of}
+use Rattle.clap.specs.Words.{is_simple, is_simple_and_free, Row, Text, first_of, subcommand_rows_of, subcommand_name_of}
 use Rattle.std.specs.Option.{option_map}
 use Rattle.clap.specs.declared.parser.matches.ArgMatches.{ArgMatches}
 use Rattle.clap.specs.declared.parser.matches.ArgMatches.TheViews.{out-ArgMatches}
@@ -26,7 +26,11 @@ map_map f g (Some x) = refl
 pub name_in_rows : (m : ArgMatches) → subcommand_name_of m ≡ option_map (λ p. p.0) (subcommand_rows_of m)
 name_in_rows m = map_map _ (λ p. p.0) (out-ArgMatches m).subcommand
 
--- the command is one whose matches are exact
+-- the command is one whose matches are exact, and whose faults are
 pub simple : is_simple swd_app ≡ true
 unfolding clap_on_literals
 simple = refl
+
+pub simple_and_free : is_simple_and_free swd_app ≡ true
+unfolding clap_on_literals
+simple_and_free = refl

@@ -1,12 +1,14 @@
 -- The program's command, as a parse reads it, and what its words mean.
-use Rattle.std.specs.Prelude.{ℕ, ◌≡◌, ◌≤◌, List, [], ◌∷◌, Option, Some, None, IsSomeAnd, true, codes, pos}
+use Rattle.std.specs.Prelude.{ℕ, ◌≡◌, ◌≤◌, ◌⊎◌, List, [], ◌∷◌, Option, Some, None, IsSomeAnd, true, codes, pos}
 use Rattle.std.specs.Option.{option_map}
 use Rattle.std.specs.String.{string_bytes}
 use Rattle.std.specs.Str.Parse.{signed_digits_value}
-use Rattle.clap.specs.Words.{App, Row, first_of, Rule, Text, new_app, new_rule, with_rule, with_subcommand}
+use Rattle.clap.specs.Words.{App, HasKind, Kinds, Row, first_of, Rule, Text, new_app, new_rule, with_rule, with_subcommand}
 use Rattle.swd_cli.specs.declared.command.Line.{Line}
 use Rattle.swd_cli.specs.declared.command.Line.TheVariants.{One, Decode, Encode, Run}
 use Rattle.swd_cli.specs.declared.command.RunLine.{RunLine}
+use Rattle.swd_cli.specs.declared.command.LineFault.{LineFault}
+use Rattle.swd_cli.specs.declared.command.LineFault.TheVariants.{Clap, Memory}
 use Rattle.clap.specs.declared.builder.value_parser.ValueParser.TheVariants.{Signed}
 
 -- the file, which may be left out
@@ -71,6 +73,11 @@ pub record IsRunOf (run : RunLine) (rows : List Row) : Type 0 where
   pub plan : option_map string_bytes run.plan ≡ first_of (codes "plan") rows
   pub tries : AreTries run.tries (first_of (codes "tries") rows)
   pub trace : option_map string_bytes run.trace ≡ first_of (codes "trace") rows
+
+-- Words are refused for a mistake of one of these kinds, where they have one, or for want of memory.
+abbrev pub IsRefusal : Kinds → LineFault → Type 0
+IsRefusal kinds Memory = Unit {0}
+IsRefusal kinds (Clap error) = HasKind kinds error ⊎ (kinds ≡ [])
 
 -- the line is the command that the words have
 abbrev pub IsLineOf : Line → Option (Text × List Row) → Type 0

@@ -111,7 +111,8 @@ fn perform_run<S: Read, F: Files, O: Write, E: Write>(
     output: &mut O,
     errors: &mut E,
 ) -> u8
-    ensures { PerformsRun run.now.plan run.now result (S.remaining script.old) (O.contents output.old) (O.contents output.new) }
+    ensures { PerformsRun run.now.plan run.now result (S.remaining script.old)
+        (O.contents output.old) (O.contents output.new) }
 {
     let Some(name) = &run.plan else {
         let mut nothing = [].as_slice();

@@ -1,12 +1,12 @@
 //! The words of the command line.
-ghost use Rattle.std.specs.Prelude.{◌≡◌, IfOk, IfSome, Some, map, false};
+ghost use Rattle.std.specs.Prelude.{◌≡◌, IfOk, IfErr, IfSome, Some, [], map, false};
 ghost use Rattle.std.specs.Option.{option_map};
 ghost use Rattle.std.specs.String.{string_bytes};
 ghost use Rattle.clap.specs.Words.{app_of, found_of, rows_of, subcommand_of, subcommand_rows_of, rule_of, shape_of};
-ghost use Rattle.clap.specs.Words.{with_rule, with_subcommand};
+ghost use Rattle.clap.specs.Words.{fault_of, with_rule, with_subcommand};
 ghost use Rattle.clap.specs.declared.builder.command.Command.TheViews.{out-Command};
 ghost use Rattle.swd_cli.specs.Commands.{file_rule, plan_rule, script_rule, trace_rule, tries_rule};
-ghost use Rattle.swd_cli.specs.Commands.{bare_app, over_file, run_app, swd_app, AreTries, IsLineOf, IsRunOf};
+ghost use Rattle.swd_cli.specs.Commands.{bare_app, over_file, run_app, swd_app, AreTries, IsLineOf, IsRunOf, IsRefusal};
 
 use crate::command::{Line, LineFault, RunLine};
 use clap::error::ErrorKind;
@@ -285,12 +285,20 @@ fn line_of(alloc: Global, matches: &ArgMatches<'_>) -> Result<Line, LineFault>
     }
 }
 
-#[tactic(auto, using(crate::proofs::CommandLemmas::simple))]
+#[tactic(auto, using(crate::proofs::CommandLemmas::simple, crate::proofs::CommandLemmas::simple_and_free))]
 /// What the words ask for, the program's name first.
 ///
-/// At `Ok` the command and its names are those that the words have by `clap`'s meaning of them.
+/// At `Ok` the command, its names and its number are those that the words have by `clap`'s meaning of
+/// them, by which nothing is wrong with them.
+///
+/// # Errors
+///
+/// Where something is wrong with the words by that meaning, `Clap` with its kind: for a mistake, the
+/// help or the version. `Memory`, or `Clap` of that kind, where memory was refused.
 pub fn line<'a>(alloc: Global, words: &'a [&'a str]) -> Result<Line, LineFault>
-    ensures { IfOk result (λ l. IsLineOf l (subcommand_of swd_app (map (λ w. w.now) words.entry.now))) }
+    ensures line { IfOk result (λ l. IsLineOf l (subcommand_of swd_app (map (λ w. w.now) words.entry.now))) }
+    ensures right { IfOk result (λ _. fault_of swd_app (map (λ w. w.now) words.entry.now) ≡ []) }
+    ensures wrong { IfErr result (IsRefusal (fault_of swd_app (map (λ w. w.now) words.entry.now))) }
 {
     let Ok(command) = swd_command(alloc) else {
         return Err(LineFault::Memory);

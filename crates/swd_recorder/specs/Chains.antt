@@ -1,6 +1,7 @@
 -- Lists of items as a host sends them: which item may follow which. That a recording is such a list, and the division
 -- into items, is this project's choice.
-use Rattle.std.specs.Prelude.{ℕ, ◌^◌, nat_le, nat_lt, ◌==◌, ◌&&◌, ◌||◌, not, Bool, true, false, List, [], ◌∷◌, if◌then◌else◌}
+use Rattle.std.specs.Prelude.{ℕ, ◌^◌, nat_le, nat_lt, ◌==◌, ◌&&◌, ◌||◌, not, Bool, true, false, List, [], ◌∷◌}
+use Rattle.std.specs.Prelude.{if◌then◌else◌}
 use Rattle.swd_bits.specs.declared.tx.TxEnd.{TxEnd}
 use Rattle.swd_bits.specs.declared.tx.TxEnd.TheVariants.{Moved, Wait, Fault, NoAck}
 use Rattle.swd_trace.specs.declared.item.Item.{Item}

@@ -1,5 +1,6 @@
 -- What a recording keeps of each call of a wire. The division of the calls into items is this project's choice.
-use Rattle.std.specs.Prelude.{ℕ, ◌≡◌, ◌≢◌, ◌+◌, ◌^◌, ◌<◌, ◌==◌, Bool, true, false, List, [], ◌∷◌, ◌++◌, Option, Some, None, if◌then◌else◌}
+use Rattle.std.specs.Prelude.{ℕ, ◌≡◌, ◌≢◌, ◌+◌, ◌^◌, ◌<◌, ◌==◌, Bool, true, false, List, [], ◌∷◌, ◌++◌, Option}
+use Rattle.std.specs.Prelude.{Some, None, if◌then◌else◌}
 use Rattle.swd_bits.specs.Bits.{low_bits}
 use Rattle.swd_bits.specs.Transactions.{phase_with}
 use Rattle.swd_bits.specs.declared.ack.Ack.{Ack}
@@ -101,7 +102,8 @@ pub record RecordsAsk (request : Request) (seen : ℕ) (old new : Kept) : Type 0
   pub adds : Adds (unanswered request seen (ack_seen seen)) old new
   pub in_hand : new.in_hand ≡ answered request (ack_seen seen)
 
--- One call of `take` or `give`: the transaction is whole, with these 33 bits as its data phase. Their parity may be wrong.
+-- One call of `take` or `give`: the transaction is whole, with these 33 bits as its data phase. Their parity may be
+-- wrong.
 pub record RecordsPhase (bits : ℕ) (old new : Kept) : Type 0 where
   pub asked : InHand
   pub is : old.in_hand ≡ Some asked

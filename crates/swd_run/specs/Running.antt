@@ -17,7 +17,8 @@ use Rattle.swd_script.specs.Plans.{plan_of}
 use Rattle.swd_script.specs.Readers.{IsScriptFault, IsPlanFault}
 use Rattle.swd_script.specs.declared.fault.ScriptFault.{ScriptFault}
 use Rattle.swd_text.specs.declared.fault.EngineFault.{EngineFault}
-use Rattle.swd_text.specs.declared.fault.EngineFault.TheVariants.{Script, Plan, Text, List as Listing, Read, Write, Memory, TraceCut}
+use Rattle.swd_text.specs.declared.fault.EngineFault.TheVariants.{Script, Plan, Text, List as Listing, Read, Write}
+use Rattle.swd_text.specs.declared.fault.EngineFault.TheVariants.{Memory, TraceCut}
 use Rattle.swd_run.specs.Reports.{report_text}
 
 -- the memory of a script, before its run
@@ -81,7 +82,8 @@ AreUnread (Listing fault) script plan = ⊥
 AreUnread TraceCut script plan = ⊥
 
 -- What an answer says of the readers' texts, where their bytes are known, and of what the writer holds before and after.
-abbrev pub RunsText : ℕ → Result End EngineFault → Option (List ℕ) → Option (List ℕ) → Option (List ℕ) → Option (List ℕ) → Type 0
+abbrev pub RunsText : ℕ → Result End EngineFault → Option (List ℕ) → Option (List ℕ) → Option (List ℕ)
+    → Option (List ℕ) → Type 0
 RunsText tries (Ok ended) script plan old new =
     (ran : Ran tries script plan) × (ended ≡ ran.told.ended) × Appends old new (report_of ran)
 RunsText tries (Err (Write written)) script plan old new =

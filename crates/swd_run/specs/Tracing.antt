@@ -12,7 +12,8 @@ use Rattle.swd_host.specs.declared.outcome.End.{End}
 use Rattle.swd_host.specs.declared.outcome.End.TheVariants.{Lost}
 use Rattle.swd_host.specs.Reports.{Told}
 use Rattle.swd_text.specs.declared.fault.EngineFault.{EngineFault}
-use Rattle.swd_text.specs.declared.fault.EngineFault.TheVariants.{Script, Plan, Text, List as Listing, Read, Write, Memory, TraceCut}
+use Rattle.swd_text.specs.declared.fault.EngineFault.TheVariants.{Script, Plan, Text, List as Listing, Read, Write}
+use Rattle.swd_text.specs.declared.fault.EngineFault.TheVariants.{Memory, TraceCut}
 use Rattle.swd_run.specs.Running.{Ran, report_of, IsScript, IsPlan, AreUnread}
 
 -- items that their own bits are read as
@@ -34,7 +35,8 @@ pub record IsRecorded (told : Told) (port : Port) : Type 0 where
 
 -- What an answer says of the readers' texts, where their bytes are known, of what the report's writer holds before and
 -- after, and of what the trace's holds. The report is written first.
-abbrev pub RunsTraced : ℕ → Result End EngineFault → Option (List ℕ) → Option (List ℕ) → Option (List ℕ) → Option (List ℕ) → Option (List ℕ) → Option (List ℕ) → Type 0
+abbrev pub RunsTraced : ℕ → Result End EngineFault → Option (List ℕ) → Option (List ℕ) → Option (List ℕ)
+    → Option (List ℕ) → Option (List ℕ) → Option (List ℕ) → Type 0
 RunsTraced tries (Ok ended) script plan old new before after =
     (ran : Ran tries script plan) × (ended ≡ ran.told.ended) × Appends old new (report_of ran)
     × (items : List Item) × IsTraceOf ran.told items × Appends before after (trace_text items)
@@ -43,7 +45,8 @@ RunsTraced tries (Err TraceCut) script plan old new before after =
     × (items : List Item) × AreItems items × Appends before after (trace_text items)
 RunsTraced tries (Err (Write written)) script plan old new before after =
     (ran : Ran tries script plan) × ((Stopped written old new (report_of ran) × Appends before after [])
-    ⊎ (Appends old new (report_of ran) × (items : List Item) × AreItems items × Stopped written before after (trace_text items)))
+    ⊎ (Appends old new (report_of ran) × (items : List Item) × AreItems items
+    × Stopped written before after (trace_text items)))
 RunsTraced tries (Err (Script fault)) script plan old new before after =
     AreUnread (Script fault) script plan × Appends old new [] × Appends before after []
 RunsTraced tries (Err (Plan fault)) script plan old new before after =
