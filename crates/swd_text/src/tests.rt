@@ -1,4 +1,6 @@
 //! The engines on worked texts, with failing readers and writers, and with memory refused.
+mod cuts;
+
 use crate::{EngineFault, TextFault, decode_text, encode_text};
 use linked_list_allocator::LocalHeap;
 use std::cell::Cell;
