@@ -16,22 +16,22 @@ fn led() -> Engine {
     engine
 }
 
-// What is seen after the request that is its cue.
-fn seen(engine: &mut Engine, seen: u8) {
+/// What is seen after the request that is its cue.
+pub fn seen(engine: &mut Engine, seen: u8) {
     if let Cue::Ask(_) = engine.cue() {
         engine.seen(seen % 8);
     }
 }
 
-// The word that is read, where its cue is to take one.
-fn taken(engine: &mut Engine, word: u32) {
+/// The word that is read, where its cue is to take one.
+pub fn taken(engine: &mut Engine, word: u32) {
     if let Cue::Take = engine.cue() {
         engine.taken(data_bits(word));
     }
 }
 
-// The turnaround, where that is its cue.
-fn passed(engine: &mut Engine) {
+/// The turnaround, where that is its cue.
+pub fn passed(engine: &mut Engine) {
     if let Cue::Pass = engine.cue() {
         engine.done();
     }
@@ -171,8 +171,8 @@ fn a_fault_of_both_flags_or_none_confuses(rt: HostRuntime) {
     }
 }
 
-// One call of the wire, as the engine asks for it. False where it asks for none.
-fn goes_on(wire: &mut Bench, engine: &mut Engine) -> bool {
+/// One call of the wire, as the engine asks for it. False where it asks for none.
+pub fn goes_on(wire: &mut Bench, engine: &mut Engine) -> bool {
     match (engine.cue(), wire.due()) {
         (
             Cue::Lead {
@@ -206,8 +206,8 @@ fn goes_on(wire: &mut Bench, engine: &mut Engine) -> bool {
     true
 }
 
-// Begins the access, where the engine may.
-fn starts(engine: &mut Engine, access: Access, following: Option<Access>) -> bool {
+/// Begins the access, where the engine may.
+pub fn starts(engine: &mut Engine, access: Access, following: Option<Access>) -> bool {
     match engine.finished() {
         Some(Outcome::Opened | Outcome::Answered(_)) => {
             engine.start(access, following);
