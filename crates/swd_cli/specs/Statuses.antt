@@ -41,7 +41,7 @@ PerformsUnder (Some trace) tries status script plan old new =
     ⊎ ((answer : Result End EngineFault) × (before : Option (List ℕ)) × (after : Option (List ℕ))
     × RunsTraced tries answer script plan old new before after × (status ≡ status_of_run answer))
 
--- The plan is empty where none is named, and else the text of the file that is.
+-- The plan is empty where none is named, and else some text: no contract knows what a file held.
 abbrev pub PerformsRun : {S : Type 0} → Option S → RunLine → ℕ → Option (List ℕ) → Option (List ℕ) → Option (List ℕ) → Type 0
 PerformsRun None run status script old new = PerformsUnder run.trace run.tries status script (Some []) old new
 PerformsRun (Some plan) run status script old new =
