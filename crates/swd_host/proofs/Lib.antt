@@ -1,3 +1,4 @@
+mod Fitting
 mod Frames
 mod Asked
 mod Asks
@@ -12,4 +13,5 @@ mod Going
 mod Lists
 mod Starts
 mod Ends
+mod Performing
 mod Runs

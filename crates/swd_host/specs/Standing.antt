@@ -1,17 +1,24 @@
--- What holds between two accesses of a run.
-use Rattle.std.specs.Prelude.{ℕ, ◌≡◌, ◌+◌, ◌-◌, ◌*◌, ◌%◌, ◌^◌, ◌<◌, ◌≤◌, List, length, take, Bool, true, false, Some}
+-- What holds between two accesses of a list, and after it.
+use Rattle.std.specs.Prelude.{ℕ, ◌≡◌, ◌+◌, ◌-◌, ◌*◌, ◌^◌, ◌<◌, ◌≤◌, ◌++◌, List, length, take, Bool, true, false, Some}
 use Rattle.std.specs.Prelude.{None, slice_index_or as get_or}
 use Rattle.swd_port.specs.declared.access.Access.{Access}
 use Rattle.swd_port.specs.declared.access.Answer.{Answer}
 use Rattle.swd_port.specs.declared.register.Register.TheVariants.{DrwWrite}
 use Rattle.swd_port.specs.PlainMemory.{PlainMemory, address}
-use Rattle.swd_port.specs.Port.{Port, made}
+use Rattle.swd_port.specs.Port.{Port}
+use Rattle.swd_port.specs.Choices.{Choice}
+use Rattle.swd_port.specs.Completion.{completed}
+use Rattle.swd_host.specs.declared.outcome.End.{End}
+use Rattle.swd_host.specs.declared.outcome.End.TheVariants.{All}
+use Rattle.swd_host.specs.declared.outcome.Outcome.TheVariants.{Opened}
+use Rattle.swd_host.specs.declared.engine.State.TheVariants.{Resting}
 use Rattle.swd_host.specs.declared.engine.Engine.{Engine}
 use Rattle.swd_host.specs.Addresses.{continues}
 use Rattle.swd_host.specs.Plain.{memory_after, answers_of, AreAccesses}
 use Rattle.swd_host.specs.Tasks.{access_of, is_burst}
 use Rattle.swd_host.specs.Engines.{is_ahead, finished_of, may_start}
 use Rattle.swd_host.specs.Tracks.{Hand, Up, Writes, IsReady, hand_of, DueFits}
+use Rattle.swd_host.specs.Reports.{Fits, EndsAt, told_by}
 
 -- the next access's write was answered OK and awaits its data: TAR has its address
 pub record Poised (n at : ℕ) (m : PlainMemory) (s : Port) : Type 0 where
@@ -25,9 +32,15 @@ abbrev pub Waits : Bool → ℕ → Hand → Port → Type 0
 Waits true n k s = Writes DrwWrite n (λ c. Poised c (address (access_of k.task) + 4) k.memory s) s
 Waits false n k s = IsReady n k s
 
--- What is known of the memory after i accesses of a target that was just made.
-pub record Reached (i : ℕ) (list : List Access) (m : PlainMemory) (s : Port) (e : Engine) (answers : List Answer)
-    (t : Port) : Type 0 where
+-- the target is up over this memory, no flag is set, and the engine doesn't know TAR
+pub record IsOpen (m : PlainMemory) (e : Engine) (s : Port) : Type 0 where
+  pub up : Up m s.target
+  pub flag : s.target.write_error ≡ false
+  pub tar : e.tar ≡ None
+
+-- What is known of the memory after i accesses, by an engine that opened the target as o and stands at e now.
+pub record Reached (i : ℕ) (list : List Access) (m : PlainMemory) (o : Engine) (s : Port) (e : Engine)
+    (answers : List Answer) (t : Port) : Type 0 where
   -- So many disturbances were met as events: one that befell the data phase of the request that confirmed the last
   -- access belongs to the next access.
   pub met : ℕ
@@ -35,30 +48,57 @@ pub record Reached (i : ℕ) (list : List Access) (m : PlainMemory) (s : Port) (
   pub ready : Waits (is_ahead e) met (hand_of e (memory_after (take i list) m)) t
   pub answered : answers ≡ answers_of (take i list) m
   pub begun : is_ahead e ≡ false → e.begun ≡ false
-  -- The first access has to write TAR. So beside nine requests of the opening and one for each access there are two:
-  -- TAR's, and the one that confirmed the last access.
+  -- The first access has to write TAR. So beside one request for each access there are two: TAR's, and the one that
+  -- confirmed the last access.
   pub first : i ≡ 0 → e.tar ≡ None
-  pub later : 1 ≤ i → 11 + i ≤ e.requests
-  pub most : e.requests ≤ 9 + 6 * i + 5 * (met - s.tally.disturbed)
+  pub later : 1 ≤ i → o.requests + 2 + i ≤ e.requests
+  pub most : e.requests ≤ o.requests + 6 * i + 5 * (met - s.tally.disturbed)
 
 -- the list has an access at i, and it continues a burst after this address
 abbrev pub ContinuesAt : List Access → ℕ → ℕ → Type 0
 ContinuesAt list i at = (i < length list) × ((d : Access) → continues at (Some (get_or list i d)) ≡ true)
 
--- i accesses are answered, from the port s at the beginning
-pub record Stands (i : ℕ) (list : List Access) (tries : ℕ) (s : Port) (e : Engine) (answers : List Answer)
+-- i accesses are answered, from the engine o and the port s at the end of the opening
+pub record Stands (i : ℕ) (list : List Access) (o : Engine) (s : Port) (e : Engine) (answers : List Answer)
     (t : Port) : Type 0 where
   pub due : DueFits e t
   pub rests : may_start (finished_of e) ≡ true
   -- the next access is the one that continues the burst
   pub chain : is_burst e.task ≡ true → ContinuesAt list i (address (access_of e.task))
   pub first : i ≡ 0 → is_burst e.task ≡ false
-  pub tried : e.tries ≡ tries
+  pub tried : e.tries ≡ o.tries
   pub number : length answers ≡ i
   pub bounded : e.requests ≤ (i + 1) * 2 ^ 35
-  pub sent : 9 + i ≤ e.requests
-  pub asked : t.tally.asked ≡ s.tally.asked + e.requests
+  pub sent : o.requests + i ≤ e.requests
+  pub asked : t.tally.asked + o.requests ≡ s.tally.asked + e.requests
   pub disturbed : s.tally.disturbed ≤ t.tally.disturbed
   pub lost : s.tally.lost ≤ t.tally.lost
-  pub reached : (identification : ℕ) (m : PlainMemory) → s ≡ made identification m → identification % 2 ≡ 1
-      → AreAccesses list → Reached i list m s e answers t
+  pub reached : (m : PlainMemory) → IsOpen m o s → AreAccesses list → Reached i list m o s e answers t
+
+-- an engine that has opened its target, after at least nine requests
+pub record HasOpened (e : Engine) : Type 0 where
+  pub at : e.state ≡ Resting Opened
+  pub plain : is_burst e.task ≡ false
+  pub unbegun : e.begun ≡ false
+  pub least : 9 ≤ e.requests
+  pub most : e.requests ≤ 2 ^ 35
+  pub tries : e.tries < 2 ^ 32
+
+-- What doing a list over this memory comes to.
+pub record DoesOver (list : List Access) (m : PlainMemory) (o f : Engine) (answers : List Answer) (end : End)
+    (s t : Port) : Type 0 where
+  pub now : Fits 1 list m (told_by answers f end) t.target.memory
+  pub later : (c : Choice) → Fits 1 list m (told_by answers f end) (completed c t).target.memory
+  pub ends : EndsAt end o.tries s t
+  pub least : end ≡ All → o.requests + length list ≤ f.requests
+  pub most : f.requests ≤ o.requests + 6 * length list + 5 * (t.tally.disturbed - s.tally.disturbed)
+
+-- A list is done by an engine that opened the target as o: these answers come after those that were there.
+pub record Does (list : List Access) (o f : Engine) (before after : List Answer) (end : End) (s t : Port)
+    : Type 0 where
+  pub answers : List Answer
+  pub added : after ≡ before ++ answers
+  pub asked : t.tally.asked + o.requests ≡ s.tally.asked + f.requests
+  pub disturbed : s.tally.disturbed ≤ t.tally.disturbed
+  pub lost : s.tally.lost ≤ t.tally.lost
+  pub over : (m : PlainMemory) → IsOpen m o s → AreAccesses list → DoesOver list m o f answers end s t

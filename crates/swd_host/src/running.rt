@@ -1,6 +1,7 @@
 //! Runs an engine over a wire.
 ghost use Rattle.std.specs.Prelude.{◌≡◌, ◌<◌, ◌≤◌, ◌%◌, ℕ, Some, None, true, false, IfOk, IfErr, IfNone, IfSome};
-ghost use Rattle.std.specs.Prelude.{length};
+ghost use Rattle.std.specs.Prelude.{◌+◌, length};
+ghost use Rattle.std.specs.Vec.{vec_capacity};
 ghost use Rattle.swd_bits.specs.Bits.{bit};
 ghost use Rattle.swd_port.specs.declared.wire.Due.TheVariants.{Nothing};
 ghost use Rattle.swd_host.specs.Plain.{AreAccesses, HasRanges, is_aligned};
@@ -10,6 +11,7 @@ ghost use Rattle.swd_host.specs.Tasks.{access_of};
 ghost use Rattle.swd_host.specs.Tracks.{DueFits};
 ghost use Rattle.swd_host.specs.Turns.{Goes, GoesFrom, GoesOn, IsNew, Starts, answered_as, opened_as};
 ghost use Rattle.swd_host.specs.Reports.{Follower, RefusedAs, RunsOver, told_by, told_of};
+ghost use Rattle.swd_host.specs.Standing.{Does, HasOpened};
 
 use crate::engine::{Cue, Engine};
 use crate::outcome::{End, Outcome, Refused, Report};
@@ -143,6 +145,33 @@ fn access<W: Wire>(
     }
 }
 
+// Does a list over a target that the engine has opened, adds the answers to those that are there, and
+// ends a list that is whole with eight idle cycles.
+fn perform<W: Wire>(
+    wire: &mut W,
+    engine: &mut Engine,
+    accesses: &[Access],
+    answers: &mut Vec<Answer>,
+) -> End
+    requires opened { HasOpened engine.old }
+    requires due { (W.port wire.old).link.due ≡ Nothing }
+    requires few { length accesses.now ≤ 65536 }
+    requires room { length answers.old.items + length accesses.now ≤ vec_capacity answers.old }
+    ensures does { Does accesses.now engine.old engine.new answers.old.items answers.new.items result
+        (W.port wire.old) (W.port wire.new) }
+    ensures plan { W.plan wire.new ≡ W.plan wire.old }
+{
+    for (index, next) in accesses.iter().enumerate() {
+        let following = following(accesses, index);
+        match access(wire, engine, *next, following) {
+            Ok(answer) => answers.push(answer).unwrap(),
+            Err(end) => return end,
+        }
+    }
+    wire.lead(0, false, 8);
+    End::All
+}
+
 /// Does the accesses in order, each once, over a wire that is just made.
 ///
 /// The answers are those of the first accesses of the list. A run that isn't whole ends at a lost
@@ -172,15 +201,8 @@ pub fn run<W: Wire>(
     if let Err(end) = open(wire, &mut engine) {
         return Ok(reported(answers, &engine, end));
     }
-    for (index, next) in accesses.iter().enumerate() {
-        let following = following(accesses, index);
-        match access(wire, &mut engine, *next, following) {
-            Ok(answer) => answers.push(answer).unwrap(),
-            Err(end) => return Ok(reported(answers, &engine, end)),
-        }
-    }
-    wire.lead(0, false, 8);
-    Ok(reported(answers, &engine, End::All))
+    let ended = perform(wire, &mut engine, accesses, &mut answers);
+    Ok(reported(answers, &engine, ended))
 }
 
 fn reported(answers: Vec<Answer>, engine: &Engine, ended: End) -> Report
