@@ -90,7 +90,7 @@ fn clocked_accesses() -> u64 {
     let mut sum = 0_u64;
     for _ in 0..CLOCKED_ROUNDS {
         let mut bench = ClockedBench::new(Bench::new(BASE, WORDS as usize, MOST, plan(&mut random)));
-        let report = run(&mut bench, &accesses, TRIES).expect("a list that may be run");
+        let report = run(&mut bench, &accesses, TRIES, false).expect("a list that may be run");
         sum = sum.wrapping_mul(31).wrapping_add(report.requests);
         for answer in &report.answers {
             sum = sum.wrapping_mul(31).wrapping_add(number(*answer));

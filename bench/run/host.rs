@@ -380,6 +380,16 @@ enum Place {
     Aim,
     Transfer,
     Confirm,
+    /// RESEND, once the bus error of the next read of a block is cleared.
+    Behind,
+}
+
+/// The read after the one that is answered, in a block.
+#[derive(Clone, Copy, PartialEq)]
+enum Ahead {
+    Unsent,
+    Sent,
+    Failed,
 }
 
 #[derive(Clone, Copy)]
@@ -425,13 +435,16 @@ enum Cue {
 struct Engine {
     state: State,
     access: Access,
-    /// The next access is a write that confirms this one.
+    /// Bursts are of reads, not of writes.
+    blocks: bool,
+    /// The next access confirms this one.
     burst: bool,
+    ahead: Ahead,
     aims: bool,
     tar: Option<u32>,
     tries: u32,
     events: u32,
-    begun: bool,
+    begun: u8,
     requests: u64,
 }
 
@@ -440,36 +453,48 @@ fn next_in_kilobyte(addr: u32) -> Option<u32> {
 }
 
 impl Engine {
-    fn new(tries: u32) -> Self {
+    fn new(tries: u32, blocks: bool) -> Self {
         Engine {
             state: State::Leading,
             access: Access::Read(0),
+            blocks,
             burst: false,
+            ahead: Ahead::Unsent,
             aims: true,
             tar: None,
             tries,
             events: 0,
-            begun: false,
+            begun: 0,
             requests: 0,
         }
     }
 
     fn is_ahead(&self) -> bool {
-        self.burst && matches!(self.state, State::Doing(Job::At(Place::Confirm), Phase::Data))
+        self.burst && !self.blocks && matches!(self.state, State::Doing(Job::At(Place::Confirm), Phase::Data))
     }
 
     fn start(&mut self, access: Access, following: Option<Access>) {
         let ahead = self.is_ahead();
-        self.aims = !ahead && self.tar != Some(access.addr());
-        self.begun = self.burst;
+        let sent = std::mem::replace(&mut self.ahead, Ahead::Unsent);
+        self.aims = !ahead && sent == Ahead::Unsent && self.tar != Some(access.addr());
+        self.begun = u8::from(self.burst);
         self.access = access;
-        self.burst = match (access, following) {
-            (Access::Write(addr, _), Some(Access::Write(next, _))) => next_in_kilobyte(addr) == Some(next),
-            _ => false,
-        };
+        self.burst = sent != Ahead::Failed
+            && match (access, following) {
+                (Access::Write(addr, _), Some(Access::Write(next, _))) if !self.blocks => {
+                    next_in_kilobyte(addr) == Some(next)
+                }
+                (Access::Read(addr), Some(Access::Read(next))) if self.blocks => next_in_kilobyte(addr) == Some(next),
+                _ => false,
+            };
         self.events = 0;
+        if sent == Ahead::Failed {
+            return self.answer(Answer::BusFault);
+        }
         self.state = if ahead {
             State::Doing(Job::At(Place::Transfer), Phase::Data)
+        } else if sent == Ahead::Sent {
+            State::Doing(Job::At(Place::Confirm), Phase::Ask)
         } else {
             State::Doing(Job::At(if self.aims { Place::Aim } else { Place::Transfer }), Phase::Ask)
         };
@@ -491,7 +516,10 @@ impl Engine {
                     Access::Read(_) => DRW,
                     Access::Write(..) => DRW_WRITE,
                 },
-                Place::Confirm => if self.burst { DRW_WRITE } else { RDBUFF },
+                Place::Confirm if self.burst && self.blocks => DRW,
+                Place::Confirm if self.burst => DRW_WRITE,
+                Place::Confirm => RDBUFF,
+                Place::Behind => RESEND,
             },
             Job::Resend(_) => RESEND,
             Job::Clear(..) => ABORT,
@@ -538,7 +566,11 @@ impl Engine {
     fn seen(&mut self, seen: u8) {
         let State::Doing(job, _) = self.state else { unreachable!() };
         self.requests = self.requests.saturating_add(1);
-        self.begun |= matches!(job, Job::At(Place::Transfer));
+        self.begun = match job {
+            Job::At(Place::Transfer) => 1,
+            Job::At(Place::Confirm) if self.burst && self.blocks => 2,
+            _ => self.begun,
+        };
         self.state = match seen {
             1 => State::Doing(job, Phase::Data),
             2 => State::Doing(job, Phase::Waited),
@@ -557,7 +589,9 @@ impl Engine {
             Phase::Waited => self.event(job),
             _ => {
                 let status = match job {
+                    Job::At(Place::Behind) => Job::LastStatus,
                     Job::At(place) => Job::Status(place),
+                    Job::Resend(Place::Confirm) if self.burst && self.blocks => Job::Status(Place::Behind),
                     _ => Job::LastStatus,
                 };
                 self.state = State::Doing(status, Phase::Ask);
@@ -593,6 +627,7 @@ impl Engine {
     fn garbled(&mut self, job: Job) {
         self.event(match job {
             Job::At(place @ (Place::Configured | Place::Confirm)) => Job::Resend(place),
+            Job::At(Place::Behind) => Job::At(Place::Behind),
             other => other,
         });
     }
@@ -622,7 +657,14 @@ impl Engine {
                 self.state = State::Resting(Outcome::Opened);
                 return;
             }
-            Place::Confirm => return self.answer(Answer::Value(word)),
+            Place::Confirm => {
+                self.ahead = if self.burst && self.blocks { Ahead::Sent } else { Ahead::Unsent };
+                return self.answer(Answer::Value(word));
+            }
+            Place::Behind => {
+                self.ahead = Ahead::Failed;
+                return self.answer(Answer::Value(word));
+            }
             _ => return self.stop(End::Confused),
         };
         self.state = State::Doing(Job::At(next), Phase::Ask);
@@ -646,7 +688,7 @@ impl Engine {
             Answer::BusFault => None,
             _ => next_in_kilobyte(self.access.addr()),
         };
-        self.begun = false;
+        self.begun = u8::from(self.burst && self.blocks);
         self.state = State::Resting(Outcome::Answered(answer));
     }
 
@@ -665,7 +707,7 @@ impl Engine {
     fn status(&mut self, place: Place, flags: Flags) {
         match (flags.error, flags.damaged) {
             (false, true) if self.confirms(place).is_some() => self.event(Job::Clear(place, flags)),
-            (true, false) if place == Place::Confirm => {
+            (true, false) if matches!(place, Place::Confirm | Place::Behind) => {
                 self.state = State::Doing(Job::Clear(place, flags), Phase::Ask);
             }
             _ => self.stop(End::Confused),
@@ -674,7 +716,7 @@ impl Engine {
 
     fn check(&mut self, place: Place, owed: Flags, now: Flags) {
         if !now.error && !now.damaged {
-            if owed.error {
+            if owed.error && place == Place::Confirm {
                 self.answer(Answer::BusFault);
             } else {
                 let again = self.confirms(place).unwrap_or(place);
@@ -699,7 +741,7 @@ fn next_place(place: Place) -> Place {
         Place::Configure => Place::Recall,
         Place::Recall | Place::Configured => Place::Configured,
         Place::Aim => Place::Transfer,
-        Place::Transfer | Place::Confirm => Place::Confirm,
+        Place::Transfer | Place::Confirm | Place::Behind => Place::Confirm,
     }
 }
 
@@ -707,7 +749,7 @@ fn next_place(place: Place) -> Place {
 #[allow(dead_code)]
 pub struct Report {
     pub answers: Vec<Answer>,
-    pub begun: bool,
+    pub begun: u8,
     pub requests: u64,
     pub ended: End,
 }
@@ -737,13 +779,14 @@ fn drive<W: Wire>(wire: &mut W, engine: &mut Engine) -> Outcome {
     }
 }
 
-/// Does the accesses over a wire; `None` for a list that may not be run.
-pub fn run<W: Wire>(wire: &mut W, accesses: &[Access], tries: u32) -> Option<Report> {
+/// Does the accesses over a wire, with bursts of writes or, for a block, of reads; `None` for a list that may not be
+/// run.
+pub fn run<W: Wire>(wire: &mut W, accesses: &[Access], tries: u32, block: bool) -> Option<Report> {
     if accesses.len() > MOST || accesses.iter().any(|access| access.addr() % 4 != 0) {
         return None;
     }
     let mut answers = Vec::with_capacity(accesses.len());
-    let mut engine = Engine::new(tries);
+    let mut engine = Engine::new(tries, block);
     let mut outcome = drive(wire, &mut engine);
     let mut index = 0;
     while index < accesses.len() && !matches!(outcome, Outcome::Stopped(_)) {
@@ -761,6 +804,6 @@ pub fn run<W: Wire>(wire: &mut W, accesses: &[Access], tries: u32) -> Option<Rep
             End::All
         }
     };
-    let begun = engine.begun && !engine.is_ahead();
+    let begun = if engine.is_ahead() { 0 } else { engine.begun };
     Some(Report { answers, begun, requests: engine.requests, ended })
 }

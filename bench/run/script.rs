@@ -87,7 +87,7 @@ fn make(script: &str, plan_file: &str) -> io::Result<()> {
 fn run_files(script: &str, plan: &str) -> Result<(), Box<dyn std::error::Error>> {
     let script = script_of(&read_to_string(script)?)?;
     let mut bench = Bench::new(script.base, script.words, script.room, plan_of(&read_to_string(plan)?)?);
-    let report = run(&mut bench, &script.accesses, TRIES).ok_or("a list that may not be run")?;
+    let report = run(&mut bench, &script.accesses, TRIES, false).ok_or("a list that may not be run")?;
     let mut out = BufWriter::new(stdout().lock());
     for (access, answer) in script.accesses.iter().zip(&report.answers) {
         let letter = if matches!(access, Access::Read(_)) { 'r' } else { 'w' };
@@ -98,7 +98,7 @@ fn run_files(script: &str, plan: &str) -> Result<(), Box<dyn std::error::Error>>
             Answer::BusFault => writeln!(out, "{letter} {addr:08x} busfault")?,
         }
     }
-    let (answered, begun) = (report.answers.len(), u8::from(report.begun));
+    let (answered, begun) = (report.answers.len(), report.begun);
     match report.ended {
         End::All => writeln!(out, "end all {answered}")?,
         End::Lost => writeln!(out, "end lost {answered} begun {begun}")?,

@@ -9,22 +9,28 @@ use swd_host::{Report, run};
 use swd_port::{Access, Answer};
 use swd_target::{Bench, Mark, Memory, Quirks};
 
-const ROUNDS: u8 = 20;
+/// The runs of each workload.
+pub const ROUNDS: u8 = 20;
 
 /// The runs clock by clock, which take longer.
 const CLOCKED_ROUNDS: u8 = 5;
 
 /// The accesses of a list, which is as many as one may have.
-const ACCESSES: u32 = 65_536;
+pub const ACCESSES: u32 = 65_536;
 
 /// More than the requests of a list.
 const MARKS: u32 = 120_000;
 
-const BASE: u32 = 0x2000_0000;
+/// The address of the memory.
+pub const BASE: u32 = 0x2000_0000;
+
+/// The events that an access may meet.
+pub const TRIES: u32 = 100;
 
 const WORDS: u32 = 4_096;
 
-const QUIRKS: Quirks = Quirks {
+/// What the standard leaves to a target.
+pub const QUIRKS: Quirks = Quirks {
     wrap: true,
     late: false,
     filler: 0,
@@ -77,7 +83,8 @@ fn next_mark(random: &mut Random) -> Mark {
     }
 }
 
-fn plan(alloc: Global, random: &mut Random) -> Result<Vec<Mark>, AllocError> {
+/// The marks of a run.
+pub fn plan(alloc: Global, random: &mut Random) -> Result<Vec<Mark>, AllocError> {
     let mut plan = Vec::with_capacity(alloc, MARKS as usize)?;
     for _ in 0..MARKS {
         plan.push(next_mark(random))?;
@@ -85,7 +92,8 @@ fn plan(alloc: Global, random: &mut Random) -> Result<Vec<Mark>, AllocError> {
     Ok(plan)
 }
 
-fn are_legal(marks: &[Mark]) -> bool
+/// The marks may stand in a plan.
+pub fn are_legal(marks: &[Mark]) -> bool
     ensures { IsTrue result → IsPlan marks.now }
 {
     marks.iter().all(|mark| mark.legal())
@@ -99,7 +107,7 @@ fn one_run(alloc: Global, accesses: &[Access], random: &mut Random) -> Option<Re
     }
     let memory = Memory::new(alloc, BASE, WORDS, ACCESSES).ok()?;
     let mut bench = Bench::new(memory, QUIRKS, plan);
-    run(alloc, &mut bench, accesses, 100).ok()
+    run(alloc, &mut bench, accesses, TRIES).ok()
 }
 
 // The same clock by clock.
@@ -110,7 +118,7 @@ fn one_clocked_run(alloc: Global, accesses: &[Access], random: &mut Random) -> O
     }
     let memory = Memory::new(alloc, BASE, WORDS, ACCESSES).ok()?;
     let mut bench = ClockedBench::new(alloc, memory, QUIRKS, plan).ok()?;
-    run(alloc, &mut bench, accesses, 100).ok()
+    run(alloc, &mut bench, accesses, TRIES).ok()
 }
 
 fn number(answer: Answer) -> u64 {
@@ -121,7 +129,8 @@ fn number(answer: Answer) -> u64 {
     }
 }
 
-fn added(sum: u64, report: &Report) -> u64 {
+/// A report added to a sum.
+pub fn added(sum: u64, report: &Report) -> u64 {
     let mut sum = sum.wrapping_mul(31).wrapping_add(report.requests);
     for answer in report.answers.iter() {
         sum = sum.wrapping_mul(31).wrapping_add(number(*answer));

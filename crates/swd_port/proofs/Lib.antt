@@ -10,5 +10,6 @@ pub mod MovingLaws
 pub mod StatusLaws
 pub mod CallLaws
 pub mod AccessLaws
+pub mod ReadLists
 mod WorkedLaws
 mod OpenWires

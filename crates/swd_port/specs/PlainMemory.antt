@@ -1,6 +1,6 @@
 -- The memory behind the access port: words at addresses, a log of what was done, and a room for it.
 -- All of it is this project's choice; the standard leaves the memory system open.
-use Rattle.std.specs.Prelude.{ℕ, ◌&&◌, Bool, true, false, if◌then◌else◌, List, [], ◌∷◌, ◌++◌, length, nat_lt}
+use Rattle.std.specs.Prelude.{ℕ, zero, suc, ◌+◌, ◌&&◌, Bool, true, false, if◌then◌else◌, List, [], ◌∷◌, ◌++◌, length, nat_lt}
 use Rattle.std.specs.Prelude.{unwrap_or}
 use Rattle.std.specs.Ordering.{nat_cmp}
 use Rattle.std.specs.FinMap.{FinMap, insert, contains_key, get}
@@ -29,6 +29,11 @@ word_at at m = unwrap_or (get m.words at) 0
 abbrev pub address : Access → ℕ
 address (Read at) = at
 address (Write at word) = at
+
+-- the reads of so many words, at an address, at that address plus 4, and so on
+abbrev pub reads : ℕ → ℕ → List Access
+reads at zero = []
+reads at (suc count) = Read at ∷ reads (at + 4) count
 
 -- what an access that succeeds is answered
 abbrev pub answer_of : Access → PlainMemory → Answer

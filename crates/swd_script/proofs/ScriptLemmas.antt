@@ -7,10 +7,10 @@ use Rattle.std.proofs.lemmas.Bool.Decides.{nat_tests}
 use Rattle.std.proofs.lemmas.List.{take_all, length-take-le}
 use Rattle.swd_port.specs.declared.access.Access.TheVariants.{Read}
 use Rattle.swd_script.specs.declared.command.Command.{Command}
-use Rattle.swd_script.specs.declared.command.Command.TheVariants.{Memory, Room, Read as ReadCommand, Write as WriteCommand, ReadMany}
+use Rattle.swd_script.specs.declared.command.Command.TheVariants.{Memory, Room, Read as ReadCommand, Write as WriteCommand, ReadMany, Block}
 use Rattle.swd_script.specs.Numerals.{decimal_of, hex_of, number_from, numeral, word_sized}
 use Rattle.swd_script.specs.Plans.{bare_mark, mark_of, marked, place_below, placed_mark, plan_line, with_mark}
-use Rattle.swd_script.specs.Scripts.{after_command, command_of, long_command, reads, script_line, short_command, Sayings}
+use Rattle.swd_script.specs.Scripts.{after_command, command_of, long_command, script_line, short_command, Sayings}
 use Rattle.arrayvec.specs.ArrayVec.{ArrayVec}
 use Rattle.swd_script.specs.Lines.{line_words}
 use Rattle.swd_script.specs.Scans.{HasWords}
@@ -19,12 +19,6 @@ use Rattle.swd_port.specs.declared.mark.Mark.{Mark}
 use Rattle.swd_port.specs.declared.mark.Mark.TheVariants.{Clean, Wait, Flip, Deaf, Mute}
 use Rattle.swd_script.specs.declared.fault.LineFault.{LineFault}
 use Rattle.swd_script.specs.declared.fault.LineFault.TheVariants.{Word}
-
--- one read more
-pub reads_more : (addr count : ℕ) → reads addr (suc count) ≡ reads addr count ++ Read (addr + 4 * count) ∷ []
-reads_more addr zero = ap (λ a. Read a ∷ []) (omega arith)
-reads_more addr (suc count) =
-    ap (λ x. Read addr ∷ x) (reads_more (addr + 4) count ∙ ap (λ a. reads (addr + 4) count ++ Read a ∷ []) (omega arith))
 
 -- what is cut off a word that is longer than any that means something
 same_name : (n : ℕ) (word name : List ℕ) → length name < n → bytes_eq (take n word) name ≡ bytes_eq word name
@@ -63,11 +57,15 @@ short_cut name first =
     ∙ ap (λ n. if bytes_eq name (codes "room") then Some (Room n) else (if bytes_eq name (codes "r") then Some (ReadCommand (hex_of (take 11 first))) else None)) (decimal_cut first)
     ∙ ap (λ n. if bytes_eq name (codes "room") then Some (Room (decimal_of first)) else (if bytes_eq name (codes "r") then Some (ReadCommand n) else None)) (hex_cut first)
 
-abbrev long_shape : Bool → Bool → Bool → Option ℕ → Option ℕ → Option ℕ → Option Command
-long_shape memory write reads first second count =
-    if memory then Some (Memory first count) else (if write then Some (WriteCommand first second) else (if reads then Some (ReadMany first count) else None))
+abbrev long_shape : Bool → Bool → Bool → Bool → Option ℕ → Option ℕ → Option ℕ → Option Command
+long_shape memory write many block first second count =
+    if memory then Some (Memory first count) else
+    (if write then Some (WriteCommand first second) else
+    (if many then Some (ReadMany first count) else
+    (if block then Some (Block first count) else None)))
 
-long_cut : (name first second : List ℕ) → long_command (take 11 name) (take 11 first) (take 11 second) ≡ long_command name first second
+long_cut : (name first second : List ℕ)
+    → long_command (take 11 name) (take 11 first) (take 11 second) ≡ long_command name first second
 long_cut name first second =
     let kept = take 11 name in
     let f = hex_of (take 11 first) in
@@ -76,12 +74,16 @@ long_cut name first second =
     let memory = bytes_eq name (codes "memory") in
     let write = bytes_eq name (codes "w") in
     let many = bytes_eq name (codes "rn") in
-    ap (λ t. long_shape t (bytes_eq kept (codes "w")) (bytes_eq kept (codes "rn")) f s d) (name_cut name (codes "memory") (omega arith))
-    ∙ ap (λ t. long_shape memory t (bytes_eq kept (codes "rn")) f s d) (name_cut name (codes "w") (omega arith))
-    ∙ ap (λ t. long_shape memory write t f s d) (name_cut name (codes "rn") (omega arith))
-    ∙ ap (λ n. long_shape memory write many n s d) (hex_cut first)
-    ∙ ap (λ n. long_shape memory write many (hex_of first) n d) (hex_cut second)
-    ∙ ap (λ n. long_shape memory write many (hex_of first) (hex_of second) n) (decimal_cut second)
+    let block = bytes_eq name (codes "block") in
+    ap (λ t. long_shape t (bytes_eq kept (codes "w")) (bytes_eq kept (codes "rn")) (bytes_eq kept (codes "block")) f s d)
+    (name_cut name (codes "memory") (omega arith))
+    ∙ ap (λ t. long_shape memory t (bytes_eq kept (codes "rn")) (bytes_eq kept (codes "block")) f s d)
+    (name_cut name (codes "w") (omega arith))
+    ∙ ap (λ t. long_shape memory write t (bytes_eq kept (codes "block")) f s d) (name_cut name (codes "rn") (omega arith))
+    ∙ ap (λ t. long_shape memory write many t f s d) (name_cut name (codes "block") (omega arith))
+    ∙ ap (λ n. long_shape memory write many block n s d) (hex_cut first)
+    ∙ ap (λ n. long_shape memory write many block (hex_of first) n d) (hex_cut second)
+    ∙ ap (λ n. long_shape memory write many block (hex_of first) (hex_of second) n) (decimal_cut second)
 
 command_cut : (all : List (List ℕ)) → command_of (first_words all) ≡ command_of all
 command_cut [] = refl

@@ -1,6 +1,6 @@
 -- What a script means, a run takes; and the marks of a plan are legal.
-use Rattle.std.proofs.Common.{◌≡◌, ◌≢◌, ℕ, suc, zero, ◌+◌, ◌*◌, ◌%◌, ◌^◌, ◌<◌, ◌≤◌, Bool, true, false, List, [], ◌∷◌, ◌++◌, length, refl, ap, ◌∙◌, subst, arith, Option, Some, None, IfSome, Result, Ok, Err}
-use Rattle.std.specs.Prelude.{if◌then◌else◌, ◌&&◌, ◌==◌, nat_le, nat_lt, All, codes, unwrap_or, get_or}
+use Rattle.std.proofs.Common.{◌≡◌, ◌≢◌, ℕ, suc, zero, ◌+◌, ◌*◌, ◌%◌, ◌^◌, ◌<◌, ◌≤◌, Bool, true, false, List, [], ◌∷◌, ◌++◌, length, refl, sym, ap, ◌∙◌, subst, arith, Option, Some, None, IfSome, Result, Ok, Err}
+use Rattle.std.specs.Prelude.{if◌then◌else◌, ◌&&◌, ◌==◌, nat_le, nat_lt, All, codes, is_some, unwrap_or, get_or}
 use Rattle.std.specs.List.{list_all}
 use Rattle.std.specs.Str.{bytes_eq}
 use Rattle.std.proofs.lemmas.Bool.Decides.{nat_tests}
@@ -13,7 +13,7 @@ use Rattle.swd_port.specs.declared.mark.Mark.{Mark}
 use Rattle.swd_port.specs.declared.mark.Mark.TheVariants.{Clean, Wait, Flip, Deaf, Mute}
 use Rattle.swd_port.specs.Choices.{IsMark}
 use Rattle.swd_script.specs.declared.command.Command.{Command}
-use Rattle.swd_script.specs.declared.command.Command.TheVariants.{Memory, Room, Read, Write, ReadMany}
+use Rattle.swd_script.specs.declared.command.Command.TheVariants.{Memory, Room, Read, Write, ReadMany, Block}
 use Rattle.swd_script.specs.declared.draft.Extent.{Extent}
 use Rattle.swd_script.specs.declared.fault.LineFault.{LineFault}
 use Rattle.swd_script.specs.declared.fault.LineFault.TheVariants.{Word, Range}
@@ -22,8 +22,10 @@ use Rattle.swd_script.specs.Faults.{after_lines, then_lines}
 use Rattle.swd_script.specs.Lines.{lines, line_words}
 use Rattle.swd_script.specs.Numerals.{decimal_of}
 use Rattle.swd_script.specs.Plans.{mark_of, marked, place_below, plan_line, plan_of, with_mark}
-use Rattle.swd_script.specs.Scripts.{Meaning, Sayings, after_command, are_words, carried_out, command_of, fault_before, misplaced, nothing_said, reads, script_line, script_meaning, script_of, whole_script, with_accesses, with_memory, with_number, with_room}
-use Rattle.swd_script.specs.Laws.{IsRunnable, is_at_word}
+use Rattle.swd_port.specs.PlainMemory.{reads}
+use Rattle.swd_port.proofs.ReadLists.{length_reads}
+use Rattle.swd_script.specs.Scripts.{Meaning, Sayings, after_command, are_words, as_block, beside_block, carried_out, command_of, fault_before, has_access, misplaced, nothing_said, script_line, script_meaning, script_of, whole_script, with_accesses, with_memory, with_number, with_room, without_memory}
+use Rattle.swd_script.specs.Laws.{IsBlock, IsRunnable, is_at_word}
 
 and_left : (a b : Bool) → (a && b) ≡ true → a ≡ true
 and_left true b e = refl
@@ -70,10 +72,7 @@ record IsSound (said : Sayings) : Type 0 where
   pub memory : IfSome said.memory (λ extent. AreWords extent.base extent.words)
   pub few : length said.accesses ≤ 65536
   pub accesses : list_all is_at_word said.accesses ≡ true
-
-length_reads : (addr count : ℕ) → length (reads addr count) ≡ count
-length_reads addr zero = refl
-length_reads addr (suc count) = ap suc (length_reads (addr + 4) count)
+  pub block : IfSome said.block (λ at. IsBlock at said.accesses)
 
 aligned_reads : (addr count : ℕ) → addr % 4 ≡ 0 → list_all is_at_word (reads addr count) ≡ true
 aligned_reads addr zero h = refl
@@ -89,15 +88,43 @@ sound_memory said next base words e s =
       memory = are_words_so base words (and_left (are_words base words) (nat_le words 65536) ok.0);
       few = s.few;
       accesses = s.accesses;
+      block = s.block;
     })
 
 sound_room : (said next : Sayings) (count : ℕ) → with_room said count ≡ Ok next → IsSound said → IsSound next
 sound_room said next count e s =
     let ok = if_ok (nat_le count 65536) (record said { room = Some count }) Range next e in
-    subst IsSound ok.1 (record { memory = s.memory; few = s.few; accesses = s.accesses })
+    subst IsSound ok.1 (record { memory = s.memory; few = s.few; accesses = s.accesses; block = s.block })
 
-sound_accesses : (said next : Sayings) (addr count : ℕ) (more : List Access) → with_accesses said addr count more ≡ Ok next → length more ≡ count → (addr % 4 ≡ 0 → list_all is_at_word more ≡ true) → IsSound said → IsSound next
-sound_accesses said next addr count more e n a s =
+-- no block is there yet
+no_block : (said : Sayings) → beside_block said ≡ None → (more : List Access)
+    → IfSome said.block (λ at. IsBlock at more)
+no_block said free more = none_there said.block (without_memory said) free
+  where
+    none_there : (block : Option ℕ) (rest : Option LineFault) → (if is_some block then Some Word else rest) ≡ None
+        → IfSome block (λ at. IsBlock at more)
+    none_there (Some at) rest e = absurd cc
+    none_there None rest e = tt
+
+-- no access is there yet
+no_access : (accesses : List Access) (rest : Option LineFault)
+    → (if has_access accesses then Some Word else rest) ≡ None → accesses ≡ []
+no_access [] rest e = refl
+no_access (access ∷ accesses) rest e = absurd cc
+
+if_block : (addr : ℕ) (r : Result Sayings LineFault) (next : Sayings) → as_block addr r ≡ Ok next
+    → (said : Sayings) × (r ≡ Ok said) × (record said { block = Some addr } ≡ next)
+if_block addr (Ok said) next e = (said, refl, cc)
+if_block addr (Err fault) next e = absurd cc
+
+room_few : (n count : ℕ) → nat_le (n + count) 65536 ≡ true → n + count ≤ 65536
+room_few n count e = grind (arith, nat_tests)
+
+-- accesses are added where no block is
+sound_accesses : (said next : Sayings) (addr count : ℕ) (more : List Access)
+    → with_accesses said addr count more ≡ Ok next → length more ≡ count
+    → (addr % 4 ≡ 0 → list_all is_at_word more ≡ true) → beside_block said ≡ None → IsSound said → IsSound next
+sound_accesses said next addr count more e n a free s =
     let room = nat_le (length said.accesses + count) 65536 in
     let ok = if_ok (are_words addr count && room) (record said { accesses = said.accesses ++ more }) Range next e in
     let few : room ≡ true = and_right (are_words addr count) room ok.0 in
@@ -107,30 +134,67 @@ sound_accesses said next addr count more e n a s =
       memory = s.memory;
       few = grind (arith, nat_tests);
       accesses = list_all-append is_at_word said.accesses more ∙ both (list_all is_at_word said.accesses) (list_all is_at_word more) s.accesses (a words.aligned);
+      block = no_block said free (said.accesses ++ more);
+    })
+
+-- a block is the first that is added
+sound_block : (said next : Sayings) (addr count : ℕ)
+    → as_block addr (with_accesses said addr count (reads addr count)) ≡ Ok next
+    → (if has_access said.accesses then Some Word else without_memory said) ≡ None → IsSound said → IsSound next
+sound_block said next addr count e free s =
+    let more : List Access = reads addr count in
+    let room = nat_le (length said.accesses + count) 65536 in
+    let b = if_block addr (with_accesses said addr count more) next e in
+    let ok = if_ok (are_words addr count && room) (record said { accesses = said.accesses ++ more }) Range b.0 b.1 in
+    let few : room ≡ true = and_right (are_words addr count) room ok.0 in
+    let words = are_words_so addr count (and_left (are_words addr count) room ok.0) in
+    let only : said.accesses ≡ [] = no_access said.accesses (without_memory said) free in
+    let whole : said.accesses ++ more ≡ more = ap (λ x. x ++ more) only in
+    let len : length more ≡ count = length_reads addr count in
+    let same : length (said.accesses ++ more) ≡ count = ap length whole ∙ len in
+    subst IsSound (ap (λ (x : Sayings). record x { block = Some addr }) ok.1 ∙ b.2) (record {
+      memory = s.memory;
+      few = omega (arith, same, room_few (length said.accesses) count few, ap length only);
+      accesses = ap (list_all is_at_word) whole ∙ aligned_reads addr count words.aligned;
+      block = record {
+        same = whole ∙ ap (reads addr) (sym same);
+        end = omega (arith, words.end, same);
+      };
     })
 
 one_aligned : (addr : ℕ) → addr % 4 ≡ 0 → ((addr % 4 == 0) && true) ≡ true
 one_aligned addr h = let a : (addr % 4 == 0) ≡ true = grind (arith, nat_tests) in both (addr % 4 == 0) true a refl
 
-sound_command : (said next : Sayings) (command : Command) → carried_out said command ≡ Ok next → IsSound said → IsSound next
-sound_command said next (Memory base words) e s =
+sound_command : (said next : Sayings) (command : Command) → carried_out said command ≡ Ok next
+    → misplaced said command ≡ None → IsSound said → IsSound next
+sound_command said next (Memory base words) e free s =
     let b = if_number base (λ base. with_number words (λ words. with_memory said base words)) next e in
     let w = if_number words (λ words. with_memory said b.0 words) next b.1 in
     sound_memory said next b.0 w.0 w.1 s
-sound_command said next (Room count) e s =
+sound_command said next (Room count) e free s =
     let c = if_number count (λ count. with_room said count) next e in
     sound_room said next c.0 c.1 s
-sound_command said next (Read addr) e s =
+sound_command said next (Read addr) e free s =
     let a = if_number addr (λ addr. with_accesses said addr 1 (ReadAccess addr ∷ [])) next e in
-    sound_accesses said next a.0 1 (ReadAccess a.0 ∷ []) a.1 refl (one_aligned a.0) s
-sound_command said next (Write addr value) e s =
+    sound_accesses said next a.0 1 (ReadAccess a.0 ∷ []) a.1 refl (one_aligned a.0) free s
+sound_command said next (Write addr value) e free s =
     let a = if_number addr (λ addr. with_number value (λ value. with_accesses said addr 1 (WriteAccess addr value ∷ []))) next e in
     let v = if_number value (λ value. with_accesses said a.0 1 (WriteAccess a.0 value ∷ [])) next a.1 in
-    sound_accesses said next a.0 1 (WriteAccess a.0 v.0 ∷ []) v.1 refl (one_aligned a.0) s
-sound_command said next (ReadMany addr count) e s =
+    sound_accesses said next a.0 1 (WriteAccess a.0 v.0 ∷ []) v.1 refl (one_aligned a.0) free s
+sound_command said next (ReadMany addr count) e free s =
     let a = if_number addr (λ addr. with_number count (λ count. with_accesses said addr count (reads addr count))) next e in
     let c = if_number count (λ count. with_accesses said a.0 count (reads a.0 count)) next a.1 in
-    sound_accesses said next a.0 c.0 (reads a.0 c.0) c.1 (length_reads a.0 c.0) (aligned_reads a.0 c.0) s
+    sound_accesses said next a.0 c.0 (reads a.0 c.0) c.1 (length_reads a.0 c.0) (aligned_reads a.0 c.0) free s
+sound_command said next (Block addr count) e free s =
+    let a = if_number addr (λ addr. with_number count (λ count.
+    as_block addr (with_accesses said addr count (reads addr count)))) next e in
+    let c = if_number count (λ count. as_block a.0 (with_accesses said a.0 count (reads a.0 count))) next a.1 in
+    sound_block said next a.0 c.0 c.1 free s
+
+none_before : (fault : Option LineFault) (result : Result Sayings LineFault) (next : Sayings)
+    → fault_before fault result ≡ Ok next → fault ≡ None
+none_before (Some fault) result next e = absurd cc
+none_before None result next e = refl
 
 no_fault : (fault : Option LineFault) (result : Result Sayings LineFault) (next : Sayings) → fault_before fault result ≡ Ok next → result ≡ Ok next
 no_fault (Some fault) result next e = absurd cc
@@ -138,7 +202,9 @@ no_fault None result next e = e
 
 sound_after : (said next : Sayings) (command : Option Command) → after_command said command ≡ Ok next → IsSound said → IsSound next
 sound_after said next None e s = absurd cc
-sound_after said next (Some command) e s = sound_command said next command (no_fault (misplaced said command) (carried_out said command) next e) s
+sound_after said next (Some command) e s = sound_command said next command
+    (no_fault (misplaced said command) (carried_out said command) next e)
+    (none_before (misplaced said command) (carried_out said command) next e) s
 
 same_value : {S E : Type 0} (a b : S) → (let left : Result S E = Ok a in left ≡ Ok b) → a ≡ b
 same_value a b e = cc
@@ -161,21 +227,35 @@ after_all line P f [] old new before e h = subst P (same_value old new e) h
 after_all line P f (text ∷ rest) old new before e h =
     after_one line P (line_words text) old new before rest (line old (line_words text)) refl (λ state k. f old state (line_words text) k h) (λ state k p. after_all line P f rest state new (suc before) k p) e
 
-meaning_runs : (memory : Option Extent) (said : Sayings) (m : Meaning) → IfSome memory (λ extent. AreWords extent.base extent.words) → length said.accesses ≤ 65536 → list_all is_at_word said.accesses ≡ true →
-    script_meaning memory said ≡ Ok m → IsRunnable m
-meaning_runs None said m w few accesses e = absurd cc
-meaning_runs (Some extent) said m w few accesses e =
-    subst IsRunnable (same_value (record { base = extent.base; words = extent.words; room = unwrap_or said.room 65536; accesses = said.accesses }) m e)
-    (record { aligned = w.aligned; some = w.some; end = w.end; few = few; accesses = accesses })
+meaning_runs : (memory : Option Extent) (said : Sayings) (m : Meaning)
+    → IfSome memory (λ extent. AreWords extent.base extent.words) → IsSound said
+    → script_meaning memory said ≡ Ok m → IsRunnable m
+meaning_runs None said m w s e = absurd cc
+meaning_runs (Some extent) said m w s e =
+    subst IsRunnable (same_value (record {
+      base = extent.base;
+      words = extent.words;
+      room = unwrap_or said.room 65536;
+      accesses = said.accesses;
+      block = said.block;
+    }) m e)
+    (record {
+      aligned = w.aligned;
+      some = w.some;
+      end = w.end;
+      few = s.few;
+      accesses = s.accesses;
+      block = s.block;
+    })
 
 whole_runs : (r : Result Sayings ScriptFault) (m : Meaning) → ((said : Sayings) → r ≡ Ok said → IsSound said) → whole_script r ≡ Ok m → IsRunnable m
 whole_runs (Err fault) m f e = absurd cc
-whole_runs (Ok said) m f e = let s = f said refl in meaning_runs said.memory said m s.memory s.few s.accesses e
+whole_runs (Ok said) m f e = let s = f said refl in meaning_runs said.memory said m s.memory s e
 
 pub is_runnable : (text : List ℕ) (m : Meaning) → script_of text ≡ Ok m → IsRunnable m
 is_runnable text m e =
     whole_runs (after_lines script_line nothing_said 0 (lines text)) m
-    (λ said f. after_all script_line IsSound sound_line (lines text) nothing_said said 0 f (record { memory = tt; few = omega arith; accesses = refl })) e
+    (λ said f. after_all script_line IsSound sound_line (lines text) nothing_said said 0 f (record { memory = tt; few = omega arith; accesses = refl; block = tt })) e
 
 legal_flip : (place : ℕ) (r : Option ℕ) (mark : Mark) → marked (λ bit. Flip bit) (place_below 33 r) ≡ Ok mark → IsMark mark
 legal_flip place None mark e = absurd cc

@@ -1,5 +1,5 @@
 -- The definitions at worked texts.
-use Rattle.std.proofs.Common.{◌≡◌, ℕ, List, [], ◌∷◌, ◌++◌, refl, Ok, Err}
+use Rattle.std.proofs.Common.{◌≡◌, ℕ, List, [], ◌∷◌, ◌++◌, refl, Ok, Err, Some, None}
 use Rattle.std.specs.Prelude.{codes}
 use Rattle.swd_port.specs.declared.access.Access.TheVariants.{Read, Write}
 use Rattle.swd_port.specs.declared.mark.Mark.TheVariants.{Clean, Wait, Flip, Deaf, Mute}
@@ -17,16 +17,18 @@ script : script_of (fed (codes "memory 20000000 16") ++ fed (codes "w 20000000 d
       words = 16;
       room = 65536;
       accesses = Write 536870912 3735928559 ∷ Read 536870912 ∷ Read 536870916 ∷ Read 805306368 ∷ [];
+      block = None;
     })
 unfolding fed
 script = refl
 
-memory_alone : script_of (codes "memory 20000000 1") ≡ Ok (record { base = 536870912; words = 1; room = 65536; accesses = [] })
+memory_alone : script_of (codes "memory 20000000 1")
+    ≡ Ok (record { base = 536870912; words = 1; room = 65536; accesses = []; block = None })
 memory_alone = refl
 
 -- blanks, a comment at a word's end, carriage returns before line feeds
 laid_out : script_of (fed (codes "# a script" ++ 13 ∷ []) ++ fed (9 ∷ codes "memory  20000000 1#6" ++ 13 ∷ []) ++ fed [] ++ codes "room 7 ") ≡
-    Ok (record { base = 536870912; words = 1; room = 7; accesses = [] })
+    Ok (record { base = 536870912; words = 1; room = 7; accesses = []; block = None })
 unfolding fed
 laid_out = refl
 
@@ -58,9 +60,38 @@ late_room : script_of (fed (codes "memory 20000000 1") ++ fed (codes "r 20000000
 unfolding fed
 late_room = refl
 
-block : script_of (fed (codes "memory 20000000 1") ++ codes "block 20000000 1") ≡ Err (Word 2)
+block : script_of (fed (codes "memory 20000000 2") ++ codes "block 20000000 3") ≡
+    Ok (record {
+      base = 536870912;
+      words = 2;
+      room = 65536;
+      accesses = Read 536870912 ∷ Read 536870916 ∷ Read 536870920 ∷ [];
+      block = Some 536870912;
+    })
 unfolding fed
 block = refl
+
+read_after_a_block :
+    script_of (fed (codes "memory 20000000 2") ++ fed (codes "block 20000000 3") ++ codes "r 20000000") ≡ Err (Word 3)
+unfolding fed
+read_after_a_block = refl
+
+block_after_a_write :
+    script_of (fed (codes "memory 20000000 2") ++ fed (codes "w 20000000 1") ++ codes "block 20000000 1") ≡ Err (Word 3)
+unfolding fed
+block_after_a_write = refl
+
+second_block :
+    script_of (fed (codes "memory 20000000 2") ++ fed (codes "block 20000000 1") ++ codes "block 20000004 1") ≡ Err (Word 3)
+unfolding fed
+second_block = refl
+
+block_past_the_end : script_of (fed (codes "memory 20000000 1") ++ codes "block fffffffc 2") ≡ Err (Range 2)
+unfolding fed
+block_past_the_end = refl
+
+block_before_the_memory : script_of (codes "block 20000000 1") ≡ Err (NoMemoryLine 1)
+block_before_the_memory = refl
 
 -- the first line at fault, and in it the word before the number
 first_fault : script_of (fed (codes "memory 20000000 1") ++ fed (codes "r g g") ++ codes "r 1") ≡ Err (Word 2)

@@ -51,7 +51,8 @@ pub record IsLast (text : List ℕ) (ended : List (List ℕ))
 
 -- what the lines so far say
 abbrev pub said : {A : Type 0} → Draft A → Sayings
-said draft = record { memory = draft.memory; room = draft.room; accesses = draft.accesses.items }
+said draft =
+    record { memory = draft.memory; room = draft.room; accesses = draft.accesses.items; block = draft.block }
 
 -- a line at fault; where memory was refused, it has no other fault
 abbrev pub IsFaultOf : {S : Type 0} → LineFault → Result S LineFault → Type 0
@@ -84,8 +85,13 @@ pub record ReadsPlan {A : Type 0} (reader : PlanReader A) (seen : List ℕ) : Ty
 
 -- what a script that was read says
 abbrev pub meaning : {A : Type 0} → Script A → Meaning
-meaning script =
-    record { base = script.base; words = script.words; room = script.room; accesses = script.accesses.items }
+meaning script = record {
+  base = script.base;
+  words = script.words;
+  room = script.room;
+  accesses = script.accesses.items;
+  block = script.block;
+}
 
 -- the first fault of a script, or memory was refused
 abbrev pub IsScriptFault : ScriptFault → List ℕ → Type 0

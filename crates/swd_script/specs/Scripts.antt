@@ -3,8 +3,9 @@ use Rattle.std.specs.Prelude.{ℕ, suc, zero, Bool, true, false, ◌+◌, ◌*�
 use Rattle.std.specs.Str.{bytes_eq}
 use Rattle.swd_port.specs.declared.access.Access.{Access}
 use Rattle.swd_port.specs.declared.access.Access.TheVariants.{Read as ReadAccess, Write as WriteAccess}
+use Rattle.swd_port.specs.PlainMemory.{reads}
 use Rattle.swd_script.specs.declared.command.Command.{Command}
-use Rattle.swd_script.specs.declared.command.Command.TheVariants.{Memory, Room, Read, Write, ReadMany}
+use Rattle.swd_script.specs.declared.command.Command.TheVariants.{Memory, Room, Read, Write, ReadMany, Block}
 use Rattle.swd_script.specs.declared.draft.Extent.{Extent}
 use Rattle.swd_script.specs.declared.fault.LineFault.{LineFault}
 use Rattle.swd_script.specs.declared.fault.LineFault.TheVariants.{Word, Number, Range, NoMemoryLine}
@@ -14,21 +15,23 @@ use Rattle.swd_script.specs.Faults.{after_lines}
 use Rattle.swd_script.specs.Lines.{lines}
 use Rattle.swd_script.specs.Numerals.{hex_of, decimal_of}
 
--- the memory, the room of its log, and the accesses
+-- the memory, the room of its log, and the accesses; where they are one block, its address
 pub record Meaning : Type 0 where
   pub base : ℕ
   pub words : ℕ
   pub room : ℕ
   pub accesses : List Access
+  pub block : Option ℕ
 
 -- what the lines so far say
 pub record Sayings : Type 0 where
   pub memory : Option Extent
   pub room : Option ℕ
   pub accesses : List Access
+  pub block : Option ℕ
 
 abbrev pub nothing_said : Sayings
-nothing_said = record { memory = None; room = None; accesses = [] }
+nothing_said = record { memory = None; room = None; accesses = []; block = None }
 
 -- a name and one number
 abbrev pub short_command : List ℕ → List ℕ → Option Command
@@ -41,7 +44,8 @@ abbrev pub long_command : List ℕ → List ℕ → List ℕ → Option Command
 long_command name first second =
     if bytes_eq name (codes "memory") then Some (Memory (hex_of first) (decimal_of second)) else
     (if bytes_eq name (codes "w") then Some (Write (hex_of first) (hex_of second)) else
-    (if bytes_eq name (codes "rn") then Some (ReadMany (hex_of first) (decimal_of second)) else None))
+    (if bytes_eq name (codes "rn") then Some (ReadMany (hex_of first) (decimal_of second)) else
+    (if bytes_eq name (codes "block") then Some (Block (hex_of first) (decimal_of second)) else None)))
 
 -- the command of a line's words, where the first is known and they are as many as it takes
 abbrev pub command_of : List (List ℕ) → Option Command
@@ -59,13 +63,19 @@ has_access (access ∷ accesses) = true
 abbrev pub without_memory : Sayings → Option LineFault
 without_memory said = if is_none said.memory then Some NoMemoryLine else None
 
--- why a command may not stand here: a second `memory`, a second `room` or one after an access, or no `memory` before it
+-- beside a block there is no other access
+abbrev pub beside_block : Sayings → Option LineFault
+beside_block said = if is_some said.block then Some Word else without_memory said
+
+-- why a command may not stand here: a second `memory`, a second `room` or one after an access, an access beside a
+-- block, or no `memory` before it
 abbrev pub misplaced : Sayings → Command → Option LineFault
 misplaced said (Memory base words) = if is_some said.memory then Some Word else None
 misplaced said (Room count) = if is_some said.room || has_access said.accesses then Some Word else without_memory said
-misplaced said (Read addr) = without_memory said
-misplaced said (Write addr value) = without_memory said
-misplaced said (ReadMany addr count) = without_memory said
+misplaced said (Read addr) = beside_block said
+misplaced said (Write addr value) = beside_block said
+misplaced said (ReadMany addr count) = beside_block said
+misplaced said (Block addr count) = if has_access said.accesses then Some Word else without_memory said
 
 -- what follows from a number, which has to be one
 abbrev pub with_number : Option ℕ → (ℕ → Result Sayings LineFault) → Result Sayings LineFault
@@ -90,10 +100,10 @@ with_accesses said addr count accesses =
     if are_words addr count && nat_le (length said.accesses + count) 65536
     then Ok (record said { accesses = said.accesses ++ accesses }) else Err Range
 
--- reads at an address, at the address plus 4, and so on
-abbrev pub reads : ℕ → ℕ → List Access
-reads addr zero = []
-reads addr (suc count) = ReadAccess addr ∷ reads (addr + 4) count
+-- the accesses are one block, from this address on
+abbrev pub as_block : ℕ → Result Sayings LineFault → Result Sayings LineFault
+as_block addr (Ok said) = Ok (record said { block = Some addr })
+as_block addr (Err fault) = Err fault
 
 -- what a command that may stand here adds
 abbrev pub carried_out : Sayings → Command → Result Sayings LineFault
@@ -106,6 +116,9 @@ carried_out said (Write addr value) =
     with_number addr (λ addr. with_number value (λ value. with_accesses said addr 1 (WriteAccess addr value ∷ [])))
 carried_out said (ReadMany addr count) =
     with_number addr (λ addr. with_number count (λ count. with_accesses said addr count (reads addr count)))
+carried_out said (Block addr count) =
+    with_number addr (λ addr. with_number count (λ count.
+    as_block addr (with_accesses said addr count (reads addr count))))
 
 abbrev pub fault_before : Option LineFault → Result Sayings LineFault → Result Sayings LineFault
 fault_before (Some fault) result = Err fault
@@ -131,6 +144,7 @@ script_meaning (Some extent) said =
       words = extent.words;
       room = unwrap_or said.room 65536;
       accesses = said.accesses;
+      block = said.block;
     })
 
 abbrev pub whole_script : Result Sayings ScriptFault → Result Meaning ScriptFault

@@ -32,6 +32,11 @@ pub(crate) enum Command {
         addr: Option<u32>,
         count: Option<u32>,
     },
+    /// The same reads as one block.
+    Block {
+        addr: Option<u32>,
+        count: Option<u32>,
+    },
 }
 
 /// The command of a line's first words. `None` where the first is unknown, or where they are not as
@@ -83,6 +88,12 @@ fn long_command(name: &[u8], first: &[u8], second: &[u8]) -> Option<Command>
     }
     if name == b"rn".as_slice() {
         return Some(Command::ReadMany {
+            addr: hex_of(first),
+            count: decimal_of(second),
+        });
+    }
+    if name == b"block".as_slice() {
+        return Some(Command::Block {
             addr: hex_of(first),
             count: decimal_of(second),
         });

@@ -26,11 +26,14 @@ pub(crate) struct Draft<A: Allocator> {
     pub(crate) memory: Option<Extent>,
     pub(crate) room: Option<u32>,
     pub(crate) accesses: Vec<Access, A>,
+    // The address of the first access, where they are the reads of one block.
+    pub(crate) block: Option<u32>,
 }
 
 impl<A: Allocator> Draft<A> {
     ghost use Rattle.swd_port.specs.declared.access.Access.{Access};
-    ghost use Rattle.swd_script.specs.Scripts.{carried_out, misplaced, nothing_said, reads, script_line, script_meaning};
+    ghost use Rattle.swd_port.specs.PlainMemory.{reads};
+    ghost use Rattle.swd_script.specs.Scripts.{as_block, carried_out, misplaced, nothing_said, script_line, script_meaning};
     ghost use Rattle.swd_script.specs.Scripts.{with_accesses, with_memory, with_room};
     ghost use Rattle.swd_script.specs.Readers.{IsFaultOf, meaning, said};
     ghost use Rattle.swd_script.specs.Words.{texts};
@@ -43,6 +46,7 @@ impl<A: Allocator> Draft<A> {
             memory: None,
             room: None,
             accesses: Vec::new(alloc),
+            block: None,
         }
     }
 
@@ -73,6 +77,9 @@ impl<A: Allocator> Draft<A> {
             Command::Room { .. } if self.room.is_some() || !self.accesses.is_empty() => {
                 Some(LineFault::Word)
             }
+            Command::Block { .. } if !self.accesses.is_empty() => Some(LineFault::Word),
+            Command::Read { .. } | Command::Write { .. } | Command::ReadMany { .. }
+                if self.block.is_some() => { Some(LineFault::Word) }
             _ if self.memory.is_none() => Some(LineFault::NoMemoryLine),
             _ => None,
         }
@@ -95,6 +102,7 @@ impl<A: Allocator> Draft<A> {
                 self.add(addr, Access::Write(addr, number(value)?))
             }
             Command::ReadMany { addr, count } => self.add_reads(number(addr)?, number(count)?),
+            Command::Block { addr, count } => self.add_block(number(addr)?, number(count)?),
         }
     }
 
@@ -151,6 +159,18 @@ impl<A: Allocator> Draft<A> {
         Ok(())
     }
 
+    // Adds the reads of a block, the only accesses of a script.
+    fn add_block(&mut self, addr: u32, count: u32) -> Result<(), LineFault>
+        ensures ok { OnOk result (as_block addr (with_accesses (said self.old) addr count (reads addr count))
+            ≡ Ok (said self.new)) }
+        ensures err { IfErr result (λ fault.
+            IsFaultOf fault (as_block addr (with_accesses (said self.old) addr count (reads addr count)))) }
+    {
+        self.add_reads(addr, count)?;
+        self.block = Some(addr);
+        Ok(())
+    }
+
     // Whether a script may have so many accesses more.
     fn has_room_for(&self, count: u32) -> bool
         ensures { result ≡ nat_le (length self.now.accesses.items + count) 65536 }
@@ -171,6 +191,7 @@ impl<A: Allocator> Draft<A> {
             words: extent.words,
             room: self.room.unwrap_or(MOST),
             accesses: self.accesses,
+            block: self.block,
         })
     }
 }

@@ -23,6 +23,8 @@ pub struct Script<A: Allocator> {
     pub room: u32,
     /// At most 65,536 accesses, each at a multiple of 4.
     pub accesses: Vec<Access, A>,
+    /// The address of the first access, where they are the reads of one block.
+    pub block: Option<u32>,
 }
 
 /// Reads a script, which comes in pieces (`Consumer::take`). At the first fault of the text it stops,

@@ -122,6 +122,31 @@ fn the_greatest_numbers_are_in_range(rt: HostRuntime) -> Result<(), Fail> {
 }
 
 #[test]
+fn a_block_is_the_only_access_line(rt: HostRuntime) -> Result<(), Fail> {
+    let text = b"memory 20000000 2\nroom 9\n# all of it\nblock 20000000 3\n\n".as_slice();
+    let script = script_in(rt.alloc(), text, 0)?;
+    assert_eq!(rt; script.block, Some(0x2000_0000));
+    assert_eq!(rt; script.room, 9);
+    assert_eq!(rt;
+        script.accesses.as_slice(),
+        [
+            Access::Read(0x2000_0000),
+            Access::Read(0x2000_0004),
+            Access::Read(0x2000_0008)
+        ]
+        .as_slice()
+    );
+    let apart = script_in(
+        rt.alloc(),
+        b"memory 20000000 2\nrn 20000000 3\n".as_slice(),
+        0,
+    )?;
+    assert_eq!(rt; apart.block, None);
+    assert_eq!(rt; apart.accesses.as_slice(), script.accesses.as_slice());
+    Ok(())
+}
+
+#[test]
 fn a_line_is_wrong_in_its_words(rt: HostRuntime) {
     for text in [
         b"memory 0 1\nread 0\n".as_slice(),
@@ -136,7 +161,9 @@ fn a_line_is_wrong_in_its_words(rt: HostRuntime) {
         b"memory 0 1\nroom 1 1\n",
         b"memory 0 1\nmemory 0 1\n",
         b"memory 0 1\nroommmmmmmmm 1\n",
-        b"memory 0 1\nblock 0 1\n",
+        b"memory 0 1\nblock 0\n",
+        b"memory 0 1\nblock 0 1 1\n",
+        b"memory 0 1\nblocks 0 1\n",
         b"memory 0 1\nr 0\x00\n",
         b"memory 0 1\nr 0\x7f\n",
         b"memory 0 1\nr \xc3\xa9\n",
@@ -157,6 +184,14 @@ fn a_line_is_wrong_in_its_words(rt: HostRuntime) {
         b"memory 0 1\nroom 1\nroom 1\n".as_slice(),
         b"memory 20000000 1\nr 20000000\nroom 3\n",
         b"memory 0 1\nrn 0 2\nroom 3",
+        b"memory 20000000 2\nblock 20000000 3\nr 20000000",
+        b"memory 0 1\nblock 0 1\nw 0 0\n",
+        b"memory 0 1\nblock 0 1\nrn 0 1\n",
+        b"memory 0 1\nblock 0 1\nblock 4 1\n",
+        b"memory 0 1\nblock 0 1\nroom 3\n",
+        b"memory 0 1\nr 0\nblock 0 1\n",
+        b"memory 0 1\nw 0 0\nblock g g\n",
+        b"memory 0 1\nblock 0 1\nr g\n",
     ] {
         assert_eq!(rt;
             script_fault(rt.alloc(), text),
@@ -235,6 +270,10 @@ fn a_line_is_wrong_in_a_range(rt: HostRuntime) {
         b"memory 0 1\nrn 0 0\n",
         b"memory 0 1\nrn 0 65537\n",
         b"memory 0 1\nrn 0 4294967295\n",
+        b"memory 20000000 1\nblock fffffffc 2\n",
+        b"memory 0 1\nblock 3 1\n",
+        b"memory 0 1\nblock 0 0\n",
+        b"memory 0 1\nblock 0 65537\n",
     ] {
         assert_eq!(rt;
             script_fault(rt.alloc(), text),
@@ -253,6 +292,7 @@ fn memory_comes_first(rt: HostRuntime) {
         b"room 1\n",
         b"w 0 0\nmemory 0 1\n",
         b"rn 0 1\n",
+        b"block 0 1\n",
     ] {
         assert_eq!(rt;
             script_fault(rt.alloc(), text),
@@ -304,6 +344,10 @@ fn the_first_fault_of_a_line_is_told(rt: HostRuntime) {
         ),
         (
             b"memory 0 1\nrn g 0\n",
+            Some(ScriptFault::Number { line: 2 }),
+        ),
+        (
+            b"memory 0 1\nblock 1 g\n",
             Some(ScriptFault::Number { line: 2 }),
         ),
         (

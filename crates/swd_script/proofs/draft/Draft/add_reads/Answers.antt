@@ -3,8 +3,9 @@ use Rattle.std.specs.Prelude.{if◌then◌else◌}
 use Rattle.swd_port.specs.declared.access.Access.{Access}
 use Rattle.swd_port.specs.declared.access.Access.TheVariants.{Read}
 use Rattle.swd_script.specs.Readers.{said}
-use Rattle.swd_script.specs.Scripts.{reads, Sayings}
-use Rattle.swd_script.proofs.ScriptLemmas.{reads_more}
+use Rattle.swd_port.specs.PlainMemory.{reads}
+use Rattle.swd_script.specs.Scripts.{Sayings}
+use Rattle.swd_port.proofs.ReadLists.{reads_more}
 use Rattle.swd_script.proofs.draft.Draft.add_reads.Goals as goal
 
 -- one read more

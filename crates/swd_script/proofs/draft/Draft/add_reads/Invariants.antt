@@ -1,6 +1,6 @@
 use Rattle.std.proofs.Common.{◌≡◌, ◌++◌}
 use Rattle.swd_script.specs.Readers.{said}
-use Rattle.swd_script.specs.Scripts.{reads}
+use Rattle.swd_port.specs.PlainMemory.{reads}
 use Rattle.swd_script.proofs.draft.Draft.add_reads.Given as goal
 
 abbrev pub invariant-loop-i : goal.invariant-loop-i
