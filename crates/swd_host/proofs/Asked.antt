@@ -7,7 +7,7 @@ use Rattle.swd_bits.specs.declared.request.Reg4.TheVariants.{R0, R4, R8, RC}
 use Rattle.swd_port.specs.declared.access.Access.{Access}
 use Rattle.swd_port.specs.declared.access.Access.TheVariants.{Read as AccessRead, Write as AccessWrite}
 use Rattle.swd_host.specs.declared.task.Task.{Task}
-use Rattle.swd_host.specs.declared.task.Task.TheVariants.{Read, Write, BurstWrite}
+use Rattle.swd_host.specs.declared.task.Task.TheVariants.{Read, BurstRead, Write, BurstWrite}
 use Rattle.swd_host.specs.Tasks.{access_of}
 use Rattle.swd_port.specs.declared.access.Answer.TheVariants.{Value, Written, BusFault}
 use Rattle.swd_port.specs.PlainMemory.{PlainMemory, plain_after, address, word_at}
@@ -36,7 +36,7 @@ use Rattle.swd_host.specs.declared.outcome.End.TheVariants.{Lost}
 use Rattle.swd_host.specs.declared.outcome.Outcome.TheVariants.{Stopped}
 use Rattle.swd_host.specs.declared.request.Place.{Place}
 use Rattle.swd_host.specs.declared.request.Place.TheVariants.{Identify, Wipe, Inspect, Select, Power, Powered}
-use Rattle.swd_host.specs.declared.request.Place.TheVariants.{Configure, Recall, Configured, Aim, Transfer, Confirm}
+use Rattle.swd_host.specs.declared.request.Place.TheVariants.{Configure, Recall, Configured, Aim, Transfer, Confirm, Behind}
 use Rattle.swd_host.specs.declared.request.Job.{Job}
 use Rattle.swd_host.specs.declared.request.Job.TheVariants.{At, Resend, Status, LastStatus, Clear, Check}
 use Rattle.swd_host.specs.declared.engine.State.TheVariants.{Resting}
@@ -48,14 +48,14 @@ use Rattle.swd_host.proofs.Frames.{same_accepts, before_framed, before_within, b
 use Rattle.swd_host.proofs.Frames.{within_stays, lost_within}
 
 -- WHAT CAME OF A REQUEST
-pub data Came (job : Job) (n : ℕ) (base : Counted) (b : Bool) (k : Hand) (v : ℕ) (t : Port) : Type 0 where
+pub data Came (job : Job) (n : ℕ) (base : Counted) (b : ℕ) (k : Hand) (v : ℕ) (t : Port) : Type 0 where
   came_okay : v ≡ 1 → During job n b k t → Came job n base b k v t
   came_wait : v ≡ 2 → Waiting job n b k t → Came job n base b k v t
   came_fault : v ≡ 4 → FaultedAt job n b k t → Came job n base b k v t
   came_lost : IsNoAcknowledgement v → Within b k t.target → base.lost < t.tally.lost → n ≤ t.tally.disturbed
       → Came job n base b k v t
 
-came_stays : (job : Job) (n : ℕ) (base : Counted) (b : Bool) (k : Hand) (v : ℕ) (s t : Port) → t ≡ s
+came_stays : (job : Job) (n : ℕ) (base : Counted) (b : ℕ) (k : Hand) (v : ℕ) (s t : Port) → t ≡ s
     → Came job n base b k v s → Came job n base b k v t
 came_stays job n base b k v s t e h = subst (λ x. Came job n base b k v x) (sym e) h
 
@@ -75,7 +75,7 @@ writes_from r n P flip s t on (inr (place, fits, some, more)) p q = changed plac
 -- KINDS OF REQUESTS
 
 -- an exempt one, at rest
-pub exempt_asked : (job : Job) (r : Register) (n : ℕ) (base : Counted) (b : Bool) (k : Hand) (v : ℕ) (s t : Port)
+pub exempt_asked : (job : Job) (r : Register) (n : ℕ) (base : Counted) (b : ℕ) (k : Hand) (v : ℕ) (s t : Port)
     (q : Request) → register s.target.select q ≡ r → is_exempt r ≡ true → r ≢ DrwRead → s.target.reset ≡ Live
     → s.target.pending ≡ None
     → base.lost ≤ s.tally.lost → Before job n b k s → Asks s q v t
@@ -91,11 +91,11 @@ exempt_asked job r n base b k v s t q reg ex nodrw live rest l h asks go =
     ]
 
 -- one that nothing weighs on, at rest
-pub free_asked : (job : Job) (r : Register) (n : ℕ) (base : Counted) (b c : Bool) (k : Hand) (v : ℕ) (s t : Port)
+pub free_asked : (job : Job) (r : Register) (n : ℕ) (base : Counted) (b c : ℕ) (k : Hand) (v : ℕ) (s t : Port)
     (q : Request) → register s.target.select q ≡ r → is_exempt r ≡ false → r ≢ DrwRead → s.target.reset ≡ Live
     → s.target.pending ≡ None
     → s.target.write_error ≡ false → s.target.sticky_error ≡ false → (q.ap ≡ true → s.target.debug_power ≡ true)
-    → base.lost ≤ s.tally.lost → (b ≡ true → c ≡ true) → Within b k s.target → n ≤ s.tally.disturbed → Asks s q v t
+    → base.lost ≤ s.tally.lost → b ≤ c → Within b k s.target → n ≤ s.tally.disturbed → Asks s q v t
     → ((flip : Option ℕ) → Spares flip s t → Accepts r q.read flip s t → s.tally.disturbed ≤ t.tally.disturbed
     → During job n c k t)
     → is_exempt_of job ≡ false → (Frame s t → Same s t → t.tally.disturbed ≡ s.tally.disturbed + 1 → Before job
@@ -113,7 +113,7 @@ free_asked job r n base b c k v s t q reg ex nodrw live rest write sticky power 
           (omega (arith, a.disturbed))
     ]
 
-held_within : (r : Register) (access : Bool) (b c : Bool) (k : Hand) (s t : Port) → (b ≡ true → c ≡ true)
+held_within : (r : Register) (access : Bool) (b c : ℕ) (k : Hand) (s t : Port) → b ≤ c
     → Stays s t ⊎ Refuses r access s t → Within b k s.target → Within c k t.target
 held_within r access b c k s t g (inl h) w = within_carried b c k s t g (ap (λ i. i.pending) h.target) (ap
     (λ i. i.tar) h.target) (ap (λ i. i.memory) h.target) w
@@ -121,11 +121,11 @@ held_within r access b c k s t g (inr h) w = within_carried b c k s t g (ap (λ 
     (λ i. i.tar) h.target) (ap (λ i. i.memory) h.target) w
 
 -- one that meets WDATAERR, at rest
-pub flagged_asked : (job : Job) (r : Register) (n : ℕ) (base : Counted) (b c : Bool) (k : Hand) (v : ℕ) (s t : Port)
+pub flagged_asked : (job : Job) (r : Register) (n : ℕ) (base : Counted) (b c : ℕ) (k : Hand) (v : ℕ) (s t : Port)
     (q : Request) → register s.target.select q ≡ r → is_exempt r ≡ false → s.target.reset ≡ Live
     → s.target.pending ≡ None
     → s.target.write_error ≡ true → (q.ap ≡ true → s.target.debug_power ≡ true)
-    → base.lost ≤ s.tally.lost → (b ≡ true → c ≡ true) → Within b k s.target → n ≤ s.tally.disturbed → Asks s q v t
+    → base.lost ≤ s.tally.lost → b ≤ c → Within b k s.target → n ≤ s.tally.disturbed → Asks s q v t
     → (Frame s t → Same s t → s.tally.disturbed ≤ t.tally.disturbed → FaultedAt job n c k t)
     → Came job n base c k v t
 flagged_asked job r n base b c k v s t q reg ex live rest write power l g within paid asks go =
@@ -156,7 +156,7 @@ abort = record { ap = false; read = false; addr = R0 }
 pub status_register : (s : Port) → s.target.select ≡ no_select → register s.target.select status ≡ CtrlStatRead
 status_register s e = ap (λ x. register x status) e
 
-pub says_from : (job : Job) (n : ℕ) (b : Bool) (k : Hand) (s t : Port) (flip : Option ℕ) → s.target.reset ≡ Live
+pub says_from : (job : Job) (n b : ℕ) (k : Hand) (s t : Port) (flip : Option ℕ) → s.target.reset ≡ Live
     → Before job n b k s → Spares flip s t → Accepts CtrlStatRead true flip s t
     → s.tally.disturbed ≤ t.tally.disturbed → Says job n b k t
 says_from job n b k s t flip live h sp a more =
@@ -170,7 +170,7 @@ says_from job n b k s t flip live h sp a more =
           (λ d. before_framed n (n + 1) b k s t f e (omega arith) job h),
     )
 
-pub status_asked : (job : Job) (n : ℕ) (base : Counted) (b : Bool) (k : Hand) (v : ℕ) (s t : Port)
+pub status_asked : (job : Job) (n : ℕ) (base : Counted) (b : ℕ) (k : Hand) (v : ℕ) (s t : Port)
     → s.target.select ≡ no_select → s.target.reset ≡ Live → s.target.pending ≡ None → base.lost ≤ s.tally.lost
     → Before job n b k s → Asks s status v t
     → (Says job n b k t → During job n b k t) → Came job n base b k v t
@@ -183,7 +183,7 @@ status_asked job n base b k v s t select live rest l h asks go =
 pub abort_register : (s : Port) → s.target.select ≡ no_select → register s.target.select abort ≡ AbortWrite
 abort_register s e = ap (λ x. register x abort) e
 
-pub abort_asked : (job : Job) (n : ℕ) (base : Counted) (b : Bool) (k : Hand) (v : ℕ) (s t : Port) (P : ℕ → Type 0)
+pub abort_asked : (job : Job) (n : ℕ) (base : Counted) (b : ℕ) (k : Hand) (v : ℕ) (s t : Port) (P : ℕ → Type 0)
     → s.target.select ≡ no_select → s.target.reset ≡ Live → s.target.pending ≡ None → base.lost ≤ s.tally.lost
     → Before job n b k s → Asks s abort v t
     → ((n' : ℕ) → Frame s t → Same s t → n' + s.tally.disturbed ≤ n + t.tally.disturbed → P n')

@@ -7,7 +7,7 @@ use Rattle.swd_bits.specs.declared.request.Reg4.TheVariants.{R0, R4, R8, RC}
 use Rattle.swd_port.specs.declared.access.Access.{Access}
 use Rattle.swd_port.specs.declared.access.Access.TheVariants.{Read as AccessRead, Write as AccessWrite}
 use Rattle.swd_host.specs.declared.task.Task.{Task}
-use Rattle.swd_host.specs.declared.task.Task.TheVariants.{Read, Write, BurstWrite}
+use Rattle.swd_host.specs.declared.task.Task.TheVariants.{Read, BurstRead, Write, BurstWrite}
 use Rattle.swd_host.specs.Tasks.{access_of}
 use Rattle.swd_port.specs.declared.access.Answer.TheVariants.{Value, Written, BusFault}
 use Rattle.swd_port.specs.PlainMemory.{PlainMemory, plain_after, plain_answer, address, word_at}
@@ -36,7 +36,7 @@ use Rattle.swd_port.proofs.CompletionLaws.{none_done, kept as kept_by, sent_stay
 use Rattle.swd_host.specs.declared.flags.Flags.{Flags}
 use Rattle.swd_host.specs.declared.request.Place.{Place}
 use Rattle.swd_host.specs.declared.request.Place.TheVariants.{Identify, Wipe, Inspect, Select, Power, Powered}
-use Rattle.swd_host.specs.declared.request.Place.TheVariants.{Configure, Recall, Configured, Aim, Transfer, Confirm}
+use Rattle.swd_host.specs.declared.request.Place.TheVariants.{Configure, Recall, Configured, Aim, Transfer, Confirm, Behind}
 use Rattle.swd_host.specs.declared.request.Job.{Job}
 use Rattle.swd_host.specs.declared.request.Job.TheVariants.{At, Resend, Status, LastStatus, Clear, Check}
 use Rattle.swd_host.specs.Requests.{request_of, is_exempt_place, confirmed_by, written_by, begins}
@@ -60,7 +60,7 @@ is_written Aim = true
 is_written Transfer = true
 is_written _ = false
 
-written_calm : (p : Place) (b : Bool) (k : Hand) (s : Port) → is_written p ≡ true → Has p b k s.target
+written_calm : (p : Place) (b : ℕ) (k : Hand) (s : Port) → is_written p ≡ true → Has p b k s.target
     → Calm k.memory s.target
 written_calm Wipe b k s e h = h
 written_calm Select b k s e h = h
@@ -100,14 +100,14 @@ back_written Configure back task aims e = absurd (cc)
 back_written Configured back task aims e = absurd (cc)
 back_written Aim back task aims e = absurd (cc)
 
-pub hurt_calm : (p : Place) (n : ℕ) (b : Bool) (k : Hand) (s : Port) → Hurt p n b k s → Calm k.memory s.target
+pub hurt_calm : (p : Place) (n b : ℕ) (k : Hand) (s : Port) → Hurt p n b k s → Calm k.memory s.target
 hurt_calm p n b k s h = written_calm h.back b k s (back_written p h.back k.task k.aims h.confirms) h.has
 
-pub spoilt_calm : (p : Place) (b : Bool) (k : Hand) (s : Port) → Spoilt p b k s.target → Calm k.memory s.target
+pub spoilt_calm : (p : Place) (b : ℕ) (k : Hand) (s : Port) → Spoilt p b k s.target → Calm k.memory s.target
 spoilt_calm p b k s h = written_calm h.back b k s (back_written p h.back k.task k.aims h.confirms) h.has
 
 -- AN ACCESS PORT'S REQUESTS HAVE POWER
-hurt_power : (p : Place) (n : ℕ) (b : Bool) (k : Hand) (s : Port) → Hurt p n b k s
+hurt_power : (p : Place) (n b : ℕ) (k : Hand) (s : Port) → Hurt p n b k s
     → (request_of (At p) k.task).ap ≡ true → s.target.debug_power ≡ true
 hurt_power Recall n b k s h e =
     let is : h.back ≡ Configure = (let c = h.confirms in cc) in
@@ -221,8 +221,8 @@ frame_refl s = record {
   identification = refl;
 }
 
-pub hurt_asked : (p : Place) (n : ℕ) (base : Counted) (b c : Bool) (k : Hand) (v : ℕ) (s t : Port)
-    → is_exempt_place p ≡ false → (b ≡ true → c ≡ true) → base.lost ≤ s.tally.lost → Hurt p n b k s
+pub hurt_asked : (p : Place) (n : ℕ) (base : Counted) (b c : ℕ) (k : Hand) (v : ℕ) (s t : Port)
+    → is_exempt_place p ≡ false → b ≤ c → base.lost ≤ s.tally.lost → Hurt p n b k s
     → Asks s (request_of (At p) k.task) v t → Came (At p) n base c k v t
 hurt_asked p n base b c k v s t plain g l h asks =
     let calm : Calm k.memory s.target = hurt_calm p n b k s h in
@@ -264,10 +264,10 @@ up_accepts m r read flip s t p a h = record {
 }
 
 -- SURE WRITES
-module _ (p : Place) (n : ℕ) (base : Counted) (b c : Bool) (k : Hand) (v : ℕ) (s t : Port) where
+module _ (p : Place) (n : ℕ) (base : Counted) (b c : ℕ) (k : Hand) (v : ℕ) (s t : Port) where
   pub write_asked : (r : Register) → register_at p k.task ≡ r → (request_of (At p) k.task).read ≡ false
       → is_exempt r ≡ false → is_posted r ≡ false → is_exempt_place p ≡ false → is_wipe p ≡ false → r ≢ DrwRead
-      → (b ≡ true → c ≡ true) → Calm k.memory s.target → ((request_of (At p) k.task).ap ≡ true
+      → b ≤ c → Calm k.memory s.target → ((request_of (At p) k.task).ap ≡ true
       → s.target.debug_power ≡ true) → base.lost ≤ s.tally.lost
       → Sure p n b k s → Asks s (request_of (At p) k.task) v t
       → (Writes r n (λ x. Sure p x c k t) t → During (At p) n c k t) → Came (At p) n base c k v t
@@ -289,20 +289,20 @@ module _ (p : Place) (n : ℕ) (base : Counted) (b c : Bool) (k : Hand) (v : ℕ
       (λ d. sure (n + 1) f e (omega arith)))))
       plain (λ f e d. inl (sure (n + 1) f e (omega arith)))
 
-identify_lost : (b : Bool) (k : Hand) (s t : Port) → Reachable k.memory s.target
+identify_lost : (b : ℕ) (k : Hand) (s t : Port) → Reachable k.memory s.target
     → Stays s t ⊎ Accepts DpidrRead true None s t → Within b k t.target
 identify_lost b k s t h w = lost_within DpidrRead true b b k s t (λ x. x) (λ e. absurd (cc)) w
     (within_idle b k s h.pending h.memory)
 
 -- ABORT is written, whatever the flags
-pub wipe_asked : (n : ℕ) (base : Counted) (b : Bool) (k : Hand) (v : ℕ) (s t : Port) → base.lost ≤ s.tally.lost
+pub wipe_asked : (n : ℕ) (base : Counted) (b : ℕ) (k : Hand) (v : ℕ) (s t : Port) → base.lost ≤ s.tally.lost
     → Sure Wipe n b k s → Asks s (request_of (At Wipe) k.task) v t → Came (At Wipe) n base b k v t
 wipe_asked n base b k v s t l h asks =
     abort_asked (At Wipe) n base b k v s t (λ c. Sure Wipe c b k t) h.has.select h.has.live h.has.pending l (inl h) asks
     (λ n' f e more. sure_framed n n' b k s t f e more Wipe h) (λ w. w)
 
 -- DPIDR is read
-pub identify_asked : (n : ℕ) (base : Counted) (b : Bool) (k : Hand) (v : ℕ) (s t : Port) → base.lost ≤ s.tally.lost
+pub identify_asked : (n : ℕ) (base : Counted) (b : ℕ) (k : Hand) (v : ℕ) (s t : Port) → base.lost ≤ s.tally.lost
     → Sure Identify n b k s → Asks s (request_of (At Identify) k.task) v t → Came (At Identify) n base b k v t
 identify_asked n base b k v s t l h asks =
     elim (identification_read_at_rest (request_of (At Identify) k.task) v s t
@@ -330,7 +330,7 @@ identify_asked n base b k v s t l h asks =
     ]
 
 -- CSW is read: its word goes to the read buffer
-recalled : (n : ℕ) (b : Bool) (k : Hand) (s t : Port) (flip : Option ℕ) → Sure Recall n b k s
+recalled : (n b : ℕ) (k : Hand) (s t : Port) (flip : Option ℕ) → Sure Recall n b k s
     → Accepts CswRead true flip s t → s.tally.disturbed ≤ t.tally.disturbed → Sure Configured n b k t
 recalled n b k s t flip h a more = record {
   has = record {
@@ -342,7 +342,7 @@ recalled n b k s t flip h a more = record {
   paid = omega (arith, h.paid);
 }
 
-pub recall_asked : (n : ℕ) (base : Counted) (b : Bool) (k : Hand) (v : ℕ) (s t : Port) → base.lost ≤ s.tally.lost
+pub recall_asked : (n : ℕ) (base : Counted) (b : ℕ) (k : Hand) (v : ℕ) (s t : Port) → base.lost ≤ s.tally.lost
     → Sure Recall n b k s → Asks s (request_of (At Recall) k.task) v t → Came (At Recall) n base b k v t
 recall_asked n base b k v s t l h asks =
     let calm : Calm k.memory s.target = h.has.up.calm in
@@ -353,7 +353,7 @@ recall_asked n base b k v s t l h asks =
     refl (λ f e d. inl (sure_framed n (n + 1) b k s t f e (omega arith) Recall h))
 
 -- CSW is read back
-configured_word : (n n' : ℕ) (b : Bool) (k : Hand) (s t : Port) (flip : Option ℕ)
+configured_word : (n n' : ℕ) (b : ℕ) (k : Hand) (s t : Port) (flip : Option ℕ)
     → n' + s.tally.disturbed ≤ n + t.tally.disturbed → Sure Configured n b k s → Accepts RdbuffRead true flip s t
     → Resent Configured csw_word_read n' b k t
 configured_word n n' b k s t flip more h a = record {
@@ -363,7 +363,7 @@ configured_word n n' b k s t flip more h a = record {
   paid = omega (arith, h.paid);
 }
 
-pub configured_asked : (n : ℕ) (base : Counted) (b : Bool) (k : Hand) (v : ℕ) (s t : Port) → base.lost ≤ s.tally.lost
+pub configured_asked : (n : ℕ) (base : Counted) (b : ℕ) (k : Hand) (v : ℕ) (s t : Port) → base.lost ≤ s.tally.lost
     → Sure Configured n b k s → Asks s (request_of (At Configured) k.task) v t → Came (At Configured) n base b k v t
 configured_asked n base b k v s t l h asks =
     let calm : Calm k.memory s.target = h.has.up.calm in
@@ -381,7 +381,7 @@ configured_asked n base b k v s t l h asks =
     refl (λ f e d. inl (sure_framed n (n + 1) b k s t f e (omega arith) Configured h))
 
 -- RESEND
-pub returned_calm : (p : Place) (word : ℕ) (b : Bool) (k : Hand) (s : Port) → Returned p word b k s.target
+pub returned_calm : (p : Place) (word : ℕ) (b : ℕ) (k : Hand) (s : Port) → Returned p word b k s.target
     → (m : PlainMemory) × Calm m s.target
 returned_calm Configured word b k s h = (_, h.0.calm)
 returned_calm Confirm word b k s h = (_, h.0.up.calm)
@@ -396,7 +396,7 @@ returned_calm Recall word b k s h = absurd h
 returned_calm Aim word b k s h = absurd h
 returned_calm Transfer word b k s h = absurd h
 
-pub resend_asked : (p : Place) (n : ℕ) (base : Counted) (b : Bool) (k : Hand) (v : ℕ) (s t : Port)
+pub resend_asked : (p : Place) (n : ℕ) (base : Counted) (b : ℕ) (k : Hand) (v : ℕ) (s t : Port)
     → base.lost ≤ s.tally.lost → Before (Resend p) n b k s → Asks s (request_of (Resend p) k.task) v t
     → Came (Resend p) n base b k v t
 resend_asked p n base b k v s t l h asks =

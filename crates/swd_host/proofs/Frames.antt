@@ -20,15 +20,20 @@ use Rattle.swd_port.proofs.CompletionLaws.{sent_carried, sent_becomes, sent_memo
 use Rattle.swd_port.proofs.CompletionLaws.{becomes_completed}
 use Rattle.swd_port.proofs.RequestLaws.{lost_request, refused_with_power}
 use Rattle.swd_host.specs.declared.flags.Flags.{Flags}
-use Rattle.swd_host.specs.Tasks.{access_of}
+use Rattle.swd_host.specs.Tasks.{access_of, is_block}
+use Rattle.swd_host.specs.declared.task.Task.{Task}
+use Rattle.swd_host.specs.declared.engine.Ahead.{Ahead}
+use Rattle.swd_host.specs.declared.engine.Ahead.TheVariants.{Unsent, Sent as NextSent, Failed as NextFailed}
 use Rattle.swd_host.specs.declared.request.Place.{Place}
 use Rattle.swd_host.specs.declared.request.Place.TheVariants.{Identify, Wipe, Inspect, Select, Power, Powered}
-use Rattle.swd_host.specs.declared.request.Place.TheVariants.{Configure, Recall, Configured, Aim, Transfer, Confirm}
+use Rattle.swd_host.specs.declared.request.Place.TheVariants.{Configure, Recall, Configured, Aim, Transfer, Confirm, Behind}
 use Rattle.swd_host.specs.declared.request.Job.{Job}
 use Rattle.swd_host.specs.declared.request.Job.TheVariants.{At, Resend, Status, LastStatus, Clear, Check}
 use Rattle.swd_host.specs.Tracks.{Hand, Reachable, Calm, HasPower, Up, HasCsw, HasRecalled, IsAimed, Under, Has, Sure}
 use Rattle.swd_host.specs.Tracks.{Hurt, Broken, Spoilt, Facts, Refused, by_damage, by_error, Owes, Checks, cleared}
-use Rattle.swd_host.specs.Tracks.{kept, Done, Returned, Resent, Before, Within, IsWithin}
+use Rattle.swd_host.specs.Tracks.{kept, Done, Returned, Resent, Before, Within, IsWithin, within_none, within_first}
+use Rattle.swd_host.specs.Tracks.{within_both, memory_once_done, next_hand, AheadAt, DoneBy, ahead_of, Fallen}
+use Rattle.swd_host.specs.Tracks.{BusErrorOf, own_error, next_error}
 
 -- the fields that the host's facts are about, the flags and the counts aside
 pub record Frame (s t : Port) : Type 0 where
@@ -181,7 +186,7 @@ power_framed m s t f e h = record {
   system = f.system ∙ h.system;
 }
 
-pub under_framed : (b c : Bool) (k : Hand) (s t : Port) → (b ≡ true → c ≡ true) → Frame s t
+pub under_framed : (b c : ℕ) (k : Hand) (s t : Port) → b ≤ c → Frame s t
     → t.target.sticky_error ≡ s.target.sticky_error → Under b k s.target → Under c k t.target
 under_framed b c k s t g f e h = record {
   live = f.reset ∙ h.live;
@@ -189,11 +194,11 @@ under_framed b c k s t g f e h = record {
   debug = f.debug
       ∙ h.debug;
   increments = f.increments ∙ h.increments;
-  begun = g h.begun;
+  begun = omega (arith, h.begun);
   sent = sent_carried _ _ s.target t.target (carries s t f e) h.sent;
 }
 
-pub has_framed : (p : Place) (b c : Bool) (k : Hand) (s t : Port) → (b ≡ true → c ≡ true) → Frame s t
+pub has_framed : (p : Place) (b c : ℕ) (k : Hand) (s t : Port) → b ≤ c → Frame s t
     → t.target.sticky_error ≡ s.target.sticky_error → Has p b k s.target → Has p c k t.target
 has_framed Identify b c k s t g f e h = record {
   reset = subst (λ x. x ≢ Unreset) (sym f.reset) h.reset;
@@ -215,8 +220,9 @@ has_framed Configured b c k s t g f e h = record { up = up_framed _ s t f e h.up
 has_framed Aim b c k s t g f e h = record { up = up_framed _ s t f e h.up; aims = h.aims }
 has_framed Transfer b c k s t g f e h = record { up = up_framed _ s t f e h.up; tar = f.tar ∙ h.tar }
 has_framed Confirm b c k s t g f e h = under_framed b c k s t g f e h
+has_framed Behind b c k s t g f e h = absurd h
 
-broken_framed : (p : Place) (b : Bool) (k : Hand) (s t : Port) → Frame s t → Broken p b k s.target
+broken_framed : (p : Place) (b : ℕ) (k : Hand) (s t : Port) → Frame s t → Broken p b k s.target
     → Broken p b k t.target
 broken_framed p b k s t f h = record {
   place = h.place;
@@ -228,23 +234,35 @@ broken_framed p b k s t f h = record {
   increments = f.increments ∙ h.increments;
   pending = f.pending ∙ h.pending;
   memory = f.memory ∙ h.memory;
-  after = h.after;
-  answer = h.answer;
+  fails = h.fails;
 }
 
+bus_error_framed : (p : Place) (b : ℕ) (k : Hand) (s t : Port) → Frame s t → BusErrorOf p b k s.target
+    → BusErrorOf p b k t.target
+bus_error_framed p b k s t f (own_error h) = own_error (broken_framed p b k s t f h)
+bus_error_framed p b k s t f (next_error h) = next_error (record {
+  place = h.place;
+  begun = h.begun;
+  block = h.block;
+  word = h.word;
+  answer = h.answer;
+  last = f.last_returned ∙ h.last;
+  broken = broken_framed Confirm 1 (next_hand k.task (memory_once_done k)) s t f h.broken;
+})
+
 -- a bus error's facts say nothing of STICKYERR
-pub facts_framed : (error : Bool) (p : Place) (b : Bool) (k : Hand) (s t : Port) → Frame s t
+pub facts_framed : (error : Bool) (p : Place) (b : ℕ) (k : Hand) (s t : Port) → Frame s t
     → (error ≡ false → t.target.sticky_error ≡ s.target.sticky_error) → Facts error p b k s.target
     → Facts error p b k t.target
-facts_framed true p b k s t f e h = broken_framed p b k s t f h
+facts_framed true p b k s t f e h = bus_error_framed p b k s t f h
 facts_framed false p b k s t f e h = record {
   back = h.back;
   confirms = h.confirms;
   has = has_framed h.back b b k s t
-      (λ x. x) f (e refl) h.has;
+      (omega arith) f (e refl) h.has;
 }
 
-pub done_framed : (b : Bool) (k : Hand) (s t : Port) → Frame s t → t.target.sticky_error ≡ s.target.sticky_error
+pub done_framed : (b : ℕ) (k : Hand) (s t : Port) → Frame s t → t.target.sticky_error ≡ s.target.sticky_error
     → Done b k s.target → Done b k t.target
 done_framed b k s t f e h = record {
   begun = h.begun;
@@ -252,10 +270,24 @@ done_framed b k s t f e h = record {
   advanced = λ i a l n. f.tar ∙ h.advanced (sym f.increments ∙ i) a l n;
 }
 
-pub returned_framed : (p : Place) (word : ℕ) (b : Bool) (k : Hand) (s t : Port) → Frame s t
+ahead_framed : (ahead : Ahead) (task : Task) (m : PlainMemory) (s t : Port) → Frame s t
+    → t.target.sticky_error ≡ s.target.sticky_error → AheadAt ahead task m s.target → AheadAt ahead task m t.target
+ahead_framed Unsent task m s t f e h = up_framed m s t f e h
+ahead_framed NextSent task m s t f e h =
+    (h.0, under_framed 1 1 (next_hand task m) s t (omega arith) f e h.1)
+ahead_framed NextFailed task m s t f e h = (h.0, up_framed m s t f e h.1, h.2)
+
+done_by_framed : (ahead : Ahead) (b : ℕ) (k : Hand) (s t : Port) → Frame s t
+    → t.target.sticky_error ≡ s.target.sticky_error → DoneBy ahead b k s.target → DoneBy ahead b k t.target
+done_by_framed Unsent b k s t f e h = done_framed b k s t f e h
+done_by_framed NextSent b k s t f e h = (h.0, ahead_framed NextSent k.task (memory_once_done k) s t f e h.1)
+done_by_framed NextFailed b k s t f e h = (h.0, ahead_framed NextFailed k.task (memory_once_done k) s t f e h.1)
+
+pub returned_framed : (p : Place) (word : ℕ) (b : ℕ) (k : Hand) (s t : Port) → Frame s t
     → t.target.sticky_error ≡ s.target.sticky_error → Returned p word b k s.target → Returned p word b k t.target
 returned_framed Configured word b k s t f e h = (up_framed _ s t f e h.0, h.1)
-returned_framed Confirm word b k s t f e h = (done_framed b k s t f e h.0, h.1)
+returned_framed Confirm word b k s t f e h = (done_by_framed (ahead_of k.task) b k s t f e h.0, h.1)
+returned_framed Behind word b k s t f e h = (done_by_framed NextFailed b k s t f e h.0, h.1)
 returned_framed Identify word b k s t f e h = absurd h
 returned_framed Wipe word b k s t f e h = absurd h
 returned_framed Inspect word b k s t f e h = absurd h
@@ -268,11 +300,11 @@ returned_framed Aim word b k s t f e h = absurd h
 returned_framed Transfer word b k s t f e h = absurd h
 
 -- n events that were paid for at s, and n' at t
-module _ (n n' : ℕ) (b : Bool) (k : Hand) (s t : Port) (f : Frame s t) (e : Same s t)
+module _ (n n' : ℕ) (b : ℕ) (k : Hand) (s t : Port) (f : Frame s t) (e : Same s t)
     (more : n' + s.tally.disturbed ≤ n + t.tally.disturbed) where
   pub sure_framed : (p : Place) → Sure p n b k s → Sure p n' b k t
   sure_framed p h = record {
-    has = has_framed p b b k s t (λ x. x) f e.sticky h.has;
+    has = has_framed p b b k s t (omega arith) f e.sticky h.has;
     flag = λ w. e.write ∙ h.flag w;
     paid = omega (arith, h.paid);
   }
@@ -281,14 +313,14 @@ module _ (n n' : ℕ) (b : Bool) (k : Hand) (s t : Port) (f : Frame s t) (e : Sa
   hurt_framed p h = record {
     back = h.back;
     confirms = h.confirms;
-    has = has_framed h.back b b k s t (λ x. x) f e.sticky h.has;
+    has = has_framed h.back b b k s t (omega arith) f e.sticky h.has;
     flag = e.write ∙ h.flag;
     paid = omega (arith, h.paid);
   }
 
   pub refused_framed : (p : Place) → Refused p n b k s → Refused p n' b k t
   refused_framed p (by_damage h) = by_damage (hurt_framed p h)
-  refused_framed p (by_error h i w paid) = by_error (broken_framed p b k s t f h) (e.sticky ∙ i) (e.write ∙ w)
+  refused_framed p (by_error h i w paid) = by_error (bus_error_framed p b k s t f h) (e.sticky ∙ i) (e.write ∙ w)
       (omega arith)
 
   pub resent_framed : (p : Place) (word : ℕ) → Resent p word n b k s → Resent p word n' b k t
@@ -323,14 +355,14 @@ module _ (n n' : ℕ) (b : Bool) (k : Hand) (s t : Port) (f : Frame s t) (e : Sa
   before_framed (Check p owed) h = checks_framed p owed h
 
 -- WITHIN
-pub within_carried : (b c : Bool) (k : Hand) (s t : Port) → (b ≡ true → c ≡ true)
+pub within_carried : (b c : ℕ) (k : Hand) (s t : Port) → b ≤ c
     → t.target.pending ≡ s.target.pending → t.target.tar ≡ s.target.tar → t.target.memory ≡ s.target.memory
     → Within b k s.target → Within c k t.target
 within_carried b c k s t g p a e h =
     let more : (m : PlainMemory) → IsWithin b k m → IsWithin c k m = λ m i. elim i [
-      | inl x ↦ inl x
-      | inr x ↦ inr
-          (g x.0, x.1)
+      | within_none x ↦ within_none x
+      | within_first begun x ↦ within_first (omega arith) x
+      | within_both begun block x ↦ within_both (omega arith) block x
     ] in
     record {
       now = subst (IsWithin c k) (sym e) (more s.target.memory h.now);
@@ -339,7 +371,7 @@ within_carried b c k s t g p a e h =
       ends = more h.later h.ends;
     }
 
-pub within_stays : (b : Bool) (k : Hand) (s t : Port) → Completes s t → Within b k s.target → Within b k t.target
+pub within_stays : (b : ℕ) (k : Hand) (s t : Port) → Completes s t → Within b k s.target → Within b k t.target
 within_stays b k s t (inl same) h = subst (λ i. Within b k i.target) (sym same) h
 within_stays b k s t (inr (c, i, same)) h = record {
   now = subst (IsWithin b k) (sym
@@ -349,29 +381,54 @@ within_stays b k s t (inr (c, i, same)) h = record {
   ends = h.ends;
 }
 
-pub within_idle : (b : Bool) (k : Hand) (s : Port) → s.target.pending ≡ None → s.target.memory ≡ k.memory
+pub within_idle : (b : ℕ) (k : Hand) (s : Port) → s.target.pending ≡ None → s.target.memory ≡ k.memory
     → Within b k s.target
-within_idle b k s p e = record { now = inl e; later = k.memory; becomes = idle p e; ends = inl refl }
+within_idle b k s p e = record {
+  now = within_none e;
+  later = k.memory;
+  becomes = idle p e;
+  ends = within_none refl;
+}
 
-pub within_done : (b : Bool) (k : Hand) (s : Port) → b ≡ true → s.target.pending ≡ None
+pub within_done : (b : ℕ) (k : Hand) (s : Port) → 1 ≤ b → s.target.pending ≡ None
     → s.target.memory ≡ plain_after (access_of k.task) k.memory → Within b k s.target
 within_done b k s g p e = record {
-  now = inr (g, e);
+  now = within_first g e;
   later = plain_after (access_of k.task) k.memory;
   becomes = idle p e;
-  ends = inr (g, refl);
+  ends = within_first g refl;
 }
 
-pub within_sent : (b : Bool) (k : Hand) (s : Port) → b ≡ true → Sent (access_of k.task) k.memory s.target
+pub within_sent : (b : ℕ) (k : Hand) (s : Port) → 1 ≤ b → Sent (access_of k.task) k.memory s.target
     → Within b k s.target
 within_sent b k s g h = record {
-  now = elim (sent_memory (access_of k.task) k.memory s.target h) [ inl e ↦ inl e | inr e ↦ inr (g, e) ];
+  now = elim (sent_memory (access_of k.task) k.memory s.target h) [
+    | inl e ↦ within_none e
+    | inr e ↦ within_first g e
+  ];
   later = plain_after (access_of k.task) k.memory;
   becomes = sent_becomes (access_of k.task) k.memory s.target h;
-  ends = inr (g, refl);
+  ends = within_first g refl;
 }
 
-pub has_within : (p : Place) (b : Bool) (k : Hand) (s : Port) → Has p b k s.target → Within b k s.target
+-- what is known of the next access of a block is so of both
+pub within_next : (b : ℕ) (k : Hand) (s : Port) → 2 ≤ b → is_block k.task ≡ true
+    → Within 1 (next_hand k.task (memory_once_done k)) s.target → Within b k s.target
+within_next b k s g block h =
+    let more : (m : PlainMemory) → IsWithin 1 (next_hand k.task (memory_once_done k)) m → IsWithin b k m =
+    λ m i. elim i [
+      | within_none x ↦ within_first (omega arith) x
+      | within_first begun x ↦ within_both g block x
+      | within_both begun never x ↦ absurd (omega arith)
+    ] in
+    record {
+      now = more s.target.memory h.now;
+      later = h.later;
+      becomes = h.becomes;
+      ends = more h.later h.ends;
+    }
+
+pub has_within : (p : Place) (b : ℕ) (k : Hand) (s : Port) → Has p b k s.target → Within b k s.target
 has_within Identify b k s h = within_idle b k s h.pending h.memory
 has_within Wipe b k s h = within_idle b k s h.pending h.memory
 has_within Inspect b k s h = within_idle b k s h.pending h.memory
@@ -384,20 +441,32 @@ has_within Configured b k s h = within_idle b k s h.up.calm.pending h.up.calm.me
 has_within Aim b k s h = within_idle b k s h.up.calm.pending h.up.calm.memory
 has_within Transfer b k s h = within_idle b k s h.up.calm.pending h.up.calm.memory
 has_within Confirm b k s h = within_sent b k s h.begun h.sent
+has_within Behind b k s h = absurd h
 
-facts_within : (error : Bool) (p : Place) (b : Bool) (k : Hand) (s : Port) → Facts error p b k s.target
+bus_error_within : (p : Place) (b : ℕ) (k : Hand) (s : Port) → BusErrorOf p b k s.target → Within b k s.target
+bus_error_within p b k s (own_error h) = within_idle b k s h.pending h.memory
+bus_error_within p b k s (next_error h) = within_done b k s (omega (arith, h.begun)) h.broken.pending h.broken.memory
+
+facts_within : (error : Bool) (p : Place) (b : ℕ) (k : Hand) (s : Port) → Facts error p b k s.target
     → Within b k s.target
-facts_within true p b k s h = within_idle b k s h.pending h.memory
+facts_within true p b k s h = bus_error_within p b k s h
 facts_within false p b k s h = has_within h.back b k s h.has
 
-refused_within : (p : Place) (n : ℕ) (b : Bool) (k : Hand) (s : Port) → Refused p n b k s → Within b k s.target
+refused_within : (p : Place) (n b : ℕ) (k : Hand) (s : Port) → Refused p n b k s → Within b k s.target
 refused_within p n b k s (by_damage h) = has_within h.back b k s h.has
-refused_within p n b k s (by_error h i w paid) = within_idle b k s h.pending h.memory
+refused_within p n b k s (by_error h i w paid) = bus_error_within p b k s h
 
-returned_within : (p : Place) (word : ℕ) (b : Bool) (k : Hand) (s : Port) → Returned p word b k s.target
+done_within : (ahead : Ahead) (b : ℕ) (k : Hand) (s : Port) → DoneBy ahead b k s.target → Within b k s.target
+done_within Unsent b k s h = within_done b k s h.begun h.up.calm.pending h.up.calm.memory
+done_within NextSent b k s h =
+    within_next b k s h.0 h.1.0 (within_sent 1 (next_hand k.task (memory_once_done k)) s h.1.1.begun h.1.1.sent)
+done_within NextFailed b k s h = within_done b k s (omega (arith, h.0)) h.1.1.calm.pending h.1.1.calm.memory
+
+returned_within : (p : Place) (word : ℕ) (b : ℕ) (k : Hand) (s : Port) → Returned p word b k s.target
     → Within b k s.target
 returned_within Configured word b k s h = within_idle b k s h.0.calm.pending h.0.calm.memory
-returned_within Confirm word b k s h = within_done b k s h.0.begun h.0.up.calm.pending h.0.up.calm.memory
+returned_within Confirm word b k s h = done_within (ahead_of k.task) b k s h.0
+returned_within Behind word b k s h = done_within NextFailed b k s h.0
 returned_within Identify word b k s h = absurd h
 returned_within Wipe word b k s h = absurd h
 returned_within Inspect word b k s h = absurd h
@@ -409,12 +478,12 @@ returned_within Recall word b k s h = absurd h
 returned_within Aim word b k s h = absurd h
 returned_within Transfer word b k s h = absurd h
 
-checks_within : (p : Place) (owed : Flags) (n : ℕ) (b : Bool) (k : Hand) (s : Port) → Checks p owed n b k s
+checks_within : (p : Place) (owed : Flags) (n b : ℕ) (k : Hand) (s : Port) → Checks p owed n b k s
     → Within b k s.target
 checks_within p owed n b k s (cleared h i w paid) = facts_within owed.error p b k s h
 checks_within p owed n b k s (kept h i w paid) = facts_within owed.error p b k s h
 
-pub before_within : (job : Job) (n : ℕ) (b : Bool) (k : Hand) (s : Port) → Before job n b k s → Within b k s.target
+pub before_within : (job : Job) (n b : ℕ) (k : Hand) (s : Port) → Before job n b k s → Within b k s.target
 before_within (At p) n b k s (inl h) = has_within p b k s h.has
 before_within (At p) n b k s (inr h) = has_within h.back b k s h.has
 before_within (Resend p) n b k s h = returned_within p h.0 b k s h.1.returned
@@ -424,7 +493,7 @@ before_within (Clear p owed) n b k s h = facts_within owed.error p b k s h.facts
 before_within (Check p owed) n b k s h = checks_within p owed n b k s h
 
 -- EVENTS THAT WERE PAID FOR
-pub before_paid : (job : Job) (n : ℕ) (b : Bool) (k : Hand) (s : Port) → Before job n b k s → n ≤ s.tally.disturbed
+pub before_paid : (job : Job) (n b : ℕ) (k : Hand) (s : Port) → Before job n b k s → n ≤ s.tally.disturbed
 before_paid (At p) n b k s (inl h) = h.paid
 before_paid (At p) n b k s (inr h) = omega (arith, h.paid)
 before_paid (Resend p) n b k s h = h.1.paid
@@ -436,7 +505,7 @@ before_paid (Check p owed) n b k s (cleared h i w paid) = paid
 before_paid (Check p owed) n b k s (kept h i w paid) = omega arith
 
 -- a lost request that starts no transfer
-pub lost_within : (r : Register) (read : Bool) (b c : Bool) (k : Hand) (s t : Port) → (b ≡ true → c ≡ true)
+pub lost_within : (r : Register) (read : Bool) (b c : ℕ) (k : Hand) (s t : Port) → b ≤ c
     → r ≢ DrwRead → Stays s t ⊎ Accepts r read None s t → Within b k s.target → Within c k t.target
 lost_within r read b c k s t g n h w =
     let l = lost_request r read s t h in

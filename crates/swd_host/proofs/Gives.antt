@@ -7,7 +7,7 @@ use Rattle.swd_bits.specs.Wire.{phase}
 use Rattle.swd_port.specs.declared.access.Access.{Access}
 use Rattle.swd_port.specs.declared.access.Access.TheVariants.{Read as AccessRead, Write as AccessWrite}
 use Rattle.swd_host.specs.declared.task.Task.{Task}
-use Rattle.swd_host.specs.declared.task.Task.TheVariants.{Read, Write, BurstWrite}
+use Rattle.swd_host.specs.declared.task.Task.TheVariants.{Read, BurstRead, Write, BurstWrite}
 use Rattle.swd_host.specs.Tasks.{access_of}
 use Rattle.swd_port.specs.PlainMemory.{PlainMemory, plain_after, plain_answer, address}
 use Rattle.swd_port.specs.Registers.{bit_of}
@@ -35,7 +35,7 @@ use Rattle.swd_port.proofs.CompletionLaws.{none_done, kept as kept_by, write_beg
 use Rattle.swd_host.specs.declared.flags.Flags.{Flags}
 use Rattle.swd_host.specs.declared.request.Place.{Place}
 use Rattle.swd_host.specs.declared.request.Place.TheVariants.{Identify, Wipe, Inspect, Select, Power, Powered}
-use Rattle.swd_host.specs.declared.request.Place.TheVariants.{Configure, Recall, Configured, Aim, Transfer, Confirm}
+use Rattle.swd_host.specs.declared.request.Place.TheVariants.{Configure, Recall, Configured, Aim, Transfer, Confirm, Behind}
 use Rattle.swd_host.specs.declared.request.Job.{Job}
 use Rattle.swd_host.specs.declared.request.Job.TheVariants.{At, Resend, Status, LastStatus, Clear, Check}
 use Rattle.swd_host.specs.Flags.{clear_word}
@@ -70,7 +70,7 @@ address_small (Read at) h = h.0
 address_small (Write at word) h = h.0
 address_small (BurstWrite at word) h = h.0.0
 
-module _ (n : ℕ) (b : Bool) (k : Hand) (s t : Port) (sent : ℕ) (range : sent < 2 ^ 33) (gives : Gives s sent t) where
+module _ (n b : ℕ) (k : Hand) (s t : Port) (sent : ℕ) (range : sent < 2 ^ 33) (gives : Gives s sent t) where
   -- a word that is given at rest, but for DRW's
   gave : (r : Register) (word : ℕ) (P : ℕ → Type 0) (X : Type 0) → word < 2 ^ 32 → sent ≡ phase_number word
       → r ≢ DrwWrite → ((c : ℕ) → P c → s.target.pending ≡ None) → Writes r n P s

@@ -7,7 +7,7 @@ use Rattle.swd_bits.specs.Wire.{phase}
 use Rattle.swd_port.specs.declared.access.Access.{Access}
 use Rattle.swd_port.specs.declared.access.Access.TheVariants.{Read as AccessRead, Write as AccessWrite}
 use Rattle.swd_host.specs.declared.task.Task.{Task}
-use Rattle.swd_host.specs.declared.task.Task.TheVariants.{Read, Write, BurstWrite}
+use Rattle.swd_host.specs.declared.task.Task.TheVariants.{Read, BurstRead, Write, BurstWrite}
 use Rattle.swd_host.specs.Tasks.{access_of}
 use Rattle.swd_port.specs.PlainMemory.{PlainMemory, plain_after, plain_answer, address}
 use Rattle.swd_port.specs.Registers.{bit_of}
@@ -35,7 +35,7 @@ use Rattle.swd_port.proofs.CompletionLaws.{none_done, kept as kept_by, write_beg
 use Rattle.swd_host.specs.declared.flags.Flags.{Flags}
 use Rattle.swd_host.specs.declared.request.Place.{Place}
 use Rattle.swd_host.specs.declared.request.Place.TheVariants.{Identify, Wipe, Inspect, Select, Power, Powered}
-use Rattle.swd_host.specs.declared.request.Place.TheVariants.{Configure, Recall, Configured, Aim, Transfer, Confirm}
+use Rattle.swd_host.specs.declared.request.Place.TheVariants.{Configure, Recall, Configured, Aim, Transfer, Confirm, Behind}
 use Rattle.swd_host.specs.declared.request.Job.{Job}
 use Rattle.swd_host.specs.declared.request.Job.TheVariants.{At, Resend, Status, LastStatus, Clear, Check}
 use Rattle.swd_host.specs.Flags.{clear_word}
@@ -48,14 +48,14 @@ use Rattle.swd_host.proofs.Transfers.{under_stays}
 use Rattle.swd_host.proofs.Sends.{facts_rest, refused_rest, checks_rest}
 
 -- TURNAROUNDS
-before_rested : (job : Job) (n : ℕ) (b : Bool) (k : Hand) (s t : Port) → s.target.pending ≡ None → Passes s t
+before_rested : (job : Job) (n b : ℕ) (k : Hand) (s t : Port) → s.target.pending ≡ None → Passes s t
     → Before job n b k s → Before job n b k t
 before_rested job n b k s t rest passes h =
     let p : Passed s t = (turnaround_passed_at_rest s t rest passes).0 in
     before_framed n n b k s t (frame_passed s t p) (same_passed s t p)
     (omega (arith, ap (λ i. i.disturbed) p.tally)) job h
 
-confirm_passed : (n : ℕ) (b : Bool) (k : Hand) (s t : Port) → Passes s t → Sure Confirm n b k s → Sure Confirm n b k t
+confirm_passed : (n b : ℕ) (k : Hand) (s t : Port) → Passes s t → Sure Confirm n b k s → Sure Confirm n b k t
 confirm_passed n b k s t passes h =
     let (x, first, passed, line) = turnaround_passed s t passes in
     let kp = kept_by s x first in
@@ -74,7 +74,7 @@ confirm_passed n b k s t passes h =
       );
     }
 
-resent_pending : (p : Place) (word n : ℕ) (b : Bool) (k : Hand) (s : Port) → Resent p word n b k s
+resent_pending : (p : Place) (word n : ℕ) (b : ℕ) (k : Hand) (s : Port) → Resent p word n b k s
     → s.target.pending ≡ None
 resent_pending Configured word n b k s h = h.returned.0.calm.pending
 resent_pending Confirm word n b k s h = h.returned.0.up.calm.pending
@@ -89,7 +89,7 @@ resent_pending Recall word n b k s h = absurd h.returned
 resent_pending Aim word n b k s h = absurd h.returned
 resent_pending Transfer word n b k s h = absurd h.returned
 
-place_passed : (p : Place) (n : ℕ) (b : Bool) (k : Hand) (s t : Port) → Passes s t → Sure p n b k s
+place_passed : (p : Place) (n b : ℕ) (k : Hand) (s t : Port) → Passes s t → Sure p n b k s
     → Before (At p) n b k t
 place_passed Confirm n b k s t passes h = inl (confirm_passed n b k s t passes h)
 place_passed Identify n b k s t passes h = before_rested (At Identify) n b k s t h.has.pending passes (inl h)
@@ -105,7 +105,7 @@ place_passed Configured n b k s t passes h = before_rested (At Configured) n b k
 place_passed Aim n b k s t passes h = before_rested (At Aim) n b k s t h.has.up.calm.pending passes (inl h)
 place_passed Transfer n b k s t passes h = before_rested (At Transfer) n b k s t h.has.up.calm.pending passes (inl h)
 
-before_passed : (job : Job) (n : ℕ) (b : Bool) (k : Hand) (s t : Port) → Passes s t → Before job n b k s
+before_passed : (job : Job) (n b : ℕ) (k : Hand) (s t : Port) → Passes s t → Before job n b k s
     → Before job n b k t
 before_passed (At p) n b k s t passes (inl h) = place_passed p n b k s t passes h
 before_passed (At p) n b k s t passes (inr h) = before_rested (At p) n b k s t (hurt_calm p n b k s h).pending passes
@@ -120,7 +120,7 @@ before_passed (Clear p owed) n b k s t passes h = before_rested (Clear p owed) n
 before_passed (Check p owed) n b k s t passes h = before_rested (Check p owed) n b k s t
     (checks_rest p owed n b k s h).pending passes h
 
-pub waiting_passed : (job : Job) (n : ℕ) (b : Bool) (k : Hand) (s t : Port) → Passes s t → Waiting job n b k s
+pub waiting_passed : (job : Job) (n b : ℕ) (k : Hand) (s t : Port) → Passes s t → Waiting job n b k s
     → Waiting job n b k t
 waiting_passed job n b k s t passes h = record {
   free = h.free;
@@ -128,7 +128,7 @@ waiting_passed job n b k s t passes h = record {
       (n + 1) b k s t passes h.before;
 }
 
-pub faulted_passed : (job : Job) (n : ℕ) (b : Bool) (k : Hand) (s t : Port) → Passes s t → FaultedAt job n b k s
+pub faulted_passed : (job : Job) (n b : ℕ) (k : Hand) (s t : Port) → Passes s t → FaultedAt job n b k s
     → FaultedAt job n b k t
 faulted_passed (At p) n b k s t passes h = record {
   free = h.free;
@@ -145,7 +145,7 @@ faulted_passed (Check p owed) n b k s t passes h = absurd h
 not_unreset : (r : Reset) → r ≡ Fresh → r ≢ Unreset
 not_unreset r is there = absurd (cc)
 
-pub led : (n : ℕ) (b : Bool) (k : Hand) (ones : ℕ) (s t : Port) → ones ≢ 0 → Leads s ones t → Unled n k s
+pub led : (n b : ℕ) (k : Hand) (ones : ℕ) (s t : Port) → ones ≢ 0 → Leads s ones t → Unled n k s
     → Before (At Identify) n b k t
 led n b k ones s t some leads h =
     let (x, first, reset) = line_reset ones s t some leads in

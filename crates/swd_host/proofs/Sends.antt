@@ -7,7 +7,7 @@ use Rattle.swd_bits.specs.declared.request.Reg4.TheVariants.{R0, R4, R8, RC}
 use Rattle.swd_port.specs.declared.access.Access.{Access}
 use Rattle.swd_port.specs.declared.access.Access.TheVariants.{Read as AccessRead, Write as AccessWrite}
 use Rattle.swd_host.specs.declared.task.Task.{Task}
-use Rattle.swd_host.specs.declared.task.Task.TheVariants.{Read, Write, BurstWrite}
+use Rattle.swd_host.specs.declared.task.Task.TheVariants.{Read, BurstRead, Write, BurstWrite}
 use Rattle.swd_host.specs.Tasks.{access_of}
 use Rattle.swd_port.specs.declared.access.Answer.TheVariants.{Value, Written, BusFault}
 use Rattle.swd_port.specs.PlainMemory.{PlainMemory, plain_after, plain_answer, answer_of, address, word_at}
@@ -34,7 +34,7 @@ use Rattle.swd_port.proofs.CompletionLaws.{none_done, kept as kept_by, sent_stay
 use Rattle.swd_host.specs.declared.flags.Flags.{Flags}
 use Rattle.swd_host.specs.declared.request.Place.{Place}
 use Rattle.swd_host.specs.declared.request.Place.TheVariants.{Identify, Wipe, Inspect, Select, Power, Powered}
-use Rattle.swd_host.specs.declared.request.Place.TheVariants.{Configure, Recall, Configured, Aim, Transfer, Confirm}
+use Rattle.swd_host.specs.declared.request.Place.TheVariants.{Configure, Recall, Configured, Aim, Transfer, Confirm, Behind}
 use Rattle.swd_host.specs.declared.request.Job.{Job}
 use Rattle.swd_host.specs.declared.request.Job.TheVariants.{At, Resend, Status, LastStatus, Clear, Check}
 use Rattle.swd_host.specs.declared.engine.Cue.TheVariants.{Ask as CueAsk}
@@ -68,31 +68,31 @@ pub record AtRest (s : Port) : Type 0 where
 calm_rest : (m : PlainMemory) (s : Port) → Calm m s.target → AtRest s
 calm_rest m s h = record { select = h.select; live = h.live; pending = h.pending }
 
-broken_rest : (p : Place) (b : Bool) (k : Hand) (s : Port) → Broken p b k s.target → AtRest s
+broken_rest : (p : Place) (b : ℕ) (k : Hand) (s : Port) → Broken p b k s.target → AtRest s
 broken_rest p b k s h = record { select = h.select; live = h.live; pending = h.pending }
 
-pub facts_rest : (error : Bool) (p : Place) (b : Bool) (k : Hand) (s : Port) → Facts error p b k s.target → AtRest s
+pub facts_rest : (error : Bool) (p : Place) (b : ℕ) (k : Hand) (s : Port) → Facts error p b k s.target → AtRest s
 facts_rest true p b k s h = broken_rest p b k s h
 facts_rest false p b k s h = calm_rest k.memory s (spoilt_calm p b k s h)
 
-pub refused_rest : (p : Place) (n : ℕ) (b : Bool) (k : Hand) (s : Port) → Refused p n b k s → AtRest s
+pub refused_rest : (p : Place) (n b : ℕ) (k : Hand) (s : Port) → Refused p n b k s → AtRest s
 refused_rest p n b k s (by_damage h) = calm_rest k.memory s (hurt_calm p n b k s h)
 refused_rest p n b k s (by_error h i w paid) = broken_rest p b k s h
 
-pub checks_rest : (p : Place) (owed : Flags) (n : ℕ) (b : Bool) (k : Hand) (s : Port) → Checks p owed n b k s → AtRest s
+pub checks_rest : (p : Place) (owed : Flags) (n b : ℕ) (k : Hand) (s : Port) → Checks p owed n b k s → AtRest s
 checks_rest p owed n b k s (cleared h i w paid) = facts_rest owed.error p b k s h
 checks_rest p owed n b k s (kept h i w paid) = facts_rest owed.error p b k s h
 
-pub inspect_rest : (n : ℕ) (b : Bool) (k : Hand) (s : Port) → Before (At Inspect) n b k s → AtRest s
+pub inspect_rest : (n b : ℕ) (k : Hand) (s : Port) → Before (At Inspect) n b k s → AtRest s
 inspect_rest n b k s (inl h) = calm_rest k.memory s h.has
 inspect_rest n b k s (inr h) = calm_rest k.memory s (hurt_calm Inspect n b k s h)
 
-pub powered_rest : (n : ℕ) (b : Bool) (k : Hand) (s : Port) → Before (At Powered) n b k s → AtRest s
+pub powered_rest : (n b : ℕ) (k : Hand) (s : Port) → Before (At Powered) n b k s → AtRest s
 powered_rest n b k s (inl h) = calm_rest k.memory s h.has.calm
 powered_rest n b k s (inr h) = calm_rest k.memory s (hurt_calm Powered n b k s h)
 
 -- EVERY REQUEST
-module _ (n : ℕ) (base : Counted) (b : Bool) (k : Hand) (v : ℕ) (s t : Port) (l : base.lost ≤ s.tally.lost) where
+module _ (n : ℕ) (base : Counted) (b : ℕ) (k : Hand) (v : ℕ) (s t : Port) (l : base.lost ≤ s.tally.lost) where
   says_asked : (job : Job) → AtRest s → Before job n b k s → Asks s status v t
       → (Says job n b k t → During job n b k t) → Came job n base b k v t
   says_asked job r h asks go = status_asked job n base b k v s t r.select r.live r.pending l h asks go
@@ -144,7 +144,7 @@ module _ (n : ℕ) (base : Counted) (b : Bool) (k : Hand) (v : ℕ) (s t : Port)
       (λ n' f e more. owes_framed n n' b k s t f e more p owed h) (λ w. w)
   job_asked (Check p owed) h asks = says_asked (Check p owed) (checks_rest p owed n b k s h) h asks (λ x. x)
 
-has_select : (p : Place) (b : Bool) (k : Hand) (s : Port) → Has p b k s.target → s.target.select ≡ no_select
+has_select : (p : Place) (b : ℕ) (k : Hand) (s : Port) → Has p b k s.target → s.target.select ≡ no_select
 has_select Identify b k s h = h.select
 has_select Wipe b k s h = h.select
 has_select Inspect b k s h = h.select
@@ -158,7 +158,7 @@ has_select Aim b k s h = h.up.calm.select
 has_select Transfer b k s h = h.up.calm.select
 has_select Confirm b k s h = h.select
 
-before_select : (job : Job) (n : ℕ) (b : Bool) (k : Hand) (s : Port) → Before job n b k s → s.target.select ≡ no_select
+before_select : (job : Job) (n b : ℕ) (k : Hand) (s : Port) → Before job n b k s → s.target.select ≡ no_select
 before_select (At p) n b k s (inl h) = has_select p b k s h.has
 before_select (At p) n b k s (inr h) = has_select h.back b k s h.has
 before_select (Resend p) n b k s h = (returned_calm p h.0 b k s h.1.returned).1.select
@@ -168,7 +168,7 @@ before_select (Clear p owed) n b k s h = (facts_rest owed.error p b k s h.facts)
 before_select (Check p owed) n b k s h = (checks_rest p owed n b k s h).select
 
 -- what an acknowledgement tells the engine
-pub came_saw : (job : Job) (n : ℕ) (base : Counted) (b : Bool) (k : Hand) (v : ℕ) (t : Port)
+pub came_saw : (job : Job) (n : ℕ) (base : Counted) (b : ℕ) (k : Hand) (v : ℕ) (t : Port)
     → t.target.select ≡ no_select → Came job n base b k v t → Saw job v n base b k t
 came_saw job n base b k v t select (came_okay is h) = saw_okay is h
 came_saw job n base b k v t select (came_wait is h) = saw_wait is h
@@ -176,7 +176,7 @@ came_saw job n base b k v t select (came_fault is h) = saw_fault is h
 came_saw job n base b k v t select (came_lost none w l d) = saw_none none.not_okay none.not_wait none.not_fault
     (record { within = w; more = l; paid = d; select = select })
 
-pub ask_saw : (job : Job) (n : ℕ) (base : Counted) (b : Bool) (k : Hand) (v : ℕ) (s t : Port)
+pub ask_saw : (job : Job) (n : ℕ) (base : Counted) (b : ℕ) (k : Hand) (v : ℕ) (s t : Port)
     → base.lost ≤ s.tally.lost → Before job n b k s → Asks s (request_of job k.task) v t
     → Saw job v n base (begins job || b) k t
 ask_saw job n base b k v s t l h asks =

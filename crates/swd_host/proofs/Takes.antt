@@ -5,7 +5,7 @@ use Rattle.std.specs.Prelude.{Option, Some, None, ◌⊎◌}
 use Rattle.swd_port.specs.declared.access.Access.{Access}
 use Rattle.swd_port.specs.declared.access.Access.TheVariants.{Read as AccessRead, Write as AccessWrite}
 use Rattle.swd_host.specs.declared.task.Task.{Task}
-use Rattle.swd_host.specs.declared.task.Task.TheVariants.{Read, Write, BurstWrite}
+use Rattle.swd_host.specs.declared.task.Task.TheVariants.{Read, BurstRead, Write, BurstWrite}
 use Rattle.swd_host.specs.Tasks.{access_of}
 use Rattle.swd_port.specs.Phases.{word_in}
 use Rattle.swd_port.specs.Port.{Port}
@@ -18,7 +18,7 @@ use Rattle.swd_port.proofs.CompletionLaws.{kept as kept_by}
 use Rattle.swd_host.specs.declared.flags.Flags.{Flags}
 use Rattle.swd_host.specs.declared.request.Place.{Place}
 use Rattle.swd_host.specs.declared.request.Place.TheVariants.{Identify, Wipe, Inspect, Select, Power, Powered}
-use Rattle.swd_host.specs.declared.request.Place.TheVariants.{Configure, Recall, Configured, Aim, Transfer, Confirm}
+use Rattle.swd_host.specs.declared.request.Place.TheVariants.{Configure, Recall, Configured, Aim, Transfer, Confirm, Behind}
 use Rattle.swd_host.specs.declared.request.Job.{Job}
 use Rattle.swd_host.specs.declared.request.Job.TheVariants.{At, Resend, Status, LastStatus, Clear, Check}
 use Rattle.swd_host.specs.Requests.{word_for, word_of_task}
@@ -63,7 +63,7 @@ told X word n bits P Q s t range takes (changed place line small h) keep good ba
 live_reset : (r : Reset) → r ≡ Live → r ≢ Unreset
 live_reset r is there = absurd (cc)
 
-module _ (n : ℕ) (b : Bool) (k : Hand) (s t : Port) (bits : ℕ) (range : bits < 2 ^ 33) (takes : Takes s bits t) where
+module _ (n b : ℕ) (k : Hand) (s t : Port) (bits : ℕ) (range : bits < 2 ^ 33) (takes : Takes s bits t) where
   identify_facts : Reads s.target.identification n (λ c. Awake c k s) s → s.target.pending ≡ None
       → TookAt Identify (word_in bits) n b k t
   identify_facts reads rest =

@@ -7,7 +7,7 @@ use Rattle.swd_bits.specs.declared.request.Reg4.TheVariants.{R0, R4, R8, RC}
 use Rattle.swd_port.specs.declared.access.Access.{Access}
 use Rattle.swd_port.specs.declared.access.Access.TheVariants.{Read as AccessRead, Write as AccessWrite}
 use Rattle.swd_host.specs.declared.task.Task.{Task}
-use Rattle.swd_host.specs.declared.task.Task.TheVariants.{Read, Write, BurstWrite}
+use Rattle.swd_host.specs.declared.task.Task.TheVariants.{Read, BurstRead, Write, BurstWrite}
 use Rattle.swd_host.specs.Tasks.{access_of, is_read}
 use Rattle.swd_port.specs.declared.access.Answer.TheVariants.{Value, Written, BusFault}
 use Rattle.swd_port.specs.PlainMemory.{PlainMemory, plain_after, plain_answer, answer_of, address, word_at}
@@ -34,7 +34,7 @@ use Rattle.swd_port.proofs.CompletionLaws.{none_done, kept as kept_by, sent_stay
 use Rattle.swd_host.specs.declared.flags.Flags.{Flags}
 use Rattle.swd_host.specs.declared.request.Place.{Place}
 use Rattle.swd_host.specs.declared.request.Place.TheVariants.{Identify, Wipe, Inspect, Select, Power, Powered}
-use Rattle.swd_host.specs.declared.request.Place.TheVariants.{Configure, Recall, Configured, Aim, Transfer, Confirm}
+use Rattle.swd_host.specs.declared.request.Place.TheVariants.{Configure, Recall, Configured, Aim, Transfer, Confirm, Behind}
 use Rattle.swd_host.specs.declared.request.Job.{Job}
 use Rattle.swd_host.specs.declared.request.Job.TheVariants.{At, Resend, Status, LastStatus, Clear, Check}
 use Rattle.swd_host.specs.declared.engine.Cue.TheVariants.{Ask as CueAsk}
@@ -58,7 +58,7 @@ use Rattle.swd_host.proofs.Asks.{register_there, drw_register, confirming_regist
 use Rattle.swd_port.proofs.CallLaws.{request_counted}
 
 -- A READ OF DRW
-pub under_stays : (b : Bool) (k : Hand) (s t : Port) → Completes s t → Under b k s.target → Under b k t.target
+pub under_stays : (b : ℕ) (k : Hand) (s t : Port) → Completes s t → Under b k s.target → Under b k t.target
 under_stays b k s t c h =
     let kp = kept_by s t c in
     record {
@@ -116,7 +116,7 @@ transfers_read : (k : Hand) (at n : ℕ) (t : Port) → k.task ≡ Read at → S
     → Transfers k.task n true k t
 transfers_read k at n t e h = subst (λ a. Transfers a n true k t) (sym e) h
 
-lost_read : (k : Hand) (b : Bool) (at : ℕ) (s y t : Port) → k.task ≡ Read at → IsAimed k s.target → Completes y t
+lost_read : (k : Hand) (b : ℕ) (at : ℕ) (s y t : Port) → k.task ≡ Read at → IsAimed k s.target → Completes y t
     → Stays s y ⊎ Accepts DrwRead true None s y → Within true k t.target
 lost_read k b at s y t e h c (inl w) =
     within_stays true k y t c (within_carried b true k s y (λ x. refl) (ap (λ i. i.pending) w.target)
@@ -125,7 +125,7 @@ lost_read k b at s y t e h c (inl w) =
 lost_read k b at s y t e h c (inr a) = within_stays true k y t c (within_sent true k y refl
     (read_sent k at None s y e h a))
 
-drw_read_asked : (n : ℕ) (base : Counted) (b : Bool) (k : Hand) (at v : ℕ) (s t : Port) → k.task ≡ Read at
+drw_read_asked : (n : ℕ) (base : Counted) (b : ℕ) (k : Hand) (at v : ℕ) (s t : Port) → k.task ≡ Read at
     → base.lost ≤ s.tally.lost → Sure Transfer n b k s → Asks s drw_read v t → Came (At Transfer) n base true k v t
 drw_read_asked n base b k at v s t e l h asks =
     let up : Up k.memory s.target = h.has.up in
@@ -159,7 +159,7 @@ drw_read_asked n base b k at v s t e l h asks =
     ]
 
 -- A WRITE OF DRW
-drw_write_asked : (n : ℕ) (base : Counted) (b : Bool) (k : Hand) (v : ℕ) (s t : Port) → drw_register k.task ≡ DrwWrite
+drw_write_asked : (n : ℕ) (base : Counted) (b : ℕ) (k : Hand) (v : ℕ) (s t : Port) → drw_register k.task ≡ DrwWrite
     → is_read k.task ≡ false → base.lost ≤ s.tally.lost → Sure Transfer n b k s
     → Asks s (request_of (At Transfer) k.task) v t
     → (Writes DrwWrite n (λ c. Sure Transfer c true k t) t → Transfers k.task n true k t)
@@ -168,7 +168,7 @@ drw_write_asked n base b k v s t r w l h asks go =
     write_asked Transfer n base b true k v s t DrwWrite r w refl refl refl refl (λ x. absurd (cc))
     (λ x. refl) h.has.up.calm (λ x. h.has.up.debug) l h asks go
 
-pub drw_asked : (task : Task) (n : ℕ) (base : Counted) (b : Bool) (k : Hand) (v : ℕ) (s t : Port) → k.task ≡ task
+pub drw_asked : (task : Task) (n : ℕ) (base : Counted) (b : ℕ) (k : Hand) (v : ℕ) (s t : Port) → k.task ≡ task
     → base.lost ≤ s.tally.lost → Sure Transfer n b k s → Asks s (request_of (At Transfer) k.task) v t
     → Came (At Transfer) n base true k v t
 drw_asked (Read at) n base b k v s t e l h asks = drw_read_asked n base b k at v s t e l h (subst
@@ -312,7 +312,7 @@ module _ (p : Place) (r : Register) (q : Request) (n : ℕ) (base : Counted) (k 
       ])) (omega (arith, a.lost, ap (λ i. i.lost) kp.tally))
       (omega (arith, a.disturbed, ap (λ i. i.disturbed) kp.tally))
 
-pub confirm_asked : (n : ℕ) (base : Counted) (b : Bool) (k : Hand) (v : ℕ) (s t : Port) → base.lost ≤ s.tally.lost
+pub confirm_asked : (n : ℕ) (base : Counted) (b : ℕ) (k : Hand) (v : ℕ) (s t : Port) → base.lost ≤ s.tally.lost
     → Sure Confirm n b k s → Asks s (request_of (At Confirm) k.task) v t → Came (At Confirm) n base b k v t
 confirm_asked n base b k v s t l h asks =
     let u : Under b k s.target = h.has in

@@ -51,7 +51,7 @@ is_event LastStatus None task aims = true
 is_event (Clear p owed) None task aims = true
 is_event (Check p owed) None task aims = true
 is_event (At p) (Some word) task aims = not (is_unread p task) && is_event_at p word
-is_event (Resend p) (Some word) task aims = is_event_at p word
+is_event (Resend p) (Some word) task aims = false
 is_event (Status p) (Some word) task aims = is_damaged_write p task aims (flags_in word)
 is_event LastStatus (Some word) task aims = false
 is_event (Clear p owed) (Some word) task aims = false
@@ -69,7 +69,6 @@ wrong_id p word = None
 
 abbrev pub wrong_id_read : Job → Option ℕ → Option ℕ
 wrong_id_read (At p) (Some word) = wrong_id p word
-wrong_id_read (Resend p) (Some word) = wrong_id p word
 wrong_id_read job word = None
 
 -- how an engine stopped

@@ -118,7 +118,6 @@ is_exempt job = true
 abbrev pub again_at : Place → Job
 again_at Configured = Resend Configured
 again_at Confirm = Resend Confirm
-again_at Behind = Resend Behind
 again_at p = At p
 
 -- the request is a write whose word the engine has

@@ -484,7 +484,6 @@ Taken Inspect word n b k s = Tells word s.target × Before (At Inspect) n b k s
 Taken Powered word n b k s = Tells word s.target × Before (At Powered) n b k s
 Taken Configured word n b k s = Resent Configured word n b k s
 Taken Confirm word n b k s = Resent Confirm word n b k s
-Taken Behind word n b k s = Resent Behind word n b k s
 Taken p word n b k s = ⊥
 
 -- why an access is answered so, with so much known of the next one
@@ -494,6 +493,13 @@ pub data Earns (answer : Answer) (ahead : Ahead) (n b : ℕ) (k : Hand) (s : Por
   by_fault : (p : Place) → ahead ≡ Unsent → Broken p b k s.target → answer ≡ BusFault
       → s.target.sticky_error ≡ false → s.target.write_error ≡ false → n ≤ s.tally.disturbed
       → Earns answer ahead n b k s
+
+-- the flag of a bus error is cleared
+pub record Cleared (p : Place) (n b : ℕ) (k : Hand) (s : Port) : Type 0 where
+  pub error : BusErrorOf p b k s.target
+  pub sticky : s.target.sticky_error ≡ false
+  pub flag : s.target.write_error ≡ false
+  pub paid : n ≤ s.tally.disturbed
 
 -- what a request came to
 pub data Saw (job : Job) (seen n : ℕ) (base : Counted) (b : ℕ) (k : Hand) (s : Port) : Type 0 where
@@ -533,13 +539,12 @@ TookAt Recall word n b k s = Sure Configured n b k s
 TookAt Transfer word n b k s = Sure Confirm n b k s
 TookAt Confirm word n b k s = ConfirmTook k.task word n b k s
 TookAt Configured None n b k s = Before (Resend Configured) (n + 1) b k s
-TookAt Behind None n b k s = Before (Resend Behind) (n + 1) b k s
 TookAt p (Some word) n b k s = Taken p word n b k s
 TookAt p None n b k s = Before (At p) (n + 1) b k s
 
 abbrev pub TakenFor : Job → Option ℕ → ℕ → ℕ → Hand → Port → Type 0
 TakenFor (At p) word n b k s = TookAt p word n b k s
-TakenFor (Resend p) (Some word) n b k s = Taken p word n b k s
+TakenFor (Resend p) (Some word) n b k s = Resent p word n b k s
 TakenFor (Status p) (Some word) n b k s = Tells word s.target × Refused p n b k s
 TakenFor (Check p owed) (Some word) n b k s = Tells word s.target × Checks p owed n b k s
 TakenFor LastStatus (Some word) n b k s = ⊥

@@ -1,7 +1,8 @@
 //! Reads a block of words.
 ghost use Rattle.std.specs.Prelude.{◌≡◌, ◌≤◌, ◌+◌, ◌*◌, ◌^◌, IfOk, IfErr, IfNone, IfSome};
 ghost use Rattle.swd_port.specs.declared.wire.Due.TheVariants.{Nothing};
-ghost use Rattle.swd_host.specs.Plain.{AreAccesses, block_of};
+ghost use Rattle.swd_port.specs.PlainMemory.{reads};
+ghost use Rattle.swd_host.specs.Plain.{AreAccesses};
 ghost use Rattle.swd_host.specs.Reports.{RefusedAs, RunsWithin, told_of};
 
 use crate::engine::Engine;
@@ -23,16 +24,16 @@ pub fn run_block<W: Wire, A: Allocator + Copy>(
     requires due { (W.port wire.old).link.due ≡ Nothing }
     requires range { addr + 4 * count ≤ 2 ^ 32 }
     ensures fits { IfOk result (λ report.
-        RunsWithin 2 (block_of addr count) tries (told_of report) (W.port wire.old) (W.port wire.new)) }
-    ensures accepted { IfOk result (λ report. (count ≤ 65536) × AreAccesses (block_of addr count)) }
-    ensures refused { IfErr result (RefusedAs (block_of addr count)) }
+        RunsWithin 2 (reads addr count) tries (told_of report) (W.port wire.old) (W.port wire.new)) }
+    ensures accepted { IfOk result (λ report. (count ≤ 65536) × AreAccesses (reads addr count)) }
+    ensures refused { IfErr result (RefusedAs (reads addr count)) }
     ensures untouched { IfErr result (λ refused. wire.new ≡ wire.old) }
     ensures plan { W.plan wire.new ≡ W.plan wire.old }
 {
     if let Some(refused) = refusal(addr, count) {
         return Err(refused);
     }
-    let Ok(accesses) = reads(alloc, addr, count) else {
+    let Ok(accesses) = reads_of(alloc, addr, count) else {
         return Err(Refused::Memory);
     };
     let Ok(answers) = Vec::with_capacity(alloc, accesses.len()) else {
@@ -44,8 +45,8 @@ pub fn run_block<W: Wire, A: Allocator + Copy>(
 // Why a block isn't read.
 fn refusal(addr: u32, count: u32) -> Option<Refused>
     requires { addr + 4 * count ≤ 2 ^ 32 }
-    ensures none { IfNone result ((count ≤ 65536) × AreAccesses (block_of addr count)) }
-    ensures refused { IfSome result (RefusedAs (block_of addr count)) }
+    ensures none { IfNone result ((count ≤ 65536) × AreAccesses (reads addr count)) }
+    ensures refused { IfSome result (RefusedAs (reads addr count)) }
 {
     if count > 65_536 {
         return Some(Refused::TooMany);
@@ -57,9 +58,9 @@ fn refusal(addr: u32, count: u32) -> Option<Refused>
 }
 
 // The reads of a block.
-fn reads<A: Allocator>(alloc: A, addr: u32, count: u32) -> Result<Vec<Access, A>, AllocError>
+fn reads_of<A: Allocator>(alloc: A, addr: u32, count: u32) -> Result<Vec<Access, A>, AllocError>
     requires { addr + 4 * count ≤ 2 ^ 32 }
-    ensures { IfOk result (λ accesses. accesses.items ≡ block_of addr count) }
+    ensures { IfOk result (λ accesses. accesses.items ≡ reads addr count) }
 {
     let mut accesses = Vec::with_capacity(alloc, count as usize)?;
     for index in 0..count {

@@ -134,7 +134,7 @@ impl Place {
         ensures { result ≡ again_at self }
     {
         match self {
-            Place::Configured | Place::Confirm | Place::Behind => Job::Resend(self),
+            Place::Configured | Place::Confirm => Job::Resend(self),
             _ => Job::At(self),
         }
     }

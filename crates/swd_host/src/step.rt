@@ -5,7 +5,7 @@ ghost use Rattle.swd_host.specs.Events.{is_flagged, is_unpowered, wrong_id, wron
 ghost use Rattle.swd_host.specs.Flags.{is_configured};
 ghost use Rattle.swd_host.specs.Requests.{is_exempt, is_unread, is_write};
 ghost use Rattle.swd_host.specs.Turns.{LandsAnswered, LandsAt, LandsFrom};
-ghost use Rattle.swd_host.specs.Tracks.{Before, Checks, Comes, ComesWith, Earns, FaultedAt, HasAsked, Refused, Taken};
+ghost use Rattle.swd_host.specs.Tracks.{Before, Checks, Cleared, Comes, ComesWith, Earns, FaultedAt, HasAsked, Refused, Resent, Taken};
 ghost use Rattle.swd_host.specs.Tracks.{TakenFor, TookAt, Waiting, WasSent};
 
 use crate::engine::{Ahead, Engine, Phase, State};
@@ -37,10 +37,8 @@ impl Engine {
         ensures meets { Meets (is_damaged_clearing owed now) None self.old self.new }
     {
         if !now.error && !now.damaged {
-            if owed.error && matches!(place, Place::Behind) {
-                self.state = State::Doing(Job::Resend(place), Phase::Ask);
-            } else if owed.error {
-                self.answer(Answer::BusFault, Ahead::Unsent);
+            if owed.error {
+                self.cleared(place, owed);
             } else {
                 let again = place.confirms(self.task, self.aims).unwrap_or(place);
                 self.state = State::Doing(Job::At(again), Phase::Ask);
@@ -49,6 +47,20 @@ impl Engine {
             self.event(Job::Clear(place, now));
         } else {
             self.state = State::Resting(Outcome::Stopped(End::Confused));
+        }
+    }
+
+    // The flag of a bus error is cleared: it answers the access in hand; where it was the next one's, RESEND
+    // gives the word.
+    fn cleared(&mut self, place: Place, owed: Flags)
+        requires { owed.error ≡ true }
+        ensures tracks { Comes (Cleared place) self.old self.new }
+        ensures lands { LandsFrom (Job.Check place owed) Phase.Data self.old self.new }
+        ensures meets { Meets false None self.old self.new }
+    {
+        match place {
+            Place::Behind => self.state = State::Doing(Job::Resend(place), Phase::Ask),
+            _ => self.answer(Answer::BusFault, Ahead::Unsent),
         }
     }
 
@@ -140,7 +152,8 @@ impl Engine {
     {
         match job {
             Job::At(place) if self.is_unread(place) => self.pass_over(place),
-            Job::At(place) | Job::Resend(place) => self.value(place, word),
+            Job::At(place) => self.value(place, word),
+            Job::Resend(place) => self.resent(place, word),
             Job::Status(place) => self.status(place, flags_of(word)),
             Job::Check(place, owed) => self.check(place, owed, flags_of(word)),
             Job::LastStatus | Job::Clear(_, _) => {
@@ -183,6 +196,19 @@ impl Engine {
             Place::Identify => self.identified(word),
             Place::Inspect => self.inspected(flags_of(word)),
             Place::Powered => self.powered(flags_of(word), is_powered(word)),
+            Place::Configured => self.configured(is_configured(word)),
+            Place::Confirm => self.given(word),
+            _ => self.state = State::Resting(Outcome::Stopped(End::Confused)),
+        }
+    }
+
+    // RESEND gave this word.
+    fn resent(&mut self, place: Place, word: u32)
+        ensures tracks { Comes (Resent place word) self.old self.new }
+        ensures lands { LandsFrom (Job.Resend place) Phase.Data self.old self.new }
+        ensures meets { Meets false None self.old self.new }
+    {
+        match place {
             Place::Configured => self.configured(is_configured(word)),
             Place::Confirm => self.given(word),
             Place::Behind => self.answer(Answer::Value(word), Ahead::Failed),

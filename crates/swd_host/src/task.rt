@@ -36,11 +36,12 @@ impl Task {
         ensures { result ≡ task_for bursts access following }
     {
         let on = continues(access, following);
-        match (bursts, access) {
-            (Bursts::Reads, Access::Read(addr)) if on => Task::BurstRead(addr),
-            (Bursts::Writes, Access::Write(addr, word)) if on => Task::BurstWrite(addr, word),
-            (_, Access::Read(addr)) => Task::Read(addr),
-            (_, Access::Write(addr, word)) => Task::Write(addr, word),
+        let reads = matches!(&bursts, Bursts::Reads);
+        match access {
+            Access::Read(addr) if on && reads => Task::BurstRead(addr),
+            Access::Read(addr) => Task::Read(addr),
+            Access::Write(addr, word) if on && !reads => Task::BurstWrite(addr, word),
+            Access::Write(addr, word) => Task::Write(addr, word),
         }
     }
 

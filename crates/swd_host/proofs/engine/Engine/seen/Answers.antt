@@ -1,7 +1,7 @@
-use Rattle.std.proofs.Common.{◌≡◌, ◌+◌, ◌||◌, ap, subst, sym, ◌∙◌}
+use Rattle.std.proofs.Common.{◌≡◌, ◌+◌, ap, subst, sym, ◌∙◌, max}
 use Rattle.swd_host.specs.Requests.{begins}
 use Rattle.swd_host.specs.Engines.{job_in}
-use Rattle.swd_host.specs.Tracks.{Saw, Tracks, hand_of, begins_in}
+use Rattle.swd_host.specs.Tracks.{Saw, Tracks, hand_of, begun_once}
 use Rattle.swd_host.proofs.StepLemmas.{saw_tracks}
 use Rattle.swd_host.proofs.engine.Engine.seen.Goals as goal
 
@@ -11,10 +11,10 @@ returns-clause-tracks c base m t h =
     let job = c.in-Doing.job in
     let n = base.disturbed + e.events in
     let is : job_in e.state ≡ job = ap job_in c.in-Doing.is in
-    let begun : begins_in e.state || e.begun ≡ (c.begins.result || e.begun) =
-    ap (λ j. begins j || e.begun) is ∙ ap (λ b. b || e.begun) (sym c.begins.ensures) in
-    let saw : Saw job c.args.seen n base (c.begins.result || e.begun) (hand_of e m) t =
-    subst (λ j. Saw j c.args.seen n base (c.begins.result || e.begun) (hand_of e m) t) is
+    let begun : begun_once e.state e.task e.begun ≡ c.max-self.result =
+    ap (λ j. max e.begun (begins j e.task)) is ∙ (ap (max e.begun) (sym c.begins.ensures) ∙ sym c.max-self.ensures) in
+    let saw : Saw job c.args.seen n base c.max-self.result (hand_of e m) t =
+    subst (λ j. Saw j c.args.seen n base c.max-self.result (hand_of e m) t) is
     (subst (λ b. Saw (job_in e.state) c.args.seen n base b (hand_of e m) t) begun h) in
-    subst (λ x. Tracks x n e.tries base (c.begins.result || e.begun) (hand_of e m) t)
+    subst (λ x. Tracks x n e.tries base c.max-self.result (hand_of e m) t)
     (sym c.acknowledged-self.ensures) (saw_tracks job c.args.seen n e.tries base _ _ t saw)

@@ -1,0 +1,16 @@
+use Rattle.std.proofs.Common.{◌≡◌, ◌+◌, ◌∙◌, Some, ap, sym, subst}
+use Rattle.swd_host.specs.declared.request.Job.TheVariants.{At}
+use Rattle.swd_host.specs.Requests.{is_unread}
+use Rattle.swd_host.specs.Tracks.{TakenFor, hand_of}
+use Rattle.swd_host.proofs.StepLemmas.{took_taken}
+use Rattle.swd_host.proofs.engine.Engine.told.Goals as goal
+
+pub returns-in-At-2-clause-tracks : goal.returns-in-At-2-clause-tracks
+returns-in-At-2-clause-tracks c base m t task h =
+    let e = c.args.self.now in
+    let both : At c.in-At-2.place ≡ At c.in-At.place = sym c.in-At-2.is ∙ c.in-At.is in
+    let same : c.in-At-2.place ≡ c.in-At.place = cc in
+    c.value.ensures.tracks base m t task
+    (took_taken c.in-At-2.place c.args.word _ _ (hand_of e m) t
+    (ap (λ p. is_unread p e.task) same ∙ (sym c.is_unread.ensures ∙ c.if-is_unread.false))
+    (subst (λ j. TakenFor j (Some c.args.word) (base.disturbed + e.events) e.begun (hand_of e m) t) c.in-At-2.is h))
