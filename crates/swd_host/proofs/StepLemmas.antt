@@ -14,7 +14,7 @@ use Rattle.swd_host.specs.declared.engine.State.{State}
 use Rattle.swd_host.specs.declared.engine.State.TheVariants.{Doing}
 use Rattle.swd_host.specs.declared.engine.Engine.{Engine}
 use Rattle.swd_host.specs.Requests.{again_at}
-use Rattle.swd_host.specs.Progress.{left_at, left_for, least_at, least_for, is_state_of}
+use Rattle.swd_host.specs.Progress.{clears_last, left_at, left_for, least_at, least_for, is_state_of}
 use Rattle.swd_host.specs.Turns.{Lands}
 use Rattle.swd_host.specs.Tracks.{Hand, Counted, Broken, Facts, Checks, cleared, kept, Earns, by_fault, Saw, saw_okay}
 use Rattle.swd_host.specs.Tracks.{saw_wait, saw_fault, saw_none, Tracks, state_seen}
@@ -59,10 +59,11 @@ pub owed_lands : (p : Place) (old_error old_damaged error damaged : Bool) (e f :
     → Lands (left_for (Check p (record { error = old_error; damaged = old_damaged })) - 1)
     (least_for e.aims (Check p (record { error = old_error; damaged = old_damaged })) + 1)
     (Doing (Check p (record { error = old_error; damaged = old_damaged })) Data) e f
-owed_lands p true old_damaged true damaged e f is h = lands_within _ _ _ _ (Doing
-    (Clear p (record { error = true; damaged = damaged })) Ask)
-    (Doing (Check p (record { error = true; damaged = old_damaged })) Data) e f (omega arith) (omega arith)
-    (λ o x. x) h
+owed_lands p true old_damaged true damaged e f is h =
+    let fewer : left_for (Clear p (record { error = true; damaged = damaged })) - 5
+    ≤ left_for (Check p (record { error = true; damaged = old_damaged })) - 1 = grind arith in
+    lands_within _ _ _ _ (Doing (Clear p (record { error = true; damaged = damaged })) Ask)
+    (Doing (Check p (record { error = true; damaged = old_damaged })) Data) e f fewer (omega arith) (λ o x. x) h
 owed_lands p false old_damaged false damaged e f is h = lands_within _ _ _ _ (Doing
     (Clear p (record { error = false; damaged = damaged })) Ask)
     (Doing (Check p (record { error = false; damaged = old_damaged })) Data) e f (omega arith) (omega arith)
@@ -76,11 +77,14 @@ broken_of : (error : Bool) (p : Place) (b : Bool) (k : Hand) (t : Target) → er
 broken_of true p b k t is h = h
 broken_of false p b k t is h = absurd (cc)
 
+owed_error : (p : Place) (owed : Flags) → clears_last p owed ≡ true → owed.error ≡ true
+owed_error p owed is = grind arith
+
 pub cleared_earns : (p : Place) (owed : Flags) (damaged : Bool) (n : ℕ) (b : Bool) (k : Hand) (t : Port)
-    → owed.error ≡ true → not damaged ≡ true → damaged ≡ t.target.write_error → Checks p owed n b k t
+    → clears_last p owed ≡ true → not damaged ≡ true → damaged ≡ t.target.write_error → Checks p owed n b k t
     → Earns BusFault n b k t
 cleared_earns p owed damaged n b k t is none same (cleared facts error write paid) =
-    by_fault p (broken_of owed.error p b k t.target is facts) refl error write paid
+    by_fault p (broken_of owed.error p b k t.target (owed_error p owed is) facts) refl error write paid
 cleared_earns p owed damaged n b k t is none same (kept facts error write paid) =
     absurd (let set : damaged ≡ true = same ∙ write in let clear : not damaged ≡ true = none in grind arith)
 

@@ -1,6 +1,7 @@
 -- How far the opening or an access has come: the requests that are still open to it, and those that were sent.
 use Rattle.std.specs.Prelude.{ℕ, ◌+◌, ◌-◌, ◌*◌, ◌&&◌, Bool, true, false, not, if◌then◌else◌}
 use Rattle.swd_bits.specs.Bits.{bit}
+use Rattle.swd_host.specs.declared.flags.Flags.{Flags}
 use Rattle.swd_host.specs.declared.outcome.End.TheVariants.{Lost}
 use Rattle.swd_host.specs.declared.outcome.Outcome.TheVariants.{Opened, Answered, Stopped}
 use Rattle.swd_host.specs.declared.request.Place.{Place}
@@ -13,6 +14,7 @@ use Rattle.swd_host.specs.declared.engine.Phase.TheVariants.{Ask, Data, Waited, 
 use Rattle.swd_host.specs.declared.engine.State.{State}
 use Rattle.swd_host.specs.declared.engine.State.TheVariants.{Leading, Doing, Resting}
 use Rattle.swd_host.specs.declared.engine.Engine.{Engine}
+use Rattle.swd_host.specs.Requests.{is_confirm}
 
 -- REQUESTS STILL OPEN before the next outcome, at most, where no event comes
 abbrev pub left_at : Place → ℕ
@@ -29,13 +31,17 @@ left_at Aim = 6
 left_at Transfer = 5
 left_at Confirm = 4
 
+-- the access is answered once these flags are cleared
+abbrev pub clears_last : Place → Flags → Bool
+clears_last p owed = owed.error && is_confirm p
+
 abbrev pub left_for : Job → ℕ
 left_for (At p) = left_at p
 left_for (Resend p) = left_at p
 left_for (Status p) = left_at p - 1
 left_for LastStatus = 1
-left_for (Clear p owed) = if owed.error then 2 else left_at p + 3
-left_for (Check p owed) = if owed.error then 1 else left_at p + 2
+left_for (Clear p owed) = if clears_last p owed then 2 else left_at p + 3
+left_for (Check p owed) = if clears_last p owed then 1 else left_at p + 2
 
 abbrev pub left_in : State → ℕ
 left_in Leading = 10
@@ -44,9 +50,13 @@ left_in (Doing job phase) = left_for job - 1
 left_in (Resting Opened) = 1
 left_in (Resting outcome) = 0
 
+-- the flag of a transfer that was left pending may bring five more
+abbrev pub stray_left : Bool → ℕ
+stray_left stray = if stray then 5 else 0
+
 -- the requests still open to an engine before its next outcome, at most: each event may bring five more
 abbrev pub open_requests : Engine → ℕ
-open_requests e = 5 * (e.tries - e.events) + left_in e.state
+open_requests e = 5 * (e.tries - e.events) + stray_left e.stray + left_in e.state
 
 -- a data phase, a turnaround or the lead stands before the next request
 abbrev pub moves_first : State → ℕ
@@ -80,8 +90,8 @@ least_for aims (At p) = least_at aims p
 least_for aims (Resend p) = least_at aims p + 1
 least_for aims (Status p) = least_at aims p + 1
 least_for aims LastStatus = 0
-least_for aims (Clear p owed) = if owed.error then bit aims + 2 else least_at aims p + 1
-least_for aims (Check p owed) = if owed.error then bit aims + 2 else least_at aims p + 1
+least_for aims (Clear p owed) = least_at aims p + 1
+least_for aims (Check p owed) = least_at aims p + 1
 
 abbrev pub least_in : Bool → State → ℕ
 least_in aims Leading = 0
@@ -107,8 +117,8 @@ is_job_of opening (At p) = is_place_of opening p
 is_job_of opening (Resend p) = is_place_of opening p
 is_job_of opening (Status p) = is_place_of opening p
 is_job_of opening LastStatus = true
-is_job_of opening (Clear p owed) = is_place_of opening p && not (opening && owed.error)
-is_job_of opening (Check p owed) = is_place_of opening p && not (opening && owed.error)
+is_job_of opening (Clear p owed) = is_place_of opening p
+is_job_of opening (Check p owed) = is_place_of opening p
 
 abbrev pub is_state_of : Bool → State → Bool
 is_state_of opening Leading = opening

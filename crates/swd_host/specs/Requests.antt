@@ -125,6 +125,10 @@ is_unread Transfer task = true
 is_unread Confirm task = not (is_read task)
 is_unread p task = false
 
+abbrev pub is_confirm : Place → Bool
+is_confirm Confirm = true
+is_confirm p = false
+
 -- the DRW request of the access in hand
 abbrev pub begins : Job → Bool
 begins (At Transfer) = true

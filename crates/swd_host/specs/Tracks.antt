@@ -39,7 +39,8 @@ use Rattle.swd_host.specs.declared.engine.Engine.{Engine}
 use Rattle.swd_host.specs.Plain.{IsAccess}
 use Rattle.swd_host.specs.Tasks.{access_of}
 use Rattle.swd_host.specs.Engines.{job_in}
-use Rattle.swd_host.specs.Requests.{request_of, next_place, confirmed_by, is_exempt, is_exempt_place, begins}
+use Rattle.swd_host.specs.Requests.{request_of, next_place, confirmed_by, is_exempt, is_exempt_place, is_confirm}
+use Rattle.swd_host.specs.Requests.{begins}
 
 -- the access in hand, whether TAR has to be written for it, what is known of TAR where the engine rests, and the
 -- memory before the access
@@ -143,10 +144,6 @@ pub record Hurt (p : Place) (n : ℕ) (b : Bool) (k : Hand) (s : Port) : Type 0 
   pub has : Has back b k s.target
   pub flag : s.target.write_error ≡ true
   pub paid : n + 1 ≤ s.tally.disturbed
-
-abbrev pub is_confirm : Place → Bool
-is_confirm Confirm = true
-is_confirm _ = false
 
 -- the transfer was a bus error; STICKYERR aside
 pub record Broken (p : Place) (b : Bool) (k : Hand) (s : Target) : Type 0 where
@@ -394,17 +391,18 @@ abbrev pub due_of : Bool → Due
 due_of true = Take
 due_of false = Give
 
-abbrev pub DueAt : State → Task → Due → Type 0
-DueAt Leading task due = due ≡ Nothing
-DueAt (Doing job Ask) task due = due ≡ Nothing
-DueAt (Doing job Data) task due = due ≡ due_of (request_of job task).read
-DueAt (Doing job Waited) task due = due ≡ Pass
-DueAt (Doing job Faulted) task due = due ≡ Pass
-DueAt (Resting (Stopped Lost)) task due = due ≡ DueLost
-DueAt (Resting outcome) task due = due ≡ Nothing
+-- whatever is due, where the line reset lets it go by
+abbrev pub DueAt : State → Bool → Task → Due → Type 0
+DueAt Leading stray task due = stray ≡ false → due ≡ Nothing
+DueAt (Doing job Ask) stray task due = due ≡ Nothing
+DueAt (Doing job Data) stray task due = due ≡ due_of (request_of job task).read
+DueAt (Doing job Waited) stray task due = due ≡ Pass
+DueAt (Doing job Faulted) stray task due = due ≡ Pass
+DueAt (Resting (Stopped Lost)) stray task due = due ≡ DueLost
+DueAt (Resting outcome) stray task due = due ≡ Nothing
 
 abbrev pub DueFits : Engine → Port → Type 0
-DueFits e s = DueAt e.state e.task s.link.due
+DueFits e s = DueAt e.state e.stray e.task s.link.due
 
 -- WHAT A CALL OF THE ENGINE IS TOLD
 -- what a word that was taken at a place tells

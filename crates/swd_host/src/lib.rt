@@ -7,10 +7,12 @@ mod flags;
 mod outcome;
 mod phase;
 mod request;
+mod resuming;
 mod running;
 mod step;
 mod task;
 
 pub use engine::{Cue, Engine};
 pub use outcome::{End, Outcome, Refused, Report};
+pub use resuming::resume;
 pub use running::run;

@@ -3,6 +3,7 @@
 ghost use Rattle.std.specs.Prelude.{◌≡◌};
 ghost use Rattle.swd_host.specs.Requests.{request_of, word_for, next_place, confirmed_by, again_at, is_exempt};
 ghost use Rattle.swd_host.specs.Requests.{begins, debug_port};
+ghost use Rattle.swd_host.specs.Progress.{clears_last};
 
 use crate::flags::Flags;
 use crate::task::Task;
@@ -151,6 +152,13 @@ impl Place {
             },
             _ => None,
         }
+    }
+
+    // The access is answered once these flags, which the request here met, are cleared.
+    pub(crate) fn clears_last(self, owed: Flags) -> bool
+        ensures { result ≡ clears_last self owed }
+    {
+        owed.error && matches!(self, Place::Confirm)
     }
 }
 

@@ -100,9 +100,9 @@ fn refusal(accesses: &[Access]) -> Option<Refused>
 }
 
 // The opening.
-fn open<W: Wire>(wire: &mut W, engine: &mut Engine) -> Result<(), End>
-    requires due { (W.port wire.old).link.due ≡ Nothing }
-    requires new { IsNew engine.old.tries engine.old }
+pub(crate) fn open<W: Wire>(wire: &mut W, engine: &mut Engine) -> Result<(), End>
+    requires due { DueFits engine.old (W.port wire.old) }
+    requires new { IsNew engine.old.stray engine.old.tries engine.old }
     ensures due { DueFits engine.new (W.port wire.new) }
     ensures goes { Goes engine.old (W.port wire.old) engine.new (W.port wire.new) }
     ensures finished { engine.new.state ≡ opened_as result }
@@ -147,11 +147,11 @@ fn access<W: Wire>(
 
 // Does a list over a target that the engine has opened, adds the answers to those that are there, and
 // ends a list that is whole with eight idle cycles.
-fn perform<W: Wire>(
+pub(crate) fn perform<W: Wire, A: Allocator>(
     wire: &mut W,
     engine: &mut Engine,
     accesses: &[Access],
-    answers: &mut Vec<Answer>,
+    answers: &mut Vec<Answer, A>,
 ) -> End
     requires opened { HasOpened engine.old }
     requires due { (W.port wire.old).link.due ≡ Nothing }
@@ -205,7 +205,11 @@ pub fn run<W: Wire, A: Allocator>(
     Ok(reported(answers, &engine, ended))
 }
 
-fn reported<A: Allocator>(answers: Vec<Answer, A>, engine: &Engine, ended: End) -> Report<A>
+pub(crate) fn reported<A: Allocator>(
+    answers: Vec<Answer, A>,
+    engine: &Engine,
+    ended: End,
+) -> Report<A>
     ensures { told_of result ≡ told_by answers.items engine.now ended }
 {
     Report {
