@@ -186,8 +186,8 @@ pub record Stops (end : End) (base : Counted) (tries n : ℕ) (b : Bool) (k : Ha
   pub within : Within b k t.target
   -- the disturbances that were met as events, or more than the tries allow
   pub paid : ((end ≡ Lost) × (n ≤ t.tally.disturbed)) ⊎ (base.disturbed + tries < t.tally.disturbed)
-  pub ends : (s : Port) (task : Task) → s.tally.disturbed ≤ base.disturbed → s.tally.lost ≤ base.lost
-      → DueAt (Resting (Stopped end)) task t.link.due → EndsAt end tries s t
+  pub ends : (s : Port) (stray : Bool) (task : Task) → s.tally.disturbed ≤ base.disturbed → s.tally.lost ≤ base.lost
+      → DueAt (Resting (Stopped end)) stray task t.link.due → EndsAt end tries s t
   pub never : end ≢ All
 
 stops_by : (end : End) (n tries : ℕ) (base : Counted) (b : Bool) (k : Hand) (t : Port)
@@ -196,13 +196,13 @@ stops_by : (end : End) (n tries : ℕ) (base : Counted) (b : Bool) (k : Hand) (t
 stops_by Lost n tries base b k t h = record {
   within = h.within;
   paid = inl (refl, h.paid);
-  ends = λ s task fewer less due. (due, omega (arith, h.more), h.select);
+  ends = λ s stray task fewer less due. (due, omega (arith, h.more), h.select);
   never = λ is. absurd (cc);
 }
 stops_by TriesOut n tries base b k t h = record {
   within = h.0;
   paid = inr h.1;
-  ends = λ s task fewer less due. (due, omega (arith, h.1));
+  ends = λ s stray task fewer less due. (due, omega (arith, h.1));
   never = λ is. absurd (cc);
 }
 stops_by All n tries base b k t h = absurd h

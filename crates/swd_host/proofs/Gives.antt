@@ -47,23 +47,38 @@ use Rattle.swd_host.proofs.Frames.{Frame, frame_spoiled, frame_abort, calm_frame
 use Rattle.swd_host.proofs.Transfers.{under_stays}
 use Rattle.swd_host.proofs.Sends.{facts_rest}
 
-spells : (word sent : ℕ) → word < 2 ^ 32 → sent ≡ phase_number word → IsPhaseOf word sent
+pub spells : (word sent : ℕ) → word < 2 ^ 32 → sent ≡ phase_number word → IsPhaseOf word sent
 spells word sent small e = sym (subst (λ x. low_bits 33 x ≡ phase word) (sym e) (bits_phase word small))
 
-whole_given : (r : Register) (word : ℕ) (s t : Port) → Given r None word s t → Gave r word s t
+pub whole_given : (r : Register) (word : ℕ) (s t : Port) → Given r None word s t → Gave r word s t
 whole_given r word s t (given_whole e h) = h
 whole_given r word s t (given_damaged place e h) = absurd (cc)
 
-changed_given : (place : ℕ) (r : Register) (word : ℕ) (s t : Port) → Given r (Some place) word s t → Spoiled s t
+pub changed_given : (place : ℕ) (r : Register) (word : ℕ) (s t : Port) → Given r (Some place) word s t → Spoiled s t
 changed_given place r word s t (given_whole e h) = absurd (cc)
 changed_given place r word s t (given_damaged other e h) = h
 
 -- the words that the opening writes, and those that clear flags
-clear_small : (error damaged : Bool) → clear_word (record { error = error; damaged = damaged }) < 2 ^ 32
+pub clear_small : (error damaged : Bool) → clear_word (record { error = error; damaged = damaged }) < 2 ^ 32
 clear_small true true = omega arith
 clear_small true false = omega arith
 clear_small false true = omega arith
 clear_small false false = omega arith
+
+-- the flags that a word clears
+pub sticky_gone : (error damaged : Bool) (x y : Target) → Clears (clear_word
+    (record { error = error; damaged = damaged })) x y → x.sticky_error ≡ error → y.sticky_error ≡ false
+sticky_gone true true x y c h = c.sticky_cleared refl
+sticky_gone true false x y c h = c.sticky_cleared refl
+sticky_gone false true x y c h = c.sticky_kept refl ∙ h
+sticky_gone false false x y c h = c.sticky_kept refl ∙ h
+
+pub write_gone : (error damaged : Bool) (x y : Target) → Clears (clear_word
+    (record { error = error; damaged = damaged })) x y → x.write_error ≡ damaged → y.write_error ≡ false
+write_gone true true x y c h = c.write_cleared refl
+write_gone true false x y c h = c.write_kept refl ∙ h
+write_gone false true x y c h = c.write_cleared refl
+write_gone false false x y c h = c.write_kept refl ∙ h
 
 address_small : (task : Task) → IsTask task → address (access_of task) < 2 ^ 32
 address_small (Read at) h = h.0
@@ -252,22 +267,6 @@ module _ (n b : ℕ) (k : Hand) (s t : Port) (sent : ℕ) (range : sent < 2 ^ 33
       (ap written_by is) (e ∙ ap phase_number (sym same)) h
 
   -- THE CLEARING
-  sticky_gone : (error damaged : Bool) → Clears (clear_word
-      (record { error = error; damaged = damaged })) s.target t.target → s.target.sticky_error ≡ error
-      → t.target.sticky_error ≡ false
-  sticky_gone true true c h = c.sticky_cleared refl
-  sticky_gone true false c h = c.sticky_cleared refl
-  sticky_gone false true c h = c.sticky_kept refl ∙ h
-  sticky_gone false false c h = c.sticky_kept refl ∙ h
-
-  write_gone : (error damaged : Bool) → Clears (clear_word
-      (record { error = error; damaged = damaged })) s.target t.target → s.target.write_error ≡ damaged
-      → t.target.write_error ≡ false
-  write_gone true true c h = c.write_cleared refl
-  write_gone true false c h = c.write_kept refl ∙ h
-  write_gone false true c h = c.write_cleared refl
-  write_gone false false c h = c.write_kept refl ∙ h
-
   clear_gave : (p : Place) (owed : Flags) → sent ≡ phase_number (clear_word owed)
       → Writes AbortWrite n (λ c. Owes p owed c b k s) s → Before (Check p owed) n b k t
   clear_gave p owed is w =
@@ -275,10 +274,10 @@ module _ (n b : ℕ) (k : Hand) (s t : Port) (sent : ℕ) (range : sent < 2 ^ 33
       (clear_small owed.error owed.damaged) is (λ x. absurd (cc))
       (λ c h. (facts_rest owed.error p b k s h.facts).pending) w
       (λ h g. (let c = flags_cleared (clear_word owed) s t g in
-      let clear : t.target.sticky_error ≡ false = sticky_gone owed.error owed.damaged c h.error in
+      let clear : t.target.sticky_error ≡ false = sticky_gone owed.error owed.damaged s.target t.target c h.error in
       cleared (facts_framed owed.error p b k s t (frame_abort (clear_word owed) s t g)
       (λ no_error. clear ∙ sym (h.error ∙ no_error)) h.facts) clear
-      (write_gone owed.error owed.damaged c h.damaged) (paid_on AbortWrite (clear_word owed) g h.paid)))
+      (write_gone owed.error owed.damaged s.target t.target c h.damaged) (paid_on AbortWrite (clear_word owed) g h.paid)))
       (λ h x. (let sticky : t.target.sticky_error ≡ s.target.sticky_error = ap (λ i. i.sticky_error) x.target in
       kept (facts_framed owed.error p b k s t (frame_spoiled s t x) (λ y. sticky) h.facts) (sticky ∙ h.error)
       (ap (λ i. i.write_error) x.target) (omega (arith, ap (λ i. i.disturbed) x.tally, h.paid))))

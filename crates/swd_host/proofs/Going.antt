@@ -20,10 +20,12 @@ goes_refl e s = record {
   least = λ few. omega arith;
   begun = λ few not_yet now. absurd (let both : true ≡ false = sym now ∙ not_yet in cc);
   follows = λ base m h. h;
+  resumes = λ base start h. h;
+  identification = refl;
   disturbed = omega arith;
   lost = omega arith;
   asked = λ few. omega arith;
-  lost_early = λ on base m h opening is. absurd (
+  lost_early = λ on base start h opening is. absurd (
       let rests : is_resting e ≡ true = ap (λ x. is_some (finished_at x e.task)) is in
       let both : true ≡ false = sym rests ∙ on in
       cc);
@@ -49,11 +51,13 @@ goes_then e f g s t u on a b =
           (λ soon. omega (arith, a.begun few not_yet soon, b.more))
           (λ late. omega (arith, a.least few, ap bit a.aims, b.begun (countable few) late now));
       follows = λ base m h. b.follows base m (a.follows base m h);
+      resumes = λ base start h. b.resumes base start (a.resumes base start h);
+      identification = b.identification ∙ a.identification;
       disturbed = omega (arith, a.disturbed, b.disturbed);
       lost = omega (arith, a.lost, b.lost);
       asked = λ few. omega (arith, a.asked few, b.asked (countable few));
-      lost_early = λ start base m h opening is. (
+      lost_early = λ going base start h opening is. (
           let early : g.requests + 1 + 5 * (g.tries - g.events) ≤ f.requests + open_requests f =
-          b.lost_early on base m (a.follows base m h) (a.part true opening) is in
+          b.lost_early on base start (a.resumes base start h) (a.part true opening) is in
           omega (arith, a.spends));
     }

@@ -7,6 +7,10 @@ mod Sends
 mod Takes
 mod Gives
 mod Passes
+mod EarlyFrames
+mod EarlyAsks
+mod EarlyMoves
+mod EarlyTurns
 mod Turning
 mod StepLemmas
 mod Going

@@ -61,7 +61,7 @@ opened_reached list m o s has is =
 pub opened_stands : (list : List Access) (o : Engine) (s : Port) → HasOpened o → s.link.due ≡ Nothing
     → Stands 0 list o s o [] s
 opened_stands list o s has due = record {
-  due = subst (λ x. DueAt x o.task s.link.due) (sym has.at) due;
+  due = subst (λ x. DueAt x o.stray o.task s.link.due) (sym has.at) due;
   rests = ap (λ x. may_start (finished_at x o.task)) has.at;
   chain = λ burst. absurd (let both : true ≡ false = sym burst ∙ has.plain in cc);
   first = λ at_first. has.plain;
@@ -205,7 +205,8 @@ module _ (i : ℕ) (list : List Access) (o e g f : Engine) (answers : List Answe
         later = λ c. stop_fits m (completed c u).target.memory end stop.never at r
             (subst (IsWithin f.begun k) (sym (later_memory f.begun k u c stop.within)) stop.within.ends);
         ends = subst (λ n. EndsAt end n s u) tries_here
-            (stop.ends s f.task r.fewest stands.lost (subst (λ x. DueAt x f.task u.link.due) at due));
+            (stop.ends s f.stray f.task r.fewest stands.lost
+            (subst (λ x. DueAt x f.stray f.task u.link.due) at due));
         least = λ whole. absurd (stop.never whole);
         most = elim stop.paid [
           | inl p ↦ omega (arith, p.1, spent, tries_here, r.most, r.fewest)

@@ -6,7 +6,8 @@ use Rattle.swd_port.specs.declared.access.Access.{Access}
 use Rattle.swd_port.specs.declared.access.Answer.{Answer}
 use Rattle.swd_port.specs.PlainMemory.{PlainMemory}
 use Rattle.swd_port.specs.Port.{Port, made}
-use Rattle.swd_port.specs.Completion.{completed}
+use Rattle.swd_port.specs.Completion.{completed, MayBecome}
+use Rattle.swd_port.proofs.CompletionLaws.{may_become_of_none}
 use Rattle.swd_host.specs.declared.outcome.End.{End}
 use Rattle.swd_host.specs.declared.outcome.End.TheVariants.{All, Lost, TriesOut, WrongId, Confused}
 use Rattle.swd_host.specs.declared.outcome.Outcome.TheVariants.{Opened, Stopped}
@@ -15,8 +16,9 @@ use Rattle.swd_host.specs.declared.engine.Engine.{Engine}
 use Rattle.swd_host.specs.Plain.{AreAccesses}
 use Rattle.swd_host.specs.Tasks.{is_burst}
 use Rattle.swd_host.specs.Engines.{is_resting, finished_at}
-use Rattle.swd_host.specs.Progress.{left_in, least_in, open_requests, is_state_of}
+use Rattle.swd_host.specs.Progress.{left_in, stray_left, least_in, open_requests, is_state_of}
 use Rattle.swd_host.specs.Tracks.{Hand, Counted, IsWithin, IsReady, Tracks, Follows, hand_of, DueAt, DueFits}
+use Rattle.swd_host.specs.Early.{over}
 use Rattle.swd_host.specs.Turns.{IsNew, Goes}
 use Rattle.swd_host.specs.Reports.{Told, Fits, EndsAt, RunFits, told_by}
 use Rattle.swd_host.specs.Standing.{HasOpened, Does}
@@ -33,7 +35,7 @@ told_as list tries m x y s t is h = subst (λ told. RunFits list tries m told s 
 abbrev pub counted_at : Port → Counted
 counted_at s = record { disturbed = s.tally.disturbed; lost = s.tally.lost }
 
-new_follows : (tries identification : ℕ) (m : PlainMemory) (e : Engine) (s : Port) → IsNew tries e
+new_follows : (tries identification : ℕ) (m : PlainMemory) (e : Engine) (s : Port) → IsNew false tries e
     → s ≡ made identification m → identification % 2 ≡ 1 → Follows (counted_at s) m e s
 new_follows tries identification m e s new is odd = record {
   task = new.task;
@@ -52,6 +54,11 @@ new_follows tries identification m e s new is odd = record {
       });
 }
 
+made_becomes : (identification : ℕ) (m : PlainMemory) (s : Port) → s ≡ made identification m → MayBecome s m
+made_becomes identification m s is =
+    subst (MayBecome s) (ap (λ p. p.target.memory) is)
+    (may_become_of_none.same s (ap (λ p. p.target.pending) is))
+
 -- an end, as it is since an earlier moment
 ends_since : (end : End) (tries : ℕ) (s t u : Port) → s.tally.disturbed ≤ t.tally.disturbed
     → s.tally.lost ≤ t.tally.lost → EndsAt end tries t u → EndsAt end tries s u
@@ -62,9 +69,11 @@ ends_since (WrongId word) tries s t u fewer less h = absurd h
 ends_since Confused tries s t u fewer less h = absurd h
 
 module _ (list : List Access) (tries : ℕ) (e f : Engine) (answers : List Answer) (s t : Port) (small : tries < 2 ^ 32)
-    (new : IsNew tries e) (goes : Goes e s f t) (due : DueFits f t) (none : answers ≡ []) where
+    (new : IsNew false tries e) (goes : Goes e s f t) (due : DueFits f t) (none : answers ≡ []) where
   new_left : open_requests e ≤ 5 * tries + 10
-  new_left = let left : left_in e.state ≡ 10 = ap left_in new.leads in omega (arith, new.tries)
+  new_left =
+      let left : left_in e.state ≡ 10 = ap left_in new.leads in
+      omega (arith, new.tries, ap stray_left new.stray)
 
   opening_spends : f.requests + 5 * (tries - f.events) + left_in f.state ≤ 5 * tries + 10
   opening_spends = omega (arith, goes.spends, goes.tries, new.tries, new.requests, new_left)
@@ -97,7 +106,8 @@ module _ (list : List Access) (tries : ℕ) (e f : Engine) (answers : List Answe
       let stop : Stops end (counted_at s) f.tries (s.tally.disturbed + f.events) f.begun k t =
       stops_there (counted_at s) m f end t at (goes.follows (counted_at s) m first) in
       let ends : EndsAt end tries s t = subst (λ n. EndsAt end n s t) (goes.tries ∙ new.tries)
-      (stop.ends s f.task (omega arith) (omega arith) (subst (λ x. DueAt x f.task t.link.due) at due)) in
+      (stop.ends s f.stray f.task (omega arith) (omega arith)
+      (subst (λ x. DueAt x f.stray f.task t.link.due) at due)) in
       let going : is_resting e ≡ false = ap (λ x. is_some (finished_at x e.task)) new.leads in
       record {
         now = opening_fits m t.target.memory end stop.never at stop.within.now;
@@ -110,7 +120,8 @@ module _ (list : List Access) (tries : ℕ) (e f : Engine) (answers : List Answe
         most = elim stop.paid [
           | inl p ↦
               (let lost : f.state ≡ Resting (Stopped Lost) = at ∙ ap (λ x. Resting (Stopped x)) p.0 in
-              let early = goes.lost_early going (counted_at s) m first opening lost in
+              let early = goes.lost_early going (counted_at s) s
+              (over m (made_becomes identification m s is) first) opening lost in
               omega (arith, p.1, new_left, new.requests, goes.tries, new.tries))
           | inr p ↦ omega (arith, opening_spends, goes.tries, new.tries)
         ];

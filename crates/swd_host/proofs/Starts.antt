@@ -26,7 +26,7 @@ use Rattle.swd_host.specs.Plain.{IsAccess}
 use Rattle.swd_host.specs.Tasks.{access_of, is_read, is_burst, task_for}
 use Rattle.swd_host.specs.Requests.{confirming_request}
 use Rattle.swd_host.specs.Engines.{is_ahead_at, is_ahead_in, is_ahead, finished_at, finished_of, may_start}
-use Rattle.swd_host.specs.Progress.{left_in, least_in, open_requests, is_state_of}
+use Rattle.swd_host.specs.Progress.{left_in, stray_left, least_in, open_requests, is_state_of}
 use Rattle.swd_host.specs.Tracks.{Hand, Counted, Sure, Writes, whole, changed, IsReady, Transfers, Tracks, Follows}
 use Rattle.swd_host.specs.Tracks.{hand_of, IsTask, due_of, DueAt, DueFits}
 use Rattle.swd_host.specs.Turns.{first_state, Starts, GoesOn}
@@ -203,7 +203,7 @@ module _ (a : Access) (following : Option Access) (e g : Engine) (starts : Start
   pub start_left : open_requests g ≤ 5 * e.tries + 6
   start_left =
       let left : left_in g.state ≤ 6 = subst (λ x. left_in x ≤ 6) (sym starts.state) (first_left (is_ahead e) g.aims) in
-      omega (arith, starts.tries)
+      omega (arith, starts.tries, ap stray_left starts.stray)
 
   pub start_least : least_in g.aims g.state ≤ bit g.aims + 1
   start_least = subst (λ x. least_in g.aims x ≤ bit g.aims + 1) (sym starts.state) (first_least (is_ahead e) g.aims)
@@ -222,26 +222,25 @@ module _ (a : Access) (following : Option Access) (e g : Engine) (starts : Start
   start_access = ap (is_state_of false) starts.state ∙ first_access (is_ahead e) g.aims
 
 -- WHAT IS DUE
-first_due : (ahead aims : Bool) (task : Task) (due : Due) → due ≡ (if ahead then due_of (is_read task) else Nothing)
-    → DueAt (first_state ahead aims) task due
-first_due true aims task due h = h
-first_due false true task due h = h
-first_due false false task due h = h
+first_due : (ahead aims stray : Bool) (task : Task) (due : Due)
+    → due ≡ (if ahead then due_of (is_read task) else Nothing) → DueAt (first_state ahead aims) stray task due
+first_due true aims stray task due h = h
+first_due false true stray task due h = h
+first_due false false stray task due h = h
 
 may_start_ahead : (c : Bool) → may_start (if c then Some (Answered Written) else None) ≡ true → c ≡ true
 may_start_ahead true h = refl
 may_start_ahead false h = absurd (cc)
 
 -- nothing is due, where the data of the next access isn't
-rest_due : (x : State) (task : Task) (due : Due) → may_start (finished_at x task) ≡ true
-    → is_ahead_in x task ≡ false
-    → DueAt x task due → due ≡ Nothing
-rest_due Leading task due may calm h = h
-rest_due (Doing job phase) task due may calm h =
+rest_due : (x : State) (stray : Bool) (task : Task) (due : Due) → may_start (finished_at x task) ≡ true
+    → is_ahead_in x task ≡ false → DueAt x stray task due → due ≡ Nothing
+rest_due Leading stray task due may calm h = absurd (cc)
+rest_due (Doing job phase) stray task due may calm h =
     absurd (let ahead : is_ahead_at job phase task ≡ true = may_start_ahead (is_ahead_at job phase task) may in cc)
-rest_due (Resting Opened) task due may calm h = h
-rest_due (Resting (Answered answer)) task due may calm h = h
-rest_due (Resting (Stopped end)) task due may calm h = absurd (cc)
+rest_due (Resting Opened) stray task due may calm h = h
+rest_due (Resting (Answered answer)) stray task due may calm h = h
+rest_due (Resting (Stopped end)) stray task due may calm h = absurd (cc)
 
 burst_due : (task : Task) (due : Due) → is_burst task ≡ true → due ≡ due_of (confirming_request task).read
     → due ≡ due_of false
@@ -250,19 +249,19 @@ burst_due (Write at word) due burst h = absurd (cc)
 burst_due (BurstWrite at word) due burst h = h
 
 due_before : (ahead : Bool) (a : Access) (following : Option Access) (e : Engine) (due : Due) → is_ahead e ≡ ahead
-    → may_start (finished_of e) ≡ true → GoesOn e a → DueAt e.state e.task due
+    → may_start (finished_of e) ≡ true → GoesOn e a → DueAt e.state e.stray e.task due
     → due ≡ (if ahead then due_of (is_read (task_for a following)) else Nothing)
 due_before true a following e due is may on h =
     let next = continues_by (address (access_of e.task)) a (on.on is) in
     burst_due e.task due (ahead_burst e.state e.task is)
-    (subst (λ x. DueAt x e.task due) (ahead_state e.state e.task is) h)
+    (subst (λ x. DueAt x e.stray e.task due) (ahead_state e.state e.task is) h)
     ∙ sym (ap due_of (next.writes following))
-due_before false a following e due is may on h = rest_due e.state e.task due may is h
+due_before false a following e due is may on h = rest_due e.state e.stray e.task due may is h
 
 pub start_due : (a : Access) (following : Option Access) (e g : Engine) (s : Port) → Starts a following e g
     → may_start (finished_of e) ≡ true → GoesOn e a → DueFits e s → DueFits g s
 start_due a following e g s starts may on h =
-    subst (λ x. DueAt x g.task s.link.due) (sym starts.state)
-    (subst (λ x. DueAt (first_state (is_ahead e) g.aims) x s.link.due) (sym starts.task)
-    (first_due (is_ahead e) g.aims (task_for a following) s.link.due
+    subst (λ x. DueAt x g.stray g.task s.link.due) (sym starts.state)
+    (subst (λ x. DueAt (first_state (is_ahead e) g.aims) g.stray x s.link.due) (sym starts.task)
+    (first_due (is_ahead e) g.aims g.stray (task_for a following) s.link.due
     (due_before (is_ahead e) a following e s.link.due refl may on h)))

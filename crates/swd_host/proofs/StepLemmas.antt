@@ -17,11 +17,11 @@ use Rattle.swd_host.specs.declared.engine.Engine.{Engine}
 use Rattle.swd_host.specs.declared.task.Task.{Task}
 use Rattle.swd_host.specs.declared.task.Task.TheVariants.{Read, BurstRead, Write, BurstWrite}
 use Rattle.swd_host.specs.Tasks.{is_read}
-use Rattle.swd_host.specs.Requests.{again_at, is_unread}
+use Rattle.swd_host.specs.Requests.{again_at, is_behind, is_unread}
 use Rattle.swd_host.specs.Progress.{left_at, left_for, least_at, least_for, is_state_of, is_place_of}
 use Rattle.swd_host.specs.Turns.{Lands}
 use Rattle.swd_host.specs.Tracks.{Hand, Counted, Broken, Facts, Checks, cleared, kept, Earns, by_fault, Saw, saw_okay}
-use Rattle.swd_host.specs.Tracks.{saw_wait, saw_fault, saw_none, Tracks, state_seen, is_behind, BusErrorOf, Cleared}
+use Rattle.swd_host.specs.Tracks.{saw_wait, saw_fault, saw_none, Tracks, state_seen, BusErrorOf, Cleared}
 use Rattle.swd_host.specs.Tracks.{own_error, next_error, Resent, Taken, TookAt, ConfirmTook}
 use Rattle.swd_host.specs.declared.engine.Ahead.TheVariants.{Unsent}
 
@@ -70,10 +70,11 @@ pub owed_lands : (p : Place) (old_error old_damaged error damaged : Bool) (e f :
     → Lands (left_for (Check p (record { error = old_error; damaged = old_damaged })) - 1)
     (least_for e.aims (Check p (record { error = old_error; damaged = old_damaged })) + 1)
     (Doing (Check p (record { error = old_error; damaged = old_damaged })) Data) e f
-owed_lands p true old_damaged true damaged e f is h = lands_within _ _ _ _ (Doing
-    (Clear p (record { error = true; damaged = damaged })) Ask)
-    (Doing (Check p (record { error = true; damaged = old_damaged })) Data) e f (omega arith) (omega arith)
-    (λ o x. x) h
+owed_lands p true old_damaged true damaged e f is h =
+    let fewer : left_for (Clear p (record { error = true; damaged = damaged })) - 5
+    ≤ left_for (Check p (record { error = true; damaged = old_damaged })) - 1 = grind arith in
+    lands_within _ _ _ _ (Doing (Clear p (record { error = true; damaged = damaged })) Ask)
+    (Doing (Check p (record { error = true; damaged = old_damaged })) Data) e f fewer (omega arith) (λ o x. x) h
 owed_lands p false old_damaged false damaged e f is h = lands_within _ _ _ _ (Doing
     (Clear p (record { error = false; damaged = damaged })) Ask)
     (Doing (Check p (record { error = false; damaged = old_damaged })) Data) e f (omega arith) (omega arith)
@@ -105,20 +106,6 @@ own_earns p n b k t own (next_error h) error write paid =
 pub own_error_cleared : (p : Place) (n b : ℕ) (k : Hand) (t : Port) → is_behind p ≡ false → Cleared p n b k t
     → Earns BusFault Unsent n b k t
 own_error_cleared p n b k t own h = own_earns p n b k t own h.error h.sticky h.flag h.paid
-
-pub not_behind : (p : Place) → (p ≡ Behind → ⊥) → is_behind p ≡ false
-not_behind p apart = grind arith
-
--- a bus error answers the access
-pub answered_lands : (p : Place) (error damaged : Bool) (e f : Engine) → error ≡ true
-    → Lands 0 (bit e.aims + 2) (Doing (At Confirm) Data) e f
-    → Lands (left_for (Check p (record { error = error; damaged = damaged })) - 1)
-    (least_for e.aims (Check p (record { error = error; damaged = damaged })) + 1)
-    (Doing (Check p (record { error = error; damaged = damaged })) Data) e f
-answered_lands p true damaged e f is h = lands_within _ _ _ _ (Doing (At Confirm) Data)
-    (Doing (Check p (record { error = true; damaged = damaged })) Data) e f (omega arith) (omega arith)
-    (λ o x. access_check o (is_place_of o p) x) h
-answered_lands p false damaged e f is h = absurd (cc)
 
 -- an acknowledgement
 pub saw_tracks : (job : Job) (seen n tries : ℕ) (base : Counted) (b : ℕ) (k : Hand) (t : Port)

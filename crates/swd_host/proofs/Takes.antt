@@ -32,11 +32,11 @@ use Rattle.swd_host.proofs.Frames.{resent_framed, done_framed, before_framed}
 use Rattle.swd_host.proofs.Transfers.{under_stays}
 use Rattle.swd_host.proofs.Sends.{facts_rest, refused_rest, checks_rest, inspect_rest, powered_rest}
 
-got_whole_of : (word bits : ℕ) → Got None word bits → word_in bits ≡ Some word
+pub got_whole_of : (word bits : ℕ) → Got None word bits → word_in bits ≡ Some word
 got_whole_of word bits (got_whole e i h) = h
 got_whole_of word bits (got_damaged place e i h) = absurd (cc)
 
-got_changed_of : (place word bits : ℕ) → Got (Some place) word bits → word_in bits ≡ None
+pub got_changed_of : (place word bits : ℕ) → Got (Some place) word bits → word_in bits ≡ None
 got_changed_of place word bits (got_whole e i h) = absurd (cc)
 got_changed_of place word bits (got_damaged other e i h) = h
 

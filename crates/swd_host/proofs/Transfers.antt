@@ -42,8 +42,8 @@ use Rattle.swd_host.specs.declared.engine.Phase.TheVariants.{Ask, Data, Waited, 
 use Rattle.swd_host.specs.declared.engine.State.{State}
 use Rattle.swd_host.specs.declared.engine.State.TheVariants.{Leading, Doing, Resting}
 use Rattle.swd_host.specs.declared.engine.Engine.{Engine}
-use Rattle.swd_host.specs.Requests.{request_of, is_exempt_place}
-use Rattle.swd_host.specs.Tracks.{Hand, is_confirm, Counted, no_select, csw_word_read, Reachable, Calm, Up, IsAimed}
+use Rattle.swd_host.specs.Requests.{request_of, is_exempt_place, is_confirm}
+use Rattle.swd_host.specs.Tracks.{Hand, Counted, no_select, csw_word_read, Reachable, Calm, Up, IsAimed}
 use Rattle.swd_host.specs.Tracks.{Under, Has, is_wipe, Sure, Hurt, Broken, Facts, Spoilt, Refused, by_damage}
 use Rattle.swd_host.specs.Tracks.{by_error, Owes, Checks, cleared, kept, Done, Returned, Resent, Before, During}
 use Rattle.swd_host.specs.Tracks.{Transfers, Confirms, Confirmed, FaultedAt, Within, Says, Reads, Writes, Awake}

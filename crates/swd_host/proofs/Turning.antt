@@ -14,7 +14,8 @@ use Rattle.swd_port.specs.Asking.{Asks}
 use Rattle.swd_port.specs.Moving.{Takes, Gives, Passes}
 use Rattle.swd_port.specs.Leading.{Leads}
 use Rattle.swd_port.specs.Laws.Calls.{Asked}
-use Rattle.swd_port.proofs.CallLaws.{request_counted, others_uncounted, due_after_request}
+use Rattle.swd_port.proofs.CallLaws.{request_counted, others_uncounted, identification_kept}
+use Rattle.swd_port.proofs.CallLaws.{due_after_request}
 use Rattle.swd_host.specs.declared.outcome.End.TheVariants.{All, Lost, TriesOut, WrongId, Confused}
 use Rattle.swd_host.specs.declared.outcome.Outcome.TheVariants.{Opened, Answered, Stopped}
 use Rattle.swd_host.specs.declared.task.Task.{Task}
@@ -30,14 +31,19 @@ use Rattle.swd_host.specs.declared.engine.Phase.TheVariants.{Ask, Data, Waited, 
 use Rattle.swd_host.specs.declared.engine.State.{State}
 use Rattle.swd_host.specs.declared.engine.State.TheVariants.{Leading, Doing, Resting}
 use Rattle.swd_host.specs.declared.engine.Engine.{Engine}
-use Rattle.swd_host.specs.Requests.{request_of, word_for, confirmed_by, begins}
-use Rattle.swd_host.specs.Engines.{cue_of, cue_at, data_cue, is_ahead_at, is_resting, one_more, job_in}
-use Rattle.swd_host.specs.Progress.{left_at, left_for, left_in, least_in, open_requests, is_opening_place, is_job_of}
-use Rattle.swd_host.specs.Progress.{is_state_of, is_quiet}
-use Rattle.swd_host.specs.Tracks.{Hand, is_confirm, Counted, Before, Refused, by_damage, by_error, Tracks}
+use Rattle.swd_host.specs.Requests.{request_of, word_for, confirmed_by, is_confirm, begins}
+use Rattle.swd_host.specs.Engines.{lead_cue, cue_of, cue_at, data_cue, is_ahead_at, is_resting, one_more, job_in}
+use Rattle.swd_host.specs.Progress.{left_at, left_for, left_in, clears_last, least_in, open_requests, is_opening_place, is_job_of}
+use Rattle.swd_host.specs.Progress.{is_state_of, is_quiet, moves_first, calls_left}
+use Rattle.swd_host.specs.Tracks.{Hand, Counted, Before, Refused, by_damage, by_error, Tracks}
 use Rattle.swd_host.specs.Tracks.{TracksEngine, Follows, IsTask, Saw, Left, TakenFor, Hears, HasSent, HasRead}
 use Rattle.swd_host.specs.Tracks.{hand_of, begins_in, state_seen, due_of, DueAt, DueFits}
 use Rattle.swd_host.specs.Turns.{Sees, lands_from, IsCountable, Goes}
+use Rattle.swd_host.specs.Early.{Early, IsEarly, Resumes, early, over, EarlySaw, EarlyLeft, EarlyTaken, HearsEarly}
+use Rattle.swd_host.specs.Early.{SendsEarly, ReadsEarly}
+use Rattle.swd_host.proofs.EarlyAsks.{ask_early}
+use Rattle.swd_host.proofs.EarlyMoves.{read_early, given_early, waiting_early, faulted_early, led_early}
+use Rattle.swd_host.proofs.EarlyTurns.{resumes_by, still_early, select_chooses, early_left}
 use Rattle.swd_host.proofs.Sends.{ask_saw}
 use Rattle.swd_host.proofs.Takes.{taken_facts}
 use Rattle.swd_host.proofs.Gives.{job_gave}
@@ -73,11 +79,11 @@ pass_cue true word e = absurd (cc)
 pass_cue false None e = absurd (cc)
 pass_cue false (Some word) e = absurd (cc)
 
-lead_cue : (ahead : Bool) (word : Option ℕ) (ones low : ℕ) (switch : Bool)
+lead_cue_none : (ahead : Bool) (word : Option ℕ) (ones low : ℕ) (switch : Bool)
     → data_cue ahead word ≡ Lead ones switch low → ⊥
-lead_cue true word ones low switch e = absurd (cc)
-lead_cue false None ones low switch e = absurd (cc)
-lead_cue false (Some word) ones low switch e = absurd (cc)
+lead_cue_none true word ones low switch e = absurd (cc)
+lead_cue_none false None ones low switch e = absurd (cc)
+lead_cue_none false (Some word) ones low switch e = absurd (cc)
 
 ask_cue : (ahead : Bool) (word : Option ℕ) (q : Request) → data_cue ahead word ≡ CueAsk q → ⊥
 ask_cue true word q e = absurd (cc)
@@ -90,18 +96,19 @@ record IsAsking (x : State) (task : Task) (q : Request) : Type 0 where
   at : x ≡ Doing job Ask
   is : q ≡ request_of job task
 
-asking : (x : State) (task : Task) (q : Request) → cue_at x task ≡ CueAsk q → IsAsking x task q
-asking (Doing job Ask) task q e = record {
+asking : (x : State) (stray : Bool) (task : Task) (q : Request) → cue_at x stray task ≡ CueAsk q
+    → IsAsking x task q
+asking (Doing job Ask) stray task q e = record {
   job = job;
   at = refl;
   is =
       (let same : q ≡ request_of job task = cc in same);
 }
-asking (Doing job Data) task q e = absurd (ask_cue (is_ahead_at job Data task) (word_for job task) q e)
-asking Leading task q e = absurd (cc)
-asking (Doing job Waited) task q e = absurd (cc)
-asking (Doing job Faulted) task q e = absurd (cc)
-asking (Resting outcome) task q e = absurd (cc)
+asking (Doing job Data) stray task q e = absurd (ask_cue (is_ahead_at job Data task) (word_for job task) q e)
+asking Leading stray task q e = absurd (cc)
+asking (Doing job Waited) stray task q e = absurd (cc)
+asking (Doing job Faulted) stray task q e = absurd (cc)
+asking (Resting outcome) stray task q e = absurd (cc)
 
 -- what holds at a state
 tracked : (base : Counted) (m : PlainMemory) (e : Engine) (s : Port) (x : State) → e.state ≡ x
@@ -136,15 +143,13 @@ refused_left p n b k s o (by_damage h) = let l : 3 ≤ left_at p =
     confirming_left p h.back k.task k.aims h.confirms in omega arith
 refused_left p n b k s o (by_error h i w paid) = absurd (let both : true ≡ false = sym o ∙ no_confirm p h.place in cc)
 
-clear_left : (p : Place) (error : Bool) → 2 ≤ (if error then 2 else left_at p + 3)
+clear_left : (p : Place) (last : Bool) → 2 ≤ (if last then 2 else left_at p + 3)
 clear_left p true = omega arith
 clear_left p false = omega (arith, left_least p)
 
-check_left : (p : Place) (error : Bool) → (is_opening_place p && not error) ≡ true
-    → 2 ≤ (if error then 1 else left_at p + 2)
-check_left p true o = absurd (let none : is_opening_place p && false ≡ false = grind arith in let both : false ≡ true =
-    sym none ∙ o in cc)
-check_left p false o = omega (arith, left_least p)
+check_left : (p : Place) (error : Bool) → is_opening_place p ≡ true
+    → 2 ≤ (if error && is_confirm p then 1 else left_at p + 2)
+check_left p error o = grind arith
 
 before_left : (job : Job) (n : ℕ) (b : Bool) (k : Hand) (s : Port) → is_job_of true job ≡ true → Before job n b k s
     → 2 ≤ left_for job
@@ -152,8 +157,21 @@ before_left (At p) n b k s o h = left_least p
 before_left (Resend p) n b k s o h = left_least p
 before_left (Status p) n b k s o h = refused_left p n b k s o h
 before_left LastStatus n b k s o h = absurd h
-before_left (Clear p owed) n b k s o h = clear_left p owed.error
+before_left (Clear p owed) n b k s o h = clear_left p (clears_last p owed)
 before_left (Check p owed) n b k s o h = check_left p owed.error o
+
+-- what holds early at a state
+early_at : (base : Counted) (start : Port) (e : Engine) (s : Port) (x : State) → e.state ≡ x → IsEarly base start e s
+    → Early x (base.disturbed + e.events) e.tries base e.stray start s
+early_at base start e s x at h = subst (λ y. Early y (base.disturbed + e.events) e.tries base e.stray start s) at h
+
+resumed_left : (base : Counted) (start : Port) (e : Engine) (s : Port) (job : Job) → e.state ≡ Doing job Ask
+    → is_job_of true job ≡ true → Resumes base start e s → 2 ≤ left_for job
+resumed_left base start e s job at opening (early ok few h) =
+    early_left job (base.disturbed + e.events) e.stray start s opening (early_at base start e s (Doing job Ask) at h)
+resumed_left base start e s job at opening (over m may h) =
+    before_left job (base.disturbed + e.events) e.begun (hand_of e m) s opening
+    (tracked base m e s (Doing job Ask) at h.tracks)
 
 opening_begins : (job : Job) → is_job_of true job ≡ true → begins job ≡ false
 opening_begins job h = grind arith
@@ -175,11 +193,11 @@ or_true a b h i = grind arith
 
 pub ask_goes : (e f : Engine) (s t : Port) (q : Request) (v : ℕ) → cue_of e ≡ CueAsk q → Asks s q v t
     → open_requests f + 1 ≤ open_requests e → f.requests ≡ one_more e.requests → Sees v e f
-    → ((base : Counted) (m : PlainMemory) (u : Port) → Hears v base m e u → TracksEngine base m f u)
+    → ((base : Counted) (m : PlainMemory) (u : Port) → Hears v base m e u → TracksEngine base m f u) → HearsEarly v e f
     → Goes e s f t
-ask_goes e f s t q v cue asks left sent sees tracks =
+ask_goes e f s t q v cue asks left sent sees tracks hears =
     let c : Asked s t = request_counted q v s t asks in
-    let a : IsAsking e.state e.task q = asking e.state e.task q cue in
+    let a : IsAsking e.state e.task q = asking e.state e.stray e.task q cue in
     let job : job_in e.state ≡ a.job = ap job_in a.at in
     let more : (e.requests ≤ one_more e.requests) × (one_more e.requests ≤ e.requests + 1) =
     one_more_least e.requests in
@@ -188,6 +206,23 @@ ask_goes e f s t q v cue asks left sent sees tracks =
     let open_here : left_in e.state ≡ left_for a.job = ap left_in a.at in
     let part_of : (opening : Bool) → is_state_of opening e.state ≡ true
     → is_job_of opening a.job ≡ true = λ opening h. sym (ap (is_state_of opening) a.at) ∙ h in
+    let asked : Asks s (request_of a.job e.task) v t = subst (λ r. Asks s r v t) a.is asks in
+    let follows : (base : Counted) (m : PlainMemory) → Follows base m e s → Follows base m f t = λ base m h. (
+    let before : Before a.job (base.disturbed + e.events) e.begun (hand_of e m) s =
+    tracked base m e s (Doing a.job Ask) a.at h.tracks in
+    let saw : Saw a.job v (base.disturbed + e.events) base (begins a.job || e.begun) (hand_of e m) t =
+    ask_saw a.job (base.disturbed + e.events) base e.begun (hand_of e m) v s t h.lost before asked in
+    record {
+      task = subst IsTask (sym sees.task) h.task;
+      lost = omega (arith, c.lost_least, h.lost);
+      tracks = tracks base m t (subst (λ j. Saw j v (base.disturbed + e.events) base (begins j || e.begun)
+          (hand_of e m) t) (sym job) saw);
+    }) in
+    let step : (base : Counted) (start : Port) → base.lost ≤ s.tally.lost → IsEarly base start e s
+    → IsEarly base start f t = λ base start few h. hears base start t
+    (subst (λ j. EarlySaw j v (base.disturbed + e.events) base e.stray start t) (sym job)
+    (ask_early (base.disturbed + e.events) base e.stray start v s t e.task few a.job
+    (early_at base start e s (Doing a.job Ask) a.at h) asked)) in
     let begun_is : f.begun ≡ (begins a.job || e.begun) = sees.begun ∙ ap (λ j. begins j || e.begun) job in
     record {
       task = sees.task;
@@ -203,26 +238,15 @@ ask_goes e f s t q v cue asks left sent sees tracks =
           in
           let here : least_in e.aims e.state ≡ bit e.aims = ap (least_in e.aims) (a.at ∙ ap (λ j. Doing j Ask) at) in
           omega (arith, exact few, here));
-      follows = λ base m h. (
-          let before : Before a.job (base.disturbed + e.events) e.begun (hand_of e m) s =
-          tracked base m e s (Doing a.job Ask) a.at h.tracks in
-          let saw : Saw a.job v (base.disturbed + e.events) base (begins a.job || e.begun) (hand_of e m) t =
-          ask_saw a.job (base.disturbed + e.events) base e.begun (hand_of e m) v s t h.lost before
-          (subst (λ r. Asks s r v t) a.is asks) in
-          record {
-            task = subst IsTask (sym sees.task) h.task;
-            lost = omega (arith, c.lost_least, h.lost);
-            tracks = tracks base m t (subst (λ j. Saw j v (base.disturbed + e.events) base (begins j || e.begun)
-                (hand_of e m) t) (sym job) saw);
-          });
+      follows = follows;
+      resumes = resumes_by e f s t sees.task c.lost_least
+          (still_early e f s t sees.task c.lost_least step) follows;
+      identification = c.identification;
       disturbed = c.disturbed_least;
       lost = c.lost_least;
       asked = λ few. omega (arith, exact few, c.asked);
-      lost_early = λ on base m h opening is. (
-          let before : Before a.job (base.disturbed + e.events) e.begun (hand_of e m) s =
-          tracked base m e s (Doing a.job Ask) a.at h.tracks in
-          let two : 2 ≤ left_for a.job = before_left a.job (base.disturbed + e.events) e.begun (hand_of e m) s
-          (part_of true opening) before in
+      lost_early = λ on base start h opening is. (
+          let two : 2 ≤ left_for a.job = resumed_left base start e s a.job a.at (part_of true opening) h in
           let same : 5 * (f.tries - f.events) ≡ 5 * (e.tries - e.events) =
           ap (λ i. 5 * (i - f.events)) sees.tries ∙ ap (λ i. 5 * (e.tries - i)) sees.events in
           omega (arith, sent, more.1, open_here, two, same));
@@ -233,25 +257,26 @@ read_due : (read : Bool) → (if read then Take else Give) ≡ due_of read
 read_due true = refl
 read_due false = refl
 
-due_seen : (job : Job) (task : Task) (one two four : Bool) →
+due_seen : (job : Job) (stray : Bool) (task : Task) (one two four : Bool) →
     DueAt (if one then Doing job Data else if two then Doing job Waited else if four then Doing job Faulted else
-    Resting (Stopped Lost)) task
+    Resting (Stopped Lost)) stray task
     (if one then (if (request_of job task).read then Take else Give) else if two || four then Pass else DueLost)
-due_seen job task true two four = read_due (request_of job task).read
-due_seen job task false true four = refl
-due_seen job task false false true = refl
-due_seen job task false false false = refl
+due_seen job stray task true two four = read_due (request_of job task).read
+due_seen job stray task false true four = refl
+due_seen job stray task false false true = refl
+due_seen job stray task false false false = refl
 
 pub ask_due : (e f : Engine) (s t : Port) (q : Request) (v : ℕ) → cue_of e ≡ CueAsk q → Asks s q v t → Sees v e f
     → DueFits f t
 ask_due e f s t q v cue asks sees =
-    let a : IsAsking e.state e.task q = asking e.state e.task q cue in
+    let a : IsAsking e.state e.task q = asking e.state e.stray e.task q cue in
     let due : t.link.due ≡ due_after (request_of a.job e.task).read v =
     due_after_request q v s t asks ∙ ap (λ r. due_after r.read v) a.is in
     let state : f.state ≡ state_seen a.job v = sees.state ∙ ap (λ j. state_seen j v) (ap job_in a.at) in
-    subst (λ i. DueAt f.state i t.link.due) (sym sees.task) (subst (λ i. DueAt i e.task t.link.due) (sym state)
-    (subst (λ d. DueAt (state_seen a.job v) e.task d) (sym due)
-    (due_seen a.job e.task (v == 1) (v == 2) (v == 4))))
+    subst (λ i. DueAt f.state f.stray i t.link.due) (sym sees.task)
+    (subst (λ i. DueAt i f.stray e.task t.link.due) (sym state)
+    (subst (λ d. DueAt (state_seen a.job v) f.stray e.task d) (sym due)
+    (due_seen a.job f.stray e.task (v == 1) (v == 2) (v == 4))))
 
 -- EVERY OTHER CALL
 no_lost : (x : State) → is_quiet x ≡ true → x ≡ Resting (Stopped Lost) → ⊥
@@ -261,9 +286,15 @@ not_true : (b : Bool) → (b ≡ true → ⊥) → b ≡ false
 not_true true h = absurd (h refl)
 not_true false h = refl
 
+-- what a call that is no request keeps
+abbrev Steps : Engine → Port → Engine → Port → Type 0
+Steps e s f t = (base : Counted) (start : Port) → IsTask e.task → base.lost ≤ s.tally.lost → IsEarly base start e s
+    → Resumes base start f t
+
 moves : (e f : Engine) (s t : Port) → lands_from e f → t.tally ≡ s.tally
-    → ((base : Counted) (m : PlainMemory) → Follows base m e s → TracksEngine base m f t) → Goes e s f t
-moves e f s t lands tally tracks = record {
+    → t.target.identification ≡ s.target.identification
+    → ((base : Counted) (m : PlainMemory) → Follows base m e s → Follows base m f t) → Steps e s f t → Goes e s f t
+moves e f s t lands tally identified follows steps = record {
   task = lands.task;
   aims = lands.aims;
   tries = lands.tries;
@@ -274,16 +305,28 @@ moves e f s t lands tally tracks = record {
   spends = omega (arith, lands.requests, lands.left);
   least = λ few. omega (arith, lands.requests, lands.least);
   begun = λ few not_yet now. absurd (let both : true ≡ false = sym (lands.begun now) ∙ not_yet in cc);
-  follows = λ base m h. record {
-    task = subst IsTask (sym lands.task) h.task;
-    lost = omega (arith, ap (λ i. i.lost) tally, h.lost);
-    tracks = tracks base m h;
-  };
+  follows = follows;
+  resumes = resumes_by e f s t lands.task (omega (arith, ap (λ i. i.lost) tally)) steps follows;
+  identification = identified;
   disturbed = omega (arith, ap (λ i. i.disturbed) tally);
   lost = omega (arith, ap (λ i. i.lost) tally);
   asked = λ few. omega (arith, ap (λ i. i.asked) tally, lands.requests);
-  lost_early = λ on base m h opening is. absurd (no_lost f.state lands.quiet is);
+  lost_early = λ on base start h opening is. absurd (no_lost f.state lands.quiet is);
 }
+
+follows_by : (e f : Engine) (s t : Port) → lands_from e f → t.tally ≡ s.tally
+    → ((base : Counted) (m : PlainMemory) → Follows base m e s → TracksEngine base m f t)
+    → (base : Counted) (m : PlainMemory) → Follows base m e s → Follows base m f t
+follows_by e f s t lands tally tracks base m h = record {
+  task = subst IsTask (sym lands.task) h.task;
+  lost = omega (arith, ap (λ i. i.lost) tally, h.lost);
+  tracks = tracks base m h;
+}
+
+steps_by : (e f : Engine) (s t : Port) → lands_from e f → t.tally ≡ s.tally
+    → ((base : Counted) (start : Port) → IsEarly base start e s → IsEarly base start f t) → Steps e s f t
+steps_by e f s t lands tally step = still_early e f s t lands.task (omega (arith, ap (λ i. i.lost) tally))
+    (λ base start few h. step base start h)
 
 -- where a data phase is read
 record IsPhase (x : State) (task : Task) (cue : Cue) : Type 0 where
@@ -291,38 +334,45 @@ record IsPhase (x : State) (task : Task) (cue : Cue) : Type 0 where
   at : x ≡ Doing job Data
   is : data_cue (is_ahead_at job Data task) (word_for job task) ≡ cue
 
-taking : (x : State) (task : Task) → cue_at x task ≡ CueTake → IsPhase x task CueTake
-taking (Doing job Data) task e = record { job = job; at = refl; is = e }
-taking (Doing job Ask) task e = absurd (cc)
-taking Leading task e = absurd (cc)
-taking (Doing job Waited) task e = absurd (cc)
-taking (Doing job Faulted) task e = absurd (cc)
-taking (Resting outcome) task e = absurd (cc)
+taking : (x : State) (stray : Bool) (task : Task) → cue_at x stray task ≡ CueTake → IsPhase x task CueTake
+taking (Doing job Data) stray task e = record { job = job; at = refl; is = e }
+taking (Doing job Ask) stray task e = absurd (cc)
+taking Leading stray task e = absurd (cc)
+taking (Doing job Waited) stray task e = absurd (cc)
+taking (Doing job Faulted) stray task e = absurd (cc)
+taking (Resting outcome) stray task e = absurd (cc)
 
-giving : (x : State) (task : Task) (sent : ℕ) → cue_at x task ≡ CueGive sent → IsPhase x task (CueGive sent)
-giving (Doing job Data) task sent e = record { job = job; at = refl; is = e }
-giving (Doing job Ask) task sent e = absurd (cc)
-giving Leading task sent e = absurd (cc)
-giving (Doing job Waited) task sent e = absurd (cc)
-giving (Doing job Faulted) task sent e = absurd (cc)
-giving (Resting outcome) task sent e = absurd (cc)
+giving : (x : State) (stray : Bool) (task : Task) (sent : ℕ) → cue_at x stray task ≡ CueGive sent
+    → IsPhase x task (CueGive sent)
+giving (Doing job Data) stray task sent e = record { job = job; at = refl; is = e }
+giving (Doing job Ask) stray task sent e = absurd (cc)
+giving Leading stray task sent e = absurd (cc)
+giving (Doing job Waited) stray task sent e = absurd (cc)
+giving (Doing job Faulted) stray task sent e = absurd (cc)
+giving (Resting outcome) stray task sent e = absurd (cc)
 
 pub take_goes : (e f : Engine) (s t : Port) (bits : ℕ) → bits < 2 ^ 33 → cue_of e ≡ CueTake → Takes s bits t
     → lands_from e f
     → ((base : Counted) (m : PlainMemory) (u : Port) → HasRead (word_in bits) base m e u → TracksEngine base m f u)
-    → Goes e s f t
-take_goes e f s t bits range cue takes lands tracks =
-    let p : IsPhase e.state e.task CueTake = taking e.state e.task cue in
+    → ReadsEarly (word_in bits) e f → Goes e s f t
+take_goes e f s t bits range cue takes lands tracks reads =
+    let p : IsPhase e.state e.task CueTake = taking e.state e.stray e.task cue in
     let c : IsTaking (is_ahead_at p.job Data e.task) (word_for p.job e.task) =
     take_cue (is_ahead_at p.job Data e.task) (word_for p.job e.task) p.is in
-    moves e f s t lands (others_uncounted.taken bits s t takes)
-    (λ base m h. tracks base m t (
+    let job : job_in e.state ≡ p.job = ap job_in p.at in
+    let tally : t.tally ≡ s.tally = others_uncounted.taken bits s t takes in
+    moves e f s t lands tally (identification_kept.taken bits s t takes)
+    (follows_by e f s t lands tally (λ base m h. tracks base m t (
       h.task,
       subst
-          (λ j. TakenFor j (word_in bits) (base.disturbed + e.events) e.begun (hand_of e m) t) (sym (ap job_in p.at))
+          (λ j. TakenFor j (word_in bits) (base.disturbed + e.events) e.begun (hand_of e m) t) (sym job)
           (taken_facts (base.disturbed + e.events) e.begun (hand_of e m) s t bits range takes p.job c.reads c.ahead_not
           (tracked base m e s (Doing p.job Data) p.at h.tracks)),
-    ))
+    )))
+    (steps_by e f s t lands tally (λ base start h. reads base start t
+    (subst (λ j. EarlyTaken j (word_in bits) (base.disturbed + e.events) e.stray start t) (sym job)
+    (read_early (base.disturbed + e.events) e.stray start bits s t range takes p.job e.task c.reads
+    (early_at base start e s (Doing p.job Data) p.at h)))))
 
 -- a call of `done` says what was left
 abbrev pub Dones : Engine → Engine → Type 0
@@ -333,62 +383,133 @@ left_at_state : (base : Counted) (m : PlainMemory) (e : Engine) (t : Port) (x : 
     → Left e.state (base.disturbed + e.events) e.begun (hand_of e m) t
 left_at_state base m e t x at h = subst (λ y. Left y (base.disturbed + e.events) e.begun (hand_of e m) t) (sym at) h
 
+early_left_at : (base : Counted) (start : Port) (e : Engine) (t : Port) (x : State) → e.state ≡ x
+    → EarlyLeft x (base.disturbed + e.events) e.stray start t
+    → EarlyLeft e.state (base.disturbed + e.events) e.stray start t
+early_left_at base start e t x at h =
+    subst (λ y. EarlyLeft y (base.disturbed + e.events) e.stray start t) (sym at) h
+
 pub give_goes : (e f : Engine) (s t : Port) (sent : ℕ) → sent < 2 ^ 33 → cue_of e ≡ CueGive sent → Gives s sent t
-    → lands_from e f → Dones e f → Goes e s f t
-give_goes e f s t sent range cue gives lands tracks =
-    let p : IsPhase e.state e.task (CueGive sent) = giving e.state e.task sent cue in
+    → lands_from e f → Dones e f → SendsEarly e f → Goes e s f t
+give_goes e f s t sent range cue gives lands tracks sends =
+    let p : IsPhase e.state e.task (CueGive sent) = giving e.state e.stray e.task sent cue in
     let c : IsGiving (word_for p.job e.task) sent = give_cue (is_ahead_at p.job Data e.task)
     (word_for p.job e.task) sent p.is in
-    moves e f s t lands (others_uncounted.given sent s t gives)
-    (λ base m h. tracks base m t (
+    let tally : t.tally ≡ s.tally = others_uncounted.given sent s t gives in
+    let follows : (base : Counted) (m : PlainMemory) → Follows base m e s → Follows base m f t =
+    follows_by e f s t lands tally (λ base m h. tracks base m t (
       h.task,
       left_at_state base m e t (Doing p.job Data) p.at
           (job_gave (base.disturbed + e.events) e.begun
           (hand_of e m) s t sent range gives p.job c.gives c.is c.sends h.task
           (tracked base m e s (Doing p.job Data) p.at h.tracks)),
-    ))
+    )) in
+    moves e f s t lands tally (identification_kept.given sent s t gives) follows
+    (λ base start ok few h.
+    elim (given_early (base.disturbed + e.events) e.stray start sent s t range gives p.job e.task c.gives c.is c.sends
+    (early_at base start e s (Doing p.job Data) p.at h)) [
+      | inl at ↦
+          (let chosen = select_chooses base start e s p.job p.at at ok few h in
+          over chosen.memory chosen.comes (follows base chosen.memory chosen.follows))
+      | inr left ↦ early (subst IsTask (sym lands.task) ok) (omega (arith, ap (λ i. i.lost) tally, few))
+          (sends base start t (early_left_at base start e t (Doing p.job Data) p.at left))
+    ])
 
-passed_left : (n tries : ℕ) (base : Counted) (b : Bool) (k : Hand) (x : State) (task : Task) (s t : Port)
-    → cue_at x task ≡ CuePass → Passes s t → Tracks x n tries base b k s → Left x n b k t
-passed_left n tries base b k (Doing job Waited) task s t e passes h = waiting_passed job n b k s t passes h
-passed_left n tries base b k (Doing job Faulted) task s t e passes h = faulted_passed job n b k s t passes h
-passed_left n tries base b k (Doing job Data) task s t e passes h =
+passed_left : (n tries : ℕ) (base : Counted) (b : Bool) (k : Hand) (x : State) (stray : Bool) (task : Task)
+    (s t : Port) → cue_at x stray task ≡ CuePass → Passes s t → Tracks x n tries base b k s → Left x n b k t
+passed_left n tries base b k (Doing job Waited) stray task s t e passes h = waiting_passed job n b k s t passes h
+passed_left n tries base b k (Doing job Faulted) stray task s t e passes h = faulted_passed job n b k s t passes h
+passed_left n tries base b k (Doing job Data) stray task s t e passes h =
     absurd (pass_cue (is_ahead_at job Data task) (word_for job task) e)
-passed_left n tries base b k (Doing job Ask) task s t e passes h = absurd (cc)
-passed_left n tries base b k Leading task s t e passes h = absurd (cc)
-passed_left n tries base b k (Resting outcome) task s t e passes h = absurd (cc)
+passed_left n tries base b k (Doing job Ask) stray task s t e passes h = absurd (cc)
+passed_left n tries base b k Leading stray task s t e passes h = absurd (cc)
+passed_left n tries base b k (Resting outcome) stray task s t e passes h = absurd (cc)
+
+passed_early : (n tries : ℕ) (base : Counted) (x : State) (stray : Bool) (task : Task) (start s t : Port)
+    → cue_at x stray task ≡ CuePass → Passes s t → Early x n tries base stray start s → EarlyLeft x n stray start t
+passed_early n tries base (Doing job Waited) stray task start s t e passes h =
+    waiting_early job n stray start s t passes h
+passed_early n tries base (Doing job Faulted) stray task start s t e passes h =
+    faulted_early job n stray start s t passes h
+passed_early n tries base (Doing job Data) stray task start s t e passes h =
+    absurd (pass_cue (is_ahead_at job Data task) (word_for job task) e)
+passed_early n tries base (Doing job Ask) stray task start s t e passes h = absurd (cc)
+passed_early n tries base Leading stray task start s t e passes h = absurd (cc)
+passed_early n tries base (Resting outcome) stray task start s t e passes h = absurd (cc)
 
 pub pass_goes : (e f : Engine) (s t : Port) → cue_of e ≡ CuePass → Passes s t → lands_from e f → Dones e f
-    → Goes e s f t
-pass_goes e f s t cue passes lands tracks =
-    moves e f s t lands (others_uncounted.passed s t passes)
-    (λ base m h. tracks base m t (
+    → SendsEarly e f → Goes e s f t
+pass_goes e f s t cue passes lands tracks sends =
+    let tally : t.tally ≡ s.tally = others_uncounted.passed s t passes in
+    moves e f s t lands tally (identification_kept.passed s t passes)
+    (follows_by e f s t lands tally (λ base m h. tracks base m t (
       h.task,
       passed_left (base.disturbed + e.events) e.tries base e.begun
-          (hand_of e m) e.state e.task s t cue passes h.tracks,
-    ))
+          (hand_of e m) e.state e.stray e.task s t cue passes h.tracks,
+    )))
+    (steps_by e f s t lands tally (λ base start h. sends base start t
+    (passed_early (base.disturbed + e.events) e.tries base e.state e.stray e.task start s t cue passes h)))
 
-fifty_six : (ones low : ℕ) (switch : Bool) → Lead 56 true 2 ≡ Lead ones switch low → ones ≡ 0 → ⊥
-fifty_six ones low switch e none = absurd (let is : 56 ≡ ones = cc in omega arith)
+some_ones : (stray : Bool) (ones low : ℕ) (switch : Bool) → lead_cue stray ≡ Lead ones switch low → ones ≡ 0 → ⊥
+some_ones true ones low switch e none = absurd (let is : 100 ≡ ones = cc in omega arith)
+some_ones false ones low switch e none = absurd (let is : 56 ≡ ones = cc in omega arith)
 
-led_left : (n tries : ℕ) (base : Counted) (b : Bool) (k : Hand) (x : State) (task : Task) (ones low : ℕ)
-    (switch : Bool) (s t : Port) → cue_at x task ≡ Lead ones switch low → Leads s ones t → Tracks x n tries base b k s
+led_left : (n tries : ℕ) (base : Counted) (b : Bool) (k : Hand) (x : State) (stray : Bool) (task : Task)
+    (ones low : ℕ) (switch : Bool) (s t : Port) → cue_at x stray task ≡ Lead ones switch low → Leads s ones t → Tracks x n tries base b k s
     → Left x n b k t
-led_left n tries base b k Leading task ones low switch s t e leads h =
-    led n b k ones s t (fifty_six ones low switch e) leads h
-led_left n tries base b k (Doing job Data) task ones low switch s t e leads h =
-    absurd (lead_cue (is_ahead_at job Data task) (word_for job task) ones low switch e)
-led_left n tries base b k (Doing job Ask) task ones low switch s t e leads h = absurd (cc)
-led_left n tries base b k (Doing job Waited) task ones low switch s t e leads h = absurd (cc)
-led_left n tries base b k (Doing job Faulted) task ones low switch s t e leads h = absurd (cc)
-led_left n tries base b k (Resting outcome) task ones low switch s t e leads h = absurd (cc)
+led_left n tries base b k Leading stray task ones low switch s t e leads h =
+    led n b k ones s t (some_ones stray ones low switch e) leads h
+led_left n tries base b k (Doing job Data) stray task ones low switch s t e leads h =
+    absurd (lead_cue_none (is_ahead_at job Data task) (word_for job task) ones low switch e)
+led_left n tries base b k (Doing job Ask) stray task ones low switch s t e leads h = absurd (cc)
+led_left n tries base b k (Doing job Waited) stray task ones low switch s t e leads h = absurd (cc)
+led_left n tries base b k (Doing job Faulted) stray task ones low switch s t e leads h = absurd (cc)
+led_left n tries base b k (Resting outcome) stray task ones low switch s t e leads h = absurd (cc)
+
+led_first : (n tries : ℕ) (base : Counted) (x : State) (stray : Bool) (task : Task) (ones low : ℕ) (switch : Bool)
+    (start s t : Port) → cue_at x stray task ≡ Lead ones switch low → Leads s ones t
+    → Early x n tries base stray start s → EarlyLeft x n stray start t
+led_first n tries base Leading stray task ones low switch start s t e leads h =
+    led_early n ones stray start s t (some_ones stray ones low switch e) leads h.0
+led_first n tries base (Doing job Data) stray task ones low switch start s t e leads h =
+    absurd (lead_cue_none (is_ahead_at job Data task) (word_for job task) ones low switch e)
+led_first n tries base (Doing job Ask) stray task ones low switch start s t e leads h = absurd (cc)
+led_first n tries base (Doing job Waited) stray task ones low switch start s t e leads h = absurd (cc)
+led_first n tries base (Doing job Faulted) stray task ones low switch start s t e leads h = absurd (cc)
+led_first n tries base (Resting outcome) stray task ones low switch start s t e leads h = absurd (cc)
 
 pub lead_goes : (e f : Engine) (s t : Port) (ones low : ℕ) (switch : Bool) → cue_of e ≡ Lead ones switch low
-    → Leads s ones t → lands_from e f → Dones e f → Goes e s f t
-lead_goes e f s t ones low switch cue leads lands tracks =
-    moves e f s t lands (others_uncounted.led ones s t leads)
-    (λ base m h. tracks base m t (
+    → Leads s ones t → lands_from e f → Dones e f → SendsEarly e f → Goes e s f t
+lead_goes e f s t ones low switch cue leads lands tracks sends =
+    let tally : t.tally ≡ s.tally = others_uncounted.led ones s t leads in
+    moves e f s t lands tally (identification_kept.led ones s t leads)
+    (follows_by e f s t lands tally (λ base m h. tracks base m t (
       h.task,
       led_left (base.disturbed + e.events) e.tries base e.begun
-          (hand_of e m) e.state e.task ones low switch s t cue leads h.tracks,
-    ))
+          (hand_of e m) e.state e.stray e.task ones low switch s t cue leads h.tracks,
+    )))
+    (steps_by e f s t lands tally (λ base start h. sends base start t
+    (led_first (base.disturbed + e.events) e.tries base e.state e.stray e.task ones low switch start s t cue leads h)))
+
+-- a request is due after the lead
+quiet_first : (x : State) → is_quiet x ≡ true → moves_first x ≡ 0
+quiet_first x quiet = grind arith
+
+leads_first : (x : State) (stray : Bool) (task : Task) (ones low : ℕ) (switch : Bool)
+    → cue_at x stray task ≡ Lead ones switch low → x ≡ Leading
+leads_first Leading stray task ones low switch e = refl
+leads_first (Doing job Data) stray task ones low switch e =
+    absurd (lead_cue_none (is_ahead_at job Data task) (word_for job task) ones low switch e)
+leads_first (Doing job Ask) stray task ones low switch e = absurd (cc)
+leads_first (Doing job Waited) stray task ones low switch e = absurd (cc)
+leads_first (Doing job Faulted) stray task ones low switch e = absurd (cc)
+leads_first (Resting outcome) stray task ones low switch e = absurd (cc)
+
+pub lead_falls : (e f : Engine) (ones low : ℕ) (switch : Bool) → cue_of e ≡ Lead ones switch low → lands_from e f
+    → calls_left f < calls_left e
+lead_falls e f ones low switch cue lands = omega (
+  arith,
+  lands.left,
+  quiet_first f.state lands.quiet,
+  ap moves_first (leads_first e.state e.stray e.task ones low switch cue),
+)

@@ -41,16 +41,20 @@ data_cue true word = Rest
 data_cue false (Some word) = Give (phase_number word)
 data_cue false None = Take
 
-abbrev pub cue_at : State → Task → Cue
-cue_at Leading task = Lead 56 true 2
-cue_at (Doing job Ask) task = CueAsk (request_of job task)
-cue_at (Doing job Data) task = data_cue (is_ahead_at job Data task) (word_for job task)
-cue_at (Doing job Waited) task = Pass
-cue_at (Doing job Faulted) task = Pass
-cue_at (Resting outcome) task = Rest
+-- the line reset; inside a transaction it has 34 ones more than are needed
+abbrev pub lead_cue : Bool → Cue
+lead_cue inside = Lead (if inside then 100 else 56) (not inside) 2
+
+abbrev pub cue_at : State → Bool → Task → Cue
+cue_at Leading stray task = lead_cue stray
+cue_at (Doing job Ask) stray task = CueAsk (request_of job task)
+cue_at (Doing job Data) stray task = data_cue (is_ahead_at job Data task) (word_for job task)
+cue_at (Doing job Waited) stray task = Pass
+cue_at (Doing job Faulted) stray task = Pass
+cue_at (Resting outcome) stray task = Rest
 
 abbrev pub cue_of : Engine → Cue
-cue_of e = cue_at e.state e.task
+cue_of e = cue_at e.state e.stray e.task
 
 -- what an engine has come to
 abbrev pub finished_at : State → Task → Option Outcome

@@ -35,27 +35,31 @@ is_damaged_write p task aims flags = not flags.error && flags.damaged && is_some
 abbrev pub is_damaged_clearing : Flags → Flags → Bool
 is_damaged_clearing owed now = now.damaged && beq now.error owed.error
 
+-- the flag of a transfer that an earlier run left pending
+abbrev pub is_left_over : Bool → Flags → Bool
+is_left_over stray flags = stray && flags.error && not flags.damaged
+
 -- a word of a place that was read with right parity is an event
-abbrev pub is_event_at : Place → ℕ → Bool
-is_event_at Inspect word = is_flagged (flags_in word)
-is_event_at Powered word = is_unpowered (flags_in word) (is_powered word)
-is_event_at p word = false
+abbrev pub is_event_at : Place → ℕ → Bool → Bool
+is_event_at Inspect word stray = is_flagged (flags_in word) && not (is_left_over stray (flags_in word))
+is_event_at Powered word stray = is_unpowered (flags_in word) (is_powered word)
+is_event_at p word stray = false
 
 -- a data phase that was read is an event: a word that is looked at came with wrong parity, or what it says has to be
 -- done again
-abbrev pub is_event : Job → Option ℕ → Task → Bool → Bool
-is_event (At p) None task aims = not (is_unread p task)
-is_event (Resend p) None task aims = true
-is_event (Status p) None task aims = true
-is_event LastStatus None task aims = true
-is_event (Clear p owed) None task aims = true
-is_event (Check p owed) None task aims = true
-is_event (At p) (Some word) task aims = not (is_unread p task) && is_event_at p word
-is_event (Resend p) (Some word) task aims = false
-is_event (Status p) (Some word) task aims = is_damaged_write p task aims (flags_in word)
-is_event LastStatus (Some word) task aims = false
-is_event (Clear p owed) (Some word) task aims = false
-is_event (Check p owed) (Some word) task aims = is_damaged_clearing owed (flags_in word)
+abbrev pub is_event : Job → Option ℕ → Task → Bool → Bool → Bool
+is_event (At p) None task aims stray = not (is_unread p task)
+is_event (Resend p) None task aims stray = true
+is_event (Status p) None task aims stray = true
+is_event LastStatus None task aims stray = true
+is_event (Clear p owed) None task aims stray = true
+is_event (Check p owed) None task aims stray = true
+is_event (At p) (Some word) task aims stray = not (is_unread p task) && is_event_at p word stray
+is_event (Resend p) (Some word) task aims stray = false
+is_event (Status p) (Some word) task aims stray = is_damaged_write p task aims (flags_in word)
+is_event LastStatus (Some word) task aims stray = false
+is_event (Clear p owed) (Some word) task aims stray = false
+is_event (Check p owed) (Some word) task aims stray = is_damaged_clearing owed (flags_in word)
 
 -- a turnaround is an event: after WAIT for a request that may get it
 abbrev pub is_event_sent : State → Bool
@@ -92,4 +96,4 @@ abbrev pub MeetsSent : Engine → Engine → Type 0
 MeetsSent e f = Meets (is_event_sent e.state) None e f
 
 abbrev pub MeetsRead : Option ℕ → Engine → Engine → Type 0
-MeetsRead word e f = Meets (is_event (job_in e.state) word e.task e.aims) (wrong_id_read (job_in e.state) word) e f
+MeetsRead word e f = Meets (is_event (job_in e.state) word e.task e.aims e.stray) (wrong_id_read (job_in e.state) word) e f

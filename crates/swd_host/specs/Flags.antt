@@ -1,12 +1,15 @@
 -- The sticky flags of CTRL/STAT, and the words that clear them: IHI 0031, B2, "CTRL/STAT, Control/Status register"
 -- and "ABORT, AP Abort register".
-use Rattle.std.specs.Prelude.{ℕ, ◌+◌, ◌/◌, ◌%◌, ◌==◌, ◌&&◌, Bool, if◌then◌else◌}
+use Rattle.std.specs.Prelude.{ℕ, ◌+◌, ◌/◌, ◌%◌, ◌==◌, ◌&&◌, Bool, false, if◌then◌else◌}
 use Rattle.swd_port.specs.Laws.WordsRead.{holds}
 use Rattle.swd_host.specs.declared.flags.Flags.{Flags}
 
 -- the flags in a word of CTRL/STAT
 abbrev pub flags_in : ℕ → Flags
 flags_in word = record { error = holds 0x20 word; damaged = holds 0x80 word }
+
+abbrev pub no_flags : Flags
+no_flags = record { error = false; damaged = false }
 
 -- the word of ABORT that clears flags
 abbrev pub clear_word : Flags → ℕ

@@ -7,6 +7,7 @@ pub mod Progress
 pub mod Plain
 pub mod Events
 pub mod Tracks
+pub mod Early
 pub mod Turns
 pub mod Reports
 pub mod Standing

@@ -1,6 +1,7 @@
 -- How far the opening or an access has come: the requests that are still open to it, and those that were sent.
 use Rattle.std.specs.Prelude.{ℕ, ◌+◌, ◌-◌, ◌*◌, ◌&&◌, Bool, true, false, not, if◌then◌else◌}
 use Rattle.swd_bits.specs.Bits.{bit}
+use Rattle.swd_host.specs.declared.flags.Flags.{Flags}
 use Rattle.swd_host.specs.declared.outcome.End.TheVariants.{Lost}
 use Rattle.swd_host.specs.declared.outcome.Outcome.TheVariants.{Opened, Answered, Stopped}
 use Rattle.swd_host.specs.declared.request.Place.{Place}
@@ -36,10 +37,11 @@ left_again Confirm = 6
 left_again Behind = 2
 left_again p = left_at p
 
--- after a bus error is cleared: the access is answered, or RESEND comes
+-- after a bus error is cleared: the access is answered, or RESEND comes, or the request comes again
 abbrev pub left_cleared : Place → ℕ
+left_cleared Confirm = 0
 left_cleared Behind = 2
-left_cleared p = 0
+left_cleared p = left_at p
 
 abbrev pub left_for : Job → ℕ
 left_for (At p) = left_at p
@@ -56,9 +58,13 @@ left_in (Doing job phase) = left_for job - 1
 left_in (Resting Opened) = 1
 left_in (Resting outcome) = 0
 
+-- the flag of a transfer that was left pending may bring five more
+abbrev pub stray_left : Bool → ℕ
+stray_left stray = if stray then 5 else 0
+
 -- the requests still open to an engine before its next outcome, at most: each event may bring five more
 abbrev pub open_requests : Engine → ℕ
-open_requests e = 5 * (e.tries - e.events) + left_in e.state
+open_requests e = 5 * (e.tries - e.events) + stray_left e.stray + left_in e.state
 
 -- a data phase, a turnaround or the lead stands before the next request
 abbrev pub moves_first : State → ℕ
@@ -93,8 +99,8 @@ least_for aims (At p) = least_at aims p
 least_for aims (Resend p) = least_at aims p + 1
 least_for aims (Status p) = least_at aims p + 1
 least_for aims LastStatus = 0
-least_for aims (Clear p owed) = if owed.error then bit aims + 2 else least_at aims p + 1
-least_for aims (Check p owed) = if owed.error then bit aims + 2 else least_at aims p + 1
+least_for aims (Clear p owed) = least_at aims p + 1
+least_for aims (Check p owed) = least_at aims p + 1
 
 abbrev pub least_in : Bool → State → ℕ
 least_in aims Leading = 0
@@ -121,8 +127,8 @@ is_job_of opening (At p) = is_place_of opening p
 is_job_of opening (Resend p) = is_place_of opening p
 is_job_of opening (Status p) = is_place_of opening p
 is_job_of opening LastStatus = true
-is_job_of opening (Clear p owed) = is_place_of opening p && not (opening && owed.error)
-is_job_of opening (Check p owed) = is_place_of opening p && not (opening && owed.error)
+is_job_of opening (Clear p owed) = is_place_of opening p
+is_job_of opening (Check p owed) = is_place_of opening p
 
 abbrev pub is_state_of : Bool → State → Bool
 is_state_of opening Leading = opening

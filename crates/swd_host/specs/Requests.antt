@@ -131,6 +131,14 @@ is_unread Transfer task = true
 is_unread Confirm task = not (is_read task)
 is_unread p task = false
 
+abbrev pub is_confirm : Place → Bool
+is_confirm Confirm = true
+is_confirm p = false
+
+abbrev pub is_behind : Place → Bool
+is_behind Behind = true
+is_behind p = false
+
 -- how many of the accesses that aren't answered are begun once the request is sent, at least: DRW begins the access in
 -- hand, and what confirms a read of a block begins the next
 abbrev pub begins_next : Task → ℕ

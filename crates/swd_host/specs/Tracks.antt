@@ -42,7 +42,8 @@ use Rattle.swd_host.specs.declared.engine.Engine.{Engine}
 use Rattle.swd_host.specs.Plain.{IsAccess}
 use Rattle.swd_host.specs.Tasks.{access_of, is_block}
 use Rattle.swd_host.specs.Engines.{job_in}
-use Rattle.swd_host.specs.Requests.{request_of, next_place, confirmed_by, is_exempt, is_exempt_place, begins}
+use Rattle.swd_host.specs.Requests.{request_of, next_place, confirmed_by, is_exempt, is_exempt_place, is_confirm, is_behind}
+use Rattle.swd_host.specs.Requests.{begins}
 
 -- the access in hand, whether TAR has to be written for it, what is known of TAR and of the next access where the
 -- engine rests, and the memory before the access
@@ -165,14 +166,6 @@ pub record Hurt (p : Place) (n b : ℕ) (k : Hand) (s : Port) : Type 0 where
   pub has : Has back b k s.target
   pub flag : s.target.write_error ≡ true
   pub paid : n + 1 ≤ s.tally.disturbed
-
-abbrev pub is_confirm : Place → Bool
-is_confirm Confirm = true
-is_confirm _ = false
-
-abbrev pub is_behind : Place → Bool
-is_behind Behind = true
-is_behind _ = false
 
 -- an access is a bus error over this memory
 pub record IsBusError (a : Access) (m : PlainMemory) : Type 0 where
@@ -464,17 +457,18 @@ abbrev pub due_of : Bool → Due
 due_of true = Take
 due_of false = Give
 
-abbrev pub DueAt : State → Task → Due → Type 0
-DueAt Leading task due = due ≡ Nothing
-DueAt (Doing job Ask) task due = due ≡ Nothing
-DueAt (Doing job Data) task due = due ≡ due_of (request_of job task).read
-DueAt (Doing job Waited) task due = due ≡ Pass
-DueAt (Doing job Faulted) task due = due ≡ Pass
-DueAt (Resting (Stopped Lost)) task due = due ≡ DueLost
-DueAt (Resting outcome) task due = due ≡ Nothing
+-- whatever is due, where the line reset lets it go by
+abbrev pub DueAt : State → Bool → Task → Due → Type 0
+DueAt Leading stray task due = stray ≡ false → due ≡ Nothing
+DueAt (Doing job Ask) stray task due = due ≡ Nothing
+DueAt (Doing job Data) stray task due = due ≡ due_of (request_of job task).read
+DueAt (Doing job Waited) stray task due = due ≡ Pass
+DueAt (Doing job Faulted) stray task due = due ≡ Pass
+DueAt (Resting (Stopped Lost)) stray task due = due ≡ DueLost
+DueAt (Resting outcome) stray task due = due ≡ Nothing
 
 abbrev pub DueFits : Engine → Port → Type 0
-DueFits e s = DueAt e.state e.task s.link.due
+DueFits e s = DueAt e.state e.stray e.task s.link.due
 
 -- WHAT A CALL OF THE ENGINE IS TOLD
 -- what a word that was taken at a place tells

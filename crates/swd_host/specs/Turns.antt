@@ -27,11 +27,12 @@ use Rattle.swd_host.specs.declared.engine.Engine.{Engine}
 use Rattle.swd_host.specs.Addresses.{is_known, continues}
 use Rattle.swd_host.specs.Tasks.{task_for, access_of, is_burst, most_begun}
 use Rattle.swd_host.specs.Engines.{is_ahead, is_resting, job_in}
-use Rattle.swd_host.specs.Progress.{left_for, left_in, least_for, least_in, open_requests, is_state_of, is_quiet}
+use Rattle.swd_host.specs.Progress.{left_for, left_in, stray_left, least_for, least_in, open_requests, is_state_of, is_quiet}
 use Rattle.swd_host.specs.Tracks.{Counted, Follows, IsTask, begun_once, state_seen}
+use Rattle.swd_host.specs.Early.{Resumes}
 
--- an engine at the start of the opening
-pub record IsNew (kind : Bursts) (most : ℕ) (e : Engine) : Type 0 where
+-- an engine at the start of the opening; or one that goes on `again` after a lost acknowledgement
+pub record IsNew (kind : Bursts) (again : Bool) (most : ℕ) (e : Engine) : Type 0 where
   pub leads : e.state ≡ Leading
   pub tries : e.tries ≡ most
   pub events : e.events ≡ 0
@@ -40,6 +41,7 @@ pub record IsNew (kind : Bursts) (most : ℕ) (e : Engine) : Type 0 where
   pub task : IsTask e.task
   pub burst : is_burst e.task ≡ false
   pub requests : e.requests ≡ 0
+  pub stray : e.stray ≡ again
 
 -- the access was a bus error, which the one before it met
 abbrev pub has_failed : Ahead → Bool
@@ -69,6 +71,7 @@ pub record Starts (a : Access) (following : Option Access) (e f : Engine) : Type
   pub tar : f.tar ≡ e.tar
   pub tries : f.tries ≡ e.tries
   pub requests : f.requests ≡ e.requests
+  pub stray : f.stray ≡ false
 
 -- what an acknowledgement leaves: the access in hand is begun once its DRW request was sent, and in a block the next
 -- one once its was
@@ -80,6 +83,7 @@ pub record Sees (seen : ℕ) (e f : Engine) : Type 0 where
   pub tries : f.tries ≡ e.tries
   pub events : f.events ≡ e.events
   pub bursts : f.bursts ≡ e.bursts
+  pub stray : f.stray ≡ e.stray
   pub begun : f.begun ≡ begun_once e.state e.task e.begun
   pub least : least_in f.aims f.state ≤ least_in e.aims e.state + 1
   pub part : (opening : Bool) → is_state_of opening e.state ≡ true → is_state_of opening f.state ≡ true
@@ -93,7 +97,7 @@ pub record Lands (open_then sent_then : ℕ) (x : State) (e f : Engine) : Type 0
   pub requests : f.requests ≡ e.requests
   pub bursts : f.bursts ≡ e.bursts
   pub begun : f.begun ≤ e.begun
-  pub left : open_requests f ≤ 5 * (e.tries - e.events) + open_then
+  pub left : open_requests f ≤ 5 * (e.tries - e.events) + stray_left e.stray + open_then
   pub least : least_in f.aims f.state ≤ sent_then
   pub part : (opening : Bool) → is_state_of opening x ≡ true → is_state_of opening f.state ≡ true
   pub quiet : is_quiet f.state ≡ true
@@ -134,11 +138,13 @@ pub record Goes (e : Engine) (s : Port) (f : Engine) (t : Port) : Type 0 where
       → e.requests + bit e.aims + f.begun ≤ f.requests + least_in e.aims e.state
   -- with the port
   pub follows : (base : Counted) (m : PlainMemory) → Follows base m e s → Follows base m f t
+  pub resumes : (base : Counted) (start : Port) → Resumes base start e s → Resumes base start f t
+  pub identification : t.target.identification ≡ s.target.identification
   pub disturbed : s.tally.disturbed ≤ t.tally.disturbed
   pub lost : s.tally.lost ≤ t.tally.lost
   pub asked : IsCountable e → t.tally.asked + e.requests ≡ s.tally.asked + f.requests
   -- over such a target the opening's last request is never answered FAULT, so a lost one comes a request earlier
-  pub lost_early : is_resting e ≡ false → (base : Counted) (m : PlainMemory) → Follows base m e s
+  pub lost_early : is_resting e ≡ false → (base : Counted) (start : Port) → Resumes base start e s
       → is_state_of true e.state ≡ true →
       f.state ≡ Resting (Stopped Lost) → f.requests + 1 + 5 * (f.tries - f.events) ≤ e.requests + open_requests e
 

@@ -2,7 +2,8 @@
 ghost use Rattle.std.specs.Prelude.{◌≡◌, ◌+◌, ◌<◌, ◌≤◌, ◌*◌, ◌^◌, ◌||◌, ℕ, true, false, None};
 ghost use Rattle.swd_port.specs.Phases.{word_in};
 ghost use Rattle.swd_host.specs.Events.{Meets, MeetsRead, MeetsSent};
-ghost use Rattle.swd_host.specs.Engines.{cue_of, finished_of, is_ahead, begun_of, is_ask, is_take, is_send};
+ghost use Rattle.swd_host.specs.Early.{HearsEarly, ReadsEarly, SendsEarly};
+ghost use Rattle.swd_host.specs.Engines.{lead_cue, cue_of, finished_of, is_ahead, begun_of, is_ask, is_take, is_send};
 ghost use Rattle.swd_host.specs.Engines.{may_start, one_more, requests_of, tries_of, IsPhaseCue};
 ghost use Rattle.swd_host.specs.Tasks.{task_for};
 ghost use Rattle.swd_host.specs.Progress.{open_requests};
@@ -107,13 +108,16 @@ pub struct Engine {
     // the next one.
     pub(crate) begun: u8,
     pub(crate) requests: u64,
+    // A transfer that an earlier run left pending may still turn out a bus error, whose flag is
+    // then no event: once.
+    pub(crate) stray: bool,
 }
 
 impl Engine {
     /// An engine at the start of the opening. Each of the opening and the accesses may meet as many
     /// events as `tries`.
     pub fn new(tries: u32) -> Engine
-        ensures new { IsNew Bursts.Writes tries result }
+        ensures new { IsNew Bursts.Writes false tries result }
         ensures open { open_requests result ≤ 9 + 5 * (tries + 1) }
     {
         Engine {
@@ -127,17 +131,29 @@ impl Engine {
             events: 0,
             begun: 0,
             requests: 0,
+            stray: false,
         }
     }
 
     /// The same for blocks of reads: its bursts are reads in place of writes. A read gives its word at the
     /// DRW read of the next one.
     pub fn blocks(tries: u32) -> Engine
-        ensures new { IsNew Bursts.Reads tries result }
+        ensures new { IsNew Bursts.Reads false tries result }
         ensures open { open_requests result ≤ 9 + 5 * (tries + 1) }
     {
         let mut engine = Engine::new(tries);
         engine.bursts = Bursts::Reads;
+        engine
+    }
+
+    // An engine that goes on after a lost acknowledgement: its line reset lets a data phase go by
+    // first, and a transfer that is still pending may turn out a bus error.
+    pub(crate) fn again(tries: u32) -> Engine
+        ensures again { IsNew Bursts.Writes true tries result }
+        ensures open { open_requests result ≤ 9 + 5 * (tries + 2) }
+    {
+        let mut engine = Engine::new(tries);
+        engine.stray = true;
         engine
     }
 
@@ -160,6 +176,7 @@ impl Engine {
         self.task = Task::new(self.bursts, access, following);
         self.ahead = Ahead::Unsent;
         self.events = 0;
+        self.stray = false;
     }
 
     // Where the next access begins. `given` says whether the data of its DRW write is due.
@@ -199,11 +216,7 @@ impl Engine {
         ensures range { IsPhaseCue result }
     {
         match self.state {
-            State::Leading => Cue::Lead {
-                ones: 56,
-                switch: true,
-                zeros: 2,
-            },
+            State::Leading => lead(self.stray),
             State::Doing(job, Phase::Ask) => Cue::Ask(job.request(self.task)),
             State::Doing(job, Phase::Data) => self.data_cue(job),
             State::Doing(_, Phase::Waited | Phase::Faulted) => Cue::Pass,
@@ -261,6 +274,7 @@ impl Engine {
         ensures requests { requests_of self.new ≡ one_more (requests_of self.old) }
         ensures sees { Sees seen self.old self.new }
         ensures tracks { Keeps (Hears seen) self.old self.new }
+        ensures early { HearsEarly seen self.old self.new }
         ensures meets { Meets false None self.old self.new }
     {
         let State::Doing(job, _) = self.state else {
@@ -276,6 +290,7 @@ impl Engine {
         requires { is_send (cue_of self.old) ≡ true }
         ensures lands { lands_from self.old self.new }
         ensures tracks { Keeps HasSent self.old self.new }
+        ensures early { SendsEarly self.old self.new }
         ensures meets { MeetsSent self.old self.new }
     {
         let State::Doing(job, phase) = self.state else {
@@ -296,6 +311,7 @@ impl Engine {
         requires cue { is_take (cue_of self.old) ≡ true }
         ensures lands { lands_from self.old self.new }
         ensures tracks { Keeps (HasRead (word_in bits)) self.old self.new }
+        ensures early { ReadsEarly (word_in bits) self.old self.new }
         ensures meets { MeetsRead (word_in bits) self.old self.new }
     {
         let State::Doing(job, _) = self.state else {
@@ -305,6 +321,19 @@ impl Engine {
             Some(word) => self.told(job, word),
             None => self.garbled(job),
         }
+    }
+}
+
+// The line reset. Where a data phase may be due, it has 34 ones more than are needed, which may go by as
+// the rest of it.
+fn lead(inside: bool) -> Cue
+    ensures cue { result ≡ lead_cue inside }
+    ensures range { IsPhaseCue result }
+{
+    Cue::Lead {
+        ones: if inside { 100 } else { 56 },
+        switch: !inside,
+        zeros: 2,
     }
 }
 

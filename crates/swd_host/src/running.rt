@@ -99,9 +99,9 @@ fn refusal(accesses: &[Access]) -> Option<Refused>
 }
 
 // The opening.
-fn open<W: Wire>(wire: &mut W, engine: &mut Engine) -> Result<(), End>
-    requires due { (W.port wire.old).link.due ≡ Nothing }
-    requires new { IsNew engine.old.bursts engine.old.tries engine.old }
+pub(crate) fn open<W: Wire>(wire: &mut W, engine: &mut Engine) -> Result<(), End>
+    requires due { DueFits engine.old (W.port wire.old) }
+    requires new { IsNew engine.old.bursts engine.old.stray engine.old.tries engine.old }
     ensures due { DueFits engine.new (W.port wire.new) }
     ensures goes { Goes engine.old (W.port wire.old) engine.new (W.port wire.new) }
     ensures finished { engine.new.state ≡ opened_as result }
@@ -146,7 +146,7 @@ fn access<W: Wire>(
 
 // Does a list over a target that the engine has opened, adds the answers to those that are there, and
 // ends a list that is whole with eight idle cycles.
-fn perform<W: Wire, A: Allocator>(
+pub(crate) fn perform<W: Wire, A: Allocator>(
     wire: &mut W,
     engine: &mut Engine,
     accesses: &[Access],
@@ -207,7 +207,7 @@ pub(crate) fn conduct<W: Wire, A: Allocator>(
     answers: Vec<Answer, A>,
 ) -> Report<A>
     requires due { (W.port wire.old).link.due ≡ Nothing }
-    requires new { IsNew engine.bursts engine.tries engine }
+    requires new { IsNew engine.bursts false engine.tries engine }
     requires accepted { (length accesses.now ≤ 65536) × AreAccesses accesses.now }
     requires none { answers.items ≡ [] }
     requires room { length accesses.now ≤ vec_capacity answers }
@@ -224,7 +224,11 @@ pub(crate) fn conduct<W: Wire, A: Allocator>(
     reported(answers, &engine, ended)
 }
 
-fn reported<A: Allocator>(answers: Vec<Answer, A>, engine: &Engine, ended: End) -> Report<A>
+pub(crate) fn reported<A: Allocator>(
+    answers: Vec<Answer, A>,
+    engine: &Engine,
+    ended: End,
+) -> Report<A>
     ensures { told_of result ≡ told_by answers.items engine.now ended }
 {
     Report {

@@ -1,8 +1,10 @@
 //! The steps of the engine's own: from what a request came to, to the next request or an outcome.
 ghost use Rattle.std.specs.Prelude.{◌≡◌, ◌+◌, ◌-◌, ◌&&◌, ℕ, true, false, not, Option, Some, None};
 ghost use Rattle.swd_host.specs.Events.{Meets, is_damaged_clearing, is_damaged_write, is_event, is_event_at};
-ghost use Rattle.swd_host.specs.Events.{is_flagged, is_unpowered, wrong_id, wrong_id_read};
-ghost use Rattle.swd_host.specs.Flags.{is_configured};
+ghost use Rattle.swd_host.specs.Events.{is_flagged, is_left_over, is_unpowered, wrong_id, wrong_id_read};
+ghost use Rattle.swd_host.specs.Early.{ComesEarly, EarlyAgain, EarlyBefore, EarlyFaulted, EarlySent, EarlyTold};
+ghost use Rattle.swd_host.specs.Early.{EarlyWaiting, GlimpsedEarly, ShownEarly};
+ghost use Rattle.swd_host.specs.Flags.{is_configured, no_flags};
 ghost use Rattle.swd_host.specs.Requests.{is_exempt, is_unread, is_write};
 ghost use Rattle.swd_host.specs.Turns.{LandsAnswered, LandsAt, LandsFrom};
 ghost use Rattle.swd_host.specs.Tracks.{Before, Checks, Cleared, Comes, ComesWith, Earns, FaultedAt, HasAsked, Refused, Resent, Taken};
@@ -19,6 +21,7 @@ impl Engine {
     // An event, and then this request.
     pub(crate) fn event(&mut self, job: Job)
         ensures tracks { Comes (λ n b k t. Before job (n + 1) b k t) self.old self.new }
+        ensures early { ComesEarly (λ n stray start s. EarlyBefore job (n + 1) stray start s) self.old self.new }
         ensures lands { LandsAt job self.old self.new }
         ensures meets { Meets true None self.old self.new }
     {
@@ -33,6 +36,7 @@ impl Engine {
     // The flags after ABORT was written.
     pub(crate) fn check(&mut self, place: Place, owed: Flags, now: Flags)
         ensures tracks { ComesWith now (Checks place owed) self.old self.new }
+        ensures early { ShownEarly now (EarlyBefore (Job.Check place owed)) self.old self.new }
         ensures lands { LandsFrom (Job.Check place owed) Phase.Data self.old self.new }
         ensures meets { Meets (is_damaged_clearing owed now) None self.old self.new }
     {
@@ -51,16 +55,18 @@ impl Engine {
     }
 
     // The flag of a bus error is cleared: it answers the access in hand; where it was the next one's, RESEND
-    // gives the word.
+    // gives the word; where an earlier run left the transfer pending, the request that met it comes again.
     fn cleared(&mut self, place: Place, owed: Flags)
         requires { owed.error ≡ true }
         ensures tracks { Comes (Cleared place) self.old self.new }
+        ensures early { ShownEarly no_flags (EarlyBefore (Job.Check place owed)) self.old self.new }
         ensures lands { LandsFrom (Job.Check place owed) Phase.Data self.old self.new }
         ensures meets { Meets false None self.old self.new }
     {
         match place {
+            Place::Confirm => self.answer(Answer::BusFault, Ahead::Unsent),
             Place::Behind => self.state = State::Doing(Job::Resend(place), Phase::Ask),
-            _ => self.answer(Answer::BusFault, Ahead::Unsent),
+            _ => self.state = State::Doing(Job::At(place), Phase::Ask),
         }
     }
 
@@ -85,6 +91,7 @@ impl Engine {
     pub(crate) fn sent(&mut self, job: Job)
         requires { is_write job self.old.task ≡ true }
         ensures tracks { Comes (WasSent job) self.old self.new }
+        ensures early { ComesEarly (EarlySent job) self.old self.new }
         ensures lands { LandsFrom job Phase.Data self.old self.new }
         ensures meets { Meets false None self.old self.new }
     {
@@ -99,6 +106,7 @@ impl Engine {
     // The request was answered WAIT.
     pub(crate) fn waited(&mut self, job: Job)
         ensures tracks { Comes (Waiting job) self.old self.new }
+        ensures early { ComesEarly (EarlyWaiting job) self.old self.new }
         ensures lands { LandsFrom job Phase.Waited self.old self.new }
         ensures meets { Meets (not (is_exempt job)) None self.old self.new }
     {
@@ -112,6 +120,7 @@ impl Engine {
     // The request was answered FAULT.
     pub(crate) fn faulted(&mut self, job: Job)
         ensures tracks { Comes (FaultedAt job) self.old self.new }
+        ensures early { ComesEarly (EarlyFaulted job) self.old self.new }
         ensures lands { LandsFrom job Phase.Faulted self.old self.new }
         ensures meets { Meets false None self.old self.new }
     {
@@ -133,8 +142,9 @@ impl Engine {
     pub(crate) fn garbled(&mut self, job: Job)
         requires { is_write job self.old.task ≡ false }
         ensures tracks { Comes (TakenFor job None) self.old self.new }
+        ensures early { ComesEarly (EarlyAgain job) self.old self.new }
         ensures lands { LandsFrom job Phase.Data self.old self.new }
-        ensures meets { Meets (is_event job None self.old.task self.old.aims) None self.old self.new }
+        ensures meets { Meets (is_event job None self.old.task self.old.aims self.old.stray) None self.old self.new }
     {
         match job {
             Job::At(place) if self.is_unread(place) => self.pass_over(place),
@@ -147,8 +157,9 @@ impl Engine {
     pub(crate) fn told(&mut self, job: Job, word: u32)
         requires { is_write job self.old.task ≡ false }
         ensures tracks { Comes (TakenFor job (Some word)) self.old self.new }
+        ensures early { ComesEarly (EarlyTold job word) self.old self.new }
         ensures lands { LandsFrom job Phase.Data self.old self.new }
-        ensures meets { Meets (is_event job (Some word) self.old.task self.old.aims) (wrong_id_read job (Some word)) self.old self.new }
+        ensures meets { Meets (is_event job (Some word) self.old.task self.old.aims self.old.stray) (wrong_id_read job (Some word)) self.old self.new }
     {
         match job {
             Job::At(place) if self.is_unread(place) => self.pass_over(place),
@@ -189,8 +200,9 @@ impl Engine {
     // The word that was read at a place of the sequence.
     fn value(&mut self, place: Place, word: u32)
         ensures tracks { Comes (Taken place word) self.old self.new }
+        ensures early { ComesEarly (EarlyTold (Job.At place) word) self.old self.new }
         ensures lands { LandsFrom (Job.At place) Phase.Data self.old self.new }
-        ensures meets { Meets (is_event_at place word) (wrong_id place word) self.old self.new }
+        ensures meets { Meets (is_event_at place word self.old.stray) (wrong_id place word) self.old self.new }
     {
         match place {
             Place::Identify => self.identified(word),
@@ -233,6 +245,7 @@ impl Engine {
     // DPIDR was read.
     fn identified(&mut self, word: u32)
         ensures tracks { Comes (Taken Place.Identify word) self.old self.new }
+        ensures early { ComesEarly (EarlyTold (Job.At Place.Identify) word) self.old self.new }
         ensures lands { LandsFrom (Job.At Place.Identify) Phase.Data self.old self.new }
         ensures meets { Meets false (wrong_id Place.Identify word) self.old self.new }
     {
@@ -246,10 +259,14 @@ impl Engine {
     // CTRL/STAT was read after the flags were cleared.
     fn inspected(&mut self, flags: Flags)
         ensures tracks { ComesWith flags (Before (Job.At Place.Inspect)) self.old self.new }
+        ensures early { GlimpsedEarly flags (EarlyBefore (Job.At Place.Inspect)) self.old self.new }
         ensures lands { LandsFrom (Job.At Place.Inspect) Phase.Data self.old self.new }
-        ensures meets { Meets (is_flagged flags) None self.old self.new }
+        ensures meets { Meets (is_flagged flags && not (is_left_over self.old.stray flags)) None self.old self.new }
     {
-        if flags.error || flags.damaged {
+        if self.stray && flags.error && !flags.damaged {
+            self.stray = false;
+            self.state = State::Doing(Job::At(Place::Wipe), Phase::Ask);
+        } else if flags.error || flags.damaged {
             self.event(Job::At(Place::Wipe));
         } else {
             self.state = State::Doing(Job::At(Place::Select), Phase::Ask);
@@ -291,6 +308,7 @@ impl Engine {
     // The flags after the request at a place was answered FAULT.
     fn status(&mut self, place: Place, flags: Flags)
         ensures tracks { ComesWith flags (Refused place) self.old self.new }
+        ensures early { ShownEarly flags (EarlyBefore (Job.Status place)) self.old self.new }
         ensures lands { LandsFrom (Job.Status place) Phase.Data self.old self.new }
         ensures meets { Meets (is_damaged_write place self.old.task self.old.aims flags) None self.old self.new }
     {
@@ -298,6 +316,10 @@ impl Engine {
         match (flags.error, flags.damaged) {
             (false, true) if write.is_some() => self.event(Job::Clear(place, flags)),
             (true, false) if matches!(place, Place::Confirm | Place::Behind) => {
+                self.state = State::Doing(Job::Clear(place, flags), Phase::Ask);
+            }
+            (true, false) if self.stray && matches!(place, Place::Select) => {
+                self.stray = false;
                 self.state = State::Doing(Job::Clear(place, flags), Phase::Ask);
             }
             _ => self.state = State::Resting(Outcome::Stopped(End::Confused)),

@@ -11,6 +11,7 @@ mod order;
 mod recorder;
 mod refusals;
 mod replies;
+mod resume;
 mod row;
 mod steps;
 mod tables;

@@ -1,13 +1,7 @@
-use Rattle.std.proofs.Common.{true, sym, ap, subst}
+use Rattle.std.proofs.Common.{true, ap}
 use Rattle.swd_host.specs.Progress.{is_state_of}
-use Rattle.swd_host.specs.Tracks.{DueAt}
 use Rattle.swd_host.proofs.Ends.{opened_state, stopped_state}
 use Rattle.swd_host.proofs.running.open.Goals as goal
-
-pub drive-requires : goal.drive-requires
-drive-requires g c =
-    subst (λ x. DueAt x c.args.engine.now.task (g.W.Wire.port c.args.wire.now).link.due)
-    (sym c.requires.new.leads) c.requires.due
 
 pub returns-in-Stopped-clause-finished : goal.returns-in-Stopped-clause-finished
 returns-in-Stopped-clause-finished g c =

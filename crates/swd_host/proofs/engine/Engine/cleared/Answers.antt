@@ -1,15 +1,8 @@
-use Rattle.std.proofs.Common.{◌≡◌, true, sym}
-use Rattle.swd_host.specs.declared.request.Place.TheVariants.{Behind}
-use Rattle.swd_host.proofs.StepLemmas.{own_error_cleared, answered_lands, not_behind}
+use Rattle.std.proofs.Common.{ap}
+use Rattle.swd_host.specs.Requests.{is_behind}
+use Rattle.swd_host.proofs.StepLemmas.{own_error_cleared}
 use Rattle.swd_host.proofs.engine.Engine.cleared.Goals as goal
 
-pub returns-in_default : goal.returns-in_default
-returns-in_default c =
-    let apart = not_behind c.args.place (λ is. c.in_default.not-Behind is) in
-    record {
-      tracks = λ base m t task h. c.answer.ensures.tracks base m t task
-          (own_error_cleared c.args.place _ _ _ t apart h);
-      lands = answered_lands c.args.place c.args.owed.error c.args.owed.damaged c.args.self.now c.answer.new.self c.requires
-          c.answer.ensures.lands;
-      meets = c.answer.ensures.meets;
-    }
+pub returns-in-Confirm-clause-tracks : goal.returns-in-Confirm-clause-tracks
+returns-in-Confirm-clause-tracks c base m t task h =
+    c.answer.ensures.tracks base m t task (own_error_cleared c.args.place _ _ _ t (ap is_behind c.in-Confirm.is) h)
