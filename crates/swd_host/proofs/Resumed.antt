@@ -310,6 +310,26 @@ module _ (list : List Access) (tries : ℕ) (earlier : Told) (e f : Engine) (bef
       begun = done_begun;
     }
 
+-- A RUN over a target that was just made leaves all that going on asks for
+pub leaves_off : (list : List Access) (tries : ℕ) (told : Told) (s t : Port) → length list ≤ 65536 → AreAccesses list
+    → t.target.identification ≡ s.target.identification → RunsOver list tries told s t → LeavesOff list told s t
+leaves_off list tries told s t accepted ok same runs = λ identification m is odd lost.
+    (let r : RunFits list tries m told s t = runs identification m is odd in
+    let ends : EndsAt Lost tries s t = subst (λ end. EndsAt end tries s t) lost r.ends in
+    let (k, fit) = r.now in
+    let number : length told.answers ≡ k = told_length k list m told.answers fit.reported fit.answers in
+    record {
+      goes_on = record {
+        accepted = accepted;
+        accesses = ok;
+        reported = (let few = fit.reported in omega (arith, number, few));
+        due = ends.0;
+        select = ends.2;
+        odd = ap (λ w. w % 2) (same ∙ ap (λ p. p.target.identification) is) ∙ odd;
+      };
+      again = λ c i. fits_again list m told (completed c t).target.memory (r.later c);
+    })
+
 pub resumed_as : (list : List Access) (tries : ℕ) (earlier x y : Told) (s t : Port) → y ≡ x
     → ResumeFits list tries earlier x s t → ResumeFits list tries earlier y s t
 resumed_as list tries earlier x y s t is h = subst (λ told. ResumeFits list tries earlier told s t) (sym is) h
