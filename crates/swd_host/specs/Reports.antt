@@ -27,7 +27,7 @@ pub record Told : Type 0 where
   pub requests : ℕ
   pub ended : End
 
-abbrev pub told_of : Report → Told
+abbrev pub told_of : {A : Type 0} → Report A → Told
 told_of report = record {
   answers = report.answers.items;
   begun = report.begun;

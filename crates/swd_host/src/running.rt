@@ -15,7 +15,7 @@ ghost use Rattle.swd_host.specs.Standing.{Does, HasOpened};
 
 use crate::engine::{Cue, Engine};
 use crate::outcome::{End, Outcome, Refused, Report};
-use std::alloc::Global;
+use std::alloc::Allocator;
 use swd_port::{Access, Answer, Wire};
 
 const MOST: usize = 65_536;
@@ -177,12 +177,12 @@ fn perform<W: Wire>(
 /// The answers are those of the first accesses of the list. A run that isn't whole ends at a lost
 /// acknowledgement, after which nothing more is sent, or where an access or the opening met more than
 /// `tries` events. A run that is whole ends with eight idle cycles.
-pub fn run<W: Wire>(
-    alloc: Global,
+pub fn run<W: Wire, A: Allocator>(
+    alloc: A,
     wire: &mut W,
     accesses: &[Access],
     tries: u32,
-) -> Result<Report, Refused>
+) -> Result<Report<A>, Refused>
     requires { (W.port wire.old).link.due ≡ Nothing }
     ensures fits { IfOk result (λ report.
         RunsOver accesses.now tries (told_of report) (W.port wire.old) (W.port wire.new)) }
@@ -205,7 +205,7 @@ pub fn run<W: Wire>(
     Ok(reported(answers, &engine, ended))
 }
 
-fn reported(answers: Vec<Answer>, engine: &Engine, ended: End) -> Report
+fn reported<A: Allocator>(answers: Vec<Answer, A>, engine: &Engine, ended: End) -> Report<A>
     ensures { told_of result ≡ told_by answers.items engine.now ended }
 {
     Report {

@@ -14,7 +14,7 @@ use Rattle.swd_port.specs.Completion.{Completes}
 use Rattle.swd_port.specs.Moves.{Kept}
 use Rattle.swd_port.specs.Outcomes.{Steady}
 use Rattle.swd_port.specs.Asking.{tally_after}
-use Rattle.swd_port.specs.Laws.Calls.{DueAfterRequest, AcknowledgementSeen, NoAcknowledgementSeen, NothingDue, RequestCounted, OthersUncounted, with_asked, CountedApart}
+use Rattle.swd_port.specs.Laws.Calls.{DueAfterRequest, AcknowledgementSeen, NoAcknowledgementSeen, NothingDue, RequestCounted, OthersUncounted, IdentificationKept, with_asked, CountedApart}
 use Rattle.swd_port.proofs.CompletionLaws.{kept}
 use Rattle.swd_port.proofs.RequestLaws.{steady}
 
@@ -68,6 +68,18 @@ others_uncounted = record {
   given = λ sent s t h. counted_around s h.0 h.1 t h.2 (ap (λ p. p.tally) h.3.after) h.4;
   passed = λ s t h. counted_around s h.0 h.1 t h.2 (ap (λ p. p.tally) h.3.after) h.4;
   led = λ ones s t h. counted_around s h.0 h.1 t h.2 (ap (λ p. p.tally) h.3.after) h.4;
+}
+
+-- what DPIDR gives over a step and its completions
+identified_around : (s a b t : Port) → Completes s a → b.target.identification ≡ a.target.identification → Completes b t → t.target.identification ≡ s.target.identification
+identified_around s a b t first u last = let k : Kept s a = kept s a first in let l : Kept b t = kept b t last in l.identification ∙ u ∙ k.identification
+
+pub identification_kept : IdentificationKept
+identification_kept = record {
+  taken = λ bits s t h. identified_around s h.0 h.1 t h.2 (ap (λ p. p.target.identification) h.3.after) h.4;
+  given = λ sent s t h. identified_around s h.0 h.1 t h.2 (ap (λ p. p.target.identification) h.3.after) h.4;
+  passed = λ s t h. identified_around s h.0 h.1 t h.2 (ap (λ p. p.target.identification) h.3.after) h.4;
+  led = λ ones s t h. identified_around s h.0 h.1 t h.2 (ap (λ p. p.target.identification) h.3.after) h.4;
 }
 
 one_disturbed : (mark : Mark) → disturbs mark ≤ 1

@@ -1,12 +1,13 @@
 -- Laws of completion: the pending transfer takes effect, or not yet.
 use Rattle.std.proofs.Common.{◌≡◌, ◌≢◌, ◌+◌, ◌%◌, ◌<◌, ◌^◌, ℕ, Bool, true, false, refl, sym, ap, subst, inl, inr, arith, ◌∙◌}
-use Rattle.std.specs.Prelude.{Option, Some, None, ◌⊎◌, ◌||◌, not}
+use Rattle.std.specs.Prelude.{Option, Some, None, ◌⊎◌, ◌||◌, not, unwrap_or}
 use Rattle.swd_port.specs.declared.access.Access.{Access}
 use Rattle.swd_port.specs.declared.access.Access.TheVariants.{Read, Write}
 use Rattle.swd_port.specs.PlainMemory.{PlainMemory, plain_after, succeeds_at, address, done}
-use Rattle.swd_port.specs.Port.{Port, Target, TarWrite, DrwRead, DrwWrite}
-use Rattle.swd_port.specs.Choices.{Choice}
-use Rattle.swd_port.specs.Completion.{Completes, completed, completion_of, access_at, next_address}
+use Rattle.swd_port.specs.Port.{Port, Target, Drw, TarWrite, DrwRead, DrwWrite}
+use Rattle.swd_port.specs.Choices.{Choice, IsChoice}
+use Rattle.swd_port.specs.Completion.{Completes, completed, completion_of, memory_after, access_at, next_address, MayBecome}
+use Rattle.swd_port.specs.Laws.Completion.{MayBecomeOfNone}
 use Rattle.swd_port.specs.Moves.{Kept, Gave}
 use Rattle.swd_port.specs.Outcomes.{Accepts}
 use Rattle.swd_port.specs.Transfers.{Sent, owed, gone, failed, Buffered, Advanced, Becomes, idle, pends, drw_of, Carries, Aimed, Succeeded, Failed}
@@ -210,3 +211,30 @@ aimed_by_transfer access m x h increments aligned range inside =
 
 pub aimed_carried : (at : ℕ) (m : PlainMemory) (x y : Target) → y.tar ≡ x.tar → y.memory ≡ x.memory → y.pending ≡ x.pending → y.sticky_error ≡ x.sticky_error → Aimed at m x → Aimed at m y
 aimed_carried at m x y e f g h aimed = record { tar = e ∙ aimed.tar; memory = f ∙ aimed.memory; pending = g ∙ aimed.pending; sticky_error = h ∙ aimed.sticky_error }
+
+-- what the memory may become
+memory_same : (c : Choice) (x y : Target) → y.pending ≡ x.pending → y.tar ≡ x.tar → y.memory ≡ x.memory → (completion_of c y).memory ≡ (completion_of c x).memory
+memory_same c x y p a e =
+    let f : Option Drw → Option ℕ → PlainMemory → PlainMemory = (λ i j k. memory_after i (unwrap_or j c.address) k) in
+    ap (λ i. f i y.tar y.memory) p ∙ (ap (λ j. f x.pending j y.memory) a ∙ ap (λ k. f x.pending x.tar k) e)
+
+pub may_become_stays : (m : PlainMemory) (s t : Port) → Completes s t → MayBecome t m → MayBecome s m
+may_become_stays m s t (inl e) h = subst (λ p. MayBecome p m) e h
+may_become_stays m s t (inr (c, fits, e)) (d, more, is) =
+    let none : t.target.pending ≡ None = ap (λ p. p.target.pending) e in
+    (c, fits, is ∙ ap (λ p. p.target.memory) (same d t none) ∙ ap (λ p. p.target.memory) e)
+
+pub may_become_carried : (m : PlainMemory) (s t : Port) → t.target.pending ≡ s.target.pending → t.target.tar ≡ s.target.tar → t.target.memory ≡ s.target.memory → MayBecome t m → MayBecome s m
+may_become_carried m s t p a e (c, fits, is) = (c, fits, is ∙ memory_same c s.target t.target p a e)
+
+abbrev any_choice : Choice
+any_choice = record { address = 0; wraps = false; filler = 0 }
+
+may_become_same : (s : Port) → s.target.pending ≡ None → MayBecome s s.target.memory
+may_become_same s none = (any_choice, record { address = omega arith; filler = omega arith }, sym (ap (λ p. p.target.memory) (same any_choice s none)))
+
+may_become_only : (m : PlainMemory) (s : Port) → s.target.pending ≡ None → MayBecome s m → m ≡ s.target.memory
+may_become_only m s none (c, fits, is) = is ∙ ap (λ p. p.target.memory) (same c s none)
+
+pub may_become_of_none : MayBecomeOfNone
+may_become_of_none = record { same = may_become_same; only = may_become_only }

@@ -62,3 +62,7 @@ completed c s = record s { target = completion_of c s.target }
 -- it may take effect now, or not yet (when it does is this project's choice)
 abbrev pub Completes : Port → Port → Type 0
 Completes s t = (t ≡ s) ⊎ ((c : Choice) × IsChoice c × (t ≡ completed c s))
+
+-- the memory may come to this once nothing is pending any more
+abbrev pub MayBecome : Port → PlainMemory → Type 0
+MayBecome s m = (c : Choice) × IsChoice c × (m ≡ (completed c s).target.memory)

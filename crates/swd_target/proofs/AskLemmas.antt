@@ -121,7 +121,7 @@ asks_exactly mark waits q s a b t r reply phase deaf wait named settles same rep
     }
 
 -- both, from the parts of a request: the target before it, at the reply, after the reply, and in the end
-pub answers_under : (mark : Mark) (waits : Bool) (q : Request) (s a b t : Target) (r : Register) (reply : Reply) (phase : Line)
+pub answers_under : {A : Type 0} (mark : Mark) (waits : Bool) (q : Request) (s a b t : Target A) (r : Register) (reply : Reply) (phase : Line)
     → IsMark mark → is_deaf mark ≡ false → is_wait mark ≡ waits → register s.select q ≡ r → register a.select q ≡ r
     → Transfers (state_of s) (state_of a) → simulation a ≡ settled_when waits r q.ap (simulation s)
     → reply ≡ reply_when waits r (answer_at r q.ap (state_of a)) → IsSettled reply r a.pending
@@ -139,7 +139,7 @@ answers_under mark waits q s a b t r reply phase legal deaf wait named same befo
     record { step = law; replies = x.replies; phases = x.phases; exact = x.exact }
 
 -- a request that the target doesn't see
-pub answers_deaf : (q : Request) (s : Target) → AnswersUnder Deaf q s Silent Idle s
+pub answers_deaf : {A : Type 0} (q : Request) (s : Target A) → AnswersUnder Deaf q s Silent Idle s
 answers_deaf q s =
     let r = register s.select q in
     let law = λ (l : Link) (n : Tally). asks_under l n (state_of s) (state_of s) (state_of s) (state_of s) Deaf r Silent (choice_for r s) q Idle
@@ -151,14 +151,14 @@ pub asks_lawful : (mark : Mark) (s : Port) (q : Request) (seen : ℕ) (t : Port)
 asks_lawful mark s q seen t (a, b, c, before, now, later) = (a, b, mark, c, before, now, later)
 
 -- the same for a bench, from what it has after the request
-pub asks_wired : (mark : Mark) (q : Request) (s t : Target) (reply : Reply) (phase : Line) (l : Link) (n : Tally) (due : Due) (line : Line) (asked disturbed lost seen : ℕ)
+pub asks_wired : {A : Type 0} (mark : Mark) (q : Request) (s t : Target A) (reply : Reply) (phase : Line) (l : Link) (n : Tally) (due : Due) (line : Line) (asked disturbed lost seen : ℕ)
     → AnswersUnder mark q s reply phase t → seen ≡ seen_at mark reply → due ≡ due_after q.read seen → line ≡ line_after reply phase l.line
     → asked ≡ n.asked + 1 → disturbed ≡ n.disturbed + disturbs mark → lost ≡ n.lost + loses mark
     → AsksUnder mark (port_at l n (state_of s)) q seen (port_at (record { due = due; line = line }) (record { asked = asked; disturbed = disturbed; lost = lost }) (state_of t))
 asks_wired mark q s t reply phase l n due line asked disturbed lost seen answers sees dues lines a d o = rw (lines, dues, a, d, o, sees) (answers.step l n)
 
 -- the data of a write keeps it
-pub gives_lawful : (a : Arrival) (l : Link) (n : Tally) (s t : Target) (sent : ℕ) → arrival l.line sent ≡ a → DataComes a s t → Gives (port_at l n (state_of s)) sent (port_at idle_link n (state_of t))
+pub gives_lawful : {A : Type 0} (a : Arrival) (l : Link) (n : Tally) (s t : Target A) (sent : ℕ) → arrival l.line sent ≡ a → DataComes a s t → Gives (port_at l n (state_of s)) sent (port_at idle_link n (state_of t))
 gives_lawful a l n s t sent is comes =
     let now = λ (x : Arrival). GivesNow (port_at l n (state_of s)) sent (port_at idle_link n (after_bits x (state_of s))) in
     (port_at l n (state_of s), port_at idle_link n (after_bits a (state_of s)), inl refl, subst now is (record { after = refl }), completes_at idle_link n (after_bits a (state_of s)) (state_of t) comes.later)

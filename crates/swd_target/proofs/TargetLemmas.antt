@@ -16,15 +16,15 @@ use Rattle.swd_target.specs.declared.target.Target.{Target}
 use Rattle.swd_target.specs.Simulations.{Simulation, is_owed, transferred}
 use Rattle.swd_target.specs.Targets.{state_of, simulation, stand_in, choice_for, answer_at, reply_when, settled_when, is_settling, IsChosen}
 
-stand_in-fits : (r : Register) (t : Target) → stand_in r t < 2 ^ 32
+stand_in-fits : {A : Type 0} (r : Register) (t : Target A) → stand_in r t < 2 ^ 32
 stand_in-fits ResendRead t = t.last_returned.fits
 stand_in-fits r t = t.buffer.fits
 
-pub is_choice : (r : Register) (t : Target) → IsChoice (choice_for r t)
+pub is_choice : {A : Type 0} (r : Register) (t : Target A) → IsChoice (choice_for r t)
 is_choice r t = record { address = t.tar.fits; filler = stand_in-fits r t }
 
 -- its way to end a kilobyte is that of its quirks
-pub is_chosen : (r : Register) (t : Target) → IsChosen t.quirks (choice_for r t)
+pub is_chosen : {A : Type 0} (r : Register) (t : Target A) → IsChosen t.quirks (choice_for r t)
 is_chosen r t = record { legal = is_choice r t; wraps = refl }
 
 -- the code settles exactly where that is owed by the reply that follows
@@ -32,7 +32,7 @@ owed_by : (exempt : Bool) (waits : Bool) (r : Register) (reset : Reset) (sticky 
     → is_owed r (reply_when waits r (answer reset (sticky || failing) write unpowered r)) ≡ is_settling waits r (answer reset sticky write unpowered r) failing
 owed_by exempt waits r reset sticky write unpowered failing x = grind arith
 
-pub owed : (waits : Bool) (r : Register) (ap_ : Bool) (t : Target)
+pub owed : {A : Type 0} (waits : Bool) (r : Register) (ap_ : Bool) (t : Target A)
     → is_owed r (reply_when waits r (answer_at r ap_ (transferred (simulation t)).state)) ≡ is_settling waits r (answer_at r ap_ (state_of t)) (fails t.pending t.tar.word t.memory)
 owed waits r ap_ t = owed_by _ waits r t.reset t.sticky_error t.write_error (is_unpowered ap_ t.debug_power) (fails t.pending t.tar.word t.memory) refl
 
@@ -49,11 +49,11 @@ settled_none r Waits = tt
 settled_none r Silent = tt
 
 -- after a completion nothing is pending
-pub settled_after : (r : Register) (reply : Reply) (c : Choice) (s : State) (u : Target) → state_of u ≡ completion_of c s → IsSettled reply r u.pending
+pub settled_after : {A : Type 0} (r : Register) (reply : Reply) (c : Choice) (s : State) (u : Target A) → state_of u ≡ completion_of c s → IsSettled reply r u.pending
 settled_after r reply c s u e = subst (λ (p : Option Drw). IsSettled reply r p) (sym (ap (λ (s : State). s.pending) e)) (settled_none r reply)
 
 -- with nothing pending no completion changes anything
-at_rest : (t : Target) → t.pending ≡ None → transferred (simulation t) ≡ simulation t
+at_rest : {A : Type 0} (t : Target A) → t.pending ≡ None → transferred (simulation t) ≡ simulation t
 at_rest t e = grind arith
 
 unchanged : (b : Bool) (s t : Simulation) → t ≡ s → s ≡ (if b then t else s)
@@ -64,6 +64,6 @@ pub none_pending : (pending : Option Drw) → is_some pending ≡ false → pend
 none_pending pending e = grind arith
 
 -- so it doesn't matter whether the code settles then
-pub settled_at_rest : (waits : Bool) (r : Register) (ap_ : Bool) (t : Target) → t.pending ≡ None
+pub settled_at_rest : {A : Type 0} (waits : Bool) (r : Register) (ap_ : Bool) (t : Target A) → t.pending ≡ None
     → simulation t ≡ settled_when waits r ap_ (simulation t)
 settled_at_rest waits r ap_ t e = unchanged _ (simulation t) (transferred (simulation t)) (at_rest t e)

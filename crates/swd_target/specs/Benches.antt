@@ -14,39 +14,39 @@ use Rattle.swd_target.specs.Requests.{port_at}
 use Rattle.swd_target.specs.Plans as plans
 
 -- what is due, and the data phase that its target is in
-abbrev pub link_of : Bench → Link
+abbrev pub link_of : {A : Type 0} → Bench A → Link
 link_of b = record { due = b.due; line = b.line }
 
 -- the marks of its requests so far, as far as its plan goes
-abbrev pub marks_so_far : Bench → List Mark
+abbrev pub marks_so_far : {A : Type 0} → Bench A → List Mark
 marks_so_far b = take (plans.tally_of b.plan).asked (plans.marks_of b.plan)
 
 -- its numbers of requests
-abbrev pub tally_of : Bench → Tally
+abbrev pub tally_of : {A : Type 0} → Bench A → Tally
 tally_of b = plans.tally_of b.plan
 
 -- the state of the port machine, in which TAR, the read buffer and the last returned value may be unknown
-abbrev pub port_of : Bench → Port
+abbrev pub port_of : {A : Type 0} → Bench A → Port
 port_of b = port_at (link_of b) (tally_of b) (state_of b.target)
 
 -- its target as a simulated one: the same state with each word as it is, and the quirks
-abbrev pub simulation_of : Bench → Simulation
+abbrev pub simulation_of : {A : Type 0} → Bench A → Simulation
 simulation_of b = simulation b.target
 
 -- the marks of its requests
-abbrev pub plan_of : Bench → List Mark
+abbrev pub plan_of : {A : Type 0} → Bench A → List Mark
 plan_of b = plans.marks_of b.plan
 
 -- the mark of its next request
-abbrev pub next_mark : Bench → Mark
+abbrev pub next_mark : {A : Type 0} → Bench A → Mark
 next_mark b = plans.mark_next b.plan
 
 -- what it chooses when a transfer takes effect
-abbrev pub choice_of : Bench → Choice
+abbrev pub choice_of : {A : Type 0} → Bench A → Choice
 choice_of b = choice_for DrwRead b.target
 
 -- the link after a request
-abbrev pub link_asked : Request → Bench → Link
+abbrev pub link_asked : {A : Type 0} → Request → Bench A → Link
 link_asked q b =
     let s = simulation_of b in
     link_after (next_mark b) q (reply_to (next_mark b) q s) (phase_to (next_mark b) q s) (link_of b)

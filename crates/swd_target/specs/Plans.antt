@@ -6,13 +6,13 @@ use Rattle.swd_target.specs.declared.plan.Plan.{Plan}
 use Rattle.swd_target.specs.Marks.{mark_at}
 
 -- its marks
-abbrev pub marks_of : Plan → List Mark
+abbrev pub marks_of : {A : Type 0} → Plan A → List Mark
 marks_of p = p.marks.items
 
 -- its numbers of requests
-abbrev pub tally_of : Plan → Tally
+abbrev pub tally_of : {A : Type 0} → Plan A → Tally
 tally_of p = record { asked = p.asked.ticks; disturbed = p.disturbed.ticks; lost = p.lost.ticks }
 
 -- the mark of its next request
-abbrev pub mark_next : Plan → Mark
+abbrev pub mark_next : {A : Type 0} → Plan A → Mark
 mark_next p = mark_at (marks_of p) (tally_of p).asked

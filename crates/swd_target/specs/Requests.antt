@@ -30,7 +30,8 @@ AsksUnder mark s q seen t =
 
 -- A request under a mark, with its reply and the data phase as it arrives: a step of the port machine, and exactly the
 -- step that the quirks and the mark choose.
-pub record AnswersUnder (mark : Mark) (q : Request) (s : Target) (reply : Reply) (phase : Line) (t : Target) : Type 0 where
+pub record AnswersUnder {A : Type 0} (mark : Mark) (q : Request) (s : Target A) (reply : Reply) (phase : Line)
+    (t : Target A) : Type 0 where
   pub step : (l : Link) (n : Tally) → AsksUnder mark (port_at l n (state_of s)) q (seen_at mark reply)
       (port_at (link_after mark q reply phase l) (tally_after mark n) (state_of t))
   pub replies : reply ≡ reply_to mark q (simulation s)
@@ -38,13 +39,14 @@ pub record AnswersUnder (mark : Mark) (q : Request) (s : Target) (reply : Reply)
   pub exact : simulation t ≡ asked mark q (simulation s)
 
 -- a request that the target sees, where WAIT is asked for or not: the same under each mark that asks for no more
-pub record Answers (waits : Bool) (q : Request) (s : Target) (reply : Reply) (phase : Line) (t : Target) : Type 0 where
+pub record Answers {A : Type 0} (waits : Bool) (q : Request) (s : Target A) (reply : Reply) (phase : Line)
+    (t : Target A) : Type 0 where
   pub under : (mark : Mark) → IsMark mark → is_deaf mark ≡ false → is_wait mark ≡ waits
       → AnswersUnder mark q s reply (line_under mark phase) t
 
 -- The data of a write: a step of the port machine, and exactly the step that the quirks choose. Nothing takes effect with
 -- it where the write isn't done.
-pub record DataComes (a : Arrival) (s t : Target) : Type 0 where
+pub record DataComes {A : Type 0} (a : Arrival) (s t : Target A) : Type 0 where
   pub later : Transfers (after_bits a (state_of s)) (state_of t)
   pub undone : is_done a ≡ false → state_of t ≡ after_bits a (state_of s)
   pub exact : simulation t ≡ arrived a (simulation s)

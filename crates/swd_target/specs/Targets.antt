@@ -20,7 +20,7 @@ use Rattle.swd_target.specs.Contents.{known_word}
 use Rattle.swd_target.specs.Simulations.{Simulation, stepped, transferred, is_owed}
 
 -- the state of the port machine, in which a word may be unknown
-abbrev pub state_of : Target → State
+abbrev pub state_of : {A : Type 0} → Target A → State
 state_of t = record {
   reset = t.reset;
   sticky_error = t.sticky_error;
@@ -40,7 +40,7 @@ state_of t = record {
 }
 
 -- the same with each word as it is
-abbrev pub simulation : Target → Simulation
+abbrev pub simulation : {A : Type 0} → Target A → Simulation
 simulation t = record {
   quirks = t.quirks;
   state = record (state_of t) {
@@ -51,12 +51,12 @@ simulation t = record {
 }
 
 -- the word that stands for the value of a read, where that is unknown
-abbrev pub stand_in : Register → Target → ℕ
+abbrev pub stand_in : {A : Type 0} → Register → Target A → ℕ
 stand_in ResendRead t = t.last_returned.word
 stand_in r t = t.buffer.word
 
 -- what the target chooses: the word that it has stands for an unknown one, and TAR ends a kilobyte as the quirks say
-abbrev pub choice_for : Register → Target → Choice
+abbrev pub choice_for : {A : Type 0} → Register → Target A → Choice
 choice_for r t = record { address = t.tar.word; wraps = t.quirks.wrap; filler = stand_in r t }
 
 -- a choice in which TAR ends a kilobyte as the quirks say
@@ -65,7 +65,7 @@ pub record IsChosen (quirks : Quirks) (c : Choice) : Type 0 where
   pub wraps : c.wraps ≡ quirks.wrap
 
 -- the target goes through a step of the port machine, and as a simulated one through the same step
-pub record Steps (f : Choice → State → State) (s t : Target) : Type 0 where
+pub record Steps {A : Type 0} (f : Choice → State → State) (s t : Target A) : Type 0 where
   pub state : state_of t ≡ f (choice_for DrwRead s) (state_of s)
   pub exact : simulation t ≡ stepped f (simulation s)
 
@@ -90,7 +90,7 @@ is_settling waits r Okay failing = not (is_exempt r) && (not waits || failing)
 is_settling waits r a failing = not (is_exempt r)
 
 -- the same of a target
-abbrev pub settles_first : Bool → Register → Bool → Target → Bool
+abbrev pub settles_first : {A : Type 0} → Bool → Register → Bool → Target A → Bool
 settles_first waits r ap t = is_settling waits r (answer_at r ap (state_of t)) (fails t.pending t.tar.word t.memory)
 
 -- the data phase that follows a reply, where this word stands for an unknown one

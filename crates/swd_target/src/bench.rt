@@ -17,6 +17,7 @@ use crate::phase::{bits_on, is_awaiting, line_after_reply};
 use crate::plan::Plan;
 use crate::quirks::Quirks;
 use crate::target::Target;
+use std::alloc::{Allocator, Global};
 use swd_bits::Request;
 use swd_port::{Due, Line, Mark, Wire};
 
@@ -35,20 +36,20 @@ use swd_port::{Due, Line, Mark, Wire};
 /// word_of(bench.take()); // Some(0x2ba0_1477)
 /// ```
 #[derive(Drop)]
-pub struct Bench {
-    target: Target,
+pub struct Bench<A: Allocator = Global> {
+    target: Target<A>,
     due: Due,
     line: Line,
-    plan: Plan,
+    plan: Plan<A>,
     ghost driven: { bits_driven line < 2 ^ 33 },
     ghost flipped: { flip_place (awaited_flip line) < 33 },
 }
 
-impl Bench {
+impl<A: Allocator> Bench<A> {
     ghost use Rattle.swd_target.specs.Benches.{port_of, link_of, simulation_of, plan_of, choice_of, led};
 
     /// Makes a target that had no line reset yet, with this memory behind its access port.
-    pub fn new(memory: Memory, quirks: Quirks, plan: Vec<Mark>) -> Bench
+    pub fn new(memory: Memory<A>, quirks: Quirks, plan: Vec<Mark, A>) -> Bench<A>
         requires { IsPlan plan.items }
         ensures port { port_of result ≡ made 0x2ba0_1477 memory }
         ensures exact { simulation_of result ≡ made_with quirks memory }
@@ -74,7 +75,7 @@ impl Bench {
     }
 
     /// The memory behind the access port.
-    pub fn memory(&self) -> &Memory
+    pub fn memory(&self) -> &Memory<A>
         ensures { result.now ≡ (port_of self.now).target.memory }
     {
         &self.target.memory
@@ -94,7 +95,7 @@ impl Bench {
     }
 }
 
-impl Wire for Bench {
+impl<A: Allocator> Wire for Bench<A> {
     ghost use Rattle.swd_target.specs.Benches.{port_of, link_of, tally_of, simulation_of, plan_of, next_mark};
     ghost use Rattle.swd_target.specs.Benches.{link_asked, led, given};
 

@@ -4,11 +4,13 @@ ghost use Rattle.swd_port.specs.Choices.{disturbed_among, lost_among};
 ghost use Rattle.swd_target.specs.declared.bench.Bench.{Bench};
 ghost use Rattle.swd_target.specs.Benches.{port_of, plan_of, marks_so_far};
 
+use std::alloc::Allocator;
+
 /// The numbers of disturbed and of lost requests of a bench are counts over the marks that it used,
 /// and so at most those over its whole plan.
-pub fn marks_used()
-    ensures disturbed { (b : Bench) → (port_of b).tally.disturbed ≡ disturbed_among (marks_so_far b) }
-    ensures lost { (b : Bench) → (port_of b).tally.lost ≡ lost_among (marks_so_far b) }
-    ensures disturbed_most { (b : Bench) → (port_of b).tally.disturbed ≤ disturbed_among (plan_of b) }
-    ensures lost_most { (b : Bench) → (port_of b).tally.lost ≤ lost_among (plan_of b) }
+pub fn marks_used<A: Allocator>()
+    ensures disturbed { (b : Bench A) → (port_of b).tally.disturbed ≡ disturbed_among (marks_so_far b) }
+    ensures lost { (b : Bench A) → (port_of b).tally.lost ≡ lost_among (marks_so_far b) }
+    ensures disturbed_most { (b : Bench A) → (port_of b).tally.disturbed ≤ disturbed_among (plan_of b) }
+    ensures lost_most { (b : Bench A) → (port_of b).tally.lost ≤ lost_among (plan_of b) }
 {}

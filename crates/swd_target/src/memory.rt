@@ -5,7 +5,7 @@ ghost use Rattle.std.specs.FinMap.{get};
 ghost use Rattle.swd_port.specs.PlainMemory.{succeeds_at, plain_answer, plain_after};
 ghost use Rattle.swd_target.specs.MemoryWords.{zero_memory};
 
-use std::alloc::Global;
+use std::alloc::{Allocator, Global};
 use std::marker::Model;
 use swd_port::{Access, Answer, Transfer};
 
@@ -25,14 +25,14 @@ pub enum MakeFault {
 /// Words at addresses, and a log of the transfers that took place, the oldest first. Contracts see
 /// both as a `PlainMemory`.
 #[derive(Drop)]
-pub struct Memory {
+pub struct Memory<A: Allocator = Global> {
     base: u32,
-    words: Vec<u32>,
-    log: Vec<Transfer>,
+    words: Vec<u32, A>,
+    log: Vec<Transfer, A>,
     room: u32,
 }
 
-impl Model for Memory {
+impl<A: Allocator> Model for Memory<A> {
     ghost use Rattle.std.specs.Prelude.{◌≡◌, ◌+◌, ◌*◌, ◌≤◌, ◌%◌, ◌^◌, vec_len};
     ghost use Rattle.std.specs.Vec.{vec_capacity};
     ghost use Rattle.std.specs.Coded.{codes, coded_ℕ};
@@ -74,10 +74,10 @@ fn place(base: u32, words: usize, addr: u32) -> Option<usize>
     if place < words { Some(place) } else { None }
 }
 
-impl Memory {
+impl<A: Allocator + Copy> Memory<A> {
     /// Makes a memory of `words` zero words from the address `base`, with an empty log that has
     /// room for `room` transfers. All that it ever needs is taken here.
-    pub fn new(alloc: Global, base: u32, words: u32, room: u32) -> Result<Memory, MakeFault>
+    pub fn new(alloc: A, base: u32, words: u32, room: u32) -> Result<Memory<A>, MakeFault>
         ensures made { IfOk result (λ memory. memory ≡ zero_memory base words room) }
         ensures base { IsErrOf result MakeFault.Base ↔ (base % 4 ≢ 0) }
         ensures empty { IsErrOf result MakeFault.Empty ↔ ((base % 4 ≡ 0) × (words ≡ 0)) }
@@ -105,7 +105,9 @@ impl Memory {
             room,
         })
     }
+}
 
+impl<A: Allocator> Memory<A> {
     /// The word at an address, in bytes. `None` where there is none, as at an address that isn't a
     /// multiple of 4. It is no transfer.
     pub fn word(&self, addr: u32) -> Option<u32>

@@ -4,13 +4,14 @@ ghost use Rattle.std.specs.List.{list_all};
 ghost use Rattle.swd_port.specs.Choices.{IsMark, disturbs, loses, disturbed_among, lost_among};
 ghost use Rattle.swd_target.specs.Marks.{is_legal, IsPlan};
 
+use std::alloc::{Allocator, Global};
 use swd_port::{Count, Mark};
 
 /// The marks of a simulated wire's requests, in their order. After the last one nothing befalls a
 /// request.
 #[derive(Drop)]
-pub struct Plan {
-    marks: Vec<Mark>,
+pub struct Plan<A: Allocator = Global> {
+    marks: Vec<Mark, A>,
     next: usize,
     // Requests so far, and how many of them were disturbed and lost, for contracts alone.
     asked: Count,
@@ -22,11 +23,11 @@ pub struct Plan {
     ghost counted_lost: { lost.ticks ≡ lost_among (take asked.ticks marks.items) },
 }
 
-impl Plan {
+impl<A: Allocator> Plan<A> {
     ghost use Rattle.swd_target.specs.Plans.{marks_of, tally_of, mark_next};
 
     /// A plan of which no mark was used yet.
-    pub fn new(marks: Vec<Mark>) -> Plan
+    pub fn new(marks: Vec<Mark, A>) -> Plan<A>
         requires { IsPlan marks.items }
         ensures marks { marks_of result ≡ marks.items }
         ensures asked { (tally_of result).asked ≡ 0 }

@@ -10,10 +10,11 @@ ghost use Rattle.swd_target.specs.Simulations.{accepted_after};
 use crate::phase::{flip_bit, flip_line, flip_under, phase_of, phase_word};
 use crate::register::register_named;
 use crate::target::Target;
+use std::alloc::Allocator;
 use swd_bits::Request;
 use swd_port::{Line, Mark, Register, Reply};
 
-impl Target {
+impl<A: Allocator> Target<A> {
     ghost use Rattle.swd_target.specs.Targets.{state_of, simulation, stand_in, phase_in};
     ghost use Rattle.swd_target.specs.Requests.{Answers, AnswersUnder, DataComes, Transfers};
 

@@ -18,6 +18,7 @@ use crate::memory::Memory;
 use crate::quirks::Quirks;
 use crate::register::{is_access_port_write, is_exempt, is_posted};
 use bitflags::Flags;
+use std::alloc::{Allocator, Global};
 use swd_port::{Abort, Access, Answer, Csw, CtrlStat, Drw, Register, Reply, Reset, Select};
 
 // What DPIDR gives.
@@ -27,7 +28,7 @@ const IDENTIFICATION: u32 = 0x2ba0_1477;
 /// standard leaves to a target are its quirks, and the word that a register keeps where the port
 /// machine calls it unknown.
 #[derive(Drop)]
-pub struct Target {
+pub struct Target<A: Allocator = Global> {
     pub(crate) quirks: Quirks,
     pub(crate) reset: Reset,
     pub(crate) sticky_error: bool,
@@ -42,17 +43,17 @@ pub struct Target {
     pub(crate) buffer: Content,
     pub(crate) last_returned: Content,
     pub(crate) pending: Option<Drw>,
-    pub(crate) memory: Memory,
+    pub(crate) memory: Memory<A>,
 }
 
-impl Target {
+impl<A: Allocator> Target<A> {
     ghost use Rattle.swd_target.specs.Targets.{state_of, simulation, stand_in, answer_at, reply_when, settled_when};
     ghost use Rattle.swd_target.specs.Targets.{Steps, incremented, flags_cleared, power_set, line_reset};
     ghost use Rattle.swd_target.specs.Requests.{Transfers};
 
     /// A target that had no line reset yet, with this memory behind its access port. DPIDR gives
     /// 2ba01477.
-    pub fn new(memory: Memory, quirks: Quirks) -> Target
+    pub fn new(memory: Memory<A>, quirks: Quirks) -> Target<A>
         ensures state { state_of result ≡ made_target 0x2ba0_1477 memory }
         ensures exact { simulation result ≡ made_with quirks memory }
     {
@@ -80,14 +81,14 @@ impl Target {
     }
 
     /// The memory behind the access port.
-    pub fn memory(&self) -> &Memory
+    pub fn memory(&self) -> &Memory<A>
         ensures { result.now ≡ (state_of self.now).memory }
     {
         &self.memory
     }
 
     /// The same, once nothing else of the target is wanted.
-    pub fn into_memory(self) -> Memory
+    pub fn into_memory(self) -> Memory<A>
         ensures { result ≡ (state_of self).memory }
     {
         self.memory
@@ -360,7 +361,7 @@ impl Target {
 // filler. TAR keeps its address at a bus error. A transfer takes effect once it is accepted or as
 // late as is allowed, and TAR wraps or carries on at the end of a kilobyte, as the quirks say. WAIT
 // is answered at a mark for it and nowhere else, and not over a bus error.
-impl Target {
+impl<A: Allocator> Target<A> {
     ghost use Rattle.swd_target.specs.Targets.{state_of, simulation, Steps, settles_first};
     ghost use Rattle.swd_target.specs.Requests.{Transfers};
 

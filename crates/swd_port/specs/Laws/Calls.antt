@@ -57,6 +57,13 @@ pub record OthersUncounted : Type 0 where
   pub passed : (s t : Port) → Passes s t → t.tally ≡ s.tally
   pub led : (ones : ℕ) (s t : Port) → Leads s ones t → t.tally ≡ s.tally
 
+-- and none changes what DPIDR gives
+pub record IdentificationKept : Type 0 where
+  pub taken : (bits : ℕ) (s t : Port) → Takes s bits t → t.target.identification ≡ s.target.identification
+  pub given : (sent : ℕ) (s t : Port) → Gives s sent t → t.target.identification ≡ s.target.identification
+  pub passed : (s t : Port) → Passes s t → t.target.identification ≡ s.target.identification
+  pub led : (ones : ℕ) (s t : Port) → Leads s ones t → t.target.identification ≡ s.target.identification
+
 -- a state with another number of requests
 abbrev pub with_asked : ℕ → Port → Port
 with_asked n s = record s { tally = record s.tally { asked = n } }

@@ -1,7 +1,8 @@
 -- Laws of completion: the pending DRW transfer takes effect, now or later.
 use Rattle.std.specs.Prelude.{◌≡◌, None}
 use Rattle.swd_port.specs.Port.{Port}
-use Rattle.swd_port.specs.Completion.{Completes}
+use Rattle.swd_port.specs.PlainMemory.{PlainMemory}
+use Rattle.swd_port.specs.Completion.{Completes, MayBecome}
 use Rattle.swd_port.specs.Moves.{Kept}
 
 -- it may not have come yet
@@ -19,3 +20,17 @@ CompletionTwice = (s t u : Port) → Completes s t → Completes t u → Complet
 -- what it keeps
 abbrev pub CompletionKeeps : Type 0
 CompletionKeeps = (s t : Port) → Completes s t → Kept s t
+
+-- what the memory may become after a completion, it might have become before it
+abbrev pub MayBecomeStays : Type 0
+MayBecomeStays = (m : PlainMemory) (s t : Port) → Completes s t → MayBecome t m → MayBecome s m
+
+-- and so it is in every state with the same pending transfer, TAR and memory
+abbrev pub MayBecomeCarried : Type 0
+MayBecomeCarried = (m : PlainMemory) (s t : Port) → t.target.pending ≡ s.target.pending →
+    t.target.tar ≡ s.target.tar → t.target.memory ≡ s.target.memory → MayBecome t m → MayBecome s m
+
+-- where nothing is pending, it may become what it is, and nothing else
+pub record MayBecomeOfNone : Type 0 where
+  pub same : (s : Port) → s.target.pending ≡ None → MayBecome s s.target.memory
+  pub only : (m : PlainMemory) (s : Port) → s.target.pending ≡ None → MayBecome s m → m ≡ s.target.memory

@@ -1,5 +1,6 @@
 //! Laws of the memory behind the access port: transfers by DRW, their completion, and whole accesses.
 ghost use Rattle.swd_port.specs.Laws.Completion.{CompletionNotYet, CompletionOfNone, CompletionTwice, CompletionKeeps};
+ghost use Rattle.swd_port.specs.Laws.Completion.{MayBecomeStays, MayBecomeCarried, MayBecomeOfNone};
 ghost use Rattle.swd_port.specs.Laws.Transfers.{ReadBegins, WriteBegins, SentStays, SentCarried};
 ghost use Rattle.swd_port.specs.Laws.Transfers.{SentSucceeds, SentFails, SentBecomes, SentMemory, BecomesStays};
 ghost use Rattle.swd_port.specs.Laws.Transfers.{BecomesCarried, BecomesIs, BecomesCompleted};
@@ -7,12 +8,16 @@ ghost use Rattle.swd_port.specs.Laws.Transfers.{AimedCarried, AimedByTar, AimedB
 ghost use Rattle.swd_port.specs.Laws.Accesses.{WordWritten, WordRead};
 
 /// Completion of the pending transfer: it may come or not, does nothing where nothing is pending,
-/// comes once, and keeps all that isn't the transfer's.
+/// comes once, and keeps all that isn't the transfer's. What the memory may become is settled by the
+/// transfer, TAR and the memory alone.
 pub fn completion()
     ensures not_yet { CompletionNotYet }
     ensures of_none { CompletionOfNone }
     ensures twice { CompletionTwice }
     ensures keeps { CompletionKeeps }
+    ensures may_become_stays { MayBecomeStays }
+    ensures may_become_carried { MayBecomeCarried }
+    ensures may_become_of_none { MayBecomeOfNone }
 {}
 
 /// The life of a transfer by DRW: how it begins, that it stays owed, done or failed, and how the

@@ -2,7 +2,8 @@
 ghost use Rattle.swd_port.specs.Laws.Answers.{NeverWaits, AnswersAllowed, WaitsWhereAllowed, WaitsAtWaitOnly};
 ghost use Rattle.swd_port.specs.Laws.Answers.{SeenInRange, SeenIsDriven};
 ghost use Rattle.swd_port.specs.Laws.Calls.{DueAfterRequest, AcknowledgementSeen, NoAcknowledgementSeen, NothingDue};
-ghost use Rattle.swd_port.specs.Laws.Calls.{RequestCounted, OthersUncounted, CountedApart};
+ghost use Rattle.swd_port.specs.Laws.Calls.{RequestCounted, OthersUncounted, IdentificationKept};
+ghost use Rattle.swd_port.specs.Laws.Calls.{CountedApart};
 ghost use Rattle.swd_port.specs.Laws.Requests.{ExemptRequest, ExemptRequestAtRest, IdentificationRead};
 ghost use Rattle.swd_port.specs.Laws.Requests.{IdentificationReadAtRest, FlaggedRequest, FlaggedRequestAtRest};
 ghost use Rattle.swd_port.specs.Laws.Requests.{UnpoweredRequestAtRest, FreeRequest, FreeRequestAtRest};
@@ -34,6 +35,7 @@ pub fn calls()
     ensures nothing_due { NothingDue }
     ensures counted { RequestCounted }
     ensures uncounted { OthersUncounted }
+    ensures identified { IdentificationKept }
     ensures apart { CountedApart }
 {}
 

@@ -1,5 +1,7 @@
 //! A memory is made, or refused.
 use crate::memory::{MakeFault, Memory};
+use linked_list_allocator::LocalHeap;
+use std::test::Fail;
 
 #[test]
 fn a_memory_is_made_or_refused_in_order(rt: HostRuntime) {
@@ -44,4 +46,43 @@ fn a_memory_is_made_at_its_greatest_use(rt: HostRuntime) {
     for (addr, word) in [(0x2003_fffc, Some(0)), (0x2004_0000, None)] {
         assert_eq!(rt; memory.word(addr), word);
     }
+}
+
+// The words have 64 bytes, and the log more: a small heap refuses the words, a larger one the log
+// alone, and what a refused memory took is given back.
+#[test]
+fn each_part_of_a_memory_is_refused(rt: HostRuntime) -> Result<(), Fail> {
+    let mut refused = 0u32;
+    for size in 1..60usize {
+        let heap = LocalHeap::new(rt.alloc(), size * 16)?;
+        match Memory::new(&heap, 0x2000_0000, 16, 16) {
+            Ok(memory) => {
+                assert_eq!(rt; memory.word(0x2000_003c), Some(0));
+                assert!(rt; memory.log().is_empty());
+            }
+            Err(fault) => {
+                assert_eq!(rt; fault, MakeFault::Memory);
+                assert_eq!(rt; heap.used(), 0);
+                refused = refused.saturating_add(1);
+            }
+        }
+    }
+    assert!(rt; refused > 4);
+    assert!(rt; refused < 59);
+    Ok(())
+}
+
+// What is wrong with the numbers is told before any memory is taken.
+#[test]
+fn numbers_are_refused_before_memory(rt: HostRuntime) -> Result<(), Fail> {
+    let heap = LocalHeap::new(rt.alloc(), 16)?;
+    for (base, words, fault) in [
+        (0x2000_0002, 16, MakeFault::Base),
+        (0x2000_0000, 0, MakeFault::Empty),
+        (0xffff_fffc, 2, MakeFault::Range),
+        (0x2000_0000, 16, MakeFault::Memory),
+    ] {
+        assert_eq!(rt; Memory::new(&heap, base, words, 16).err(), Some(fault));
+    }
+    Ok(())
 }

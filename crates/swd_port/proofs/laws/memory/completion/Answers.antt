@@ -1,4 +1,4 @@
-use Rattle.swd_port.proofs.CompletionLaws.{done_not, none_done, twice, kept}
+use Rattle.swd_port.proofs.CompletionLaws.{done_not, none_done, twice, kept, may_become_stays, may_become_carried, may_become_of_none}
 use Rattle.swd_port.proofs.laws.memory.completion.Goals as goal
 
 pub returns-clause-not_yet : goal.returns-clause-not_yet
@@ -12,3 +12,12 @@ returns-clause-twice c = twice
 
 pub returns-clause-keeps : goal.returns-clause-keeps
 returns-clause-keeps c = kept
+
+pub returns-clause-may_become_stays : goal.returns-clause-may_become_stays
+returns-clause-may_become_stays c = may_become_stays
+
+pub returns-clause-may_become_carried : goal.returns-clause-may_become_carried
+returns-clause-may_become_carried c = may_become_carried
+
+pub returns-clause-may_become_of_none : goal.returns-clause-may_become_of_none
+returns-clause-may_become_of_none c = may_become_of_none

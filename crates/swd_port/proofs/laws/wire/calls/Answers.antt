@@ -1,4 +1,4 @@
-use Rattle.swd_port.proofs.CallLaws.{due_after_request, acknowledgement_seen, no_acknowledgement_seen, nothing_due, request_counted, others_uncounted, counted_apart}
+use Rattle.swd_port.proofs.CallLaws.{due_after_request, acknowledgement_seen, no_acknowledgement_seen, nothing_due, request_counted, others_uncounted, identification_kept, counted_apart}
 use Rattle.swd_port.proofs.laws.wire.calls.Goals as goal
 
 pub returns-clause-due : goal.returns-clause-due
@@ -21,3 +21,6 @@ returns-clause-uncounted c = others_uncounted
 
 pub returns-clause-apart : goal.returns-clause-apart
 returns-clause-apart c = counted_apart
+
+pub returns-clause-identified : goal.returns-clause-identified
+returns-clause-identified c = identification_kept

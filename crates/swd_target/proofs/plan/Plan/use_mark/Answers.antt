@@ -3,7 +3,7 @@ use Rattle.swd_target.proofs.MarkLemmas.{disturbed_used, lost_used}
 use Rattle.swd_target.proofs.plan.Plan.use_mark.Goals as goal
 
 pub invariant_of-self : goal.invariant_of-self
-invariant_of-self c =
+invariant_of-self g c =
     let p = c.args.self.now in
     let m = c.next_mark-mark in
     record {
@@ -14,7 +14,7 @@ invariant_of-self c =
     }
 
 pub invariant_of-self-else-self-len : goal.invariant_of-self-else-self-len
-invariant_of-self-else-self-len c =
+invariant_of-self-else-self-len g c =
     let p = c.args.self.now in
     let m = c.next_mark-mark in
     record {

@@ -5,6 +5,6 @@ use Rattle.swd_target.proofs.TargetLemmas.{is_choice}
 use Rattle.swd_target.proofs.target.Target.accept.Goals as goal
 
 pub returns-then-not-self-clause-effect : goal.returns-then-not-self-clause-effect
-returns-then-not-self-clause-effect c =
+returns-then-not-self-clause-effect g c =
     let t = c.args.self.now in
     inr (choice_for DrwRead t, is_choice DrwRead t, c.complete.ensures.state)

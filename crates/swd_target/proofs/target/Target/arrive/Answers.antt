@@ -7,7 +7,7 @@ use Rattle.swd_target.specs.Requests.{Transfers, DataComes}
 use Rattle.swd_target.proofs.target.Target.arrive.Goals as goal
 
 pub returns-in-Some : goal.returns-in-Some
-returns-in-Some c =
+returns-in-Some g c =
     let s = c.args.self.now in
     let t = c.accept.new.self in
     let word = c.in-Some.word in
@@ -20,7 +20,7 @@ returns-in-Some c =
     subst (λ (o : Option ℕ). DataComes (arrival_of c.args.register o) s t) (sym found) comes
 
 pub returns-in-None : goal.returns-in-None
-returns-in-None c =
+returns-in-None g c =
     let s = c.args.self.now in
     let t = c.refuse_write.new.self in
     let found = sym c.phase_word.ensures ∙ c.in-None.is in

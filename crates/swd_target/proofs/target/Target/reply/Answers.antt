@@ -8,19 +8,19 @@ use Rattle.swd_target.proofs.target.Target.reply.Goals as goal
 use Rattle.swd_target.proofs.target.Target.reply.Goals.{then-is_some, else-is_some}
 
 pub returns-clause-settles : goal.returns-clause-settles
-returns-clause-settles c =
+returns-clause-settles g c =
     let t = c.args.self.now in
-    let P = λ (u : Target). Transfers (state_of t) (state_of u) in
+    let P = λ (u : Target _). Transfers (state_of t) (state_of u) in
     elim c.if-is_some.branch [
       | then-is_some w ↦ subst P (sym w.self-is) w.settle.ensures.settles
       | else-is_some w ↦ subst P (sym w.self-is) (inl refl)
     ]
 
 pub returns-clause-settled : goal.returns-clause-settled
-returns-clause-settled c =
+returns-clause-settled g c =
     let t = c.args.self.now in
     let r = c.args.register in
-    let P = λ (u : Target). IsSettled (reply_when c.args.waits r (answer_at r c.args.ap (state_of u))) r u.pending in
+    let P = λ (u : Target _). IsSettled (reply_when c.args.waits r (answer_at r c.args.ap (state_of u))) r u.pending in
     let is : P c.if-is_some.self = elim c.if-is_some.branch [
       | then-is_some w ↦ subst P (sym w.self-is) w.settle.ensures.settled
       | else-is_some w ↦
@@ -30,9 +30,9 @@ returns-clause-settled c =
     subst (λ x. IsSettled x r c.if-is_some.self.pending) (sym c.reply_now.ensures) is
 
 pub returns-clause-exact : goal.returns-clause-exact
-returns-clause-exact c =
+returns-clause-exact g c =
     let t = c.args.self.now in
-    let P = λ (u : Target). simulation u ≡ settled_when c.args.waits c.args.register c.args.ap (simulation t) in
+    let P = λ (u : Target _). simulation u ≡ settled_when c.args.waits c.args.register c.args.ap (simulation t) in
     elim c.if-is_some.branch [
       | then-is_some w ↦ subst P (sym w.self-is) w.settle.ensures.exact
       | else-is_some w ↦

@@ -5,7 +5,7 @@ use Rattle.swd_target.proofs.AskLemmas.{answers_under}
 use Rattle.swd_target.proofs.target.Target.request.Goals as goal
 
 pub returns-clause-answers : goal.returns-clause-answers
-returns-clause-answers c =
+returns-clause-answers g c =
     let q = c.args.request in
     let r = c.register_named-register.result in
     let before = c.reply-reply.ensures in
