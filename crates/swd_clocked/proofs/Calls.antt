@@ -36,7 +36,7 @@ unfolding low_bits
 begins q v e = let h : (v % 2 == 1) ≡ true = cc in grind (arith, nat_tests)
 
 -- a reply that was seen
-pub seen_reply : (q : Request) (s : Target) (w : Bool) (u t : Clocked) (seen : ℕ) (a : Reply) (x : Requested q s w u)
+pub seen_reply : {A : Type 0} (q : Request) (s : Target A) (w : Bool) (u t : Clocked A) (seen : ℕ) (a : Reply) (x : Requested q s w u)
     → ((reply : Reply) → (line : Line) → (reply ≡ Silent → ⊥) → u.frame ≡ Replies reply line 0 → (seen ≡ driven reply) × Moved (frame_of line) u.target u.waits t)
     → (u.frame ≡ Lost 1 → (seen ≡ 7) × Moved (Lost 5) u.target u.waits t)
     → ((reply : Reply) → seen ≡ driven reply → a ≡ reply)
@@ -53,7 +53,7 @@ seen_reply q s w u t seen a x driving lost of =
     let is : a ≡ x.reply = of x.reply z.0 in
     record {
       phase = x.phase;
-      answers = subst (λ (y : Reply). Answers w q s y x.phase t.target) (sym is) (subst (λ (y : Target). Answers w q s x.reply x.phase y) (sym z.1.target) x.answers);
+      answers = subst (λ (y : Reply). Answers w q s y x.phase t.target) (sym is) (subst (λ (y : Target _). Answers w q s x.reply x.phase y) (sym z.1.target) x.answers);
       frame = z.1.frame ∙ ap (λ (y : Reply). frame_seen y x.phase) (sym is);
       waits = z.1.waits ∙ x.waits;
     }
@@ -89,7 +89,7 @@ kind_phase Faults read r flip v = refl
 kind_phase Silent read r flip v = refl
 
 -- the phase that a request leaves is that of its reply
-kind_seen : (m : Mark) (q : Request) (s t : Target) (a : Reply) (phase : Line) → AnswersUnder m q s a (line_under m phase) t → kind phase ≡ kind_after a q.read
+kind_seen : {A : Type 0} (m : Mark) (q : Request) (s t : Target A) (a : Reply) (phase : Line) → AnswersUnder m q s a (line_under m phase) t → kind phase ≡ kind_after a q.read
 kind_seen m q s t a phase u =
     sym (kind_flipped (flip_of m) phase) ∙ ap kind u.phases ∙ kind_phase _ q.read _ (flip_of m) _ ∙ ap (λ (y : Reply). kind_after y q.read) (sym u.replies)
 
@@ -174,13 +174,13 @@ line_seen Faults read (lines.Drives bits) flip e = absurd (omega arith)
 line_seen Faults read (lines.Awaits r f) flip e = absurd (omega arith)
 
 -- what was seen of a request under a mark that the target hears
-pub record SeenUnder (m : Mark) (q : Request) (a : Reply) (s : Target) (t : Clocked) : Type 0 where
+pub record SeenUnder {A : Type 0} (m : Mark) (q : Request) (a : Reply) (s : Target A) (t : Clocked A) : Type 0 where
   pub phase : Line
   pub answers : AnswersUnder m q s a phase t.target
   pub line : line_at t.frame (flip_of m) ≡ line_after a phase lines.Idle
   pub resting : rests (due_after q.read (seen_at m a)) t.frame ≡ true
 
-pub seen_marked : (m : Mark) (q : Request) (a : Reply) (s : Target) (w : Bool) (t : Clocked) → IsMark m → is_deaf m ≡ false → w ≡ is_wait m → Seen q a s w t → SeenUnder m q a s t
+pub seen_marked : {A : Type 0} (m : Mark) (q : Request) (a : Reply) (s : Target A) (w : Bool) (t : Clocked A) → IsMark m → is_deaf m ≡ false → w ≡ is_wait m → Seen q a s w t → SeenUnder m q a s t
 seen_marked m q a s w t legal hears waits d =
     let u = d.answers.under m legal hears (sym waits) in
     let k = kind_seen m q s t.target a d.phase u in
@@ -209,7 +209,7 @@ legal_flip Deaf f l e = rw e (omega arith)
 legal_flip (Mute p) f l e = rw e (omega arith)
 
 -- what is due after it, and the data phase
-pub link_seen : (m : Mark) (q : Request) (a : Reply) (s t : Target) (phase line : Line) (due : Due) (l : Link) (seen : ℕ) → AnswersUnder m q s a phase t
+pub link_seen : {A : Type 0} (m : Mark) (q : Request) (a : Reply) (s t : Target A) (phase line : Line) (due : Due) (l : Link) (seen : ℕ) → AnswersUnder m q s a phase t
     → seen ≡ seen_at m a → due ≡ due_after q.read seen → line ≡ line_after a phase l.line
     → record { due = due; line = line } ≡ link_after m q (reply_to m q (simulation s)) (phase_to m q (simulation s)) l
 link_seen m q a s t phase line due l seen u sees dues lined =

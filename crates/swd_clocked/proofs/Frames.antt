@@ -21,28 +21,28 @@ use Rattle.swd_clocked.specs.Clocks.{Rises}
 use Rattle.swd_clocked.proofs.Shifts.{no_request}
 
 -- the line reset that ones lead to, as a state and exactly
-abbrev Rose : Frame → Target → Clocked → Type 0
+abbrev Rose : {A : Type 0} → Frame → Target A → Clocked A → Type 0
 Rose f s t =
     (risen t.frame (state_of t.target) ≡ risen f (state_of s)) × (stepped (λ c. risen t.frame) (simulation t.target) ≡ stepped (λ c. risen f) (simulation s))
 
-rose_moved : (f : Frame) (s : Target) (w : Bool) (t : Clocked) → Moved f s w t → Rose f s t
+rose_moved : {A : Type 0} (f : Frame) (s : Target A) (w : Bool) (t : Clocked A) → Moved f s w t → Rose f s t
 rose_moved f s w t m = (
-  ap (λ (x : Frame). risen x (state_of t.target)) m.frame ∙ ap (λ (x : Target). risen f (state_of x)) m.target,
-  ap (λ (x : Frame). stepped (λ c. risen x) (simulation t.target)) m.frame ∙ ap (λ (x : Target). stepped (λ c. risen f) (simulation x)) m.target,
+  ap (λ (x : Frame). risen x (state_of t.target)) m.frame ∙ ap (λ (x : Target _). risen f (state_of x)) m.target,
+  ap (λ (x : Frame). stepped (λ c. risen x) (simulation t.target)) m.frame ∙ ap (λ (x : Target _). stepped (λ c. risen f) (simulation x)) m.target,
 )
 
-rose_reset : (ones : ℕ) (s : Target) (w : Bool) (t : Clocked) → ResetCame s w t → Rose (Lost ones) s t
+rose_reset : {A : Type 0} (ones : ℕ) (s : Target A) (w : Bool) (t : Clocked A) → ResetCame s w t → Rose (Lost ones) s t
 rose_reset ones s w t r =
     (ap (λ (x : Frame). risen x (state_of t.target)) r.frame ∙ r.reset.state, ap (λ (x : Frame). stepped (λ c. risen x) (simulation t.target)) r.frame ∙ r.reset.exact)
 
-rose_damaged : (r : Register) (bits place : ℕ) (s : Target) (w : Bool) (t : Clocked) → DataCame r undriven s w t → Rose (Awaits r bits place) s t
+rose_damaged : {A : Type 0} (r : Register) (bits place : ℕ) (s : Target A) (w : Bool) (t : Clocked A) → DataCame r undriven s w t → Rose (Awaits r bits place) s t
 rose_damaged r bits place s w t d =
     let comes = subst (λ (o : Option ℕ). DataComes (arrival_of r o) s t.target) word_ones d.comes in (
       ap (λ (x : Frame). risen x (state_of t.target)) d.frame ∙ ap (risen idle) (comes.undone refl),
       ap (λ (x : Frame). stepped (λ c. risen x) (simulation t.target)) d.frame ∙ ap (stepped (λ c. risen idle)) comes.exact,
     )
 
-one_rose : (f : Frame) (answer : Bool) (s : Target) (w : Bool) (t : Clocked) → IsRising f → frame_place f < frame_limit f → Cycles f true answer s w t → Rose f s t
+one_rose : {A : Type 0} (f : Frame) (answer : Bool) (s : Target A) (w : Bool) (t : Clocked A) → IsRising f → frame_place f < frame_limit f → Cycles f true answer s w t → Rose f s t
 one_rose High answer s w t i p c = rose_moved _ s w t c.1
 one_rose (Asks bits count) answer s w t i p c =
     elim (cases_lt count 7) as (λ (x : (count < 7) ⊎ (7 ≤ count)). Rose (Asks bits count) s t) [
@@ -71,13 +71,13 @@ one_rose (Awaits r bits place) answer s w t i p c =
     ]
 one_rose Passes answer s w t i p c = rose_moved _ s w t c.1
 
-pub one_rises : (s t : Clocked) (answer : Bool) → IsRising s.frame → frame_place s.frame < frame_limit s.frame → Cycles s.frame true answer s.target s.waits t → Rises s t
+pub one_rises : {A : Type 0} (s t : Clocked A) (answer : Bool) → IsRising s.frame → frame_place s.frame < frame_limit s.frame → Cycles s.frame true answer s.target s.waits t → Rises s t
 one_rises s t answer i p c = let r = one_rose s.frame answer s.target s.waits t i p c in record { state = r.0; exact = r.1 }
 
-pub rises_on : (s t u : Clocked) → Rises s t → Rises t u → Rises s u
+pub rises_on : {A : Type 0} (s t u : Clocked A) → Rises s t → Rises t u → Rises s u
 rises_on s t u a b = record { state = b.state ∙ a.state; exact = b.exact ∙ a.exact }
 
-pub rises_none : (s : Clocked) → Rises s s
+pub rises_none : {A : Type 0} (s : Clocked A) → Rises s s
 rises_none s = record { state = refl; exact = refl }
 
 pub risen_high : (f : Frame) → IsRising f → rise f ≡ 0 → frame_place f < frame_limit f → f ≡ High
@@ -121,14 +121,14 @@ again_exactly (Drives bits left) s i l = refl
 again_exactly (Awaits r bits place) s i l = refl
 again_exactly Passes s i l = refl
 
-pub rises_again : (s t u v : Clocked) → IsRising s.frame → 0 < rise s.frame → Rises s t → t.frame ≡ High → Moved (Lost 0) t.target t.waits u → Rises u v → Rises s v
+pub rises_again : {A : Type 0} (s t u v : Clocked A) → IsRising s.frame → 0 < rise s.frame → Rises s t → t.frame ≡ High → Moved (Lost 0) t.target t.waits u → Rises u v → Rises s v
 rises_again s t u v i l first high switched second =
     let state : state_of t.target ≡ risen s.frame (state_of s.target) = sym (ap (λ (x : Frame). risen x (state_of t.target)) high) ∙ first.state in
     let exact : simulation t.target ≡ stepped (λ c. risen s.frame) (simulation s.target) = sym (ap (λ (x : Frame). stepped (λ c. risen x) (simulation t.target)) high) ∙ first.exact in
     record {
-      state = second.state ∙ ap (λ (x : Frame). risen x (state_of u.target)) switched.frame ∙ ap (λ (x : Target). risen (Lost 0) (state_of x)) switched.target
+      state = second.state ∙ ap (λ (x : Frame). risen x (state_of u.target)) switched.frame ∙ ap (λ (x : Target _). risen (Lost 0) (state_of x)) switched.target
           ∙ ap (risen (Lost 0)) state ∙ again s.frame (state_of s.target) i l;
-      exact = second.exact ∙ ap (λ (x : Frame). stepped (λ c. risen x) (simulation u.target)) switched.frame ∙ ap (λ (x : Target). stepped (λ c. risen (Lost 0)) (simulation x)) switched.target
+      exact = second.exact ∙ ap (λ (x : Frame). stepped (λ c. risen x) (simulation u.target)) switched.frame ∙ ap (λ (x : Target _). stepped (λ c. risen (Lost 0)) (simulation x)) switched.target
           ∙ ap (stepped (λ c. risen (Lost 0))) exact ∙ again_exactly s.frame (simulation s.target) i l;
     }
 
@@ -143,7 +143,7 @@ eight_ones : ones_at_end 255 ≡ 8
 unfolding count_leading_zeros
 eight_ones = refl
 
-pub one_frame : (f : Frame) (answer : Bool) (s : Target) (w : Bool) (t : Clocked) → IsRising f → frame_place f < frame_limit f → Cycles f true answer s w t → Risen f t.frame
+pub one_frame : {A : Type 0} (f : Frame) (answer : Bool) (s : Target A) (w : Bool) (t : Clocked A) → IsRising f → frame_place f < frame_limit f → Cycles f true answer s w t → Risen f t.frame
 one_frame High answer s w t i p c = record { next = High; is = c.1.frame; rising = tt; less = refl }
 one_frame (Asks bits count) answer s w t i p c =
     elim (cases_lt count 7) as (λ (x : (count < 7) ⊎ (7 ≤ count)). Risen (Asks bits count) t.frame) [

@@ -91,16 +91,16 @@ pub shift_taken : (whole place rest bits n : ℕ) → Shifts (2 ^ 33) whole plac
 shift_taken whole place rest bits n s e = subst (λ x. Shifts (2 ^ 33) whole (place + 1) (rest / 2) (bits / 2 + x * 2 ^ 32)) (sym e) (shift_33 whole place rest bits s)
 
 -- one cycle after others
-pub moved_on : (f g : Frame) (s : Target) (w : Bool) (t u : Clocked) → Moved f s w t → Moved g t.target t.waits u → Moved g s w u
+pub moved_on : {A : Type 0} (f g : Frame) (s : Target A) (w : Bool) (t u : Clocked A) → Moved f s w t → Moved g t.target t.waits u → Moved g s w u
 moved_on f g s w t u m n = record { frame = n.frame; target = n.target ∙ m.target; waits = n.waits ∙ m.waits }
 
-pub came_on : (f : Frame) (r : Register) (a b : ℕ) (s : Target) (w : Bool) (t u : Clocked) → Moved f s w t → a ≡ b → DataCame r a t.target t.waits u → DataCame r b s w u
-came_on f r a b s w t u m e d = subst (λ x. DataCame r x s w u) e (subst (λ (x : Target). DataCame r a x w u) m.target (subst (λ x. DataCame r a t.target x u) m.waits d))
+pub came_on : {A : Type 0} (f : Frame) (r : Register) (a b : ℕ) (s : Target A) (w : Bool) (t u : Clocked A) → Moved f s w t → a ≡ b → DataCame r a t.target t.waits u → DataCame r b s w u
+came_on f r a b s w t u m e d = subst (λ x. DataCame r x s w u) e (subst (λ (x : Target _). DataCame r a x w u) m.target (subst (λ x. DataCame r a t.target x u) m.waits d))
 
-pub byte_on : (f : Frame) (a b : ℕ) (s : Target) (w : Bool) (t u : Clocked) → Moved f s w t → a ≡ b → ByteCame a t.target t.waits u → ByteCame b s w u
-byte_on f a b s w t u m e d = subst (λ x. ByteCame x s w u) e (subst (λ (x : Target). ByteCame a x w u) m.target (subst (λ x. ByteCame a t.target x u) m.waits d))
+pub byte_on : {A : Type 0} (f : Frame) (a b : ℕ) (s : Target A) (w : Bool) (t u : Clocked A) → Moved f s w t → a ≡ b → ByteCame a t.target t.waits u → ByteCame b s w u
+byte_on f a b s w t u m e d = subst (λ x. ByteCame x s w u) e (subst (λ (x : Target _). ByteCame a x w u) m.target (subst (λ x. ByteCame a t.target x u) m.waits d))
 
-pub left_less : (rest place : ℕ) (s : Target) (w : Bool) (t : Clocked) → place < 33 → Moved (Drives rest (33 - place - 1)) s w t → Moved (Drives rest (33 - (place + 1))) s w t
+pub left_less : {A : Type 0} (rest place : ℕ) (s : Target A) (w : Bool) (t : Clocked A) → place < 33 → Moved (Drives rest (33 - place - 1)) s w t → Moved (Drives rest (33 - (place + 1))) s w t
 left_less rest place s w t h m = let e : 33 - place - 1 ≡ 33 - (place + 1) = omega arith in subst (λ n. Moved (Drives rest n) s w t) e m
 
 -- cycles after others

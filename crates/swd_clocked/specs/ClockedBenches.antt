@@ -15,39 +15,39 @@ use Rattle.swd_clocked.specs.Frames.{reset_cycles}
 use Rattle.swd_clocked.specs.Rests.{line_at}
 
 -- what is due, and the data phase that its target is in
-abbrev pub link_of : ClockedBench → Link
+abbrev pub link_of : {A : Type 0} → ClockedBench A → Link
 link_of b = record { due = b.due; line = line_at b.clocked.value.frame b.flip }
 
 -- its numbers of requests
-abbrev pub tally_of : ClockedBench → Tally
+abbrev pub tally_of : {A : Type 0} → ClockedBench A → Tally
 tally_of b = plans.tally_of b.plan
 
 -- the state of the port machine
-abbrev pub port_of : ClockedBench → Port
+abbrev pub port_of : {A : Type 0} → ClockedBench A → Port
 port_of b = port_at (link_of b) (tally_of b) (clocks.state_of b.clocked.value)
 
 -- its target as a simulated one
-abbrev pub simulation_of : ClockedBench → Simulation
+abbrev pub simulation_of : {A : Type 0} → ClockedBench A → Simulation
 simulation_of b = clocks.simulation_of b.clocked.value
 
 -- the marks of its requests
-abbrev pub plan_of : ClockedBench → List Mark
+abbrev pub plan_of : {A : Type 0} → ClockedBench A → List Mark
 plan_of b = plans.marks_of b.plan
 
 -- the mark of its next request
-abbrev pub next_mark : ClockedBench → Mark
+abbrev pub next_mark : {A : Type 0} → ClockedBench A → Mark
 next_mark b = plans.mark_next b.plan
 
 -- what it chooses when a transfer takes effect
-abbrev pub choice_of : ClockedBench → Choice
+abbrev pub choice_of : {A : Type 0} → ClockedBench A → Choice
 choice_of b = choice_for DrwRead b.clocked.value.target
 
 -- its cycles so far
-abbrev pub cycles_of : ClockedBench → ℕ
+abbrev pub cycles_of : {A : Type 0} → ClockedBench A → ℕ
 cycles_of b = clocks.cycles_of b.clocked.value
 
 -- the link after a request
-abbrev pub link_asked : Request → ClockedBench → Link
+abbrev pub link_asked : {A : Type 0} → Request → ClockedBench A → Link
 link_asked q b =
     let s = simulation_of b in
     link_after (next_mark b) q (reply_to (next_mark b) q s) (phase_to (next_mark b) q s) (link_of b)

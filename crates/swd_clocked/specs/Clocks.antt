@@ -10,39 +10,39 @@ use Rattle.swd_clocked.specs.Cycles.{Cycles, Moved}
 use Rattle.swd_clocked.specs.Frames.{risen}
 
 -- the state of the port machine, in which a word may be unknown, and the same as a simulated target
-abbrev pub state_of : Clocked → State
+abbrev pub state_of : {A : Type 0} → Clocked A → State
 state_of c = target.state_of c.target
 
-abbrev pub simulation_of : Clocked → Simulation
+abbrev pub simulation_of : {A : Type 0} → Clocked A → Simulation
 simulation_of c = target.simulation c.target
 
 -- what it is doing
-abbrev pub frame_in : Clocked → Frame
+abbrev pub frame_in : {A : Type 0} → Clocked A → Frame
 frame_in c = c.frame
 
 -- WAIT is asked for
-abbrev pub is_held : Clocked → Bool
+abbrev pub is_held : {A : Type 0} → Clocked A → Bool
 is_held c = c.waits
 
 -- its cycles so far
-abbrev pub cycles_of : Clocked → ℕ
+abbrev pub cycles_of : {A : Type 0} → Clocked A → ℕ
 cycles_of c = c.cycles
 
 -- one cycle, with the bit that the host drives, or none: an undriven line reads 1
-abbrev pub Clocks : Option Bool → Bool → Clocked → Clocked → Type 0
+abbrev pub Clocks : {A : Type 0} → Option Bool → Bool → Clocked A → Clocked A → Type 0
 Clocks drive answer s t = Cycles s.frame (unwrap_or drive true) answer s.target s.waits t
 
 -- nothing but what is held changed
-abbrev pub Holds : Bool → Clocked → Clocked → Type 0
+abbrev pub Holds : {A : Type 0} → Bool → Clocked A → Clocked A → Type 0
 Holds w s t = Moved s.frame s.target w t
 
 -- the pending transfer took effect, and nothing else changed
-pub record Settles (s t : Clocked) : Type 0 where
+pub record Settles {A : Type 0} (s t : Clocked A) : Type 0 where
   pub target : target.Steps completion_of s.target t.target
   pub frame : t.frame ≡ s.frame
   pub waits : t.waits ≡ s.waits
 
 -- ones went by: the line reset that they lead to is the same
-pub record Rises (s t : Clocked) : Type 0 where
+pub record Rises {A : Type 0} (s t : Clocked A) : Type 0 where
   pub state : risen t.frame (state_of t) ≡ risen s.frame (state_of s)
   pub exact : stepped (λ c. risen t.frame) (simulation_of t) ≡ stepped (λ c. risen s.frame) (simulation_of s)

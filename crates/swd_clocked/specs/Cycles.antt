@@ -20,13 +20,13 @@ use Rattle.swd_clocked.specs.Frames.{ones_at_end, unswitched}
 -- Each relation below is between the target and what is held before, and the clocked target after.
 
 -- only the frame changed
-pub record Moved (f : Frame) (s : Target) (w : Bool) (t : Clocked) : Type 0 where
+pub record Moved {A : Type 0} (f : Frame) (s : Target A) (w : Bool) (t : Clocked A) : Type 0 where
   pub frame : t.frame ≡ f
   pub target : t.target ≡ s
   pub waits : t.waits ≡ w
 
 -- a request came, and its reply begins
-pub record Requested (q : Request) (s : Target) (w : Bool) (t : Clocked) : Type 0 where
+pub record Requested {A : Type 0} (q : Request) (s : Target A) (w : Bool) (t : Clocked A) : Type 0 where
   pub reply : Reply
   pub phase : Line
   pub answers : Answers w q s reply phase t.target
@@ -34,7 +34,7 @@ pub record Requested (q : Request) (s : Target) (w : Bool) (t : Clocked) : Type 
   pub waits : t.waits ≡ w
 
 -- a request was sent, and its reply seen
-pub record Seen (q : Request) (a : Reply) (s : Target) (w : Bool) (t : Clocked) : Type 0 where
+pub record Seen {A : Type 0} (q : Request) (a : Reply) (s : Target A) (w : Bool) (t : Clocked A) : Type 0 where
   pub phase : Line
   pub answers : Answers w q s a phase t.target
   pub frame : t.frame ≡ frame_seen a phase
@@ -42,66 +42,69 @@ pub record Seen (q : Request) (a : Reply) (s : Target) (w : Bool) (t : Clocked) 
 
 -- Eight bits came that begin with Start. Where they are no request, fifty ones are awaited, of which their last bits
 -- may be the first.
-pub record ByteCame (byte : ℕ) (s : Target) (w : Bool) (t : Clocked) : Type 0 where
+pub record ByteCame {A : Type 0} (byte : ℕ) (s : Target A) (w : Bool) (t : Clocked A) : Type 0 where
   pub whole : (q : Request) → request q ≡ low_bits 8 byte → Requested q s w t
   pub broken : ((q : Request) → request q ≢ low_bits 8 byte) → Moved (Lost (ones_at_end byte)) s w t
 
 -- a bit where a request is awaited, of which so many bits came: a zero in place of Start is idle
-pub record AsksBit (bits count : ℕ) (b : Bool) (s : Target) (w : Bool) (t : Clocked) : Type 0 where
+pub record AsksBit {A : Type 0} (bits count : ℕ) (b : Bool) (s : Target A) (w : Bool) (t : Clocked A) : Type 0 where
   pub quiet : count ≡ 0 → b ≡ false → Moved idle s w t
   pub more : count < 7 → (count ≡ 0 → b ≡ true) → Moved (Asks (shifted 128 bits b) (count + 1)) s w t
   pub whole : count ≡ 7 → ByteCame (shifted 128 bits b) s w t
 
 -- a line reset
-pub record ResetCame (s : Target) (w : Bool) (t : Clocked) : Type 0 where
+pub record ResetCame {A : Type 0} (s : Target A) (w : Bool) (t : Clocked A) : Type 0 where
   pub reset : Steps (λ c. line_reset false) s t.target
   pub frame : t.frame ≡ High
   pub waits : t.waits ≡ w
 
 -- a bit where fifty ones are awaited, of which so many came
-pub record LostBit (ones : ℕ) (b : Bool) (s : Target) (w : Bool) (t : Clocked) : Type 0 where
+pub record LostBit {A : Type 0} (ones : ℕ) (b : Bool) (s : Target A) (w : Bool) (t : Clocked A) : Type 0 where
   pub low : b ≡ false → Moved (Lost 0) s w t
   pub more : ones < 49 → b ≡ true → Moved (Lost (ones + 1)) s w t
   pub whole : ones ≡ 49 → b ≡ true → ResetCame s w t
 
 -- a bit heard in a frame that drives nothing
-abbrev pub HeardBit : Frame → Bool → Target → Bool → Clocked → Type 0
+abbrev pub HeardBit : {A : Type 0} → Frame → Bool → Target A → Bool → Clocked A → Type 0
 HeardBit (Asks bits count) b s w t = AsksBit bits count b s w t
 HeardBit (Lost ones) b s w t = LostBit ones b s w t
 HeardBit frame b s w t = Unit {0}
 
 -- The bit of the switch that comes after the ones of a line reset leads on to the next. Another one is heard as if the
 -- bits before it had been no part of a switch.
-pub record SwitchesBit (place : ℕ) (b : Bool) (s : Target) (w : Bool) (t : Clocked) : Type 0 where
+pub record SwitchesBit {A : Type 0} (place : ℕ) (b : Bool) (s : Target A) (w : Bool) (t : Clocked A) : Type 0 where
   pub fits : b ≡ switch_bit place → Moved (switched place) s w t
   pub differs : b ≢ switch_bit place → HeardBit (unswitched place) b s w t
 
 -- a cycle of a reply: the turnaround, then three that are driven
-pub record RepliesBit (reply : Reply) (line : Line) (place : ℕ) (b answer : Bool) (s : Target) (w : Bool) (t : Clocked) : Type 0 where
+pub record RepliesBit {A : Type 0} (reply : Reply) (line : Line) (place : ℕ) (b answer : Bool)
+    (s : Target A) (w : Bool) (t : Clocked A) : Type 0 where
   pub frame : Moved (if place == 3 then frame_of line else Replies reply line (place + 1)) s w t
   pub turn : place ≡ 0 → answer ≡ b
   pub driven : place ≢ 0 → answer ≡ reply_bit reply place
 
 -- a cycle of a read's data: so many bits more are driven, and then a turnaround goes by
-pub record DrivesBit (bits left : ℕ) (b answer : Bool) (s : Target) (w : Bool) (t : Clocked) : Type 0 where
+pub record DrivesBit {A : Type 0} (bits left : ℕ) (b answer : Bool)
+    (s : Target A) (w : Bool) (t : Clocked A) : Type 0 where
   pub driven : left ≢ 0 → answer ≡ (bits % 2 == 1)
   pub more : left ≢ 0 → Moved (Drives (bits / 2) (left - 1)) s w t
   pub turn : left ≡ 0 → (answer ≡ b) × Moved idle s w t
 
 -- the 33 bits of a write came
-pub record DataCame (r : Register) (sent : ℕ) (s : Target) (w : Bool) (t : Clocked) : Type 0 where
+pub record DataCame {A : Type 0} (r : Register) (sent : ℕ) (s : Target A) (w : Bool) (t : Clocked A) : Type 0 where
   pub comes : DataComes (arrival_of r (word_in sent)) s t.target
   pub frame : t.frame ≡ idle
   pub waits : t.waits ≡ w
 
 -- a cycle of a write's data: a turnaround, and then 33 bits
-pub record AwaitsBit (r : Register) (bits place : ℕ) (b : Bool) (s : Target) (w : Bool) (t : Clocked) : Type 0 where
+pub record AwaitsBit {A : Type 0} (r : Register) (bits place : ℕ) (b : Bool)
+    (s : Target A) (w : Bool) (t : Clocked A) : Type 0 where
   pub turn : place ≡ 0 → Moved (Awaits r bits 1) s w t
   pub more : place ≢ 0 → place < 33 → Moved (Awaits r (shifted (2 ^ 32) bits b) (place + 1)) s w t
   pub whole : place ≡ 33 → DataCame r (shifted (2 ^ 32) bits b) s w t
 
 -- A cycle in which this bit stands on a line that the target doesn't drive, and what is on the line.
-abbrev pub Cycles : Frame → Bool → Bool → Target → Bool → Clocked → Type 0
+abbrev pub Cycles : {A : Type 0} → Frame → Bool → Bool → Target A → Bool → Clocked A → Type 0
 Cycles (Asks bits count) b answer s w t = (answer ≡ b) × AsksBit bits count b s w t
 Cycles (Lost ones) b answer s w t = (answer ≡ b) × LostBit ones b s w t
 Cycles High b answer s w t = (answer ≡ b) × Moved (if b then High else Switches 1) s w t

@@ -5,6 +5,7 @@ ghost use Rattle.swd_target.specs.Simulations.{made_with};
 ghost use Rattle.swd_clocked.specs.Frames.{frame_bits, frame_place, frame_limit, idle, counted, reply_bit, unswitched};
 
 use crate::frame::Frame;
+use std::alloc::{Allocator, Global};
 use swd_bits::Request;
 use swd_port::{Line, Register, Reply};
 use swd_target::port::Target;
@@ -28,8 +29,8 @@ pub(crate) const SWITCH: u16 = 0xe79e;
 /// // then DPIDR's request, bit by bit, and the acknowledgement with None
 /// ```
 #[derive(Drop)]
-pub struct Clocked {
-    pub(crate) target: Target,
+pub struct Clocked<A: Allocator = Global> {
+    pub(crate) target: Target<A>,
     pub(crate) frame: Frame,
     pub(crate) waits: bool,
     pub(crate) cycles: u64,
@@ -38,7 +39,7 @@ pub struct Clocked {
     ghost counts: { cycles < 2 ^ 64 },
 }
 
-impl Clocked {
+impl<A: Allocator> Clocked<A> {
     ghost use Rattle.swd_clocked.specs.Clocks.{state_of, simulation_of, frame_in, is_held, cycles_of};
     ghost use Rattle.swd_clocked.specs.Clocks.{Clocks, Holds, Settles};
     ghost use Rattle.swd_clocked.specs.Cycles.{Requested, ByteCame, AsksBit, LostBit, HeardBit, DataCame};
@@ -46,7 +47,7 @@ impl Clocked {
 
     /// Makes a target that had no line reset yet, with this memory behind its access port. Nothing
     /// is held, and DPIDR gives 2ba01477.
-    pub fn new(memory: Memory, quirks: Quirks) -> Clocked
+    pub fn new(memory: Memory<A>, quirks: Quirks) -> Clocked<A>
         ensures state { state_of result ≡ made_target 0x2ba0_1477 memory }
         ensures exact { simulation_of result ≡ made_with quirks memory }
         ensures frame { frame_in result ≡ idle }
@@ -79,14 +80,14 @@ impl Clocked {
     }
 
     /// The memory behind the access port.
-    pub fn memory(&self) -> &Memory
+    pub fn memory(&self) -> &Memory<A>
         ensures { result.now ≡ (state_of self.now).memory }
     {
         self.target.memory()
     }
 
     // The same, once nothing else of the target is wanted.
-    pub(crate) fn into_memory(self) -> Memory
+    pub(crate) fn into_memory(self) -> Memory<A>
         ensures { result ≡ (state_of self).memory }
     {
         self.target.into_memory()

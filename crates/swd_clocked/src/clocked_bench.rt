@@ -16,7 +16,7 @@ ghost use Rattle.swd_clocked.specs.Frames.{counted};
 ghost use Rattle.swd_clocked.specs.Rests.{rests};
 
 use crate::clocked::Clocked;
-use std::alloc::Global;
+use std::alloc::{Allocator, Global};
 use swd_bits::Request;
 use swd_port::{Due, Mark, Wire};
 use swd_target::port::{Plan, due_after_seen, flip_bit, flip_under, seen_under};
@@ -35,11 +35,11 @@ use swd_target::{Memory, Quirks};
 /// bench.cycles(); // 142
 /// ```
 #[derive(Drop)]
-pub struct ClockedBench {
-    clocked: Box<Clocked>,
+pub struct ClockedBench<A: Allocator = Global> {
+    clocked: Box<Clocked<A>, A>,
     due: Due,
     flip: Option<u8>,
-    plan: Plan,
+    plan: Plan<A>,
     ghost flipped: { flip_place flip < 33 },
     ghost resting: { rests due clocked.value.frame ≡ true },
 }
@@ -58,18 +58,18 @@ fn is_wait(mark: Mark) -> bool
     matches!(&mark, Mark::Wait)
 }
 
-impl ClockedBench {
+impl<A: Allocator> ClockedBench<A> {
     ghost use Rattle.swd_clocked.specs.ClockedBenches.{port_of, link_of, simulation_of, plan_of};
     ghost use Rattle.swd_clocked.specs.ClockedBenches.{choice_of, cycles_of, lead_cycles};
 
     /// Makes a clocked target that had no line reset yet, with this memory behind its access port.
     /// Where there is no memory for it, memory and plan are handed back.
     pub fn new(
-        alloc: Global,
-        memory: Memory,
+        alloc: A,
+        memory: Memory<A>,
         quirks: Quirks,
-        plan: Vec<Mark>,
-    ) -> Result<ClockedBench, (Memory, Vec<Mark>)>
+        plan: Vec<Mark, A>,
+    ) -> Result<ClockedBench<A>, (Memory<A>, Vec<Mark, A>)>
         requires { IsPlan plan.items }
         ensures port { IfOk result (λ b. port_of b ≡ made 0x2ba0_1477 memory) }
         ensures exact { IfOk result (λ b. simulation_of b ≡ made_with quirks memory) }
@@ -101,7 +101,7 @@ impl ClockedBench {
     }
 
     /// The memory behind the access port.
-    pub fn memory(&self) -> &Memory
+    pub fn memory(&self) -> &Memory<A>
         ensures { result.now ≡ (port_of self.now).target.memory }
     {
         self.clocked.memory()
@@ -161,7 +161,7 @@ impl ClockedBench {
     }
 }
 
-impl Wire for ClockedBench {
+impl<A: Allocator> Wire for ClockedBench<A> {
     ghost use Rattle.swd_clocked.specs.ClockedBenches.{port_of, link_of, tally_of, simulation_of, plan_of, next_mark};
     ghost use Rattle.swd_clocked.specs.ClockedBenches.{link_asked, cycles_of, ask_cycles, lead_cycles};
 

@@ -5,6 +5,7 @@ ghost use Rattle.swd_port.specs.Phases.{undriven};
 
 use crate::clocked::{Clocked, SWITCH};
 use crate::frame::Frame;
+use std::alloc::Allocator;
 use swd_bits::Request;
 use swd_port::{Line, Register, Reply};
 
@@ -20,7 +21,7 @@ fn reply_of(bits: u8) -> Reply
     }
 }
 
-impl Clocked {
+impl<A: Allocator> Clocked<A> {
     ghost use Rattle.swd_clocked.specs.Frames.{idle, frame_of, frame_bits, frame_register, counted, reset_cycles};
     ghost use Rattle.swd_clocked.specs.Frames.{IsRising, rise, risen, IsFalling, fall};
     ghost use Rattle.swd_clocked.specs.Cycles.{Moved, ByteCame, DataCame, Seen};

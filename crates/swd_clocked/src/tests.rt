@@ -3,3 +3,4 @@ mod cycles;
 mod lists;
 mod parts;
 mod recorded;
+mod refusals;

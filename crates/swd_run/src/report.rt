@@ -8,6 +8,7 @@ ghost use Rattle.swd_io.specs.Blocks.{Sends, Writes};
 ghost use Rattle.swd_run.specs.Reports.{answer_line, last_line, report_text, stop_text};
 
 use arrayvec::ArrayString;
+use std::alloc::Allocator;
 use std::io::Write;
 use swd_bits::push_word;
 use swd_host::{End, Report};
@@ -98,7 +99,11 @@ fn push_count(text: &mut ReportLine, count: usize)
 }
 
 // The report of a run of these accesses is under way, too.
-fn put_report<W: Write>(block: &mut Block<'_, W>, accesses: &[Access], report: &Report)
+fn put_report<W: Write, A: Allocator>(
+    block: &mut Block<'_, W>,
+    accesses: &[Access],
+    report: &Report<A>,
+)
     ensures sends { (start : Option (List ℕ)) (all : List ℕ) → Sends W.contents start block.old all
         → Sends W.contents start block.new (all ++ report_text accesses.now (told_of report.now)) }
     ensures writer { block.new.writer.ghost_name ≡ block.old.writer.ghost_name }
@@ -116,10 +121,10 @@ fn put_report<W: Write>(block: &mut Block<'_, W>, accesses: &[Access], report: &
 ///
 /// How many bytes of the text went out, where the writer failed or took no bytes: exactly its first
 /// ones. Nothing is tried again.
-pub fn write_report<W: Write>(
+pub fn write_report<W: Write, A: Allocator>(
     writer: &mut W,
     accesses: &[Access],
-    report: &Report,
+    report: &Report<A>,
 ) -> Result<(), u64>
     ensures { Writes result (W.contents writer.old) (W.contents writer.new)
         (report_text accesses.now (told_of report.now)) }

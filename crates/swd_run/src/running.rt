@@ -11,7 +11,7 @@ ghost use Rattle.swd_run.specs.Running.{RunsAs, RunsText, memory_of};
 
 use crate::report::write_report;
 use crate::texts::{Texts, read_texts};
-use std::alloc::Global;
+use std::alloc::Allocator;
 use std::io::{Read, Write};
 use swd_host::{End, Refused, Report, run};
 use swd_port::{Mark, Wire};
@@ -28,7 +28,7 @@ const QUIRKS: Quirks = Quirks {
 };
 
 // The memory of a script. `None` where memory was refused.
-fn zero_memory(alloc: Global, script: &Script<Global>) -> Option<Memory>
+fn zero_memory<A: Allocator + Copy>(alloc: A, script: &Script<A>) -> Option<Memory<A>>
     requires { IsRunnable (meaning script.now) }
     ensures { IfSome result (λ memory. memory ≡ memory_of (meaning script.now)) }
 {
@@ -40,7 +40,11 @@ fn zero_memory(alloc: Global, script: &Script<Global>) -> Option<Memory>
 }
 
 /// The simulated target of a script, whose requests meet these marks. `None` where memory was refused.
-pub(crate) fn target_of(alloc: Global, script: &Script<Global>, plan: Vec<Mark>) -> Option<Bench>
+pub(crate) fn target_of<A: Allocator + Copy>(
+    alloc: A,
+    script: &Script<A>,
+    plan: Vec<Mark, A>,
+) -> Option<Bench<A>>
     requires script { IsRunnable (meaning script.now) }
     requires plan { IsPlan plan.items }
     ensures port { IfSome result (λ bench. port_of bench ≡ made 0x2ba0_1477 (memory_of (meaning script.now))) }
@@ -51,12 +55,12 @@ pub(crate) fn target_of(alloc: Global, script: &Script<Global>, plan: Vec<Mark>)
 }
 
 /// Runs the accesses of a script over a wire. `None` where memory was refused, before the first bit.
-pub(crate) fn run_over<W: Wire>(
-    alloc: Global,
+pub(crate) fn run_over<W: Wire, A: Allocator>(
+    alloc: A,
     wire: &mut W,
-    script: &Script<Global>,
+    script: &Script<A>,
     tries: u32,
-) -> Option<Report>
+) -> Option<Report<A>>
     requires script { IsRunnable (meaning script.now) }
     requires due { (W.port wire.old).link.due ≡ Nothing }
     ensures fits { IfSome result (λ report. RunsOver (meaning script.now).accesses tries (told_of report)
@@ -72,14 +76,19 @@ pub(crate) fn run_over<W: Wire>(
 
 // Runs a script over a simulated target, whose requests meet these marks. `None` where memory was
 // refused, before the first bit.
-fn run_script(alloc: Global, script: &Script<Global>, plan: Vec<Mark>, tries: u32) -> Option<Report>
+fn run_script<A: Allocator + Copy>(
+    alloc: A,
+    script: &Script<A>,
+    plan: Vec<Mark, A>,
+    tries: u32,
+) -> Option<Report<A>>
     requires script { IsRunnable (meaning script.now) }
     requires plan { IsPlan plan.items }
     ensures { IfSome result (λ report. RunsAs tries (meaning script.now) plan.items (told_of report)) }
 {
     let mut bench = target_of(alloc, script, plan)?;
     // The marks that a run meets are among those of the plan.
-    marks_used();
+    marks_used::<A>();
     let report = run_over(alloc, &mut bench, script, tries)?;
     Some(report)
 }
@@ -97,8 +106,8 @@ fn run_script(alloc: Global, script: &Script<Global>, plan: Vec<Mark>, tries: u3
 /// a reader failed. `Memory` where memory was refused for the target or for the answers. Nothing was
 /// written then. `Write` where the writer failed, or took no bytes, after exactly the first `written`
 /// bytes of the report went out. Nothing is tried again.
-pub fn run_text<S: Read, P: Read, W: Write>(
-    alloc: Global,
+pub fn run_text<S: Read, P: Read, W: Write, A: Allocator + Copy>(
+    alloc: A,
     script: &mut S,
     plan: &mut P,
     tries: u32,

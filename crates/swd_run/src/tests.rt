@@ -1,12 +1,13 @@
 //! Scripts run under plans: worked texts, texts at fault, and readers and writers that fail.
 use crate::{answer_line, last_line, run_text};
-use std::cell::Cell;
 use std::test::Fail;
-use swd_fakes::{CountingWriter, FailingReader, ShortWriter};
+use swd_fakes::{FailingReader, ShortWriter};
 use swd_host::End;
 use swd_port::{Access, Answer};
 use swd_script::ScriptFault;
 use swd_text::EngineFault;
+
+mod refusals;
 
 // What a run answers, and what it writes.
 #[derive(Drop)]
@@ -204,33 +205,6 @@ fn a_long_report_where_a_write_fails(rt: HostRuntime) -> Result<(), Fail> {
         assert!(rt; writer.taken() == &report.as_slice()[..room]);
     }
     Ok(())
-}
-
-// Where the toolchain refuses an allocation (`rt try --test --fail-alloc N`), that is told, and nothing is written.
-#[test]
-fn refused_memory_leaves_nothing_written(rt: HostRuntime) {
-    let taken = Cell::new(0);
-    let mut writer = CountingWriter { taken: &taken };
-    let mut script = WORKED;
-    let mut plan = THREE_WAITS;
-    let answer = run_text(rt.alloc(), &mut script, &mut plan, TRIES, &mut writer);
-    match answer {
-        Ok(end) => {
-            assert_eq!(rt; end, End::All);
-            assert_eq!(rt; taken.get(), WORKED_REPORT.len());
-        }
-        Err(fault) => {
-            assert!(rt;
-                matches!(
-                    fault,
-                    EngineFault::Memory
-                        | EngineFault::Script(ScriptFault::Memory { .. })
-                        | EngineFault::Plan(ScriptFault::Memory { .. })
-                )
-            );
-            assert_eq!(rt; taken.get(), 0);
-        }
-    }
 }
 
 #[test]

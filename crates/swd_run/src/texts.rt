@@ -4,7 +4,7 @@ ghost use Rattle.swd_script.specs.Readers.{meaning};
 ghost use Rattle.swd_run.specs.Running.{AreRead, AreUnread};
 ghost use Rattle.swd_run.specs.Running.{plan_fault as plan_fault_of, script_fault as script_fault_of};
 
-use std::alloc::Global;
+use std::alloc::Allocator;
 use std::io::Read;
 use swd_io::Unread;
 use swd_port::Mark;
@@ -13,9 +13,9 @@ use swd_text::EngineFault;
 
 /// A script and the marks of a plan.
 #[derive(Drop)]
-pub(crate) struct Texts {
-    pub(crate) script: Script<Global>,
-    pub(crate) plan: Vec<Mark>,
+pub(crate) struct Texts<A: Allocator> {
+    pub(crate) script: Script<A>,
+    pub(crate) plan: Vec<Mark, A>,
 }
 
 // The fault of a script that was not read.
@@ -39,11 +39,11 @@ fn plan_fault(unread: Unread<ScriptFault>) -> EngineFault
 }
 
 /// Reads a script and then a plan.
-pub(crate) fn read_texts<S: Read, P: Read>(
-    alloc: Global,
+pub(crate) fn read_texts<S: Read, P: Read, A: Allocator + Copy>(
+    alloc: A,
     script: &mut S,
     plan: &mut P,
-) -> Result<Texts, EngineFault>
+) -> Result<Texts<A>, EngineFault>
     ensures read { IfOk result (λ texts. AreRead (S.remaining script.old) (P.remaining plan.old)
         (meaning texts.script) texts.plan.items) }
     ensures fault { IfErr result (λ fault. AreUnread fault (S.remaining script.old) (P.remaining plan.old)) }

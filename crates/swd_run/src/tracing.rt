@@ -12,10 +12,10 @@ ghost use Rattle.swd_run.specs.Tracing.{RunsTraced, IsRecorded};
 use crate::report::write_report;
 use crate::running::{run_over, target_of};
 use crate::texts::{Texts, read_texts};
-use std::alloc::{Allocator, Global};
+use std::alloc::Allocator;
 use std::io::{Read, Write};
 use swd_host::{End, Report};
-use swd_port::Mark;
+use swd_port::{Mark, Wire};
 use swd_recorder::Recorder;
 use swd_script::Script;
 use swd_target::Bench;
@@ -24,37 +24,47 @@ use swd_text::{EngineFault, write_items};
 
 /// A run and what went over its wire.
 #[derive(Drop)]
-struct Recorded<A: Allocator> {
-    report: Report,
-    recorder: Recorder<Bench, A>,
+struct Recorded<W: Wire, A: Allocator> {
+    report: Report<A>,
+    recorder: Recorder<W, A>,
 }
 
-// Runs a script over a simulated target, and keeps what goes over the wire, for which `items` gives the
-// memory. `None` where memory was refused, before the first bit.
-fn record_script<A: Allocator>(
-    alloc: Global,
-    items: A,
-    script: &Script<Global>,
-    plan: Vec<Mark>,
+// Runs a script over a simulated target, and keeps what goes over the wire. `None` where memory was
+// refused, before the first bit.
+fn record_script<A: Allocator + Copy>(
+    alloc: A,
+    script: &Script<A>,
+    plan: Vec<Mark, A>,
     tries: u32,
-) -> Option<Recorded<A>>
+) -> Option<Recorded<Bench<A>, A>>
     requires script { IsRunnable (meaning script.now) }
     requires plan { IsPlan plan.items }
     ensures runs { IfSome result (λ recorded. RunsAs tries (meaning script.now) plan.items (told_of recorded.report)) }
     ensures recorded { IfSome result (λ recorded. IsRecorded (told_of recorded.report) (port_by recorded.recorder)) }
 {
     let bench = target_of(alloc, script, plan)?;
-    let mut recorder = Recorder::new(items, bench);
+    let mut recorder = Recorder::new(alloc, bench);
     // The marks that a run meets are among those of the plan.
-    marks_used();
+    marks_used::<A>();
     let report = run_over(alloc, &mut recorder, script, tries)?;
     Some(Recorded { report, recorder })
 }
 
-/// `run_text` through a recorder, whose items take their memory from `items`.
-pub(crate) fn run_traced_in<S: Read, P: Read, W: Write, T: Write, A: Allocator>(
-    alloc: Global,
-    items: A,
+/// `run_text`, and then the trace of what went over the wire: the trace text of its items, one line an
+/// item, the ones and zeros of the opening among them. A word that arrived damaged stands there as it
+/// arrived, one that was sent as it was sent.
+///
+/// Memory is taken as in `run_text`, and for the items while the run goes on. It changes nothing in the
+/// run whether that is refused.
+///
+/// # Errors
+///
+/// Those of `run_text`. `Write` also where the trace's writer failed, or took no bytes: the report then
+/// stands whole, and exactly the first `written` bytes of the trace went out. A failed report leaves the
+/// trace's writer as it was. `TraceCut` where memory was refused for an item: the report stands whole,
+/// and the trace of the items before it.
+pub fn run_traced<S: Read, P: Read, W: Write, T: Write, A: Allocator + Copy>(
+    alloc: A,
     script: &mut S,
     plan: &mut P,
     tries: u32,
@@ -68,7 +78,7 @@ pub(crate) fn run_traced_in<S: Read, P: Read, W: Write, T: Write, A: Allocator>(
         Ok(texts) => texts,
         Err(fault) => return Err(fault),
     };
-    let Some(recorded) = record_script(alloc, items, &script, plan, tries) else {
+    let Some(recorded) = record_script(alloc, &script, plan, tries) else {
         return Err(EngineFault::Memory);
     };
     let Recorded { report, recorder } = recorded;
@@ -85,33 +95,6 @@ pub(crate) fn run_traced_in<S: Read, P: Read, W: Write, T: Write, A: Allocator>(
     } else {
         Ok(report.ended)
     }
-}
-
-/// `run_text`, and then the trace of what went over the wire: the trace text of its items, one line an
-/// item, the ones and zeros of the opening among them. A word that arrived damaged stands there as it
-/// arrived, one that was sent as it was sent.
-///
-/// Memory is taken as in `run_text`, and for the items while the run goes on. It changes nothing in the
-/// run whether that is refused.
-///
-/// # Errors
-///
-/// Those of `run_text`. `Write` also where the trace's writer failed, or took no bytes: the report then
-/// stands whole, and exactly the first `written` bytes of the trace went out. A failed report leaves the
-/// trace's writer as it was. `TraceCut` where memory was refused for an item: the report stands whole,
-/// and the trace of the items before it.
-pub fn run_traced<S: Read, P: Read, W: Write, T: Write>(
-    alloc: Global,
-    script: &mut S,
-    plan: &mut P,
-    tries: u32,
-    writer: &mut W,
-    trace: &mut T,
-) -> Result<End, EngineFault>
-    ensures { RunsTraced tries result (S.remaining script.old) (P.remaining plan.old)
-        (W.contents writer.old) (W.contents writer.new) (T.contents trace.old) (T.contents trace.new) }
-{
-    run_traced_in(alloc, alloc, script, plan, tries, writer, trace)
 }
 
 #[cfg(test)]

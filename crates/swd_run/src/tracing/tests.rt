@@ -1,7 +1,5 @@
 //! Runs with their traces: worked ones, and writers and memory that fail.
 use crate::run_traced;
-use crate::tracing::run_traced_in;
-use linked_list_allocator::LocalHeap;
 use std::test::Fail;
 use swd_fakes::ShortWriter;
 use swd_host::End;
@@ -210,48 +208,4 @@ fn a_report_that_fails_leaves_no_trace(rt: HostRuntime) {
             assert!(rt; trace.is_empty());
         }
     }
-}
-
-// Memory is refused at each growth of the items: the run and its report stay as they are, and the trace is that of
-// the items before.
-#[test]
-fn traces_with_memory_refused(rt: HostRuntime) -> Result<(), Fail> {
-    let mut script = Vec::new(rt.alloc());
-    script.extend_from_slice(b"memory 20000000 16\nrn 20000000 16\n")?;
-    let whole = run_on(&rt, script.as_slice(), b"".as_slice());
-    assert_eq!(rt; whole.answer, Ok(End::All));
-    let mut cut = 0u32;
-    let mut done = 0u32;
-    let mut most = 0usize;
-    for size in 1..120usize {
-        let heap = LocalHeap::new(rt.alloc(), size * 64)?;
-        let mut text = script.as_slice();
-        let mut plan = b"".as_slice();
-        let mut report = Vec::new(rt.alloc());
-        let mut trace = Vec::new(rt.alloc());
-        let answer = run_traced_in(
-            rt.alloc(),
-            &heap,
-            &mut text,
-            &mut plan,
-            TRIES,
-            &mut report,
-            &mut trace,
-        );
-        assert!(rt; report.as_slice() == whole.report.as_slice());
-        if answer == Ok(End::All) {
-            done = done.saturating_add(1);
-            assert!(rt; trace.as_slice() == whole.trace.as_slice());
-        } else {
-            cut = cut.saturating_add(1);
-            assert_eq!(rt; answer, Err(EngineFault::TraceCut));
-            assert!(rt; trace.len() < whole.trace.len());
-            assert!(rt; trace.as_slice() == &whole.trace.as_slice()[..trace.len()]);
-            // A larger heap cuts no earlier.
-            assert!(rt; most <= trace.len());
-            most = trace.len();
-        }
-    }
-    assert!(rt; cut > 3 && done > 3);
-    Ok(())
 }

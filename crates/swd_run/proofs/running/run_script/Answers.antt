@@ -8,7 +8,7 @@ use Rattle.swd_run.proofs.RunLemmas.{run_as}
 use Rattle.swd_run.proofs.running.run_script.Goals as goal
 
 pub returns : goal.returns
-returns c =
+returns g c =
     let marks = c.args.plan.items in
     let bench = c.run_over.new.wire in
     let plan : plan_of bench ≡ marks = c.in_ok-report.ensures.plan ∙ c.in_ok-bench.ensures.plan in

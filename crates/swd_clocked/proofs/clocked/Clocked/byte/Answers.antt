@@ -5,13 +5,13 @@ use Rattle.swd_clocked.specs.Cycles.{Requested}
 use Rattle.swd_clocked.proofs.clocked.Clocked.byte.Goals as goal
 
 pub returns-in-Some-clause-came : goal.returns-in-Some-clause-came
-returns-in-Some-clause-came c = record {
+returns-in-Some-clause-came g c = record {
   whole = λ q e. subst (λ (x : Request). Requested x c.args.self.now.target c.args.self.now.waits c.request.new.self) (sym (c.in-Some.ensures.only q e)) c.request.ensures.requested;
   broken = λ none. absurd (none c.in-Some.request c.in-Some.ensures.found);
 }
 
 pub returns-in-None-clause-came : goal.returns-in-None-clause-came
-returns-in-None-clause-came c = record {
+returns-in-None-clause-came g c = record {
   whole = λ q e. absurd (c.in-None.ensures.none q e);
   broken = λ none. record { frame = ap Lost c.leading_ones.ensures; target = refl; waits = refl };
 }

@@ -7,7 +7,7 @@ use Rattle.swd_clocked.proofs.Shifts.{Shifts, shift_33, shifted_33, moved_on, ca
 use Rattle.swd_clocked.proofs.clocked.Clocked.give_bits.Goals as goal
 
 pub loop-place-preserved : goal.loop-place-preserved
-loop-place-preserved c =
+loop-place-preserved g c =
     let i = c.loop-place.invariant in
     let old = c.loop-place.self in
     let cycle = c.cycle-in-loop-place in
@@ -16,7 +16,7 @@ loop-place-preserved c =
     (shifted (2 ^ 32) i.0 (c.loop-place.rest % 2 == 1), shift_33 _ _ _ _ i.1, moved_on _ _ _ _ _ _ i.2 moved, counted_on _ _ _ _ _ _ i.3 cycle.ensures.cycles refl)
 
 pub returns-clause-came : goal.returns-clause-came
-returns-clause-came c =
+returns-clause-came g c =
     let i = c.loop-place.invariant in
     let old = c.loop-place.self in
     let awaits = subst (λ (f : Frame). Cycles f (c.loop-place.rest % 2 == 1) c.cycle-2.result old.target old.waits c.cycle-2.new.self) i.2.frame c.cycle-2.ensures.clocks in

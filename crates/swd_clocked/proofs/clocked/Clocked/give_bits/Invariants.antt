@@ -6,6 +6,6 @@ use Rattle.swd_clocked.proofs.Shifts.{Shifts}
 use Rattle.swd_clocked.proofs.clocked.Clocked.give_bits.Given as goal
 
 abbrev pub invariant-loop-place : goal.invariant-loop-place
-invariant-loop-place l =
+invariant-loop-place g l =
     (bits : ℕ) × Shifts (2 ^ 33) (l.bits * 2 ^ 33 + (2 ^ 33 - 1)) l.place l.rest bits × Moved (Awaits (frame_register l.fn.self.frame) bits (l.place + 1)) l.fn.self.target l.fn.self.waits l.self
     × (l.self.cycles ≡ counted (l.place + 1) l.fn.self.cycles)

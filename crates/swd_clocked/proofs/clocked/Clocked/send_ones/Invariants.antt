@@ -4,7 +4,7 @@ use Rattle.swd_clocked.specs.Clocks.{Rises}
 use Rattle.swd_clocked.proofs.clocked.Clocked.send_ones.Given as goal
 
 abbrev pub invariant-loop-place : goal.invariant-loop-place
-invariant-loop-place l = record {
+invariant-loop-place g l = record {
   frame : IsRising l.self.frame;
   rise : rise l.self.frame ≡ rise l.fn.self.frame - l.place;
   rises : Rises l.fn.self l.self;

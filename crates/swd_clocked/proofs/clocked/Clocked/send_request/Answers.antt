@@ -7,7 +7,7 @@ use Rattle.swd_clocked.proofs.Shifts.{shift_8, first_8, moved_on, counted_on}
 use Rattle.swd_clocked.proofs.clocked.Clocked.send_request.Goals as goal
 
 pub loop-place-preserved : goal.loop-place-preserved
-loop-place-preserved c =
+loop-place-preserved g c =
     let i = c.loop-place.invariant in
     let old = c.loop-place.self in
     let asks = subst (λ (f : Frame). Cycles f (c.loop-place.rest % 2 == 1) c.cycle.result old.target old.waits c.cycle.new.self) i.2.frame c.cycle.ensures.clocks in

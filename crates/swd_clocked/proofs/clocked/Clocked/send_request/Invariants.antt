@@ -6,5 +6,5 @@ use Rattle.swd_clocked.proofs.Shifts.{Shifts}
 use Rattle.swd_clocked.proofs.clocked.Clocked.send_request.Given as goal
 
 abbrev pub invariant-loop-place : goal.invariant-loop-place
-invariant-loop-place l =
+invariant-loop-place g l =
     (bits : ℕ) × Shifts 256 (l.bits * 256 + 255) l.place l.rest bits × Moved (Asks bits l.place) l.fn.self.target l.fn.self.waits l.self × (l.self.cycles ≡ counted l.place l.fn.self.cycles)

@@ -5,7 +5,7 @@ use Rattle.swd_clocked.proofs.Shifts.{shift_taken, byte_bit, left_less, moved_on
 use Rattle.swd_clocked.proofs.clocked.Clocked.take_bits.Goals as goal
 
 pub loop-place-preserved : goal.loop-place-preserved
-loop-place-preserved c =
+loop-place-preserved g c =
     let i = c.loop-place.invariant in
     let old = c.loop-place.self in
     let drives = subst (λ (f : Frame). Cycles f true c.cycle-bit.result old.target old.waits c.cycle-bit.new.self) i.2.frame c.cycle-bit.ensures.clocks in

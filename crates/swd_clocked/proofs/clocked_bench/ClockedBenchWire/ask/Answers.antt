@@ -24,13 +24,13 @@ use Rattle.swd_clocked.proofs.Calls.{idle_due, legal_flip, deaf_is, seen_marked,
 use Rattle.swd_clocked.proofs.clocked_bench.ClockedBenchWire.ask.Goals as goal
 
 pub ask_request-reply-requires : goal.ask_request-reply-requires
-ask_request-reply-requires c =
+ask_request-reply-requires g c =
     let old = c.args.self.now in
-    ap (λ (x : Clocked). x.frame) c.deref_mut.ensures.value ∙ idle_due old.due old.clocked.value.frame c.requires old.resting
+    ap (λ (x : Clocked _). x.frame) c.deref_mut.ensures.value ∙ idle_due old.due old.clocked.value.frame c.requires old.resting
 
 -- Deaf: none of the cycles reaches the target
 pub returns-then-is_deaf-clause-step : goal.returns-then-is_deaf-clause-step
-returns-then-is_deaf-clause-step c =
+returns-then-is_deaf-clause-step g c =
     let old = c.args.self.now in
     let used = c.use_mark-mark.ensures in
     let mark = c.use_mark-mark.result in
@@ -41,21 +41,21 @@ returns-then-is_deaf-clause-step c =
     (answers_deaf c.args.request old.clocked.value.target) refl refl refl used.asked dist lost)
 
 pub returns-then-is_deaf-clause-cycles : goal.returns-then-is_deaf-clause-cycles
-returns-then-is_deaf-clause-cycles c =
+returns-then-is_deaf-clause-cycles g c =
     let old = c.args.self.now in
     let n = old.clocked.value.cycles in
     let small = old.clocked.value.counts in
     let none : n ≡ counted 0 n = omega arith in
     none ∙ ap (λ (m : Mark). counted (ask_cycles m) n) (sym (deaf_is _ (sym c.is_deaf.ensures ∙ c.if-is_deaf.true)) ∙ c.use_mark-mark.ensures.mark)
 
-seen : (was was' : Clocked) (m : Mark) (q : Request) (a : Reply) (w : Bool) (new : Clocked) → was' ≡ was → IsMark m → is_deaf m ≡ false → w ≡ is_wait m → Seen q a was'.target w new → SeenUnder m q a was.target new
-seen was was' m q a w new same legal hears waits d = seen_marked m q a was.target w new legal hears waits (subst (λ (x : Clocked). Seen q a x.target w new) same d)
+seen : {A : Type 0} (was was' : Clocked A) (m : Mark) (q : Request) (a : Reply) (w : Bool) (new : Clocked A) → was' ≡ was → IsMark m → is_deaf m ≡ false → w ≡ is_wait m → Seen q a was'.target w new → SeenUnder m q a was.target new
+seen was was' m q a w new same legal hears waits d = seen_marked m q a was.target w new legal hears waits (subst (λ (x : Clocked _). Seen q a x.target w new) same d)
 
 pub invariant_of-self-2-clause-flipped : goal.invariant_of-self-2-clause-flipped
-invariant_of-self-2-clause-flipped c = legal_flip _ _ c.use_mark-mark.ensures.legal c.flip_under-self.ensures
+invariant_of-self-2-clause-flipped g c = legal_flip _ _ c.use_mark-mark.ensures.legal c.flip_under-self.ensures
 
 pub invariant_of-self-2-clause-resting : goal.invariant_of-self-2-clause-resting
-invariant_of-self-2-clause-resting c =
+invariant_of-self-2-clause-resting g c =
     let new = c.ask_request-reply.new.self in
     let mark = c.use_mark-mark.result in
     let u = seen c.args.self.now.clocked.value _ mark c.args.request c.ask_request-reply.result c.is_wait.result new c.deref_mut.ensures.value c.use_mark-mark.ensures.legal
@@ -64,13 +64,13 @@ invariant_of-self-2-clause-resting c =
     ap (λ (d : Due). rests d new.frame) due ∙ u.resting
 
 -- the line after the request
-line_now : (m : Mark) (q : Request) (a : Reply) (s : Target) (old new : Frame) (t : Clocked) (flip flip' : Option ℕ) (u : SeenUnder m q a s t) → old ≡ idle → new ≡ t.frame → flip' ≡ flip_of m
+line_now : {A : Type 0} (m : Mark) (q : Request) (a : Reply) (s : Target A) (old new : Frame) (t : Clocked A) (flip flip' : Option ℕ) (u : SeenUnder m q a s t) → old ≡ idle → new ≡ t.frame → flip' ≡ flip_of m
     → line_at new flip' ≡ line_after a u.phase (line_at old flip)
 line_now m q a s old new t flip flip' u idles frame is =
     ap (λ (f : Option ℕ). line_at new f) is ∙ ap (λ (f : Frame). line_at f (flip_of m)) frame ∙ u.line ∙ ap (λ (f : Frame). line_after a u.phase (line_at f flip)) (sym idles)
 
 pub returns-clause-step : goal.returns-clause-step
-returns-clause-step c =
+returns-clause-step g c =
     let old = c.args.self.now in
     let was = old.clocked.value in
     let new = c.ask_request-reply.new.self in
@@ -84,7 +84,7 @@ returns-clause-step c =
     c.seen_under-seen.ensures.value c.due_after_seen-self.ensures line used.asked used.disturbed used.lost)
 
 pub returns-clause-sees : goal.returns-clause-sees
-returns-clause-sees c =
+returns-clause-sees g c =
     let old = c.args.self.now in
     let was = old.clocked.value in
     let used = c.use_mark-mark.ensures in
@@ -94,7 +94,7 @@ returns-clause-sees c =
     c.seen_under-seen.ensures.value ∙ ap (λ (y : Reply). seen_at mark y) u.answers.replies ∙ ap (λ (m : Mark). seen_to m q (simulation was.target)) used.mark
 
 pub returns-clause-exact : goal.returns-clause-exact
-returns-clause-exact c =
+returns-clause-exact g c =
     let old = c.args.self.now in
     let was = old.clocked.value in
     let used = c.use_mark-mark.ensures in
@@ -104,7 +104,7 @@ returns-clause-exact c =
     u.answers.exact ∙ ap (λ (m : Mark). asked m q (simulation was.target)) used.mark
 
 pub returns-clause-link : goal.returns-clause-link
-returns-clause-link c =
+returns-clause-link g c =
     let old = c.args.self.now in
     let was = old.clocked.value in
     let new = c.ask_request-reply.new.self in

@@ -19,18 +19,18 @@ use Rattle.swd_clocked.proofs.Calls.{awaiting_at}
 use Rattle.swd_clocked.proofs.clocked_bench.ClockedBenchWire.give.Goals as goal
 
 -- what the target gets of the bits that were sent
-arrives : (b : ClockedBench) (sent : ℕ) → rests b.due b.clocked.value.frame ≡ true → b.due ≡ Give
+arrives : {A : Type 0} (b : ClockedBench A) (sent : ℕ) → rests b.due b.clocked.value.frame ≡ true → b.due ≡ Give
     → arrival (link_of b).line sent ≡ arrival_of (frame_register b.clocked.value.frame) (word_in (flipped b.flip sent))
 arrives b sent resting due =
     let f = b.clocked.value.frame in
     ap (λ (l : Line). arrival l sent) (awaiting_at f b.flip (subst (λ (d : Due). rests d f ≡ true) due resting))
 
-came : (was was' new : Clocked) (n n' : ℕ) → was' ≡ was → n' ≡ n → DataCame (frame_register was'.frame) n' was'.target was'.waits new → DataCame (frame_register was.frame) n was.target was.waits new
+came : {A : Type 0} (was was' new : Clocked A) (n n' : ℕ) → was' ≡ was → n' ≡ n → DataCame (frame_register was'.frame) n' was'.target was'.waits new → DataCame (frame_register was.frame) n was.target was.waits new
 came was was' new n n' same sent d = subst (λ (x : ℕ). DataCame (frame_register was.frame) x was.target was.waits new) sent
-    (subst (λ (x : Clocked). DataCame (frame_register x.frame) n' x.target x.waits new) same d)
+    (subst (λ (x : Clocked _). DataCame (frame_register x.frame) n' x.target x.waits new) same d)
 
 pub returns-clause-step : goal.returns-clause-step
-returns-clause-step c =
+returns-clause-step g c =
     let old = c.args.self.now in
     let was = old.clocked.value in
     let new = c.give_bits.new.self in
@@ -40,13 +40,13 @@ returns-clause-step c =
     subst P (sym d.frame) gives
 
 pub returns-clause-link : goal.returns-clause-link
-returns-clause-link c =
+returns-clause-link g c =
     let old = c.args.self.now in
     let d = came old.clocked.value _ c.give_bits.new.self (flipped old.flip c.args.bits) _ c.deref_mut.ensures.value c.flip_bit.ensures.value c.give_bits.ensures.came in
     ap (λ (f : Frame). record { due = Nothing; line = line_at f old.flip }) d.frame
 
 pub returns-clause-exact : goal.returns-clause-exact
-returns-clause-exact c =
+returns-clause-exact g c =
     let old = c.args.self.now in
     let was = old.clocked.value in
     let d = came was _ c.give_bits.new.self (flipped old.flip c.args.bits) _ c.deref_mut.ensures.value c.flip_bit.ensures.value c.give_bits.ensures.came in

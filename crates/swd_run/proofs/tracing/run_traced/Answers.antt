@@ -7,7 +7,7 @@ use Rattle.swd_script.proofs.TextLaws.{is_runnable, is_plan}
 use Rattle.swd_recorder.specs.Recorders.{port_by}
 use Rattle.swd_run.specs.Reports.{report_text}
 use Rattle.swd_run.proofs.RunLemmas.{ran_as, trace_of}
-use Rattle.swd_run.proofs.tracing.run_traced_in.Goals as goal
+use Rattle.swd_run.proofs.tracing.run_traced.Goals as goal
 
 pub record_script-requires-clause-script : goal.record_script-requires-clause-script
 record_script-requires-clause-script g c = let read = c.in-Ok.ensures.read in is_runnable read.script_text (meaning c.in-Ok.texts.script) read.means
