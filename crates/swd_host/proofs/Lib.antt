@@ -15,7 +15,12 @@ mod Turning
 mod StepLemmas
 mod Going
 mod Lists
+mod Repeats
+mod Shadows
+mod GoingOn
+mod Resumed
 mod Starts
 mod Ends
 mod Performing
+mod Openings
 mod Runs

@@ -13,12 +13,12 @@ use Rattle.swd_host.specs.Reports.{Follower}
 use Rattle.swd_host.specs.Standing.{ContinuesAt}
 
 -- WHAT THEY LEAVE, AND WHAT THEY ARE ANSWERED
-memory_append : (xs ys : List Access) (m : PlainMemory)
+pub memory_append : (xs ys : List Access) (m : PlainMemory)
     → memory_after (xs ++ ys) m ≡ memory_after ys (memory_after xs m)
 memory_append [] ys m = refl
 memory_append (x ∷ xs) ys m = memory_append xs ys (plain_after x m)
 
-answers_append : (xs ys : List Access) (m : PlainMemory)
+pub answers_append : (xs ys : List Access) (m : PlainMemory)
     → answers_of (xs ++ ys) m ≡ answers_of xs m ++ answers_of ys (memory_after xs m)
 answers_append [] ys m = refl
 answers_append (x ∷ xs) ys m = ap (λ rest. plain_answer x m ∷ rest) (answers_append xs ys (plain_after x m))

@@ -31,7 +31,7 @@ use Rattle.swd_host.specs.Reports.{Fits, EndsAt, Follower, told_by}
 use Rattle.swd_host.specs.Standing.{Waits, Reached, ContinuesAt, Stands, HasOpened, IsOpen, Does, DoesOver}
 use Rattle.swd_host.proofs.Fitting.{fits_by}
 use Rattle.swd_port.specs.declared.wire.Due.TheVariants.{Nothing}
-use Rattle.swd_port.proofs.CallLaws.{others_uncounted}
+use Rattle.swd_port.proofs.CallLaws.{others_uncounted, identification_kept}
 use Rattle.swd_host.proofs.Lists.{memory_next, answers_next, access_at, follower_continues}
 use Rattle.swd_host.proofs.Starts.{IsFirst, same_access, ahead_state, ahead_burst, calm_by, burst_continues}
 use Rattle.swd_host.proofs.Starts.{start_follows, start_left, start_least, first_start}
@@ -72,6 +72,7 @@ opened_stands list o s has due = record {
   asked = refl;
   disturbed = omega arith;
   lost = omega arith;
+  identification = refl;
   reached = λ m is ok. opened_reached list m o s has is;
 }
 
@@ -202,8 +203,9 @@ module _ (i : ℕ) (list : List Access) (o e g f : Engine) (answers : List Answe
       stops_there base before f end u at (follows_here m ok r) in
       record {
         now = stop_fits m u.target.memory end stop.never at r stop.within.now;
-        later = λ c. stop_fits m (completed c u).target.memory end stop.never at r
-            (subst (IsWithin f.begun k) (sym (later_memory f.begun k u c stop.within)) stop.within.ends);
+        settled = stop.within.later;
+        becomes = λ c. later_memory f.begun k u c stop.within;
+        later = stop_fits m stop.within.later end stop.never at r stop.within.ends;
         ends = subst (λ n. EndsAt end n s u) tries_here
             (stop.ends s f.stray f.task r.fewest stands.lost
             (subst (λ x. DueAt x f.stray f.task u.link.due) at due));
@@ -222,6 +224,7 @@ module _ (i : ℕ) (list : List Access) (o e g f : Engine) (answers : List Answe
     asked = asked_here;
     disturbed = omega (arith, stands.disturbed, goes.disturbed);
     lost = omega (arith, stands.lost, goes.lost);
+    identification = goes.identification ∙ stands.identification;
     over = λ m is ok. access_over m end is ok finished;
   }
 
@@ -270,6 +273,7 @@ module _ (i : ℕ) (list : List Access) (o e g f : Engine) (answers : List Answe
     asked = asked_here;
     disturbed = omega (arith, stands.disturbed, goes.disturbed);
     lost = omega (arith, stands.lost, goes.lost);
+    identification = goes.identification ∙ stands.identification;
     reached = λ m is ok. answered_reached m ok answer more is_more finished (stands.reached m is ok);
   }
 
@@ -300,7 +304,9 @@ module _ (i : ℕ) (list : List Access) (o e : Engine) (answers : List Answer) (
       (λ begun. absurd (let both : true ≡ false = sym begun ∙ unbegun in cc)) (λ all. whole) (inl left) in
       record {
         now = fits u.target.memory memory;
-        later = λ c. fits (completed c u).target.memory (ap (λ x. x.target.memory) (same c u idle) ∙ memory);
+        settled = last;
+        becomes = λ c. ap (λ x. x.target.memory) (same c u idle) ∙ memory;
+        later = fits last refl;
         ends = passed.due;
         least = λ all. omega (arith, stands.sent);
         most = omega (arith, r.most, r.fewest, ready.paid);
@@ -314,5 +320,6 @@ module _ (i : ℕ) (list : List Access) (o e : Engine) (answers : List Answer) (
     asked = ap (λ x. x.asked + o.requests) (others_uncounted.led 0 t u leads) ∙ stands.asked;
     disturbed = omega (arith, stands.disturbed, ap (λ x. x.disturbed) (others_uncounted.led 0 t u leads));
     lost = omega (arith, stands.lost, ap (λ x. x.lost) (others_uncounted.led 0 t u leads));
+    identification = identification_kept.led 0 t u leads ∙ stands.identification;
     over = λ m is ok. all_over m u leads is ok;
   }

@@ -23,6 +23,8 @@ use Rattle.swd_host.specs.Turns.{IsNew, Goes}
 use Rattle.swd_host.specs.Reports.{Told, Fits, EndsAt, RunFits, told_by}
 use Rattle.swd_host.specs.Standing.{HasOpened, Does}
 use Rattle.swd_host.proofs.Fitting.{fits_by}
+use Rattle.swd_host.proofs.Openings.{ends_since, opening_spends, opening_asked, opening_unbegun, opening_lost}
+use Rattle.swd_host.proofs.Openings.{opened_sent}
 use Rattle.swd_host.proofs.Ends.{Stops, stops_there, rests_there}
 use Rattle.swd_host.proofs.Ends.{later_memory, begun_there, stops_only}
 
@@ -59,42 +61,19 @@ made_becomes identification m s is =
     subst (MayBecome s) (ap (λ p. p.target.memory) is)
     (may_become_of_none.same s (ap (λ p. p.target.pending) is))
 
--- an end, as it is since an earlier moment
-ends_since : (end : End) (tries : ℕ) (s t u : Port) → s.tally.disturbed ≤ t.tally.disturbed
-    → s.tally.lost ≤ t.tally.lost → EndsAt end tries t u → EndsAt end tries s u
-ends_since All tries s t u fewer less h = h
-ends_since Lost tries s t u fewer less h = (h.0, omega (arith, h.1), h.2)
-ends_since TriesOut tries s t u fewer less h = (h.0, omega (arith, h.1))
-ends_since (WrongId word) tries s t u fewer less h = absurd h
-ends_since Confused tries s t u fewer less h = absurd h
-
 module _ (list : List Access) (tries : ℕ) (e f : Engine) (answers : List Answer) (s t : Port) (small : tries < 2 ^ 32)
     (new : IsNew false tries e) (goes : Goes e s f t) (due : DueFits f t) (none : answers ≡ []) where
-  new_left : open_requests e ≤ 5 * tries + 10
-  new_left =
-      let left : left_in e.state ≡ 10 = ap left_in new.leads in
-      omega (arith, new.tries, ap stray_left new.stray)
-
-  opening_spends : f.requests + 5 * (tries - f.events) + left_in f.state ≤ 5 * tries + 10
-  opening_spends = omega (arith, goes.spends, goes.tries, new.tries, new.requests, new_left)
-
-  opening_asked : t.tally.asked ≡ s.tally.asked + f.requests
-  opening_asked = omega (arith, goes.asked (omega (arith, new_left, new.requests)), new.requests)
-
-  opening : is_state_of true e.state ≡ true
-  opening = ap (is_state_of true) new.leads
-
-  opening_unbegun : f.begun ≡ false
-  opening_unbegun = goes.unbegun opening new.begun
+  unbegun : f.begun ≡ false
+  unbegun = opening_unbegun false tries e f s t small new goes
 
   opening_fits : (m now : PlainMemory) (end : End) → end ≢ All → f.state ≡ Resting (Stopped end)
       → IsWithin f.begun (hand_of f m) now → Fits 1 list m (told_by answers f end) now
   opening_fits m now end never at within = fits_by 0 list m answers f end now (omega arith) none
-      (λ begun. absurd (let both : true ≡ false = sym begun ∙ (begun_there f end at ∙ opening_unbegun) in cc))
+      (λ begun. absurd (let both : true ≡ false = sym begun ∙ (begun_there f end at ∙ unbegun) in cc))
       (λ all. absurd (never all))
       (elim within [
         | inl h ↦ inl h
-        | inr h ↦ absurd (let both : true ≡ false = sym h.0 ∙ opening_unbegun in cc)
+        | inr h ↦ absurd (let both : true ≡ false = sym h.0 ∙ unbegun in cc)
       ])
 
   pub opening_stops : (identification : ℕ) (m : PlainMemory) (end : End) → s ≡ made identification m
@@ -108,41 +87,23 @@ module _ (list : List Access) (tries : ℕ) (e f : Engine) (answers : List Answe
       let ends : EndsAt end tries s t = subst (λ n. EndsAt end n s t) (goes.tries ∙ new.tries)
       (stop.ends s f.stray f.task (omega arith) (omega arith)
       (subst (λ x. DueAt x f.stray f.task t.link.due) at due)) in
-      let going : is_resting e ≡ false = ap (λ x. is_some (finished_at x e.task)) new.leads in
       record {
         now = opening_fits m t.target.memory end stop.never at stop.within.now;
         later = λ c. opening_fits m (completed c t).target.memory end stop.never at
             (subst (IsWithin f.begun k) (sym (later_memory f.begun k t c stop.within)) stop.within.ends);
         ends = ends;
         stops_only = stops_only end tries s t ends;
-        counted = opening_asked;
+        counted = opening_asked false tries e f s t small new goes;
         least = λ whole. absurd (stop.never whole);
         most = elim stop.paid [
           | inl p ↦
               (let lost : f.state ≡ Resting (Stopped Lost) = at ∙ ap (λ x. Resting (Stopped x)) p.0 in
-              let early = goes.lost_early going (counted_at s) s
-              (over m (made_becomes identification m s is) first) opening lost in
-              omega (arith, p.1, new_left, new.requests, goes.tries, new.tries))
-          | inr p ↦ omega (arith, opening_spends, goes.tries, new.tries)
+              let early = opening_lost false tries e f s t small new goes (counted_at s) s
+              (over m (made_becomes identification m s is) first) lost in
+              omega (arith, p.1))
+          | inr p ↦ omega (arith, opening_spends false tries e f s t small new goes, goes.tries, new.tries)
         ];
       }
-
-  opened_sent : f.state ≡ Resting Opened → 9 ≤ f.requests
-  opened_sent at =
-      let least = goes.least (omega (arith, new_left, new.requests)) in
-      let nine : least_in f.aims f.state ≡ 9 = ap (least_in f.aims) at in
-      let zero_before : least_in e.aims e.state ≡ 0 = ap (least_in e.aims) new.leads in
-      omega (arith, new.requests)
-
-  pub has_opened : f.state ≡ Resting Opened → HasOpened f
-  has_opened at = record {
-    at = at;
-    plain = ap is_burst goes.task ∙ new.burst;
-    unbegun = opening_unbegun;
-    least = opened_sent at;
-    most = omega (arith, opening_spends);
-    tries = omega (arith, goes.tries, new.tries);
-  }
 
   opened_ready : (identification : ℕ) (m : PlainMemory) → f.state ≡ Resting Opened → s ≡ made identification m
       → identification % 2 ≡ 1 → IsReady (s.tally.disturbed + f.events) (hand_of f m) t × (f.tar ≡ None)
@@ -165,10 +126,10 @@ module _ (list : List Access) (tries : ℕ) (e f : Engine) (answers : List Answe
       (ap (λ x. told_by x last end) mine)
       (record {
         now = over.now;
-        later = over.later;
+        later = λ c. subst (Fits 1 list m (told_by does.answers last end)) (sym (over.becomes c)) over.later;
         ends = ends;
         stops_only = stops_only end tries s u ends;
-        counted = omega (arith, does.asked, opening_asked);
-        least = λ whole. omega (arith, over.least whole, opened_sent at);
-        most = omega (arith, over.most, opening_spends, r.0.paid, does.disturbed);
+        counted = omega (arith, does.asked, opening_asked false tries e f s t small new goes);
+        least = λ whole. omega (arith, over.least whole, opened_sent false tries e f s t small new goes at);
+        most = omega (arith, over.most, opening_spends false tries e f s t small new goes, r.0.paid, does.disturbed);
       })

@@ -10,4 +10,6 @@ pub mod Tracks
 pub mod Early
 pub mod Turns
 pub mod Reports
+pub mod Again
+pub mod Resuming
 pub mod Standing

@@ -80,6 +80,7 @@ pub record Stands (i : ℕ) (list : List Access) (o : Engine) (s : Port) (e : En
   pub asked : t.tally.asked + o.requests ≡ s.tally.asked + e.requests
   pub disturbed : s.tally.disturbed ≤ t.tally.disturbed
   pub lost : s.tally.lost ≤ t.tally.lost
+  pub identification : t.target.identification ≡ s.target.identification
   pub reached : (m : PlainMemory) → IsOpen m o s → AreAccesses list → Reached i list m o s e answers t
 
 -- an engine that has opened its target, after at least nine requests
@@ -95,7 +96,10 @@ pub record HasOpened (e : Engine) : Type 0 where
 pub record DoesOver (list : List Access) (m : PlainMemory) (o f : Engine) (answers : List Answer) (end : End)
     (s t : Port) : Type 0 where
   pub now : Fits (most_of o.bursts) list m (told_by answers f end) t.target.memory
-  pub later : (c : Choice) → Fits (most_of o.bursts) list m (told_by answers f end) (completed c t).target.memory
+  -- so it is once a transfer that is still pending took effect, whatever the target chooses
+  pub settled : PlainMemory
+  pub becomes : (c : Choice) → (completed c t).target.memory ≡ settled
+  pub later : Fits (most_of o.bursts) list m (told_by answers f end) settled
   pub ends : EndsAt end o.tries s t
   pub least : end ≡ All → o.requests + length list ≤ f.requests
   pub most : f.requests ≤ o.requests + 6 * length list + 5 * (t.tally.disturbed - s.tally.disturbed)
@@ -108,4 +112,5 @@ pub record Does (list : List Access) (o f : Engine) (before after : List Answer)
   pub asked : t.tally.asked + o.requests ≡ s.tally.asked + f.requests
   pub disturbed : s.tally.disturbed ≤ t.tally.disturbed
   pub lost : s.tally.lost ≤ t.tally.lost
+  pub identification : t.target.identification ≡ s.target.identification
   pub over : (m : PlainMemory) → IsOpen m o s → AreAccesses list → DoesOver list m o f answers end s t

@@ -1,25 +1,40 @@
 //! Goes on after a lost acknowledgement.
+ghost use Rattle.std.specs.Prelude.{◌≡◌, ◌≤◌, IfOk, IfErr, IfSome, length};
+ghost use Rattle.std.specs.Vec.{vec_capacity};
+ghost use Rattle.swd_host.specs.Reports.{told_of};
+ghost use Rattle.swd_host.specs.Again.{MayGoOn, ResumeFits};
+ghost use Rattle.swd_host.specs.Resuming.{since};
+ghost use Rattle.swd_host.specs.declared.outcome.Refused.TheVariants.{Memory};
+
 use crate::engine::Engine;
 use crate::outcome::{End, Refused, Report};
 use crate::running::{open, perform, reported};
 use std::alloc::Allocator;
 use swd_port::{Access, Answer, Wire};
 
-/// Goes on after a run of the same accesses over this wire that ended `Lost`, or after a `resume` that
-/// did.
+/// Goes on after a run of these accesses over this wire that ended `Lost`, or after a `resume` that did:
+/// from the first access that isn't answered. The report is that of the whole list, but that its
+/// `requests` are those of this call alone.
+///
+/// The access that was begun when the acknowledgement was lost may be done a second time. Where the
+/// log has room for that, the words and answers are those of a run without a loss.
 pub fn resume<W: Wire, A: Allocator>(
     alloc: A,
     wire: &mut W,
     accesses: &[Access],
     report: &Report<A>,
     tries: u32,
-) -> Result<Report<A>, Refused> {
-    let Ok(mut answers) = Vec::with_capacity(alloc, accesses.len()) else {
+) -> Result<Report<A>, Refused>
+    requires { MayGoOn accesses.now (told_of report.now) (W.port wire.old) }
+    ensures fits { IfOk result (λ told.
+        ResumeFits accesses.now tries (told_of report.now) (told_of told) (W.port wire.old) (W.port wire.new)) }
+    ensures refused { IfErr result (λ refused. refused ≡ Memory) }
+    ensures untouched { IfErr result (λ refused. wire.new ≡ wire.old) }
+    ensures plan { W.plan wire.new ≡ W.plan wire.old }
+{
+    let Some(mut answers) = kept(alloc, &report.answers, accesses.len()) else {
         return Err(Refused::Memory);
     };
-    for answer in &report.answers {
-        answers.push(*answer).unwrap();
-    }
     let mut engine = Engine::again(tries);
     if let Err(end) = open(wire, &mut engine) {
         return Ok(since(reported(answers, &engine, end), report));
@@ -29,15 +44,26 @@ pub fn resume<W: Wire, A: Allocator>(
     Ok(since(reported(answers, &engine, ended), report))
 }
 
-// A report, where an access that an earlier run began stays begun until it is answered.
-fn since<A: Allocator>(report: Report<A>, earlier: &Report<A>) -> Report<A> {
+// The answers that are there, in a list with room for so many.
+fn kept<A: Allocator>(alloc: A, answers: &[Answer], most: usize) -> Option<Vec<Answer, A>>
+    requires { length answers.now ≤ most }
+    ensures kept { IfSome result (λ kept. kept.items ≡ answers.now) }
+    ensures room { IfSome result (λ kept. most ≤ vec_capacity kept) }
+{
+    let mut kept = Vec::with_capacity(alloc, most).ok()?;
+    kept.extend_from_slice(answers).ok()?;
+    Some(kept)
+}
+
+// A report where an access that an earlier run began stays begun until it is answered.
+fn since<A: Allocator>(report: Report<A>, earlier: &Report<A>) -> Report<A>
+    ensures { told_of result ≡ since (told_of report) (told_of earlier.now) }
+{
     let unanswered = report.answers.len() == earlier.answers.len() && report.ended != End::All;
-    Report {
-        begun: if unanswered && earlier.begun == 1 {
-            1
-        } else {
-            report.begun
-        },
-        ..report
-    }
+    let begun = if unanswered && earlier.begun == 1 {
+        1
+    } else {
+        report.begun
+    };
+    Report { begun, ..report }
 }

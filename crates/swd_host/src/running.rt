@@ -9,6 +9,7 @@ ghost use Rattle.swd_host.specs.Progress.{calls_left};
 ghost use Rattle.swd_host.specs.Tasks.{access_of, most_of};
 ghost use Rattle.swd_host.specs.Tracks.{DueFits};
 ghost use Rattle.swd_host.specs.Turns.{Goes, GoesFrom, GoesOn, IsNew, Starts, answered_as, opened_as};
+ghost use Rattle.swd_host.specs.Again.{LeavesOff};
 ghost use Rattle.swd_host.specs.Reports.{Follower, RefusedAs, RunsOver, RunsWithin, told_by, told_of};
 ghost use Rattle.swd_host.specs.Standing.{Does, HasOpened};
 
@@ -186,6 +187,8 @@ pub fn run<W: Wire, A: Allocator>(
     ensures fits { IfOk result (λ report.
         RunsOver accesses.now tries (told_of report) (W.port wire.old) (W.port wire.new)) }
     ensures accepted { IfOk result (λ report. (length accesses.now ≤ 65536) × AreAccesses accesses.now) }
+    ensures goes_on { IfOk result (λ report.
+        LeavesOff accesses.now (told_of report) (W.port wire.old) (W.port wire.new)) }
     ensures refused { IfErr result (RefusedAs accesses.now) }
     ensures untouched { IfErr result (λ refused. wire.new ≡ wire.old) }
     ensures plan { W.plan wire.new ≡ W.plan wire.old }

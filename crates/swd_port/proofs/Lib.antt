@@ -1,4 +1,5 @@
 mod CountSteps
+pub mod MapLemmas
 pub mod RegisterLemmas
 pub mod PhaseLemmas
 pub mod PhaseBits

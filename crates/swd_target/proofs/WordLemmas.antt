@@ -3,28 +3,16 @@ use Rattle.std.proofs.Common.{◌≡◌, ℕ, zero, suc, ◌+◌, ◌*◌, ◌<�
 use Rattle.std.proofs.Math.ListN.{set}
 use Rattle.std.proofs.lemmas.Bool.{cases_eq}
 use Rattle.std.specs.Prelude.{Some, None, nat_lt}
-use Rattle.std.specs.Ordering.{nat_cmp, eq_by_cmp, is_eq}
-use Rattle.std.specs.declared.cmp.Ordering.TheVariants.{Less, Equal, Greater}
-use Rattle.std.specs.FinMap.{FinMap, get, insert, gets, get-insert, get-empty, same_map, nat_cmp-IsAntisymmetric}
+use Rattle.std.specs.Ordering.{nat_cmp}
+use Rattle.std.specs.FinMap.{FinMap, get, insert, get-empty, same_map, nat_cmp-IsAntisymmetric}
 use Rattle.std.specs.Cmp.{nat_cmp_total}
+use Rattle.swd_port.proofs.MapLemmas.{get_other, get_same, insert_twice}
 use Rattle.swd_port.specs.declared.access.Transfer.{Transfer}
 use Rattle.swd_port.specs.declared.access.Access.{Access}
 use Rattle.swd_port.specs.declared.access.Access.TheVariants.{Read, Write}
 use Rattle.swd_port.specs.declared.access.Answer.TheVariants.{Value, Written, BusFault}
 use Rattle.swd_port.specs.PlainMemory.{PlainMemory, succeeds_at, address, plain_answer, plain_after}
 use Rattle.swd_target.specs.MemoryWords.{words_from}
-
--- two keys that differ don't tie
-apart : (q k : ℕ) → (q ≡ k → ⊥) → eq_by_cmp nat_cmp q k ≡ false
-apart q k none =
-    elim (nat_cmp q k) as (λ r. nat_cmp q k ≡ r → is_eq r ≡ false) [ Less ↦ λ e. refl | Equal ↦ λ e. absurd (none (nat_cmp-IsAntisymmetric q k e)) | Greater ↦ λ e. refl ] refl
-
--- one insertion, at another key and at its own
-pub get_other : (m : FinMap nat_cmp ℕ) (k v q : ℕ) → (q ≡ k → ⊥) → get (insert m k v) q ≡ get m q
-get_other m k v q none = get-insert nat_cmp_total m k v q ∙ rw (apart q k none)
-
-pub get_same : (m : FinMap nat_cmp ℕ) (k v q : ℕ) → q ≡ k → get (insert m k v) q ≡ Some v
-get_same m k v q e = grind (arith, gets)
 
 -- the word at a place, and none outside
 pub get-words_from : (base : ℕ) (ws : List ℕ) (i q d : ℕ) → i < length ws → base + 4 * i ≡ q → get (words_from base ws) q ≡ Some (get_or ws i d)
@@ -36,14 +24,7 @@ pub get-outside : (base : ℕ) (ws : List ℕ) (q : ℕ) → ((i : ℕ) → i < 
 get-outside base [] q none = get-empty nat_cmp q
 get-outside base (w ∷ ws) q none = get_other _ base w q (λ same. none 0 (omega arith) (omega arith)) ∙ get-outside (base + 4) ws q (λ i l e. none (suc i) (omega arith) (omega arith))
 
--- two insertions at one key, and at two
-twice_at : (m : FinMap nat_cmp ℕ) (k v w q : ℕ) → (q ≡ k) ⊎ (q ≡ k → ⊥) → get (insert (insert m k v) k w) q ≡ get (insert m k w) q
-twice_at m k v w q (inl e) = get_same _ k w q e ∙ sym (get_same m k w q e)
-twice_at m k v w q (inr none) = get_other _ k w q none ∙ (get_other m k v q none ∙ sym (get_other m k w q none))
-
-insert_twice : (m : FinMap nat_cmp ℕ) (k v w : ℕ) → insert (insert m k v) k w ≡ insert m k w
-insert_twice m k v w = same_map nat_cmp_total nat_cmp-IsAntisymmetric _ _ (λ q. twice_at m k v w q (cases_eq q k))
-
+-- two insertions at two keys
 apart_at : (m : FinMap nat_cmp ℕ) (k l v w q : ℕ) → (k ≡ l → ⊥) → (q ≡ k) ⊎ (q ≡ k → ⊥) → (q ≡ l) ⊎ (q ≡ l → ⊥) → get (insert (insert m k v) l w) q ≡ get (insert (insert m l w) k v) q
 apart_at m k l v w q n (inl e) (inl f) = absurd (n (sym e ∙ f))
 apart_at m k l v w q n (inl e) (inr f) = get_other _ l w q f ∙ (get_same m k v q e ∙ sym (get_same _ k v q e))

@@ -1,0 +1,313 @@
+-- A memory where accesses were repeated has the words of the plain memory, and answers as it does, where the log has
+-- room for the copies.
+use Rattle.std.proofs.Common.{◌≡◌, ◌+◌, ◌<◌, ◌≤◌, ℕ, Bool, true, false, refl, sym, ap, subst, arith, ◌∙◌, List, [], ◌∷◌}
+use Rattle.std.proofs.Common.{◌++◌, length, take, zero, suc, get_or, length-append}
+use Rattle.std.specs.Prelude.{drop, is_some, unwrap_or, replicate, nat_lt, if◌then◌else◌, ◌==◌}
+use Rattle.std.proofs.lemmas.Bool.{lt-ltb}
+use Rattle.std.specs.Ordering.{nat_cmp}
+use Rattle.std.specs.FinMap.{FinMap, get, contains_key}
+use Rattle.swd_port.specs.declared.access.Access.{Access}
+use Rattle.swd_port.specs.declared.access.Access.TheVariants.{Read, Write}
+use Rattle.swd_port.specs.declared.access.Answer.{Answer}
+use Rattle.swd_port.specs.declared.access.Answer.TheVariants.{Value, BusFault}
+use Rattle.swd_port.specs.PlainMemory.{PlainMemory, address, succeeds_at, words_after, plain_answer, plain_after}
+use Rattle.swd_port.specs.PlainMemory.{answer_of, transfer_of, done}
+use Rattle.swd_port.proofs.MapLemmas.{get_same, insert_twice}
+use Rattle.swd_host.specs.Plain.{memory_after}
+use Rattle.swd_host.specs.Again.{times, repeated, IsAfter, HasRoom}
+use Rattle.swd_host.proofs.Lists.{memory_append, memory_next}
+use Rattle.swd_host.proofs.Repeats.{repeated_next}
+
+-- a memory whose log is up to c transfers longer, and that is the same else
+record Shadow (c : ℕ) (p q : PlainMemory) : Type 0 where
+  words : q.words ≡ p.words
+  room : q.room ≡ p.room
+  most : length q.log ≤ length p.log + c
+  least : length p.log ≤ length q.log
+
+-- there is room for the access, and for c transfers more
+record HasPlace (c : ℕ) (a : Access) (p : PlainMemory) : Type 0 where
+  now : length p.log < p.room
+  later : length (plain_after a p).log + c ≤ p.room
+
+-- WHETHER AN ACCESS SUCCEEDS
+contains_succeeds : (at : ℕ) (p : PlainMemory) → length p.log < p.room → succeeds_at at p ≡ contains_key p.words at
+contains_succeeds at p l = rw (lt-ltb (length p.log) p.room l) (grind arith)
+
+after_true : (a : Access) (p : PlainMemory) → succeeds_at (address a) p ≡ true → plain_after a p ≡ done a p
+after_true a p e = rw e refl
+
+after_false : (a : Access) (p : PlainMemory) → succeeds_at (address a) p ≡ false → plain_after a p ≡ p
+after_false a p e = rw e refl
+
+done_log : (a : Access) (p : PlainMemory) → length (done a p).log ≡ length p.log + 1
+done_log a p = length-append p.log (transfer_of a p ∷ [])
+
+log_done : (a : Access) (p : PlainMemory) → succeeds_at (address a) p ≡ true
+    → length (plain_after a p).log ≡ length p.log + 1
+log_done a p e = ap (λ x. length x.log) (after_true a p e) ∙ done_log a p
+
+shadow_succeeds : (c : ℕ) (a : Access) (p q : PlainMemory) → HasPlace c a p → Shadow c p q
+    → succeeds_at (address a) q ≡ succeeds_at (address a) p
+shadow_succeeds c a p q f h =
+    elim (succeeds_at (address a) p) as (λ b. succeeds_at (address a) p ≡ b → succeeds_at (address a) q ≡ b) [
+      | true ↦ λ e.
+          (let there : contains_key p.words (address a) ≡ true = sym (contains_succeeds (address a) p f.now) ∙ e in
+          let more : length (plain_after a p).log ≡ length p.log + 1 = log_done a p e in
+          let fits : length q.log < q.room = omega (arith, h.most, h.room, f.later, more) in
+          contains_succeeds (address a) q fits ∙ (ap (λ w. contains_key w (address a)) h.words ∙ there))
+      | false ↦ λ e.
+          (let none : contains_key p.words (address a) ≡ false = sym (contains_succeeds (address a) p f.now) ∙ e in
+          let same : contains_key q.words (address a) ≡ false =
+          ap (λ w. contains_key w (address a)) h.words ∙ none in
+          rw same refl)
+    ] refl
+
+-- WHAT IT IS ANSWERED
+answer_same : (a : Access) (p q : PlainMemory) → q.words ≡ p.words → answer_of a q ≡ answer_of a p
+answer_same (Read at) p q e = ap (λ w. Value (unwrap_or (get w at) 0)) e
+answer_same (Write at word) p q e = refl
+
+plain_same : (a : Access) (p q : PlainMemory) → succeeds_at (address a) q ≡ succeeds_at (address a) p
+    → answer_of a q ≡ answer_of a p → plain_answer a q ≡ plain_answer a p
+plain_same a p q e g =
+    let f : Bool → Answer → Answer = (λ b y. if b then y else BusFault) in
+    ap (λ b. f b (answer_of a q)) e ∙ ap (λ y. f (succeeds_at (address a) p) y) g
+
+shadow_answer : (c : ℕ) (a : Access) (p q : PlainMemory) → HasPlace c a p → Shadow c p q
+    → plain_answer a q ≡ plain_answer a p
+shadow_answer c a p q f h = plain_same a p q (shadow_succeeds c a p q f h) (answer_same a p q h.words)
+
+-- AND WHAT IT LEAVES
+done_shadow : (c : ℕ) (a : Access) (p q : PlainMemory) → Shadow c p q → Shadow c (done a p) (done a q)
+done_shadow c a p q h =
+    let i : length (done a p).log ≡ length p.log + 1 = done_log a p in
+    let j : length (done a q).log ≡ length q.log + 1 = done_log a q in
+    record {
+      words = ap (λ w. words_after a w) h.words;
+      room = h.room;
+      most = omega (arith, h.most, i, j);
+      least = omega (arith, h.least, i, j);
+    }
+
+shadow_next : (c : ℕ) (a : Access) (p q : PlainMemory) → HasPlace c a p → Shadow c p q
+    → Shadow c (plain_after a p) (plain_after a q)
+shadow_next c a p q f h =
+    let s : succeeds_at (address a) q ≡ succeeds_at (address a) p = shadow_succeeds c a p q f h in
+    elim (succeeds_at (address a) p) as (λ b. succeeds_at (address a) p ≡ b
+    → Shadow c (plain_after a p) (plain_after a q)) [
+      | true ↦ λ e. subst (λ y. Shadow c y (plain_after a q)) (sym (after_true a p e))
+          (subst (λ z. Shadow c (done a p) z) (sym (after_true a q (s ∙ e))) (done_shadow c a p q h))
+      | false ↦ λ e. subst (λ y. Shadow c y (plain_after a q)) (sym (after_false a p e))
+          (subst (λ z. Shadow c p z) (sym (after_false a q (s ∙ e))) h)
+    ] refl
+
+-- ONCE MORE
+words_twice : (a : Access) (w : FinMap nat_cmp ℕ) → words_after a (words_after a w) ≡ words_after a w
+words_twice (Read at) w = refl
+words_twice (Write at word) w = insert_twice w at word word
+
+there_still : (a : Access) (w : FinMap nat_cmp ℕ) → contains_key w (address a) ≡ true
+    → contains_key (words_after a w) (address a) ≡ true
+there_still (Read at) w e = e
+there_still (Write at word) w e = ap (λ o. is_some o) (get_same w at word at refl)
+
+answer_twice : (a : Access) (p q : PlainMemory) → q.words ≡ words_after a p.words → answer_of a q ≡ answer_of a p
+answer_twice (Read at) p q e = ap (λ w. Value (unwrap_or (get w at) 0)) e
+answer_twice (Write at word) p q e = refl
+
+-- an access that is done once more is answered the same, and leaves one more transfer
+record Twice (c : ℕ) (a : Access) (p q : PlainMemory) : Type 0 where
+  answer : plain_answer a q ≡ plain_answer a p
+  shadow : Shadow (c + 1) (plain_after a p) (plain_after a q)
+
+twice_done : (c : ℕ) (a : Access) (p q : PlainMemory) → succeeds_at (address a) p ≡ true → HasPlace (c + 1) a p
+    → Shadow c (done a p) q → Twice c a p q
+twice_done c a p q e f h =
+    let there : contains_key p.words (address a) ≡ true = sym (contains_succeeds (address a) p f.now) ∙ e in
+    let still : contains_key q.words (address a) ≡ true =
+    ap (λ w. contains_key w (address a)) h.words ∙ there_still a p.words there in
+    let i : length (done a p).log ≡ length p.log + 1 = done_log a p in
+    let j : length (done a q).log ≡ length q.log + 1 = done_log a q in
+    let more : length (plain_after a p).log ≡ length p.log + 1 = log_done a p e in
+    let fits : length q.log < q.room = omega (arith, h.most, h.room, f.later, i, more) in
+    let g : succeeds_at (address a) q ≡ true = contains_succeeds (address a) q fits ∙ still in
+    record {
+      answer = plain_same a p q (g ∙ sym e) (answer_twice a p q h.words);
+      shadow = subst (λ y. Shadow (c + 1) y (plain_after a q)) (sym (after_true a p e))
+          (subst (λ z. Shadow (c + 1) (done a p) z) (sym (after_true a q g))
+          (record {
+            words = ap (λ w. words_after a w) h.words ∙ words_twice a p.words;
+            room = h.room;
+            most = omega (arith, h.most, i, j);
+            least = omega (arith, h.least, i, j);
+          }));
+    }
+
+place_less : (c : ℕ) (a : Access) (p : PlainMemory) → HasPlace (c + 1) a p → HasPlace c a p
+place_less c a p f = record { now = f.now; later = omega (arith, f.later) }
+
+shadow_more : (c : ℕ) (p q : PlainMemory) → Shadow c p q → Shadow (c + 1) p q
+shadow_more c p q h = record { words = h.words; room = h.room; most = omega (arith, h.most); least = h.least }
+
+shadow_twice : (c : ℕ) (a : Access) (p q : PlainMemory) → HasPlace (c + 1) a p → Shadow c (plain_after a p) q
+    → Twice c a p q
+shadow_twice c a p q f h =
+    elim (succeeds_at (address a) p) as (λ b. succeeds_at (address a) p ≡ b → Twice c a p q) [
+      | true ↦ λ e. twice_done c a p q e f (subst (λ y. Shadow c y q) (after_true a p e) h)
+      | false ↦ λ e.
+          (let k : Shadow c p q = subst (λ y. Shadow c y q) (after_false a p e) h in
+          let less : HasPlace c a p = place_less c a p f in
+          record {
+            answer = shadow_answer c a p q less k;
+            shadow = shadow_more c (plain_after a p) (plain_after a q) (shadow_next c a p q less k);
+          })
+    ] refl
+
+-- copies of one access
+shadow_copies : (n c : ℕ) (a : Access) (p q : PlainMemory) → HasPlace (c + n) a p → Shadow c (plain_after a p) q
+    → Shadow (c + n) (plain_after a p) (memory_after (replicate n a) q)
+shadow_copies zero c a p q f h = record { words = h.words; room = h.room; most = omega (arith, h.most); least = h.least }
+shadow_copies (suc n) c a p q f h =
+    let t : Twice c a p q = shadow_twice c a p q (record { now = f.now; later = omega (arith, f.later) }) h in
+    let k : Shadow (c + 1 + n) (plain_after a p) (memory_after (replicate n a) (plain_after a q)) =
+    shadow_copies n (c + 1) a p (plain_after a q) (record { now = f.now; later = omega (arith, f.later) }) t.shadow in
+    record { words = k.words; room = k.room; most = omega (arith, k.most); least = k.least }
+
+-- HOW MANY COPIES stand before a place
+abbrev below : ℕ → List ℕ → ℕ
+below i [] = 0
+below i (j ∷ js) = (if nat_lt j i then 1 else 0) + below i js
+
+below_one : (i j : ℕ)
+    → (if nat_lt j (i + 1) then 1 else 0) ≡ (if nat_lt j i then 1 else 0) + (if i == j then 1 else 0)
+below_one i j = grind arith
+
+below_next : (i : ℕ) (js : List ℕ) → below (i + 1) js ≡ below i js + times i js
+below_next i [] = refl
+below_next i (j ∷ js) = let h = below_next i js in let e = below_one i j in omega (arith, h, e)
+
+one_most : (b : Bool) → (if b then 1 else 0) ≤ 1
+one_most true = omega arith
+one_most false = omega arith
+
+below_most : (i : ℕ) (js : List ℕ) → below i js ≤ length js
+below_most i [] = omega arith
+below_most i (j ∷ js) = let h = below_most i js in let e = one_most (nat_lt j i) in omega (arith, h, e)
+
+below_none : (js : List ℕ) → below 0 js ≡ 0
+below_none [] = refl
+below_none (j ∷ js) =
+    let h = below_none js in
+    let e : nat_lt j 0 ≡ false = grind arith in
+    rw e (omega (arith, h))
+
+-- THE ROOM: the log only grows, and the room stays
+grown : (a : Access) (p : PlainMemory) (b : Bool) → succeeds_at (address a) p ≡ b
+    → ((plain_after a p).room ≡ p.room) × (length p.log ≤ length (plain_after a p).log)
+grown a p true e =
+    let more = log_done a p e in (ap (λ x. x.room) (after_true a p e), omega (arith, more))
+grown a p false e =
+    let same = ap (λ x. length x.log) (after_false a p e) in
+    (ap (λ x. x.room) (after_false a p e), omega (arith, same))
+
+room_list : (xs : List Access) (p : PlainMemory) → (memory_after xs p).room ≡ p.room
+room_list [] p = refl
+room_list (x ∷ xs) p = room_list xs (plain_after x p) ∙ (grown x p (succeeds_at (address x) p) refl).0
+
+log_list : (xs : List Access) (p : PlainMemory) → length p.log ≤ length (memory_after xs p).log
+log_list [] p = omega arith
+log_list (x ∷ xs) p =
+    let h = log_list xs (plain_after x p) in
+    let g = (grown x p (succeeds_at (address x) p) refl).1 in
+    omega (arith, h, g)
+
+pub split_list : (i : ℕ) (xs : List Access) (p : PlainMemory)
+    → memory_after xs p ≡ memory_after (drop i xs) (memory_after (take i xs) p)
+split_list zero xs p = refl
+split_list (suc i) [] p = refl
+split_list (suc i) (x ∷ xs) p = split_list i xs (plain_after x p)
+
+log_take : (i : ℕ) (xs : List Access) (p : PlainMemory)
+    → length (memory_after (take i xs) p).log ≤ length (memory_after xs p).log
+log_take i xs p =
+    let h = log_list (drop i xs) (memory_after (take i xs) p) in
+    let e = ap (λ m. length m.log) (split_list i xs p) in
+    omega (arith, h, e)
+
+-- there is room for the list, for one more, and for c more
+pub record Roomy (c : ℕ) (list : List Access) (m : PlainMemory) : Type 0 where
+  pub one : length (memory_after list m).log + 1 ≤ m.room
+  pub all : length (memory_after list m).log + c ≤ m.room
+
+place_there : (list : List Access) (i c : ℕ) (d : Access) (m : PlainMemory) → i < length list → Roomy c list m
+    → HasPlace c (get_or list i d) (memory_after (take i list) m)
+place_there list i c d m l room =
+    let a = log_take i list m in
+    let b = log_take (i + 1) list m in
+    let e = ap (λ x. length x.log) (memory_next list i d m l) in
+    let r = room_list (take i list) m in
+    record { now = omega (arith, a, r, room.one); later = omega (arith, b, e, r, room.all) }
+
+roomy_less : (c c' : ℕ) (list : List Access) (m : PlainMemory) → c' ≤ c → Roomy c list m → Roomy c' list m
+roomy_less c c' list m l h = record { one = h.one; all = omega (arith, h.all) }
+
+-- THE WHOLE
+after_shadow : (js : List ℕ) (i : ℕ) (list : List Access) (d : Access) (m : PlainMemory) → i ≤ length list
+    → Roomy (length js) list m
+    → Shadow (below i js) (memory_after (take i list) m) (memory_after (repeated js 0 (take i list)) m)
+after_shadow js zero list d m l room =
+    let h = below_none js in
+    record { words = refl; room = refl; most = omega (arith, h); least = omega arith }
+after_shadow js (suc i) list d m l room =
+    let a : Access = get_or list i d in
+    let p : PlainMemory = memory_after (take i list) m in
+    let q : PlainMemory = memory_after (repeated js 0 (take i list)) m in
+    let n : ℕ = times i js in
+    let s : suc i ≡ i + 1 = omega arith in
+    let low : i < length list = omega (arith, l) in
+    let few : below (i + 1) js ≤ length js = below_most (i + 1) js in
+    let e : below (i + 1) js ≡ below i js + n = below_next i js in
+    let place : (c : ℕ) → c ≤ below (i + 1) js → HasPlace c a p =
+    λ c less. place_there list i c d m low (roomy_less (length js) c list m (omega (arith, few)) room) in
+    let one : Shadow (below i js) (plain_after a p) (plain_after a q) =
+    shadow_next (below i js) a p q (place (below i js) (omega (arith, e)))
+    (after_shadow js i list d m (omega (arith, l)) room) in
+    let all : Shadow (below i js + n) (plain_after a p) (memory_after (replicate n a) (plain_after a q)) =
+    shadow_copies n (below i js) a p (plain_after a q) (place (below i js + n) (omega (arith, e))) one in
+    let plain : memory_after (take (i + 1) list) m ≡ plain_after a p = memory_next list i d m low in
+    let there : memory_after (repeated js 0 (take (i + 1) list)) m
+    ≡ memory_after (replicate n a) (plain_after a q) =
+    ap (λ xs. memory_after xs m) (repeated_next js list i d low)
+    ∙ memory_append (repeated js 0 (take i list)) (a ∷ replicate n a) m in
+    subst (λ n. Shadow (below n js) (memory_after (take n list) m) (memory_after (repeated js 0 (take n list)) m)) (sym s)
+    (subst (λ n. Shadow n (memory_after (take (i + 1) list) m) (memory_after (repeated js 0 (take (i + 1) list)) m))
+    (sym e)
+    (subst (λ x. Shadow (below i js + n) x (memory_after (repeated js 0 (take (i + 1) list)) m)) (sym plain)
+    (subst (λ y. Shadow (below i js + n) (plain_after a p) y) (sym there) all)))
+
+-- the next access is answered as in the plain memory
+pub answered_next : (js : List ℕ) (i : ℕ) (list : List Access) (d : Access) (m q : PlainMemory) → i < length list
+    → Roomy (length js) list m → IsAfter js i list m q
+    → plain_answer (get_or list i d) q ≡ plain_answer (get_or list i d) (memory_after (take i list) m)
+answered_next js i list d m q l room h =
+    let few : below i js ≤ length js = below_most i js in
+    shadow_answer (below i js) (get_or list i d) (memory_after (take i list) m) q
+    (place_there list i (below i js) d m l (roomy_less (length js) (below i js) list m few room))
+    (subst (λ y. Shadow (below i js) (memory_after (take i list) m) y) (sym h.memory)
+    (after_shadow js i list d m (omega (arith, l)) room))
+
+-- and so is the last one where it is done once more
+pub answered_again : (js : List ℕ) (k : ℕ) (list : List Access) (d : Access) (m q : PlainMemory) → k < length list
+    → HasRoom js list m → IsAfter js (k + 1) list m q
+    → plain_answer (get_or list k d) q ≡ plain_answer (get_or list k d) (memory_after (take k list) m)
+answered_again js k list d m q l room h =
+    let c : ℕ = below (k + 1) js in
+    let few : c ≤ length js = below_most (k + 1) js in
+    let there : Shadow c (memory_after (take (k + 1) list) m) q =
+    subst (λ y. Shadow c (memory_after (take (k + 1) list) m) y) (sym h.memory)
+    (after_shadow js (k + 1) list d m (omega (arith, l))
+    (record { one = omega (arith, room); all = omega (arith, room) })) in
+    (shadow_twice c (get_or list k d) (memory_after (take k list) m) q
+    (place_there list k (c + 1) d m l (record { one = omega (arith, room); all = omega (arith, few, room) }))
+    (subst (λ x. Shadow c x q) (memory_next list k d m l) there)).answer
