@@ -85,7 +85,7 @@ pub exempt_asked : (job : Job) (r : Register) (n : ℕ) (base : Counted) (b : �
 exempt_asked job r n base b k v s t q reg ex nodrw live rest l h asks go =
     elim (exempt_request_at_rest r q v s t reg ex live rest asks) [
       | okay a ↦ came_okay a.is (go a.flip a.spares a.accepts a.heard.disturbed_least)
-      | lost a w ↦ came_lost a.none (lost_within r q.read b b k s t (λ x. x) nodrw w (before_within job n b k s h))
+      | lost a w ↦ came_lost a.none (lost_within r q.read b b k s t (omega arith) nodrw w (before_within job n b k s h))
           (omega (arith, a.lost)) (let p : n ≤ s.tally.disturbed =
           before_paid job n b k s h in omega (arith, a.disturbed))
     ]

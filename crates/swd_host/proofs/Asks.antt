@@ -74,6 +74,7 @@ written_calm Powered b k s e h = absurd (cc)
 written_calm Recall b k s e h = absurd (cc)
 written_calm Configured b k s e h = absurd (cc)
 written_calm Confirm b k s e h = absurd (cc)
+written_calm Behind b k s e h = absurd (cc)
 
 -- what a request confirms
 aim_confirmed : (aims : Bool) (back : Place) → (if aims then Some Aim else None) ≡ Some back → back ≡ Aim
@@ -82,6 +83,7 @@ aim_confirmed false back e = absurd (cc)
 
 transfer_confirmed : (task : Task) (back : Place) → written_by task ≡ Some back → back ≡ Transfer
 transfer_confirmed (Read at) back e = absurd (cc)
+transfer_confirmed (BurstRead at) back e = absurd (cc)
 transfer_confirmed (Write at word) back e = cc
 transfer_confirmed (BurstWrite at word) back e = cc
 
@@ -99,6 +101,7 @@ back_written Select back task aims e = absurd (cc)
 back_written Configure back task aims e = absurd (cc)
 back_written Configured back task aims e = absurd (cc)
 back_written Aim back task aims e = absurd (cc)
+back_written Behind back task aims e = absurd (cc)
 
 pub hurt_calm : (p : Place) (n b : ℕ) (k : Hand) (s : Port) → Hurt p n b k s → Calm k.memory s.target
 hurt_calm p n b k s h = written_calm h.back b k s (back_written p h.back k.task k.aims h.confirms) h.has
@@ -127,14 +130,17 @@ hurt_power Confirm n b k s h e =
     (transfer_confirmed k.task h.back h.confirms) h.has in has.up.debug
 hurt_power Configure n b k s h e = absurd (let c = h.confirms in cc)
 hurt_power Aim n b k s h e = absurd (let c = h.confirms in cc)
+hurt_power Behind n b k s h e = absurd (let c = h.confirms in cc)
 
 -- REGISTERS
 abbrev pub drw_register : Task → Register
 drw_register (Read at) = DrwRead
+drw_register (BurstRead at) = DrwRead
 drw_register (Write at word) = DrwWrite
 drw_register (BurstWrite at word) = DrwWrite
 
 abbrev pub confirming_register : Task → Register
+confirming_register (BurstRead at) = DrwRead
 confirming_register (BurstWrite at word) = DrwWrite
 confirming_register a = RdbuffRead
 
@@ -151,14 +157,17 @@ register_at Configured a = RdbuffRead
 register_at Aim a = TarWrite
 register_at Transfer a = drw_register a
 register_at Confirm a = confirming_register a
+register_at Behind a = ResendRead
 
 drw_there : (a : Task) → register no_select (request_of (At Transfer) a) ≡ drw_register a
 drw_there (Read at) = refl
+drw_there (BurstRead at) = refl
 drw_there (Write at word) = refl
 drw_there (BurstWrite at word) = refl
 
 confirming_there : (a : Task) → register no_select (request_of (At Confirm) a) ≡ confirming_register a
 confirming_there (Read at) = refl
+confirming_there (BurstRead at) = refl
 confirming_there (Write at word) = refl
 confirming_there (BurstWrite at word) = refl
 
@@ -175,6 +184,7 @@ there Configured a = refl
 there Aim a = refl
 there Transfer a = drw_there a
 there Confirm a = confirming_there a
+there Behind a = refl
 
 pub register_there : (p : Place) (a : Task) (s : Port) → s.target.select ≡ no_select
     → register s.target.select (request_of (At p) a) ≡ register_at p a
@@ -182,11 +192,13 @@ register_there p a s e = ap (λ x. register x (request_of (At p) a)) e ∙ there
 
 not_exempt_drw : (a : Task) → is_exempt (drw_register a) ≡ false
 not_exempt_drw (Read at) = refl
+not_exempt_drw (BurstRead at) = refl
 not_exempt_drw (Write at word) = refl
 not_exempt_drw (BurstWrite at word) = refl
 
 not_exempt_confirming : (a : Task) → is_exempt (confirming_register a) ≡ false
 not_exempt_confirming (Read at) = refl
+not_exempt_confirming (BurstRead at) = refl
 not_exempt_confirming (Write at word) = refl
 not_exempt_confirming (BurstWrite at word) = refl
 
@@ -203,6 +215,7 @@ not_exempt Recall a e = refl
 not_exempt Configured a e = refl
 not_exempt Aim a e = refl
 not_exempt Confirm a e = not_exempt_confirming a
+not_exempt Behind a e = refl
 
 -- WHAT WAS DAMAGED
 frame_refl : (s : Port) → Frame s s
@@ -291,7 +304,7 @@ module _ (p : Place) (n : ℕ) (base : Counted) (b c : ℕ) (k : Hand) (v : ℕ)
 
 identify_lost : (b : ℕ) (k : Hand) (s t : Port) → Reachable k.memory s.target
     → Stays s t ⊎ Accepts DpidrRead true None s t → Within b k t.target
-identify_lost b k s t h w = lost_within DpidrRead true b b k s t (λ x. x) (λ e. absurd (cc)) w
+identify_lost b k s t h w = lost_within DpidrRead true b b k s t (omega arith) (λ e. absurd (cc)) w
     (within_idle b k s h.pending h.memory)
 
 -- ABORT is written, whatever the flags
@@ -348,7 +361,7 @@ recall_asked n base b k v s t l h asks =
     let calm : Calm k.memory s.target = h.has.up.calm in
     free_asked (At Recall) CswRead n base b b k v s t (request_of (At Recall) k.task)
     (register_there Recall k.task s calm.select) refl (λ e. absurd (cc)) calm.live calm.pending
-    (h.flag refl) calm.sticky (λ e. h.has.up.debug) l (λ x. x) (has_within Recall b k s h.has) h.paid asks
+    (h.flag refl) calm.sticky (λ e. h.has.up.debug) l (omega arith) (has_within Recall b k s h.has) h.paid asks
     (λ flip sp a more. recalled n b k s t flip h a more)
     refl (λ f e d. inl (sure_framed n (n + 1) b k s t f e (omega arith) Recall h))
 
@@ -369,7 +382,7 @@ configured_asked n base b k v s t l h asks =
     let calm : Calm k.memory s.target = h.has.up.calm in
     free_asked (At Configured) RdbuffRead n base b b k v s t (request_of (At Configured) k.task)
     (register_there Configured k.task s calm.select) refl (λ e. absurd (cc)) calm.live calm.pending
-    (h.flag refl) calm.sticky (λ e. absurd (cc)) l (λ x. x) (has_within Configured b k s h.has) h.paid asks
+    (h.flag refl) calm.sticky (λ e. absurd (cc)) l (omega arith) (has_within Configured b k s h.has) h.paid asks
     (λ flip sp a more. (
       csw_word_read,
       reads_from csw_word_read n
@@ -380,38 +393,21 @@ configured_asked n base b k v s t l h asks =
     ))
     refl (λ f e d. inl (sure_framed n (n + 1) b k s t f e (omega arith) Configured h))
 
--- RESEND
-pub returned_calm : (p : Place) (word : ℕ) (b : ℕ) (k : Hand) (s : Port) → Returned p word b k s.target
-    → (m : PlainMemory) × Calm m s.target
-returned_calm Configured word b k s h = (_, h.0.calm)
-returned_calm Confirm word b k s h = (_, h.0.up.calm)
-returned_calm Identify word b k s h = absurd h
-returned_calm Wipe word b k s h = absurd h
-returned_calm Inspect word b k s h = absurd h
-returned_calm Select word b k s h = absurd h
-returned_calm Power word b k s h = absurd h
-returned_calm Powered word b k s h = absurd h
-returned_calm Configure word b k s h = absurd h
-returned_calm Recall word b k s h = absurd h
-returned_calm Aim word b k s h = absurd h
-returned_calm Transfer word b k s h = absurd h
-
-pub resend_asked : (p : Place) (n : ℕ) (base : Counted) (b : ℕ) (k : Hand) (v : ℕ) (s t : Port)
-    → base.lost ≤ s.tally.lost → Before (Resend p) n b k s → Asks s (request_of (Resend p) k.task) v t
+-- RESEND, where no transfer is under way
+pub resend_rested : (p : Place) (word n : ℕ) (base : Counted) (b : ℕ) (k : Hand) (v : ℕ) (m : PlainMemory) (s t : Port)
+    → base.lost ≤ s.tally.lost → Calm m s.target → Resent p word n b k s → Asks s (request_of (Resend p) k.task) v t
     → Came (Resend p) n base b k v t
-resend_asked p n base b k v s t l h asks =
-    let r : Resent p h.0 n b k s = h.1 in
-    let calm : Calm _ s.target = (returned_calm p h.0 b k s r.returned).1 in
+resend_rested p word n base b k v m s t l calm r asks =
     free_asked (Resend p) ResendRead n base b b k v s t (request_of (Resend p) k.task)
     (ap (λ x. register x (request_of (Resend p) k.task)) calm.select) refl
-    (λ e. absurd (cc)) calm.live calm.pending r.flag calm.sticky (λ e. absurd (cc)) l (λ x. x)
-    (before_within (Resend p) n b k s h) r.paid asks
+    (λ e. absurd (cc)) calm.live calm.pending r.flag calm.sticky (λ e. absurd (cc)) l (omega arith)
+    (before_within (Resend p) n b k s (word, r)) r.paid asks
     (λ flip sp a more.
     (let f : Frame s t = frame_accepts ResendRead true flip s t refl calm.live a in
     let e : Same s t = same_accepts ResendRead true flip s t a in (
-      h.0,
-      reads_from h.0 n (λ c. Resent p h.0 c b k t) flip s t (value_resent flip h.0 s t r.last a).0 sp
-          (resent_framed n n b k s t f e (omega arith) p h.0 r)
-          (λ d. resent_framed n (n + 1) b k s t f e (omega arith) p h.0 r),
+      word,
+      reads_from word n (λ c. Resent p word c b k t) flip s t (value_resent flip word s t r.last a).0 sp
+          (resent_framed n n b k s t f e (omega arith) p word r)
+          (λ d. resent_framed n (n + 1) b k s t f e (omega arith) p word r),
     )))
-    refl (λ f e d. (h.0, resent_framed n (n + 1) b k s t f e (omega arith) p h.0 r))
+    refl (λ f e d. (word, resent_framed n (n + 1) b k s t f e (omega arith) p word r))

@@ -21,7 +21,7 @@ use Rattle.swd_port.proofs.RequestLaws.{refused_with_power}
 use Rattle.swd_port.proofs.StatusLaws.{status_returned, identification_returned}
 use Rattle.swd_host.specs.declared.flags.Flags.{Flags}
 use Rattle.swd_host.specs.declared.request.Place.TheVariants.{Identify, Wipe, Inspect, Select, Power, Powered}
-use Rattle.swd_host.specs.declared.request.Place.TheVariants.{Configure, Recall, Configured, Aim, Transfer, Confirm}
+use Rattle.swd_host.specs.declared.request.Place.TheVariants.{Configure, Recall, Configured, Aim, Transfer, Confirm, Behind}
 use Rattle.swd_host.specs.declared.request.Job.{Job}
 use Rattle.swd_host.specs.declared.request.Job.TheVariants.{At, Resend, Status, LastStatus, Clear, Check}
 use Rattle.swd_host.specs.declared.task.Task.{Task}
@@ -356,6 +356,7 @@ module _ (n : ℕ) (base : Counted) (stray : Bool) (start : Port) (v : ℕ) (s t
   ask_early (At Aim) h asks = absurd h
   ask_early (At Transfer) h asks = absurd h
   ask_early (At Confirm) h asks = absurd h
+  ask_early (At Behind) h asks = absurd h
   ask_early LastStatus h asks = absurd h
   ask_early (Resend p) h asks = absurd h
   ask_early (Status p) h asks = absurd h

@@ -11,7 +11,7 @@ use Rattle.swd_port.proofs.CompletionLaws.{none_done, kept as kept_by, may_becom
 use Rattle.swd_port.proofs.CompletionLaws.{may_become_of_none}
 use Rattle.swd_host.specs.declared.flags.Flags.{Flags}
 use Rattle.swd_host.specs.declared.request.Place.TheVariants.{Identify, Wipe, Inspect, Select, Power, Powered}
-use Rattle.swd_host.specs.declared.request.Place.TheVariants.{Configure, Recall, Configured, Aim, Transfer, Confirm}
+use Rattle.swd_host.specs.declared.request.Place.TheVariants.{Configure, Recall, Configured, Aim, Transfer, Confirm, Behind}
 use Rattle.swd_host.specs.declared.request.Job.{Job}
 use Rattle.swd_host.specs.declared.request.Job.TheVariants.{At, Resend, Status, LastStatus, Clear, Check}
 use Rattle.swd_host.specs.Early.{ComesFrom, IsAwaited, Quiet, none_left, to_come, has_come, Anywhere, Resettled, Woken}
@@ -125,6 +125,7 @@ early_stays (At Configured) n x start s t c h = absurd h
 early_stays (At Aim) n x start s t c h = absurd h
 early_stays (At Transfer) n x start s t c h = absurd h
 early_stays (At Confirm) n x start s t c h = absurd h
+early_stays (At Behind) n x start s t c h = absurd h
 early_stays LastStatus n x start s t c h = absurd h
 early_stays (Resend p) n x start s t c h = absurd h
 early_stays (Status p) n x start s t c h = absurd h
@@ -192,6 +193,7 @@ early_carried (At Configured) n n' x start s t f e more h = absurd h
 early_carried (At Aim) n n' x start s t f e more h = absurd h
 early_carried (At Transfer) n n' x start s t f e more h = absurd h
 early_carried (At Confirm) n n' x start s t f e more h = absurd h
+early_carried (At Behind) n n' x start s t f e more h = absurd h
 early_carried LastStatus n n' x start s t f e more h = absurd h
 early_carried (Resend p) n n' x start s t f e more h = absurd h
 early_carried (Status p) n n' x start s t f e more h = absurd h
@@ -242,6 +244,7 @@ early_any (At Configured) n x start s h = absurd h
 early_any (At Aim) n x start s h = absurd h
 early_any (At Transfer) n x start s h = absurd h
 early_any (At Confirm) n x start s h = absurd h
+early_any (At Behind) n x start s h = absurd h
 early_any LastStatus n x start s h = absurd h
 early_any (Resend p) n x start s h = absurd h
 early_any (Status p) n x start s h = absurd h

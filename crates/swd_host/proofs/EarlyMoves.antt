@@ -16,7 +16,7 @@ use Rattle.swd_port.proofs.MovingLaws.{data_taken, take_moves_nothing, turnaroun
 use Rattle.swd_port.proofs.StatusLaws.{flags_cleared}
 use Rattle.swd_host.specs.declared.flags.Flags.{Flags}
 use Rattle.swd_host.specs.declared.request.Place.TheVariants.{Identify, Wipe, Inspect, Select, Power, Powered}
-use Rattle.swd_host.specs.declared.request.Place.TheVariants.{Configure, Recall, Configured, Aim, Transfer, Confirm}
+use Rattle.swd_host.specs.declared.request.Place.TheVariants.{Configure, Recall, Configured, Aim, Transfer, Confirm, Behind}
 use Rattle.swd_host.specs.declared.request.Job.{Job}
 use Rattle.swd_host.specs.declared.request.Job.TheVariants.{At, Resend, Status, LastStatus, Clear, Check}
 use Rattle.swd_host.specs.declared.task.Task.{Task}
@@ -121,6 +121,7 @@ module _ (n : ℕ) (stray : Bool) (start : Port) (bits : ℕ) (s t : Port) (rang
     read_early (At Aim) task none h = absurd h
     read_early (At Transfer) task none h = absurd h
     read_early (At Confirm) task none h = absurd h
+    read_early (At Behind) task none h = absurd h
     read_early LastStatus task none h = absurd h
     read_early (Resend p) task none h = absurd h
     read_early (Status p) task none h = absurd h
@@ -198,6 +199,7 @@ module _ (n : ℕ) (stray : Bool) (start : Port) (sent : ℕ) (s t : Port) (rang
     given_early (At Aim) task word is e h = absurd h
     given_early (At Transfer) task word is e h = absurd h
     given_early (At Confirm) task word is e h = absurd h
+    given_early (At Behind) task word is e h = absurd h
     given_early LastStatus task word is e h = absurd h
     given_early (Resend p) task word is e h = absurd h
     given_early (Status p) task word is e h = absurd h
@@ -226,6 +228,7 @@ waiting_early (At Configured) n x start s t passes h = absurd h
 waiting_early (At Aim) n x start s t passes h = absurd h
 waiting_early (At Transfer) n x start s t passes h = absurd h
 waiting_early (At Confirm) n x start s t passes h = absurd h
+waiting_early (At Behind) n x start s t passes h = absurd h
 waiting_early LastStatus n x start s t passes h = absurd h
 waiting_early (Resend p) n x start s t passes h = absurd h
 waiting_early (Status p) n x start s t passes h = absurd h
@@ -246,6 +249,7 @@ faulted_early (At Configured) n x start s t passes h = absurd h
 faulted_early (At Aim) n x start s t passes h = absurd h
 faulted_early (At Transfer) n x start s t passes h = absurd h
 faulted_early (At Confirm) n x start s t passes h = absurd h
+faulted_early (At Behind) n x start s t passes h = absurd h
 faulted_early LastStatus n x start s t passes h = absurd h
 faulted_early (Resend p) n x start s t passes h = absurd h
 faulted_early (Status p) n x start s t passes h = absurd h

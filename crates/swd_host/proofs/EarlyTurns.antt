@@ -8,7 +8,7 @@ use Rattle.swd_port.specs.declared.register.Register.TheVariants.{SelectWrite}
 use Rattle.swd_host.specs.declared.task.Task.{Task}
 use Rattle.swd_host.specs.declared.request.Place.{Place}
 use Rattle.swd_host.specs.declared.request.Place.TheVariants.{Identify, Wipe, Inspect, Select, Power, Powered}
-use Rattle.swd_host.specs.declared.request.Place.TheVariants.{Configure, Recall, Configured, Aim, Transfer, Confirm}
+use Rattle.swd_host.specs.declared.request.Place.TheVariants.{Configure, Recall, Configured, Aim, Transfer, Confirm, Behind}
 use Rattle.swd_host.specs.declared.request.Job.{Job}
 use Rattle.swd_host.specs.declared.request.Job.TheVariants.{At, Resend, Status, LastStatus, Clear, Check}
 use Rattle.swd_host.specs.declared.engine.Phase.TheVariants.{Data}
@@ -37,10 +37,10 @@ still_early e f s t task lost step base start ok few h =
     early (subst IsTask (sym task) ok) (omega (arith, lost, few)) (step base start few h)
 
 -- FROM SELECT'S OK ON it is a run's opening, over one memory
-settled_sure : (n : ℕ) (b : Bool) (k : Hand) (s : Port) → Settled n k.memory s → Sure Select n b k s
+settled_sure : (n b : ℕ) (k : Hand) (s : Port) → Settled n k.memory s → Sure Select n b k s
 settled_sure n b k s h = record { has = h.calm; flag = λ w. h.flag; paid = h.paid }
 
-writes_sure : (n : ℕ) (b : Bool) (k : Hand) (s : Port) → Writes SelectWrite n (λ c. Settled c k.memory s) s
+writes_sure : (n b : ℕ) (k : Hand) (s : Port) → Writes SelectWrite n (λ c. Settled c k.memory s) s
     → During (At Select) n b k s
 writes_sure n b k s (whole line h) = whole line (settled_sure n b k s h)
 writes_sure n b k s (changed place line h) = changed place line (settled_sure (n + 1) b k s h)
@@ -82,6 +82,7 @@ status_select Configured n x start s h = absurd h
 status_select Aim n x start s h = absurd h
 status_select Transfer n x start s h = absurd h
 status_select Confirm n x start s h = absurd h
+status_select Behind n x start s h = absurd h
 
 pub early_left : (job : Job) (n : ℕ) (stray : Bool) (start s : Port) → is_job_of true job ≡ true
     → EarlyBefore job n stray start s → 2 ≤ left_for job

@@ -82,6 +82,7 @@ write_gone false false x y c h = c.write_kept refl ∙ h
 
 address_small : (task : Task) → IsTask task → address (access_of task) < 2 ^ 32
 address_small (Read at) h = h.0
+address_small (BurstRead at) h = h.0.0
 address_small (Write at word) h = h.0
 address_small (BurstWrite at word) h = h.0.0
 
@@ -103,7 +104,7 @@ module _ (n b : ℕ) (k : Hand) (s t : Port) (sent : ℕ) (range : sent < 2 ^ 33
   hurt_next p back is x h = record {
     back = back;
     confirms = is;
-    has = has_framed back b b k s t (λ y. y) (frame_spoiled s t x) (ap (λ i. i.sticky_error) x.target) h.has;
+    has = has_framed back b b k s t (omega arith) (frame_spoiled s t x) (ap (λ i. i.sticky_error) x.target) h.has;
     flag = ap (λ i. i.write_error) x.target;
     paid = omega (arith, ap (λ i. i.disturbed) x.tally, h.paid);
   }
@@ -218,7 +219,7 @@ module _ (n b : ℕ) (k : Hand) (s t : Port) (sent : ℕ) (range : sent < 2 ^ 33
       (λ h x. inr (hurt_next Transfer Aim (aims_back h.has.aims) x h))
 
   -- A WRITE OF DRW
-  drw_under : (word : ℕ) (y : Port) → access_of k.task ≡ AccessWrite (address (access_of k.task)) word → b ≡ true
+  drw_under : (word : ℕ) (y : Port) → access_of k.task ≡ AccessWrite (address (access_of k.task)) word → 1 ≤ b
       → IsAimed k s.target → Gave DrwWrite word s y → Under b k y.target
   drw_under word y is begun h g =
       let c = h.up.calm in
@@ -236,7 +237,7 @@ module _ (n b : ℕ) (k : Hand) (s t : Port) (sent : ℕ) (range : sent < 2 ^ 33
 
   drw_gave : (word : ℕ) → word < 2 ^ 32 → access_of k.task ≡ AccessWrite (address (access_of k.task)) word
       → written_by k.task ≡ Some Transfer → sent ≡ phase_number word
-      → (b ≡ true) × Writes DrwWrite n (λ c. Sure Transfer c b k s) s → Before (At Confirm) n b k t
+      → (1 ≤ b) × Writes DrwWrite n (λ c. Sure Transfer c b k s) s → Before (At Confirm) n b k t
   drw_gave word small is back phased (begun, whole line h) =
       let (y, given, last) = data_given_at_rest DrwWrite None word sent s t line small range
       (spells word sent small phased) h.has.up.calm.pending gives in
@@ -257,6 +258,7 @@ module _ (n b : ℕ) (k : Hand) (s t : Port) (sent : ℕ) (range : sent < 2 ^ 33
   transfer_gave : (task : Task) (word : ℕ) → k.task ≡ task → IsTask task → word_of_task task ≡ Some word
       → sent ≡ phase_number word → Transfers task n b k s → Before (At Confirm) n b k t
   transfer_gave (Read at) word is ok w e h = absurd (cc)
+  transfer_gave (BurstRead at) word is ok w e h = absurd (cc)
   transfer_gave (Write at more) word is ok w e h =
       let same : more ≡ word = cc in
       drw_gave more ok.2 (ap access_of is ∙ ap (λ x. AccessWrite (address (access_of x)) more) (sym is))
@@ -302,6 +304,7 @@ module _ (n b : ℕ) (k : Hand) (s t : Port) (sent : ℕ) (range : sent < 2 ^ 33
   job_gave (At Recall) word is e ok h = absurd (cc)
   job_gave (At Configured) word is e ok h = absurd (cc)
   job_gave (At Confirm) word is e ok h = absurd (cc)
+  job_gave (At Behind) word is e ok h = absurd h
   job_gave (Resend p) word is e ok h = absurd (cc)
   job_gave (Status p) word is e ok h = absurd (cc)
   job_gave LastStatus word is e ok h = absurd (cc)

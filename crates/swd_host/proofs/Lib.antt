@@ -3,6 +3,7 @@ mod Frames
 mod Asked
 mod Asks
 mod Transfers
+mod Blocks
 mod Sends
 mod Takes
 mod Gives

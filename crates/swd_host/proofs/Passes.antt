@@ -42,7 +42,8 @@ use Rattle.swd_host.specs.Flags.{clear_word}
 use Rattle.swd_host.specs.Tasks.{access_of}
 use Rattle.swd_host.specs.declared.engine.Engine.{Engine}
 use Rattle.swd_host.specs.Tracks.{Hand, no_select, Under, Sure, Resent, Before, Faulting, FaultedAt, Waiting, Unled}
-use Rattle.swd_host.proofs.Frames.{frame_passed, same_passed, has_framed, before_framed}
+use Rattle.swd_host.proofs.Frames.{frame_passed, same_passed, has_framed, before_framed, resent_framed}
+use Rattle.swd_host.proofs.Blocks.{resent_stays}
 use Rattle.swd_host.proofs.Asks.{hurt_calm}
 use Rattle.swd_host.proofs.Transfers.{under_stays}
 use Rattle.swd_host.proofs.Sends.{facts_rest, refused_rest, checks_rest}
@@ -61,7 +62,7 @@ confirm_passed n b k s t passes h =
     let kp = kept_by s x first in
     let u : Under b k x.target = under_stays b k s x first h.has in
     record {
-      has = has_framed Confirm b b k x t (λ y. y) (frame_passed x t passed)
+      has = has_framed Confirm b b k x t (omega arith) (frame_passed x t passed)
           (ap (λ i. i.sticky_error) passed.target) u;
       flag = λ w. ap (λ i. i.write_error) passed.target ∙
           (kp.write_error ∙ h.flag refl);
@@ -74,20 +75,12 @@ confirm_passed n b k s t passes h =
       );
     }
 
-resent_pending : (p : Place) (word n : ℕ) (b : ℕ) (k : Hand) (s : Port) → Resent p word n b k s
-    → s.target.pending ≡ None
-resent_pending Configured word n b k s h = h.returned.0.calm.pending
-resent_pending Confirm word n b k s h = h.returned.0.up.calm.pending
-resent_pending Identify word n b k s h = absurd h.returned
-resent_pending Wipe word n b k s h = absurd h.returned
-resent_pending Inspect word n b k s h = absurd h.returned
-resent_pending Select word n b k s h = absurd h.returned
-resent_pending Power word n b k s h = absurd h.returned
-resent_pending Powered word n b k s h = absurd h.returned
-resent_pending Configure word n b k s h = absurd h.returned
-resent_pending Recall word n b k s h = absurd h.returned
-resent_pending Aim word n b k s h = absurd h.returned
-resent_pending Transfer word n b k s h = absurd h.returned
+resent_passed : (p : Place) (word n b : ℕ) (k : Hand) (s t : Port) → Passes s t → Resent p word n b k s
+    → Resent p word n b k t
+resent_passed p word n b k s t passes h =
+    let (x, first, passed, line) = turnaround_passed s t passes in
+    resent_framed n n b k x t (frame_passed x t passed) (same_passed x t passed)
+    (omega (arith, ap (λ i. i.disturbed) passed.tally)) p word (resent_stays p word n b k s x first h)
 
 place_passed : (p : Place) (n b : ℕ) (k : Hand) (s t : Port) → Passes s t → Sure p n b k s
     → Before (At p) n b k t
@@ -104,14 +97,14 @@ place_passed Configured n b k s t passes h = before_rested (At Configured) n b k
     (inl h)
 place_passed Aim n b k s t passes h = before_rested (At Aim) n b k s t h.has.up.calm.pending passes (inl h)
 place_passed Transfer n b k s t passes h = before_rested (At Transfer) n b k s t h.has.up.calm.pending passes (inl h)
+place_passed Behind n b k s t passes h = absurd h.has
 
 before_passed : (job : Job) (n b : ℕ) (k : Hand) (s t : Port) → Passes s t → Before job n b k s
     → Before job n b k t
 before_passed (At p) n b k s t passes (inl h) = place_passed p n b k s t passes h
 before_passed (At p) n b k s t passes (inr h) = before_rested (At p) n b k s t (hurt_calm p n b k s h).pending passes
     (inr h)
-before_passed (Resend p) n b k s t passes h = before_rested (Resend p) n b k s t
-    (resent_pending p h.0 n b k s h.1) passes h
+before_passed (Resend p) n b k s t passes h = (h.0, resent_passed p h.0 n b k s t passes h.1)
 before_passed (Status p) n b k s t passes h = before_rested (Status p) n b k s t
     (refused_rest p n b k s h).pending passes h
 before_passed LastStatus n b k s t passes h = absurd h
@@ -128,6 +121,22 @@ waiting_passed job n b k s t passes h = record {
       (n + 1) b k s t passes h.before;
 }
 
+resend_faulted : (p : Place) (n b : ℕ) (k : Hand) (s t : Port) → Passes s t → FaultedAt (Resend p) n b k s
+    → FaultedAt (Resend p) n b k t
+resend_faulted Confirm n b k s t passes h = (h.0, before_passed (Status Behind) n b k s t passes h.1)
+resend_faulted Identify n b k s t passes h = absurd h
+resend_faulted Wipe n b k s t passes h = absurd h
+resend_faulted Inspect n b k s t passes h = absurd h
+resend_faulted Select n b k s t passes h = absurd h
+resend_faulted Power n b k s t passes h = absurd h
+resend_faulted Powered n b k s t passes h = absurd h
+resend_faulted Configure n b k s t passes h = absurd h
+resend_faulted Recall n b k s t passes h = absurd h
+resend_faulted Configured n b k s t passes h = absurd h
+resend_faulted Aim n b k s t passes h = absurd h
+resend_faulted Transfer n b k s t passes h = absurd h
+resend_faulted Behind n b k s t passes h = absurd h
+
 pub faulted_passed : (job : Job) (n b : ℕ) (k : Hand) (s t : Port) → Passes s t → FaultedAt job n b k s
     → FaultedAt job n b k t
 faulted_passed (At p) n b k s t passes h = record {
@@ -135,7 +144,7 @@ faulted_passed (At p) n b k s t passes h = record {
   refused = before_passed
       (Status p) n b k s t passes h.refused;
 }
-faulted_passed (Resend p) n b k s t passes h = absurd h
+faulted_passed (Resend p) n b k s t passes h = resend_faulted p n b k s t passes h
 faulted_passed (Status p) n b k s t passes h = absurd h
 faulted_passed LastStatus n b k s t passes h = absurd h
 faulted_passed (Clear p owed) n b k s t passes h = absurd h

@@ -1,7 +1,7 @@
 -- Every request keeps what the engine knows.
 use Rattle.std.proofs.Common.{◌≡◌, ◌≢◌, ◌+◌, ◌%◌, ◌^◌, ◌≤◌, ◌<◌, ℕ, Bool, true, false, refl, sym, ap, subst, inl, inr}
 use Rattle.std.proofs.Common.{arith, ◌∙◌}
-use Rattle.std.specs.Prelude.{Option, Some, None, ◌⊎◌, ◌||◌, ◌==◌, if◌then◌else◌}
+use Rattle.std.specs.Prelude.{Option, Some, None, ◌⊎◌, ◌||◌, ◌==◌, if◌then◌else◌, max}
 use Rattle.swd_bits.specs.declared.request.Request.{Request}
 use Rattle.swd_bits.specs.declared.request.Reg4.TheVariants.{R0, R4, R8, RC}
 use Rattle.swd_port.specs.declared.access.Access.{Access}
@@ -42,7 +42,8 @@ use Rattle.swd_host.specs.declared.engine.Phase.TheVariants.{Ask, Data, Waited, 
 use Rattle.swd_host.specs.declared.engine.State.{State}
 use Rattle.swd_host.specs.declared.engine.State.TheVariants.{Leading, Doing, Resting}
 use Rattle.swd_host.specs.declared.engine.Engine.{Engine}
-use Rattle.swd_host.specs.Requests.{request_of, is_exempt_place, begins}
+use Rattle.swd_host.specs.Requests.{request_of, is_exempt_place, begins, begins_next}
+use Rattle.std.proofs.Math.Nat.{le-max_left, le-max_right, max-zero}
 use Rattle.swd_host.specs.Tracks.{Hand, Saw, saw_okay, saw_wait, saw_fault, saw_none, Counted, no_select}
 use Rattle.swd_host.specs.Tracks.{csw_word_read, Reachable, Calm, Up, IsAimed, Under, Has, is_wipe, Sure, Hurt}
 use Rattle.swd_host.specs.Tracks.{Broken, Facts, Spoilt, Refused, by_damage, by_error, Owes, Checks, cleared, kept}
@@ -56,8 +57,12 @@ use Rattle.swd_host.proofs.Asked.{Came, came_okay, came_wait, came_fault, came_l
 use Rattle.swd_host.proofs.Asked.{abort, status_asked, abort_asked}
 use Rattle.swd_host.proofs.Transfers.{drw_asked, confirm_asked}
 use Rattle.swd_host.proofs.Asks.{hurt_calm, spoilt_calm, hurt_asked, write_asked, wipe_asked, identify_asked}
-use Rattle.swd_host.proofs.Asks.{recall_asked, configured_asked, resend_asked, returned_calm}
+use Rattle.swd_host.proofs.Asks.{recall_asked, configured_asked}
+use Rattle.swd_host.proofs.Blocks.{next_asked, resend_asked, returned_select}
+use Rattle.swd_host.specs.Tasks.{is_block}
+use Rattle.swd_host.specs.Tracks.{BusErrorOf, own_error, next_error, IsTask, memory_once_done, next_hand}
 use Rattle.swd_port.proofs.CallLaws.{request_counted}
+use Rattle.swd_host.specs.Requests.{is_confirm}
 
 -- AT REST
 pub record AtRest (s : Port) : Type 0 where
@@ -71,13 +76,18 @@ calm_rest m s h = record { select = h.select; live = h.live; pending = h.pending
 broken_rest : (p : Place) (b : ℕ) (k : Hand) (s : Port) → Broken p b k s.target → AtRest s
 broken_rest p b k s h = record { select = h.select; live = h.live; pending = h.pending }
 
+bus_error_rest : (p : Place) (b : ℕ) (k : Hand) (s : Port) → BusErrorOf p b k s.target → AtRest s
+bus_error_rest p b k s (own_error h) = broken_rest p b k s h
+bus_error_rest p b k s (next_error h) =
+    broken_rest Confirm 1 (next_hand k.task (memory_once_done k)) s h.broken
+
 pub facts_rest : (error : Bool) (p : Place) (b : ℕ) (k : Hand) (s : Port) → Facts error p b k s.target → AtRest s
-facts_rest true p b k s h = broken_rest p b k s h
+facts_rest true p b k s h = bus_error_rest p b k s h
 facts_rest false p b k s h = calm_rest k.memory s (spoilt_calm p b k s h)
 
 pub refused_rest : (p : Place) (n b : ℕ) (k : Hand) (s : Port) → Refused p n b k s → AtRest s
 refused_rest p n b k s (by_damage h) = calm_rest k.memory s (hurt_calm p n b k s h)
-refused_rest p n b k s (by_error h i w paid) = broken_rest p b k s h
+refused_rest p n b k s (by_error h i w paid) = bus_error_rest p b k s h
 
 pub checks_rest : (p : Place) (owed : Flags) (n b : ℕ) (k : Hand) (s : Port) → Checks p owed n b k s → AtRest s
 checks_rest p owed n b k s (cleared h i w paid) = facts_rest owed.error p b k s h
@@ -91,58 +101,108 @@ pub powered_rest : (n b : ℕ) (k : Hand) (s : Port) → Before (At Powered) n b
 powered_rest n b k s (inl h) = calm_rest k.memory s h.has.calm
 powered_rest n b k s (inr h) = calm_rest k.memory s (hurt_calm Powered n b k s h)
 
+some_more : (b : ℕ) → 1 ≤ b → 1 ≤ max b 0
+some_more b h = omega (arith, le-max_left b 0)
+
+-- the request that confirms, by the access in hand
+confirm_sent : (task : Task) (n : ℕ) (base : Counted) (b : ℕ) (k : Hand) (v : ℕ) (s t : Port) → k.task ≡ task
+    → IsTask task → base.lost ≤ s.tally.lost → Sure Confirm n b k s → Asks s (request_of (At Confirm) k.task) v t
+    → Came (At Confirm) n base (max b (begins_next task)) k v t
+confirm_sent (BurstRead at) n base b k v s t e ok l h asks =
+    next_asked at n base b (max b 2) k v s t e ok (le-max_right b 2) l h asks
+confirm_sent (Read at) n base b k v s t e ok l h asks =
+    confirm_asked n base b (max b 0) k v s t (some_more b h.has.begun) (ap is_block e) l h asks
+confirm_sent (Write at word) n base b k v s t e ok l h asks =
+    confirm_asked n base b (max b 0) k v s t (some_more b h.has.begun) (ap is_block e) l h asks
+confirm_sent (BurstWrite at word) n base b k v s t e ok l h asks =
+    confirm_asked n base b (max b 0) k v s t (some_more b h.has.begun) (ap is_block e) l h asks
+
+came_same : (job : Job) (n : ℕ) (base : Counted) (b : ℕ) (k : Hand) (v : ℕ) (t : Port) → Came job n base b k v t
+    → Came job n base (max b 0) k v t
+came_same job n base b k v t h = subst (λ c. Came job n base c k v t) (sym (max-zero b)) h
+
 -- EVERY REQUEST
-module _ (n : ℕ) (base : Counted) (b : ℕ) (k : Hand) (v : ℕ) (s t : Port) (l : base.lost ≤ s.tally.lost) where
+module _ (n : ℕ) (base : Counted) (b : ℕ) (k : Hand) (v : ℕ) (s t : Port) (l : base.lost ≤ s.tally.lost)
+    (ok : IsTask k.task) where
   says_asked : (job : Job) → AtRest s → Before job n b k s → Asks s status v t
       → (Says job n b k t → During job n b k t) → Came job n base b k v t
   says_asked job r h asks go = status_asked job n base b k v s t r.select r.live r.pending l h asks go
 
+  -- a request that begins no access
+  plain_asked : (p : Place) → Sure p n b k s → Asks s (request_of (At p) k.task) v t
+      → begins (At p) k.task ≡ 0 → is_confirm p ≡ false → Came (At p) n base b k v t
+  plain_asked Identify h asks none other = identify_asked n base b k v s t l h asks
+  plain_asked Wipe h asks none other = wipe_asked n base b k v s t l h asks
+  plain_asked Inspect h asks none other = says_asked (At Inspect) (inspect_rest n b k s (inl h)) (inl h) asks (λ x. x)
+  plain_asked Select h asks none other = write_asked Select n base b b k v s t SelectWrite refl refl refl refl refl refl
+      (λ e. absurd (cc)) (omega arith) h.has (λ e. absurd (cc)) l h asks (λ w. w)
+  plain_asked Power h asks none other = write_asked Power n base b b k v s t CtrlStatWrite refl refl refl refl refl refl
+      (λ e. absurd (cc)) (omega arith) h.has (λ e. absurd (cc)) l h asks (λ w. w)
+  plain_asked Powered h asks none other =
+      says_asked (At Powered) (powered_rest n b k s (inl h)) (inl h) asks (λ x. x)
+  plain_asked Configure h asks none other = write_asked Configure n base b b k v s t CswWrite refl refl refl refl refl refl
+      (λ e. absurd (cc)) (omega arith) h.has.calm (λ e. h.has.debug) l h asks (λ w. w)
+  plain_asked Recall h asks none other = recall_asked n base b k v s t l h asks
+  plain_asked Configured h asks none other = configured_asked n base b k v s t l h asks
+  plain_asked Aim h asks none other = write_asked Aim n base b b k v s t TarWrite refl refl refl refl refl refl
+      (λ e. absurd (cc)) (omega arith) h.has.up.calm (λ e. h.has.up.debug) l h asks (λ w. w)
+  plain_asked Transfer h asks none other = absurd (omega arith)
+  plain_asked Confirm h asks none other = absurd (cc)
+  plain_asked Behind h asks none other = absurd h.has
+
   sure_asked : (p : Place) → Sure p n b k s → Asks s (request_of (At p) k.task) v t
-      → Came (At p) n base (begins (At p) || b) k v t
-  sure_asked Identify h asks = identify_asked n base b k v s t l h asks
-  sure_asked Wipe h asks = wipe_asked n base b k v s t l h asks
-  sure_asked Inspect h asks = says_asked (At Inspect) (inspect_rest n b k s (inl h)) (inl h) asks (λ x. x)
-  sure_asked Select h asks = write_asked Select n base b b k v s t SelectWrite refl refl refl refl refl refl
-      (λ e. absurd (cc)) (λ x. x) h.has (λ e. absurd (cc)) l h asks (λ w. w)
-  sure_asked Power h asks = write_asked Power n base b b k v s t CtrlStatWrite refl refl refl refl refl refl
-      (λ e. absurd (cc)) (λ x. x) h.has (λ e. absurd (cc)) l h asks (λ w. w)
-  sure_asked Powered h asks = says_asked (At Powered) (powered_rest n b k s (inl h)) (inl h) asks (λ x. x)
-  sure_asked Configure h asks = write_asked Configure n base b b k v s t CswWrite refl refl refl refl refl refl
-      (λ e. absurd (cc)) (λ x. x) h.has.calm (λ e. h.has.debug) l h asks (λ w. w)
-  sure_asked Recall h asks = recall_asked n base b k v s t l h asks
-  sure_asked Configured h asks = configured_asked n base b k v s t l h asks
-  sure_asked Aim h asks = write_asked Aim n base b b k v s t TarWrite refl refl refl refl refl refl (λ e. absurd (cc))
-      (λ x. x) h.has.up.calm (λ e. h.has.up.debug) l h asks (λ w. w)
-  sure_asked Transfer h asks = drw_asked k.task n base b k v s t refl l h asks
-  sure_asked Confirm h asks = confirm_asked n base b k v s t l h asks
+      → Came (At p) n base (max b (begins (At p) k.task)) k v t
+  sure_asked Transfer h asks =
+      drw_asked k.task n base b (max b 1) k v s t refl (le-max_left b 1) (le-max_right b 1) l h asks
+  sure_asked Confirm h asks = confirm_sent k.task n base b k v s t refl ok l h asks
+  sure_asked Identify h asks = came_same (At Identify) n base b k v t (plain_asked Identify h asks refl refl)
+  sure_asked Wipe h asks = came_same (At Wipe) n base b k v t (plain_asked Wipe h asks refl refl)
+  sure_asked Inspect h asks = came_same (At Inspect) n base b k v t (plain_asked Inspect h asks refl refl)
+  sure_asked Select h asks = came_same (At Select) n base b k v t (plain_asked Select h asks refl refl)
+  sure_asked Power h asks = came_same (At Power) n base b k v t (plain_asked Power h asks refl refl)
+  sure_asked Powered h asks = came_same (At Powered) n base b k v t (plain_asked Powered h asks refl refl)
+  sure_asked Configure h asks = came_same (At Configure) n base b k v t (plain_asked Configure h asks refl refl)
+  sure_asked Recall h asks = came_same (At Recall) n base b k v t (plain_asked Recall h asks refl refl)
+  sure_asked Configured h asks = came_same (At Configured) n base b k v t (plain_asked Configured h asks refl refl)
+  sure_asked Aim h asks = came_same (At Aim) n base b k v t (plain_asked Aim h asks refl refl)
+  sure_asked Behind h asks = absurd h.has
 
   place_hurt : (p : Place) → Hurt p n b k s → Asks s (request_of (At p) k.task) v t
-      → Came (At p) n base (begins (At p) || b) k v t
+      → Came (At p) n base (max b (begins (At p) k.task)) k v t
+  place_hurt Inspect h asks = came_same (At Inspect) n base b k v t
+      (says_asked (At Inspect) (inspect_rest n b k s (inr h)) (inr h) asks (λ x. x))
+  place_hurt Powered h asks = came_same (At Powered) n base b k v t
+      (says_asked (At Powered) (powered_rest n b k s (inr h)) (inr h) asks (λ x. x))
+  place_hurt Power h asks = hurt_asked Power n base b (max b 0) k v s t refl (le-max_left b 0) l h asks
+  place_hurt Recall h asks = hurt_asked Recall n base b (max b 0) k v s t refl (le-max_left b 0) l h asks
+  place_hurt Transfer h asks = hurt_asked Transfer n base b (max b 1) k v s t refl (le-max_left b 1) l h asks
+  place_hurt Confirm h asks =
+      hurt_asked Confirm n base b (max b (begins_next k.task)) k v s t refl (le-max_left b (begins_next k.task)) l h asks
   place_hurt Identify h asks = absurd (let c = h.confirms in cc)
   place_hurt Wipe h asks = absurd (let c = h.confirms in cc)
-  place_hurt Inspect h asks = says_asked (At Inspect) (inspect_rest n b k s (inr h)) (inr h) asks (λ x. x)
   place_hurt Select h asks = absurd (let c = h.confirms in cc)
-  place_hurt Power h asks = hurt_asked Power n base b b k v s t refl (λ x. x) l h asks
-  place_hurt Powered h asks = says_asked (At Powered) (powered_rest n b k s (inr h)) (inr h) asks (λ x. x)
   place_hurt Configure h asks = absurd (let c = h.confirms in cc)
-  place_hurt Recall h asks = hurt_asked Recall n base b b k v s t refl (λ x. x) l h asks
   place_hurt Configured h asks = absurd (let c = h.confirms in cc)
   place_hurt Aim h asks = absurd (let c = h.confirms in cc)
-  place_hurt Transfer h asks = hurt_asked Transfer n base b true k v s t refl (λ x. refl) l h asks
-  place_hurt Confirm h asks = hurt_asked Confirm n base b b k v s t refl (λ x. x) l h asks
+  place_hurt Behind h asks = absurd (let c = h.confirms in cc)
 
   pub job_asked : (job : Job) → Before job n b k s → Asks s (request_of job k.task) v t
-      → Came job n base (begins job || b) k v t
+      → Came job n base (max b (begins job k.task)) k v t
   job_asked (At p) (inl h) asks = sure_asked p h asks
   job_asked (At p) (inr h) asks = place_hurt p h asks
-  job_asked (Resend p) h asks = resend_asked p n base b k v s t l h asks
-  job_asked (Status p) h asks = says_asked (Status p) (refused_rest p n b k s h) h asks (λ x. x)
+  job_asked (Resend p) h asks =
+      came_same (Resend p) n base b k v t (resend_asked p h.0 n base b k v s t l h.1 asks)
+  job_asked (Status p) h asks =
+      came_same (Status p) n base b k v t (says_asked (Status p) (refused_rest p n b k s h) h asks (λ x. x))
   job_asked LastStatus h asks = absurd h
   job_asked (Clear p owed) h asks =
       let r : AtRest s = facts_rest owed.error p b k s h.facts in
-      abort_asked (Clear p owed) n base b k v s t (λ c. Owes p owed c b k t) r.select r.live r.pending l h asks
-      (λ n' f e more. owes_framed n n' b k s t f e more p owed h) (λ w. w)
-  job_asked (Check p owed) h asks = says_asked (Check p owed) (checks_rest p owed n b k s h) h asks (λ x. x)
+      came_same (Clear p owed) n base b k v t
+      (abort_asked (Clear p owed) n base b k v s t (λ c. Owes p owed c b k t) r.select r.live r.pending l h asks
+      (λ n' f e more. owes_framed n n' b k s t f e more p owed h) (λ w. w))
+  job_asked (Check p owed) h asks =
+      came_same (Check p owed) n base b k v t
+      (says_asked (Check p owed) (checks_rest p owed n b k s h) h asks (λ x. x))
 
 has_select : (p : Place) (b : ℕ) (k : Hand) (s : Port) → Has p b k s.target → s.target.select ≡ no_select
 has_select Identify b k s h = h.select
@@ -157,11 +217,12 @@ has_select Configured b k s h = h.up.calm.select
 has_select Aim b k s h = h.up.calm.select
 has_select Transfer b k s h = h.up.calm.select
 has_select Confirm b k s h = h.select
+has_select Behind b k s h = absurd h
 
 before_select : (job : Job) (n b : ℕ) (k : Hand) (s : Port) → Before job n b k s → s.target.select ≡ no_select
 before_select (At p) n b k s (inl h) = has_select p b k s h.has
 before_select (At p) n b k s (inr h) = has_select h.back b k s h.has
-before_select (Resend p) n b k s h = (returned_calm p h.0 b k s h.1.returned).1.select
+before_select (Resend p) n b k s h = returned_select p h.0 b k s h.1.returned
 before_select (Status p) n b k s h = (refused_rest p n b k s h).select
 before_select LastStatus n b k s h = absurd h
 before_select (Clear p owed) n b k s h = (facts_rest owed.error p b k s h.facts).select
@@ -177,8 +238,8 @@ came_saw job n base b k v t select (came_lost none w l d) = saw_none none.not_ok
     (record { within = w; more = l; paid = d; select = select })
 
 pub ask_saw : (job : Job) (n : ℕ) (base : Counted) (b : ℕ) (k : Hand) (v : ℕ) (s t : Port)
-    → base.lost ≤ s.tally.lost → Before job n b k s → Asks s (request_of job k.task) v t
-    → Saw job v n base (begins job || b) k t
-ask_saw job n base b k v s t l h asks =
-    came_saw job n base (begins job || b) k v t ((request_counted (request_of job k.task) v s t asks).select
-    ∙ before_select job n b k s h) (job_asked n base b k v s t l job h asks)
+    → base.lost ≤ s.tally.lost → IsTask k.task → Before job n b k s → Asks s (request_of job k.task) v t
+    → Saw job v n base (max b (begins job k.task)) k t
+ask_saw job n base b k v s t l ok h asks =
+    came_saw job n base (max b (begins job k.task)) k v t ((request_counted (request_of job k.task) v s t asks).select
+    ∙ before_select job n b k s h) (job_asked n base b k v s t l ok job h asks)

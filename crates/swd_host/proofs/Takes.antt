@@ -22,7 +22,7 @@ use Rattle.swd_host.specs.declared.request.Place.TheVariants.{Configure, Recall,
 use Rattle.swd_host.specs.declared.request.Job.{Job}
 use Rattle.swd_host.specs.declared.request.Job.TheVariants.{At, Resend, Status, LastStatus, Clear, Check}
 use Rattle.swd_host.specs.Requests.{word_for, word_of_task}
-use Rattle.swd_host.specs.Tasks.{is_burst}
+use Rattle.swd_host.specs.Tasks.{is_burst_write}
 use Rattle.swd_host.specs.Engines.{is_ahead_at}
 use Rattle.swd_host.specs.declared.engine.Phase.TheVariants.{Data}
 use Rattle.swd_host.specs.Tracks.{Hand, Calm, Under, Sure, Resent, Before, During, Transfers, Confirms, Confirmed}
@@ -30,6 +30,7 @@ use Rattle.swd_host.specs.Tracks.{Says, Tells, Reads, whole, changed, Awake, Tak
 use Rattle.swd_host.proofs.Frames.{Frame, Same, frame_passed, same_passed, calm_framed, has_framed, sure_framed}
 use Rattle.swd_host.proofs.Frames.{resent_framed, done_framed, before_framed}
 use Rattle.swd_host.proofs.Transfers.{under_stays}
+use Rattle.swd_host.proofs.Blocks.{resent_stays}
 use Rattle.swd_host.proofs.Sends.{facts_rest, refused_rest, checks_rest, inspect_rest, powered_rest}
 
 pub got_whole_of : (word bits : ℕ) → Got None word bits → word_in bits ≡ Some word
@@ -107,13 +108,14 @@ module _ (n b : ℕ) (k : Hand) (s t : Port) (bits : ℕ) (range : bits < 2 ^ 33
       told X says.0 n bits (λ c. Before job c b k s) (λ c. Before job c b k t) s t range takes says.2
       (λ c h. before_framed c c b k s t r.frame r.same (omega (arith, r.disturbed)) job h) (good says.0 tells) bad
 
-  resent_facts : (p : Place) (word : ℕ) → s.target.pending ≡ None → Reads word n (λ c. Resent p word c b k s) s
+  resent_facts : (p : Place) (word : ℕ) → Reads word n (λ c. Resent p word c b k s) s
       → (X : Option ℕ → Type 0) → ((w : ℕ) → Resent p w n b k t → X (Some w))
       → (Before (Resend p) (n + 1) b k t → X None) → X (word_in bits)
-  resent_facts p word rest reads X good bad =
-      let r : AtRestTook s t = rest_took s t bits rest takes in
+  resent_facts p word reads X good bad =
+      let (x, first, passed, line) = take_moves_nothing bits s t takes in
       told X word n bits (λ c. Resent p word c b k s) (λ c. Resent p word c b k t) s t range takes reads
-      (λ c h. resent_framed c c b k s t r.frame r.same (omega (arith, r.disturbed)) p word h) (good word)
+      (λ c h. resent_framed c c b k x t (frame_passed x t passed) (same_passed x t passed)
+      (omega (arith, ap (λ i. i.disturbed) passed.tally)) p word (resent_stays p word c b k s x first h)) (good word)
       (λ h. bad (word, h))
 
   recall_facts : Sure Configured n b k s → Sure Configured n b k t
@@ -127,7 +129,7 @@ module _ (n b : ℕ) (k : Hand) (s t : Port) (bits : ℕ) (range : bits < 2 ^ 33
       let kp = kept_by s x first in
       let u : Under b k x.target = under_stays b k s x first h.has in
       record {
-        has = has_framed Confirm b b k x t (λ y. y) (frame_passed x t passed)
+        has = has_framed Confirm b b k x t (omega arith) (frame_passed x t passed)
             (ap (λ i. i.sticky_error) passed.target) u;
         flag = λ w. ap (λ i. i.write_error) passed.target ∙
             (kp.write_error ∙ h.flag refl);
@@ -150,33 +152,13 @@ module _ (n b : ℕ) (k : Hand) (s t : Port) (bits : ℕ) (range : bits < 2 ^ 33
         paid = omega (arith, r.disturbed, h.paid);
       }
 
-  reads_pending : (word : ℕ) → Reads word n (λ c. Resent Confirm word c b k s) s → s.target.pending ≡ None
-  reads_pending word (whole line small h) = h.returned.0.up.calm.pending
-  reads_pending word (changed place line small h) = h.returned.0.up.calm.pending
-
-  confirm_facts : (a : Task) → is_burst a ≡ false → Confirms a n b k s → ConfirmTook a (word_in bits) n b k t
-  confirm_facts (Read at) e h = resent_facts Confirm h.0 (reads_pending h.0 h.1) h.1 (λ w. ConfirmTook
-      (Read at) w n b k t) (λ w r. r) (λ r. r)
+  confirm_facts : (a : Task) → is_burst_write a ≡ false → Confirms a n b k s → ConfirmTook a (word_in bits) n b k t
+  confirm_facts (Read at) e h = resent_facts Confirm h.0 h.1 (λ w. ConfirmTook (Read at) w n b k t)
+      (λ w r. r) (λ r. r)
+  confirm_facts (BurstRead at) e h = resent_facts Confirm h.0 h.1 (λ w. ConfirmTook (BurstRead at) w n b k t)
+      (λ w r. r) (λ r. r)
   confirm_facts (Write at word) e h = written_facts h
   confirm_facts (BurstWrite at word) e h = absurd (cc)
-
-  configured_pending : (p : Place) (word c : ℕ) → Resent p word c b k s → s.target.pending ≡ None
-  configured_pending Configured word c h = h.returned.0.calm.pending
-  configured_pending Confirm word c h = h.returned.0.up.calm.pending
-  configured_pending Identify word c h = absurd h.returned
-  configured_pending Wipe word c h = absurd h.returned
-  configured_pending Inspect word c h = absurd h.returned
-  configured_pending Select word c h = absurd h.returned
-  configured_pending Power word c h = absurd h.returned
-  configured_pending Powered word c h = absurd h.returned
-  configured_pending Configure word c h = absurd h.returned
-  configured_pending Recall word c h = absurd h.returned
-  configured_pending Aim word c h = absurd h.returned
-  configured_pending Transfer word c h = absurd h.returned
-
-  line_pending : (p : Place) (word : ℕ) → Reads word n (λ c. Resent p word c b k s) s → s.target.pending ≡ None
-  line_pending p word (whole line small h) = configured_pending p word n h
-  line_pending p word (changed place line small h) = configured_pending p word (n + 1) h
 
   awake_pending : Reads s.target.identification n (λ c. Awake c k s) s → s.target.pending ≡ None
   awake_pending (whole line small h) = h.calm.pending
@@ -199,23 +181,9 @@ module _ (n b : ℕ) (k : Hand) (s t : Port) (bits : ℕ) (range : bits < 2 ^ 33
   check_pending p owed word (whole line small h) = (checks_rest p owed n b k s h).pending
   check_pending p owed word (changed place line small h) = (checks_rest p owed (n + 1) b k s h).pending
 
-  -- what RESEND gives is what the place wants
-  taken_resent : (p : Place) (w : ℕ) → Resent p w n b k t → Taken p w n b k t
-  taken_resent Configured w h = h
-  taken_resent Confirm w h = h
-  taken_resent Identify w h = absurd h.returned
-  taken_resent Wipe w h = absurd h.returned
-  taken_resent Inspect w h = absurd h.returned
-  taken_resent Select w h = absurd h.returned
-  taken_resent Power w h = absurd h.returned
-  taken_resent Powered w h = absurd h.returned
-  taken_resent Configure w h = absurd h.returned
-  taken_resent Recall w h = absurd h.returned
-  taken_resent Aim w h = absurd h.returned
-  taken_resent Transfer w h = absurd h.returned
-
   transfers_facts : (a : Task) → word_of_task a ≡ None → Transfers a n b k s → Sure Confirm n b k t
   transfers_facts (Read at) e h = drw_facts h
+  transfers_facts (BurstRead at) e h = drw_facts h
   transfers_facts (Write at word) e h = absurd (cc)
   transfers_facts (BurstWrite at word) e h = absurd (cc)
 
@@ -227,12 +195,12 @@ module _ (n b : ℕ) (k : Hand) (s t : Port) (bits : ℕ) (range : bits < 2 ^ 33
   taken_facts (At Powered) e none h = says_facts (At Powered) (powered_pending h.0 h.2) h
       (λ w. TookAt Powered w n b k t) (λ w x y. (x, y)) (λ x. x)
   taken_facts (At Recall) e none h = recall_facts h
-  taken_facts (At Configured) e none h = resent_facts Configured h.0 (line_pending Configured h.0 h.1) h.1
+  taken_facts (At Configured) e none h = resent_facts Configured h.0 h.1
       (λ w. TookAt Configured w n b k t) (λ w x. x) (λ x. x)
   taken_facts (At Transfer) e none h = transfers_facts k.task e h
   taken_facts (At Confirm) e none h = confirm_facts k.task none h
-  taken_facts (Resend p) e none h = resent_facts p h.0 (line_pending p h.0 h.1) h.1 (λ w. TakenFor
-      (Resend p) w n b k t) (λ w x. taken_resent p w x) (λ x. x)
+  taken_facts (Resend p) e none h = resent_facts p h.0 h.1 (λ w. TakenFor
+      (Resend p) w n b k t) (λ w x. x) (λ x. x)
   taken_facts (Status p) e none h = says_facts (Status p) (status_pending p h.0 h.2) h (λ w. TakenFor
       (Status p) w n b k t) (λ w x y. (x, y)) (λ x. x)
   taken_facts (Check p owed) e none h = says_facts (Check p owed) (check_pending p owed h.0 h.2) h (λ w. TakenFor
@@ -243,4 +211,5 @@ module _ (n b : ℕ) (k : Hand) (s t : Port) (bits : ℕ) (range : bits < 2 ^ 33
   taken_facts (At Power) e none h = absurd (cc)
   taken_facts (At Configure) e none h = absurd (cc)
   taken_facts (At Aim) e none h = absurd (cc)
+  taken_facts (At Behind) e none h = absurd h
   taken_facts (Clear p owed) e none h = absurd (cc)

@@ -8,7 +8,7 @@ use Rattle.swd_port.specs.declared.access.Access.{Access}
 use Rattle.swd_port.specs.declared.access.Access.TheVariants.{Read as AccessRead, Write as AccessWrite}
 use Rattle.swd_host.specs.declared.task.Task.{Task}
 use Rattle.swd_host.specs.declared.task.Task.TheVariants.{Read, BurstRead, Write, BurstWrite}
-use Rattle.swd_host.specs.Tasks.{access_of, is_read}
+use Rattle.swd_host.specs.Tasks.{access_of, is_read, is_block}
 use Rattle.swd_port.specs.declared.access.Answer.TheVariants.{Value, Written, BusFault}
 use Rattle.swd_port.specs.PlainMemory.{PlainMemory, plain_after, plain_answer, answer_of, address, word_at}
 use Rattle.swd_port.specs.Port.{Port, Target, register}
@@ -47,7 +47,7 @@ use Rattle.swd_host.specs.Tracks.{Hand, Counted, no_select, csw_word_read, Reach
 use Rattle.swd_host.specs.Tracks.{Under, Has, is_wipe, Sure, Hurt, Broken, Facts, Spoilt, Refused, by_damage}
 use Rattle.swd_host.specs.Tracks.{by_error, Owes, Checks, cleared, kept, Done, Returned, Resent, Before, During}
 use Rattle.swd_host.specs.Tracks.{Transfers, Confirms, Confirmed, FaultedAt, Within, Says, Reads, Writes, Awake}
-use Rattle.swd_host.specs.Tracks.{Tracks, TracksEngine, hand_of}
+use Rattle.swd_host.specs.Tracks.{Tracks, TracksEngine, hand_of, Waiting, BusErrorOf, own_error, DoneBy, ahead_of}
 use Rattle.swd_host.proofs.Frames.{Frame, Same, frame_waits, frame_refuses, frame_accepts, same_accepts, calm_framed}
 use Rattle.swd_host.proofs.Frames.{has_framed, sure_framed, hurt_framed, resent_framed, owes_framed, before_framed}
 use Rattle.swd_host.proofs.Frames.{before_within, has_within, within_carried, within_stays, within_sent, within_idle}
@@ -78,33 +78,33 @@ aimed_there k s h = record {
   sticky_error = h.up.calm.sticky;
 }
 
-read_sent : (k : Hand) (at : ℕ) (flip : Option ℕ) (s y : Port) → k.task ≡ Read at → IsAimed k s.target
+read_sent : (k : Hand) (at : ℕ) (flip : Option ℕ) (s y : Port) → access_of k.task ≡ AccessRead at → IsAimed k s.target
     → Accepts DrwRead true flip s y → Sent (access_of k.task) k.memory y.target
 read_sent k at flip s y e h a =
-    let aim : Aimed at k.memory s.target = subst (λ x. Aimed (address (access_of x)) k.memory s.target) e
+    let aim : Aimed at k.memory s.target = subst (λ x. Aimed (address x) k.memory s.target) e
     (aimed_there k s h) in
-    subst (λ x. Sent (access_of x) k.memory y.target) (sym e) (read_begins at k.memory flip s y aim a)
+    subst (λ x. Sent x k.memory y.target) (sym e) (read_begins at k.memory flip s y aim a)
 
-read_under : (k : Hand) (at : ℕ) (flip : Option ℕ) (s y : Port) → k.task ≡ Read at → IsAimed k s.target
-    → Accepts DrwRead true flip s y → Under true k y.target
-read_under k at flip s y e h a = record {
+read_under : (b : ℕ) (k : Hand) (at : ℕ) (flip : Option ℕ) (s y : Port) → 1 ≤ b → access_of k.task ≡ AccessRead at
+    → IsAimed k s.target → Accepts DrwRead true flip s y → Under b k y.target
+read_under b k at flip s y some e h a = record {
   live = a.live;
   select = ap (λ i. i.select) a.target ∙ h.up.calm.select;
   debug = ap (λ i. i.debug_power) a.target ∙ h.up.debug;
   increments = ap (λ i. i.increments) a.target ∙ h.up.increments;
-  begun = refl;
+  begun = some;
   sent = read_sent k at flip s y e h a;
 }
 
-abbrev drw_read : Request
+abbrev pub drw_read : Request
 drw_read = record { ap = true; read = true; addr = RC }
 
-under_sure : (n n' : ℕ) (k : Hand) (s y t : Port) → Under true k y.target → Completes y t
-    → y.target.write_error ≡ false → n' ≤ y.tally.disturbed → Sure Confirm n' true k t
-under_sure n n' k s y t h c flag paid =
+pub under_sure : (n n' b : ℕ) (k : Hand) (s y t : Port) → Under b k y.target → Completes y t
+    → y.target.write_error ≡ false → n' ≤ y.tally.disturbed → Sure Confirm n' b k t
+under_sure n n' b k s y t h c flag paid =
     let kp = kept_by y t c in
     record {
-      has = under_stays true k y t c h;
+      has = under_stays b k y t c h;
       flag = λ w. kp.write_error ∙ flag;
       paid = subst (λ d. n' ≤ d.disturbed) (sym kp.tally) paid;
     }
@@ -112,22 +112,19 @@ under_sure n n' k s y t h c flag paid =
 drw_register_there : (s : Port) → s.target.select ≡ no_select → register s.target.select drw_read ≡ DrwRead
 drw_register_there s e = ap (λ x. register x drw_read) e
 
-transfers_read : (k : Hand) (at n : ℕ) (t : Port) → k.task ≡ Read at → Sure Confirm n true k t
-    → Transfers k.task n true k t
-transfers_read k at n t e h = subst (λ a. Transfers a n true k t) (sym e) h
-
-lost_read : (k : Hand) (b : ℕ) (at : ℕ) (s y t : Port) → k.task ≡ Read at → IsAimed k s.target → Completes y t
-    → Stays s y ⊎ Accepts DrwRead true None s y → Within true k t.target
-lost_read k b at s y t e h c (inl w) =
-    within_stays true k y t c (within_carried b true k s y (λ x. refl) (ap (λ i. i.pending) w.target)
+lost_read : (b c : ℕ) (k : Hand) (at : ℕ) (s y t : Port) → 1 ≤ c → access_of k.task ≡ AccessRead at
+    → IsAimed k s.target → Completes y t → Stays s y ⊎ Accepts DrwRead true None s y → Within c k t.target
+lost_read b c k at s y t some e h last (inl w) =
+    within_stays c k y t last (within_carried 0 c k s y (omega arith) (ap (λ i. i.pending) w.target)
     (ap (λ i. i.tar) w.target) (ap (λ i. i.memory) w.target)
-    (within_idle b k s h.up.calm.pending h.up.calm.memory))
-lost_read k b at s y t e h c (inr a) = within_stays true k y t c (within_sent true k y refl
-    (read_sent k at None s y e h a))
+    (within_idle 0 k s h.up.calm.pending h.up.calm.memory))
+lost_read b c k at s y t some e h last (inr a) =
+    within_stays c k y t last (within_sent c k y some (read_sent k at None s y e h a))
 
-drw_read_asked : (n : ℕ) (base : Counted) (b : ℕ) (k : Hand) (at v : ℕ) (s t : Port) → k.task ≡ Read at
-    → base.lost ≤ s.tally.lost → Sure Transfer n b k s → Asks s drw_read v t → Came (At Transfer) n base true k v t
-drw_read_asked n base b k at v s t e l h asks =
+drw_read_asked : (n : ℕ) (base : Counted) (b c : ℕ) (k : Hand) (at v : ℕ) (s t : Port) → b ≤ c → 1 ≤ c
+    → access_of k.task ≡ AccessRead at → (Sure Confirm n c k t → Transfers k.task n c k t)
+    → base.lost ≤ s.tally.lost → Sure Transfer n b k s → Asks s drw_read v t → Came (At Transfer) n base c k v t
+drw_read_asked n base b c k at v s t grows some e sent l h asks =
     let up : Up k.memory s.target = h.has.up in
     let (y, came, last) = free_request_at_rest DrwRead drw_read v s t
     (drw_register_there s up.calm.select) refl up.calm.live up.calm.pending (h.flag refl) up.calm.sticky
@@ -135,67 +132,75 @@ drw_read_asked n base b k at v s t e l h asks =
     elim came [
       | okay a ↦
           (let x : Accepts DrwRead true a.flip s y = a.accepts in
-          came_okay a.is (transfers_read k at n t e (under_sure n n k s y t
-          (read_under k at a.flip s y e h.has x) last (ap (λ i. i.write_error) x.target ∙ h.flag refl)
+          came_okay a.is (sent (under_sure n n c k s y t
+          (read_under c k at a.flip s y some e h.has x) last (ap (λ i. i.write_error) x.target ∙ h.flag refl)
           (omega (arith, a.heard.disturbed_least, h.paid)))))
       | wait a ↦
           (let f : Frame s y = frame_waits DrwRead s y a.defers in
           let same : t ≡ y = none_done y t (f.pending ∙ up.calm.pending) last in
-          let sure : Sure Transfer (n + 1) true k y = record {
-            has = has_framed Transfer b true k s y (λ x. refl) f
+          let sure : Sure Transfer (n + 1) c k y = record {
+            has = has_framed Transfer b c k s y grows f
                 (ap (λ i. i.sticky_error) a.defers.target) h.has;
             flag = λ w. ap (λ i. i.write_error) a.defers.target ∙ h.flag refl;
             paid = omega (arith, a.disturbed, h.paid);
           } in
           came_wait a.is (record {
             free = refl;
-            before = inl (subst (λ z. Sure Transfer (n + 1) true k z)
+            before = inl (subst (λ z. Sure Transfer (n + 1) c k z)
                 (sym same) sure);
           }))
       | lost a w ↦
           (let kp = kept_by y t last in
-          came_lost a.none (lost_read k b at s y t e h.has last w) (omega (arith, a.lost, ap (λ i. i.lost) kp.tally))
+          came_lost a.none (lost_read b c k at s y t some e h.has last w)
+          (omega (arith, a.lost, ap (λ i. i.lost) kp.tally))
           (omega (arith, a.disturbed, ap (λ i. i.disturbed) kp.tally, h.paid)))
     ]
 
 -- A WRITE OF DRW
-drw_write_asked : (n : ℕ) (base : Counted) (b : ℕ) (k : Hand) (v : ℕ) (s t : Port) → drw_register k.task ≡ DrwWrite
-    → is_read k.task ≡ false → base.lost ≤ s.tally.lost → Sure Transfer n b k s
+drw_write_asked : (n : ℕ) (base : Counted) (b c : ℕ) (k : Hand) (v : ℕ) (s t : Port) → b ≤ c
+    → drw_register k.task ≡ DrwWrite → is_read k.task ≡ false → base.lost ≤ s.tally.lost → Sure Transfer n b k s
     → Asks s (request_of (At Transfer) k.task) v t
-    → (Writes DrwWrite n (λ c. Sure Transfer c true k t) t → Transfers k.task n true k t)
-    → Came (At Transfer) n base true k v t
-drw_write_asked n base b k v s t r w l h asks go =
-    write_asked Transfer n base b true k v s t DrwWrite r w refl refl refl refl (λ x. absurd (cc))
-    (λ x. refl) h.has.up.calm (λ x. h.has.up.debug) l h asks go
+    → (Writes DrwWrite n (λ x. Sure Transfer x c k t) t → Transfers k.task n c k t)
+    → Came (At Transfer) n base c k v t
+drw_write_asked n base b c k v s t grows r w l h asks go =
+    write_asked Transfer n base b c k v s t DrwWrite r w refl refl refl refl (λ x. absurd (cc))
+    grows h.has.up.calm (λ x. h.has.up.debug) l h asks go
 
-pub drw_asked : (task : Task) (n : ℕ) (base : Counted) (b : ℕ) (k : Hand) (v : ℕ) (s t : Port) → k.task ≡ task
-    → base.lost ≤ s.tally.lost → Sure Transfer n b k s → Asks s (request_of (At Transfer) k.task) v t
-    → Came (At Transfer) n base true k v t
-drw_asked (Read at) n base b k v s t e l h asks = drw_read_asked n base b k at v s t e l h (subst
-    (λ a. Asks s (request_of (At Transfer) a) v t) e asks)
-drw_asked (Write at word) n base b k v s t e l h asks = drw_write_asked n base b k v s t (ap drw_register e)
-    (ap is_read e) l h asks (λ w. subst (λ a. Transfers a n true k t) (sym e) (refl, w))
-drw_asked (BurstWrite at word) n base b k v s t e l h asks =
-    drw_write_asked n base b k v s t (ap drw_register e) (ap is_read e) l h asks
-    (λ w. subst (λ a. Transfers a n true k t) (sym e) (refl, w))
+pub drw_asked : (task : Task) (n : ℕ) (base : Counted) (b c : ℕ) (k : Hand) (v : ℕ) (s t : Port) → k.task ≡ task
+    → b ≤ c → 1 ≤ c → base.lost ≤ s.tally.lost → Sure Transfer n b k s → Asks s (request_of (At Transfer) k.task) v t
+    → Came (At Transfer) n base c k v t
+drw_asked (Read at) n base b c k v s t e grows some l h asks =
+    drw_read_asked n base b c k at v s t grows some (ap access_of e) (λ x. subst (λ a. Transfers a n c k t) (sym e) x)
+    l h (subst (λ a. Asks s (request_of (At Transfer) a) v t) e asks)
+drw_asked (BurstRead at) n base b c k v s t e grows some l h asks =
+    drw_read_asked n base b c k at v s t grows some (ap access_of e) (λ x. subst (λ a. Transfers a n c k t) (sym e) x)
+    l h (subst (λ a. Asks s (request_of (At Transfer) a) v t) e asks)
+drw_asked (Write at word) n base b c k v s t e grows some l h asks =
+    drw_write_asked n base b c k v s t grows (ap drw_register e) (ap is_read e) l h asks
+    (λ w. subst (λ a. Transfers a n c k t) (sym e) (some, w))
+drw_asked (BurstWrite at word) n base b c k v s t e grows some l h asks =
+    drw_write_asked n base b c k v s t grows (ap drw_register e) (ap is_read e) l h asks
+    (λ w. subst (λ a. Transfers a n c k t) (sym e) (some, w))
 
--- THE REQUEST THAT CONFIRMS: RDBUFF, OR DRW FOR THE NEXT ACCESS OF A BURST
-confirming_pending : (task : Task) (pending : Option Drw) → pending_once_read
+-- THE REQUEST THAT CONFIRMS: RDBUFF, OR DRW FOR THE NEXT ACCESS OF A BURST; IN A BLOCK RESEND TOO
+confirming_pending : (task : Task) (pending : Option Drw) → is_block task ≡ false → pending_once_read
     (confirming_register task) pending ≡ pending
-confirming_pending (Read at) pending = refl
-confirming_pending (Write at word) pending = refl
-confirming_pending (BurstWrite at word) pending = refl
+confirming_pending (Read at) pending single = refl
+confirming_pending (BurstRead at) pending single = absurd (cc)
+confirming_pending (Write at word) pending single = refl
+confirming_pending (BurstWrite at word) pending single = refl
 
-stays_pending : (task : Task) (read : Bool) (flip : Option ℕ) (x y : Port)
+stays_pending : (task : Task) (read : Bool) (flip : Option ℕ) (x y : Port) → is_block task ≡ false
     → Accepts (confirming_register task) read flip x y → y.target.pending ≡ x.target.pending
-stays_pending task read flip x y a = ap (λ i. i.pending) a.target ∙ confirming_pending task x.target.pending
+stays_pending task read flip x y single a =
+    ap (λ i. i.pending) a.target ∙ confirming_pending task x.target.pending single
 
 -- the transfer was done before x, and the request was answered OK from x to y
-done_there : (k : Hand) (r : Register) (read : Bool) (flip : Option ℕ) (x y : Port)
-    → y.target.pending ≡ x.target.pending → Under true k x.target → Succeeded (access_of k.task) k.memory x.target
-    → Accepts r read flip x y → Done true k y.target
-done_there k r read flip x y p h d a = record {
-  begun = refl;
+done_there : (b : ℕ) (k : Hand) (r : Register) (read : Bool) (flip : Option ℕ) (x y : Port)
+    → y.target.pending ≡ x.target.pending → Under b k x.target → Succeeded (access_of k.task) k.memory x.target
+    → Accepts r read flip x y → Done b k y.target
+done_there b k r read flip x y p h d a = record {
+  begun = h.begun;
   up = record {
     calm = record {
       live = a.live;
@@ -212,127 +217,194 @@ done_there k r read flip x y p h d a = record {
 }
 
 -- what its OK tells, by the task
-confirms_at : (task : Task) (n : ℕ) (k : Hand) (x y : Port) (flip : Option ℕ) → k.task ≡ task → Under true k x.target
+confirms_at : (task : Task) (n b : ℕ) (k : Hand) (x y : Port) (flip : Option ℕ) → k.task ≡ task
+    → is_block task ≡ false → Under b k x.target
     → x.target.write_error ≡ false → n ≤ x.tally.disturbed → x.tally.disturbed ≤ y.tally.disturbed → Spares flip x y
     → Succeeded (access_of k.task) k.memory x.target → Accepts (confirming_register task) (request_of
-    (At Confirm) task).read flip x y → Confirms task n true k y
-confirms_at (Read at) n k x y flip e h flag paid more sp d ac =
-    let done : Done true k y.target = done_there k RdbuffRead true flip x y (stays_pending
-    (Read at) true flip x y ac) h d ac in
+    (At Confirm) task).read flip x y → Confirms task n b k y
+confirms_at (BurstRead at) n b k x y flip e single h flag paid more sp d ac = absurd (cc)
+confirms_at (Read at) n b k x y flip e single h flag paid more sp d ac =
+    let done : Done b k y.target = done_there b k RdbuffRead true flip x y (stays_pending
+    (Read at) true flip x y refl ac) h d ac in
+    let by : DoneBy (ahead_of k.task) b k y.target =
+    subst (λ a. DoneBy (ahead_of a) b k y.target) (sym e) done in
     let answer : plain_answer (access_of k.task) k.memory ≡ Value (word_at at k.memory) =
     d.answer ∙ ap (λ a. answer_of (access_of a) k.memory) e in
     let buffer : x.target.buffer ≡ Some (word_at at k.memory) =
     subst (λ a. Buffered (access_of a) k.memory x.target) e d.buffered in
     let back = buffer_returned RdbuffRead flip (word_at at k.memory) x y refl buffer ac in
-    let resent : (n' : ℕ) → n' ≤ y.tally.disturbed → Resent Confirm (word_at at k.memory) n' true k y =
+    let resent : (n' : ℕ) → n' ≤ y.tally.disturbed → Resent Confirm (word_at at k.memory) n' b k y =
     (λ n' p. record {
-      returned = (done, answer);
+      returned = (by, answer);
       last = back.1;
       flag = ap (λ i. i.write_error) ac.target ∙ flag;
       paid = p;
     }) in (
       word_at at k.memory,
       reads_from (word_at at k.memory) n
-          (λ c. Resent Confirm (word_at at k.memory) c true k y) flip x y back.0 sp (resent n (omega arith))
+          (λ c. Resent Confirm (word_at at k.memory) c b k y) flip x y back.0 sp (resent n (omega arith))
           (λ i. resent (n + 1) (omega arith)),
     )
-confirms_at (Write at word) n k x y flip e h flag paid more sp d ac =
+confirms_at (Write at word) n b k x y flip e single h flag paid more sp d ac =
     record {
-      done = done_there k RdbuffRead true flip x y (stays_pending (Write at word) true flip x y ac) h d ac;
+      done = done_there b k RdbuffRead true flip x y (stays_pending (Write at word) true flip x y refl ac) h d ac;
       answered = d.answer ∙ ap (λ a. answer_of (access_of a) k.memory) e;
       flag = ap (λ i. i.write_error) ac.target ∙ flag;
       paid = omega arith;
     }
-confirms_at (BurstWrite at word) n k x y flip e h flag paid more sp d ac =
-    let confirmed : (n' : ℕ) → n' ≤ y.tally.disturbed → Confirmed n' true k y =
+confirms_at (BurstWrite at word) n b k x y flip e single h flag paid more sp d ac =
+    let confirmed : (n' : ℕ) → n' ≤ y.tally.disturbed → Confirmed n' b k y =
     (λ n' i. record {
-      done = done_there k DrwWrite false flip x y
-          (stays_pending (BurstWrite at word) false flip x y ac) h d ac;
+      done = done_there b k DrwWrite false flip x y
+          (stays_pending (BurstWrite at word) false flip x y refl ac) h d ac;
       answered = d.answer ∙ ap (λ a. answer_of (access_of a) k.memory) e;
       flag = ap (λ i. i.write_error) ac.target ∙ flag;
       paid = i;
     }) in
-    writes_from DrwWrite n (λ c. Confirmed c true k y) flip x y ac.line sp (confirmed n (omega arith))
+    writes_from DrwWrite n (λ c. Confirmed c b k y) flip x y ac.line sp (confirmed n (omega arith))
     (λ i. confirmed (n + 1) (omega arith))
 
--- a request that confirms a transfer, whichever it is: what its OK leaves is the caller's
-module _ (p : Place) (r : Register) (q : Request) (n : ℕ) (base : Counted) (k : Hand) (v : ℕ) (x y t : Port)
-    (plain : is_exempt_place p ≡ false) (confirms : is_confirm p ≡ true)
-    (power : q.ap ≡ true → x.target.debug_power ≡ true) where
-  broken_there : Under true k x.target → Failed (access_of k.task) k.memory x.target → Refuses r q.ap x y
-      → Broken p true k y.target
-  broken_there h d z =
+-- a request that confirms a transfer, whichever it is, with what is known of the transfer; what comes of it is the
+-- caller's
+module _ (r : Register) (q : Request) (h : Hand) (x y : Port) (power : q.ap ≡ true → x.target.debug_power ≡ true) where
+  broken_there : Under 1 h x.target → Failed (access_of h.task) h.memory x.target → Refuses r q.ap x y
+      → Broken Confirm 1 h y.target
+  broken_there u d z =
       let f : Frame x y = frame_refuses r q.ap x y z in
       record {
-        place = confirms;
-        begun = refl;
-        live = f.reset ∙ h.live;
-        select = f.select ∙ h.select;
-        debug = f.debug ∙ h.debug;
-        increments = f.increments ∙ h.increments;
+        place = refl;
+        begun = u.begun;
+        live = f.reset ∙ u.live;
+        select = f.select ∙ u.select;
+        debug = f.debug ∙ u.debug;
+        increments = f.increments ∙ u.increments;
         pending = f.pending ∙ d.pending;
         memory = f.memory ∙ d.unchanged;
-        after = sym d.memory ∙ d.unchanged;
-        answer = d.answer;
+        fails = record { after = sym d.memory ∙ d.unchanged; answer = d.answer };
       }
 
-  pub confirming_came : base.lost ≤ x.tally.lost → Under true k x.target → x.target.write_error ≡ false
+  -- the transfer was a bus error
+  pub record Broke (n : ℕ) (t : Port) : Type 0 where
+    pub same : t ≡ y
+    pub frame : Frame x y
+    pub broken : Broken Confirm 1 h y.target
+    pub sticky : y.target.sticky_error ≡ true
+    pub flag : y.target.write_error ≡ false
+    pub paid : n ≤ y.tally.disturbed
+
+  pub confirming_came : (job : Job) (n : ℕ) (base : Counted) (b : ℕ) (k : Hand) (v : ℕ) (t : Port)
+      → base.lost ≤ x.tally.lost → Under 1 h x.target → x.target.write_error ≡ false
       → n ≤ x.tally.disturbed → Completes y t
-      → (Succeeded (access_of k.task) k.memory x.target → SeesOkay r q.read v x y → During (At p) n true k t)
-      → (Sure Confirm (n + 1) true k t → Before (At p) (n + 1) true k t)
-      → (Succeeded (access_of k.task) k.memory x.target → Accepts r q.read None x y → Within true k y.target)
-      → ConfirmsThen (access_of k.task) k.memory r q v x y → Came (At p) n base true k v t
-  confirming_came l h flag paid last good again gone (confirms_okay d a) = came_okay a.is (good d a)
-  confirming_came l h flag paid last good again gone (confirms_wait sent a) =
+      → (Succeeded (access_of h.task) h.memory x.target → SeesOkay r q.read v x y → During job n b k t)
+      → (SeesWait r v x y → Sure Confirm (n + 1) 1 h t → Waiting job n b k t)
+      → (Broke n t → FaultedAt job n b k t)
+      → (Within 1 h y.target → Within b k y.target)
+      → (Succeeded (access_of h.task) h.memory x.target → Accepts r q.read None x y → Within b k y.target)
+      → ConfirmsThen (access_of h.task) h.memory r q v x y → Came job n base b k v t
+  confirming_came job n base b k v t l u flag paid last good again bad lift gone (confirms_okay d a) =
+      came_okay a.is (good d a)
+  confirming_came job n base b k v t l u flag paid last good again bad lift gone (confirms_wait sent a) =
       let f : Frame x y = frame_waits r x y a.defers in
-      let under : Under true k y.target = has_framed Confirm true true k x y (λ e. e) f (ap
-      (λ i. i.sticky_error) a.defers.target) h in
-      came_wait a.is (record {
-        free = plain;
-        before = again (under_sure n (n + 1) k x y t under last
-            ((ap (λ i. i.write_error) a.defers.target) ∙ flag) (omega (arith, a.disturbed)));
-      })
-  confirming_came l h flag paid last good again gone (confirms_fault d a) =
-      let same : t ≡ y = none_done y t ((ap (λ i. i.pending) a.refuses.target) ∙ d.pending) last in
-      let there : Refused p n true k y = by_error (broken_there h d a.refuses)
-      (refused_with_power r q.ap x y a.refuses power ∙ d.sticky_error)
-      ((ap (λ i. i.write_error) a.refuses.target) ∙ flag) (omega (arith, a.heard.disturbed_least)) in
-      came_fault a.is (record { free = plain; refused = subst (λ z. Refused p n true k z) (sym same) there })
-  confirming_came l h flag paid last good again gone (confirms_lost sent a w) =
+      let under : Under 1 h y.target = has_framed Confirm 1 1 h x y (omega arith) f (ap
+      (λ i. i.sticky_error) a.defers.target) u in
+      came_wait a.is (again a (under_sure n (n + 1) 1 h x y t under last
+      ((ap (λ i. i.write_error) a.defers.target) ∙ flag) (omega (arith, a.disturbed))))
+  confirming_came job n base b k v t l u flag paid last good again bad lift gone (confirms_fault d a) =
+      came_fault a.is (bad (record {
+        same = none_done y t ((ap (λ i. i.pending) a.refuses.target) ∙ d.pending) last;
+        frame = frame_refuses r q.ap x y a.refuses;
+        broken = broken_there u d a.refuses;
+        sticky = refused_with_power r q.ap x y a.refuses power ∙ d.sticky_error;
+        flag = ap (λ i. i.write_error) a.refuses.target ∙ flag;
+        paid = omega (arith, a.heard.disturbed_least);
+      }))
+  confirming_came job n base b k v t l u flag paid last good again bad lift gone (confirms_lost sent a w) =
       let kp = kept_by y t last in
-      let within : Within true k x.target = within_sent true k x refl sent in
-      came_lost a.none (within_stays true k y t last (elim w [
-        | inl z ↦ within_carried true true k x y (λ e. e) (ap (λ i. i.pending) z.target) (ap (λ i. i.tar) z.target)
-            (ap (λ i. i.memory) z.target) within
+      let within : Within 1 h x.target = within_sent 1 h x (omega arith) sent in
+      came_lost a.none (within_stays b k y t last (elim w [
+        | inl z ↦ lift (within_carried 1 1 h x y (omega arith) (ap (λ i. i.pending) z.target)
+            (ap (λ i. i.tar) z.target) (ap (λ i. i.memory) z.target) within)
         | inr z ↦ elim z [
           | inl u ↦ gone u.0 u.1
-          | inr u ↦ within_carried true true k x y (λ e. e) (ap (λ i. i.pending) u.1.target)
-              (ap (λ i. i.tar) u.1.target) (ap (λ i. i.memory) u.1.target) within
+          | inr u ↦ lift (within_carried 1 1 h x y (omega arith) (ap (λ i. i.pending) u.1.target)
+              (ap (λ i. i.tar) u.1.target) (ap (λ i. i.memory) u.1.target) within)
         ]
       ])) (omega (arith, a.lost, ap (λ i. i.lost) kp.tally))
       (omega (arith, a.disturbed, ap (λ i. i.disturbed) kp.tally))
 
-pub confirm_asked : (n : ℕ) (base : Counted) (b : ℕ) (k : Hand) (v : ℕ) (s t : Port) → base.lost ≤ s.tally.lost
-    → Sure Confirm n b k s → Asks s (request_of (At Confirm) k.task) v t → Came (At Confirm) n base b k v t
-confirm_asked n base b k v s t l h asks =
-    let u : Under b k s.target = h.has in
+-- as many accesses more are begun
+under_more : (b c : ℕ) (k : Hand) (s : Port) → 1 ≤ c → Under b k s.target → Under c k s.target
+under_more b c k s some h = record {
+  live = h.live;
+  select = h.select;
+  debug = h.debug;
+  increments = h.increments;
+  begun = some;
+  sent = h.sent;
+}
+
+pub sure_more : (n b c : ℕ) (k : Hand) (s : Port) → 1 ≤ c → Sure Confirm n b k s → Sure Confirm n c k s
+sure_more n b c k s some h = record { has = under_more b c k s some h.has; flag = h.flag; paid = h.paid }
+
+broken_more : (b c : ℕ) (k : Hand) (s : Port) → 1 ≤ c → Broken Confirm b k s.target → Broken Confirm c k s.target
+broken_more b c k s some h = record {
+  place = h.place;
+  begun = some;
+  live = h.live;
+  select = h.select;
+  debug = h.debug;
+  increments = h.increments;
+  pending = h.pending;
+  memory = h.memory;
+  fails = h.fails;
+}
+
+within_more : (b c : ℕ) (k : Hand) (s : Port) → b ≤ c → Within b k s.target → Within c k s.target
+within_more b c k s grows h = within_carried b c k s s grows refl refl refl h
+
+-- the request that confirms; c accesses are begun by it
+module _ (n : ℕ) (base : Counted) (b c : ℕ) (k : Hand) (v : ℕ) (s t : Port) (some : 1 ≤ c) where
+  pub confirm_came : base.lost ≤ s.tally.lost → Sure Confirm n b k s → Asks s (request_of (At Confirm) k.task) v t
+      → ((x y : Port) → Completes y t → Under c k x.target → x.target.write_error ≡ false → n ≤ x.tally.disturbed
+      → Succeeded (access_of k.task) k.memory x.target
+      → SeesOkay (confirming_register k.task) (request_of (At Confirm) k.task).read v x y → During (At Confirm) n c k t)
+      → ((x y : Port) → Completes y t → Succeeded (access_of k.task) k.memory x.target → Under c k x.target
+      → Accepts (confirming_register k.task) (request_of (At Confirm) k.task).read None x y → Within c k y.target)
+      → Came (At Confirm) n base c k v t
+  confirm_came l h asks good gone =
+      let u : Under b k s.target = h.has in
+      let r : Register = confirming_register k.task in
+      let q : Request = request_of (At Confirm) k.task in
+      let (x, y, first, came, last) = confirming_request (access_of k.task) k.memory r q v s t u.sent
+      (register_there Confirm k.task s u.select) (not_exempt Confirm k.task refl) u.live (h.flag refl)
+      (λ e. u.debug) asks in
+      let kp = kept_by s x first in
+      let ux : Under b k x.target = under_stays b k s x first u in
+      let flag : x.target.write_error ≡ false = kp.write_error ∙ h.flag refl in
+      let paid : n ≤ x.tally.disturbed = omega (arith, ap (λ i. i.disturbed) kp.tally, h.paid) in
+      confirming_came r q k x y (λ e. ux.debug) (At Confirm) n base c k v t
+      (omega (arith, ap (λ i. i.lost) kp.tally)) (under_more b 1 k x (omega arith) ux) flag paid last
+      (λ d a. good x y last (under_more b c k x some ux) flag paid d a)
+      (λ a w. record { free = refl; before = inl (sure_more (n + 1) 1 c k t some w) })
+      (λ z. record {
+        free = refl;
+        refused = subst (λ p. Refused Confirm n c k p) (sym z.same)
+            (by_error (own_error (broken_more 1 c k y some z.broken)) z.sticky z.flag z.paid);
+      })
+      (λ w. within_more 1 c k y some w)
+      (λ d ac. gone x y last d (under_more b c k x some ux) ac)
+      came
+
+pub confirm_asked : (n : ℕ) (base : Counted) (b c : ℕ) (k : Hand) (v : ℕ) (s t : Port) → 1 ≤ c
+    → is_block k.task ≡ false → base.lost ≤ s.tally.lost
+    → Sure Confirm n b k s → Asks s (request_of (At Confirm) k.task) v t → Came (At Confirm) n base c k v t
+confirm_asked n base b c k v s t some single l h asks =
     let r : Register = confirming_register k.task in
     let q : Request = request_of (At Confirm) k.task in
-    let (x, y, first, came, last) = confirming_request (access_of k.task) k.memory r q v s t u.sent
-    (register_there Confirm k.task s u.select) (not_exempt Confirm k.task refl) u.live (h.flag refl)
-    (λ e. u.debug) asks in
-    let kp = kept_by s x first in
-    let ux : Under true k x.target = subst (λ c. Under c k x.target) u.begun (under_stays b k s x first u) in
-    let flag : x.target.write_error ≡ false = kp.write_error ∙ h.flag refl in
-    let paid : n ≤ x.tally.disturbed = omega (arith, ap (λ i. i.disturbed) kp.tally, h.paid) in
-    subst (λ c. Came (At Confirm) n base c k v t) (sym u.begun)
-    (confirming_came Confirm r q n base k v x y t refl refl (λ e. ux.debug)
-    (omega (arith, ap (λ i. i.lost) kp.tally)) ux flag paid last
-    (λ d a. (let ac : Accepts r q.read a.flip x y = a.accepts in
-    subst (λ z. During (At Confirm) n true k z) (sym
-    (none_done y t (stays_pending k.task q.read a.flip x y ac ∙ d.pending) last))
-    (confirms_at k.task n k x y a.flip refl ux flag paid a.heard.disturbed_least a.spares d ac)))
-    (λ w. inl w)
-    (λ d ac. within_done true k y refl (stays_pending k.task q.read None x y ac ∙ d.pending)
+    confirm_came n base b c k v s t some l h asks
+    (λ x y last ux flag paid d a. (let ac : Accepts r q.read a.flip x y = a.accepts in
+    subst (λ z. During (At Confirm) n c k z) (sym
+    (none_done y t (stays_pending k.task q.read a.flip x y single ac ∙ d.pending) last))
+    (confirms_at k.task n c k x y a.flip refl single ux flag paid a.heard.disturbed_least a.spares d ac)))
+    (λ x y last d ux ac. within_done c k y some (stays_pending k.task q.read None x y single ac ∙ d.pending)
     (ap (λ i. i.memory) ac.target ∙ d.memory))
-    came)

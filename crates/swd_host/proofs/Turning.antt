@@ -1,7 +1,7 @@
 -- One call of the wire, as the engine asks for it: what the engine and the port keep.
 use Rattle.std.proofs.Common.{◌≡◌, ◌+◌, ◌-◌, ◌*◌, ◌^◌, ◌≤◌, ◌<◌, ℕ, Bool, true, false, refl, sym, ap, subst, inl, inr}
 use Rattle.std.proofs.Common.{arith, ◌∙◌}
-use Rattle.std.specs.Prelude.{Option, Some, None, ◌⊎◌, ◌||◌, ◌&&◌, not, ◌==◌, if◌then◌else◌}
+use Rattle.std.specs.Prelude.{Option, Some, None, ◌⊎◌, ◌||◌, ◌&&◌, not, ◌==◌, if◌then◌else◌, max}
 use Rattle.swd_bits.specs.Bits.{bit}
 use Rattle.swd_bits.specs.declared.request.Request.{Request}
 use Rattle.swd_port.specs.declared.wire.Due.{Due}
@@ -21,7 +21,7 @@ use Rattle.swd_host.specs.declared.outcome.Outcome.TheVariants.{Opened, Answered
 use Rattle.swd_host.specs.declared.task.Task.{Task}
 use Rattle.swd_host.specs.declared.request.Place.{Place}
 use Rattle.swd_host.specs.declared.request.Place.TheVariants.{Identify, Wipe, Inspect, Select, Power, Powered}
-use Rattle.swd_host.specs.declared.request.Place.TheVariants.{Configure, Recall, Configured, Aim, Transfer, Confirm}
+use Rattle.swd_host.specs.declared.request.Place.TheVariants.{Configure, Recall, Configured, Aim, Transfer, Confirm, Behind}
 use Rattle.swd_host.specs.declared.request.Job.{Job}
 use Rattle.swd_host.specs.declared.request.Job.TheVariants.{At, Resend, Status, LastStatus, Clear, Check}
 use Rattle.swd_host.specs.declared.engine.Cue.{Cue}
@@ -31,13 +31,16 @@ use Rattle.swd_host.specs.declared.engine.Phase.TheVariants.{Ask, Data, Waited, 
 use Rattle.swd_host.specs.declared.engine.State.{State}
 use Rattle.swd_host.specs.declared.engine.State.TheVariants.{Leading, Doing, Resting}
 use Rattle.swd_host.specs.declared.engine.Engine.{Engine}
-use Rattle.swd_host.specs.Requests.{request_of, word_for, confirmed_by, is_confirm, begins}
+use Rattle.swd_host.specs.Requests.{request_of, word_for, confirmed_by, is_confirm, is_behind, begins, begins_next}
+use Rattle.swd_host.specs.Tasks.{most_begun}
+use Rattle.swd_host.specs.Progress.{left_again, left_cleared, least_for}
+use Rattle.swd_host.specs.Tracks.{BusErrorOf, own_error, next_error, begun_once}
 use Rattle.swd_host.specs.Engines.{lead_cue, cue_of, cue_at, data_cue, is_ahead_at, is_resting, one_more, job_in}
-use Rattle.swd_host.specs.Progress.{left_at, left_for, left_in, clears_last, least_in, open_requests, is_opening_place, is_job_of}
+use Rattle.swd_host.specs.Progress.{left_at, left_for, left_in, least_in, open_requests, is_opening_place, is_job_of}
 use Rattle.swd_host.specs.Progress.{is_state_of, is_quiet, moves_first, calls_left}
 use Rattle.swd_host.specs.Tracks.{Hand, Counted, Before, Refused, by_damage, by_error, Tracks}
 use Rattle.swd_host.specs.Tracks.{TracksEngine, Follows, IsTask, Saw, Left, TakenFor, Hears, HasSent, HasRead}
-use Rattle.swd_host.specs.Tracks.{hand_of, begins_in, state_seen, due_of, DueAt, DueFits}
+use Rattle.swd_host.specs.Tracks.{hand_of, state_seen, due_of, DueAt, DueFits}
 use Rattle.swd_host.specs.Turns.{Sees, lands_from, IsCountable, Goes}
 use Rattle.swd_host.specs.Early.{Early, IsEarly, Resumes, early, over, EarlySaw, EarlyLeft, EarlyTaken, HearsEarly}
 use Rattle.swd_host.specs.Early.{SendsEarly, ReadsEarly}
@@ -119,6 +122,9 @@ tracked base m e s x at h = subst (λ y. Tracks y (base.disturbed + e.events) e.
 left_least : (p : Place) → 2 ≤ left_at p
 left_least p = grind arith
 
+again_least : (p : Place) → 2 ≤ left_again p
+again_least p = grind arith
+
 -- what confirms a write isn't the opening's last
 confirming_left : (p back : Place) (task : Task) (aims : Bool) → confirmed_by p task aims ≡ Some back → 3 ≤ left_at p
 confirming_left Configured back task aims e = absurd (cc)
@@ -133,31 +139,44 @@ confirming_left Recall back task aims e = omega arith
 confirming_left Aim back task aims e = omega arith
 confirming_left Transfer back task aims e = omega arith
 confirming_left Confirm back task aims e = omega arith
+confirming_left Behind back task aims e = omega arith
 
 no_confirm : (p : Place) → is_confirm p ≡ true → is_opening_place p ≡ false
 no_confirm p h = grind arith
 
-refused_left : (p : Place) (n : ℕ) (b : Bool) (k : Hand) (s : Port) → is_opening_place p ≡ true → Refused p n b k s
+no_behind : (p : Place) → is_behind p ≡ true → is_opening_place p ≡ false
+no_behind p h = grind arith
+
+no_bus_error : (p : Place) (b : ℕ) (k : Hand) (s : Port) → BusErrorOf p b k s.target → is_opening_place p ≡ false
+no_bus_error p b k s (own_error h) = no_confirm p h.place
+no_bus_error p b k s (next_error h) = no_behind p h.place
+
+refused_left : (p : Place) (n b : ℕ) (k : Hand) (s : Port) → is_opening_place p ≡ true → Refused p n b k s
     → 2 ≤ left_at p - 1
 refused_left p n b k s o (by_damage h) = let l : 3 ≤ left_at p =
     confirming_left p h.back k.task k.aims h.confirms in omega arith
-refused_left p n b k s o (by_error h i w paid) = absurd (let both : true ≡ false = sym o ∙ no_confirm p h.place in cc)
+refused_left p n b k s o (by_error h i w paid) =
+    absurd (let both : true ≡ false = sym o ∙ no_bus_error p b k s h in cc)
 
-clear_left : (p : Place) (last : Bool) → 2 ≤ (if last then 2 else left_at p + 3)
+clear_left : (p : Place) (error : Bool) → 2 ≤ (if error then left_cleared p + 2 else left_at p + 3)
 clear_left p true = omega arith
 clear_left p false = omega (arith, left_least p)
 
-check_left : (p : Place) (error : Bool) → is_opening_place p ≡ true
-    → 2 ≤ (if error && is_confirm p then 1 else left_at p + 2)
-check_left p error o = grind arith
+cleared_least : (p : Place) → is_opening_place p ≡ true → 1 ≤ left_cleared p
+cleared_least p o = grind arith
 
-before_left : (job : Job) (n : ℕ) (b : Bool) (k : Hand) (s : Port) → is_job_of true job ≡ true → Before job n b k s
+check_left : (p : Place) (error : Bool) → is_opening_place p ≡ true
+    → 2 ≤ (if error then left_cleared p + 1 else left_at p + 2)
+check_left p true o = omega (arith, cleared_least p o)
+check_left p false o = omega (arith, left_least p)
+
+before_left : (job : Job) (n b : ℕ) (k : Hand) (s : Port) → is_job_of true job ≡ true → Before job n b k s
     → 2 ≤ left_for job
 before_left (At p) n b k s o h = left_least p
-before_left (Resend p) n b k s o h = left_least p
+before_left (Resend p) n b k s o h = again_least p
 before_left (Status p) n b k s o h = refused_left p n b k s o h
 before_left LastStatus n b k s o h = absurd h
-before_left (Clear p owed) n b k s o h = clear_left p (clears_last p owed)
+before_left (Clear p owed) n b k s o h = clear_left p owed.error
 before_left (Check p owed) n b k s o h = check_left p owed.error o
 
 -- what holds early at a state
@@ -173,23 +192,74 @@ resumed_left base start e s job at opening (over m may h) =
     before_left job (base.disturbed + e.events) e.begun (hand_of e m) s opening
     (tracked base m e s (Doing job Ask) at h.tracks)
 
-opening_begins : (job : Job) → is_job_of true job ≡ true → begins job ≡ false
-opening_begins job h = grind arith
+opening_begins : (job : Job) (task : Task) → is_job_of true job ≡ true → begins job task ≡ 0
+opening_begins job task h = grind arith
 
-begins_at : (job : Job) → begins job ≡ true → job ≡ At Transfer
-begins_at job h = grind arith
+-- a request was sent for each access that is begun, and for TAR
+next_least : (task : Task) (aims : Bool) → bit aims + begins_next task ≤ bit aims + 1 + 1
+next_least task aims = grind arith
+
+begins_least : (job : Job) (task : Task) (aims : Bool) → 1 ≤ begins job task
+    → bit aims + begins job task ≤ least_for aims job + 1
+begins_least (At Transfer) task aims some = omega arith
+begins_least (At Confirm) task aims some = next_least task aims
+begins_least (At Identify) task aims some = absurd (omega arith)
+begins_least (At Wipe) task aims some = absurd (omega arith)
+begins_least (At Inspect) task aims some = absurd (omega arith)
+begins_least (At Select) task aims some = absurd (omega arith)
+begins_least (At Power) task aims some = absurd (omega arith)
+begins_least (At Powered) task aims some = absurd (omega arith)
+begins_least (At Configure) task aims some = absurd (omega arith)
+begins_least (At Recall) task aims some = absurd (omega arith)
+begins_least (At Configured) task aims some = absurd (omega arith)
+begins_least (At Aim) task aims some = absurd (omega arith)
+begins_least (At Behind) task aims some = absurd (omega arith)
+begins_least (Resend p) task aims some = absurd (omega arith)
+begins_least (Status p) task aims some = absurd (omega arith)
+begins_least LastStatus task aims some = absurd (omega arith)
+begins_least (Clear p owed) task aims some = absurd (omega arith)
+begins_least (Check p owed) task aims some = absurd (omega arith)
+
+next_few : (task : Task) → begins_next task ≤ most_begun task
+next_few task = grind arith
+
+one_few : (task : Task) → 1 ≤ most_begun task
+one_few task = grind arith
+
+begins_few : (job : Job) (task : Task) → begins job task ≤ most_begun task
+begins_few (At Transfer) task = one_few task
+begins_few (At Confirm) task = next_few task
+begins_few (At Identify) task = omega arith
+begins_few (At Wipe) task = omega arith
+begins_few (At Inspect) task = omega arith
+begins_few (At Select) task = omega arith
+begins_few (At Power) task = omega arith
+begins_few (At Powered) task = omega arith
+begins_few (At Configure) task = omega arith
+begins_few (At Recall) task = omega arith
+begins_few (At Configured) task = omega arith
+begins_few (At Aim) task = omega arith
+begins_few (At Behind) task = omega arith
+begins_few (Resend p) task = omega arith
+begins_few (Status p) task = omega arith
+begins_few LastStatus task = omega arith
+begins_few (Clear p owed) task = omega arith
+begins_few (Check p owed) task = omega arith
+
+max_few : (a b most : ℕ) → a ≤ most → b ≤ most → max a b ≤ most
+max_few a b most h i = grind arith
+
+max_grown : (a b : ℕ) → a < max a b → max a b ≡ b
+max_grown a b h = grind arith
+
+max_none : (a b : ℕ) → a ≡ 0 → b ≡ 0 → max a b ≡ 0
+max_none a b h i = grind arith
 
 one_more_least : (n : ℕ) → (n ≤ one_more n) × (one_more n ≤ n + 1)
 one_more_least n = grind arith
 
 one_more_exact : (n : ℕ) → n + 1 < 2 ^ 64 → one_more n ≡ n + 1
 one_more_exact n h = grind arith
-
-or_false : (a b : Bool) → a ≡ false → b ≡ false → a || b ≡ false
-or_false a b h i = grind arith
-
-or_true : (a b : Bool) → a || b ≡ true → b ≡ false → a ≡ true
-or_true a b h i = grind arith
 
 pub ask_goes : (e f : Engine) (s t : Port) (q : Request) (v : ℕ) → cue_of e ≡ CueAsk q → Asks s q v t
     → open_requests f + 1 ≤ open_requests e → f.requests ≡ one_more e.requests → Sees v e f
@@ -210,12 +280,12 @@ ask_goes e f s t q v cue asks left sent sees tracks hears =
     let follows : (base : Counted) (m : PlainMemory) → Follows base m e s → Follows base m f t = λ base m h. (
     let before : Before a.job (base.disturbed + e.events) e.begun (hand_of e m) s =
     tracked base m e s (Doing a.job Ask) a.at h.tracks in
-    let saw : Saw a.job v (base.disturbed + e.events) base (begins a.job || e.begun) (hand_of e m) t =
-    ask_saw a.job (base.disturbed + e.events) base e.begun (hand_of e m) v s t h.lost before asked in
+    let saw : Saw a.job v (base.disturbed + e.events) base (max e.begun (begins a.job e.task)) (hand_of e m) t =
+    ask_saw a.job (base.disturbed + e.events) base e.begun (hand_of e m) v s t h.lost h.task before asked in
     record {
       task = subst IsTask (sym sees.task) h.task;
       lost = omega (arith, c.lost_least, h.lost);
-      tracks = tracks base m t (subst (λ j. Saw j v (base.disturbed + e.events) base (begins j || e.begun)
+      tracks = tracks base m t (subst (λ j. Saw j v (base.disturbed + e.events) base (max e.begun (begins j e.task))
           (hand_of e m) t) (sym job) saw);
     }) in
     let step : (base : Counted) (start : Port) → base.lost ≤ s.tally.lost → IsEarly base start e s
@@ -223,21 +293,28 @@ ask_goes e f s t q v cue asks left sent sees tracks hears =
     (subst (λ j. EarlySaw j v (base.disturbed + e.events) base e.stray start t) (sym job)
     (ask_early (base.disturbed + e.events) base e.stray start v s t e.task few a.job
     (early_at base start e s (Doing a.job Ask) a.at h) asked)) in
-    let begun_is : f.begun ≡ (begins a.job || e.begun) = sees.begun ∙ ap (λ j. begins j || e.begun) job in
+    let begun_is : f.begun ≡ max e.begun (begins a.job e.task) = sees.begun ∙ ap (λ j. max e.begun (begins j e.task)) job
+    in
     record {
       task = sees.task;
       aims = sees.aims;
       tries = sees.tries;
       part = sees.part;
-      unbegun = λ opening h. begun_is ∙ or_false (begins a.job) e.begun (opening_begins a.job (part_of true opening)) h;
+      bursts = sees.bursts;
+      few = λ few. subst (λ b. b ≤ most_begun e.task) (sym begun_is)
+          (max_few e.begun (begins a.job e.task) (most_begun e.task) few (begins_few a.job e.task));
+      unbegun = λ opening h. begun_is
+          ∙ max_none e.begun (begins a.job e.task) h (opening_begins a.job e.task (part_of true opening));
       more = omega (arith, sent, more.0);
       spends = omega (arith, sent, more.1, left);
       least = λ few. omega (arith, exact few, sees.least);
-      begun = λ few not_yet now. (
-          let at : a.job ≡ At Transfer = begins_at a.job (or_true (begins a.job) e.begun (sym begun_is ∙ now) not_yet)
-          in
-          let here : least_in e.aims e.state ≡ bit e.aims = ap (least_in e.aims) (a.at ∙ ap (λ j. Doing j Ask) at) in
-          omega (arith, exact few, here));
+      begun = λ few grows. (
+          let by : f.begun ≡ begins a.job e.task = begun_is ∙ max_grown e.begun (begins a.job e.task)
+          (subst (λ b. e.begun < b) begun_is grows) in
+          let here : least_in e.aims e.state ≡ least_for e.aims a.job = ap (least_in e.aims) a.at in
+          let least : bit e.aims + begins a.job e.task ≤ least_for e.aims a.job + 1 =
+          begins_least a.job e.task e.aims (omega arith) in
+          omega (arith, exact few));
       follows = follows;
       resumes = resumes_by e f s t sees.task c.lost_least
           (still_early e f s t sees.task c.lost_least step) follows;
@@ -299,12 +376,13 @@ moves e f s t lands tally identified follows steps = record {
   aims = lands.aims;
   tries = lands.tries;
   part = lands.part;
-  unbegun = λ opening h. (let back : f.begun ≡ true → ⊥ = (λ now. absurd
-      (let both : true ≡ false = sym (lands.begun now) ∙ h in cc)) in not_true f.begun back);
+  bursts = lands.bursts;
+  few = λ few. omega (arith, lands.begun);
+  unbegun = λ opening h. omega (arith, lands.begun);
   more = omega (arith, lands.requests);
   spends = omega (arith, lands.requests, lands.left);
   least = λ few. omega (arith, lands.requests, lands.least);
-  begun = λ few not_yet now. absurd (let both : true ≡ false = sym (lands.begun now) ∙ not_yet in cc);
+  begun = λ few grows. absurd (omega (arith, lands.begun));
   follows = follows;
   resumes = resumes_by e f s t lands.task (omega (arith, ap (λ i. i.lost) tally)) steps follows;
   identification = identified;
@@ -415,7 +493,7 @@ give_goes e f s t sent range cue gives lands tracks sends =
           (sends base start t (early_left_at base start e t (Doing p.job Data) p.at left))
     ])
 
-passed_left : (n tries : ℕ) (base : Counted) (b : Bool) (k : Hand) (x : State) (stray : Bool) (task : Task)
+passed_left : (n tries : ℕ) (base : Counted) (b : ℕ) (k : Hand) (x : State) (stray : Bool) (task : Task)
     (s t : Port) → cue_at x stray task ≡ CuePass → Passes s t → Tracks x n tries base b k s → Left x n b k t
 passed_left n tries base b k (Doing job Waited) stray task s t e passes h = waiting_passed job n b k s t passes h
 passed_left n tries base b k (Doing job Faulted) stray task s t e passes h = faulted_passed job n b k s t passes h
@@ -454,7 +532,7 @@ some_ones : (stray : Bool) (ones low : ℕ) (switch : Bool) → lead_cue stray �
 some_ones true ones low switch e none = absurd (let is : 100 ≡ ones = cc in omega arith)
 some_ones false ones low switch e none = absurd (let is : 56 ≡ ones = cc in omega arith)
 
-led_left : (n tries : ℕ) (base : Counted) (b : Bool) (k : Hand) (x : State) (stray : Bool) (task : Task)
+led_left : (n tries : ℕ) (base : Counted) (b : ℕ) (k : Hand) (x : State) (stray : Bool) (task : Task)
     (ones low : ℕ) (switch : Bool) (s t : Port) → cue_at x stray task ≡ Lead ones switch low → Leads s ones t → Tracks x n tries base b k s
     → Left x n b k t
 led_left n tries base b k Leading stray task ones low switch s t e leads h =
