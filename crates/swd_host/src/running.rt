@@ -147,11 +147,11 @@ fn access<W: Wire>(
 
 // Does a list over a target that the engine has opened, adds the answers to those that are there, and
 // ends a list that is whole with eight idle cycles.
-fn perform<W: Wire>(
+fn perform<W: Wire, A: Allocator>(
     wire: &mut W,
     engine: &mut Engine,
     accesses: &[Access],
-    answers: &mut Vec<Answer>,
+    answers: &mut Vec<Answer, A>,
 ) -> End
     requires opened { HasOpened engine.old }
     requires due { (W.port wire.old).link.due ≡ Nothing }
