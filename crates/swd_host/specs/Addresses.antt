@@ -13,9 +13,8 @@ abbrev pub is_known : Option ℕ → ℕ → Bool
 is_known None at = false
 is_known (Some known) at = known == at
 
--- the access that follows a write at an address continues its burst: it is a write at the next address in the same
--- kilobyte
-abbrev pub continues : ℕ → Option Access → Bool
-continues at None = false
-continues at (Some (Read next)) = false
-continues at (Some (Write next word)) = is_known (next_address at) next
+-- the access that follows one continues it: it does the same at the next address in the same kilobyte
+abbrev pub continues : Access → Option Access → Bool
+continues (Read at) (Some (Read next)) = is_known (next_address at) next
+continues (Write at word) (Some (Write next more)) = is_known (next_address at) next
+continues a following = false

@@ -1,10 +1,9 @@
--- What an engine shows: its cue, its outcome, whether an access is begun.
+-- What an engine shows: its cue, its outcome, how many accesses are begun.
 use Rattle.std.specs.Prelude.{ℕ, ◌+◌, ◌^◌, ◌<◌, ◌==◌, ◌&&◌, Bool, true, false, not, if◌then◌else◌, Option, Some, None}
 use Rattle.std.specs.Prelude.{is_some}
 use Rattle.swd_port.specs.declared.access.Answer.TheVariants.{Written}
 use Rattle.swd_port.specs.Phases.{phase_number}
 use Rattle.swd_host.specs.declared.task.Task.{Task}
-use Rattle.swd_host.specs.declared.task.Task.TheVariants.{BurstWrite}
 use Rattle.swd_host.specs.declared.outcome.Outcome.{Outcome}
 use Rattle.swd_host.specs.declared.outcome.Outcome.TheVariants.{Opened, Answered, Stopped}
 use Rattle.swd_host.specs.declared.request.Place.TheVariants.{Identify, Confirm}
@@ -17,12 +16,12 @@ use Rattle.swd_host.specs.declared.engine.Phase.TheVariants.{Ask, Data, Waited, 
 use Rattle.swd_host.specs.declared.engine.State.{State}
 use Rattle.swd_host.specs.declared.engine.State.TheVariants.{Leading, Doing, Resting}
 use Rattle.swd_host.specs.declared.engine.Engine.{Engine}
-use Rattle.swd_host.specs.Tasks.{is_burst}
+use Rattle.swd_host.specs.Tasks.{is_burst_write}
 use Rattle.swd_host.specs.Requests.{request_of, word_for}
 
 -- the access in hand is answered by the OK to the next one's DRW write, whose data is due
 abbrev pub is_ahead_at : Job → Phase → Task → Bool
-is_ahead_at (At Confirm) Data task = is_burst task
+is_ahead_at (At Confirm) Data task = is_burst_write task
 is_ahead_at job phase task = false
 
 abbrev pub is_ahead_in : State → Task → Bool
@@ -32,8 +31,9 @@ is_ahead_in state task = false
 abbrev pub is_ahead : Engine → Bool
 is_ahead e = is_ahead_in e.state e.task
 
-abbrev pub is_begun : Engine → Bool
-is_begun e = e.begun && not (is_ahead e)
+-- the accesses that aren't answered and whose DRW request was sent
+abbrev pub begun_of : Engine → ℕ
+begun_of e = if is_ahead e then 0 else e.begun
 
 -- the cue of a data phase
 abbrev pub data_cue : Bool → Option ℕ → Cue

@@ -1,5 +1,6 @@
 -- Lists of accesses over a plain memory.
-use Rattle.std.specs.Prelude.{ℕ, ◌≡◌, ◌%◌, ◌^◌, ◌<◌, ◌==◌, Bool, List, [], ◌∷◌}
+use Rattle.std.specs.Prelude.{ℕ, ◌≡◌, ◌+◌, ◌*◌, ◌%◌, ◌^◌, ◌<◌, ◌==◌, Bool, List, [], ◌∷◌, map}
+use Rattle.std.specs.List.{range_with_len}
 use Rattle.swd_port.specs.declared.access.Access.{Access}
 use Rattle.swd_port.specs.declared.access.Access.TheVariants.{Read, Write}
 use Rattle.swd_port.specs.declared.access.Answer.{Answer}
@@ -14,6 +15,10 @@ memory_after (a ∷ list) m = memory_after list (plain_after a m)
 abbrev pub answers_of : List Access → PlainMemory → List Answer
 answers_of [] m = []
 answers_of (a ∷ list) m = plain_answer a m ∷ answers_of list (plain_after a m)
+
+-- the reads of so many words at an address and after it
+abbrev pub block_of : ℕ → ℕ → List Access
+block_of at count = map (λ i. Read (at + 4 * i)) (range_with_len 0 count)
 
 -- the address is a multiple of 4
 abbrev pub is_aligned : Access → Bool

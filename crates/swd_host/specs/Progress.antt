@@ -5,7 +5,7 @@ use Rattle.swd_host.specs.declared.outcome.End.TheVariants.{Lost}
 use Rattle.swd_host.specs.declared.outcome.Outcome.TheVariants.{Opened, Answered, Stopped}
 use Rattle.swd_host.specs.declared.request.Place.{Place}
 use Rattle.swd_host.specs.declared.request.Place.TheVariants.{Identify, Wipe, Inspect, Select, Power, Powered}
-use Rattle.swd_host.specs.declared.request.Place.TheVariants.{Configure, Recall, Configured, Aim, Transfer, Confirm}
+use Rattle.swd_host.specs.declared.request.Place.TheVariants.{Configure, Recall, Configured, Aim, Transfer, Confirm, Behind}
 use Rattle.swd_host.specs.declared.request.Job.{Job}
 use Rattle.swd_host.specs.declared.request.Job.TheVariants.{At, Resend, Status, LastStatus, Clear, Check}
 use Rattle.swd_host.specs.declared.engine.Phase.{Phase}
@@ -28,14 +28,26 @@ left_at Configured = 2
 left_at Aim = 6
 left_at Transfer = 5
 left_at Confirm = 4
+left_at Behind = 6
+
+-- where it is RESEND: in a block four more come where the next access was a bus error, and then RESEND again
+abbrev pub left_again : Place → ℕ
+left_again Confirm = 6
+left_again Behind = 2
+left_again p = left_at p
+
+-- after a bus error is cleared: the access is answered, or RESEND comes
+abbrev pub left_cleared : Place → ℕ
+left_cleared Behind = 2
+left_cleared p = 0
 
 abbrev pub left_for : Job → ℕ
 left_for (At p) = left_at p
-left_for (Resend p) = left_at p
+left_for (Resend p) = left_again p
 left_for (Status p) = left_at p - 1
 left_for LastStatus = 1
-left_for (Clear p owed) = if owed.error then 2 else left_at p + 3
-left_for (Check p owed) = if owed.error then 1 else left_at p + 2
+left_for (Clear p owed) = if owed.error then left_cleared p + 2 else left_at p + 3
+left_for (Check p owed) = if owed.error then left_cleared p + 1 else left_at p + 2
 
 abbrev pub left_in : State → ℕ
 left_in Leading = 10
@@ -74,6 +86,7 @@ least_at aims Configured = 8
 least_at aims Aim = 0
 least_at aims Transfer = bit aims
 least_at aims Confirm = bit aims + 1
+least_at aims Behind = bit aims + 2
 
 abbrev pub least_for : Bool → Job → ℕ
 least_for aims (At p) = least_at aims p
@@ -96,6 +109,7 @@ abbrev pub is_opening_place : Place → Bool
 is_opening_place Aim = false
 is_opening_place Transfer = false
 is_opening_place Confirm = false
+is_opening_place Behind = false
 is_opening_place p = true
 
 abbrev pub is_place_of : Bool → Place → Bool

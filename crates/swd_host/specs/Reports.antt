@@ -9,9 +9,8 @@ use Rattle.swd_port.specs.PlainMemory.{PlainMemory}
 use Rattle.swd_port.specs.Port.{Port, made}
 use Rattle.swd_port.specs.Choices.{Choice}
 use Rattle.swd_port.specs.Completion.{completed}
-use Rattle.swd_bits.specs.Bits.{bit}
 use Rattle.swd_host.specs.declared.engine.Engine.{Engine}
-use Rattle.swd_host.specs.Engines.{is_begun}
+use Rattle.swd_host.specs.Engines.{begun_of}
 use Rattle.swd_host.specs.declared.outcome.Report.{Report}
 use Rattle.swd_host.specs.declared.outcome.Refused.{Refused}
 use Rattle.swd_host.specs.declared.outcome.Refused.TheVariants.{TooMany, Unaligned, Memory}
@@ -37,7 +36,7 @@ told_of report = record {
 
 -- the report of an engine
 abbrev pub told_by : List Answer → Engine → End → Told
-told_by answers e ended = record { answers = answers; begun = bit (is_begun e); requests = e.requests; ended = ended }
+told_by answers e ended = record { answers = answers; begun = begun_of e; requests = e.requests; ended = ended }
 
 -- The answers are those of the first k accesses of the list over the plain memory, and the memory is that after them,
 -- or after some of the accesses that were begun besides. At most so many are begun.
@@ -73,10 +72,11 @@ EndsAt end tries s t = ⊥
 
 -- The theorem of a run over a target that was just made: the report fits the memory as it is at the end, and as it
 -- will be once a transfer that is still pending took effect; and the run stops early only at a lost acknowledgement
--- or past its tries.
-pub record RunFits (list : List Access) (tries : ℕ) (m : PlainMemory) (told : Told) (s t : Port) : Type 0 where
-  pub now : Fits 1 list m told t.target.memory
-  pub later : (c : Choice) → Fits 1 list m told (completed c t).target.memory
+-- or past its tries. At most so many accesses are begun that aren't answered.
+pub record RunFits (limit : ℕ) (list : List Access) (tries : ℕ) (m : PlainMemory) (told : Told) (s t : Port)
+    : Type 0 where
+  pub now : Fits limit list m told t.target.memory
+  pub later : (c : Choice) → Fits limit list m told (completed c t).target.memory
   pub ends : EndsAt told.ended tries s t
   pub stops_only : t.tally.lost ≡ s.tally.lost → t.tally.disturbed ≤ s.tally.disturbed + tries → told.ended ≡ All
   pub counted : t.tally.asked ≡ s.tally.asked + told.requests
@@ -89,7 +89,11 @@ pub record Follower (i : ℕ) (list : List Access) (a : Access) : Type 0 where
   pub same : (d : Access) → get_or list (i + 1) d ≡ a
 
 -- so it is for every memory that the target was made with, where its identification is one of this protocol
-abbrev pub RunsOver : List Access → ℕ → Told → Port → Port → Type 0
-RunsOver list tries told s t =
+abbrev pub RunsWithin : ℕ → List Access → ℕ → Told → Port → Port → Type 0
+RunsWithin limit list tries told s t =
     (identification : ℕ) (m : PlainMemory) → s ≡ made identification m → identification % 2 ≡ 1
-    → RunFits list tries m told s t
+    → RunFits limit list tries m told s t
+
+-- in a run one access at most is begun that isn't answered
+abbrev pub RunsOver : List Access → ℕ → Told → Port → Port → Type 0
+RunsOver list tries told s t = RunsWithin 1 list tries told s t

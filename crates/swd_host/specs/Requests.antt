@@ -5,10 +5,10 @@ use Rattle.swd_bits.specs.declared.request.Reg4.TheVariants.{R0, R4, R8, RC}
 use Rattle.swd_bits.specs.declared.request.Request.{Request}
 use Rattle.swd_port.specs.PlainMemory.{address}
 use Rattle.swd_host.specs.declared.task.Task.{Task}
-use Rattle.swd_host.specs.declared.task.Task.TheVariants.{Read, Write, BurstWrite}
+use Rattle.swd_host.specs.declared.task.Task.TheVariants.{Read, BurstRead, Write, BurstWrite}
 use Rattle.swd_host.specs.declared.request.Place.{Place}
 use Rattle.swd_host.specs.declared.request.Place.TheVariants.{Identify, Wipe, Inspect, Select, Power, Powered}
-use Rattle.swd_host.specs.declared.request.Place.TheVariants.{Configure, Recall, Configured, Aim, Transfer, Confirm}
+use Rattle.swd_host.specs.declared.request.Place.TheVariants.{Configure, Recall, Configured, Aim, Transfer, Confirm, Behind}
 use Rattle.swd_host.specs.declared.request.Job.{Job}
 use Rattle.swd_host.specs.declared.request.Job.TheVariants.{At, Resend, Status, LastStatus, Clear, Check}
 use Rattle.swd_host.specs.Tasks.{access_of, is_read}
@@ -20,8 +20,9 @@ debug_port read addr = record { ap = false; read = read; addr = addr }
 abbrev pub access_port : Bool → Reg4 → Request
 access_port read addr = record { ap = true; read = read; addr = addr }
 
--- what confirms an access: RDBUFF's OK, or in a burst the OK to the next access's DRW write
+-- what confirms an access: RDBUFF's OK, or in a burst the OK to the next access's DRW request
 abbrev pub confirming_request : Task → Request
+confirming_request (BurstRead at) = access_port true RC
 confirming_request (BurstWrite at word) = access_port false RC
 confirming_request task = debug_port true RC
 
@@ -38,6 +39,7 @@ request_of (At Configured) task = debug_port true RC
 request_of (At Aim) task = access_port false R4
 request_of (At Transfer) task = access_port (is_read task) RC
 request_of (At Confirm) task = confirming_request task
+request_of (At Behind) task = debug_port true R8
 request_of (Resend p) task = debug_port true R8
 request_of (Status p) task = debug_port true R4
 request_of LastStatus task = debug_port true R4
@@ -47,6 +49,7 @@ request_of (Check p owed) task = debug_port true R4
 -- the word of an access that is a write
 abbrev pub word_of_task : Task → Option ℕ
 word_of_task (Read at) = None
+word_of_task (BurstRead at) = None
 word_of_task (Write at word) = Some word
 word_of_task (BurstWrite at word) = Some word
 
@@ -79,10 +82,12 @@ next_place Configured = Configured
 next_place Aim = Transfer
 next_place Transfer = Confirm
 next_place Confirm = Confirm
+next_place Behind = Behind
 
 -- DRW's write, where it is one
 abbrev pub written_by : Task → Option Place
 written_by (Read at) = None
+written_by (BurstRead at) = None
 written_by task = Some Transfer
 
 -- the write that the request at a place confirms; TAR is one of them where it was written for the access
@@ -108,10 +113,12 @@ is_exempt (At p) = is_exempt_place p
 is_exempt (Resend p) = false
 is_exempt job = true
 
--- the request that gives the word of a place again, where its parity was wrong: RESEND for what RDBUFF gave
+-- the request that gives the word of a place again, where its parity was wrong: RESEND for what RDBUFF gave, or DRW
+-- in a block
 abbrev pub again_at : Place → Job
 again_at Configured = Resend Configured
 again_at Confirm = Resend Confirm
+again_at Behind = Resend Behind
 again_at p = At p
 
 -- the request is a write whose word the engine has
@@ -125,7 +132,13 @@ is_unread Transfer task = true
 is_unread Confirm task = not (is_read task)
 is_unread p task = false
 
--- the DRW request of the access in hand
-abbrev pub begins : Job → Bool
-begins (At Transfer) = true
-begins job = false
+-- how many of the accesses that aren't answered are begun once the request is sent, at least: DRW begins the access in
+-- hand, and what confirms a read of a block begins the next
+abbrev pub begins_next : Task → ℕ
+begins_next (BurstRead at) = 2
+begins_next task = 0
+
+abbrev pub begins : Job → Task → ℕ
+begins (At Transfer) task = 1
+begins (At Confirm) task = begins_next task
+begins job task = 0

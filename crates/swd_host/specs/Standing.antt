@@ -1,6 +1,6 @@
 -- What holds between two accesses of a list, and after it.
 use Rattle.std.specs.Prelude.{ℕ, ◌≡◌, ◌+◌, ◌-◌, ◌*◌, ◌^◌, ◌<◌, ◌≤◌, ◌++◌, List, length, take, Bool, true, false, Some}
-use Rattle.std.specs.Prelude.{None, slice_index_or as get_or}
+use Rattle.std.specs.Prelude.{None, ◌⊎◌, slice_index_or as get_or}
 use Rattle.swd_port.specs.declared.access.Access.{Access}
 use Rattle.swd_port.specs.declared.access.Answer.{Answer}
 use Rattle.swd_port.specs.declared.register.Register.TheVariants.{DrwWrite}
@@ -12,10 +12,11 @@ use Rattle.swd_host.specs.declared.outcome.End.{End}
 use Rattle.swd_host.specs.declared.outcome.End.TheVariants.{All}
 use Rattle.swd_host.specs.declared.outcome.Outcome.TheVariants.{Opened}
 use Rattle.swd_host.specs.declared.engine.State.TheVariants.{Resting}
+use Rattle.swd_host.specs.declared.engine.Ahead.TheVariants.{Unsent}
 use Rattle.swd_host.specs.declared.engine.Engine.{Engine}
 use Rattle.swd_host.specs.Addresses.{continues}
 use Rattle.swd_host.specs.Plain.{memory_after, answers_of, AreAccesses}
-use Rattle.swd_host.specs.Tasks.{access_of, is_burst}
+use Rattle.swd_host.specs.Tasks.{access_of, is_burst, most_of}
 use Rattle.swd_host.specs.Engines.{is_ahead, finished_of, may_start}
 use Rattle.swd_host.specs.Tracks.{Hand, Up, Writes, IsReady, hand_of, DueFits}
 use Rattle.swd_host.specs.Reports.{Fits, EndsAt, told_by}
@@ -37,6 +38,13 @@ pub record IsOpen (m : PlainMemory) (e : Engine) (s : Port) : Type 0 where
   pub up : Up m s.target
   pub flag : s.target.write_error ≡ false
   pub tar : e.tar ≡ None
+  pub ahead : e.ahead ≡ Unsent
+
+-- nothing of the next access was sent, and TAR isn't known
+pub record IsAnew (e : Engine) : Type 0 where
+  pub tar : e.tar ≡ None
+  pub ahead : e.ahead ≡ Unsent
+  pub plain : is_burst e.task ≡ false
 
 -- What is known of the memory after i accesses, by an engine that opened the target as o and stands at e now.
 pub record Reached (i : ℕ) (list : List Access) (m : PlainMemory) (o : Engine) (s : Port) (e : Engine)
@@ -47,16 +55,15 @@ pub record Reached (i : ℕ) (list : List Access) (m : PlainMemory) (o : Engine)
   pub fewest : s.tally.disturbed ≤ met
   pub ready : Waits (is_ahead e) met (hand_of e (memory_after (take i list) m)) t
   pub answered : answers ≡ answers_of (take i list) m
-  pub begun : is_ahead e ≡ false → e.begun ≡ false
-  -- The first access has to write TAR. So beside one request for each access there are two: TAR's, and the one that
-  -- confirmed the last access.
-  pub first : i ≡ 0 → e.tar ≡ None
-  pub later : 1 ≤ i → o.requests + 2 + i ≤ e.requests
+  pub begun : is_burst e.task ≡ false → e.begun ≡ 0
+  -- The next access has to write TAR and isn't begun, as the first one; or, beside one request for each access, there
+  -- were two: TAR's, and the one that confirmed the last access.
+  pub sent : IsAnew e ⊎ (o.requests + 2 + i ≤ e.requests)
   pub most : e.requests ≤ o.requests + 6 * i + 5 * (met - s.tally.disturbed)
 
--- the list has an access at i, and it continues a burst after this address
-abbrev pub ContinuesAt : List Access → ℕ → ℕ → Type 0
-ContinuesAt list i at = (i < length list) × ((d : Access) → continues at (Some (get_or list i d)) ≡ true)
+-- the list has an access at i, and it continues a burst after this one
+abbrev pub ContinuesAt : List Access → ℕ → Access → Type 0
+ContinuesAt list i a = (i < length list) × ((d : Access) → continues a (Some (get_or list i d)) ≡ true)
 
 -- i accesses are answered, from the engine o and the port s at the end of the opening
 pub record Stands (i : ℕ) (list : List Access) (o : Engine) (s : Port) (e : Engine) (answers : List Answer)
@@ -64,9 +71,9 @@ pub record Stands (i : ℕ) (list : List Access) (o : Engine) (s : Port) (e : En
   pub due : DueFits e t
   pub rests : may_start (finished_of e) ≡ true
   -- the next access is the one that continues the burst
-  pub chain : is_burst e.task ≡ true → ContinuesAt list i (address (access_of e.task))
-  pub first : i ≡ 0 → is_burst e.task ≡ false
+  pub chain : is_burst e.task ≡ true → ContinuesAt list i (access_of e.task)
   pub tried : e.tries ≡ o.tries
+  pub bursts : e.bursts ≡ o.bursts
   pub number : length answers ≡ i
   pub bounded : e.requests ≤ (i + 1) * 2 ^ 35
   pub sent : o.requests + i ≤ e.requests
@@ -79,7 +86,7 @@ pub record Stands (i : ℕ) (list : List Access) (o : Engine) (s : Port) (e : En
 pub record HasOpened (e : Engine) : Type 0 where
   pub at : e.state ≡ Resting Opened
   pub plain : is_burst e.task ≡ false
-  pub unbegun : e.begun ≡ false
+  pub unbegun : e.begun ≡ 0
   pub least : 9 ≤ e.requests
   pub most : e.requests ≤ 2 ^ 35
   pub tries : e.tries < 2 ^ 32
@@ -87,8 +94,8 @@ pub record HasOpened (e : Engine) : Type 0 where
 -- What doing a list over this memory comes to.
 pub record DoesOver (list : List Access) (m : PlainMemory) (o f : Engine) (answers : List Answer) (end : End)
     (s t : Port) : Type 0 where
-  pub now : Fits 1 list m (told_by answers f end) t.target.memory
-  pub later : (c : Choice) → Fits 1 list m (told_by answers f end) (completed c t).target.memory
+  pub now : Fits (most_of o.bursts) list m (told_by answers f end) t.target.memory
+  pub later : (c : Choice) → Fits (most_of o.bursts) list m (told_by answers f end) (completed c t).target.memory
   pub ends : EndsAt end o.tries s t
   pub least : end ≡ All → o.requests + length list ≤ f.requests
   pub most : f.requests ≤ o.requests + 6 * length list + 5 * (t.tally.disturbed - s.tally.disturbed)

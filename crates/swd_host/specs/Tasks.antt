@@ -3,25 +3,52 @@ use Rattle.std.specs.Prelude.{ℕ, Bool, true, false, if◌then◌else◌, Optio
 use Rattle.swd_port.specs.declared.access.Access.{Access}
 use Rattle.swd_port.specs.declared.access.Access.TheVariants.{Read as AccessRead, Write as AccessWrite}
 use Rattle.swd_host.specs.declared.task.Task.{Task}
-use Rattle.swd_host.specs.declared.task.Task.TheVariants.{Read, Write, BurstWrite}
+use Rattle.swd_host.specs.declared.task.Task.TheVariants.{Read, BurstRead, Write, BurstWrite}
+use Rattle.swd_host.specs.declared.task.Bursts.{Bursts}
+use Rattle.swd_host.specs.declared.task.Bursts.TheVariants.{Writes, Reads}
 use Rattle.swd_host.specs.Addresses.{continues}
 
 -- the access itself
 abbrev pub access_of : Task → Access
 access_of (Read at) = AccessRead at
+access_of (BurstRead at) = AccessRead at
 access_of (Write at word) = AccessWrite at word
 access_of (BurstWrite at word) = AccessWrite at word
 
 abbrev pub is_read : Task → Bool
 is_read (Read at) = true
+is_read (BurstRead at) = true
 is_read task = false
 
--- the DRW write of the next access confirms it
+-- the DRW request of the next access confirms it
 abbrev pub is_burst : Task → Bool
+is_burst (BurstRead at) = true
 is_burst (BurstWrite at word) = true
 is_burst task = false
 
+-- a write of a burst: the DRW write of the next access confirms it
+abbrev pub is_burst_write : Task → Bool
+is_burst_write (BurstWrite at word) = true
+is_burst_write task = false
+
+-- a read of a block: the DRW read of the next access gives its word
+abbrev pub is_block : Task → Bool
+is_block (BurstRead at) = true
+is_block task = false
+
 -- an access, by the one that follows it
-abbrev pub task_for : Access → Option Access → Task
-task_for (AccessRead at) following = Read at
-task_for (AccessWrite at word) following = if continues at following then BurstWrite at word else Write at word
+abbrev pub task_for : Bursts → Access → Option Access → Task
+task_for Writes (AccessRead at) following = Read at
+task_for Reads (AccessRead at) following = if continues (AccessRead at) following then BurstRead at else Read at
+task_for Writes (AccessWrite at word) following =
+    if continues (AccessWrite at word) following then BurstWrite at word else Write at word
+task_for Reads (AccessWrite at word) following = Write at word
+
+-- how many accesses that aren't answered may be begun
+abbrev pub most_begun : Task → ℕ
+most_begun (BurstRead at) = 2
+most_begun task = 1
+
+abbrev pub most_of : Bursts → ℕ
+most_of Writes = 1
+most_of Reads = 2

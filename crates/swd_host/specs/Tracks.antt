@@ -1,6 +1,7 @@
 -- What the engine's state says of the port at the other end, and of the memory behind it: the invariant of the host.
 use Rattle.std.specs.Prelude.{ℕ, ◌≡◌, ◌≢◌, ◌+◌, ◌-◌, ◌*◌, ◌%◌, ◌^◌, ◌<◌, ◌≤◌, ◌⊎◌, ◌||◌, ◌&&◌, ◌==◌, Bool, true}
-use Rattle.std.specs.Prelude.{false, not, if◌then◌else◌, Option, Some, None}
+use Rattle.std.specs.Prelude.{false, not, if◌then◌else◌, Option, Some, None, max}
+use Rattle.swd_bits.specs.Bits.{bit}
 use Rattle.swd_port.specs.declared.access.Access.{Access}
 use Rattle.swd_port.specs.declared.access.Access.TheVariants.{Read as AccessRead, Write as AccessWrite}
 use Rattle.swd_port.specs.declared.access.Answer.{Answer}
@@ -25,29 +26,49 @@ use Rattle.swd_host.specs.declared.outcome.End.TheVariants.{All, Lost, TriesOut,
 use Rattle.swd_host.specs.declared.outcome.Outcome.{Outcome}
 use Rattle.swd_host.specs.declared.outcome.Outcome.TheVariants.{Opened, Answered, Stopped}
 use Rattle.swd_host.specs.declared.task.Task.{Task}
-use Rattle.swd_host.specs.declared.task.Task.TheVariants.{Read, Write, BurstWrite}
+use Rattle.swd_host.specs.declared.task.Task.TheVariants.{Read, BurstRead, Write, BurstWrite}
 use Rattle.swd_host.specs.declared.request.Place.{Place}
 use Rattle.swd_host.specs.declared.request.Place.TheVariants.{Identify, Wipe, Inspect, Select, Power, Powered}
-use Rattle.swd_host.specs.declared.request.Place.TheVariants.{Configure, Recall, Configured, Aim, Transfer, Confirm}
+use Rattle.swd_host.specs.declared.request.Place.TheVariants.{Configure, Recall, Configured, Aim, Transfer, Confirm, Behind}
 use Rattle.swd_host.specs.declared.request.Job.{Job}
 use Rattle.swd_host.specs.declared.request.Job.TheVariants.{At, Resend, Status, LastStatus, Clear, Check}
+use Rattle.swd_host.specs.declared.engine.Ahead.{Ahead}
+use Rattle.swd_host.specs.declared.engine.Ahead.TheVariants.{Unsent, Sent as NextSent, Failed as NextFailed}
 use Rattle.swd_host.specs.declared.engine.Phase.{Phase}
 use Rattle.swd_host.specs.declared.engine.Phase.TheVariants.{Ask, Data, Waited, Faulted}
 use Rattle.swd_host.specs.declared.engine.State.{State}
 use Rattle.swd_host.specs.declared.engine.State.TheVariants.{Leading, Doing, Resting}
 use Rattle.swd_host.specs.declared.engine.Engine.{Engine}
 use Rattle.swd_host.specs.Plain.{IsAccess}
-use Rattle.swd_host.specs.Tasks.{access_of}
+use Rattle.swd_host.specs.Tasks.{access_of, is_block}
 use Rattle.swd_host.specs.Engines.{job_in}
 use Rattle.swd_host.specs.Requests.{request_of, next_place, confirmed_by, is_exempt, is_exempt_place, begins}
 
--- the access in hand, whether TAR has to be written for it, what is known of TAR where the engine rests, and the
--- memory before the access
+-- the access in hand, whether TAR has to be written for it, what is known of TAR and of the next access where the
+-- engine rests, and the memory before the access
 pub record Hand : Type 0 where
   pub task : Task
   pub aims : Bool
   pub tar : Option ℕ
+  pub ahead : Ahead
   pub memory : PlainMemory
+
+-- the memory after the access in hand
+abbrev pub memory_once_done : Hand → PlainMemory
+memory_once_done k = plain_after (access_of k.task) k.memory
+
+-- the next access of a block of reads, over the memory before it
+abbrev pub next_read : Task → Access
+next_read task = AccessRead (address (access_of task) + 4)
+
+abbrev pub next_hand : Task → PlainMemory → Hand
+next_hand task m = record {
+  task = Read (address (access_of task) + 4);
+  aims = false;
+  tar = None;
+  ahead = Unsent;
+  memory = m;
+}
 
 abbrev pub no_select : SelectWord
 no_select = record { apsel = 0; apbanksel = 0; dpbanksel = 0 }
@@ -102,17 +123,17 @@ pub record IsUnaimed (k : Hand) (s : Target) : Type 0 where
   pub up : Up k.memory s
   pub aims : k.aims ≡ true
 
--- the transfer was sent
-pub record Under (b : Bool) (k : Hand) (s : Target) : Type 0 where
+-- the transfer was sent; b accesses are begun
+pub record Under (b : ℕ) (k : Hand) (s : Target) : Type 0 where
   pub live : s.reset ≡ Live
   pub select : s.select ≡ no_select
   pub debug : s.debug_power ≡ true
   pub increments : s.increments ≡ true
-  pub begun : b ≡ true
+  pub begun : 1 ≤ b
   pub sent : Sent (access_of k.task) k.memory s
 
 -- what holds before the request at a place, but for WDATAERR
-abbrev pub Has : Place → Bool → Hand → Target → Type 0
+abbrev pub Has : Place → ℕ → Hand → Target → Type 0
 Has Identify b k s = Reachable k.memory s
 Has Wipe b k s = Calm k.memory s
 Has Inspect b k s = Calm k.memory s
@@ -125,19 +146,20 @@ Has Configured b k s = HasRecalled k.memory s
 Has Aim b k s = IsUnaimed k s
 Has Transfer b k s = IsAimed k s
 Has Confirm b k s = Under b k s
+Has Behind b k s = ⊥
 
 abbrev pub is_wipe : Place → Bool
 is_wipe Wipe = true
 is_wipe _ = false
 
 -- n disturbances were met as events: that many there were
-pub record Sure (p : Place) (n : ℕ) (b : Bool) (k : Hand) (s : Port) : Type 0 where
+pub record Sure (p : Place) (n b : ℕ) (k : Hand) (s : Port) : Type 0 where
   pub has : Has p b k s.target
   pub flag : is_wipe p ≡ false → s.target.write_error ≡ false
   pub paid : n ≤ s.tally.disturbed
 
 -- the write before, which this request confirms, was damaged
-pub record Hurt (p : Place) (n : ℕ) (b : Bool) (k : Hand) (s : Port) : Type 0 where
+pub record Hurt (p : Place) (n b : ℕ) (k : Hand) (s : Port) : Type 0 where
   pub back : Place
   pub confirms : confirmed_by p k.task k.aims ≡ Some back
   pub has : Has back b k s.target
@@ -148,70 +170,110 @@ abbrev pub is_confirm : Place → Bool
 is_confirm Confirm = true
 is_confirm _ = false
 
+abbrev pub is_behind : Place → Bool
+is_behind Behind = true
+is_behind _ = false
+
+-- an access is a bus error over this memory
+pub record IsBusError (a : Access) (m : PlainMemory) : Type 0 where
+  pub after : plain_after a m ≡ m
+  pub answer : plain_answer a m ≡ BusFault
+
 -- the transfer was a bus error; STICKYERR aside
-pub record Broken (p : Place) (b : Bool) (k : Hand) (s : Target) : Type 0 where
+pub record Broken (p : Place) (b : ℕ) (k : Hand) (s : Target) : Type 0 where
   pub place : is_confirm p ≡ true
-  pub begun : b ≡ true
+  pub begun : 1 ≤ b
   pub live : s.reset ≡ Live
   pub select : s.select ≡ no_select
   pub debug : s.debug_power ≡ true
   pub increments : s.increments ≡ true
   pub pending : s.pending ≡ None
   pub memory : s.memory ≡ k.memory
-  pub after : plain_after (access_of k.task) k.memory ≡ k.memory
-  pub answer : plain_answer (access_of k.task) k.memory ≡ BusFault
+  pub fails : IsBusError (access_of k.task) k.memory
+
+-- RESEND met the bus error of the next read of a block; it gives this word once STICKYERR is cleared
+pub record Fallen (p : Place) (b : ℕ) (k : Hand) (s : Target) : Type 0 where
+  pub place : is_behind p ≡ true
+  pub begun : 2 ≤ b
+  pub block : is_block k.task ≡ true
+  pub word : ℕ
+  pub answer : plain_answer (access_of k.task) k.memory ≡ Value word
+  pub last : s.last_returned ≡ Some word
+  pub broken : Broken Confirm 1 (next_hand k.task (memory_once_done k)) s
+
+-- whose bus error a request met
+pub data BusErrorOf (p : Place) (b : ℕ) (k : Hand) (s : Target) : Type 0 where
+  own_error : Broken p b k s → BusErrorOf p b k s
+  next_error : Fallen p b k s → BusErrorOf p b k s
 
 -- why a request met a flag
-pub data Refused (p : Place) (n : ℕ) (b : Bool) (k : Hand) (s : Port) : Type 0 where
+pub data Refused (p : Place) (n b : ℕ) (k : Hand) (s : Port) : Type 0 where
   by_damage : Hurt p n b k s → Refused p n b k s
-  by_error : Broken p b k s.target → s.target.sticky_error ≡ true → s.target.write_error ≡ false
+  by_error : BusErrorOf p b k s.target → s.target.sticky_error ≡ true → s.target.write_error ≡ false
       → n ≤ s.tally.disturbed → Refused p n b k s
 
 -- what the write that was damaged found
-pub record Spoilt (p : Place) (b : Bool) (k : Hand) (s : Target) : Type 0 where
+pub record Spoilt (p : Place) (b : ℕ) (k : Hand) (s : Target) : Type 0 where
   pub back : Place
   pub confirms : confirmed_by p k.task k.aims ≡ Some back
   pub has : Has back b k s
 
 -- what is behind the flags that are owed
-abbrev pub Facts : Bool → Place → Bool → Hand → Target → Type 0
-Facts true p b k s = Broken p b k s
+abbrev pub Facts : Bool → Place → ℕ → Hand → Target → Type 0
+Facts true p b k s = BusErrorOf p b k s
 Facts false p b k s = Spoilt p b k s
 
 -- the flags that are set are those that are owed
-pub record Owes (p : Place) (owed : Flags) (n : ℕ) (b : Bool) (k : Hand) (s : Port) : Type 0 where
+pub record Owes (p : Place) (owed : Flags) (n b : ℕ) (k : Hand) (s : Port) : Type 0 where
   pub facts : Facts owed.error p b k s.target
   pub error : s.target.sticky_error ≡ owed.error
   pub damaged : s.target.write_error ≡ owed.damaged
   pub paid : n ≤ s.tally.disturbed
 
 -- ABORT was written: no flag is left, or all that were owed are, since it was damaged
-pub data Checks (p : Place) (owed : Flags) (n : ℕ) (b : Bool) (k : Hand) (s : Port) : Type 0 where
+pub data Checks (p : Place) (owed : Flags) (n b : ℕ) (k : Hand) (s : Port) : Type 0 where
   cleared : Facts owed.error p b k s.target → s.target.sticky_error ≡ false → s.target.write_error ≡ false
       → n ≤ s.tally.disturbed → Checks p owed n b k s
   kept : Facts owed.error p b k s.target → s.target.sticky_error ≡ owed.error → s.target.write_error ≡ true
       → n + 1 ≤ s.tally.disturbed → Checks p owed n b k s
 
 -- the access was done, and its answer is known but for a word that has to come again
-pub record Done (b : Bool) (k : Hand) (s : Target) : Type 0 where
-  pub begun : b ≡ true
-  pub up : Up (plain_after (access_of k.task) k.memory) s
+pub record Done (b : ℕ) (k : Hand) (s : Target) : Type 0 where
+  pub begun : 1 ≤ b
+  pub up : Up (memory_once_done k) s
   pub advanced : Advanced (address (access_of k.task)) s
 
-abbrev pub Returned : Place → ℕ → Bool → Hand → Target → Type 0
+-- what is known of the next access after this one, over this memory: of a block of reads it was sent, or was a bus
+-- error that is cleared
+abbrev pub AheadAt : Ahead → Task → PlainMemory → Target → Type 0
+AheadAt Unsent task m s = Up m s
+AheadAt NextSent task m s = (is_block task ≡ true) × Under 1 (next_hand task m) s
+AheadAt NextFailed task m s = (is_block task ≡ true) × Up m s × IsBusError (next_read task) m
+
+-- the access was done, with so much known of the next one
+abbrev pub DoneBy : Ahead → ℕ → Hand → Target → Type 0
+DoneBy Unsent b k s = Done b k s
+DoneBy ahead b k s = (2 ≤ b) × AheadAt ahead k.task (memory_once_done k) s
+
+abbrev pub ahead_of : Task → Ahead
+ahead_of task = if is_block task then NextSent else Unsent
+
+abbrev pub Returned : Place → ℕ → ℕ → Hand → Target → Type 0
 Returned Configured word b k s = Up k.memory s × (word ≡ csw_word_read)
-Returned Confirm word b k s = Done b k s × (plain_answer (access_of k.task) k.memory ≡ Value word)
+Returned Confirm word b k s =
+    DoneBy (ahead_of k.task) b k s × (plain_answer (access_of k.task) k.memory ≡ Value word)
+Returned Behind word b k s = DoneBy NextFailed b k s × (plain_answer (access_of k.task) k.memory ≡ Value word)
 Returned p word b k s = ⊥
 
 -- this word was returned, and RESEND gives it again
-pub record Resent (p : Place) (word : ℕ) (n : ℕ) (b : Bool) (k : Hand) (s : Port) : Type 0 where
+pub record Resent (p : Place) (word : ℕ) (n b : ℕ) (k : Hand) (s : Port) : Type 0 where
   pub returned : Returned p word b k s.target
   pub last : s.target.last_returned ≡ Some word
   pub flag : s.target.write_error ≡ false
   pub paid : n ≤ s.tally.disturbed
 
 -- what holds before a request
-abbrev pub Before : Job → ℕ → Bool → Hand → Port → Type 0
+abbrev pub Before : Job → ℕ → ℕ → Hand → Port → Type 0
 Before (At p) n b k s = Sure p n b k s ⊎ Hurt p n b k s
 Before (Resend p) n b k s = (word : ℕ) × Resent p word n b k s
 Before (Status p) n b k s = Refused p n b k s
@@ -239,7 +301,7 @@ pub record Tells (word : ℕ) (s : Target) : Type 0 where
   pub debug : holds 0x2000_0000 word ≡ s.debug_power
   pub system : holds 0x8000_0000 word ≡ s.system_power
 
-abbrev pub Says : Job → ℕ → Bool → Hand → Port → Type 0
+abbrev pub Says : Job → ℕ → ℕ → Hand → Port → Type 0
 Says job n b k s = (word : ℕ) × Tells word s.target × Reads word n (λ c. Before job c b k s) s
 
 -- DPIDR was read
@@ -249,35 +311,37 @@ pub record Awake (n : ℕ) (k : Hand) (s : Port) : Type 0 where
   pub flag : s.target.write_error ≡ false
   pub paid : n ≤ s.tally.disturbed
 
--- the access is answered
-pub record Finished (answer : Answer) (n : ℕ) (b : Bool) (k : Hand) (s : Port) : Type 0 where
-  pub begun : b ≡ false
-  pub up : Up (plain_after (access_of k.task) k.memory) s.target
+-- the access is answered; the next one of a block is begun
+pub record Finished (answer : Answer) (n b : ℕ) (k : Hand) (s : Port) : Type 0 where
+  pub begun : b ≡ bit (is_block k.task)
+  pub up : AheadAt k.ahead k.task (memory_once_done k) s.target
   pub answered : plain_answer (access_of k.task) k.memory ≡ answer
-  pub known : (at : ℕ) → k.tar ≡ Some at → s.target.tar ≡ Some at
+  pub known : (at : ℕ) → k.ahead ≡ Unsent → k.tar ≡ Some at → s.target.tar ≡ Some at
   pub flag : s.target.write_error ≡ false
   pub paid : n ≤ s.tally.disturbed
 
 -- a write's OK came
-pub record Confirmed (n : ℕ) (b : Bool) (k : Hand) (s : Port) : Type 0 where
+pub record Confirmed (n b : ℕ) (k : Hand) (s : Port) : Type 0 where
   pub done : Done b k s.target
   pub answered : plain_answer (access_of k.task) k.memory ≡ Written
   pub flag : s.target.write_error ≡ false
   pub paid : n ≤ s.tally.disturbed
 
-abbrev pub Transfers : Task → ℕ → Bool → Hand → Port → Type 0
+abbrev pub Transfers : Task → ℕ → ℕ → Hand → Port → Type 0
 Transfers (Read at) n b k s = Sure Confirm n b k s
-Transfers (Write at word) n b k s = (b ≡ true) × Writes DrwWrite n (λ c. Sure Transfer c b k s) s
-Transfers (BurstWrite at word) n b k s = (b ≡ true) × Writes DrwWrite n (λ c. Sure Transfer c b k s) s
+Transfers (BurstRead at) n b k s = Sure Confirm n b k s
+Transfers (Write at word) n b k s = (1 ≤ b) × Writes DrwWrite n (λ c. Sure Transfer c b k s) s
+Transfers (BurstWrite at word) n b k s = (1 ≤ b) × Writes DrwWrite n (λ c. Sure Transfer c b k s) s
 
-abbrev pub Confirms : Task → ℕ → Bool → Hand → Port → Type 0
+abbrev pub Confirms : Task → ℕ → ℕ → Hand → Port → Type 0
 Confirms (Read at) n b k s = (word : ℕ) × Reads word n (λ c. Resent Confirm word c b k s) s
+Confirms (BurstRead at) n b k s = (word : ℕ) × Reads word n (λ c. Resent Confirm word c b k s) s
 Confirms (Write at word) n b k s = Confirmed n b k s
 -- the write was done, and the data of the next access is due
 Confirms (BurstWrite at word) n b k s = Writes DrwWrite n (λ c. Confirmed c b k s) s
 
 -- what holds before a data phase
-abbrev pub During : Job → ℕ → Bool → Hand → Port → Type 0
+abbrev pub During : Job → ℕ → ℕ → Hand → Port → Type 0
 During (At Identify) n b k s = Reads s.target.identification n (λ c. Awake c k s) s
 During (At Wipe) n b k s = Writes AbortWrite n (λ c. Sure Wipe c b k s) s
 During (At Inspect) n b k s = Says (At Inspect) n b k s
@@ -290,6 +354,7 @@ During (At Configured) n b k s = (word : ℕ) × Reads word n (λ c. Resent Conf
 During (At Aim) n b k s = Writes TarWrite n (λ c. Sure Aim c b k s) s
 During (At Transfer) n b k s = Transfers k.task n b k s
 During (At Confirm) n b k s = Confirms k.task n b k s
+During (At Behind) n b k s = ⊥
 During (Resend p) n b k s = (word : ℕ) × Reads word n (λ c. Resent p word c b k s) s
 During (Status p) n b k s = Says (Status p) n b k s
 During LastStatus n b k s = ⊥
@@ -298,28 +363,32 @@ During (Check p owed) n b k s = Says (Check p owed) n b k s
 
 -- ENDS
 
--- the memory is that before the access, or, where it is begun, that after it
-abbrev pub IsWithin : Bool → Hand → PlainMemory → Type 0
-IsWithin b k m = (m ≡ k.memory) ⊎ ((b ≡ true) × (m ≡ plain_after (access_of k.task) k.memory))
+-- the memory is that before the access, or, where it is begun, that after it, or, where the next one of its block is
+-- begun too, that after both
+pub data IsWithin (b : ℕ) (k : Hand) (m : PlainMemory) : Type 0 where
+  within_none : m ≡ k.memory → IsWithin b k m
+  within_first : 1 ≤ b → m ≡ memory_once_done k → IsWithin b k m
+  within_both : 2 ≤ b → is_block k.task ≡ true → m ≡ plain_after (next_read k.task) (memory_once_done k) → IsWithin b k m
 
 -- so it is now, and so it will be
-pub record Within (b : Bool) (k : Hand) (s : Target) : Type 0 where
+pub record Within (b : ℕ) (k : Hand) (s : Target) : Type 0 where
   pub now : IsWithin b k s.memory
   pub later : PlainMemory
   pub becomes : Becomes later s
   pub ends : IsWithin b k later
 
--- the request at a place met a flag; RESEND meets none
-pub record Faulting (p : Place) (n : ℕ) (b : Bool) (k : Hand) (s : Port) : Type 0 where
+-- the request at a place met a flag; RESEND meets one in a block alone
+pub record Faulting (p : Place) (n b : ℕ) (k : Hand) (s : Port) : Type 0 where
   pub free : is_exempt_place p ≡ false
   pub refused : Refused p n b k s
 
-abbrev pub FaultedAt : Job → ℕ → Bool → Hand → Port → Type 0
+abbrev pub FaultedAt : Job → ℕ → ℕ → Hand → Port → Type 0
 FaultedAt (At p) n b k s = Faulting p n b k s
+FaultedAt (Resend Confirm) n b k s = (is_block k.task ≡ true) × Refused Behind n b k s
 FaultedAt job n b k s = ⊥
 
 -- WAIT was a disturbance, which isn't met as an event yet
-pub record Waiting (job : Job) (n : ℕ) (b : Bool) (k : Hand) (s : Port) : Type 0 where
+pub record Waiting (job : Job) (n b : ℕ) (k : Hand) (s : Port) : Type 0 where
   pub free : is_exempt job ≡ false
   pub before : Before job (n + 1) b k s
 
@@ -329,13 +398,13 @@ pub record Counted : Type 0 where
   pub lost : ℕ
 
 -- no acknowledgement was seen
-pub record LostAt (n : ℕ) (base : Counted) (b : Bool) (k : Hand) (s : Port) : Type 0 where
+pub record LostAt (n : ℕ) (base : Counted) (b : ℕ) (k : Hand) (s : Port) : Type 0 where
   pub within : Within b k s.target
   pub more : base.lost < s.tally.lost
   pub paid : n ≤ s.tally.disturbed
   pub select : s.target.select ≡ no_select
 
-abbrev pub StoppedAt : End → ℕ → ℕ → Counted → Bool → Hand → Port → Type 0
+abbrev pub StoppedAt : End → ℕ → ℕ → Counted → ℕ → Hand → Port → Type 0
 StoppedAt Lost n tries base b k s = LostAt n base b k s
 StoppedAt TriesOut n tries base b k s = Within b k s.target × (base.disturbed + tries < s.tally.disturbed)
 StoppedAt end n tries base b k s = ⊥
@@ -352,17 +421,17 @@ pub record Unled (n : ℕ) (k : Hand) (s : Port) : Type 0 where
   pub paid : n ≤ s.tally.disturbed
 
 pub record IsReady (n : ℕ) (k : Hand) (s : Port) : Type 0 where
-  pub up : Up k.memory s.target
-  pub known : (at : ℕ) → k.tar ≡ Some at → s.target.tar ≡ Some at
+  pub up : AheadAt k.ahead k.task k.memory s.target
+  pub known : (at : ℕ) → k.ahead ≡ Unsent → k.tar ≡ Some at → s.target.tar ≡ Some at
   pub flag : s.target.write_error ≡ false
   pub paid : n ≤ s.tally.disturbed
 
-abbrev pub Rests : Outcome → ℕ → ℕ → Counted → Bool → Hand → Port → Type 0
-Rests Opened n tries base b k s = IsReady n k s × (k.tar ≡ None)
+abbrev pub Rests : Outcome → ℕ → ℕ → Counted → ℕ → Hand → Port → Type 0
+Rests Opened n tries base b k s = IsReady n k s × (k.tar ≡ None) × (k.ahead ≡ Unsent)
 Rests (Answered answer) n tries base b k s = Finished answer n b k s
 Rests (Stopped end) n tries base b k s = StoppedAt end n tries base b k s
 
-abbrev pub Tracks : State → ℕ → ℕ → Counted → Bool → Hand → Port → Type 0
+abbrev pub Tracks : State → ℕ → ℕ → Counted → ℕ → Hand → Port → Type 0
 Tracks Leading n tries base b k s = Unled n k s
 Tracks (Doing job Ask) n tries base b k s = Before job n b k s
 Tracks (Doing job Data) n tries base b k s = During job n b k s
@@ -371,15 +440,16 @@ Tracks (Doing job Faulted) n tries base b k s = FaultedAt job n b k s
 Tracks (Resting outcome) n tries base b k s = Rests outcome n tries base b k s
 
 abbrev pub hand_of : Engine → PlainMemory → Hand
-hand_of e m = record { task = e.task; aims = e.aims; tar = e.tar; memory = m }
+hand_of e m = record { task = e.task; aims = e.aims; tar = e.tar; ahead = e.ahead; memory = m }
 
 -- the engine's own state of the port, from the counts at the beginning and the memory then
 abbrev pub TracksEngine : Counted → PlainMemory → Engine → Port → Type 0
 TracksEngine base m e s = Tracks e.state (base.disturbed + e.events) e.tries base e.begun (hand_of e m) s
 
--- the access is one, and the next word's address is in its kilobyte where the next access's write confirms it
+-- the access is one, and the next word's address is in its kilobyte where the next access's request confirms it
 abbrev pub IsTask : Task → Type 0
 IsTask (Read at) = IsAccess (AccessRead at)
+IsTask (BurstRead at) = IsAccess (AccessRead at) × (at % 1024 < 1020)
 IsTask (Write at word) = IsAccess (AccessWrite at word)
 IsTask (BurstWrite at word) = IsAccess (AccessWrite at word) × (at % 1024 < 1020)
 
@@ -408,23 +478,25 @@ DueFits e s = DueAt e.state e.task s.link.due
 
 -- WHAT A CALL OF THE ENGINE IS TOLD
 -- what a word that was taken at a place tells
-abbrev pub Taken : Place → ℕ → ℕ → Bool → Hand → Port → Type 0
+abbrev pub Taken : Place → ℕ → ℕ → ℕ → Hand → Port → Type 0
 Taken Identify word n b k s = Awake n k s × (word % 2 ≡ 1)
 Taken Inspect word n b k s = Tells word s.target × Before (At Inspect) n b k s
 Taken Powered word n b k s = Tells word s.target × Before (At Powered) n b k s
 Taken Configured word n b k s = Resent Configured word n b k s
 Taken Confirm word n b k s = Resent Confirm word n b k s
+Taken Behind word n b k s = Resent Behind word n b k s
 Taken p word n b k s = ⊥
 
--- why an access is answered so
-pub data Earns (answer : Answer) (n : ℕ) (b : Bool) (k : Hand) (s : Port) : Type 0 where
-  by_transfer : Done b k s.target → plain_answer (access_of k.task) k.memory ≡ answer → (answer ≡ BusFault → ⊥)
-      → s.target.write_error ≡ false → n ≤ s.tally.disturbed → Earns answer n b k s
-  by_fault : (p : Place) → Broken p b k s.target → answer ≡ BusFault → s.target.sticky_error ≡ false
-      → s.target.write_error ≡ false → n ≤ s.tally.disturbed → Earns answer n b k s
+-- why an access is answered so, with so much known of the next one
+pub data Earns (answer : Answer) (ahead : Ahead) (n b : ℕ) (k : Hand) (s : Port) : Type 0 where
+  by_transfer : DoneBy ahead b k s.target → plain_answer (access_of k.task) k.memory ≡ answer
+      → (answer ≡ BusFault → ⊥) → s.target.write_error ≡ false → n ≤ s.tally.disturbed → Earns answer ahead n b k s
+  by_fault : (p : Place) → ahead ≡ Unsent → Broken p b k s.target → answer ≡ BusFault
+      → s.target.sticky_error ≡ false → s.target.write_error ≡ false → n ≤ s.tally.disturbed
+      → Earns answer ahead n b k s
 
 -- what a request came to
-pub data Saw (job : Job) (seen n : ℕ) (base : Counted) (b : Bool) (k : Hand) (s : Port) : Type 0 where
+pub data Saw (job : Job) (seen n : ℕ) (base : Counted) (b : ℕ) (k : Hand) (s : Port) : Type 0 where
   saw_okay : seen ≡ 1 → During job n b k s → Saw job seen n base b k s
   saw_wait : seen ≡ 2 → Waiting job n b k s → Saw job seen n base b k s
   saw_fault : seen ≡ 4 → FaultedAt job n b k s → Saw job seen n base b k s
@@ -432,13 +504,13 @@ pub data Saw (job : Job) (seen n : ℕ) (base : Counted) (b : Bool) (k : Hand) (
       → Saw job seen n base b k s
 
 -- what a data phase that was written leaves
-abbrev pub WasSent : Job → ℕ → Bool → Hand → Port → Type 0
+abbrev pub WasSent : Job → ℕ → ℕ → Hand → Port → Type 0
 WasSent (At p) n b k s = Before (At (next_place p)) n b k s
 WasSent (Clear p owed) n b k s = Before (Check p owed) n b k s
 WasSent job n b k s = ⊥
 
 -- what the lead, a data phase that was written, or a turnaround leaves
-abbrev pub Left : State → ℕ → Bool → Hand → Port → Type 0
+abbrev pub Left : State → ℕ → ℕ → Hand → Port → Type 0
 Left Leading n b k s = Before (At Identify) n b k s
 Left (Doing job Ask) n b k s = ⊥
 Left (Doing job Data) n b k s = WasSent job n b k s
@@ -447,22 +519,25 @@ Left (Doing job Faulted) n b k s = FaultedAt job n b k s
 Left (Resting outcome) n b k s = ⊥
 
 -- a read's confirming word, or a write's OK
-abbrev pub ConfirmTook : Task → Option ℕ → ℕ → Bool → Hand → Port → Type 0
+abbrev pub ConfirmTook : Task → Option ℕ → ℕ → ℕ → Hand → Port → Type 0
 ConfirmTook (Read at) (Some word) n b k s = Resent Confirm word n b k s
 ConfirmTook (Read at) None n b k s = Before (Resend Confirm) (n + 1) b k s
+ConfirmTook (BurstRead at) (Some word) n b k s = Resent Confirm word n b k s
+ConfirmTook (BurstRead at) None n b k s = Before (Resend Confirm) (n + 1) b k s
 ConfirmTook (Write at w) word n b k s = Confirmed n b k s
 ConfirmTook (BurstWrite at w) word n b k s = ⊥
 
 -- what a word that was read at a place tells, or that it has to come again
-abbrev pub TookAt : Place → Option ℕ → ℕ → Bool → Hand → Port → Type 0
+abbrev pub TookAt : Place → Option ℕ → ℕ → ℕ → Hand → Port → Type 0
 TookAt Recall word n b k s = Sure Configured n b k s
 TookAt Transfer word n b k s = Sure Confirm n b k s
 TookAt Confirm word n b k s = ConfirmTook k.task word n b k s
 TookAt Configured None n b k s = Before (Resend Configured) (n + 1) b k s
+TookAt Behind None n b k s = Before (Resend Behind) (n + 1) b k s
 TookAt p (Some word) n b k s = Taken p word n b k s
 TookAt p None n b k s = Before (At p) (n + 1) b k s
 
-abbrev pub TakenFor : Job → Option ℕ → ℕ → Bool → Hand → Port → Type 0
+abbrev pub TakenFor : Job → Option ℕ → ℕ → ℕ → Hand → Port → Type 0
 TakenFor (At p) word n b k s = TookAt p word n b k s
 TakenFor (Resend p) (Some word) n b k s = Taken p word n b k s
 TakenFor (Status p) (Some word) n b k s = Tells word s.target × Refused p n b k s
@@ -471,12 +546,13 @@ TakenFor LastStatus (Some word) n b k s = ⊥
 TakenFor (Clear p owed) word n b k s = ⊥
 TakenFor job None n b k s = Before job (n + 1) b k s
 
-abbrev pub ValueOr : Place → Job → Option ℕ → ℕ → Bool → Hand → Port → Type 0
+abbrev pub ValueOr : Place → Job → Option ℕ → ℕ → ℕ → Hand → Port → Type 0
 ValueOr p job (Some word) n b k s = Taken p word n b k s
 ValueOr p job None n b k s = Before job (n + 1) b k s
 
-abbrev pub begins_in : State → Bool
-begins_in state = begins (job_in state)
+-- the accesses that are begun once the request of a state is sent
+abbrev pub begun_once : State → Task → ℕ → ℕ
+begun_once state task b = max b (begins (job_in state) task)
 
 -- where a request is once its acknowledgement was seen (IHI 0031, B4, "Acknowledge response")
 abbrev pub state_seen : Job → ℕ → State
@@ -487,17 +563,17 @@ state_seen job seen =
     else Resting (Stopped Lost)
 
 -- power was asked for, and this says whether it is there
-abbrev pub HasAsked : Bool → ℕ → Bool → Hand → Port → Type 0
+abbrev pub HasAsked : Bool → ℕ → ℕ → Hand → Port → Type 0
 HasAsked powered n b k s = (powered ≡ (s.target.debug_power && s.target.system_power)) × Before (At Powered) n b k s
 
 -- WHAT A STEP OF THE ENGINE KEEPS: from what was told, of a target whose memory was this before the access, since
 -- these counts
-abbrev pub Comes : (ℕ → Bool → Hand → Port → Type 0) → Engine → Engine → Type 0
+abbrev pub Comes : (ℕ → ℕ → Hand → Port → Type 0) → Engine → Engine → Type 0
 Comes Was e f = (base : Counted) (m : PlainMemory) (s : Port) → IsTask e.task
     → Was (base.disturbed + e.events) e.begun (hand_of e m) s → TracksEngine base m f s
 
 -- the same, where these are the flags that were read
-abbrev pub ComesWith : Flags → (ℕ → Bool → Hand → Port → Type 0) → Engine → Engine → Type 0
+abbrev pub ComesWith : Flags → (ℕ → ℕ → Hand → Port → Type 0) → Engine → Engine → Type 0
 ComesWith flags Was e f = (base : Counted) (m : PlainMemory) (s : Port) → IsTask e.task →
     flags.error ≡ s.target.sticky_error → flags.damaged ≡ s.target.write_error
     → Was (base.disturbed + e.events) e.begun (hand_of e m) s → TracksEngine base m f s
@@ -505,8 +581,8 @@ ComesWith flags Was e f = (base : Counted) (m : PlainMemory) (s : Port) → IsTa
 -- WHAT THE CALLS OF AN ENGINE ARE TOLD, of a target whose memory was this before the access, since these counts
 -- three bits were seen after the request
 abbrev pub Hears : ℕ → Counted → PlainMemory → Engine → Port → Type 0
-Hears seen base m e s = Saw (job_in e.state) seen (base.disturbed + e.events) base (begins_in e.state || e.begun)
-    (hand_of e m) s
+Hears seen base m e s = Saw (job_in e.state) seen (base.disturbed + e.events) base
+    (begun_once e.state e.task e.begun) (hand_of e m) s
 
 -- what the cue said was sent
 abbrev pub HasSent : Counted → PlainMemory → Engine → Port → Type 0

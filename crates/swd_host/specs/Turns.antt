@@ -11,8 +11,12 @@ use Rattle.swd_host.specs.declared.outcome.End.TheVariants.{Lost}
 use Rattle.swd_host.specs.declared.outcome.Outcome.{Outcome}
 use Rattle.swd_host.specs.declared.outcome.Outcome.TheVariants.{Opened, Answered, Stopped}
 use Rattle.swd_host.specs.declared.task.Task.{Task}
+use Rattle.swd_host.specs.declared.task.Bursts.{Bursts}
 use Rattle.swd_host.specs.declared.request.Place.{Place}
 use Rattle.swd_host.specs.declared.request.Place.TheVariants.{Aim, Transfer, Confirm}
+use Rattle.swd_port.specs.declared.access.Answer.TheVariants.{BusFault}
+use Rattle.swd_host.specs.declared.engine.Ahead.{Ahead}
+use Rattle.swd_host.specs.declared.engine.Ahead.TheVariants.{Unsent, Sent, Failed}
 use Rattle.swd_host.specs.declared.request.Job.{Job}
 use Rattle.swd_host.specs.declared.request.Job.TheVariants.{At}
 use Rattle.swd_host.specs.declared.engine.Phase.{Phase}
@@ -21,41 +25,53 @@ use Rattle.swd_host.specs.declared.engine.State.{State}
 use Rattle.swd_host.specs.declared.engine.State.TheVariants.{Leading, Doing, Resting}
 use Rattle.swd_host.specs.declared.engine.Engine.{Engine}
 use Rattle.swd_host.specs.Addresses.{is_known, continues}
-use Rattle.swd_host.specs.Tasks.{task_for, access_of, is_burst}
+use Rattle.swd_host.specs.Tasks.{task_for, access_of, is_burst, most_begun}
 use Rattle.swd_host.specs.Engines.{is_ahead, is_resting, job_in}
 use Rattle.swd_host.specs.Progress.{left_for, left_in, least_for, least_in, open_requests, is_state_of, is_quiet}
-use Rattle.swd_host.specs.Tracks.{Counted, Follows, IsTask, begins_in, state_seen}
+use Rattle.swd_host.specs.Tracks.{Counted, Follows, IsTask, begun_once, state_seen}
 
 -- an engine at the start of the opening
-pub record IsNew (most : ℕ) (e : Engine) : Type 0 where
+pub record IsNew (kind : Bursts) (most : ℕ) (e : Engine) : Type 0 where
   pub leads : e.state ≡ Leading
   pub tries : e.tries ≡ most
   pub events : e.events ≡ 0
-  pub begun : e.begun ≡ false
+  pub begun : e.begun ≡ 0
+  pub bursts : e.bursts ≡ kind
   pub task : IsTask e.task
   pub burst : is_burst e.task ≡ false
   pub requests : e.requests ≡ 0
 
--- where an access begins: at the data of its DRW write, which was sent already, or where TAR is written, or where it
--- is known
-abbrev pub first_state : Bool → Bool → State
-first_state true aims = Doing (At Transfer) Data
-first_state false true = Doing (At Aim) Ask
-first_state false false = Doing (At Transfer) Ask
+-- the access was a bus error, which the one before it met
+abbrev pub has_failed : Ahead → Bool
+has_failed Failed = true
+has_failed ahead = false
 
--- an access begins: no event was met, and it is begun exactly where its DRW request was sent, to confirm the write
--- before
+-- where an access begins: at the data of its DRW write, which was sent already; where it is confirmed, since its DRW
+-- read was; answered, where it was a bus error; or where TAR is written, or where it is known
+abbrev pub first_state : Bool → Ahead → Bool → State
+first_state true ahead aims = Doing (At Transfer) Data
+first_state false Sent aims = Doing (At Confirm) Ask
+first_state false Failed aims = Resting (Answered BusFault)
+first_state false Unsent true = Doing (At Aim) Ask
+first_state false Unsent false = Doing (At Transfer) Ask
+
+-- An access begins: no event was met, and it is begun exactly where its DRW request was sent, to confirm the access
+-- before. A bus error that the one before met is answered: it is begun no more, and with it no request was sent for
+-- the one that follows.
 pub record Starts (a : Access) (following : Option Access) (e f : Engine) : Type 0 where
-  pub task : f.task ≡ task_for a following
+  pub task : f.task ≡ task_for e.bursts a (if has_failed e.ahead then None else following)
   pub aims : f.aims ≡ not (is_ahead e || is_known e.tar (address a))
-  pub state : f.state ≡ first_state (is_ahead e) f.aims
-  pub begun : f.begun ≡ is_burst e.task
+  pub state : f.state ≡ first_state (is_ahead e) e.ahead f.aims
+  pub begun : f.begun ≡ bit (is_burst e.task && not (has_failed e.ahead))
+  pub ahead : f.ahead ≡ Unsent
+  pub bursts : f.bursts ≡ e.bursts
   pub events : f.events ≡ 0
   pub tar : f.tar ≡ e.tar
   pub tries : f.tries ≡ e.tries
   pub requests : f.requests ≡ e.requests
 
--- what an acknowledgement leaves: the access in hand is begun once its DRW request was sent
+-- what an acknowledgement leaves: the access in hand is begun once its DRW request was sent, and in a block the next
+-- one once its was
 pub record Sees (seen : ℕ) (e f : Engine) : Type 0 where
   pub state : f.state ≡ state_seen (job_in e.state) seen
   pub task : f.task ≡ e.task
@@ -63,18 +79,20 @@ pub record Sees (seen : ℕ) (e f : Engine) : Type 0 where
   pub tar : f.tar ≡ e.tar
   pub tries : f.tries ≡ e.tries
   pub events : f.events ≡ e.events
-  pub begun : f.begun ≡ (begins_in e.state || e.begun)
+  pub bursts : f.bursts ≡ e.bursts
+  pub begun : f.begun ≡ begun_once e.state e.task e.begun
   pub least : least_in f.aims f.state ≤ least_in e.aims e.state + 1
   pub part : (opening : Bool) → is_state_of opening e.state ≡ true → is_state_of opening f.state ≡ true
 
--- From a state, with so many requests open and sent: the next request is due, or an outcome came. Only an answer says
--- that the access isn't begun any more.
+-- From a state, with so many requests open and sent: the next request is due, or an outcome came. No access is begun
+-- by it.
 pub record Lands (open_then sent_then : ℕ) (x : State) (e f : Engine) : Type 0 where
   pub task : f.task ≡ e.task
   pub aims : f.aims ≡ e.aims
   pub tries : f.tries ≡ e.tries
   pub requests : f.requests ≡ e.requests
-  pub begun : f.begun ≡ true → e.begun ≡ true
+  pub bursts : f.bursts ≡ e.bursts
+  pub begun : f.begun ≤ e.begun
   pub left : open_requests f ≤ 5 * (e.tries - e.events) + open_then
   pub least : least_in f.aims f.state ≤ sent_then
   pub part : (opening : Bool) → is_state_of opening x ≡ true → is_state_of opening f.state ≡ true
@@ -106,12 +124,14 @@ pub record Goes (e : Engine) (s : Port) (f : Engine) (t : Port) : Type 0 where
   pub aims : f.aims ≡ e.aims
   pub tries : f.tries ≡ e.tries
   pub part : (opening : Bool) → is_state_of opening e.state ≡ true → is_state_of opening f.state ≡ true
-  pub unbegun : is_state_of true e.state ≡ true → e.begun ≡ false → f.begun ≡ false
+  pub bursts : f.bursts ≡ e.bursts
+  pub few : e.begun ≤ most_begun e.task → f.begun ≤ most_begun e.task
+  pub unbegun : is_state_of true e.state ≡ true → e.begun ≡ 0 → f.begun ≡ 0
   pub more : e.requests ≤ f.requests
   pub spends : f.requests + open_requests f ≤ e.requests + open_requests e
   pub least : IsCountable e → e.requests + least_in f.aims f.state ≤ f.requests + least_in e.aims e.state
-  pub begun : IsCountable e → e.begun ≡ false → f.begun ≡ true
-      → e.requests + bit e.aims + 1 ≤ f.requests + least_in e.aims e.state
+  pub begun : IsCountable e → e.begun < f.begun
+      → e.requests + bit e.aims + f.begun ≤ f.requests + least_in e.aims e.state
   -- with the port
   pub follows : (base : Counted) (m : PlainMemory) → Follows base m e s → Follows base m f t
   pub disturbed : s.tally.disturbed ≤ t.tally.disturbed
@@ -128,7 +148,7 @@ GoesFrom a following e s f t = (g : Engine) × Starts a following e g × Goes g 
 
 -- the access is the one that continues the burst, where its DRW write was answered OK
 pub record GoesOn (e : Engine) (a : Access) : Type 0 where
-  pub on : is_ahead e ≡ true → continues (address (access_of e.task)) (Some a) ≡ true
+  pub on : is_ahead e ≡ true → continues (access_of e.task) (Some a) ≡ true
 
 -- the state in which the opening is left, and the outcome to which an access comes
 abbrev pub opened_as : Result (Unit {0}) End → State

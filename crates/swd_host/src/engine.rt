@@ -1,19 +1,18 @@
 //! The engine: what has to be sent next, from what was seen so far. It sends nothing itself.
 ghost use Rattle.std.specs.Prelude.{◌≡◌, ◌+◌, ◌<◌, ◌≤◌, ◌*◌, ◌^◌, ◌||◌, ℕ, true, false, None};
-ghost use Rattle.swd_bits.specs.Bits.{bit};
 ghost use Rattle.swd_port.specs.Phases.{word_in};
 ghost use Rattle.swd_host.specs.Events.{Meets, MeetsRead, MeetsSent};
-ghost use Rattle.swd_host.specs.Engines.{cue_of, finished_of, is_ahead, is_begun, is_ask, is_take, is_send};
+ghost use Rattle.swd_host.specs.Engines.{cue_of, finished_of, is_ahead, begun_of, is_ask, is_take, is_send};
 ghost use Rattle.swd_host.specs.Engines.{may_start, one_more, requests_of, tries_of, IsPhaseCue};
 ghost use Rattle.swd_host.specs.Tasks.{task_for};
 ghost use Rattle.swd_host.specs.Progress.{open_requests};
-ghost use Rattle.swd_host.specs.Turns.{IsNew, Starts, Sees, Lands, lands_from};
+ghost use Rattle.swd_host.specs.Turns.{IsNew, Starts, Sees, Lands, first_state, lands_from};
 ghost use Rattle.swd_host.specs.Tracks.{HasRead, HasSent, Hears, Keeps, state_seen};
 
 use crate::outcome::{End, Outcome};
 use crate::phase::{phase_of, word_in_phase};
 use crate::request::{Job, Place};
-use crate::task::{Task, address_of};
+use crate::task::{Bursts, Task, address_of};
 use swd_bits::{Ack, Request};
 use swd_port::{Access, Answer};
 
@@ -54,6 +53,17 @@ pub(crate) enum Phase {
     Faulted,
 }
 
+/// What is known of the next access of a block of reads, where an engine rests.
+#[derive(Clone, Copy, Debug, PartialEq, Eq)]
+pub(crate) enum Ahead {
+    /// Nothing: it begins anew.
+    Unsent,
+    /// Its DRW read was answered OK.
+    Sent,
+    /// It was a bus error, whose flag is cleared.
+    Failed,
+}
+
 /// Where an engine is.
 #[derive(Clone, Copy, Debug, PartialEq, Eq)]
 pub(crate) enum State {
@@ -89,10 +99,13 @@ pub struct Engine {
     pub(crate) aims: bool,
     // The address that TAR is known to hold, where the engine rests.
     pub(crate) tar: Option<u32>,
+    pub(crate) bursts: Bursts,
+    pub(crate) ahead: Ahead,
     pub(crate) tries: u32,
     pub(crate) events: u32,
-    // The DRW request of the access in hand was sent.
-    pub(crate) begun: bool,
+    // The accesses that aren't answered and whose DRW request was sent: the one in hand, and in a block
+    // the next one.
+    pub(crate) begun: u8,
     pub(crate) requests: u64,
 }
 
@@ -100,7 +113,7 @@ impl Engine {
     /// An engine at the start of the opening. Each of the opening and the accesses may meet as many
     /// events as `tries`.
     pub fn new(tries: u32) -> Engine
-        ensures new { IsNew tries result }
+        ensures new { IsNew Bursts.Writes tries result }
         ensures open { open_requests result ≤ 9 + 5 * (tries + 1) }
     {
         Engine {
@@ -108,34 +121,60 @@ impl Engine {
             task: Task::Read(0),
             aims: true,
             tar: None,
+            bursts: Bursts::Writes,
+            ahead: Ahead::Unsent,
             tries,
             events: 0,
-            begun: false,
+            begun: 0,
             requests: 0,
         }
     }
 
+    /// The same for blocks of reads: its bursts are reads in place of writes. A read gives its word at the
+    /// DRW read of the next one.
+    pub fn blocks(tries: u32) -> Engine
+        ensures new { IsNew Bursts.Reads tries result }
+        ensures open { open_requests result ≤ 9 + 5 * (tries + 1) }
+    {
+        let mut engine = Engine::new(tries);
+        engine.bursts = Bursts::Reads;
+        engine
+    }
+
     /// Begins an access, with the one that follows it. Where that one continues its burst, which is
     /// a write at the next address in the same kilobyte after a write, it has to be the next that is
-    /// begun.
+    /// begun. Over `Engine::blocks` a burst is one of reads; there an access may be answered at once.
     pub fn start(&mut self, access: Access, following: Option<Access>)
         requires rests { may_start (finished_of self.old) ≡ true }
         ensures starts { Starts access following self.old self.new }
         ensures open { open_requests self.new ≤ 9 + 5 * (tries_of self.old + 1) }
     {
-        let ahead = self.is_ahead();
-        self.aims = !ahead && self.tar != Some(address_of(access));
-        // The request that confirmed the write before was this one's.
-        self.begun = matches!(&self.task, Task::BurstWrite(_, _));
-        self.task = Task::new(access, following);
+        let given = self.is_ahead();
+        let failed = matches!(&self.ahead, Ahead::Failed);
+        self.aims = !given && self.tar != Some(address_of(access));
+        self.state = self.first_state(given);
+        // The request that confirmed the access before was this one's.
+        self.begun = u8::from(self.task.is_burst() && !failed);
+        // No request of the next one was sent with a bus error.
+        let following = if failed { None } else { following };
+        self.task = Task::new(self.bursts, access, following);
+        self.ahead = Ahead::Unsent;
         self.events = 0;
-        self.state = if ahead {
-            State::Doing(Job::At(Place::Transfer), Phase::Data)
-        } else if self.aims {
-            State::Doing(Job::At(Place::Aim), Phase::Ask)
-        } else {
-            State::Doing(Job::At(Place::Transfer), Phase::Ask)
-        };
+    }
+
+    // Where the next access begins. `given` says whether the data of its DRW write is due.
+    fn first_state(&self, given: bool) -> State
+        ensures { result ≡ first_state given self.now.ahead self.now.aims }
+    {
+        if given {
+            return State::Doing(Job::At(Place::Transfer), Phase::Data);
+        }
+        match self.ahead {
+            Ahead::Failed => State::Resting(Outcome::Answered(Answer::BusFault)),
+            Ahead::Sent => State::Doing(Job::At(Place::Confirm), Phase::Ask),
+            Ahead::Unsent if self.aims => State::Doing(Job::At(Place::Aim), Phase::Ask),
+            Ahead::Unsent => State::Doing(Job::At(Place::Transfer), Phase::Ask),
+        }
     }
 
     // The access in hand is answered, since the DRW write of the next one was answered OK. The data
@@ -199,11 +238,12 @@ impl Engine {
         }
     }
 
-    /// 1 where the access in hand isn't answered and its DRW request was sent, else 0.
+    /// How many accesses aren't answered and had their DRW request sent: the one in hand, and over
+    /// `Engine::blocks` the next one too. Between two writes of a burst it is 0.
     pub fn begun(&self) -> u8
-        ensures { result ≡ bit (is_begun self.now) }
+        ensures { result ≡ begun_of self.now }
     {
-        u8::from(self.begun && !self.is_ahead())
+        if self.is_ahead() { 0 } else { self.begun }
     }
 
     /// How many requests were sent. It stays at its greatest value once there.
@@ -227,7 +267,7 @@ impl Engine {
             unreachable!()
         };
         self.requests = self.requests.saturating_add(1);
-        self.begun = job.begins() | self.begun;
+        self.begun = self.begun.max(job.begins(self.task));
         self.state = acknowledged(job, seen);
     }
 

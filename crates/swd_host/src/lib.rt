@@ -1,7 +1,8 @@
-//! The host's side of a serial wire: an engine that says what has to be sent next, and `run`, which
-//! does a list of accesses over any wire, each once.
+//! The host's side of a serial wire: an engine that says what has to be sent next; `run`, which does a
+//! list of accesses over any wire, each once; and `run_block`, which reads a block of words so.
 #![tactic(auto)]
 
+mod block;
 mod engine;
 mod flags;
 mod outcome;
@@ -11,6 +12,7 @@ mod running;
 mod step;
 mod task;
 
+pub use block::run_block;
 pub use engine::{Cue, Engine};
 pub use outcome::{End, Outcome, Refused, Report};
 pub use running::run;

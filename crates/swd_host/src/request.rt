@@ -33,8 +33,10 @@ pub(crate) enum Place {
     Aim,
     /// DRW is read or written.
     Transfer,
-    /// What confirms the access: RDBUFF is read, or DRW is written for the next access of a burst.
+    /// What confirms the access: RDBUFF is read, or DRW is read or written for the next access of a burst.
     Confirm,
+    /// RESEND: the word of a read, where the next one of its block was a bus error whose flag is cleared.
+    Behind,
 }
 
 /// A request that the engine sends, and why.
@@ -80,9 +82,11 @@ impl Place {
             Place::Aim => (true, false, Reg4::R4),
             Place::Transfer => (true, task.is_read(), Reg4::RC),
             Place::Confirm => match task {
+                Task::BurstRead(_) => (true, true, Reg4::RC),
                 Task::BurstWrite(_, _) => (true, false, Reg4::RC),
                 _ => (false, true, Reg4::RC),
             },
+            Place::Behind => (false, true, Reg4::R8),
         };
         Request { ap, read, addr }
     }
@@ -98,7 +102,7 @@ impl Place {
             Place::Configure => Some(0x2300_0012),
             Place::Aim => Some(task.address()),
             Place::Transfer => match task {
-                Task::Read(_) => None,
+                Task::Read(_) | Task::BurstRead(_) => None,
                 Task::Write(_, word) | Task::BurstWrite(_, word) => Some(word),
             },
             _ => None,
@@ -120,16 +124,17 @@ impl Place {
             Place::Recall | Place::Configured => Place::Configured,
             Place::Aim => Place::Transfer,
             Place::Transfer | Place::Confirm => Place::Confirm,
+            Place::Behind => Place::Behind,
         }
     }
 
-    // The request that gives the word of this place again, where its parity was wrong: what RDBUFF gave
-    // comes by RESEND, since reading it again would give another value.
+    // The request that gives the word of this place again, where its parity was wrong: what RDBUFF gave, or
+    // DRW in a block, comes by RESEND, since reading it again would give another value.
     pub(crate) fn again(self) -> Job
         ensures { result ≡ again_at self }
     {
         match self {
-            Place::Configured | Place::Confirm => Job::Resend(self),
+            Place::Configured | Place::Confirm | Place::Behind => Job::Resend(self),
             _ => Job::At(self),
         }
     }
@@ -146,7 +151,7 @@ impl Place {
             Place::Recall => Some(Place::Configure),
             Place::Transfer => { if aims { Some(Place::Aim) } else { None } }
             Place::Confirm => match task {
-                Task::Read(_) => None,
+                Task::Read(_) | Task::BurstRead(_) => None,
                 _ => Some(Place::Transfer),
             },
             _ => None,
@@ -178,11 +183,16 @@ impl Job {
         }
     }
 
-    // It is the DRW request of the access in hand.
-    pub(crate) fn begins(self) -> bool
-        ensures { result ≡ begins self }
+    // How many of the accesses that aren't answered are begun once it is sent, at least: DRW begins the
+    // access in hand, and in a block what confirms that one begins the next.
+    pub(crate) fn begins(self, task: Task) -> u8
+        ensures { result ≡ begins self task }
     {
-        matches!(self, Job::At(Place::Transfer))
+        match self {
+            Job::At(Place::Transfer) => 1,
+            Job::At(Place::Confirm) if task.is_block() => 2,
+            _ => 0,
+        }
     }
 
     // It is never answered WAIT or FAULT.

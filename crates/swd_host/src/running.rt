@@ -1,16 +1,15 @@
 //! Runs an engine over a wire.
 ghost use Rattle.std.specs.Prelude.{◌≡◌, ◌<◌, ◌≤◌, ◌%◌, ℕ, Some, None, true, false, IfOk, IfErr, IfNone, IfSome};
-ghost use Rattle.std.specs.Prelude.{◌+◌, length};
+ghost use Rattle.std.specs.Prelude.{◌+◌, length, []};
 ghost use Rattle.std.specs.Vec.{vec_capacity};
-ghost use Rattle.swd_bits.specs.Bits.{bit};
 ghost use Rattle.swd_port.specs.declared.wire.Due.TheVariants.{Nothing};
 ghost use Rattle.swd_host.specs.Plain.{AreAccesses, HasRanges, is_aligned};
-ghost use Rattle.swd_host.specs.Engines.{finished_of, is_ahead, is_begun, is_resting, may_start};
+ghost use Rattle.swd_host.specs.Engines.{finished_of, is_ahead, is_resting, may_start};
 ghost use Rattle.swd_host.specs.Progress.{calls_left};
-ghost use Rattle.swd_host.specs.Tasks.{access_of};
+ghost use Rattle.swd_host.specs.Tasks.{access_of, most_of};
 ghost use Rattle.swd_host.specs.Tracks.{DueFits};
 ghost use Rattle.swd_host.specs.Turns.{Goes, GoesFrom, GoesOn, IsNew, Starts, answered_as, opened_as};
-ghost use Rattle.swd_host.specs.Reports.{Follower, RefusedAs, RunsOver, told_by, told_of};
+ghost use Rattle.swd_host.specs.Reports.{Follower, RefusedAs, RunsOver, RunsWithin, told_by, told_of};
 ghost use Rattle.swd_host.specs.Standing.{Does, HasOpened};
 
 use crate::engine::{Cue, Engine};
@@ -102,7 +101,7 @@ fn refusal(accesses: &[Access]) -> Option<Refused>
 // The opening.
 fn open<W: Wire>(wire: &mut W, engine: &mut Engine) -> Result<(), End>
     requires due { (W.port wire.old).link.due ≡ Nothing }
-    requires new { IsNew engine.old.tries engine.old }
+    requires new { IsNew engine.old.bursts engine.old.tries engine.old }
     ensures due { DueFits engine.new (W.port wire.new) }
     ensures goes { Goes engine.old (W.port wire.old) engine.new (W.port wire.new) }
     ensures finished { engine.new.state ≡ opened_as result }
@@ -194,15 +193,35 @@ pub fn run<W: Wire, A: Allocator>(
     if let Some(refused) = refusal(accesses) {
         return Err(refused);
     }
-    let Ok(mut answers) = Vec::with_capacity(alloc, accesses.len()) else {
+    let Ok(answers) = Vec::with_capacity(alloc, accesses.len()) else {
         return Err(Refused::Memory);
     };
-    let mut engine = Engine::new(tries);
+    Ok(conduct(wire, Engine::new(tries), accesses, answers))
+}
+
+// Opens the target with a new engine, and does the list.
+pub(crate) fn conduct<W: Wire, A: Allocator>(
+    wire: &mut W,
+    engine: Engine,
+    accesses: &[Access],
+    answers: Vec<Answer, A>,
+) -> Report<A>
+    requires due { (W.port wire.old).link.due ≡ Nothing }
+    requires new { IsNew engine.bursts engine.tries engine }
+    requires accepted { (length accesses.now ≤ 65536) × AreAccesses accesses.now }
+    requires none { answers.items ≡ [] }
+    requires room { length accesses.now ≤ vec_capacity answers }
+    ensures fits { RunsWithin (most_of engine.bursts) accesses.now engine.tries (told_of result)
+        (W.port wire.old) (W.port wire.new) }
+    ensures plan { W.plan wire.new ≡ W.plan wire.old }
+{
+    let mut engine = engine;
+    let mut answers = answers;
     if let Err(end) = open(wire, &mut engine) {
-        return Ok(reported(answers, &engine, end));
+        return reported(answers, &engine, end);
     }
     let ended = perform(wire, &mut engine, accesses, &mut answers);
-    Ok(reported(answers, &engine, ended))
+    reported(answers, &engine, ended)
 }
 
 fn reported<A: Allocator>(answers: Vec<Answer, A>, engine: &Engine, ended: End) -> Report<A>

@@ -8,7 +8,7 @@ ghost use Rattle.swd_host.specs.Turns.{LandsAnswered, LandsAt, LandsFrom};
 ghost use Rattle.swd_host.specs.Tracks.{Before, Checks, Comes, ComesWith, Earns, FaultedAt, HasAsked, Refused, Taken};
 ghost use Rattle.swd_host.specs.Tracks.{TakenFor, TookAt, Waiting, WasSent};
 
-use crate::engine::{Engine, Phase, State};
+use crate::engine::{Ahead, Engine, Phase, State};
 use crate::flags::{Flags, flags_of, is_configured, is_powered};
 use crate::outcome::{End, Outcome};
 use crate::request::{Job, Place};
@@ -37,8 +37,10 @@ impl Engine {
         ensures meets { Meets (is_damaged_clearing owed now) None self.old self.new }
     {
         if !now.error && !now.damaged {
-            if owed.error {
-                self.answer(Answer::BusFault);
+            if owed.error && matches!(place, Place::Behind) {
+                self.state = State::Doing(Job::Resend(place), Phase::Ask);
+            } else if owed.error {
+                self.answer(Answer::BusFault, Ahead::Unsent);
             } else {
                 let again = place.confirms(self.task, self.aims).unwrap_or(place);
                 self.state = State::Doing(Job::At(again), Phase::Ask);
@@ -52,16 +54,18 @@ impl Engine {
 
     // The access is answered. A transfer that was done leaves TAR at the next address, but at the end
     // of a kilobyte.
-    pub(crate) fn answer(&mut self, answer: Answer)
-        ensures tracks { Comes (Earns answer) self.old self.new }
+    pub(crate) fn answer(&mut self, answer: Answer, ahead: Ahead)
+        ensures tracks { Comes (Earns answer ahead) self.old self.new }
         ensures lands { LandsAnswered self.old self.new }
         ensures meets { Meets false None self.old self.new }
     {
-        self.tar = match answer {
-            Answer::BusFault => None,
+        self.tar = match (answer, ahead) {
+            (Answer::BusFault, _) | (_, Ahead::Failed) => None,
             _ => next_in_kilobyte(self.task.address()),
         };
-        self.begun = false;
+        // In a block the DRW request of the next one was sent.
+        self.begun = self.begun.min(u8::from(self.task.is_block()));
+        self.ahead = ahead;
         self.state = State::Resting(Outcome::Answered(answer));
     }
 
@@ -104,6 +108,10 @@ impl Engine {
         } else {
             match job {
                 Job::At(place) => State::Doing(Job::Status(place), Phase::Ask),
+                // The next access of the block was a bus error.
+                Job::Resend(Place::Confirm) if self.task.is_block() => {
+                    State::Doing(Job::Status(Place::Behind), Phase::Ask)
+                }
                 _ => State::Doing(Job::LastStatus, Phase::Ask),
             }
         };
@@ -160,7 +168,7 @@ impl Engine {
         ensures meets { Meets false None self.old self.new }
     {
         match place {
-            Place::Confirm => self.answer(Answer::Written),
+            Place::Confirm => self.answer(Answer::Written, Ahead::Unsent),
             _ => self.state = State::Doing(Job::At(place.next()), Phase::Ask),
         }
     }
@@ -176,9 +184,24 @@ impl Engine {
             Place::Inspect => self.inspected(flags_of(word)),
             Place::Powered => self.powered(flags_of(word), is_powered(word)),
             Place::Configured => self.configured(is_configured(word)),
-            Place::Confirm => self.answer(Answer::Value(word)),
+            Place::Confirm => self.given(word),
+            Place::Behind => self.answer(Answer::Value(word), Ahead::Failed),
             _ => self.state = State::Resting(Outcome::Stopped(End::Confused)),
         }
+    }
+
+    // The word of a read: by RDBUFF, or in a block by the DRW read of the next one.
+    fn given(&mut self, word: u32)
+        ensures tracks { Comes (Taken Place.Confirm word) self.old self.new }
+        ensures lands { LandsAnswered self.old self.new }
+        ensures meets { Meets false None self.old self.new }
+    {
+        let ahead = if self.task.is_block() {
+            Ahead::Sent
+        } else {
+            Ahead::Unsent
+        };
+        self.answer(Answer::Value(word), ahead);
     }
 
     // DPIDR was read.
@@ -224,13 +247,14 @@ impl Engine {
         }
     }
 
-    // CSW was read back. TAR isn't known yet.
+    // CSW was read back. TAR isn't known yet, and no access was sent.
     fn configured(&mut self, right: bool)
         ensures tracks { (word : ℕ) → right ≡ is_configured word → Comes (Taken Place.Configured word) self.old self.new }
         ensures lands { LandsFrom (Job.At Place.Configured) Phase.Data self.old self.new }
         ensures meets { Meets false None self.old self.new }
     {
         self.tar = None;
+        self.ahead = Ahead::Unsent;
         self.state = if right {
             State::Resting(Outcome::Opened)
         } else {
@@ -247,7 +271,7 @@ impl Engine {
         let write = place.confirms(self.task, self.aims);
         match (flags.error, flags.damaged) {
             (false, true) if write.is_some() => self.event(Job::Clear(place, flags)),
-            (true, false) if matches!(place, Place::Confirm) => {
+            (true, false) if matches!(place, Place::Confirm | Place::Behind) => {
                 self.state = State::Doing(Job::Clear(place, flags), Phase::Ask);
             }
             _ => self.state = State::Resting(Outcome::Stopped(End::Confused)),

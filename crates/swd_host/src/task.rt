@@ -5,11 +5,23 @@ ghost use Rattle.swd_host.specs.Addresses.{next_address, continues};
 
 use swd_port::Access;
 
+/// The accesses at addresses that follow each other that an engine does in bursts: there the DRW request
+/// of the next access confirms the one before.
+#[derive(Clone, Copy, Debug, PartialEq, Eq)]
+pub(crate) enum Bursts {
+    /// Writes.
+    Writes,
+    /// Reads: the blocks.
+    Reads,
+}
+
 /// The access in hand, with the request that confirms it.
 #[derive(Clone, Copy, Debug, PartialEq, Eq)]
 pub(crate) enum Task {
     /// A read at this address: RDBUFF confirms it, and gives its word.
     Read(u32),
+    /// The same, where the next access continues the burst: its DRW read gives the word of this one.
+    BurstRead(u32),
     /// A write at this address of this word: RDBUFF confirms it.
     Write(u32, u32),
     /// The same, where the next access continues the burst: its DRW write confirms this one.
@@ -17,21 +29,18 @@ pub(crate) enum Task {
 }
 
 impl Task {
-    ghost use Rattle.swd_host.specs.Tasks.{task_for, access_of, is_read};
+    ghost use Rattle.swd_host.specs.Tasks.{task_for, access_of, is_read, is_burst, is_block};
 
     // An access with the one that follows it.
-    pub(crate) fn new(access: Access, following: Option<Access>) -> Task
-        ensures { result ≡ task_for access following }
+    pub(crate) fn new(bursts: Bursts, access: Access, following: Option<Access>) -> Task
+        ensures { result ≡ task_for bursts access following }
     {
-        match access {
-            Access::Read(addr) => Task::Read(addr),
-            Access::Write(addr, word) => {
-                if continues(addr, following) {
-                    Task::BurstWrite(addr, word)
-                } else {
-                    Task::Write(addr, word)
-                }
-            }
+        let on = continues(access, following);
+        match (bursts, access) {
+            (Bursts::Reads, Access::Read(addr)) if on => Task::BurstRead(addr),
+            (Bursts::Writes, Access::Write(addr, word)) if on => Task::BurstWrite(addr, word),
+            (_, Access::Read(addr)) => Task::Read(addr),
+            (_, Access::Write(addr, word)) => Task::Write(addr, word),
         }
     }
 
@@ -39,14 +48,31 @@ impl Task {
         ensures { result ≡ address (access_of self) }
     {
         match self {
-            Task::Read(addr) | Task::Write(addr, _) | Task::BurstWrite(addr, _) => addr,
+            Task::Read(addr)
+            | Task::BurstRead(addr)
+            | Task::Write(addr, _)
+            | Task::BurstWrite(addr, _) => addr,
         }
     }
 
     pub(crate) fn is_read(self) -> bool
         ensures { result ≡ is_read self }
     {
-        matches!(&self, Task::Read(_))
+        matches!(&self, Task::Read(_) | Task::BurstRead(_))
+    }
+
+    // The DRW request of the next access confirms it.
+    pub(crate) fn is_burst(self) -> bool
+        ensures { result ≡ is_burst self }
+    {
+        matches!(&self, Task::BurstRead(_) | Task::BurstWrite(_, _))
+    }
+
+    // It is a read whose word the DRW read of the next access gives.
+    pub(crate) fn is_block(self) -> bool
+        ensures { result ≡ is_block self }
+    {
+        matches!(&self, Task::BurstRead(_))
     }
 }
 
@@ -59,12 +85,15 @@ pub(crate) fn address_of(access: Access) -> u32
     }
 }
 
-// The access that follows is a write at the address after this one.
-fn continues(addr: u32, following: Option<Access>) -> bool
-    ensures { result ≡ continues addr following }
+// The access that follows does the same at the address after this one.
+fn continues(access: Access, following: Option<Access>) -> bool
+    ensures { result ≡ continues access following }
 {
-    match following {
-        Some(Access::Write(next, _)) => next_in_kilobyte(addr) == Some(next),
+    match (access, following) {
+        (Access::Read(addr), Some(Access::Read(next)))
+        | (Access::Write(addr, _), Some(Access::Write(next, _))) => {
+            next_in_kilobyte(addr) == Some(next)
+        }
         _ => false,
     }
 }

@@ -1,5 +1,6 @@
 //! What simulated targets do, and what hosts do over them, by worked values.
 mod accesses;
+mod blocks;
 mod bursts;
 mod damage;
 mod engine;

@@ -9,7 +9,11 @@ use swd_target::Bench;
 
 // An engine whose lead was sent. Its cue is the first request.
 fn led() -> Engine {
-    let mut engine = Engine::new(8);
+    led_by(Engine::new(8))
+}
+
+fn led_by(new: Engine) -> Engine {
+    let mut engine = new;
     if let Cue::Lead { .. } = engine.cue() {
         engine.done();
     }
@@ -114,9 +118,9 @@ fn answered(engine: &mut Engine, word: u32) {
     }
 }
 
-// An engine whose opening was answered OK, with this word for CSW.
-fn opened(csw: u32) -> Engine {
-    let mut engine = led();
+/// The engine once its opening was answered OK, with this word for CSW.
+pub fn opened(new: Engine, csw: u32) -> Engine {
+    let mut engine = led_by(new);
     for word in [0x2ba0_1477, 0, 0, 0, 0, 0xf000_0000, 0, 0, csw] {
         answered(&mut engine, word);
     }
@@ -135,7 +139,7 @@ fn an_opening_ends_by_the_fields_of_csw(rt: HostRuntime) {
         (0x2300_0062, confused),
         (0x2300_0012, confused),
     ] {
-        let engine = opened(csw);
+        let engine = opened(Engine::new(8), csw);
         assert_eq!(rt; engine.finished(), Some(outcome));
         assert_eq!(rt; engine.requests(), 9);
     }
@@ -143,7 +147,7 @@ fn an_opening_ends_by_the_fields_of_csw(rt: HostRuntime) {
 
 // A write whose confirming request was answered FAULT, and CTRL/STAT then read so.
 fn refused(status: u32) -> Engine {
-    let mut engine = opened(0x2300_0052);
+    let mut engine = opened(Engine::new(8), 0x2300_0052);
     if let Some(Outcome::Opened) = engine.finished() {
         engine.start(WRITE, None);
     }

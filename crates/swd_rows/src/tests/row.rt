@@ -212,6 +212,19 @@ fn comes_out<S: Simulated + Drop, R: Abort>(
     let Some(report) = report_of(alloc, &mut target, &run)? else {
         panic!(rt; "row {row}: the target isn't new");
     };
+    leaves(rt, row, &mut target, &report, &wanted, quirks);
+    Ok(())
+}
+
+/// The report is as wanted, and so is what the target's memory logged.
+pub fn leaves<S: Simulated + Drop, R: Abort>(
+    rt: &R,
+    row: usize,
+    target: &mut S,
+    report: &Report,
+    wanted: &Wanted,
+    quirks: Quirks,
+) {
     let Quirks { wrap, late, filler } = quirks;
     assert_eq!(rt; report.ended, wanted.ended, "{row} {wrap} {late} {filler}");
     assert_eq!(rt;
@@ -236,7 +249,6 @@ fn comes_out<S: Simulated + Drop, R: Abort>(
         wanted.log,
         "{row} {wrap} {late} {filler}"
     );
-    Ok(())
 }
 
 fn each_comes_out<S: Simulated + Drop, R: Abort>(

@@ -1,0 +1,69 @@
+//! Reads a block of words.
+ghost use Rattle.std.specs.Prelude.{◌≡◌, ◌≤◌, ◌+◌, ◌*◌, ◌^◌, IfOk, IfErr, IfNone, IfSome};
+ghost use Rattle.swd_port.specs.declared.wire.Due.TheVariants.{Nothing};
+ghost use Rattle.swd_host.specs.Plain.{AreAccesses, block_of};
+ghost use Rattle.swd_host.specs.Reports.{RefusedAs, RunsWithin, told_of};
+
+use crate::engine::Engine;
+use crate::outcome::{Refused, Report};
+use crate::running::conduct;
+use std::alloc::{AllocError, Allocator};
+use swd_port::{Access, Wire};
+
+/// Reads `count` words at `addr` and the addresses after it, each once, over a wire that is just made: as
+/// `run` reads them, but each word comes with the request for the next one. A report may tell two
+/// accesses that were begun.
+pub fn run_block<W: Wire, A: Allocator + Copy>(
+    alloc: A,
+    wire: &mut W,
+    addr: u32,
+    count: u32,
+    tries: u32,
+) -> Result<Report<A>, Refused>
+    requires due { (W.port wire.old).link.due ≡ Nothing }
+    requires range { addr + 4 * count ≤ 2 ^ 32 }
+    ensures fits { IfOk result (λ report.
+        RunsWithin 2 (block_of addr count) tries (told_of report) (W.port wire.old) (W.port wire.new)) }
+    ensures accepted { IfOk result (λ report. (count ≤ 65536) × AreAccesses (block_of addr count)) }
+    ensures refused { IfErr result (RefusedAs (block_of addr count)) }
+    ensures untouched { IfErr result (λ refused. wire.new ≡ wire.old) }
+    ensures plan { W.plan wire.new ≡ W.plan wire.old }
+{
+    if let Some(refused) = refusal(addr, count) {
+        return Err(refused);
+    }
+    let Ok(accesses) = reads(alloc, addr, count) else {
+        return Err(Refused::Memory);
+    };
+    let Ok(answers) = Vec::with_capacity(alloc, accesses.len()) else {
+        return Err(Refused::Memory);
+    };
+    Ok(conduct(wire, Engine::blocks(tries), &accesses, answers))
+}
+
+// Why a block isn't read.
+fn refusal(addr: u32, count: u32) -> Option<Refused>
+    requires { addr + 4 * count ≤ 2 ^ 32 }
+    ensures none { IfNone result ((count ≤ 65536) × AreAccesses (block_of addr count)) }
+    ensures refused { IfSome result (RefusedAs (block_of addr count)) }
+{
+    if count > 65_536 {
+        return Some(Refused::TooMany);
+    }
+    if count > 0 && addr % 4 != 0 {
+        return Some(Refused::Unaligned { index: 0 });
+    }
+    None
+}
+
+// The reads of a block.
+fn reads<A: Allocator>(alloc: A, addr: u32, count: u32) -> Result<Vec<Access, A>, AllocError>
+    requires { addr + 4 * count ≤ 2 ^ 32 }
+    ensures { IfOk result (λ accesses. accesses.items ≡ block_of addr count) }
+{
+    let mut accesses = Vec::with_capacity(alloc, count as usize)?;
+    for index in 0..count {
+        accesses.push(Access::Read(addr + 4 * index)).unwrap();
+    }
+    Ok(accesses)
+}
