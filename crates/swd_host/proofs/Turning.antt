@@ -239,11 +239,11 @@ one_more_least n = grind arith
 one_more_exact : (n : ℕ) → n + 1 < 2 ^ 64 → one_more n ≡ n + 1
 one_more_exact n h = grind arith
 
-pub ask_goes : (e f : Engine) (s t : Port) (q : Request) (v : ℕ) → cue_of e ≡ CueAsk q → Asks s q v t
+pub ask_goes : (e f : Engine) (on : is_resting e ≡ false) (s t : Port) (q : Request) (v : ℕ) → cue_of e ≡ CueAsk q → Asks s q v t
     → open_requests f + 1 ≤ open_requests e → f.requests ≡ one_more e.requests → Sees v e f
     → ((base : Counted) (m : PlainMemory) (u : Port) → Hears v base m e u → TracksEngine base m f u)
     → Goes e s f t
-ask_goes e f s t q v cue asks left sent sees tracks =
+ask_goes e f on s t q v cue asks left sent sees tracks =
     let c : Asked s t = request_counted q v s t asks in
     let a : IsAsking e.state e.task q = asking e.state e.task q cue in
     let job : job_in e.state ≡ a.job = ap job_in a.at in
@@ -261,6 +261,7 @@ ask_goes e f s t q v cue asks left sent sees tracks =
       aims = sees.aims;
       tries = sees.tries;
       part = sees.part;
+      rests = λ at. absurd (let both : true ≡ false = sym at ∙ on in cc);
       bursts = sees.bursts;
       few = λ few. subst (λ b. b ≤ most_begun e.task) (sym begun_is)
           (max_few e.begun (begins a.job e.task) (most_begun e.task) few (begins_few a.job e.task));
@@ -330,13 +331,14 @@ ask_due e f s t q v cue asks sees =
 no_lost : (x : State) → is_quiet x ≡ true → x ≡ Resting (Stopped Lost) → ⊥
 no_lost x h is = absurd (let both : true ≡ false = sym h ∙ ap is_quiet is in cc)
 
-moves : (e f : Engine) (s t : Port) → lands_from e f → t.tally ≡ s.tally
+moves : (e f : Engine) (on : is_resting e ≡ false) (s t : Port) → lands_from e f → t.tally ≡ s.tally
     → ((base : Counted) (m : PlainMemory) → Follows base m e s → TracksEngine base m f t) → Goes e s f t
-moves e f s t lands tally tracks = record {
+moves e f on s t lands tally tracks = record {
   task = lands.task;
   aims = lands.aims;
   tries = lands.tries;
   part = lands.part;
+  rests = λ at. absurd (let both : true ≡ false = sym at ∙ on in cc);
   bursts = lands.bursts;
   few = λ few. omega (arith, lands.begun);
   unbegun = λ opening h. omega (arith, lands.begun);
@@ -377,15 +379,15 @@ giving (Doing job Waited) task sent e = absurd (cc)
 giving (Doing job Faulted) task sent e = absurd (cc)
 giving (Resting outcome) task sent e = absurd (cc)
 
-pub take_goes : (e f : Engine) (s t : Port) (bits : ℕ) → bits < 2 ^ 33 → cue_of e ≡ CueTake → Takes s bits t
+pub take_goes : (e f : Engine) (on : is_resting e ≡ false) (s t : Port) (bits : ℕ) → bits < 2 ^ 33 → cue_of e ≡ CueTake → Takes s bits t
     → lands_from e f
     → ((base : Counted) (m : PlainMemory) (u : Port) → HasRead (word_in bits) base m e u → TracksEngine base m f u)
     → Goes e s f t
-take_goes e f s t bits range cue takes lands tracks =
+take_goes e f on s t bits range cue takes lands tracks =
     let p : IsPhase e.state e.task CueTake = taking e.state e.task cue in
     let c : IsTaking (is_ahead_at p.job Data e.task) (word_for p.job e.task) =
     take_cue (is_ahead_at p.job Data e.task) (word_for p.job e.task) p.is in
-    moves e f s t lands (others_uncounted.taken bits s t takes)
+    moves e f on s t lands (others_uncounted.taken bits s t takes)
     (λ base m h. tracks base m t (
       h.task,
       subst
@@ -403,13 +405,13 @@ left_at_state : (base : Counted) (m : PlainMemory) (e : Engine) (t : Port) (x : 
     → Left e.state (base.disturbed + e.events) e.begun (hand_of e m) t
 left_at_state base m e t x at h = subst (λ y. Left y (base.disturbed + e.events) e.begun (hand_of e m) t) (sym at) h
 
-pub give_goes : (e f : Engine) (s t : Port) (sent : ℕ) → sent < 2 ^ 33 → cue_of e ≡ CueGive sent → Gives s sent t
+pub give_goes : (e f : Engine) (on : is_resting e ≡ false) (s t : Port) (sent : ℕ) → sent < 2 ^ 33 → cue_of e ≡ CueGive sent → Gives s sent t
     → lands_from e f → Dones e f → Goes e s f t
-give_goes e f s t sent range cue gives lands tracks =
+give_goes e f on s t sent range cue gives lands tracks =
     let p : IsPhase e.state e.task (CueGive sent) = giving e.state e.task sent cue in
     let c : IsGiving (word_for p.job e.task) sent = give_cue (is_ahead_at p.job Data e.task)
     (word_for p.job e.task) sent p.is in
-    moves e f s t lands (others_uncounted.given sent s t gives)
+    moves e f on s t lands (others_uncounted.given sent s t gives)
     (λ base m h. tracks base m t (
       h.task,
       left_at_state base m e t (Doing p.job Data) p.at
@@ -428,10 +430,10 @@ passed_left n tries base b k (Doing job Ask) task s t e passes h = absurd (cc)
 passed_left n tries base b k Leading task s t e passes h = absurd (cc)
 passed_left n tries base b k (Resting outcome) task s t e passes h = absurd (cc)
 
-pub pass_goes : (e f : Engine) (s t : Port) → cue_of e ≡ CuePass → Passes s t → lands_from e f → Dones e f
+pub pass_goes : (e f : Engine) (on : is_resting e ≡ false) (s t : Port) → cue_of e ≡ CuePass → Passes s t → lands_from e f → Dones e f
     → Goes e s f t
-pass_goes e f s t cue passes lands tracks =
-    moves e f s t lands (others_uncounted.passed s t passes)
+pass_goes e f on s t cue passes lands tracks =
+    moves e f on s t lands (others_uncounted.passed s t passes)
     (λ base m h. tracks base m t (
       h.task,
       passed_left (base.disturbed + e.events) e.tries base e.begun
@@ -453,10 +455,10 @@ led_left n tries base b k (Doing job Waited) task ones low switch s t e leads h 
 led_left n tries base b k (Doing job Faulted) task ones low switch s t e leads h = absurd (cc)
 led_left n tries base b k (Resting outcome) task ones low switch s t e leads h = absurd (cc)
 
-pub lead_goes : (e f : Engine) (s t : Port) (ones low : ℕ) (switch : Bool) → cue_of e ≡ Lead ones switch low
+pub lead_goes : (e f : Engine) (on : is_resting e ≡ false) (s t : Port) (ones low : ℕ) (switch : Bool) → cue_of e ≡ Lead ones switch low
     → Leads s ones t → lands_from e f → Dones e f → Goes e s f t
-lead_goes e f s t ones low switch cue leads lands tracks =
-    moves e f s t lands (others_uncounted.led ones s t leads)
+lead_goes e f on s t ones low switch cue leads lands tracks =
+    moves e f on s t lands (others_uncounted.led ones s t leads)
     (λ base m h. tracks base m t (
       h.task,
       led_left (base.disturbed + e.events) e.tries base e.begun
