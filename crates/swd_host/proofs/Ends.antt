@@ -15,22 +15,23 @@ use Rattle.swd_host.specs.declared.outcome.End.TheVariants.{All, Lost, TriesOut,
 use Rattle.swd_host.specs.declared.outcome.Outcome.{Outcome}
 use Rattle.swd_host.specs.declared.outcome.Outcome.TheVariants.{Opened, Answered, Stopped}
 use Rattle.swd_host.specs.declared.task.Task.{Task}
-use Rattle.swd_host.specs.declared.task.Task.TheVariants.{Read, Write, BurstWrite}
+use Rattle.swd_host.specs.declared.task.Task.TheVariants.{Read, BurstRead, Write, BurstWrite}
 use Rattle.swd_host.specs.declared.request.Place.TheVariants.{Confirm}
 use Rattle.swd_host.specs.declared.request.Job.TheVariants.{At}
 use Rattle.swd_host.specs.declared.engine.Phase.TheVariants.{Data}
 use Rattle.swd_host.specs.declared.engine.State.{State}
 use Rattle.swd_host.specs.declared.engine.State.TheVariants.{Leading, Doing, Resting}
 use Rattle.swd_host.specs.declared.engine.Engine.{Engine}
-use Rattle.swd_host.specs.Tasks.{access_of, is_burst}
-use Rattle.swd_host.specs.Engines.{is_ahead_at, is_ahead_in, is_ahead, is_begun, finished_at, finished_of}
+use Rattle.swd_host.specs.Tasks.{access_of, is_burst, is_burst_write, is_block}
+use Rattle.swd_host.specs.Engines.{is_ahead_at, is_ahead_in, is_ahead, begun_of, finished_at, finished_of}
 use Rattle.swd_host.specs.Progress.{is_state_of}
 use Rattle.swd_host.specs.Tracks.{Hand, Counted, Writes, whole, changed, Within, Finished, Confirmed, Confirms}
 use Rattle.swd_host.specs.Tracks.{StoppedAt, Rests, Tracks, Follows, hand_of, IsTask, DueAt}
 use Rattle.swd_host.specs.Turns.{opened_as}
 use Rattle.swd_host.specs.Reports.{EndsAt}
 use Rattle.swd_host.specs.Standing.{Poised, Waits}
-use Rattle.swd_host.proofs.Starts.{ahead_state, ahead_burst}
+use Rattle.swd_host.proofs.Starts.{ahead_state, ahead_burst, ahead_write, single_block}
+use Rattle.swd_bits.specs.Bits.{bit}
 
 -- THE STATE IN WHICH AN OUTCOME CAME
 ahead_or : (ahead : Bool) (outcome : Outcome) → (if ahead then Some (Answered Written) else None) ≡ Some outcome
@@ -102,7 +103,7 @@ rests_there base m f outcome t is h =
 pub record Answers (answer : Answer) (base : Counted) (m : PlainMemory) (f : Engine) (t : Port) : Type 0 where
   pub waits : Waits (is_ahead f) (base.disturbed + f.events) (hand_of f (plain_after (access_of f.task) m)) t
   pub told : plain_answer (access_of f.task) m ≡ answer
-  pub begun : is_ahead f ≡ false → f.begun ≡ false
+  pub begun : is_burst f.task ≡ false → f.begun ≡ 0
 
 answered_rests : (base : Counted) (m : PlainMemory) (answer : Answer) (f : Engine) (t : Port)
     → f.state ≡ Resting (Answered answer)
@@ -115,12 +116,13 @@ answered_rests base m answer f t is h =
       waits = subst (λ c. Waits c n k t) (sym (ap (λ y. is_ahead_in y f.task) is))
           (record { up = x.up; known = x.known; flag = x.flag; paid = x.paid });
       told = x.answered;
-      begun = λ calm. x.begun;
+      begun = λ single. x.begun ∙ ap bit (single_block f.task single);
     }
 
-burst_confirms : (task : Task) (n : ℕ) (b : Bool) (k : Hand) (s : Port) → is_burst task ≡ true → Confirms task n b k s
+burst_confirms : (task : Task) (n b : ℕ) (k : Hand) (s : Port) → is_burst_write task ≡ true → Confirms task n b k s
     → Writes DrwWrite n (λ c. Confirmed c b k s) s
 burst_confirms (Read at) n b k s burst h = absurd (cc)
+burst_confirms (BurstRead at) n b k s burst h = absurd (cc)
 burst_confirms (Write at word) n b k s burst h = absurd (cc)
 burst_confirms (BurstWrite at word) n b k s burst h = h
 
@@ -130,12 +132,13 @@ record Aligned (at : ℕ) : Type 0 where
   aligned : at % 4 ≡ 0
   below : at % 1024 < 1020
 
-burst_aligned : (task : Task) → is_burst task ≡ true → IsTask task → Aligned (address (access_of task))
+burst_aligned : (task : Task) → is_burst_write task ≡ true → IsTask task → Aligned (address (access_of task))
 burst_aligned (Read at) burst h = absurd (cc)
+burst_aligned (BurstRead at) burst h = absurd (cc)
 burst_aligned (Write at word) burst h = absurd (cc)
 burst_aligned (BurstWrite at word) burst h = record { range = h.0.0; aligned = h.0.1; below = h.1 }
 
-confirmed_poised : (n : ℕ) (b : Bool) (k : Hand) (s : Port) → Aligned (address (access_of k.task)) → Confirmed n b k s
+confirmed_poised : (n b : ℕ) (k : Hand) (s : Port) → Aligned (address (access_of k.task)) → Confirmed n b k s
     → Poised n (address (access_of k.task) + 4) (plain_after (access_of k.task) k.memory) s
 confirmed_poised n b k s at h = record {
   up = h.done.up;
@@ -145,13 +148,13 @@ confirmed_poised n b k s at h = record {
   paid = h.paid;
 }
 
-writes_poised : (n : ℕ) (b : Bool) (k : Hand) (s : Port) → Aligned (address (access_of k.task))
+writes_poised : (n b : ℕ) (k : Hand) (s : Port) → Aligned (address (access_of k.task))
     → Writes DrwWrite n (λ c. Confirmed c b k s) s
     → Writes DrwWrite n (λ c. Poised c (address (access_of k.task) + 4) (plain_after (access_of k.task) k.memory) s) s
 writes_poised n b k s at (whole line h) = whole line (confirmed_poised n b k s at h)
 writes_poised n b k s at (changed place line h) = changed place line (confirmed_poised (n + 1) b k s at h)
 
-writes_answered : (n : ℕ) (b : Bool) (k : Hand) (s : Port) → Writes DrwWrite n (λ c. Confirmed c b k s) s
+writes_answered : (n b : ℕ) (k : Hand) (s : Port) → Writes DrwWrite n (λ c. Confirmed c b k s) s
     → plain_answer (access_of k.task) k.memory ≡ Written
 writes_answered n b k s (whole line h) = h.answered
 writes_answered n b k s (changed place line h) = h.answered
@@ -161,7 +164,7 @@ answered_ahead : (base : Counted) (m : PlainMemory) (f : Engine) (t : Port) → 
 answered_ahead base m f t ahead h =
     let n : ℕ = base.disturbed + f.events in
     let is : f.state ≡ Doing (At Confirm) Data = ahead_state f.state f.task ahead in
-    let burst : is_burst f.task ≡ true = ahead_burst f.state f.task ahead in
+    let burst : is_burst_write f.task ≡ true = ahead_write f.state f.task ahead in
     let x : Writes DrwWrite n (λ c. Confirmed c f.begun (hand_of f m) t) t =
     burst_confirms f.task n f.begun (hand_of f m) t burst
     (subst (λ y. Tracks y n f.tries base f.begun (hand_of f m) t) is h.tracks) in
@@ -169,7 +172,7 @@ answered_ahead base m f t ahead h =
       waits = subst (λ c. Waits c n (hand_of f (plain_after (access_of f.task) m)) t) (sym ahead)
           (writes_poised n f.begun (hand_of f m) t (burst_aligned f.task burst h.task) x);
       told = writes_answered n f.begun (hand_of f m) t x;
-      begun = λ calm. absurd (let both : true ≡ false = sym ahead ∙ calm in cc);
+      begun = λ single. absurd (let both : true ≡ false = sym (ahead_burst f.state f.task ahead) ∙ single in cc);
     }
 
 pub answered_there : (base : Counted) (m : PlainMemory) (answer : Answer) (f : Engine) (t : Port)
@@ -182,7 +185,7 @@ answered_there base m answer f t is h =
     ]
 
 -- A STOP
-pub record Stops (end : End) (base : Counted) (tries n : ℕ) (b : Bool) (k : Hand) (t : Port) : Type 0 where
+pub record Stops (end : End) (base : Counted) (tries n : ℕ) (b : ℕ) (k : Hand) (t : Port) : Type 0 where
   pub within : Within b k t.target
   -- the disturbances that were met as events, or more than the tries allow
   pub paid : ((end ≡ Lost) × (n ≤ t.tally.disturbed)) ⊎ (base.disturbed + tries < t.tally.disturbed)
@@ -190,7 +193,7 @@ pub record Stops (end : End) (base : Counted) (tries n : ℕ) (b : Bool) (k : Ha
       → DueAt (Resting (Stopped end)) stray task t.link.due → EndsAt end tries s t
   pub never : end ≢ All
 
-stops_by : (end : End) (n tries : ℕ) (base : Counted) (b : Bool) (k : Hand) (t : Port)
+stops_by : (end : End) (n tries : ℕ) (base : Counted) (b : ℕ) (k : Hand) (t : Port)
     → StoppedAt end n tries base b k t
     → Stops end base tries n b k t
 stops_by Lost n tries base b k t h = record {
@@ -217,16 +220,12 @@ stops_there base m f end t is h =
     (rests_there base m f (Stopped end) t is h)
 
 -- the memory once the transfer that was pending took effect
-pub later_memory : (b : Bool) (k : Hand) (t : Port) (c : Choice) → (w : Within b k t.target)
+pub later_memory : (b : ℕ) (k : Hand) (t : Port) (c : Choice) → (w : Within b k t.target)
     → (completed c t).target.memory ≡ w.later
 later_memory b k t c w = becomes_completed w.later c t.target w.becomes
 
-and_true : (b : Bool) → (b && true) ≡ b
-and_true true = refl
-and_true false = refl
-
-pub begun_there : (f : Engine) (end : End) → f.state ≡ Resting (Stopped end) → is_begun f ≡ f.begun
-begun_there f end is = ap (λ x. f.begun && not (is_ahead_in x f.task)) is ∙ and_true f.begun
+pub begun_there : (f : Engine) (end : End) → f.state ≡ Resting (Stopped end) → begun_of f ≡ f.begun
+begun_there f end is = ap (λ x. if is_ahead_in x f.task then 0 else f.begun) is
 
 -- it stops early only at a lost acknowledgement or past its tries
 pub stops_only : (end : End) (tries : ℕ) (s t : Port) → EndsAt end tries s t → t.tally.lost ≡ s.tally.lost

@@ -1,8 +1,5 @@
 -- What is known of the memory, as what a report says of it.
-use Rattle.std.proofs.Common.{◌≡◌, ◌≢◌, ◌+◌, ◌<◌, ◌≤◌, ℕ, Bool, true, false, refl, ap}
-use Rattle.std.proofs.Common.{inl, inr, arith, ◌∙◌, List, length, take}
-use Rattle.std.specs.Prelude.{◌⊎◌}
-use Rattle.swd_bits.specs.Bits.{bit}
+use Rattle.std.proofs.Common.{◌≡◌, ◌≢◌, ◌+◌, ◌<◌, ◌≤◌, ℕ, ap, arith, ◌∙◌, List, length, take}
 use Rattle.swd_port.specs.declared.access.Access.{Access}
 use Rattle.swd_port.specs.declared.access.Answer.{Answer}
 use Rattle.swd_port.specs.PlainMemory.{PlainMemory}
@@ -10,49 +7,37 @@ use Rattle.swd_host.specs.declared.outcome.End.{End}
 use Rattle.swd_host.specs.declared.outcome.End.TheVariants.{All}
 use Rattle.swd_host.specs.declared.engine.Engine.{Engine}
 use Rattle.swd_host.specs.Plain.{memory_after, answers_of}
-use Rattle.swd_host.specs.Engines.{is_begun}
+use Rattle.swd_host.specs.Engines.{begun_of}
 use Rattle.swd_host.specs.Reports.{Fits, told_by}
 
--- the memory is that after the accesses that are answered, or after the next one too where that is begun
-abbrev pub IsLeft : ℕ → List Access → PlainMemory → Bool → PlainMemory → Type 0
-IsLeft i list m b now =
-    (now ≡ memory_after (take i list) m) ⊎ ((b ≡ true) × (now ≡ memory_after (take (i + 1) list) m))
+-- the memory is that after the accesses that are answered, and after some of those that are begun besides
+pub record IsLeft (i : ℕ) (list : List Access) (m : PlainMemory) (begun : ℕ) (now : PlainMemory) : Type 0 where
+  pub more : ℕ
+  pub few : more ≤ begun
+  pub memory : now ≡ memory_after (take (i + more) list) m
 
-left_after : (i : ℕ) (list : List Access) (m : PlainMemory) (b : Bool) (now : PlainMemory) → IsLeft i list m b now
-    → (j : ℕ) × (j ≤ bit b) × (now ≡ memory_after (take (i + j) list) m)
-left_after i list m b now (inl h) =
+pub none_left : (i : ℕ) (list : List Access) (m : PlainMemory) (begun : ℕ) (now : PlainMemory)
+    → now ≡ memory_after (take i list) m → IsLeft i list m begun now
+none_left i list m begun now h =
     let same : i ≡ i + 0 = omega arith in
-    (0, omega arith, h ∙ ap (λ n. memory_after (take n list) m) same)
-left_after i list m b now (inr (begun, h)) =
-    let one : bit b ≡ 1 = ap bit begun in
-    (1, omega arith, h)
+    record { more = 0; few = omega arith; memory = h ∙ ap (λ n. memory_after (take n list) m) same }
 
-bit_most : (b : Bool) → bit b ≤ 1
-bit_most true = omega arith
-bit_most false = omega arith
+-- accesses are begun that the list has, in a run that isn't whole, once a request was sent for each and each before
+abbrev pub MayBegin : ℕ → List Access → ℕ → ℕ → End → Type 0
+MayBegin i list begun requests end = (i + begun ≤ length list) × (end ≢ All) × (10 + i + begun ≤ requests)
 
--- an access is begun that the list has, in a run that isn't whole, once a request was sent for it and each before it
-abbrev pub MayBegin : ℕ → List Access → ℕ → End → Type 0
-MayBegin i list requests end = (i < length list) × (end ≢ All) × (11 + i ≤ requests)
-
-begun_fits : (b : Bool) (i : ℕ) (list : List Access) (requests : ℕ) (end : End)
-    → (b ≡ true → MayBegin i list requests end) → bit b ≢ 0
-    → (i + bit b ≤ length list) × (end ≢ All) × (10 + i + bit b ≤ requests)
-begun_fits true i list requests end may some = let h = may refl in (omega (arith, h.0), h.1, omega (arith, h.2))
-begun_fits false i list requests end may some = absurd (some refl)
-
-pub fits_by : (i : ℕ) (list : List Access) (m : PlainMemory) (answers : List Answer) (f : Engine) (end : End)
-    (now : PlainMemory) → i ≤ length list → answers ≡ answers_of (take i list) m
-    → (is_begun f ≡ true → MayBegin i list f.requests end) → (end ≡ All → i ≡ length list)
-    → IsLeft i list m (is_begun f) now → Fits 1 list m (told_by answers f end) now
-fits_by i list m answers f end now few answered may all left = (
+pub fits_by : (most i : ℕ) (list : List Access) (m : PlainMemory) (answers : List Answer) (f : Engine) (end : End)
+    (now : PlainMemory) → i ≤ length list → answers ≡ answers_of (take i list) m → begun_of f ≤ most
+    → (begun_of f ≢ 0 → MayBegin i list (begun_of f) f.requests end) → (end ≡ All → i ≡ length list)
+    → IsLeft i list m (begun_of f) now → Fits most list m (told_by answers f end) now
+fits_by most i list m answers f end now reported answered few may all left = (
   i,
   record {
-    reported = few;
+    reported = reported;
     answers = answered;
-    memory = left_after i list m (is_begun f) now left;
-    few = bit_most (is_begun f);
-    begun = begun_fits (is_begun f) i list f.requests end may;
+    memory = (left.more, left.few, left.memory);
+    few = few;
+    begun = may;
     all = all;
   },
 )

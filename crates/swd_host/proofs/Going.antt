@@ -1,6 +1,8 @@
 -- Calls one after the other.
-use Rattle.std.proofs.Common.{◌≡◌, ◌+◌, ◌-◌, ◌*◌, ◌≤◌, Bool, true, false, refl, sym, ap, arith, ◌∙◌}
-use Rattle.std.specs.Prelude.{is_some}
+use Rattle.std.proofs.Common.{◌≡◌, ◌+◌, ◌-◌, ◌*◌, ◌≤◌, ◌<◌, Bool, true, false, refl, sym, ap, subst, arith, ◌∙◌}
+use Rattle.std.specs.Prelude.{is_some, nat_lt}
+use Rattle.std.proofs.lemmas.Bool.{ltb-true, ltb-false}
+use Rattle.swd_host.specs.Tasks.{most_begun}
 use Rattle.swd_bits.specs.Bits.{bit}
 use Rattle.swd_port.specs.Port.{Port}
 use Rattle.swd_host.specs.declared.engine.Engine.{Engine}
@@ -14,11 +16,14 @@ goes_refl e s = record {
   aims = refl;
   tries = refl;
   part = λ opening h. h;
+  bursts = refl;
+  rests = λ at. refl;
+  few = λ few. few;
   unbegun = λ opening h. h;
   more = omega arith;
   spends = omega arith;
   least = λ few. omega arith;
-  begun = λ few not_yet now. absurd (let both : true ≡ false = sym now ∙ not_yet in cc);
+  begun = λ few grows. absurd (omega arith);
   follows = λ base m h. h;
   resumes = λ base start h. h;
   identification = refl;
@@ -43,13 +48,22 @@ goes_then e f g s t u on a b =
       aims = b.aims ∙ a.aims;
       tries = b.tries ∙ a.tries;
       part = λ opening h. b.part opening (a.part opening h);
+      bursts = b.bursts ∙ a.bursts;
+      rests = λ at. absurd (
+          let here : is_resting f ≡ true = ap is_resting (a.rests at) ∙ at in
+          let both : true ≡ false = sym here ∙ on in
+          cc);
+      few = λ few. subst (λ x. g.begun ≤ most_begun x) a.task
+          (b.few (subst (λ x. f.begun ≤ most_begun x) (sym a.task) (a.few few)));
       unbegun = λ opening h. b.unbegun (a.part true opening) (a.unbegun opening h);
       more = omega (arith, a.more, b.more);
       spends = omega (arith, a.spends, b.spends);
       least = λ few. omega (arith, a.least few, b.least (countable few));
-      begun = λ few not_yet now. by_cases f.begun (e.requests + bit e.aims + 1 ≤ g.requests + least_in e.aims e.state)
-          (λ soon. omega (arith, a.begun few not_yet soon, b.more))
-          (λ late. omega (arith, a.least few, ap bit a.aims, b.begun (countable few) late now));
+      begun = λ few grows. by_cases (nat_lt f.begun g.begun)
+          (e.requests + bit e.aims + g.begun ≤ g.requests + least_in e.aims e.state)
+          (λ late. omega (arith, a.least few, ap bit a.aims, b.begun (countable few) (ltb-true f.begun g.begun late)))
+          (λ soon. (let before : g.begun ≤ f.begun = ltb-false f.begun g.begun soon in
+          omega (arith, a.begun few (omega arith), b.more)));
       follows = λ base m h. b.follows base m (a.follows base m h);
       resumes = λ base start h. b.resumes base start (a.resumes base start h);
       identification = b.identification ∙ a.identification;

@@ -60,9 +60,11 @@ pub some_follows : (list : List Access) (i : ℕ) (following : Option Access) �
 some_follows list i None h b e = absurd (cc)
 some_follows list i (Some a) h b e = let same : a ≡ b = cc in subst (Follower i list) same h
 
-pub follower_continues : (list : List Access) (i at : ℕ) (following : Option Access) → continues at following ≡ true
-    → ((b : Access) → following ≡ Some b → Follower i list b) → ContinuesAt list (i + 1) at
-follower_continues list i at None on next = absurd (cc)
-follower_continues list i at (Some b) on next =
+pub follower_continues : (list : List Access) (i : ℕ) (a : Access) (following : Option Access)
+    → continues a following ≡ true → ((b : Access) → following ≡ Some b → Follower i list b)
+    → ContinuesAt list (i + 1) a
+follower_continues list i (Read at) None on next = absurd (cc)
+follower_continues list i (Write at word) None on next = absurd (cc)
+follower_continues list i a (Some b) on next =
     let f = next b refl in
-    (f.number, λ d. ap (λ a. continues at (Some a)) (f.same d) ∙ on)
+    (f.number, λ d. ap (λ x. continues a (Some x)) (f.same d) ∙ on)

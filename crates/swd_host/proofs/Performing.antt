@@ -1,11 +1,12 @@
 -- From what holds between two accesses to what doing the whole list comes to.
 use Rattle.std.proofs.Common.{◌≡◌, ◌≢◌, ◌+◌, ◌-◌, ◌*◌, ◌^◌, ◌<◌, ◌≤◌, ℕ, Bool, true, false, refl, sym, ap, subst}
 use Rattle.std.proofs.Common.{inl, inr, arith, ◌∙◌, List, [], ◌∷◌, ◌++◌, length, take, zero, suc, get_or, length-append}
-use Rattle.std.specs.Prelude.{Option, Some, None, ◌&&◌, not}
+use Rattle.std.specs.Prelude.{Option, Some, None, if◌then◌else◌, nat_lt, is_some, ◌&&◌, not}
+use Rattle.std.proofs.lemmas.Bool.{ltb-true, ltb-false}
 use Rattle.swd_bits.specs.Bits.{bit}
 use Rattle.swd_port.specs.declared.access.Access.{Access}
 use Rattle.swd_port.specs.declared.access.Answer.{Answer}
-use Rattle.swd_port.specs.PlainMemory.{PlainMemory, address, plain_answer, plain_after}
+use Rattle.swd_port.specs.PlainMemory.{PlainMemory, plain_answer, plain_after}
 use Rattle.swd_port.specs.Port.{Port}
 use Rattle.swd_port.specs.Completion.{completed}
 use Rattle.swd_port.specs.Leading.{Leads}
@@ -22,19 +23,25 @@ use Rattle.swd_host.specs.declared.engine.State.TheVariants.{Doing, Resting}
 use Rattle.swd_host.specs.declared.engine.Engine.{Engine}
 use Rattle.swd_host.specs.Addresses.{continues}
 use Rattle.swd_host.specs.Plain.{memory_after, answers_of, AreAccesses}
-use Rattle.swd_host.specs.Tasks.{access_of, is_burst}
-use Rattle.swd_host.specs.Engines.{is_ahead, is_ahead_in, is_begun, finished_at, finished_of, may_start}
+use Rattle.swd_host.specs.declared.engine.Ahead.{Ahead}
+use Rattle.swd_host.specs.declared.engine.Ahead.TheVariants.{Unsent, Sent, Failed}
+use Rattle.swd_host.specs.declared.task.Task.{Task}
+use Rattle.swd_host.specs.Tasks.{access_of, is_burst, is_block, task_for, most_begun, most_of}
+use Rattle.swd_host.specs.Engines.{is_ahead, is_ahead_in, begun_of, is_resting, finished_at, finished_of, may_start}
 use Rattle.swd_host.specs.Progress.{least_in, open_requests}
-use Rattle.swd_host.specs.Tracks.{Hand, Counted, IsWithin, IsReady, Follows, hand_of, DueAt, DueFits}
-use Rattle.swd_host.specs.Turns.{Starts, Goes}
+use Rattle.swd_host.specs.Tracks.{Hand, Counted, IsWithin, within_none, within_first, within_both, IsReady, Follows}
+use Rattle.swd_host.specs.Tracks.{hand_of, next_read, Up, AheadAt, IsKnownAt, DueAt, DueFits}
+use Rattle.swd_host.specs.Turns.{is_failed, has_failed, Starts, Goes}
 use Rattle.swd_host.specs.Reports.{Fits, EndsAt, Follower, told_by}
 use Rattle.swd_host.specs.Standing.{Waits, Reached, ContinuesAt, Stands, HasOpened, IsOpen, Does, DoesOver}
-use Rattle.swd_host.proofs.Fitting.{fits_by}
+use Rattle.swd_host.specs.Standing.{IsAnew, HasSentFor, anew, on}
+use Rattle.swd_host.proofs.Fitting.{IsLeft, none_left, MayBegin, fits_by}
 use Rattle.swd_port.specs.declared.wire.Due.TheVariants.{Nothing}
 use Rattle.swd_port.proofs.CallLaws.{others_uncounted, identification_kept}
 use Rattle.swd_host.proofs.Lists.{memory_next, answers_next, access_at, follower_continues}
-use Rattle.swd_host.proofs.Starts.{IsFirst, same_access, ahead_state, ahead_burst, calm_by, burst_continues}
-use Rattle.swd_host.proofs.Starts.{start_follows, start_left, start_least, first_start}
+use Rattle.swd_host.proofs.Starts.{IsFirst, IsAnswered, same_access, ahead_state, calm_by, burst_continues, task_most}
+use Rattle.swd_host.proofs.Starts.{start_follows, start_left, start_least, start_begun, begun_burst, first_start}
+use Rattle.swd_host.proofs.Starts.{answered_start, anew_going, block_burst, next_is, single_block}
 use Rattle.swd_host.proofs.Ends.{Answers, Stops, answered_there, stops_there, stopped_state, outcome_case}
 use Rattle.swd_host.proofs.Ends.{later_memory, begun_there}
 
@@ -43,18 +50,21 @@ opened_reached : (list : List Access) (m : PlainMemory) (o : Engine) (s : Port) 
     → Reached 0 list m o s o [] s
 opened_reached list m o s has is =
     let calm : is_ahead o ≡ false = ap (λ x. is_ahead_in x o.task) has.at in
-    let known : (at : ℕ) → o.tar ≡ Some at → s.target.tar ≡ Some at =
+    let known : IsKnownAt Unsent o.tar s.target =
     λ at some. absurd (let never : None ≡ Some at = sym is.tar ∙ some in cc) in
-    let ready : IsReady s.tally.disturbed (hand_of o m) s =
-    record { up = is.up; known = known; flag = is.flag; paid = omega arith } in
+    let ready : IsReady s.tally.disturbed (hand_of o m) s = record {
+      up = subst (λ x. AheadAt x o.task m s.target) (sym is.ahead) is.up;
+      known = subst (λ x. IsKnownAt x o.tar s.target) (sym is.ahead) known;
+      flag = is.flag;
+      paid = omega arith;
+    } in
     record {
       met = s.tally.disturbed;
       fewest = omega arith;
       ready = subst (λ c. Waits c s.tally.disturbed (hand_of o m) s) (sym calm) ready;
       answered = refl;
-      begun = λ calm. has.unbegun;
-      first = λ at_first. is.tar;
-      later = λ some. absurd (omega arith);
+      begun = λ single. has.unbegun;
+      sent = anew (record { tar = is.tar; ahead = is.ahead; plain = has.plain }) (omega arith);
       most = omega arith;
     }
 
@@ -64,11 +74,10 @@ opened_stands list o s has due = record {
   due = subst (λ x. DueAt x o.stray o.task s.link.due) (sym has.at) due;
   rests = ap (λ x. may_start (finished_at x o.task)) has.at;
   chain = λ burst. absurd (let both : true ≡ false = sym burst ∙ has.plain in cc);
-  first = λ at_first. has.plain;
   tried = refl;
+  bursts = refl;
   number = refl;
   bounded = omega (arith, has.most);
-  sent = omega arith;
   asked = refl;
   disturbed = omega arith;
   lost = omega arith;
@@ -77,12 +86,33 @@ opened_stands list o s has due = record {
 }
 
 -- AN ACCESS
+some_of : (a b : ℕ) → a ≡ b → a ≢ 0 → 1 ≤ b
+some_of a zero same none = absurd (none same)
+some_of a (suc b) same none = omega arith
+
+one_most : (task : Task) → 1 ≤ most_begun task
+one_most task = grind arith
+
+two_most : (task : Task) → most_begun task ≤ 2
+two_most task = grind arith
+
+single_most : (task : Task) → is_block task ≡ false → most_begun task ≤ 1
+single_most task single = grind arith
+
+-- where the next access was a bus error TAR isn't known
+failed_tar : (ahead : Bool) (n : ℕ) (k : Hand) (t : Port) (further : Ahead) → k.ahead ≡ further
+    → (not ahead && is_failed further) ≡ true → Waits ahead n k t → k.tar ≡ None
+failed_tar true n k t further is failed h = absurd (cc)
+failed_tar false n k t Failed is failed h = subst (λ x. IsKnownAt x k.tar t.target) is h.known
+failed_tar false n k t Sent is failed h = absurd (cc)
+failed_tar false n k t Unsent is failed h = absurd (cc)
+
 abbrev counted_from : ℕ → Port → Counted
 counted_from met t = record { disturbed = met; lost = t.tally.lost }
 
-first_or_later : (i : ℕ) (P : Type 0) → (i ≡ 0 → P) → (1 ≤ i → P) → P
-first_or_later zero P first later = first refl
-first_or_later (suc i) P first later = later (omega arith)
+by_cases : (b : Bool) (P : Type 0) → (b ≡ true → P) → (b ≡ false → P) → P
+by_cases true P set clear = set refl
+by_cases false P set clear = clear refl
 
 answered_least : (f : Engine) (answer : Answer) → finished_of f ≡ Some (Answered answer)
     → least_in f.aims f.state ≡ bit f.aims + 2
@@ -114,7 +144,7 @@ module _ (i : ℕ) (list : List Access) (o e g f : Engine) (answers : List Answe
   follows_here m ok r =
       let before : PlainMemory = memory_after (take i list) m in
       goes.follows (counted_from r.met t) before (start_follows (get_or list i d) following e g starts r.met before t
-      (access_at list i d l ok) (λ ahead. (stands.chain (ahead_burst e.state e.task ahead)).1 d) r.ready)
+      (access_at list i d l ok) (λ burst. (stands.chain burst).1 d) r.ready)
 
   -- HOW MANY REQUESTS
   left_here : open_requests g ≤ 5 * o.tries + 6
@@ -129,38 +159,17 @@ module _ (i : ℕ) (list : List Access) (o e g f : Engine) (answers : List Answe
   asked_here : u.tally.asked + o.requests ≡ s.tally.asked + f.requests
   asked_here = omega (arith, goes.asked countable, starts.requests, stands.asked)
 
-  first_here : i ≡ 0 → e.tar ≡ None → IsFirst g
-  first_here at_first unknown = first_start (get_or list i d) following e g starts (stands.first at_first) unknown
+  -- an access that is answered at once
+  here_at_once : has_failed e ≡ true → f ≡ g
+  here_at_once failed =
+      let at : IsAnswered g = answered_start (get_or list i d) following e g starts failed in
+      goes.rests (ap (λ x. is_some (finished_at x g.task)) at.state)
 
-  begun_sent : (m : PlainMemory) → Reached i list m o s e answers t → f.begun ≡ true → o.requests + 2 + i ≤ f.requests
-  begun_sent m r begun = first_or_later i (o.requests + 2 + i ≤ f.requests)
-      (λ at_first. (let first : IsFirst g = first_here at_first (r.first at_first) in
-      omega (
-        arith,
-        goes.begun countable first.begun begun,
-        ap bit first.aims,
-        first.least,
-        starts.requests,
-        stands.sent,
-      )))
-      (λ some. omega (arith, r.later some, goes.more, starts.requests))
-
-  answered_sent : (answer : Answer) → finished_of f ≡ Some (Answered answer) → o.requests + (i + 1) ≤ f.requests
-  answered_sent answer is = omega (
-    arith,
-    goes.least countable,
-    answered_least f answer is,
-    ap bit goes.aims,
-    start_least (get_or list i d) following e g starts,
-    starts.requests,
-    stands.sent,
-  )
-
-  answered_later : (m : PlainMemory) → Reached i list m o s e answers t → (answer : Answer)
-      → finished_of f ≡ Some (Answered answer) → o.requests + 2 + (i + 1) ≤ f.requests
-  answered_later m r answer is = first_or_later i (o.requests + 2 + (i + 1) ≤ f.requests)
-      (λ at_first. (let first : IsFirst g = first_here at_first (r.first at_first) in
-      omega (
+  answered_on : (answer : Answer) → finished_of f ≡ Some (Answered answer) → has_failed e ≡ false
+      → HasSentFor i o e → HasSentFor (i + 1) o f
+  answered_on answer is going (anew fresh sent) =
+      let first : IsFirst g = first_start (get_or list i d) following e g starts fresh in
+      on (omega (
         arith,
         goes.least countable,
         answered_least f answer is,
@@ -168,32 +177,137 @@ module _ (i : ℕ) (list : List Access) (o e g f : Engine) (answers : List Answe
         ap bit first.aims,
         first.least,
         starts.requests,
-        stands.sent,
-      )))
-      (λ some. omega (
+      ))
+  answered_on answer is going (on sent) =
+      on (omega (
         arith,
-        r.later some,
         goes.least countable,
         answered_least f answer is,
         ap bit goes.aims,
-        start_least (get_or list i d) following e g starts,
+        start_least (get_or list i d) following e g starts going,
         starts.requests,
       ))
 
+  answered_at_once : has_failed e ≡ true → (g.tar ≡ None) → HasSentFor i o e → HasSentFor (i + 1) o f
+  answered_at_once failed unknown (anew fresh sent) =
+      absurd (let both : true ≡ false = sym failed ∙ anew_going (get_or list i d) following e g starts fresh in cc)
+  answered_at_once failed unknown (on sent) =
+      let same : f ≡ g = here_at_once failed in
+      let at : IsAnswered g = answered_start (get_or list i d) following e g starts failed in
+      anew (record {
+        tar = ap (λ x. x.tar) same ∙ unknown;
+        ahead = ap (λ x. x.ahead) same ∙ starts.ahead;
+        plain = ap (λ x. is_burst x.task) same ∙ at.single;
+      }) (omega (arith, ap (λ x. x.requests) same, starts.requests))
+
+  begun_on : has_failed e ≡ false → 1 ≤ f.begun → HasSentFor i o e → o.requests + 1 + i + f.begun ≤ f.requests
+  begun_on going some (anew fresh sent) =
+      let first : IsFirst g = first_start (get_or list i d) following e g starts fresh in
+      omega (
+        arith,
+        goes.begun countable (omega (arith, first.begun)),
+        ap bit first.aims,
+        first.least,
+        starts.requests,
+      )
+  begun_on going some (on sent) = by_cases (nat_lt g.begun f.begun) (o.requests + 1 + i + f.begun ≤ f.requests)
+      (λ grew. omega (
+        arith,
+        goes.begun countable (ltb-true g.begun f.begun grew),
+        start_least (get_or list i d) following e g starts going,
+        starts.requests,
+      ))
+      (λ stayed. omega (
+        arith,
+        ltb-false g.begun f.begun stayed,
+        start_begun (get_or list i d) following e g starts,
+        goes.more,
+        starts.requests,
+      ))
+
+  begun_sent : 1 ≤ f.begun → HasSentFor i o e → o.requests + 1 + i + f.begun ≤ f.requests
+  begun_sent some sent = by_cases (has_failed e) (o.requests + 1 + i + f.begun ≤ f.requests)
+      (λ failed. absurd (
+          let at : IsAnswered g = answered_start (get_or list i d) following e g starts failed in
+          omega (arith, ap (λ x. x.begun) (here_at_once failed), at.begun)))
+      (λ going. begun_on going some sent)
+
+  begun_few : f.begun ≤ most_begun f.task
+  begun_few =
+      let one : 1 ≤ most_begun g.task = one_most g.task in
+      subst (λ x. f.begun ≤ most_begun x) (sym goes.task)
+      (goes.few (omega (arith, start_begun (get_or list i d) following e g starts)))
+
+  begun_most : f.begun ≤ most_of o.bursts
+  begun_most =
+      let most : most_begun f.task ≤ most_of e.bursts = subst (λ x. most_begun x ≤ most_of e.bursts)
+      (sym (goes.task ∙ starts.task))
+      (task_most e.bursts (get_or list i d) (if has_failed e then None else following)) in
+      omega (arith, begun_few, ap most_of stands.bursts)
+
+  -- THE ACCESS THAT FOLLOWS
+  follower_here : ((b : Access) → following ≡ Some b → Follower i list b)
+      → (b : Access) → (if has_failed e then None else following) ≡ Some b → Follower i list b
+  follower_here next b = by_cases (has_failed e)
+      ((if has_failed e then None else following) ≡ Some b → Follower i list b)
+      (λ failed is. absurd (let never : None ≡ Some b = sym (ap (λ x. if x then None else following) failed) ∙ is in cc))
+      (λ going is. next b (sym (ap (λ x. if x then None else following) going) ∙ is))
+
+  chain_here : ((b : Access) → following ≡ Some b → Follower i list b) → is_burst f.task ≡ true
+      → ContinuesAt list (i + 1) (access_of f.task)
+  chain_here next burst =
+      let task : f.task ≡ task_for e.bursts (get_or list i d) (if has_failed e then None else following) =
+      goes.task ∙ starts.task in
+      let on_it : continues (get_or list i d) (if has_failed e then None else following) ≡ true =
+      burst_continues e.bursts (get_or list i d) (if has_failed e then None else following)
+      (sym (ap is_burst task) ∙ burst) in
+      subst (ContinuesAt list (i + 1)) (sym access_here)
+      (follower_continues list i (get_or list i d) (if has_failed e then None else following) on_it (follower_here next))
+
   -- A STOP
+  within_left : (m now : PlainMemory) → ((b : Access) → following ≡ Some b → Follower i list b)
+      → IsWithin f.begun (hand_of f (memory_after (take i list) m)) now → IsLeft i list m f.begun now
+  within_left m now next (within_none h) = none_left i list m f.begun now h
+  within_left m now next (within_first some h) = record { more = 1; few = some; memory = h ∙ after_here m }
+  within_left m now next (within_both two block h) =
+      let chain : ContinuesAt list (i + 1) (access_of f.task) = chain_here next (block_burst f.task block) in
+      let second : get_or list (i + 1) d ≡ next_read f.task =
+      next_is f.task (get_or list (i + 1) d) block (chain.1 d) in
+      let both : memory_after (take (i + 1 + 1) list) m
+          ≡ plain_after (next_read f.task) (memory_after (take (i + 1) list) m) =
+      memory_next list (i + 1) d m chain.0 ∙ ap (λ a. plain_after a (memory_after (take (i + 1) list) m)) second in
+      let count : i + 1 + 1 ≡ i + 2 = omega arith in
+      record {
+        more = 2;
+        few = two;
+        memory = h ∙ (ap (plain_after (next_read f.task)) (after_here m)
+            ∙ (sym both ∙ ap (λ n. memory_after (take n list) m) count));
+      }
+
+  -- the list has the accesses that are begun
+  list_has : ((b : Access) → following ≡ Some b → Follower i list b) → i + f.begun ≤ length list
+  list_has next = by_cases (is_block f.task) (i + f.begun ≤ length list)
+      (λ block. omega (arith, begun_few, two_most f.task, (chain_here next (block_burst f.task block)).0))
+      (λ single. omega (arith, begun_few, single_most f.task single))
+
   stop_fits : (m now : PlainMemory) (end : End) → end ≢ All → f.state ≡ Resting (Stopped end)
+      → ((b : Access) → following ≡ Some b → Follower i list b)
       → Reached i list m o s e answers t → IsWithin f.begun (hand_of f (memory_after (take i list) m)) now
-      → Fits 1 list m (told_by answers f end) now
-  stop_fits m now end never at r within =
-      let same : is_begun f ≡ f.begun = begun_there f end at in
-      fits_by i list m answers f end now (omega arith) r.answered
-      (λ begun. (l, never, omega (arith, begun_sent m r (sym same ∙ begun), opened.least)))
+      → Fits (most_of o.bursts) list m (told_by answers f end) now
+  stop_fits m now end never at next r within =
+      let same : begun_of f ≡ f.begun = begun_there f end at in
+      fits_by (most_of o.bursts) i list m answers f end now (omega arith) r.answered (omega (arith, begun_most))
+      (λ begun. (
+          omega (arith, list_has next),
+          never,
+          omega (arith, begun_sent (some_of (begun_of f) f.begun same begun) r.sent, opened.least)))
       (λ all. absurd (never all))
-      (elim within [ inl h ↦ inl h | inr h ↦ inr (same ∙ h.0, h.1 ∙ after_here m) ])
+      (subst (λ b. IsLeft i list m b now) (sym same) (within_left m now next within))
 
   access_over : (m : PlainMemory) (end : End) → IsOpen m o s → AreAccesses list
+      → ((b : Access) → following ≡ Some b → Follower i list b)
       → finished_of f ≡ Some (Stopped end) → DoesOver list m o f answers end s u
-  access_over m end is ok finished =
+  access_over m end is ok next finished =
       let at : f.state ≡ Resting (Stopped end) = stopped_state f.state f.task end finished in
       let r : Reached i list m o s e answers t = stands.reached m is ok in
       let base : Counted = counted_from r.met t in
@@ -202,10 +316,10 @@ module _ (i : ℕ) (list : List Access) (o e g f : Engine) (answers : List Answe
       let stop : Stops end base f.tries (base.disturbed + f.events) f.begun k u =
       stops_there base before f end u at (follows_here m ok r) in
       record {
-        now = stop_fits m u.target.memory end stop.never at r stop.within.now;
+        now = stop_fits m u.target.memory end stop.never at next r stop.within.now;
         settled = stop.within.later;
         becomes = λ c. later_memory f.begun k u c stop.within;
-        later = stop_fits m stop.within.later end stop.never at r stop.within.ends;
+        later = stop_fits m stop.within.later end stop.never at next r stop.within.ends;
         ends = subst (λ n. EndsAt end n s u) tries_here
             (stop.ends s f.stray f.task r.fewest stands.lost
             (subst (λ x. DueAt x f.stray f.task u.link.due) at due));
@@ -217,25 +331,26 @@ module _ (i : ℕ) (list : List Access) (o e g f : Engine) (answers : List Answe
       }
 
   pub access_does : (earlier after : List Answer) (end : End) → after ≡ earlier ++ answers
+      → ((b : Access) → following ≡ Some b → Follower i list b)
       → finished_of f ≡ Some (Stopped end) → Does list o f earlier after end s u
-  access_does earlier after end added finished = record {
+  access_does earlier after end added next finished = record {
     answers = answers;
     added = added;
     asked = asked_here;
     disturbed = omega (arith, stands.disturbed, goes.disturbed);
     lost = omega (arith, stands.lost, goes.lost);
     identification = goes.identification ∙ stands.identification;
-    over = λ m is ok. access_over m end is ok finished;
+    over = λ m is ok. access_over m end is ok next finished;
   }
 
   -- AN ANSWER
-  chain_here : ((b : Access) → following ≡ Some b → Follower i list b) → is_burst f.task ≡ true
-      → ContinuesAt list (i + 1) (address (access_of f.task))
-  chain_here next burst =
-      let on : continues (address (get_or list i d)) following ≡ true =
-      burst_continues (get_or list i d) following (sym (ap is_burst (goes.task ∙ starts.task)) ∙ burst) in
-      subst (λ a. ContinuesAt list (i + 1) (address a)) (sym access_here)
-      (follower_continues list i (address (get_or list i d)) following on next)
+  answered_sent : (m : PlainMemory) (answer : Answer) → finished_of f ≡ Some (Answered answer)
+      → Reached i list m o s e answers t → HasSentFor (i + 1) o f
+  answered_sent m answer is r = by_cases (has_failed e) (HasSentFor (i + 1) o f)
+      (λ failed. answered_at_once failed
+          (starts.tar ∙ failed_tar (is_ahead e) r.met (hand_of e (memory_after (take i list) m)) t e.ahead refl failed r.ready)
+          r.sent)
+      (λ going. answered_on answer is going r.sent)
 
   answered_reached : (m : PlainMemory) → AreAccesses list → (answer : Answer) (more : List Answer)
       → more ≡ answers ++ answer ∷ [] → finished_of f ≡ Some (Answered answer)
@@ -253,8 +368,7 @@ module _ (i : ℕ) (list : List Access) (o e g f : Engine) (answers : List Answe
         answered = is_more ∙ (ap (λ y. y ++ answer ∷ []) r.answered
             ∙ (ap (λ y. answers_of (take i list) m ++ y ∷ []) (sym told) ∙ sym (answers_next list i d m l)));
         begun = x.begun;
-        first = λ at_first. absurd (omega arith);
-        later = λ some. answered_later m r answer finished;
+        sent = answered_sent m answer finished r;
         most = omega (arith, spent, tries_here, r.most, r.fewest);
       }
 
@@ -265,11 +379,10 @@ module _ (i : ℕ) (list : List Access) (o e g f : Engine) (answers : List Answe
     due = due;
     rests = ap may_start finished;
     chain = chain_here next;
-    first = λ at_first. absurd (omega arith);
     tried = tries_here;
+    bursts = goes.bursts ∙ (starts.bursts ∙ stands.bursts);
     number = ap length is_more ∙ simp length-append (omega (arith, stands.number));
     bounded = omega (arith, spent, stands.bounded);
-    sent = answered_sent answer finished;
     asked = asked_here;
     disturbed = omega (arith, stands.disturbed, goes.disturbed);
     lost = omega (arith, stands.lost, goes.lost);
@@ -278,6 +391,17 @@ module _ (i : ℕ) (list : List Access) (o e g f : Engine) (answers : List Answe
   }
 
 -- ALL ARE ANSWERED
+sent_least : (i : ℕ) (o e : Engine) → HasSentFor i o e → o.requests + i ≤ e.requests
+sent_least i o e (anew fresh sent) = sent
+sent_least i o e (on sent) = omega arith
+
+-- nothing is ahead of an access that is none of a burst
+single_up : (further : Ahead) (task : Task) (m : PlainMemory) (t : Port) → is_burst task ≡ false
+    → AheadAt further task m t.target → Up m t.target
+single_up Unsent task m t single h = h
+single_up Sent task m t single h = absurd (let both : true ≡ false = sym (block_burst task h.0) ∙ single in cc)
+single_up Failed task m t single h = h.1
+
 module _ (i : ℕ) (list : List Access) (o e : Engine) (answers : List Answer) (s t : Port) (opened : HasOpened o)
     (whole : i ≡ length list) (stands : Stands i list o s e answers t) where
   -- no access follows the last one
@@ -285,8 +409,11 @@ module _ (i : ℕ) (list : List Access) (o e : Engine) (answers : List Answer) (
   last_plain true burst = absurd (let follows = (stands.chain burst).0 in omega arith)
   last_plain false burst = refl
 
+  last_single : is_burst e.task ≡ false
+  last_single = last_plain (is_burst e.task) refl
+
   last_calm : is_ahead e ≡ false
-  last_calm = calm_by e.state e.task (last_plain (is_burst e.task) refl)
+  last_calm = calm_by e.state e.task last_single
 
   all_over : (m : PlainMemory) (u : Port) → Leads t 0 u → IsOpen m o s → AreAccesses list
       → DoesOver list m o e answers All s u
@@ -294,21 +421,22 @@ module _ (i : ℕ) (list : List Access) (o e : Engine) (answers : List Answer) (
       let r : Reached i list m o s e answers t = stands.reached m is ok in
       let last : PlainMemory = memory_after (take i list) m in
       let ready : IsReady r.met (hand_of e last) t = subst (λ c. Waits c r.met (hand_of e last) t) last_calm r.ready in
-      let passed : Passed t u = (idle_cycles_at_rest t u ready.up.calm.pending leads).0 in
-      let unbegun : is_begun e ≡ false = ap (λ b. b && not (is_ahead e)) (r.begun last_calm) in
-      let memory : u.target.memory ≡ last = ap (λ x. x.memory) passed.target ∙ ready.up.calm.memory in
-      let idle : u.target.pending ≡ None = ap (λ x. x.pending) passed.target ∙ ready.up.calm.pending in
+      let up : Up last t.target = single_up e.ahead e.task last t last_single ready.up in
+      let passed : Passed t u = (idle_cycles_at_rest t u up.calm.pending leads).0 in
+      let unbegun : begun_of e ≡ 0 = ap (λ x. if x then 0 else e.begun) last_calm ∙ r.begun last_single in
+      let memory : u.target.memory ≡ last = ap (λ x. x.memory) passed.target ∙ up.calm.memory in
+      let idle : u.target.pending ≡ None = ap (λ x. x.pending) passed.target ∙ up.calm.pending in
       let counts : u.tally.disturbed ≡ t.tally.disturbed = ap (λ x. x.disturbed) passed.tally in
       let fits = λ (now : PlainMemory) (left : now ≡ last).
-      fits_by i list m answers e All now (omega arith) r.answered
-      (λ begun. absurd (let both : true ≡ false = sym begun ∙ unbegun in cc)) (λ all. whole) (inl left) in
+      fits_by (most_of o.bursts) i list m answers e All now (omega arith) r.answered (omega arith)
+      (λ begun. absurd (begun unbegun)) (λ all. whole) (none_left i list m (begun_of e) now left) in
       record {
         now = fits u.target.memory memory;
         settled = last;
         becomes = λ c. ap (λ x. x.target.memory) (same c u idle) ∙ memory;
         later = fits last refl;
         ends = passed.due;
-        least = λ all. omega (arith, stands.sent);
+        least = λ all. omega (arith, sent_least i o e r.sent);
         most = omega (arith, r.most, r.fewest, ready.paid);
       }
 

@@ -261,11 +261,11 @@ one_more_least n = grind arith
 one_more_exact : (n : ℕ) → n + 1 < 2 ^ 64 → one_more n ≡ n + 1
 one_more_exact n h = grind arith
 
-pub ask_goes : (e f : Engine) (s t : Port) (q : Request) (v : ℕ) → cue_of e ≡ CueAsk q → Asks s q v t
+pub ask_goes : (e f : Engine) (on : is_resting e ≡ false) (s t : Port) (q : Request) (v : ℕ) → cue_of e ≡ CueAsk q → Asks s q v t
     → open_requests f + 1 ≤ open_requests e → f.requests ≡ one_more e.requests → Sees v e f
     → ((base : Counted) (m : PlainMemory) (u : Port) → Hears v base m e u → TracksEngine base m f u) → HearsEarly v e f
     → Goes e s f t
-ask_goes e f s t q v cue asks left sent sees tracks hears =
+ask_goes e f on s t q v cue asks left sent sees tracks hears =
     let c : Asked s t = request_counted q v s t asks in
     let a : IsAsking e.state e.task q = asking e.state e.stray e.task q cue in
     let job : job_in e.state ≡ a.job = ap job_in a.at in
@@ -300,6 +300,7 @@ ask_goes e f s t q v cue asks left sent sees tracks hears =
       aims = sees.aims;
       tries = sees.tries;
       part = sees.part;
+      rests = λ at. absurd (let both : true ≡ false = sym at ∙ on in cc);
       bursts = sees.bursts;
       few = λ few. subst (λ b. b ≤ most_begun e.task) (sym begun_is)
           (max_few e.begun (begins a.job e.task) (most_begun e.task) few (begins_few a.job e.task));
@@ -368,14 +369,15 @@ abbrev Steps : Engine → Port → Engine → Port → Type 0
 Steps e s f t = (base : Counted) (start : Port) → IsTask e.task → base.lost ≤ s.tally.lost → IsEarly base start e s
     → Resumes base start f t
 
-moves : (e f : Engine) (s t : Port) → lands_from e f → t.tally ≡ s.tally
+moves : (e f : Engine) (on : is_resting e ≡ false) (s t : Port) → lands_from e f → t.tally ≡ s.tally
     → t.target.identification ≡ s.target.identification
     → ((base : Counted) (m : PlainMemory) → Follows base m e s → Follows base m f t) → Steps e s f t → Goes e s f t
-moves e f s t lands tally identified follows steps = record {
+moves e f on s t lands tally identified follows steps = record {
   task = lands.task;
   aims = lands.aims;
   tries = lands.tries;
   part = lands.part;
+  rests = λ at. absurd (let both : true ≡ false = sym at ∙ on in cc);
   bursts = lands.bursts;
   few = λ few. omega (arith, lands.begun);
   unbegun = λ opening h. omega (arith, lands.begun);
@@ -429,17 +431,17 @@ giving (Doing job Waited) stray task sent e = absurd (cc)
 giving (Doing job Faulted) stray task sent e = absurd (cc)
 giving (Resting outcome) stray task sent e = absurd (cc)
 
-pub take_goes : (e f : Engine) (s t : Port) (bits : ℕ) → bits < 2 ^ 33 → cue_of e ≡ CueTake → Takes s bits t
+pub take_goes : (e f : Engine) (on : is_resting e ≡ false) (s t : Port) (bits : ℕ) → bits < 2 ^ 33 → cue_of e ≡ CueTake → Takes s bits t
     → lands_from e f
     → ((base : Counted) (m : PlainMemory) (u : Port) → HasRead (word_in bits) base m e u → TracksEngine base m f u)
     → ReadsEarly (word_in bits) e f → Goes e s f t
-take_goes e f s t bits range cue takes lands tracks reads =
+take_goes e f on s t bits range cue takes lands tracks reads =
     let p : IsPhase e.state e.task CueTake = taking e.state e.stray e.task cue in
     let c : IsTaking (is_ahead_at p.job Data e.task) (word_for p.job e.task) =
     take_cue (is_ahead_at p.job Data e.task) (word_for p.job e.task) p.is in
     let job : job_in e.state ≡ p.job = ap job_in p.at in
     let tally : t.tally ≡ s.tally = others_uncounted.taken bits s t takes in
-    moves e f s t lands tally (identification_kept.taken bits s t takes)
+    moves e f on s t lands tally (identification_kept.taken bits s t takes)
     (follows_by e f s t lands tally (λ base m h. tracks base m t (
       h.task,
       subst
@@ -467,9 +469,9 @@ early_left_at : (base : Counted) (start : Port) (e : Engine) (t : Port) (x : Sta
 early_left_at base start e t x at h =
     subst (λ y. EarlyLeft y (base.disturbed + e.events) e.stray start t) (sym at) h
 
-pub give_goes : (e f : Engine) (s t : Port) (sent : ℕ) → sent < 2 ^ 33 → cue_of e ≡ CueGive sent → Gives s sent t
+pub give_goes : (e f : Engine) (on : is_resting e ≡ false) (s t : Port) (sent : ℕ) → sent < 2 ^ 33 → cue_of e ≡ CueGive sent → Gives s sent t
     → lands_from e f → Dones e f → SendsEarly e f → Goes e s f t
-give_goes e f s t sent range cue gives lands tracks sends =
+give_goes e f on s t sent range cue gives lands tracks sends =
     let p : IsPhase e.state e.task (CueGive sent) = giving e.state e.stray e.task sent cue in
     let c : IsGiving (word_for p.job e.task) sent = give_cue (is_ahead_at p.job Data e.task)
     (word_for p.job e.task) sent p.is in
@@ -482,7 +484,7 @@ give_goes e f s t sent range cue gives lands tracks sends =
           (hand_of e m) s t sent range gives p.job c.gives c.is c.sends h.task
           (tracked base m e s (Doing p.job Data) p.at h.tracks)),
     )) in
-    moves e f s t lands tally (identification_kept.given sent s t gives) follows
+    moves e f on s t lands tally (identification_kept.given sent s t gives) follows
     (λ base start ok few h.
     elim (given_early (base.disturbed + e.events) e.stray start sent s t range gives p.job e.task c.gives c.is c.sends
     (early_at base start e s (Doing p.job Data) p.at h)) [
@@ -515,11 +517,11 @@ passed_early n tries base (Doing job Ask) stray task start s t e passes h = absu
 passed_early n tries base Leading stray task start s t e passes h = absurd (cc)
 passed_early n tries base (Resting outcome) stray task start s t e passes h = absurd (cc)
 
-pub pass_goes : (e f : Engine) (s t : Port) → cue_of e ≡ CuePass → Passes s t → lands_from e f → Dones e f
+pub pass_goes : (e f : Engine) (on : is_resting e ≡ false) (s t : Port) → cue_of e ≡ CuePass → Passes s t → lands_from e f → Dones e f
     → SendsEarly e f → Goes e s f t
-pass_goes e f s t cue passes lands tracks sends =
+pass_goes e f on s t cue passes lands tracks sends =
     let tally : t.tally ≡ s.tally = others_uncounted.passed s t passes in
-    moves e f s t lands tally (identification_kept.passed s t passes)
+    moves e f on s t lands tally (identification_kept.passed s t passes)
     (follows_by e f s t lands tally (λ base m h. tracks base m t (
       h.task,
       passed_left (base.disturbed + e.events) e.tries base e.begun
@@ -556,11 +558,11 @@ led_first n tries base (Doing job Waited) stray task ones low switch start s t e
 led_first n tries base (Doing job Faulted) stray task ones low switch start s t e leads h = absurd (cc)
 led_first n tries base (Resting outcome) stray task ones low switch start s t e leads h = absurd (cc)
 
-pub lead_goes : (e f : Engine) (s t : Port) (ones low : ℕ) (switch : Bool) → cue_of e ≡ Lead ones switch low
+pub lead_goes : (e f : Engine) (on : is_resting e ≡ false) (s t : Port) (ones low : ℕ) (switch : Bool) → cue_of e ≡ Lead ones switch low
     → Leads s ones t → lands_from e f → Dones e f → SendsEarly e f → Goes e s f t
-lead_goes e f s t ones low switch cue leads lands tracks sends =
+lead_goes e f on s t ones low switch cue leads lands tracks sends =
     let tally : t.tally ≡ s.tally = others_uncounted.led ones s t leads in
-    moves e f s t lands tally (identification_kept.led ones s t leads)
+    moves e f on s t lands tally (identification_kept.led ones s t leads)
     (follows_by e f s t lands tally (λ base m h. tracks base m t (
       h.task,
       led_left (base.disturbed + e.events) e.tries base e.begun

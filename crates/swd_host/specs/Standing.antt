@@ -1,6 +1,6 @@
 -- What holds between two accesses of a list, and after it.
 use Rattle.std.specs.Prelude.{ℕ, ◌≡◌, ◌+◌, ◌-◌, ◌*◌, ◌^◌, ◌<◌, ◌≤◌, ◌++◌, List, length, take, Bool, true, false, Some}
-use Rattle.std.specs.Prelude.{None, ◌⊎◌, slice_index_or as get_or}
+use Rattle.std.specs.Prelude.{None, slice_index_or as get_or}
 use Rattle.swd_port.specs.declared.access.Access.{Access}
 use Rattle.swd_port.specs.declared.access.Answer.{Answer}
 use Rattle.swd_port.specs.declared.register.Register.TheVariants.{DrwWrite}
@@ -46,6 +46,12 @@ pub record IsAnew (e : Engine) : Type 0 where
   pub ahead : e.ahead ≡ Unsent
   pub plain : is_burst e.task ≡ false
 
+-- one request was sent for each of i accesses, and beside these two: TAR's, and the one that confirmed the last
+-- access; but the next access may have to write TAR and be unbegun, as the first one
+pub data HasSentFor (i : ℕ) (o e : Engine) : Type 0 where
+  anew : IsAnew e → o.requests + i ≤ e.requests → HasSentFor i o e
+  on : o.requests + 2 + i ≤ e.requests → HasSentFor i o e
+
 -- What is known of the memory after i accesses, by an engine that opened the target as o and stands at e now.
 pub record Reached (i : ℕ) (list : List Access) (m : PlainMemory) (o : Engine) (s : Port) (e : Engine)
     (answers : List Answer) (t : Port) : Type 0 where
@@ -56,9 +62,7 @@ pub record Reached (i : ℕ) (list : List Access) (m : PlainMemory) (o : Engine)
   pub ready : Waits (is_ahead e) met (hand_of e (memory_after (take i list) m)) t
   pub answered : answers ≡ answers_of (take i list) m
   pub begun : is_burst e.task ≡ false → e.begun ≡ 0
-  -- The next access has to write TAR and isn't begun, as the first one; or, beside one request for each access, there
-  -- were two: TAR's, and the one that confirmed the last access.
-  pub sent : IsAnew e ⊎ (o.requests + 2 + i ≤ e.requests)
+  pub sent : HasSentFor i o e
   pub most : e.requests ≤ o.requests + 6 * i + 5 * (met - s.tally.disturbed)
 
 -- the list has an access at i, and it continues a burst after this one
@@ -76,7 +80,6 @@ pub record Stands (i : ℕ) (list : List Access) (o : Engine) (s : Port) (e : En
   pub bursts : e.bursts ≡ o.bursts
   pub number : length answers ≡ i
   pub bounded : e.requests ≤ (i + 1) * 2 ^ 35
-  pub sent : o.requests + i ≤ e.requests
   pub asked : t.tally.asked + o.requests ≡ s.tally.asked + e.requests
   pub disturbed : s.tally.disturbed ≤ t.tally.disturbed
   pub lost : s.tally.lost ≤ t.tally.lost

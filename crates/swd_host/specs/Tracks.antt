@@ -243,6 +243,12 @@ AheadAt Unsent task m s = Up m s
 AheadAt NextSent task m s = (is_block task ≡ true) × Under 1 (next_hand task m) s
 AheadAt NextFailed task m s = (is_block task ≡ true) × Up m s × IsBusError (next_read task) m
 
+-- TAR holds what it is known to hold, where no transfer is under way; after a bus error nothing is known
+abbrev pub IsKnownAt : Ahead → Option ℕ → Target → Type 0
+IsKnownAt Unsent tar s = (at : ℕ) → tar ≡ Some at → s.tar ≡ Some at
+IsKnownAt NextSent tar s = Unit {0}
+IsKnownAt NextFailed tar s = tar ≡ None
+
 -- the access was done, with so much known of the next one
 abbrev pub DoneBy : Ahead → ℕ → Hand → Target → Type 0
 DoneBy Unsent b k s = Done b k s
@@ -309,7 +315,7 @@ pub record Finished (answer : Answer) (n b : ℕ) (k : Hand) (s : Port) : Type 0
   pub begun : b ≡ bit (is_block k.task)
   pub up : AheadAt k.ahead k.task (memory_once_done k) s.target
   pub answered : plain_answer (access_of k.task) k.memory ≡ answer
-  pub known : (at : ℕ) → k.ahead ≡ Unsent → k.tar ≡ Some at → s.target.tar ≡ Some at
+  pub known : IsKnownAt k.ahead k.tar s.target
   pub flag : s.target.write_error ≡ false
   pub paid : n ≤ s.tally.disturbed
 
@@ -415,7 +421,7 @@ pub record Unled (n : ℕ) (k : Hand) (s : Port) : Type 0 where
 
 pub record IsReady (n : ℕ) (k : Hand) (s : Port) : Type 0 where
   pub up : AheadAt k.ahead k.task k.memory s.target
-  pub known : (at : ℕ) → k.ahead ≡ Unsent → k.tar ≡ Some at → s.target.tar ≡ Some at
+  pub known : IsKnownAt k.ahead k.tar s.target
   pub flag : s.target.write_error ≡ false
   pub paid : n ≤ s.tally.disturbed
 

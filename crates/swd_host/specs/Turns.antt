@@ -43,10 +43,13 @@ pub record IsNew (kind : Bursts) (again : Bool) (most : ℕ) (e : Engine) : Type
   pub requests : e.requests ≡ 0
   pub stray : e.stray ≡ again
 
--- the access was a bus error, which the one before it met
-abbrev pub has_failed : Ahead → Bool
-has_failed Failed = true
-has_failed ahead = false
+-- the next access was a bus error, which the one before it met
+abbrev pub is_failed : Ahead → Bool
+is_failed Failed = true
+is_failed ahead = false
+
+abbrev pub has_failed : Engine → Bool
+has_failed e = not (is_ahead e) && is_failed e.ahead
 
 -- where an access begins: at the data of its DRW write, which was sent already; where it is confirmed, since its DRW
 -- read was; answered, where it was a bus error; or where TAR is written, or where it is known
@@ -61,10 +64,10 @@ first_state false Unsent false = Doing (At Transfer) Ask
 -- before. A bus error that the one before met is answered: it is begun no more, and with it no request was sent for
 -- the one that follows.
 pub record Starts (a : Access) (following : Option Access) (e f : Engine) : Type 0 where
-  pub task : f.task ≡ task_for e.bursts a (if has_failed e.ahead then None else following)
+  pub task : f.task ≡ task_for e.bursts a (if has_failed e then None else following)
   pub aims : f.aims ≡ not (is_ahead e || is_known e.tar (address a))
   pub state : f.state ≡ first_state (is_ahead e) e.ahead f.aims
-  pub begun : f.begun ≡ bit (is_burst e.task && not (has_failed e.ahead))
+  pub begun : f.begun ≡ bit (is_burst e.task && not (has_failed e))
   pub ahead : f.ahead ≡ Unsent
   pub bursts : f.bursts ≡ e.bursts
   pub events : f.events ≡ 0
@@ -128,6 +131,7 @@ pub record Goes (e : Engine) (s : Port) (f : Engine) (t : Port) : Type 0 where
   pub aims : f.aims ≡ e.aims
   pub tries : f.tries ≡ e.tries
   pub part : (opening : Bool) → is_state_of opening e.state ≡ true → is_state_of opening f.state ≡ true
+  pub rests : is_resting e ≡ true → f ≡ e
   pub bursts : f.bursts ≡ e.bursts
   pub few : e.begun ≤ most_begun e.task → f.begun ≤ most_begun e.task
   pub unbegun : is_state_of true e.state ≡ true → e.begun ≡ 0 → f.begun ≡ 0

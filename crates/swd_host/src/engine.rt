@@ -166,7 +166,7 @@ impl Engine {
         ensures open { open_requests self.new ≤ 9 + 5 * (tries_of self.old + 1) }
     {
         let given = self.is_ahead();
-        let failed = matches!(&self.ahead, Ahead::Failed);
+        let failed = !given && matches!(&self.ahead, Ahead::Failed);
         self.aims = !given && self.tar != Some(address_of(access));
         self.state = self.first_state(given);
         // The request that confirmed the access before was this one's.

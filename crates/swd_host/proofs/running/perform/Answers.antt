@@ -21,7 +21,7 @@ returns-in-Err-clause-does g c =
     (g.W.Wire.port c.loop-index.wire) (g.W.Wire.port c.access.new.wire) _ _ c.requires.opened
     (omega (arith, c.requires.few)) c.loop-index-test.true c.loop-index.invariant.stands c.access.ensures.goes.1
     c.access.ensures.goes.2 c.access.ensures.due c.args.answers.now.items c.loop-index.answers.items c.in-Err.end
-    c.loop-index.invariant.added.whole c.in-Err.ensures.finished
+    c.loop-index.invariant.added.whole (some_follows _ _ _ c.following-following.ensures) c.in-Err.ensures.finished
 
 pub loop-index-preserved : goal.loop-index-preserved
 loop-index-preserved g c =
