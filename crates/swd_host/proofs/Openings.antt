@@ -8,6 +8,7 @@ use Rattle.swd_host.specs.declared.outcome.End.TheVariants.{All, Lost, TriesOut,
 use Rattle.swd_host.specs.declared.outcome.Outcome.TheVariants.{Opened, Stopped}
 use Rattle.swd_host.specs.declared.engine.State.TheVariants.{Resting}
 use Rattle.swd_host.specs.declared.engine.Engine.{Engine}
+use Rattle.swd_host.specs.declared.task.Bursts.{Bursts}
 use Rattle.swd_host.specs.Tasks.{is_burst}
 use Rattle.swd_host.specs.Engines.{is_resting, finished_at}
 use Rattle.swd_host.specs.Progress.{left_in, stray_left, least_in, open_requests, is_state_of}
@@ -30,8 +31,8 @@ stray_few : (again : Bool) → stray_left again ≤ 5
 stray_few true = omega arith
 stray_few false = omega arith
 
-module _ (again : Bool) (tries : ℕ) (e f : Engine) (s t : Port) (small : tries < 2 ^ 32) (new : IsNew again tries e)
-    (goes : Goes e s f t) where
+module _ (kind : Bursts) (again : Bool) (tries : ℕ) (e f : Engine) (s t : Port) (small : tries < 2 ^ 32)
+    (new : IsNew kind again tries e) (goes : Goes e s f t) where
   new_left : open_requests e ≤ 5 * tries + stray_left again + 10
   new_left =
       let left : left_in e.state ≡ 10 = ap left_in new.leads in
@@ -47,7 +48,7 @@ module _ (again : Bool) (tries : ℕ) (e f : Engine) (s t : Port) (small : tries
   opening_part : is_state_of true e.state ≡ true
   opening_part = ap (is_state_of true) new.leads
 
-  pub opening_unbegun : f.begun ≡ false
+  pub opening_unbegun : f.begun ≡ 0
   opening_unbegun = goes.unbegun opening_part new.begun
 
   -- where it is lost, a request less was sent

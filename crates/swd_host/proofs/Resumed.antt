@@ -3,7 +3,6 @@ use Rattle.std.proofs.Common.{◌≡◌, ◌≢◌, ◌+◌, ◌-◌, ◌*◌, �
 use Rattle.std.proofs.Common.{inl, inr, arith, ◌∙◌, List, [], ◌∷◌, ◌++◌, length, take, length-append, zero, suc, ◌⊎◌}
 use Rattle.std.specs.Prelude.{None, drop}
 use Rattle.std.proofs.lemmas.List.{append-nil, take_all}
-use Rattle.swd_bits.specs.Bits.{bit}
 use Rattle.swd_port.specs.declared.access.Access.{Access}
 use Rattle.swd_port.specs.declared.access.Access.TheVariants.{Read}
 use Rattle.swd_port.specs.declared.access.Answer.{Answer}
@@ -16,8 +15,11 @@ use Rattle.swd_host.specs.declared.outcome.End.TheVariants.{All, Lost, TriesOut,
 use Rattle.swd_host.specs.declared.outcome.Outcome.TheVariants.{Opened, Stopped}
 use Rattle.swd_host.specs.declared.engine.State.TheVariants.{Leading, Resting}
 use Rattle.swd_host.specs.declared.engine.Engine.{Engine}
+use Rattle.swd_host.specs.declared.engine.Ahead.TheVariants.{Unsent}
+use Rattle.swd_host.specs.declared.task.Bursts.TheVariants.{Writes}
+use Rattle.swd_host.specs.Tasks.{most_of}
 use Rattle.swd_host.specs.Plain.{AreAccesses}
-use Rattle.swd_host.specs.Engines.{is_begun}
+use Rattle.swd_host.specs.Engines.{begun_of}
 use Rattle.swd_host.specs.Progress.{left_in}
 use Rattle.swd_host.specs.Tracks.{Counted, Within, IsReady, hand_of, DueAt, DueFits}
 use Rattle.swd_host.specs.Early.{ComesFrom, Early, EarlyStopped, IsEarly, Resumes, early, over}
@@ -27,7 +29,7 @@ use Rattle.swd_host.specs.Standing.{IsOpen, Does, DoesOver}
 use Rattle.swd_host.specs.Again.{Again, AgainThen, HasRoom, MayGoOn, Leaves, LeavesOff, GoesAgain, ResumeFits}
 use Rattle.swd_host.specs.Resuming.{since}
 use Rattle.swd_host.proofs.Ends.{Stops, stops_there, rests_there, later_memory, begun_there, stops_only}
-use Rattle.swd_host.proofs.Runs.{counted_at}
+use Rattle.swd_host.proofs.Runs.{counted_at, ready_open, within_of_none}
 use Rattle.swd_host.proofs.Openings.{ends_since, opening_spends, opening_asked, opening_unbegun, opening_lost}
 use Rattle.swd_host.proofs.Openings.{has_opened}
 use Rattle.swd_host.proofs.GoingOn.{told_length, drop_length, Begun, by_earlier, by_this, since_begun, since_one}
@@ -61,18 +63,15 @@ early_ends (WrongId word) n tries base f start t due h = absurd h
 early_ends Confused n tries base f start t due h = absurd h
 
 -- over one memory, of which no access is begun
-within_comes : (m : PlainMemory) (f : Engine) (start t : Port) → f.begun ≡ false → MayBecome start m
+within_comes : (m : PlainMemory) (f : Engine) (start t : Port) → f.begun ≡ 0 → MayBecome start m
     → Within f.begun (hand_of f m) t.target → ComesFrom start t
 within_comes m f start t none may w = λ now h.
-    (let settled : w.later ≡ m = elim w.ends [
-      | inl is ↦ is
-      | inr is ↦ absurd (let both : true ≡ false = sym is.0 ∙ none in cc)
-    ] in
+    (let settled : w.later ≡ m = within_of_none f.begun (hand_of f m) w.later none w.ends in
     let same : now ≡ m = h.2 ∙ (later_memory f.begun (hand_of f m) t h.0 w ∙ settled) in
     subst (MayBecome start) (sym same) may)
 
 opening_ends : (base : Counted) (start : Port) (f : Engine) (end : End) (t : Port) → f.state ≡ Resting (Stopped end)
-    → f.begun ≡ false → DueFits f t → Resumes base start f t
+    → f.begun ≡ 0 → DueFits f t → Resumes base start f t
     → OpeningEnds end base f.tries (base.disturbed + f.events) start t
 opening_ends base start f end t at none due (early ok few h) =
     early_ends end (base.disturbed + f.events) f.tries base f start t
@@ -101,12 +100,12 @@ opened_over : (base : Counted) (start : Port) (f : Engine) (t : Port) → f.stat
 opened_over base start f t at (early ok few h) =
     absurd (subst (λ x. Early x (base.disturbed + f.events) f.tries base f.stray start t) at h)
 opened_over base start f t at (over m may h) =
-    let r : IsReady (base.disturbed + f.events) (hand_of f m) t × (f.tar ≡ None) =
+    let r : IsReady (base.disturbed + f.events) (hand_of f m) t × (f.tar ≡ None) × (f.ahead ≡ Unsent) =
     rests_there base m f Opened t at h in
     record {
       memory = m;
       comes = may;
-      is_open = record { up = r.0.up; flag = r.0.flag; tar = r.1 };
+      is_open = ready_open f m (base.disturbed + f.events) t r.0 r.1 r.2;
       paid = r.0.paid;
     }
 
@@ -120,8 +119,8 @@ no_answers : (xs : List Answer) → length xs ≡ 0 → xs ≡ []
 no_answers [] none = refl
 no_answers (x ∷ xs) none = absurd (omega arith)
 
-unbegun : (f : Engine) (end : End) → f.state ≡ Resting (Stopped end) → f.begun ≡ false → bit (is_begun f) ≡ 0
-unbegun f end at none = ap bit (begun_there f end at ∙ none)
+unbegun : (f : Engine) (end : End) → f.state ≡ Resting (Stopped end) → f.begun ≡ 0 → begun_of f ≡ 0
+unbegun f end at none = begun_there f end at ∙ none
 
 one_of : (n : ℕ) → n ≢ 0 → n ≤ 1 → n ≡ 1
 one_of zero some few = absurd (some refl)
@@ -144,7 +143,7 @@ lost_goes_on list earlier told tries s t may few same ends is =
 
 -- THE REPORT
 module _ (list : List Access) (tries : ℕ) (earlier : Told) (e f : Engine) (before : List Answer) (s t : Port)
-    (small : tries < 2 ^ 32) (new : IsNew true tries e) (may : MayGoOn list earlier s) (goes : Goes e s f t)
+    (small : tries < 2 ^ 32) (new : IsNew Writes true tries e) (may : MayGoOn list earlier s) (goes : Goes e s f t)
     (due : DueFits f t) (kept : before ≡ earlier.answers) where
   first : Resumes (counted_at s) s e s
   first = early new.task (omega arith)
@@ -171,10 +170,10 @@ module _ (list : List Access) (tries : ℕ) (earlier : Told) (e f : Engine) (bef
     raw = told_by before f end
 
     none : raw.begun ≡ 0
-    none = unbegun f end at (opening_unbegun true tries e f s t small new goes)
+    none = unbegun f end at (opening_unbegun Writes true tries e f s t small new goes)
 
     stop : OpeningEnds end (counted_at s) f.tries (s.tally.disturbed + f.events) s t
-    stop = opening_ends (counted_at s) s f end t at (opening_unbegun true tries e f s t small new goes) due resumes
+    stop = opening_ends (counted_at s) s f end t at (opening_unbegun Writes true tries e f s t small new goes) due resumes
 
     stop_ends : EndsAt end tries s t
     stop_ends = subst (λ n. EndsAt end n s t) same_tries (stop.ends s (omega arith) (omega arith))
@@ -194,9 +193,9 @@ module _ (list : List Access) (tries : ℕ) (earlier : Told) (e f : Engine) (bef
     stop_most = elim stop.paid [
       | inl p ↦
           (let lost : f.state ≡ Resting (Stopped Lost) = at ∙ ap (λ x. Resting (Stopped x)) p.0 in
-          let few = opening_lost true tries e f s t small new goes (counted_at s) s first lost in
+          let few = opening_lost Writes true tries e f s t small new goes (counted_at s) s first lost in
           omega (arith, few, p.1))
-      | inr p ↦ omega (arith, p, opening_spends true tries e f s t small new goes, same_tries)
+      | inr p ↦ omega (arith, p, opening_spends Writes true tries e f s t small new goes, same_tries)
     ]
 
     pub resume_stops : ResumeFits list tries earlier (since raw earlier) s t
@@ -207,7 +206,7 @@ module _ (list : List Access) (tries : ℕ) (earlier : Told) (e f : Engine) (bef
       whole = λ all. absurd (stop.never all);
       goes_on = lost_goes_on list earlier (since raw earlier) tries s t may
           (omega (arith, ap length kept, may.reported)) goes.identification stop_ends;
-      counted = opening_asked true tries e f s t small new goes;
+      counted = opening_asked Writes true tries e f s t small new goes;
       most = stop_most;
       added = [];
       kept = kept ∙ sym (append-nil earlier.answers);
@@ -239,11 +238,17 @@ module _ (list : List Access) (tries : ℕ) (earlier : Told) (e f : Engine) (bef
     long : length rest + length earlier.answers ≡ length list
     long = drop_length (length earlier.answers) list may.reported
 
-    fit : FitsAt 1 done.later.0 rest opened.memory (told_by does.answers last end) done.settled
-    fit = done.later.1
+    one : most_of f.bursts ≡ 1
+    one = ap most_of (goes.bursts ∙ new.bursts)
 
-    number : length does.answers ≡ done.later.0
-    number = told_length done.later.0 rest opened.memory does.answers fit.reported fit.answers
+    later : Fits 1 rest opened.memory (told_by does.answers last end) done.settled
+    later = subst (λ n. Fits n rest opened.memory (told_by does.answers last end) done.settled) one done.later
+
+    fit : FitsAt 1 later.0 rest opened.memory (told_by does.answers last end) done.settled
+    fit = later.1
+
+    number : length does.answers ≡ later.0
+    number = told_length later.0 rest opened.memory does.answers fit.reported fit.answers
 
     total : length after ≡ length earlier.answers + length does.answers
     total = ap length after_is ∙ length-append earlier.answers does.answers
@@ -260,14 +265,14 @@ module _ (list : List Access) (tries : ℕ) (earlier : Told) (e f : Engine) (bef
         subst (Again js list m earlier) (sym come.2) (then_again come.0 come.1) in
         let g : Ongoing js list m earlier (since told earlier) done.settled =
         goes_again js list (Read 0) m opened.memory done.settled earlier told does.answers after_is before_it room
-        done.later in
+        later in
         record {
           more = g.more;
           grows = g.grows;
           later = λ c i. subst (Again g.more list m (since told earlier)) (sym (done.becomes c)) g.again;
           now = λ all. subst (Again g.more list m (since told earlier))
-              (sym (whole_same rest opened.memory (told_by does.answers last end) u.target.memory done.settled all done.now
-              done.later)) g.again;
+              (sym (whole_same rest opened.memory (told_by does.answers last end) u.target.memory done.settled all
+              (subst (λ n. Fits n rest opened.memory (told_by does.answers last end) u.target.memory) one done.now) later)) g.again;
         }
 
     done_whole : end ≡ All → length after ≡ length list
@@ -290,7 +295,7 @@ module _ (list : List Access) (tries : ℕ) (earlier : Told) (e f : Engine) (bef
     done_most : last.requests ≤ 14 + 6 * length list + 5 * (u.tally.disturbed - s.tally.disturbed)
     done_most =
         let left : left_in f.state ≡ 1 = ap left_in at in
-        let spends = opening_spends true tries e f s t small new goes in
+        let spends = opening_spends Writes true tries e f s t small new goes in
         omega (arith, done.most, spends, left, opened.paid, does.disturbed, long)
 
     pub resume_performs : ResumeFits list tries earlier (since told earlier) s u
@@ -301,7 +306,7 @@ module _ (list : List Access) (tries : ℕ) (earlier : Told) (e f : Engine) (bef
       whole = done_whole;
       goes_on = lost_goes_on list earlier (since told earlier) tries s u may
           (omega (arith, total, number, fit.reported, long)) (does.identification ∙ goes.identification) done_ends;
-      counted = omega (arith, does.asked, opening_asked true tries e f s t small new goes);
+      counted = omega (arith, does.asked, opening_asked Writes true tries e f s t small new goes);
       most = done_most;
       added = does.answers;
       kept = after_is;
@@ -314,7 +319,7 @@ module _ (list : List Access) (tries : ℕ) (earlier : Told) (e f : Engine) (bef
 pub leaves_off : (list : List Access) (tries : ℕ) (told : Told) (s t : Port) → length list ≤ 65536 → AreAccesses list
     → t.target.identification ≡ s.target.identification → RunsOver list tries told s t → LeavesOff list told s t
 leaves_off list tries told s t accepted ok same runs = λ identification m is odd lost.
-    (let r : RunFits list tries m told s t = runs identification m is odd in
+    (let r : RunFits 1 list tries m told s t = runs identification m is odd in
     let ends : EndsAt Lost tries s t = subst (λ end. EndsAt end tries s t) lost r.ends in
     let (k, fit) = r.now in
     let number : length told.answers ≡ k = told_length k list m told.answers fit.reported fit.answers in
