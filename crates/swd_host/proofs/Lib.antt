@@ -15,4 +15,5 @@ mod Lists
 mod Starts
 mod Ends
 mod Performing
+mod Blocked
 mod Runs

@@ -13,29 +13,32 @@ use Rattle.swd_host.specs.declared.outcome.Outcome.TheVariants.{Opened, Stopped}
 use Rattle.swd_host.specs.declared.engine.State.TheVariants.{Resting}
 use Rattle.swd_host.specs.declared.engine.Engine.{Engine}
 use Rattle.swd_host.specs.Plain.{AreAccesses}
-use Rattle.swd_host.specs.Tasks.{is_burst}
-use Rattle.swd_host.specs.Engines.{is_resting, finished_at}
+use Rattle.swd_host.specs.declared.engine.Ahead.TheVariants.{Unsent}
+use Rattle.swd_host.specs.declared.task.Bursts.{Bursts}
+use Rattle.swd_host.specs.Tasks.{is_burst, most_of}
+use Rattle.swd_host.specs.Engines.{is_resting, begun_of, finished_at}
 use Rattle.swd_host.specs.Progress.{left_in, least_in, open_requests, is_state_of}
 use Rattle.swd_host.specs.Tracks.{Hand, Counted, IsWithin, IsReady, Tracks, Follows, hand_of, DueAt, DueFits}
 use Rattle.swd_host.specs.Turns.{IsNew, Goes}
-use Rattle.swd_host.specs.Reports.{Told, Fits, EndsAt, RunFits, told_by}
+use Rattle.swd_host.specs.Reports.{Told, Fits, EndsAt, RunFits, RunsWithin, told_by}
 use Rattle.swd_host.specs.Standing.{HasOpened, Does}
-use Rattle.swd_host.proofs.Fitting.{fits_by}
+use Rattle.swd_host.specs.Tracks.{within_none, within_first, within_both, Up, AheadAt}
+use Rattle.swd_host.proofs.Fitting.{none_left, fits_by}
 use Rattle.swd_host.proofs.Ends.{Stops, stops_there, rests_there}
 use Rattle.swd_host.proofs.Ends.{later_memory, begun_there, stops_only}
 
 -- WHAT A REPORT SAYS
-pub told_as : (list : List Access) (tries : ℕ) (m : PlainMemory) (x y : Told) (s t : Port) → y ≡ x
-    → RunFits list tries m x s t → RunFits list tries m y s t
-told_as list tries m x y s t is h = subst (λ told. RunFits list tries m told s t) (sym is) h
+pub told_as : (limit : ℕ) (list : List Access) (tries : ℕ) (m : PlainMemory) (x y : Told) (s t : Port) → y ≡ x
+    → RunFits limit list tries m x s t → RunFits limit list tries m y s t
+told_as limit list tries m x y s t is h = subst (λ told. RunFits limit list tries m told s t) (sym is) h
 
 -- THE OPENING
 abbrev pub counted_at : Port → Counted
 counted_at s = record { disturbed = s.tally.disturbed; lost = s.tally.lost }
 
-new_follows : (tries identification : ℕ) (m : PlainMemory) (e : Engine) (s : Port) → IsNew tries e
+new_follows : (kind : Bursts) (tries identification : ℕ) (m : PlainMemory) (e : Engine) (s : Port) → IsNew kind tries e
     → s ≡ made identification m → identification % 2 ≡ 1 → Follows (counted_at s) m e s
-new_follows tries identification m e s new is odd = record {
+new_follows kind tries identification m e s new is odd = record {
   task = new.task;
   lost = omega arith;
   tracks =
@@ -61,8 +64,8 @@ ends_since TriesOut tries s t u fewer less h = (h.0, omega (arith, h.1))
 ends_since (WrongId word) tries s t u fewer less h = absurd h
 ends_since Confused tries s t u fewer less h = absurd h
 
-module _ (list : List Access) (tries : ℕ) (e f : Engine) (answers : List Answer) (s t : Port) (small : tries < 2 ^ 32)
-    (new : IsNew tries e) (goes : Goes e s f t) (due : DueFits f t) (none : answers ≡ []) where
+module _ (kind : Bursts) (list : List Access) (tries : ℕ) (e f : Engine) (answers : List Answer) (s t : Port)
+    (small : tries < 2 ^ 32) (new : IsNew kind tries e) (goes : Goes e s f t) (due : DueFits f t) (none : answers ≡ []) where
   new_left : open_requests e ≤ 5 * tries + 10
   new_left = let left : left_in e.state ≡ 10 = ap left_in new.leads in omega (arith, new.tries)
 
@@ -75,24 +78,29 @@ module _ (list : List Access) (tries : ℕ) (e f : Engine) (answers : List Answe
   opening : is_state_of true e.state ≡ true
   opening = ap (is_state_of true) new.leads
 
-  opening_unbegun : f.begun ≡ false
+  opening_bursts : f.bursts ≡ kind
+  opening_bursts = goes.bursts ∙ new.bursts
+
+  opening_unbegun : f.begun ≡ 0
   opening_unbegun = goes.unbegun opening new.begun
 
   opening_fits : (m now : PlainMemory) (end : End) → end ≢ All → f.state ≡ Resting (Stopped end)
-      → IsWithin f.begun (hand_of f m) now → Fits 1 list m (told_by answers f end) now
-  opening_fits m now end never at within = fits_by 0 list m answers f end now (omega arith) none
-      (λ begun. absurd (let both : true ≡ false = sym begun ∙ (begun_there f end at ∙ opening_unbegun) in cc))
-      (λ all. absurd (never all))
+      → IsWithin f.begun (hand_of f m) now → Fits (most_of kind) list m (told_by answers f end) now
+  opening_fits m now end never at within =
+      let unbegun : begun_of f ≡ 0 = begun_there f end at ∙ opening_unbegun in
+      fits_by (most_of kind) 0 list m answers f end now (omega arith) none (omega arith)
+      (λ begun. absurd (begun unbegun)) (λ all. absurd (never all))
       (elim within [
-        | inl h ↦ inl h
-        | inr h ↦ absurd (let both : true ≡ false = sym h.0 ∙ opening_unbegun in cc)
+        | within_none h ↦ none_left 0 list m (begun_of f) now h
+        | within_first some h ↦ absurd (omega (arith, opening_unbegun))
+        | within_both two block h ↦ absurd (omega (arith, opening_unbegun))
       ])
 
   pub opening_stops : (identification : ℕ) (m : PlainMemory) (end : End) → s ≡ made identification m
       → identification % 2 ≡ 1 → f.state ≡ Resting (Stopped end)
-      → RunFits list tries m (told_by answers f end) s t
+      → RunFits (most_of kind) list tries m (told_by answers f end) s t
   opening_stops identification m end is odd at =
-      let first : Follows (counted_at s) m e s = new_follows tries identification m e s new is odd in
+      let first : Follows (counted_at s) m e s = new_follows kind tries identification m e s new is odd in
       let k : Hand = hand_of f m in
       let stop : Stops end (counted_at s) f.tries (s.tally.disturbed + f.events) f.begun k t =
       stops_there (counted_at s) m f end t at (goes.follows (counted_at s) m first) in
@@ -135,29 +143,40 @@ module _ (list : List Access) (tries : ℕ) (e f : Engine) (answers : List Answe
 
   opened_ready : (identification : ℕ) (m : PlainMemory) → f.state ≡ Resting Opened → s ≡ made identification m
       → identification % 2 ≡ 1 → IsReady (s.tally.disturbed + f.events) (hand_of f m) t × (f.tar ≡ None)
+      × (f.ahead ≡ Unsent)
   opened_ready identification m at is odd =
       rests_there (counted_at s) m f Opened t at
-      (goes.follows (counted_at s) m (new_follows tries identification m e s new is odd))
+      (goes.follows (counted_at s) m (new_follows kind tries identification m e s new is odd))
 
   pub list_fits : (last : Engine) (part : List Answer) (end : End) (u : Port) → f.state ≡ Resting Opened
       → (does : Does list f last answers part end t u) → (identification : ℕ) (m : PlainMemory)
       → s ≡ made identification m → identification % 2 ≡ 1 → AreAccesses list
-      → RunFits list tries m (told_by part last end) s u
+      → RunFits (most_of kind) list tries m (told_by part last end) s u
   list_fits last part end u at does identification m is odd ok =
       let r = opened_ready identification m at is odd in
-      let over = does.over m (record { up = r.0.up; flag = r.0.flag; tar = r.1 }) ok in
+      let up : Up m t.target = subst (λ x. AheadAt x f.task m t.target) r.2 r.0.up in
+      let over = does.over m (record { up = up; flag = r.0.flag; tar = r.1; ahead = r.2 }) ok in
       let left : left_in f.state ≡ 1 = ap left_in at in
       let mine : part ≡ does.answers = does.added ∙ ap (λ x. x ++ does.answers) none in
       let ends : EndsAt end tries s u = ends_since end tries s t u goes.disturbed goes.lost
       (subst (λ n. EndsAt end n t u) (goes.tries ∙ new.tries) over.ends) in
-      told_as list tries m (told_by does.answers last end) (told_by part last end) s u
+      told_as (most_of kind) list tries m (told_by does.answers last end) (told_by part last end) s u
       (ap (λ x. told_by x last end) mine)
       (record {
-        now = over.now;
-        later = over.later;
+        now = subst (λ x. Fits (most_of x) list m (told_by does.answers last end) u.target.memory) opening_bursts over.now;
+        later = λ c. subst (λ x. Fits (most_of x) list m (told_by does.answers last end) (completed c u).target.memory)
+            opening_bursts (over.later c);
         ends = ends;
         stops_only = stops_only end tries s u ends;
         counted = omega (arith, does.asked, opening_asked);
         least = λ whole. omega (arith, over.least whole, opened_sent at);
         most = omega (arith, over.most, opening_spends, r.0.paid, does.disturbed);
       })
+
+-- by what the engine was made for
+pub runs_as : (kind : Bursts) (tries : ℕ) (list : List Access) (e : Engine) (told : Told) (s u : Port)
+    → IsNew kind tries e → RunsWithin (most_of e.bursts) list e.tries told s u
+    → RunsWithin (most_of kind) list tries told s u
+runs_as kind tries list e told s u new h =
+    subst (λ n. RunsWithin (most_of kind) list n told s u) new.tries
+    (subst (λ x. RunsWithin (most_of x) list e.tries told s u) new.bursts h)
