@@ -24,4 +24,5 @@ mod Starts
 mod Ends
 mod Performing
 mod Openings
+mod Blocked
 mod Runs

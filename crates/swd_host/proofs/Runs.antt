@@ -23,7 +23,7 @@ use Rattle.swd_host.specs.Tracks.{Hand, Counted, IsWithin, within_none, within_f
 use Rattle.swd_host.specs.Tracks.{Tracks, Follows, hand_of, DueAt, DueFits}
 use Rattle.swd_host.specs.Early.{over}
 use Rattle.swd_host.specs.Turns.{IsNew, Goes}
-use Rattle.swd_host.specs.Reports.{Told, Fits, EndsAt, RunFits, told_by}
+use Rattle.swd_host.specs.Reports.{Told, Fits, EndsAt, RunFits, RunsWithin, told_by}
 use Rattle.swd_host.specs.Standing.{IsOpen, Does}
 use Rattle.swd_host.proofs.Fitting.{fits_by, none_left}
 use Rattle.swd_host.proofs.Openings.{ends_since, opening_spends, opening_asked, opening_unbegun, opening_lost}
@@ -153,3 +153,11 @@ module _ (kind : Bursts) (list : List Access) (tries : ℕ) (e f : Engine) (answ
         least = λ whole. omega (arith, over.least whole, opened_sent kind false tries e f s t small new goes at);
         most = omega (arith, over.most, opening_spends kind false tries e f s t small new goes, r.0.paid, does.disturbed);
       })
+
+-- by what the engine was made for
+pub runs_as : (kind : Bursts) (tries : ℕ) (list : List Access) (e : Engine) (told : Told) (s u : Port)
+    → IsNew kind false tries e → RunsWithin (most_of e.bursts) list e.tries told s u
+    → RunsWithin (most_of kind) list tries told s u
+runs_as kind tries list e told s u new h =
+    subst (λ n. RunsWithin (most_of kind) list n told s u) new.tries
+    (subst (λ x. RunsWithin (most_of x) list e.tries told s u) new.bursts h)

@@ -51,10 +51,14 @@ fn refusal(addr: u32, count: u32) -> Option<Refused>
     if count > 65_536 {
         return Some(Refused::TooMany);
     }
-    if count > 0 && addr % 4 != 0 {
-        return Some(Refused::Unaligned { index: 0 });
+    if count == 0 {
+        return None;
     }
-    None
+    if addr % 4 == 0 {
+        None
+    } else {
+        Some(Refused::Unaligned { index: 0 })
+    }
 }
 
 // The reads of a block.

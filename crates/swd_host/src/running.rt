@@ -216,6 +216,7 @@ pub(crate) fn conduct<W: Wire, A: Allocator>(
     requires room { length accesses.now ≤ vec_capacity answers }
     ensures fits { RunsWithin (most_of engine.bursts) accesses.now engine.tries (told_of result)
         (W.port wire.old) (W.port wire.new) }
+    ensures identification { (W.port wire.new).target.identification ≡ (W.port wire.old).target.identification }
     ensures plan { W.plan wire.new ≡ W.plan wire.old }
 {
     let mut engine = engine;

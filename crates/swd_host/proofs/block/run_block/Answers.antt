@@ -1,0 +1,24 @@
+use Rattle.std.proofs.Common.{◌≡◌, ◌≤◌, ◌∙◌, length, subst, sym}
+use Rattle.swd_port.specs.PlainMemory.{reads}
+use Rattle.swd_host.specs.Plain.{AreAccesses}
+use Rattle.swd_host.specs.Reports.{RunsWithin, told_of}
+use Rattle.swd_host.proofs.Blocked.{may_read}
+use Rattle.swd_host.proofs.Runs.{runs_as}
+use Rattle.swd_host.proofs.block.run_block.Goals as goal
+
+pub returns-in_default-reads_of-clause-refused : goal.returns-in_default-reads_of-clause-refused
+returns-in_default-reads_of-clause-refused g c = may_read c.args.addr c.args.count c.in_default.ensures.none
+
+pub returns-in_default-with_capacity-clause-refused : goal.returns-in_default-with_capacity-clause-refused
+returns-in_default-with_capacity-clause-refused g c = may_read c.args.addr c.args.count c.in_default.ensures.none
+
+pub conduct-requires-clause-accepted : goal.conduct-requires-clause-accepted
+conduct-requires-clause-accepted g c =
+    subst (λ list. (length list ≤ 65536) × AreAccesses list) (sym (c.deref.ensures.value ∙ c.in-Ok.ensures))
+    (may_read c.args.addr c.args.count c.in_default.ensures.none)
+
+pub returns-clause-fits : goal.returns-clause-fits
+returns-clause-fits g c =
+    subst (λ list. RunsWithin 2 list c.args.tries (told_of c.conduct.result) (g.W.Wire.port c.args.wire.now)
+    (g.W.Wire.port c.conduct.new.wire)) (c.deref.ensures.value ∙ c.in-Ok.ensures)
+    (runs_as _ c.args.tries _ c.blocks-2.result _ _ _ c.blocks-2.ensures.new c.conduct.ensures.fits)
