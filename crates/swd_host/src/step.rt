@@ -33,6 +33,15 @@ impl Engine {
         }
     }
 
+    // The bus error of a transfer that an earlier run left pending was met: once it is no event. Then this
+    // request.
+    fn forgive(&mut self, job: Job)
+        ensures { self.new ≡ record self.old { stray = false; state = State.Doing job Phase.Ask } }
+    {
+        self.stray = false;
+        self.state = State::Doing(job, Phase::Ask);
+    }
+
     // The flags after ABORT was written.
     pub(crate) fn check(&mut self, place: Place, owed: Flags, now: Flags)
         ensures tracks { ComesWith now (Checks place owed) self.old self.new }
@@ -264,8 +273,7 @@ impl Engine {
         ensures meets { Meets (is_flagged flags && not (is_left_over self.old.stray flags)) None self.old self.new }
     {
         if self.stray && flags.error && !flags.damaged {
-            self.stray = false;
-            self.state = State::Doing(Job::At(Place::Wipe), Phase::Ask);
+            self.forgive(Job::At(Place::Wipe));
         } else if flags.error || flags.damaged {
             self.event(Job::At(Place::Wipe));
         } else {
@@ -319,8 +327,7 @@ impl Engine {
                 self.state = State::Doing(Job::Clear(place, flags), Phase::Ask);
             }
             (true, false) if self.stray && matches!(place, Place::Select) => {
-                self.stray = false;
-                self.state = State::Doing(Job::Clear(place, flags), Phase::Ask);
+                self.forgive(Job::Clear(place, flags));
             }
             _ => self.state = State::Resting(Outcome::Stopped(End::Confused)),
         }

@@ -1,7 +1,11 @@
 //! Going on after a lost acknowledgement.
+ghost use Rattle.std.specs.Prelude.{◌≡◌, IfOk, IfSome};
+ghost use Rattle.swd_host.specs.declared.outcome.End.TheVariants.{Lost};
+ghost use Rattle.swd_host.specs.Again.{MayGoOn};
+ghost use Rattle.swd_host.specs.Reports.{told_of};
+
 use super::row::{
-    BASE, QUIRKS, READ, Run, WORD, WRITE, Wanted, read, report_of, run_of, stopped, target_of,
-    whole, written,
+    BASE, QUIRKS, READ, Run, WORD, WRITE, Wanted, read, run_of, stopped, target_of, whole, written,
 };
 use crate::Simulated;
 use std::alloc::Global;
@@ -12,99 +16,229 @@ use swd_host::{End, Report};
 use swd_port::{Access, Answer, Transfer};
 use swd_target::{Bench, Mark, Quirks};
 
-// A run, what comes of each time it is gone on with, and the tries of each time.
+// A target, and the last report of what was done over it.
+#[derive(Drop)]
+struct Stage<S: Simulated + Drop> {
+    target: S,
+    report: Report,
+}
+
+// The accesses over a new target. None where a mark isn't legal.
+fn begun<S: Simulated + Drop>(
+    alloc: Global,
+    run: &Run,
+    late: bool,
+) -> Result<Option<Stage<S>>, Fail>
+    ensures { IfOk result (λ found. IfSome found (λ stage. stage.report.ended ≡ Lost →
+        MayGoOn run.now.accesses.now (told_of stage.report) (S.Wire.port stage.target))) }
+{
+    let quirks = Quirks { late, ..QUIRKS };
+    let Some(mut target) = target_of::<S>(alloc, run, quirks)? else {
+        return Ok(None);
+    };
+    let report = swd_host::run(alloc, &mut target, run.accesses, run.tries)?;
+    Ok(Some(Stage { target, report }))
+}
+
+// Goes on with them, where an acknowledgement was lost.
+fn gone_on<S: Simulated + Drop>(
+    alloc: Global,
+    accesses: &[Access],
+    stage: Stage<S>,
+    tries: u32,
+) -> Result<Stage<S>, Fail>
+    requires { stage.report.ended ≡ Lost →
+        MayGoOn accesses.now (told_of stage.report) (S.Wire.port stage.target) }
+    ensures { IfOk result (λ stage. stage.report.ended ≡ Lost →
+        MayGoOn accesses.now (told_of stage.report) (S.Wire.port stage.target)) }
+{
+    let Stage { mut target, report } = stage;
+    match report.ended {
+        End::Lost => {
+            let report = swd_host::resume(alloc, &mut target, accesses, &report, tries)?;
+            Ok(Stage { target, report })
+        }
+        _ => Ok(Stage { target, report }),
+    }
+}
+
+// What was reported.
+fn tells<R: Abort>(rt: &R, name: usize, report: &Report, wanted: Wanted) {
+    assert_eq!(rt; report.ended, wanted.ended, "{name}");
+    assert_eq!(rt; report.requests, wanted.requests, "{name}");
+    assert_eq!(rt; report.begun, wanted.begun, "{name}");
+    assert_eq!(rt; report.answers.as_slice(), wanted.answers, "{name}");
+}
+
+// A run that ends at a lost acknowledgement, and what comes of going on once, and twice where it ended so again.
 #[derive(Clone, Copy)]
-struct Row<'a, 'm> {
+struct Row<'a, 'm, 'l> {
     run: Run<'m, 'a>,
     late: bool,
     tries: u32,
-    then: &'a [Wanted<'a, 'a>],
+    once: Wanted<'a, 'l>,
+    twice: Option<Wanted<'a, 'l>>,
 }
 
-fn fits<R: Abort>(rt: &R, row: usize, report: &Report, wanted: &Wanted) {
-    assert_eq!(rt; report.ended, wanted.ended, "{row}");
-    assert_eq!(rt; report.requests, wanted.requests, "{row}");
-    assert_eq!(rt; report.begun, wanted.begun, "{row}");
-    assert_eq!(rt; report.answers.as_slice(), wanted.answers, "{row}");
+// The log is that of the last time, once nothing is pending.
+fn leaves<S: Simulated + Drop, R: Abort>(rt: &R, name: usize, target: S, log: &[Transfer]) {
+    let mut target = target;
+    target.settle();
+    assert_eq!(rt; target.memory().log(), log, "{name}");
 }
 
 fn goes_on<S: Simulated + Drop, R: Abort>(
     rt: &R,
     alloc: Global,
-    index: usize,
-    row: &Row,
+    name: usize,
+    row: Row,
 ) -> Result<(), Fail> {
-    let quirks = Quirks {
-        late: row.late,
-        ..QUIRKS
+    let Some(stage) = begun::<S>(alloc, &row.run, row.late)? else {
+        panic!(rt; "{name}: a mark isn't legal");
     };
-    let Some(mut target) = target_of::<S>(alloc, &row.run, quirks)? else {
-        panic!(rt; "{index}: a mark isn't legal");
+    assert_eq!(rt; stage.report.ended, End::Lost, "{name}");
+    let stage = gone_on(alloc, row.run.accesses, stage, row.tries)?;
+    tells(rt, name, &stage.report, row.once);
+    let Some(twice) = row.twice else {
+        leaves(rt, name, stage.target, row.once.log);
+        return Ok(());
     };
-    let Some(mut report) = report_of(alloc, &mut target, &row.run)? else {
-        panic!(rt; "{index}: the target isn't new");
+    let stage = gone_on(alloc, row.run.accesses, stage, row.tries)?;
+    tells(rt, name, &stage.report, twice);
+    leaves(rt, name, stage.target, twice.log);
+    Ok(())
+}
+
+#[test]
+fn a_write_goes_on_after_a_lost_acknowledgement(rt: HostRuntime) -> Result<(), Fail> {
+    let log = [written(BASE, WORD), written(BASE, WORD)];
+    let answers = [Answer::Written];
+    let faults = [Answer::BusFault];
+    let far = [Access::Write(0x3000_0000, 1)];
+    // The data of the write were never sent.
+    let unsent = Row {
+        run: run_of(&[(11, Mark::Mute(0))], &[WRITE]),
+        late: false,
+        tries: 8,
+        once: whole(&answers, 12, &log[..1]),
+        twice: None,
     };
-    assert_eq!(rt; report.ended, End::Lost, "{index}");
-    for wanted in row.then {
-        report = swd_host::resume(alloc, &mut target, row.run.accesses, &report, row.tries)?;
-        fits(rt, index, &report, wanted);
-        target.settle();
-        assert_eq!(rt; target.memory().log(), wanted.log, "{index}");
+    let rows = [
+        unsent,
+        // The write was done, or is pending still, and is done a second time.
+        Row {
+            run: run_of(&[(12, Mark::Deaf)], &[WRITE]),
+            late: true,
+            once: whole(&answers, 12, &log),
+            ..unsent
+        },
+        Row {
+            run: run_of(&[(1, Mark::Deaf)], &[WRITE]),
+            ..unsent
+        },
+        Row {
+            run: run_of(&[(11, Mark::Mute(0)), (22, Mark::Mute(0))], &[WRITE]),
+            once: stopped(End::Lost, &[], 1, 11, &[]),
+            twice: Some(whole(&answers, 12, &log[..1])),
+            ..unsent
+        },
+        Row {
+            run: run_of(&[(11, Mark::Mute(0)), (12, Mark::Deaf)], &[WRITE]),
+            once: stopped(End::Lost, &[], 1, 1, &[]),
+            ..unsent
+        },
+        // The bus error of the pending write is met where SELECT is written, and is no event.
+        Row {
+            run: run_of(&[(12, Mark::Deaf)], &far),
+            late: true,
+            tries: 0,
+            once: whole(&faults, 19, &[]),
+            ..unsent
+        },
+    ];
+    for (name, row) in rows.iter().enumerate() {
+        goes_on::<Bench, HostRuntime>(&rt, rt.alloc(), name, *row)?;
+        goes_on::<ClockedBench, HostRuntime>(&rt, rt.alloc(), name, *row)?;
+    }
+    Ok(())
+}
+
+// A write and a read of it, each of whose acknowledgements is lost in turn.
+fn each_is_gone_on_with<S: Simulated + Drop, R: Abort>(
+    rt: &R,
+    alloc: Global,
+    late: bool,
+) -> Result<(), Fail> {
+    let answers = [Answer::Written, Answer::Value(WORD)];
+    let lost = [Mark::Deaf, Mark::Mute(0), Mark::Mute(1), Mark::Mute(2)];
+    for place in 1..=15_usize {
+        for mark in lost {
+            let marks = [(place, mark)];
+            let run = run_of(&marks, &[WRITE, READ]);
+            let Some(stage) = begun::<S>(alloc, &run, late)? else {
+                panic!(rt; "{place}: a mark isn't legal");
+            };
+            assert_eq!(rt; stage.report.ended, End::Lost, "{place}");
+            let mut stage = gone_on(alloc, run.accesses, stage, 8)?;
+            assert_eq!(rt; stage.report.ended, End::All, "{place}");
+            assert_eq!(rt; stage.report.begun, 0, "{place}");
+            assert_eq!(rt;
+                stage.report.answers.as_slice(),
+                answers.as_slice(),
+                "{place}"
+            );
+            stage.target.settle();
+            let log = stage.target.memory().log();
+            assert_eq!(rt; log.first().copied(), Some(written(BASE, WORD)), "{place}");
+            assert_eq!(rt; log.last().copied(), Some(read(BASE, WORD)), "{place}");
+            assert!(rt; log.len() <= 3, "{place}");
+        }
     }
     Ok(())
 }
 
 #[test]
-fn runs_go_on_after_a_lost_acknowledgement(rt: HostRuntime) -> Result<(), Fail> {
-    let once = [written(BASE, WORD)];
-    let twice = [written(BASE, WORD), written(BASE, WORD)];
-    let answers = [Answer::Written];
-    let faults = [Answer::BusFault];
-    let far = [Access::Write(0x3000_0000, 1)];
-    let rows = [
-        Row {
-            run: run_of(&[(11, Mark::Mute(0))], &[WRITE]),
-            late: false,
-            tries: 8,
-            then: &[whole(&answers, 12, &once)],
-        },
-        Row {
-            run: run_of(&[(12, Mark::Deaf)], &[WRITE]),
-            late: true,
-            tries: 8,
-            then: &[whole(&answers, 12, &twice)],
-        },
-        Row {
-            run: run_of(&[(1, Mark::Deaf)], &[WRITE]),
-            late: false,
-            tries: 8,
-            then: &[whole(&answers, 12, &once)],
-        },
-        Row {
-            run: run_of(&[(11, Mark::Mute(0)), (22, Mark::Mute(0))], &[WRITE]),
-            late: false,
-            tries: 8,
-            then: &[
-                stopped(End::Lost, &[], 1, 11, &[]),
-                whole(&answers, 12, &once),
-            ],
-        },
-        Row {
-            run: run_of(&[(11, Mark::Mute(0)), (12, Mark::Deaf)], &[WRITE]),
-            late: false,
-            tries: 8,
-            then: &[stopped(End::Lost, &[], 1, 1, &[])],
-        },
-        Row {
-            run: run_of(&[(12, Mark::Deaf)], &far),
-            late: true,
-            tries: 0,
-            then: &[whole(&faults, 19, &[])],
-        },
+fn a_run_goes_on_after_each_lost_acknowledgement(rt: HostRuntime) -> Result<(), Fail> {
+    for late in [false, true] {
+        each_is_gone_on_with::<Bench, HostRuntime>(&rt, rt.alloc(), late)?;
+        each_is_gone_on_with::<ClockedBench, HostRuntime>(&rt, rt.alloc(), late)?;
+    }
+    Ok(())
+}
+
+// Two acknowledgements are lost, the later one also of a request that was sent because of the earlier, and a data phase
+// between them is changed: 1,683 runs.
+#[test]
+fn a_run_goes_on_after_any_two(rt: HostRuntime) -> Result<(), Fail> {
+    let far = Access::Write(0x3000_0000, 1);
+    let accesses = [WRITE, far, READ, Access::Write(0x2000_0004, 7)];
+    let answers = [
+        Answer::Written,
+        Answer::BusFault,
+        Answer::Value(WORD),
+        Answer::Written,
     ];
-    for (index, row) in rows.iter().enumerate() {
-        goes_on::<Bench, HostRuntime>(&rt, rt.alloc(), index, row)?;
-        goes_on::<ClockedBench, HostRuntime>(&rt, rt.alloc(), index, row)?;
+    for late in [false, true] {
+        for earlier in 1..34_usize {
+            for later in earlier.saturating_add(1)..52 {
+                let flip = (earlier.saturating_add(3), Mark::Flip(4));
+                let marks = [(earlier, Mark::Deaf), (later, Mark::Mute(0)), flip];
+                let run = run_of(&marks, &accesses).tries(1);
+                let Some(stage) = begun::<Bench>(rt.alloc(), &run, late)? else {
+                    panic!(rt; "{earlier} {later}: a mark isn't legal");
+                };
+                let stage = gone_on(rt.alloc(), &accesses, stage, 1)?;
+                let mut stage = gone_on(rt.alloc(), &accesses, stage, 1)?;
+                assert_eq!(rt; stage.report.ended, End::All, "{earlier} {later}");
+                assert_eq!(rt;
+                    stage.report.answers.as_slice(),
+                    answers.as_slice(),
+                    "{earlier} {later}"
+                );
+                stage.target.settle();
+                assert!(rt; stage.target.memory().log().len() <= 5, "{earlier} {later}");
+            }
+        }
     }
     Ok(())
 }

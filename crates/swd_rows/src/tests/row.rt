@@ -1,5 +1,7 @@
 //! Runs of a host over a simulated target, and what has to come of them.
-ghost use Rattle.std.specs.Prelude.{IsTrue};
+ghost use Rattle.std.specs.Prelude.{◌≡◌, IfOk, IfSome, IsTrue};
+ghost use Rattle.swd_port.specs.PlainMemory.{PlainMemory};
+ghost use Rattle.swd_port.specs.Port.{made};
 ghost use Rattle.swd_target.specs.Marks.{IsPlan};
 
 use crate::Simulated;
@@ -167,8 +169,8 @@ pub fn are_legal(marks: &[Mark]) -> bool
 
 // The plan with these marks.
 fn plan_of(alloc: Global, marks: &[(usize, Mark)]) -> Result<Vec<Mark>, Fail> {
-    let mut plan = Vec::with_capacity(alloc, 40)?;
-    for place in 1..=40_usize {
+    let mut plan = Vec::with_capacity(alloc, 60)?;
+    for place in 1..=60_usize {
         let named = marks.iter().find(|(at, _)| *at == place);
         plan.push(named.map_or(Mark::Clean, |(_, mark)| *mark))?;
     }
@@ -176,11 +178,10 @@ fn plan_of(alloc: Global, marks: &[(usize, Mark)]) -> Result<Vec<Mark>, Fail> {
 }
 
 /// The target of a run. None where a mark isn't legal.
-pub fn target_of<S: Simulated>(
-    alloc: Global,
-    run: &Run,
-    quirks: Quirks,
-) -> Result<Option<S>, Fail> {
+pub fn target_of<S: Simulated>(alloc: Global, run: &Run, quirks: Quirks) -> Result<Option<S>, Fail>
+    ensures { IfOk result (λ found. IfSome found (λ target.
+        (m : PlainMemory) × (S.Wire.port target ≡ made 0x2ba0_1477 m))) }
+{
     let memory = Memory::new(alloc, BASE, run.words, run.room)?;
     let plan = plan_of(alloc, run.marks)?;
     if !are_legal(&plan) {
