@@ -1,6 +1,6 @@
 -- What a run over a simulated target says in terms of its plan.
-use Rattle.std.proofs.Common.{◌≡◌, ℕ, ◌+◌, ◌≤◌, List, Option, refl, ap, arith}
-use Rattle.std.specs.Prelude.{◌↔◌}
+use Rattle.std.proofs.Common.{◌≡◌, ℕ, ◌+◌, ◌≤◌, ◌∙◌, List, length, Option, Some, None, Result, Ok, refl, sym, ap, subst, arith}
+use Rattle.std.specs.Prelude.{◌↔◌, IfOk, IfSome, is_some, if◌then◌else◌}
 use Rattle.swd_trace.specs.declared.item.Item.{Item}
 use Rattle.swd_port.specs.declared.wire.Due.{Due}
 use Rattle.swd_port.specs.declared.wire.Due.TheVariants.{Nothing, Lost as DueLost}
@@ -10,7 +10,12 @@ use Rattle.swd_port.specs.declared.mark.Mark.{Mark}
 use Rattle.swd_port.specs.Choices.{disturbed_among, lost_among}
 use Rattle.swd_host.specs.declared.outcome.End.{End}
 use Rattle.swd_host.specs.declared.outcome.End.TheVariants.{All, Lost, TriesOut, WrongId, Confused}
-use Rattle.swd_host.specs.Reports.{EndsAt, RunFits, RunsWithin, Told}
+use Rattle.swd_host.specs.declared.outcome.Report.{Report}
+use Rattle.swd_host.specs.declared.outcome.Refused.{Refused}
+use Rattle.swd_port.specs.declared.access.Access.{Access}
+use Rattle.swd_port.specs.PlainMemory.{reads}
+use Rattle.swd_script.specs.Laws.{IsBlock}
+use Rattle.swd_host.specs.Reports.{EndsAt, RunFits, RunsOver, RunsWithin, Told, told_of}
 use Rattle.swd_script.specs.Scripts.{Meaning}
 use Rattle.swd_run.specs.Running.{IsExcused, RunsAs, AreRead, Ran, memory_of, most_begun}
 use Rattle.swd_run.specs.Tracing.{AreItems, IsTraceOf, IsRecorded}
@@ -39,6 +44,33 @@ run_as tries script marks told s t is_made p q over =
       least = fits.least;
       most = omega arith;
     }
+
+-- a run of single accesses, or of a block, is one of the script's
+pub list_over : {A : Type 0} (script : Meaning) (list : List Access) (tries : ℕ) (r : Result (Report A) Refused)
+    (report : Report A) (s t : Port) → script.block ≡ None → list ≡ script.accesses → r ≡ Ok report
+    → IfOk r (λ report. RunsOver list tries (told_of report) s t)
+    → RunsWithin (most_begun script) script.accesses tries (told_of report) s t
+list_over script list tries r report s t single same is h =
+    let one : most_begun script ≡ 1 = ap (λ b. if is_some b then 2 else 1) single in
+    let ran : RunsOver list tries (told_of report) s t =
+    subst (λ x. IfOk x (λ report. RunsOver list tries (told_of report) s t)) is h in
+    subst (λ n. RunsWithin n script.accesses tries (told_of report) s t) (sym one)
+    (subst (λ x. RunsOver x tries (told_of report) s t) same ran)
+
+pub block_over : {A : Type 0} (script : Meaning) (addr count : ℕ) (tries : ℕ) (r : Result (Report A) Refused)
+    (report : Report A) (s t : Port) → script.block ≡ Some addr
+    → IfSome script.block (λ at. IsBlock at script.accesses) → count ≡ length script.accesses → r ≡ Ok report
+    → IfOk r (λ report. RunsWithin 2 (reads addr count) tries (told_of report) s t)
+    → RunsWithin (most_begun script) script.accesses tries (told_of report) s t
+block_over script addr count tries r report s t block holds many is h =
+    let two : most_begun script ≡ 2 = ap (λ b. if is_some b then 2 else 1) block in
+    let whole : IsBlock addr script.accesses =
+    subst (λ b. IfSome b (λ at. IsBlock at script.accesses)) block holds in
+    let same : reads addr count ≡ script.accesses = ap (reads addr) many ∙ sym whole.same in
+    let ran : RunsWithin 2 (reads addr count) tries (told_of report) s t =
+    subst (λ x. IfOk x (λ report. RunsWithin 2 (reads addr count) tries (told_of report) s t)) is h in
+    subst (λ n. RunsWithin n script.accesses tries (told_of report) s t) (sym two)
+    (subst (λ x. RunsWithin 2 x tries (told_of report) s t) same ran)
 
 -- ---- what a recorded run leaves
 
