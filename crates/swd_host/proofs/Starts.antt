@@ -429,7 +429,7 @@ module _ (a : Access) (following : Option Access) (e g : Engine) (starts : Start
       record {
         aims = aims;
         begun = starts.begun ∙ ap (λ x. bit (x && not (has_failed e))) anew.plain;
-        least = ap (least_in g.aims) state ;
+        least = ap (least_in g.aims) state;
       }
 
   pub anew_going : IsAnew e → has_failed e ≡ false

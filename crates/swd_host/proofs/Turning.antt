@@ -1,13 +1,12 @@
 -- One call of the wire, as the engine asks for it: what the engine and the port keep.
-use Rattle.std.proofs.Common.{◌≡◌, ◌+◌, ◌-◌, ◌*◌, ◌^◌, ◌≤◌, ◌<◌, ℕ, Bool, true, false, refl, sym, ap, subst, inl, inr}
+use Rattle.std.proofs.Common.{◌≡◌, ◌+◌, ◌-◌, ◌*◌, ◌^◌, ◌≤◌, ◌<◌, ℕ, Bool, true, false, refl, sym, ap, subst}
 use Rattle.std.proofs.Common.{arith, ◌∙◌}
-use Rattle.std.specs.Prelude.{Option, Some, None, ◌⊎◌, ◌||◌, ◌&&◌, not, ◌==◌, if◌then◌else◌, max}
+use Rattle.std.specs.Prelude.{Option, Some, None, ◌||◌, ◌&&◌, not, ◌==◌, if◌then◌else◌, max}
 use Rattle.swd_bits.specs.Bits.{bit}
 use Rattle.swd_bits.specs.declared.request.Request.{Request}
-use Rattle.swd_port.specs.declared.wire.Due.{Due}
-use Rattle.swd_port.specs.declared.wire.Due.TheVariants.{Nothing, Take, Give, Pass, Lost as DueLost}
+use Rattle.swd_port.specs.declared.wire.Due.TheVariants.{Take, Give, Pass, Lost as DueLost}
 use Rattle.swd_port.specs.PlainMemory.{PlainMemory}
-use Rattle.swd_port.specs.Port.{Port, Tally}
+use Rattle.swd_port.specs.Port.{Port}
 use Rattle.swd_port.specs.Phases.{phase_number, word_in}
 use Rattle.swd_port.specs.Answers.{due_after}
 use Rattle.swd_port.specs.Asking.{Asks}
@@ -15,8 +14,8 @@ use Rattle.swd_port.specs.Moving.{Takes, Gives, Passes}
 use Rattle.swd_port.specs.Leading.{Leads}
 use Rattle.swd_port.specs.Laws.Calls.{Asked}
 use Rattle.swd_port.proofs.CallLaws.{request_counted, others_uncounted, due_after_request}
-use Rattle.swd_host.specs.declared.outcome.End.TheVariants.{All, Lost, TriesOut, WrongId, Confused}
-use Rattle.swd_host.specs.declared.outcome.Outcome.TheVariants.{Opened, Answered, Stopped}
+use Rattle.swd_host.specs.declared.outcome.End.TheVariants.{Lost}
+use Rattle.swd_host.specs.declared.outcome.Outcome.TheVariants.{Stopped}
 use Rattle.swd_host.specs.declared.task.Task.{Task}
 use Rattle.swd_host.specs.declared.request.Place.{Place}
 use Rattle.swd_host.specs.declared.request.Place.TheVariants.{Identify, Wipe, Inspect, Select, Power, Powered}
@@ -25,7 +24,7 @@ use Rattle.swd_host.specs.declared.request.Job.{Job}
 use Rattle.swd_host.specs.declared.request.Job.TheVariants.{At, Resend, Status, LastStatus, Clear, Check}
 use Rattle.swd_host.specs.declared.engine.Cue.{Cue}
 use Rattle.swd_host.specs.declared.engine.Cue.TheVariants.{Lead, Ask as CueAsk, Take as CueTake, Give as CueGive}
-use Rattle.swd_host.specs.declared.engine.Cue.TheVariants.{Pass as CuePass, Rest}
+use Rattle.swd_host.specs.declared.engine.Cue.TheVariants.{Pass as CuePass}
 use Rattle.swd_host.specs.declared.engine.Phase.TheVariants.{Ask, Data, Waited, Faulted}
 use Rattle.swd_host.specs.declared.engine.State.{State}
 use Rattle.swd_host.specs.declared.engine.State.TheVariants.{Leading, Doing, Resting}
@@ -33,7 +32,7 @@ use Rattle.swd_host.specs.declared.engine.Engine.{Engine}
 use Rattle.swd_host.specs.Requests.{request_of, word_for, confirmed_by, begins, begins_next}
 use Rattle.swd_host.specs.Tasks.{most_begun}
 use Rattle.swd_host.specs.Progress.{left_again, left_cleared, least_for}
-use Rattle.swd_host.specs.Tracks.{is_behind, BusErrorOf, own_error, next_error, begun_once}
+use Rattle.swd_host.specs.Tracks.{is_behind, BusErrorOf, own_error, next_error}
 use Rattle.swd_host.specs.Engines.{cue_of, cue_at, data_cue, is_ahead_at, is_resting, one_more, job_in}
 use Rattle.swd_host.specs.Progress.{left_at, left_for, left_in, least_in, open_requests, is_opening_place, is_job_of}
 use Rattle.swd_host.specs.Progress.{is_state_of, is_quiet}

@@ -1,6 +1,6 @@
 -- What the engine's state says of the port at the other end, and of the memory behind it: the invariant of the host.
-use Rattle.std.specs.Prelude.{ℕ, ◌≡◌, ◌≢◌, ◌+◌, ◌-◌, ◌*◌, ◌%◌, ◌^◌, ◌<◌, ◌≤◌, ◌⊎◌, ◌||◌, ◌&&◌, ◌==◌, Bool, true}
-use Rattle.std.specs.Prelude.{false, not, if◌then◌else◌, Option, Some, None, max}
+use Rattle.std.specs.Prelude.{ℕ, ◌≡◌, ◌≢◌, ◌+◌, ◌%◌, ◌^◌, ◌<◌, ◌≤◌, ◌⊎◌, ◌&&◌, ◌==◌, Bool, true}
+use Rattle.std.specs.Prelude.{false, if◌then◌else◌, Option, Some, None, max}
 use Rattle.swd_bits.specs.Bits.{bit}
 use Rattle.swd_port.specs.declared.access.Access.{Access}
 use Rattle.swd_port.specs.declared.access.Access.TheVariants.{Read as AccessRead, Write as AccessWrite}
@@ -13,16 +13,16 @@ use Rattle.swd_port.specs.PlainMemory.{PlainMemory, address, plain_answer, plain
 use Rattle.swd_port.specs.Phases.{phase_number, flipped}
 use Rattle.swd_port.specs.Port.{Port, Target}
 use Rattle.swd_port.specs.declared.register.Register.{Register}
-use Rattle.swd_port.specs.declared.register.Register.TheVariants.{DpidrRead, AbortWrite, CtrlStatRead, CtrlStatWrite}
-use Rattle.swd_port.specs.declared.register.Register.TheVariants.{ResendRead, SelectWrite, RdbuffRead, CswRead}
-use Rattle.swd_port.specs.declared.register.Register.TheVariants.{CswWrite, TarWrite, DrwRead, DrwWrite}
+use Rattle.swd_port.specs.declared.register.Register.TheVariants.{AbortWrite, CtrlStatWrite}
+use Rattle.swd_port.specs.declared.register.Register.TheVariants.{SelectWrite}
+use Rattle.swd_port.specs.declared.register.Register.TheVariants.{CswWrite, TarWrite, DrwWrite}
 use Rattle.swd_port.specs.declared.state.Reset.TheVariants.{Unreset, Live}
 use Rattle.swd_port.specs.declared.state.Line.TheVariants.{Idle, Drives, Awaits}
 use Rattle.swd_port.specs.Transfers.{Sent, Becomes, Advanced}
 use Rattle.swd_port.specs.Laws.WordsRead.{holds}
 use Rattle.swd_host.specs.declared.flags.Flags.{Flags}
 use Rattle.swd_host.specs.declared.outcome.End.{End}
-use Rattle.swd_host.specs.declared.outcome.End.TheVariants.{All, Lost, TriesOut, WrongId, Confused}
+use Rattle.swd_host.specs.declared.outcome.End.TheVariants.{Lost, TriesOut}
 use Rattle.swd_host.specs.declared.outcome.Outcome.{Outcome}
 use Rattle.swd_host.specs.declared.outcome.Outcome.TheVariants.{Opened, Answered, Stopped}
 use Rattle.swd_host.specs.declared.task.Task.{Task}
@@ -34,7 +34,6 @@ use Rattle.swd_host.specs.declared.request.Job.{Job}
 use Rattle.swd_host.specs.declared.request.Job.TheVariants.{At, Resend, Status, LastStatus, Clear, Check}
 use Rattle.swd_host.specs.declared.engine.Ahead.{Ahead}
 use Rattle.swd_host.specs.declared.engine.Ahead.TheVariants.{Unsent, Sent as NextSent, Failed as NextFailed}
-use Rattle.swd_host.specs.declared.engine.Phase.{Phase}
 use Rattle.swd_host.specs.declared.engine.Phase.TheVariants.{Ask, Data, Waited, Faulted}
 use Rattle.swd_host.specs.declared.engine.State.{State}
 use Rattle.swd_host.specs.declared.engine.State.TheVariants.{Leading, Doing, Resting}

@@ -1,5 +1,3 @@
-use Rattle.std.proofs.Common.{◌≡◌, true, sym}
-use Rattle.swd_host.specs.declared.request.Place.TheVariants.{Behind}
 use Rattle.swd_host.proofs.StepLemmas.{own_error_cleared, answered_lands, not_behind}
 use Rattle.swd_host.proofs.engine.Engine.cleared.Goals as goal
 
