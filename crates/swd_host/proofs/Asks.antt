@@ -20,7 +20,8 @@ use Rattle.swd_port.proofs.RequestLaws.{identification_read_at_rest}
 use Rattle.swd_port.proofs.StatusLaws.{identification_returned, buffer_returned, value_resent}
 use Rattle.swd_host.specs.declared.request.Place.{Place}
 use Rattle.swd_host.specs.declared.request.Place.TheVariants.{Identify, Wipe, Inspect, Select, Power, Powered}
-use Rattle.swd_host.specs.declared.request.Place.TheVariants.{Configure, Recall, Configured, Aim, Transfer, Confirm, Behind}
+use Rattle.swd_host.specs.declared.request.Place.TheVariants.{Configure, Recall, Configured, Aim, Transfer, Confirm}
+use Rattle.swd_host.specs.declared.request.Place.TheVariants.{Behind}
 use Rattle.swd_host.specs.declared.request.Job.TheVariants.{At, Resend}
 use Rattle.swd_host.specs.Requests.{request_of, is_exempt_place, confirmed_by, written_by}
 use Rattle.swd_host.specs.Tracks.{Hand, Counted, no_select, csw_word_read, Reachable, Calm, Up, Has}

@@ -20,7 +20,8 @@ use Rattle.swd_host.specs.declared.engine.Ahead.{Ahead}
 use Rattle.swd_host.specs.declared.engine.Ahead.TheVariants.{Unsent, Sent as NextSent, Failed as NextFailed}
 use Rattle.swd_host.specs.declared.request.Place.{Place}
 use Rattle.swd_host.specs.declared.request.Place.TheVariants.{Identify, Wipe, Inspect, Select, Power, Powered}
-use Rattle.swd_host.specs.declared.request.Place.TheVariants.{Configure, Recall, Configured, Aim, Transfer, Confirm, Behind}
+use Rattle.swd_host.specs.declared.request.Place.TheVariants.{Configure, Recall, Configured, Aim, Transfer, Confirm}
+use Rattle.swd_host.specs.declared.request.Place.TheVariants.{Behind}
 use Rattle.swd_host.specs.declared.request.Job.TheVariants.{At, Resend}
 use Rattle.swd_host.specs.Tasks.{access_of, is_block}
 use Rattle.swd_host.specs.Requests.{request_of}
@@ -83,7 +84,8 @@ reads_stay p word n b k s t c (changed place line small h) =
 inside_kilobyte : (at : ℕ) → at % 4 ≡ 0 → at % 1024 < 1020 → (at + 4) % 1024 ≢ 0
 inside_kilobyte at aligned below e = omega arith
 
-module _ (at n c : ℕ) (k : Hand) (x y : Port) (flip : Option ℕ) (task : k.task ≡ BurstRead at) (ok : IsTask (BurstRead at))
+module _ (at n c : ℕ) (k : Hand) (x y : Port) (flip : Option ℕ) (task : k.task ≡ BurstRead at) (ok : IsTask
+    (BurstRead at))
     (two : 2 ≤ c) (u : Under c k x.target) (d : Succeeded (access_of k.task) k.memory x.target)
     (ac : Accepts DrwRead true flip x y) where
   access_here : access_of k.task ≡ AccessRead at
@@ -170,7 +172,8 @@ passing_asked word n base b k v s t l h r asks =
     let more : x.tally.disturbed ≤ y.tally.disturbed = a.heard.disturbed_least in (
       word,
       reads_stay Confirm word n b k y t last
-          (reads_from word n (λ c. Resent Confirm word c b k y) a.flip x y (value_resent a.flip word x y rx.last ac).0 a.spares
+          (reads_from word n (λ c. Resent Confirm word c b k y) a.flip x y
+          (value_resent a.flip word x y rx.last ac).0 a.spares
           (resent_framed n n b k x y f e (omega arith) Confirm word rx)
           (λ i. resent_framed n (n + 1) b k x y f e (omega arith) Confirm word rx)),
     )))

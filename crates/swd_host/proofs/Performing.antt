@@ -249,7 +249,8 @@ module _ (i : ℕ) (list : List Access) (o e g f : Engine) (answers : List Answe
       → (b : Access) → (if has_failed e then None else following) ≡ Some b → Follower i list b
   follower_here next b = by_cases (has_failed e)
       ((if has_failed e then None else following) ≡ Some b → Follower i list b)
-      (λ failed is. absurd (let never : None ≡ Some b = sym (ap (λ x. if x then None else following) failed) ∙ is in cc))
+      (λ failed is. absurd (let never : None ≡ Some b = sym (ap (λ x. if x then None else following) failed)
+      ∙ is in cc))
       (λ going is. next b (sym (ap (λ x. if x then None else following) going) ∙ is))
 
   chain_here : ((b : Access) → following ≡ Some b → Follower i list b) → is_burst f.task ≡ true
@@ -261,7 +262,8 @@ module _ (i : ℕ) (list : List Access) (o e g f : Engine) (answers : List Answe
       burst_continues e.bursts (get_or list i d) (if has_failed e then None else following)
       (sym (ap is_burst task) ∙ burst) in
       subst (ContinuesAt list (i + 1)) (sym access_here)
-      (follower_continues list i (get_or list i d) (if has_failed e then None else following) on_it (follower_here next))
+      (follower_continues list i (get_or list i d) (if has_failed e then None else following) on_it
+      (follower_here next))
 
   -- A STOP
   within_left : (m now : PlainMemory) → ((b : Access) → following ≡ Some b → Follower i list b)
@@ -345,7 +347,8 @@ module _ (i : ℕ) (list : List Access) (o e g f : Engine) (answers : List Answe
       → Reached i list m o s e answers t → HasSentFor (i + 1) o f
   answered_sent m answer is r = by_cases (has_failed e) (HasSentFor (i + 1) o f)
       (λ failed. answered_at_once failed
-      (starts.tar ∙ failed_tar (is_ahead e) r.met (hand_of e (memory_after (take i list) m)) t e.ahead refl failed r.ready)
+      (starts.tar ∙ failed_tar (is_ahead e) r.met (hand_of e (memory_after
+      (take i list) m)) t e.ahead refl failed r.ready)
       r.sent)
       (λ going. answered_on answer is going r.sent)
 

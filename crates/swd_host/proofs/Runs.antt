@@ -65,7 +65,8 @@ ends_since (WrongId word) tries s t u fewer less h = absurd h
 ends_since Confused tries s t u fewer less h = absurd h
 
 module _ (kind : Bursts) (list : List Access) (tries : ℕ) (e f : Engine) (answers : List Answer) (s t : Port)
-    (small : tries < 2 ^ 32) (new : IsNew kind tries e) (goes : Goes e s f t) (due : DueFits f t) (none : answers ≡ []) where
+    (small : tries < 2 ^ 32) (new : IsNew kind tries e) (goes : Goes e s f t) (due : DueFits f t)
+    (none : answers ≡ []) where
   new_left : open_requests e ≤ 5 * tries + 10
   new_left = let left : left_in e.state ≡ 10 = ap left_in new.leads in omega (arith, new.tries)
 
@@ -163,7 +164,8 @@ module _ (kind : Bursts) (list : List Access) (tries : ℕ) (e f : Engine) (answ
       told_as (most_of kind) list tries m (told_by does.answers last end) (told_by part last end) s u
       (ap (λ x. told_by x last end) mine)
       (record {
-        now = subst (λ x. Fits (most_of x) list m (told_by does.answers last end) u.target.memory) opening_bursts over.now;
+        now = subst (λ x. Fits (most_of x) list m (told_by does.answers last end) u.target.memory) opening_bursts
+            over.now;
         later = λ c. subst (λ x. Fits (most_of x) list m (told_by does.answers last end) (completed c u).target.memory)
             opening_bursts (over.later c);
         ends = ends;

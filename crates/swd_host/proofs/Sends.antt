@@ -14,7 +14,8 @@ use Rattle.swd_port.specs.Asking.{Asks}
 use Rattle.swd_host.specs.declared.flags.Flags.{Flags}
 use Rattle.swd_host.specs.declared.request.Place.{Place}
 use Rattle.swd_host.specs.declared.request.Place.TheVariants.{Identify, Wipe, Inspect, Select, Power, Powered}
-use Rattle.swd_host.specs.declared.request.Place.TheVariants.{Configure, Recall, Configured, Aim, Transfer, Confirm, Behind}
+use Rattle.swd_host.specs.declared.request.Place.TheVariants.{Configure, Recall, Configured, Aim, Transfer, Confirm}
+use Rattle.swd_host.specs.declared.request.Place.TheVariants.{Behind}
 use Rattle.swd_host.specs.declared.request.Job.{Job}
 use Rattle.swd_host.specs.declared.request.Job.TheVariants.{At, Resend, Status, LastStatus, Clear, Check}
 use Rattle.swd_host.specs.Requests.{request_of, begins, begins_next}
@@ -111,7 +112,8 @@ module _ (n : ℕ) (base : Counted) (b : ℕ) (k : Hand) (v : ℕ) (s t : Port) 
       (λ e. absurd (cc)) (omega arith) h.has (λ e. absurd (cc)) l h asks (λ w. w)
   plain_asked Powered h asks none other =
       says_asked (At Powered) (powered_rest n b k s (inl h)) (inl h) asks (λ x. x)
-  plain_asked Configure h asks none other = write_asked Configure n base b b k v s t CswWrite refl refl refl refl refl refl
+  plain_asked Configure h asks none other = write_asked Configure n base b b k v s t CswWrite refl refl refl refl
+      refl refl
       (λ e. absurd (cc)) (omega arith) h.has.calm (λ e. h.has.debug) l h asks (λ w. w)
   plain_asked Recall h asks none other = recall_asked n base b k v s t l h asks
   plain_asked Configured h asks none other = configured_asked n base b k v s t l h asks
@@ -148,7 +150,8 @@ module _ (n : ℕ) (base : Counted) (b : ℕ) (k : Hand) (v : ℕ) (s t : Port) 
   place_hurt Recall h asks = hurt_asked Recall n base b (max b 0) k v s t refl (le-max_left b 0) l h asks
   place_hurt Transfer h asks = hurt_asked Transfer n base b (max b 1) k v s t refl (le-max_left b 1) l h asks
   place_hurt Confirm h asks =
-      hurt_asked Confirm n base b (max b (begins_next k.task)) k v s t refl (le-max_left b (begins_next k.task)) l h asks
+      hurt_asked Confirm n base b (max b (begins_next k.task)) k v s t refl (le-max_left b
+      (begins_next k.task)) l h asks
   place_hurt Identify h asks = absurd (let c = h.confirms in cc)
   place_hurt Wipe h asks = absurd (let c = h.confirms in cc)
   place_hurt Select h asks = absurd (let c = h.confirms in cc)

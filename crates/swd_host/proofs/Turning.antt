@@ -19,7 +19,8 @@ use Rattle.swd_host.specs.declared.outcome.Outcome.TheVariants.{Stopped}
 use Rattle.swd_host.specs.declared.task.Task.{Task}
 use Rattle.swd_host.specs.declared.request.Place.{Place}
 use Rattle.swd_host.specs.declared.request.Place.TheVariants.{Identify, Wipe, Inspect, Select, Power, Powered}
-use Rattle.swd_host.specs.declared.request.Place.TheVariants.{Configure, Recall, Configured, Aim, Transfer, Confirm, Behind}
+use Rattle.swd_host.specs.declared.request.Place.TheVariants.{Configure, Recall, Configured, Aim, Transfer, Confirm}
+use Rattle.swd_host.specs.declared.request.Place.TheVariants.{Behind}
 use Rattle.swd_host.specs.declared.request.Job.{Job}
 use Rattle.swd_host.specs.declared.request.Job.TheVariants.{At, Resend, Status, LastStatus, Clear, Check}
 use Rattle.swd_host.specs.declared.engine.Cue.{Cue}
@@ -238,7 +239,8 @@ one_more_least n = grind arith
 one_more_exact : (n : ℕ) → n + 1 < 2 ^ 64 → one_more n ≡ n + 1
 one_more_exact n h = grind arith
 
-pub ask_goes : (e f : Engine) (on : is_resting e ≡ false) (s t : Port) (q : Request) (v : ℕ) → cue_of e ≡ CueAsk q → Asks s q v t
+pub ask_goes : (e f : Engine) (on : is_resting e ≡ false) (s t : Port) (q : Request) (v : ℕ) → cue_of e ≡ CueAsk q
+    → Asks s q v t
     → open_requests f + 1 ≤ open_requests e → f.requests ≡ one_more e.requests → Sees v e f
     → ((base : Counted) (m : PlainMemory) (u : Port) → Hears v base m e u → TracksEngine base m f u)
     → Goes e s f t
@@ -253,7 +255,8 @@ ask_goes e f on s t q v cue asks left sent sees tracks =
     let open_here : left_in e.state ≡ left_for a.job = ap left_in a.at in
     let part_of : (opening : Bool) → is_state_of opening e.state ≡ true
     → is_job_of opening a.job ≡ true = λ opening h. sym (ap (is_state_of opening) a.at) ∙ h in
-    let begun_is : f.begun ≡ max e.begun (begins a.job e.task) = sees.begun ∙ ap (λ j. max e.begun (begins j e.task)) job
+    let begun_is : f.begun ≡ max e.begun (begins a.job e.task) = sees.begun
+    ∙ ap (λ j. max e.begun (begins j e.task)) job
     in
     record {
       task = sees.task;
@@ -285,7 +288,8 @@ ask_goes e f on s t q v cue asks left sent sees tracks =
           record {
             task = subst IsTask (sym sees.task) h.task;
             lost = omega (arith, c.lost_least, h.lost);
-            tracks = tracks base m t (subst (λ j. Saw j v (base.disturbed + e.events) base (max e.begun (begins j e.task))
+            tracks = tracks base m t (subst (λ j. Saw j v (base.disturbed + e.events) base (max e.begun
+                (begins j e.task))
                 (hand_of e m) t) (sym job) saw);
           });
       disturbed = c.disturbed_least;
@@ -378,7 +382,8 @@ giving (Doing job Waited) task sent e = absurd (cc)
 giving (Doing job Faulted) task sent e = absurd (cc)
 giving (Resting outcome) task sent e = absurd (cc)
 
-pub take_goes : (e f : Engine) (on : is_resting e ≡ false) (s t : Port) (bits : ℕ) → bits < 2 ^ 33 → cue_of e ≡ CueTake → Takes s bits t
+pub take_goes : (e f : Engine) (on : is_resting e ≡ false) (s t : Port) (bits : ℕ) → bits < 2 ^ 33
+    → cue_of e ≡ CueTake → Takes s bits t
     → lands_from e f
     → ((base : Counted) (m : PlainMemory) (u : Port) → HasRead (word_in bits) base m e u → TracksEngine base m f u)
     → Goes e s f t
@@ -404,7 +409,8 @@ left_at_state : (base : Counted) (m : PlainMemory) (e : Engine) (t : Port) (x : 
     → Left e.state (base.disturbed + e.events) e.begun (hand_of e m) t
 left_at_state base m e t x at h = subst (λ y. Left y (base.disturbed + e.events) e.begun (hand_of e m) t) (sym at) h
 
-pub give_goes : (e f : Engine) (on : is_resting e ≡ false) (s t : Port) (sent : ℕ) → sent < 2 ^ 33 → cue_of e ≡ CueGive sent → Gives s sent t
+pub give_goes : (e f : Engine) (on : is_resting e ≡ false) (s t : Port) (sent : ℕ) → sent < 2 ^ 33
+    → cue_of e ≡ CueGive sent → Gives s sent t
     → lands_from e f → Dones e f → Goes e s f t
 give_goes e f on s t sent range cue gives lands tracks =
     let p : IsPhase e.state e.task (CueGive sent) = giving e.state e.task sent cue in
@@ -429,7 +435,8 @@ passed_left n tries base b k (Doing job Ask) task s t e passes h = absurd (cc)
 passed_left n tries base b k Leading task s t e passes h = absurd (cc)
 passed_left n tries base b k (Resting outcome) task s t e passes h = absurd (cc)
 
-pub pass_goes : (e f : Engine) (on : is_resting e ≡ false) (s t : Port) → cue_of e ≡ CuePass → Passes s t → lands_from e f → Dones e f
+pub pass_goes : (e f : Engine) (on : is_resting e ≡ false) (s t : Port) → cue_of e ≡ CuePass → Passes s t
+    → lands_from e f → Dones e f
     → Goes e s f t
 pass_goes e f on s t cue passes lands tracks =
     moves e f on s t lands (others_uncounted.passed s t passes)
@@ -454,7 +461,8 @@ led_left n tries base b k (Doing job Waited) task ones low switch s t e leads h 
 led_left n tries base b k (Doing job Faulted) task ones low switch s t e leads h = absurd (cc)
 led_left n tries base b k (Resting outcome) task ones low switch s t e leads h = absurd (cc)
 
-pub lead_goes : (e f : Engine) (on : is_resting e ≡ false) (s t : Port) (ones low : ℕ) (switch : Bool) → cue_of e ≡ Lead ones switch low
+pub lead_goes : (e f : Engine) (on : is_resting e ≡ false) (s t : Port) (ones low : ℕ) (switch : Bool)
+    → cue_of e ≡ Lead ones switch low
     → Leads s ones t → lands_from e f → Dones e f → Goes e s f t
 lead_goes e f on s t ones low switch cue leads lands tracks =
     moves e f on s t lands (others_uncounted.led ones s t leads)

@@ -29,7 +29,8 @@ use Rattle.swd_host.specs.declared.task.Task.{Task}
 use Rattle.swd_host.specs.declared.task.Task.TheVariants.{Read, BurstRead, Write, BurstWrite}
 use Rattle.swd_host.specs.declared.request.Place.{Place}
 use Rattle.swd_host.specs.declared.request.Place.TheVariants.{Identify, Wipe, Inspect, Select, Power, Powered}
-use Rattle.swd_host.specs.declared.request.Place.TheVariants.{Configure, Recall, Configured, Aim, Transfer, Confirm, Behind}
+use Rattle.swd_host.specs.declared.request.Place.TheVariants.{Configure, Recall, Configured, Aim, Transfer, Confirm}
+use Rattle.swd_host.specs.declared.request.Place.TheVariants.{Behind}
 use Rattle.swd_host.specs.declared.request.Job.{Job}
 use Rattle.swd_host.specs.declared.request.Job.TheVariants.{At, Resend, Status, LastStatus, Clear, Check}
 use Rattle.swd_host.specs.declared.engine.Ahead.{Ahead}
@@ -373,7 +374,8 @@ During (Check p owed) n b k s = Says (Check p owed) n b k s
 pub data IsWithin (b : ℕ) (k : Hand) (m : PlainMemory) : Type 0 where
   within_none : m ≡ k.memory → IsWithin b k m
   within_first : 1 ≤ b → m ≡ memory_once_done k → IsWithin b k m
-  within_both : 2 ≤ b → is_block k.task ≡ true → m ≡ plain_after (next_read k.task) (memory_once_done k) → IsWithin b k m
+  within_both : 2 ≤ b → is_block k.task ≡ true → m ≡ plain_after (next_read k.task) (memory_once_done k)
+      → IsWithin b k m
 
 -- so it is now, and so it will be
 pub record Within (b : ℕ) (k : Hand) (s : Target) : Type 0 where

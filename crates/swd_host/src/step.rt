@@ -5,7 +5,8 @@ ghost use Rattle.swd_host.specs.Events.{is_flagged, is_unpowered, wrong_id, wron
 ghost use Rattle.swd_host.specs.Flags.{is_configured};
 ghost use Rattle.swd_host.specs.Requests.{is_exempt, is_unread, is_write};
 ghost use Rattle.swd_host.specs.Turns.{LandsAnswered, LandsAt, LandsFrom};
-ghost use Rattle.swd_host.specs.Tracks.{Before, Checks, Cleared, Comes, ComesWith, Earns, FaultedAt, HasAsked, Refused, Resent, Taken};
+ghost use Rattle.swd_host.specs.Tracks.{Before, Checks, Cleared, Comes, ComesWith, Earns, FaultedAt, HasAsked};
+ghost use Rattle.swd_host.specs.Tracks.{Refused, Resent, Taken};
 ghost use Rattle.swd_host.specs.Tracks.{TakenFor, TookAt, Waiting, WasSent};
 
 use crate::engine::{Ahead, Engine, Phase, State};

@@ -7,7 +7,8 @@ returns-in_default c =
     record {
       tracks = λ base m t task h. c.answer.ensures.tracks base m t task
           (own_error_cleared c.args.place _ _ _ t apart h);
-      lands = answered_lands c.args.place c.args.owed.error c.args.owed.damaged c.args.self.now c.answer.new.self c.requires
+      lands = answered_lands c.args.place c.args.owed.error c.args.owed.damaged c.args.self.now c.answer.new.self
+          c.requires
           c.answer.ensures.lands;
       meets = c.answer.ensures.meets;
     }
