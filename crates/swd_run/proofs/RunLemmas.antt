@@ -27,7 +27,7 @@ excused Confused tries marks s t d l p q e = absurd e
 pub run_as : (tries : ℕ) (script : Meaning) (marks : List Mark) (told : Told) (s t : Port) → s ≡ made 731911287 (memory_of script) →
     t.tally.disturbed ≤ disturbed_among marks → t.tally.lost ≤ lost_among marks → RunsOver script.accesses tries told s t → RunsAs tries script marks told
 run_as tries script marks told s t is_made p q over =
-    let fits : RunFits script.accesses tries (memory_of script) told s t = over 731911287 (memory_of script) is_made refl in
+    let fits : RunFits 1 script.accesses tries (memory_of script) told s t = over 731911287 (memory_of script) is_made refl in
     let d : s.tally.disturbed ≡ 0 = ap (λ x. x.tally.disturbed) is_made in
     let l : s.tally.lost ≡ 0 = ap (λ x. x.tally.lost) is_made in
     let most = fits.most in
@@ -57,7 +57,7 @@ ends_at Confused tries s t e = absurd e
 
 pub run_recorded : (tries : ℕ) (script : Meaning) (told : Told) (s t : Port) → s ≡ made 731911287 (memory_of script) → RunsOver script.accesses tries told s t → IsRecorded told t
 run_recorded tries script told s t is_made over =
-    let fits : RunFits script.accesses tries (memory_of script) told s t = over 731911287 (memory_of script) is_made refl in
+    let fits : RunFits 1 script.accesses tries (memory_of script) told s t = over 731911287 (memory_of script) is_made refl in
     let (rests, lost) = ends_at told.ended tries s t fits.ends in
     record {
       asked = (let counted = fits.counted in let none : s.tally.asked ≡ 0 = ap (λ x. x.tally.asked) is_made in omega (arith, counted, none));
