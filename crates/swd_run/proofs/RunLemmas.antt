@@ -10,9 +10,9 @@ use Rattle.swd_port.specs.declared.mark.Mark.{Mark}
 use Rattle.swd_port.specs.Choices.{disturbed_among, lost_among}
 use Rattle.swd_host.specs.declared.outcome.End.{End}
 use Rattle.swd_host.specs.declared.outcome.End.TheVariants.{All, Lost, TriesOut, WrongId, Confused}
-use Rattle.swd_host.specs.Reports.{EndsAt, RunFits, RunsOver, Told}
+use Rattle.swd_host.specs.Reports.{EndsAt, RunFits, RunsWithin, Told}
 use Rattle.swd_script.specs.Scripts.{Meaning}
-use Rattle.swd_run.specs.Running.{IsExcused, RunsAs, AreRead, Ran, memory_of}
+use Rattle.swd_run.specs.Running.{IsExcused, RunsAs, AreRead, Ran, memory_of, most_begun}
 use Rattle.swd_run.specs.Tracing.{AreItems, IsTraceOf, IsRecorded}
 
 excused : (ended : End) (tries : ℕ) (marks : List Mark) (s t : Port) → s.tally.disturbed ≡ 0 → s.tally.lost ≡ 0 →
@@ -25,9 +25,9 @@ excused Confused tries marks s t d l p q e = absurd e
 
 -- a run from a target that was just made, which met at most the marks of a plan
 pub run_as : (tries : ℕ) (script : Meaning) (marks : List Mark) (told : Told) (s t : Port) → s ≡ made 731911287 (memory_of script) →
-    t.tally.disturbed ≤ disturbed_among marks → t.tally.lost ≤ lost_among marks → RunsOver script.accesses tries told s t → RunsAs tries script marks told
+    t.tally.disturbed ≤ disturbed_among marks → t.tally.lost ≤ lost_among marks → RunsWithin (most_begun script) script.accesses tries told s t → RunsAs tries script marks told
 run_as tries script marks told s t is_made p q over =
-    let fits : RunFits 1 script.accesses tries (memory_of script) told s t = over 731911287 (memory_of script) is_made refl in
+    let fits : RunFits (most_begun script) script.accesses tries (memory_of script) told s t = over 731911287 (memory_of script) is_made refl in
     let d : s.tally.disturbed ≡ 0 = ap (λ x. x.tally.disturbed) is_made in
     let l : s.tally.lost ≡ 0 = ap (λ x. x.tally.lost) is_made in
     let most = fits.most in
@@ -55,9 +55,10 @@ ends_at TriesOut tries s t e = (ap pending e.0, (λ d. absurd (apart t.link.due 
 ends_at (WrongId word) tries s t e = absurd e
 ends_at Confused tries s t e = absurd e
 
-pub run_recorded : (tries : ℕ) (script : Meaning) (told : Told) (s t : Port) → s ≡ made 731911287 (memory_of script) → RunsOver script.accesses tries told s t → IsRecorded told t
+pub run_recorded : (tries : ℕ) (script : Meaning) (told : Told) (s t : Port) → s ≡ made 731911287 (memory_of script) →
+    RunsWithin (most_begun script) script.accesses tries told s t → IsRecorded told t
 run_recorded tries script told s t is_made over =
-    let fits : RunFits 1 script.accesses tries (memory_of script) told s t = over 731911287 (memory_of script) is_made refl in
+    let fits : RunFits (most_begun script) script.accesses tries (memory_of script) told s t = over 731911287 (memory_of script) is_made refl in
     let (rests, lost) = ends_at told.ended tries s t fits.ends in
     record {
       asked = (let counted = fits.counted in let none : s.tally.asked ≡ 0 = ap (λ x. x.tally.asked) is_made in omega (arith, counted, none));

@@ -1,5 +1,5 @@
 -- What an answer to a script and a plan says: the theorem of the host, over texts.
-use Rattle.std.specs.Prelude.{◌≡◌, ℕ, ◌+◌, ◌*◌, ◌<◌, ◌≤◌, List, [], length, Option, Result, Ok, Err, IfSome, IsOk}
+use Rattle.std.specs.Prelude.{◌≡◌, ℕ, ◌+◌, ◌*◌, ◌<◌, ◌≤◌, List, [], length, Option, Result, Ok, Err, IfSome, IsOk, is_some, if◌then◌else◌}
 use Rattle.std.specs.Io.KnownBytes.{Appends}
 use Rattle.swd_io.specs.Blocks.{Stopped}
 use Rattle.swd_io.specs.Pieces.{IsText}
@@ -33,10 +33,14 @@ IsExcused TriesOut tries marks = tries < disturbed_among marks
 IsExcused (WrongId word) tries marks = ⊥
 IsExcused Confused tries marks = ⊥
 
+-- how many accesses are begun at most that aren't answered: of a block two
+abbrev pub most_begun : Meaning → ℕ
+most_begun script = if is_some script.block then 2 else 1
+
 -- What a run of a script under a plan comes to. The report fits the plain memory of the script, and that after the run.
 pub record RunsAs (tries : ℕ) (script : Meaning) (marks : List Mark) (told : Told) : Type 0 where
   pub memory : PlainMemory
-  pub fits : Fits 1 script.accesses (memory_of script) told memory
+  pub fits : Fits (most_begun script) script.accesses (memory_of script) told memory
   pub excused : IsExcused told.ended tries marks
   pub whole : lost_among marks ≡ 0 → disturbed_among marks ≤ tries → told.ended ≡ All
   pub least : told.ended ≡ All → 9 + length script.accesses ≤ told.requests

@@ -2,18 +2,18 @@
 ghost use Rattle.std.specs.Prelude.{◌≡◌, IfSome};
 ghost use Rattle.swd_port.specs.declared.wire.Due.TheVariants.{Nothing};
 ghost use Rattle.swd_port.specs.Port.{made};
-ghost use Rattle.swd_host.specs.Reports.{told_of, RunsOver};
+ghost use Rattle.swd_host.specs.Reports.{told_of, RunsWithin};
 ghost use Rattle.swd_script.specs.Readers.{meaning};
 ghost use Rattle.swd_script.specs.Laws.{IsRunnable};
 ghost use Rattle.swd_target.specs.Marks.{IsPlan};
 ghost use Rattle.swd_target.specs.Benches.{port_of, plan_of};
-ghost use Rattle.swd_run.specs.Running.{RunsAs, RunsText, memory_of};
+ghost use Rattle.swd_run.specs.Running.{RunsAs, RunsText, memory_of, most_begun};
 
 use crate::report::write_report;
 use crate::texts::{Texts, read_texts};
 use std::alloc::Allocator;
 use std::io::{Read, Write};
-use swd_host::{End, Refused, Report, run};
+use swd_host::{End, Refused, Report, run, run_block};
 use swd_port::{Mark, Wire};
 use swd_script::Script;
 use swd_target::laws::marks_used;
@@ -54,8 +54,9 @@ pub(crate) fn target_of<A: Allocator + Copy>(
     Some(Bench::new(memory, QUIRKS, plan))
 }
 
-/// Runs the accesses of a script over a wire. `None` where memory was refused, before the first bit.
-pub(crate) fn run_over<W: Wire, A: Allocator>(
+/// Runs the accesses of a script over a wire, as a block where they are one. `None` where memory was
+/// refused, before the first bit.
+pub(crate) fn run_over<W: Wire, A: Allocator + Copy>(
     alloc: A,
     wire: &mut W,
     script: &Script<A>,
@@ -63,11 +64,16 @@ pub(crate) fn run_over<W: Wire, A: Allocator>(
 ) -> Option<Report<A>>
     requires script { IsRunnable (meaning script.now) }
     requires due { (W.port wire.old).link.due ≡ Nothing }
-    ensures fits { IfSome result (λ report. RunsOver (meaning script.now).accesses tries (told_of report)
-        (W.port wire.old) (W.port wire.new)) }
+    ensures fits { IfSome result (λ report. RunsWithin (most_begun (meaning script.now))
+        (meaning script.now).accesses tries (told_of report) (W.port wire.old) (W.port wire.new)) }
     ensures plan { W.plan wire.new ≡ W.plan wire.old }
 {
-    match run(alloc, wire, script.accesses.as_slice(), tries) {
+    let accesses = script.accesses.as_slice();
+    let outcome = match script.block {
+        Some(addr) => run_block(alloc, wire, addr, accesses.len() as u32, tries),
+        None => run(alloc, wire, accesses, tries),
+    };
+    match outcome {
         Ok(report) => Some(report),
         Err(Refused::Memory) => None,
         Err(_) => unreachable!(),

@@ -52,6 +52,53 @@ fn a_script_is_run(rt: HostRuntime) {
 }
 
 #[test]
+fn a_block_is_run(rt: HostRuntime) {
+    let script = b"memory 20000000 2\nblock 20000000 3\n".as_slice();
+    let run = run_on(&rt, script, b"".as_slice(), TRIES);
+    assert_eq!(rt; run.answer, Ok(End::All));
+    let report =
+        b"r 20000000 00000000\nr 20000004 00000000\nr 20000008 busfault\nend all 3\n".as_slice();
+    assert_eq!(rt; run.text.as_slice(), report);
+    let script = b"memory 20000000 2\nblock 20000000 3\nr 20000000".as_slice();
+    let run = run_on(&rt, script, b"".as_slice(), TRIES);
+    assert_eq!(rt;
+        run.answer,
+        Err(EngineFault::Script(ScriptFault::Word { line: 3 }))
+    );
+    assert!(rt; run.text.is_empty());
+}
+
+// The twelfth request is the DRW read of the second word, which brings the first.
+#[test]
+fn a_block_that_stops_has_two_accesses_begun(rt: HostRuntime) {
+    let script = b"memory 20000000 16\nblock 20000000 2\n".as_slice();
+    for (plan, tries, answer, report) in [
+        (
+            b".\n.\n.\n.\n.\n.\n.\n.\n.\n.\n.\nmute 0\n".as_slice(),
+            TRIES,
+            End::Lost,
+            b"end lost 0 begun 2\n".as_slice(),
+        ),
+        (
+            b".\n.\n.\n.\n.\n.\n.\n.\n.\n.\n.\nwait\n".as_slice(),
+            0,
+            End::TriesOut,
+            b"end tries 0 begun 2\n".as_slice(),
+        ),
+        (
+            b".\n.\n.\n.\n.\n.\n.\n.\n.\n.\n.\n.\ndeaf\n".as_slice(),
+            TRIES,
+            End::Lost,
+            b"r 20000000 00000000\nend lost 1 begun 1\n".as_slice(),
+        ),
+    ] {
+        let run = run_on(&rt, script, plan, tries);
+        assert_eq!(rt; run.answer, Ok(answer));
+        assert_eq!(rt; run.text.as_slice(), report);
+    }
+}
+
+#[test]
 fn waits_count_against_the_tries(rt: HostRuntime) {
     let run = run_on(&rt, ONE_READ, THREE_WAITS, 3);
     assert_eq!(rt; run.answer, Ok(End::All));
@@ -124,8 +171,8 @@ fn texts_at_fault_are_not_run(rt: HostRuntime) {
             ScriptFault::Word { line: 3 },
         ),
         (
-            b"memory 20000000 1\nblock 20000000 1",
-            ScriptFault::Word { line: 2 },
+            b"memory 20000000 1\nr 20000000\nblock 20000000 1",
+            ScriptFault::Word { line: 3 },
         ),
         (b"r 20000000", ScriptFault::NoMemoryLine { line: 1 }),
         (b"", ScriptFault::NoMemoryLine { line: 1 }),

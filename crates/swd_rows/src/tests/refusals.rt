@@ -1,17 +1,26 @@
 //! Lists that a host doesn't do, and want of memory.
 use super::items::recorder_over;
-use super::row::{BASE, QUIRKS, READ, Run, WORD, WRITE, report_of, run_of, target_of};
-use std::alloc::Global;
+use super::row::{
+    BASE, QUIRKS, READ, Run, WORD, WRITE, read, report_of, run_of, target_of, written,
+};
+use crate::Simulated;
+use linked_list_allocator::LocalHeap;
+use std::alloc::{Allocator, Global};
 use std::process::Abort;
 use std::test::Fail;
-use swd_host::{End, Refused, run};
+use swd_clocked::ClockedBench;
+use swd_host::{End, Refused, Report, run};
 use swd_port::{Access, Answer, Due, Wire};
 use swd_target::Bench;
 
-// What refuses these accesses. None where nothing does, or something is due on the wire.
-fn refusal<W: Wire>(alloc: Global, wire: &mut W, accesses: &[Access]) -> Option<Refused> {
+// These accesses over a wire. None where something is due on it.
+fn tried<W: Wire, A: Allocator>(
+    alloc: A,
+    wire: &mut W,
+    accesses: &[Access],
+) -> Option<Result<Report<A>, Refused>> {
     match wire.due() {
-        Due::Nothing => run(alloc, wire, accesses, 8).err(),
+        Due::Nothing => Some(run(alloc, wire, accesses, 8)),
         _ => None,
     }
 }
@@ -51,26 +60,73 @@ fn a_list_is_refused_before_anything_is_sent(rt: HostRuntime) -> Result<(), Fail
         let Some(mut wire) = recorder_over(rt.alloc(), bench) else {
             panic!(rt; "something is due");
         };
-        assert_eq!(rt; refusal(rt.alloc(), &mut wire, accesses), Some(refused));
+        let Some(Err(fault)) = tried(rt.alloc(), &mut wire, accesses) else {
+            panic!(rt; "it is not refused");
+        };
+        assert_eq!(rt; fault, refused);
         assert!(rt; wire.items().is_empty());
         is_as_new(&rt, rt.alloc(), &mut wire)?;
     }
     Ok(())
 }
 
-// `rt try --test --fail-alloc 4` refuses the memory of the answers, after that of the words, the log
-// and the plan. With ample memory nothing is refused.
-#[test]
-fn want_of_memory_is_told_before_anything_is_sent(rt: HostRuntime) -> Result<(), Fail> {
-    let Some(bench) = target_of::<Bench>(rt.alloc(), &run_of(&[], &[]), QUIRKS)? else {
+// Reads whose answers come from this memory. Whether it was refused: then nothing was sent, and a run on
+// the same wire is as on one that was just made.
+fn is_refused<S: Simulated + Drop, R: Abort, A: Allocator>(
+    rt: &R,
+    global: Global,
+    alloc: A,
+    reads: &[Access],
+) -> Result<bool, Fail> {
+    let Some(target) = target_of::<S>(global, &run_of(&[], &[]).room(40), QUIRKS)? else {
         panic!(rt; "no target");
     };
-    let Some(mut wire) = recorder_over(rt.alloc(), bench) else {
+    let Some(mut wire) = recorder_over(global, target) else {
         panic!(rt; "something is due");
     };
-    if refusal(rt.alloc(), &mut wire, &[WRITE, READ]) == Some(Refused::Memory) {
-        assert!(rt; wire.items().is_empty());
-        is_as_new(&rt, rt.alloc(), &mut wire)?;
+    match tried(alloc, &mut wire, reads) {
+        Some(Ok(report)) => {
+            assert_eq!(rt; report.ended, End::All);
+            assert_eq!(rt; report.answers.len(), reads.len());
+            assert!(rt;
+                report
+                    .answers
+                    .iter()
+                    .all(|answer| *answer == Answer::Value(0))
+            );
+            return Ok(false);
+        }
+        Some(Err(fault)) => assert_eq!(rt; fault, Refused::Memory),
+        None => panic!(rt; "something is due"),
+    }
+    assert!(rt; wire.items().is_empty());
+    is_as_new(rt, global, &mut wire)?;
+    let log = [written(BASE, WORD), read(BASE, WORD)];
+    assert_eq!(rt; wire.into_wire().memory().log(), log.as_slice());
+    Ok(true)
+}
+
+// How many of these heaps, each larger than the one before, refuse forty answers: the smaller ones.
+fn refusals<S: Simulated + Drop, R: Abort>(rt: &R, global: Global) -> Result<usize, Fail> {
+    let reads = [READ; 40];
+    let mut refused = 0usize;
+    for size in 1..40usize {
+        let heap = LocalHeap::new(global, size * 16)?;
+        if is_refused::<S, R, &LocalHeap>(rt, global, &heap, &reads)? {
+            refused = refused.saturating_add(1);
+            assert_eq!(rt; refused, size);
+        }
+    }
+    Ok(refused)
+}
+
+#[test]
+fn want_of_memory_is_told_before_anything_is_sent(rt: HostRuntime) -> Result<(), Fail> {
+    for refused in [
+        refusals::<Bench, _>(&rt, rt.alloc())?,
+        refusals::<ClockedBench, _>(&rt, rt.alloc())?,
+    ] {
+        assert!(rt; refused > 3 && refused < 36);
     }
     Ok(())
 }

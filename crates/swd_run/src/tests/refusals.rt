@@ -51,6 +51,16 @@ fn stage_of(answer: Result<End, EngineFault>) -> Option<Stage> {
     }
 }
 
+const STAGES: [Stage; 4] = [Stage::Script, Stage::Plan, Stage::Run, Stage::Whole];
+
+const TRACED_STAGES: [Stage; 5] = [
+    Stage::Script,
+    Stage::Plan,
+    Stage::Run,
+    Stage::Trace,
+    Stage::Whole,
+];
+
 // The stages of heaps, each larger than the one before.
 #[derive(Drop)]
 struct Stages {
@@ -104,7 +114,7 @@ fn a_run_where_memory_ends(rt: HostRuntime) -> Result<(), Fail> {
         assert_eq!(rt; heap.used(), 0);
         stages.add(&rt, stage)?;
     }
-    stages.are(&rt, &[Stage::Script, Stage::Plan, Stage::Run, Stage::Whole]);
+    stages.are(&rt, &STAGES);
     Ok(())
 }
 
@@ -139,29 +149,23 @@ fn traced_on<A: Allocator + Copy>(rt: &HostRuntime, alloc: A) -> Traced {
 // The items of a trace are refused while the run goes on, and change nothing in it.
 #[test]
 fn a_traced_run_where_memory_ends(rt: HostRuntime) -> Result<(), Fail> {
-    let Traced {
-        answer,
-        report,
-        trace: whole,
-    } = traced_on(&rt, rt.alloc());
-    assert_eq!(rt; answer, Ok(End::All));
-    assert_eq!(rt; report.as_slice(), REPORT);
+    let whole = traced_on(&rt, rt.alloc());
+    assert_eq!(rt; whole.answer, Ok(End::All));
+    assert_eq!(rt; whole.report.as_slice(), REPORT);
+    let whole = whole.trace;
     let mut stages = Stages::new(&rt);
     let mut most = 0usize;
     for size in 1..300usize {
         let heap = LocalHeap::new(rt.alloc(), size * STEP)?;
-        let Traced {
-            answer,
-            report,
-            trace,
-        } = traced_on(&rt, &heap);
-        let Some(stage) = stage_of(answer) else {
-            panic!(rt; "{size}: {answer:?}");
+        let run = traced_on(&rt, &heap);
+        let Some(stage) = stage_of(run.answer) else {
+            panic!(rt; "{size}: {:?}", run.answer);
         };
         let written = if stage >= Stage::Trace { REPORT } else { b"" };
-        assert_eq!(rt; report.as_slice(), written, "{size}");
+        assert_eq!(rt; run.report.as_slice(), written, "{size}");
         // Whole lines from the beginning, and no fewer of them from a larger heap.
-        assert!(rt; whole.as_slice().starts_with(trace.as_slice()));
+        let trace = run.trace.as_slice();
+        assert!(rt; whole.as_slice().starts_with(trace));
         assert!(rt; trace.is_empty() || trace.last() == Some(&b'\n'));
         assert!(rt; most <= trace.len());
         assert_eq!(rt; trace.len() == whole.len(), stage == Stage::Whole);
@@ -169,15 +173,6 @@ fn a_traced_run_where_memory_ends(rt: HostRuntime) -> Result<(), Fail> {
         stages.add(&rt, stage)?;
         most = trace.len();
     }
-    stages.are(
-        &rt,
-        &[
-            Stage::Script,
-            Stage::Plan,
-            Stage::Run,
-            Stage::Trace,
-            Stage::Whole,
-        ],
-    );
+    stages.are(&rt, &TRACED_STAGES);
     Ok(())
 }

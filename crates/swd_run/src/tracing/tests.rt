@@ -112,6 +112,25 @@ fn a_lost_acknowledgement_is_traced(rt: HostRuntime) -> Result<(), Fail> {
     Ok(())
 }
 
+// Each DRW read of a block brings the word of the one before; RDBUFF brings the last.
+#[test]
+fn a_block_is_traced(rt: HostRuntime) -> Result<(), Fail> {
+    let script = b"memory 20000000 2\nblock 20000000 2\n".as_slice();
+    let run = run_on(&rt, script, b"".as_slice());
+    assert_eq!(rt; run.answer, Ok(End::All));
+    let listing = after_opening(
+        &rt,
+        b"ap 4 write ok 20000000\nap c read ok 00000000\nap c read ok 00000000\n\
+            dp c read ok 00000000\nidle 8\n"
+            .as_slice(),
+    )?;
+    assert_eq!(rt;
+        listed(&rt, run.trace.as_slice()).as_slice(),
+        listing.as_slice()
+    );
+    Ok(())
+}
+
 // A damaged read is traced as it was seen, and RESEND follows it; a damaged write as it was sent.
 #[test]
 fn damage_is_traced_as_the_host_sees_it(rt: HostRuntime) -> Result<(), Fail> {
