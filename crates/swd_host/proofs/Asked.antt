@@ -1,51 +1,32 @@
 -- What comes of a request, by what it meets: a law for each kind, and what it leaves of the host's facts.
-use Rattle.std.proofs.Common.{◌≡◌, ◌≢◌, ◌+◌, ◌%◌, ◌^◌, ◌≤◌, ◌<◌, ℕ, Bool, true, false, refl, sym, ap, subst, inl, inr}
+use Rattle.std.proofs.Common.{◌≡◌, ◌≢◌, ◌+◌, ◌≤◌, ◌<◌, ℕ, Bool, true, false, refl, sym, ap, subst, inl, inr}
 use Rattle.std.proofs.Common.{arith, ◌∙◌}
-use Rattle.std.specs.Prelude.{Option, Some, None, ◌⊎◌, ◌||◌, ◌==◌}
+use Rattle.std.specs.Prelude.{Option, None, ◌⊎◌}
 use Rattle.swd_bits.specs.declared.request.Request.{Request}
-use Rattle.swd_bits.specs.declared.request.Reg4.TheVariants.{R0, R4, R8, RC}
-use Rattle.swd_port.specs.declared.access.Access.{Access}
-use Rattle.swd_port.specs.declared.access.Access.TheVariants.{Read as AccessRead, Write as AccessWrite}
-use Rattle.swd_host.specs.declared.task.Task.{Task}
-use Rattle.swd_host.specs.declared.task.Task.TheVariants.{Read, BurstRead, Write, BurstWrite}
-use Rattle.swd_host.specs.Tasks.{access_of}
-use Rattle.swd_port.specs.declared.access.Answer.TheVariants.{Value, Written, BusFault}
-use Rattle.swd_port.specs.PlainMemory.{PlainMemory, plain_after, address, word_at}
+use Rattle.swd_bits.specs.declared.request.Reg4.TheVariants.{R0, R4}
 use Rattle.swd_port.specs.Phases.{phase_number, flipped}
-use Rattle.swd_port.specs.Port.{Port, Target, register}
+use Rattle.swd_port.specs.Port.{Port, register}
 use Rattle.swd_port.specs.declared.register.Register.{Register}
-use Rattle.swd_port.specs.declared.register.Register.TheVariants.{DpidrRead, AbortWrite, CtrlStatRead, CtrlStatWrite}
-use Rattle.swd_port.specs.declared.register.Register.TheVariants.{ResendRead, SelectWrite, RdbuffRead, CswRead}
-use Rattle.swd_port.specs.declared.register.Register.TheVariants.{CswWrite, TarWrite, DrwRead, DrwWrite}
-use Rattle.swd_port.specs.declared.state.Reset.TheVariants.{Unreset, Live}
-use Rattle.swd_port.specs.declared.state.Line.{Line}
+use Rattle.swd_port.specs.declared.register.Register.TheVariants.{AbortWrite, CtrlStatRead}
+use Rattle.swd_port.specs.declared.register.Register.TheVariants.{DrwRead}
+use Rattle.swd_port.specs.declared.state.Reset.TheVariants.{Live}
 use Rattle.swd_port.specs.declared.state.Line.TheVariants.{Drives, Awaits}
 use Rattle.swd_port.specs.Answers.{is_exempt}
-use Rattle.swd_port.specs.Completion.{Completes}
-use Rattle.swd_port.specs.Asking.{Asks, is_posted, status_in}
-use Rattle.swd_port.specs.Outcomes.{Stays, Accepts, Spares, SeesOkay, SeesWait, SeesFault, SeesNone}
-use Rattle.swd_port.specs.Outcomes.{IsNoAcknowledgement, Refuses, Defers, OkayOrLost, OkayWaitOrLost, FaultOrLost}
+use Rattle.swd_port.specs.Asking.{Asks, status_in}
+use Rattle.swd_port.specs.Outcomes.{Stays, Accepts, Spares}
+use Rattle.swd_port.specs.Outcomes.{IsNoAcknowledgement, Refuses}
 use Rattle.swd_port.specs.Outcomes.{okay, wait, fault, lost}
 use Rattle.swd_port.specs.Laws.WordsRead.{OnLine, StatusReads}
-use Rattle.swd_port.proofs.RequestLaws.{exempt_request_at_rest, identification_read_at_rest, flagged_request_at_rest}
-use Rattle.swd_port.proofs.RequestLaws.{free_request_at_rest, free_request_exact, confirming_request}
-use Rattle.swd_port.proofs.RequestLaws.{refused_with_power}
-use Rattle.swd_port.proofs.StatusLaws.{status_returned, identification_returned, buffer_returned, value_resent}
-use Rattle.swd_host.specs.declared.flags.Flags.{Flags}
-use Rattle.swd_host.specs.declared.outcome.End.TheVariants.{Lost}
-use Rattle.swd_host.specs.declared.outcome.Outcome.TheVariants.{Stopped}
-use Rattle.swd_host.specs.declared.request.Place.{Place}
-use Rattle.swd_host.specs.declared.request.Place.TheVariants.{Identify, Wipe, Inspect, Select, Power, Powered}
-use Rattle.swd_host.specs.declared.request.Place.TheVariants.{Configure, Recall, Configured, Aim, Transfer, Confirm, Behind}
+use Rattle.swd_port.proofs.RequestLaws.{exempt_request_at_rest, flagged_request_at_rest}
+use Rattle.swd_port.proofs.RequestLaws.{free_request_exact}
+use Rattle.swd_port.proofs.StatusLaws.{status_returned}
 use Rattle.swd_host.specs.declared.request.Job.{Job}
-use Rattle.swd_host.specs.declared.request.Job.TheVariants.{At, Resend, Status, LastStatus, Clear, Check}
-use Rattle.swd_host.specs.declared.engine.State.TheVariants.{Resting}
-use Rattle.swd_host.specs.Requests.{request_of, is_exempt as is_exempt_of}
-use Rattle.swd_host.specs.Tracks.{Hand, Counted, no_select, Reachable, Calm, Sure, Before, During, FaultedAt, Waiting}
-use Rattle.swd_host.specs.Tracks.{Within, Tracks, Says, Tells, Reads, Writes, whole, changed}
+use Rattle.swd_host.specs.Requests.{is_exempt as is_exempt_of}
+use Rattle.swd_host.specs.Tracks.{Hand, Counted, no_select, Before, During, FaultedAt, Waiting}
+use Rattle.swd_host.specs.Tracks.{Within, Says, Tells, Reads, Writes, whole, changed}
 use Rattle.swd_host.proofs.Frames.{Frame, Same, frame_waits, same_waits, frame_refuses, same_refuses, frame_accepts}
 use Rattle.swd_host.proofs.Frames.{same_accepts, before_framed, before_within, before_paid, within_carried}
-use Rattle.swd_host.proofs.Frames.{within_stays, lost_within}
+use Rattle.swd_host.proofs.Frames.{lost_within}
 
 -- WHAT CAME OF A REQUEST
 pub data Came (job : Job) (n : ℕ) (base : Counted) (b : ℕ) (k : Hand) (v : ℕ) (t : Port) : Type 0 where

@@ -1,54 +1,38 @@
 -- Each request that the engine sends keeps what it knows.
-use Rattle.std.proofs.Common.{◌≡◌, ◌≢◌, ◌+◌, ◌%◌, ◌^◌, ◌≤◌, ◌<◌, ℕ, Bool, true, false, refl, sym, ap, subst, inl, inr}
+use Rattle.std.proofs.Common.{◌≡◌, ◌≢◌, ◌+◌, ◌%◌, ◌≤◌, ℕ, Bool, true, false, refl, sym, ap, subst, inl}
 use Rattle.std.proofs.Common.{arith, ◌∙◌}
-use Rattle.std.specs.Prelude.{Option, Some, None, ◌⊎◌, ◌||◌, ◌==◌, if◌then◌else◌}
-use Rattle.swd_bits.specs.declared.request.Request.{Request}
-use Rattle.swd_bits.specs.declared.request.Reg4.TheVariants.{R0, R4, R8, RC}
-use Rattle.swd_port.specs.declared.access.Access.{Access}
-use Rattle.swd_port.specs.declared.access.Access.TheVariants.{Read as AccessRead, Write as AccessWrite}
+use Rattle.std.specs.Prelude.{Option, Some, None, ◌⊎◌, if◌then◌else◌}
 use Rattle.swd_host.specs.declared.task.Task.{Task}
 use Rattle.swd_host.specs.declared.task.Task.TheVariants.{Read, BurstRead, Write, BurstWrite}
-use Rattle.swd_host.specs.Tasks.{access_of}
-use Rattle.swd_port.specs.declared.access.Answer.TheVariants.{Value, Written, BusFault}
-use Rattle.swd_port.specs.PlainMemory.{PlainMemory, plain_after, plain_answer, address, word_at}
-use Rattle.swd_port.specs.Port.{Port, Target, register}
+use Rattle.swd_port.specs.PlainMemory.{PlainMemory}
+use Rattle.swd_port.specs.Port.{Port, register}
 use Rattle.swd_port.specs.declared.register.Register.{Register}
 use Rattle.swd_port.specs.declared.register.Register.TheVariants.{DpidrRead, AbortWrite, CtrlStatRead, CtrlStatWrite}
 use Rattle.swd_port.specs.declared.register.Register.TheVariants.{ResendRead, SelectWrite, RdbuffRead, CswRead}
 use Rattle.swd_port.specs.declared.register.Register.TheVariants.{CswWrite, TarWrite, DrwRead, DrwWrite}
-use Rattle.swd_port.specs.declared.state.Reset.TheVariants.{Unreset, Live}
-use Rattle.swd_port.specs.declared.state.Line.TheVariants.{Drives, Awaits}
 use Rattle.swd_port.specs.Registers.{csw_read}
 use Rattle.swd_port.specs.Answers.{is_exempt}
-use Rattle.swd_port.specs.Completion.{Completes}
 use Rattle.swd_port.specs.Asking.{Asks, is_posted, pending_once_read}
-use Rattle.swd_port.specs.Moves.{Kept}
-use Rattle.swd_port.specs.Outcomes.{Stays, Accepts, Refuses, Spares, SeesOkay, OkayOrLost, OkayWaitOrLost, okay, wait}
+use Rattle.swd_port.specs.Outcomes.{Stays, Accepts, okay}
 use Rattle.swd_port.specs.Outcomes.{lost}
-use Rattle.swd_port.specs.Transfers.{Sent, Advanced, Succeeded, Failed, Aimed, Buffered}
-use Rattle.swd_port.specs.Laws.Requests.{Confirms as ConfirmsThen, confirms_okay, confirms_wait, confirms_fault}
-use Rattle.swd_port.specs.Laws.Requests.{confirms_lost}
 use Rattle.swd_port.specs.Laws.WordsRead.{OnLine}
-use Rattle.swd_port.proofs.RequestLaws.{identification_read_at_rest, free_request_at_rest, confirming_request}
-use Rattle.swd_port.proofs.RequestLaws.{refused_with_power}
+use Rattle.swd_port.proofs.RequestLaws.{identification_read_at_rest}
 use Rattle.swd_port.proofs.StatusLaws.{identification_returned, buffer_returned, value_resent}
-use Rattle.swd_port.proofs.CompletionLaws.{none_done, kept as kept_by, sent_stays, sent_carried, read_begins}
-use Rattle.swd_host.specs.declared.flags.Flags.{Flags}
 use Rattle.swd_host.specs.declared.request.Place.{Place}
 use Rattle.swd_host.specs.declared.request.Place.TheVariants.{Identify, Wipe, Inspect, Select, Power, Powered}
-use Rattle.swd_host.specs.declared.request.Place.TheVariants.{Configure, Recall, Configured, Aim, Transfer, Confirm, Behind}
-use Rattle.swd_host.specs.declared.request.Job.{Job}
-use Rattle.swd_host.specs.declared.request.Job.TheVariants.{At, Resend, Status, LastStatus, Clear, Check}
-use Rattle.swd_host.specs.Requests.{request_of, is_exempt_place, confirmed_by, written_by, begins}
-use Rattle.swd_host.specs.Tracks.{Hand, Counted, no_select, csw_word_read, Reachable, Calm, Up, IsAimed, Under, Has}
-use Rattle.swd_host.specs.Tracks.{is_wipe, Sure, Hurt, Broken, Facts, Spoilt, Refused, by_damage, by_error, Owes}
-use Rattle.swd_host.specs.Tracks.{Checks, cleared, kept, Done, Returned, Resent, Before, During, Transfers, Confirms}
-use Rattle.swd_host.specs.Tracks.{Confirmed, FaultedAt, Within, Says, Reads, Writes, Awake}
-use Rattle.swd_host.proofs.Frames.{Frame, Same, frame_accepts, same_accepts, calm_framed, has_framed, sure_framed}
-use Rattle.swd_host.proofs.Frames.{hurt_framed, resent_framed, owes_framed, before_framed, before_within, has_within}
-use Rattle.swd_host.proofs.Frames.{within_carried, within_stays, within_sent, within_idle, within_done, lost_within}
-use Rattle.swd_host.proofs.Asked.{Came, came_okay, came_wait, came_fault, came_lost, reads_from, writes_from}
-use Rattle.swd_host.proofs.Asked.{exempt_asked, free_asked, flagged_asked, status, abort, status_asked, abort_asked}
+use Rattle.swd_host.specs.declared.request.Place.TheVariants.{Configure, Recall, Configured, Aim, Transfer, Confirm}
+use Rattle.swd_host.specs.declared.request.Place.TheVariants.{Behind}
+use Rattle.swd_host.specs.declared.request.Job.TheVariants.{At, Resend}
+use Rattle.swd_host.specs.Requests.{request_of, is_exempt_place, confirmed_by, written_by}
+use Rattle.swd_host.specs.Tracks.{Hand, Counted, no_select, csw_word_read, Reachable, Calm, Up, Has}
+use Rattle.swd_host.specs.Tracks.{is_wipe, Sure, Hurt, Spoilt, by_damage}
+use Rattle.swd_host.specs.Tracks.{Resent, During}
+use Rattle.swd_host.specs.Tracks.{Within, Reads, Writes, Awake}
+use Rattle.swd_host.proofs.Frames.{Frame, Same, frame_accepts, same_accepts, has_framed, sure_framed}
+use Rattle.swd_host.proofs.Frames.{resent_framed, before_within, has_within}
+use Rattle.swd_host.proofs.Frames.{within_idle, lost_within}
+use Rattle.swd_host.proofs.Asked.{Came, came_okay, came_lost, reads_from, writes_from}
+use Rattle.swd_host.proofs.Asked.{free_asked, flagged_asked, abort_asked}
 
 -- THE WRITE BEFORE
 abbrev is_written : Place → Bool

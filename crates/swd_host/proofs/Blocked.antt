@@ -1,6 +1,6 @@
 -- The checks of a block of reads.
-use Rattle.std.proofs.Common.{◌≡◌, ◌≢◌, ◌+◌, ◌*◌, ◌%◌, ◌^◌, ◌<◌, ◌≤◌, ◌==◌, ℕ, zero, suc, true, false, refl, sym, arith}
-use Rattle.std.proofs.Common.{subst, ap, ◌∙◌, ◌++◌, ◌∷◌, [], length, take, get_or}
+use Rattle.std.proofs.Common.{◌≡◌, ◌≢◌, ◌+◌, ◌*◌, ◌%◌, ◌^◌, ◌<◌, ◌≤◌, ◌==◌, ℕ, zero, suc, false, refl, sym, arith}
+use Rattle.std.proofs.Common.{subst, ap, ◌∙◌, ◌++◌, ◌∷◌, [], length}
 use Rattle.swd_port.specs.declared.access.Access.TheVariants.{Read}
 use Rattle.swd_port.specs.PlainMemory.{reads}
 use Rattle.swd_port.proofs.ReadLists.{length_reads, reads_more}
@@ -34,6 +34,9 @@ too_many addr count many = omega (arith, length_reads addr count)
 pub first_unaligned : (addr count : ℕ) → count ≤ 65536 → count ≢ 0 → addr % 4 ≢ 0
     → RefusedAs (reads addr count) (Unaligned 0)
 first_unaligned addr zero few some apart = absurd (some refl)
-first_unaligned addr (suc count) few some apart =
-    (omega (arith, length_reads addr (suc count)), omega (arith, length_reads addr (suc count)), tt,
-    apart_false (addr % 4) apart)
+first_unaligned addr (suc count) few some apart = (
+  omega (arith, length_reads addr (suc count)),
+  omega (arith, length_reads addr (suc count)),
+  tt,
+  apart_false (addr % 4) apart,
+)

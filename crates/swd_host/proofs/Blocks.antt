@@ -1,40 +1,38 @@
 -- Blocks of reads: a word is given while the next read is under way.
-use Rattle.std.proofs.Common.{◌≡◌, ◌≢◌, ◌+◌, ◌%◌, ◌^◌, ◌≤◌, ◌<◌, ℕ, Bool, true, false, refl, sym, ap, subst}
+use Rattle.std.proofs.Common.{◌≡◌, ◌≢◌, ◌+◌, ◌%◌, ◌^◌, ◌≤◌, ◌<◌, ℕ, true, false, refl, sym, ap, subst}
 use Rattle.std.proofs.Common.{arith, ◌∙◌}
-use Rattle.std.specs.Prelude.{Option, Some, None, if◌then◌else◌}
+use Rattle.std.specs.Prelude.{Option, Some, None}
 use Rattle.swd_bits.specs.declared.request.Request.{Request}
 use Rattle.swd_port.specs.declared.access.Access.TheVariants.{Read as AccessRead}
 use Rattle.swd_port.specs.declared.access.Answer.TheVariants.{Value}
-use Rattle.swd_port.specs.PlainMemory.{PlainMemory, plain_after, plain_answer, answer_of, address, word_at}
+use Rattle.swd_port.specs.PlainMemory.{plain_answer, answer_of, address, word_at}
 use Rattle.swd_port.specs.Port.{Port, register}
 use Rattle.swd_port.specs.declared.register.Register.TheVariants.{DrwRead, ResendRead}
-use Rattle.swd_port.specs.declared.state.Line.TheVariants.{Drives}
 use Rattle.swd_port.specs.Completion.{Completes}
 use Rattle.swd_port.specs.Asking.{Asks}
-use Rattle.swd_port.specs.Outcomes.{Accepts, Spares, SeesOkay}
-use Rattle.swd_port.specs.Transfers.{Sent, Succeeded, Aimed, Buffered}
-use Rattle.swd_port.specs.Laws.WordsRead.{OnLine}
+use Rattle.swd_port.specs.Outcomes.{Accepts, Spares}
+use Rattle.swd_port.specs.Transfers.{Succeeded, Aimed, Buffered}
 use Rattle.swd_port.proofs.RequestLaws.{confirming_request}
 use Rattle.swd_port.proofs.StatusLaws.{buffer_returned, value_resent}
 use Rattle.swd_port.proofs.CompletionLaws.{none_done, kept as kept_by, read_begins, aimed_by_transfer}
-use Rattle.swd_host.specs.declared.task.Task.{Task}
-use Rattle.swd_host.specs.declared.task.Task.TheVariants.{Read, BurstRead, Write, BurstWrite}
+use Rattle.swd_host.specs.declared.task.Task.TheVariants.{BurstRead}
 use Rattle.swd_host.specs.declared.engine.Ahead.{Ahead}
 use Rattle.swd_host.specs.declared.engine.Ahead.TheVariants.{Unsent, Sent as NextSent, Failed as NextFailed}
 use Rattle.swd_host.specs.declared.request.Place.{Place}
 use Rattle.swd_host.specs.declared.request.Place.TheVariants.{Identify, Wipe, Inspect, Select, Power, Powered}
-use Rattle.swd_host.specs.declared.request.Place.TheVariants.{Configure, Recall, Configured, Aim, Transfer, Confirm, Behind}
+use Rattle.swd_host.specs.declared.request.Place.TheVariants.{Configure, Recall, Configured, Aim, Transfer, Confirm}
+use Rattle.swd_host.specs.declared.request.Place.TheVariants.{Behind}
 use Rattle.swd_host.specs.declared.request.Job.TheVariants.{At, Resend}
 use Rattle.swd_host.specs.Tasks.{access_of, is_block}
 use Rattle.swd_host.specs.Requests.{request_of}
-use Rattle.swd_host.specs.Tracks.{Hand, Counted, no_select, Under, Sure, Returned, Resent, Before, During, Confirms, Reads}
+use Rattle.swd_host.specs.Tracks.{Hand, Counted, no_select, Under, Sure, Returned, Resent, Confirms, Reads}
 use Rattle.swd_host.specs.Tracks.{whole, changed, by_error, next_error, FaultedAt, Within, memory_once_done, next_hand}
 use Rattle.swd_host.specs.Tracks.{DoneBy, ahead_of, IsTask}
 use Rattle.swd_host.proofs.Frames.{Frame, Same, frame_waits, same_waits, frame_accepts, same_accepts, resent_framed}
 use Rattle.swd_host.proofs.Frames.{within_next, within_sent, within_done}
 use Rattle.swd_host.proofs.Asked.{Came, reads_from}
 use Rattle.swd_host.proofs.Asks.{resend_rested, confirming_register}
-use Rattle.swd_host.proofs.Transfers.{under_stays, confirming_came, confirm_came, drw_read}
+use Rattle.swd_host.proofs.Transfers.{under_stays, confirming_came, confirm_came}
 
 -- WHAT STAYS WHILE A TRANSFER TAKES EFFECT
 rested_stays : (P : Port → Type 0) (s t : Port) → s.target.pending ≡ None → Completes s t → P s → P t
@@ -86,7 +84,8 @@ reads_stay p word n b k s t c (changed place line small h) =
 inside_kilobyte : (at : ℕ) → at % 4 ≡ 0 → at % 1024 < 1020 → (at + 4) % 1024 ≢ 0
 inside_kilobyte at aligned below e = omega arith
 
-module _ (at n c : ℕ) (k : Hand) (x y : Port) (flip : Option ℕ) (task : k.task ≡ BurstRead at) (ok : IsTask (BurstRead at))
+module _ (at n c : ℕ) (k : Hand) (x y : Port) (flip : Option ℕ) (task : k.task ≡ BurstRead at) (ok : IsTask
+    (BurstRead at))
     (two : 2 ≤ c) (u : Under c k x.target) (d : Succeeded (access_of k.task) k.memory x.target)
     (ac : Accepts DrwRead true flip x y) where
   access_here : access_of k.task ≡ AccessRead at
@@ -170,26 +169,35 @@ passing_asked word n base b k v s t l h r asks =
     (λ d a. (let ac : Accepts ResendRead true a.flip x y = a.accepts in
     let f : Frame x y = frame_accepts ResendRead true a.flip x y refl ux.live ac in
     let e : Same x y = same_accepts ResendRead true a.flip x y ac in
-    let more : x.tally.disturbed ≤ y.tally.disturbed = a.heard.disturbed_least in
-    (word, reads_stay Confirm word n b k y t last
-    (reads_from word n (λ c. Resent Confirm word c b k y) a.flip x y (value_resent a.flip word x y rx.last ac).0 a.spares
-    (resent_framed n n b k x y f e (omega arith) Confirm word rx)
-    (λ i. resent_framed n (n + 1) b k x y f e (omega arith) Confirm word rx)))))
+    let more : x.tally.disturbed ≤ y.tally.disturbed = a.heard.disturbed_least in (
+      word,
+      reads_stay Confirm word n b k y t last
+          (reads_from word n (λ c. Resent Confirm word c b k y) a.flip x y
+          (value_resent a.flip word x y rx.last ac).0 a.spares
+          (resent_framed n n b k x y f e (omega arith) Confirm word rx)
+          (λ i. resent_framed n (n + 1) b k x y f e (omega arith) Confirm word rx)),
+    )))
     (λ a w. record {
       free = refl;
-      before = (word, resent_stays Confirm word (n + 1) b k y t last
-          (resent_framed n (n + 1) b k x y (frame_waits ResendRead x y a.defers) (same_waits ResendRead x y a.defers)
-          (omega (arith, a.disturbed)) Confirm word rx));
+      before = (
+        word,
+        resent_stays Confirm word (n + 1) b k y t last
+            (resent_framed n (n + 1) b k x y (frame_waits ResendRead x y a.defers) (same_waits ResendRead x y a.defers)
+            (omega (arith, a.disturbed)) Confirm word rx),
+      );
     })
-    (λ z. subst (λ p. FaultedAt (Resend Confirm) n b k p) (sym z.same) (h.1.0, by_error (next_error (record {
-      place = refl;
-      begun = h.0;
-      block = h.1.0;
-      word = word;
-      answer = rx.returned.1;
-      last = z.frame.last_returned ∙ rx.last;
-      broken = z.broken;
-    })) z.sticky z.flag z.paid))
+    (λ z. subst (λ p. FaultedAt (Resend Confirm) n b k p) (sym z.same) (
+      h.1.0,
+      by_error (next_error (record {
+        place = refl;
+        begun = h.0;
+        block = h.1.0;
+        word = word;
+        answer = rx.returned.1;
+        last = z.frame.last_returned ∙ rx.last;
+        broken = z.broken;
+      })) z.sticky z.flag z.paid,
+    ))
     (λ w. within_next b k y h.0 h.1.0 w)
     (λ d ac. within_next b k y h.0 h.1.0 (within_done 1 h2 y (omega arith) (ap (λ i. i.pending) ac.target ∙ d.pending)
     (ap (λ i. i.memory) ac.target ∙ d.memory)))

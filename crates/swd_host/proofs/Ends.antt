@@ -1,7 +1,7 @@
 -- What an outcome says of the memory.
 use Rattle.std.proofs.Common.{◌≡◌, ◌≢◌, ◌+◌, ◌%◌, ◌^◌, ◌<◌, ◌≤◌, ℕ, Bool, true, false, refl, sym, ap, subst, inl, inr}
 use Rattle.std.proofs.Common.{arith, ◌∙◌}
-use Rattle.std.specs.Prelude.{Some, None, ◌⊎◌, ◌&&◌, not, if◌then◌else◌, Result, Ok, Err}
+use Rattle.std.specs.Prelude.{Some, None, ◌⊎◌, if◌then◌else◌, Result, Ok, Err}
 use Rattle.swd_port.specs.declared.access.Answer.{Answer}
 use Rattle.swd_port.specs.declared.access.Answer.TheVariants.{Written}
 use Rattle.swd_port.specs.declared.register.Register.TheVariants.{DrwWrite}
@@ -22,7 +22,7 @@ use Rattle.swd_host.specs.declared.engine.Phase.TheVariants.{Data}
 use Rattle.swd_host.specs.declared.engine.State.{State}
 use Rattle.swd_host.specs.declared.engine.State.TheVariants.{Leading, Doing, Resting}
 use Rattle.swd_host.specs.declared.engine.Engine.{Engine}
-use Rattle.swd_host.specs.Tasks.{access_of, is_burst, is_burst_write, is_block}
+use Rattle.swd_host.specs.Tasks.{access_of, is_burst, is_burst_write}
 use Rattle.swd_host.specs.Engines.{is_ahead_at, is_ahead_in, is_ahead, begun_of, finished_at, finished_of}
 use Rattle.swd_host.specs.Progress.{is_state_of}
 use Rattle.swd_host.specs.Tracks.{Hand, Counted, Writes, whole, changed, Within, Finished, Confirmed, Confirms}

@@ -1,21 +1,20 @@
 -- What stays at the port stays known.
-use Rattle.std.proofs.Common.{◌≡◌, ◌≢◌, ◌+◌, ◌%◌, ◌≤◌, ◌<◌, ℕ, Bool, true, false, refl, sym, ap, subst, inl, inr}
+use Rattle.std.proofs.Common.{◌≡◌, ◌≢◌, ◌+◌, ◌%◌, ◌≤◌, ℕ, Bool, true, false, refl, sym, ap, subst, inl, inr}
 use Rattle.std.proofs.Common.{arith, ◌∙◌}
-use Rattle.std.specs.Prelude.{Option, Some, None, ◌⊎◌, ◌||◌, if◌then◌else◌}
-use Rattle.swd_port.specs.declared.access.Access.{Access}
+use Rattle.std.specs.Prelude.{Option, None, ◌⊎◌, ◌||◌, if◌then◌else◌}
 use Rattle.swd_port.specs.PlainMemory.{PlainMemory, plain_after}
-use Rattle.swd_port.specs.Port.{Port, Target}
+use Rattle.swd_port.specs.Port.{Port}
 use Rattle.swd_port.specs.declared.register.Register.{Register}
 use Rattle.swd_port.specs.declared.register.Register.TheVariants.{DrwRead, AbortWrite}
 use Rattle.swd_port.specs.declared.state.Reset.TheVariants.{Unreset, Live}
-use Rattle.swd_port.specs.Completion.{Completes, completed, completion_of}
+use Rattle.swd_port.specs.Completion.{Completes}
 use Rattle.swd_port.specs.Answers.{is_unpowered}
 use Rattle.swd_port.specs.declared.state.Drw.{Drw}
 use Rattle.swd_port.specs.Asking.{is_posted, buffer_once_read, pending_once_read}
 use Rattle.swd_port.specs.Outcomes.{Stays, Defers, Refuses, Accepts}
 use Rattle.swd_port.specs.Moves.{Passed, Gave, Spoiled}
 use Rattle.swd_port.specs.Moving.{Arrives, sticky_error_after, write_error_after}
-use Rattle.swd_port.specs.Transfers.{Sent, Carries, Becomes, idle, Advanced}
+use Rattle.swd_port.specs.Transfers.{Sent, Carries, idle}
 use Rattle.swd_port.proofs.CompletionLaws.{sent_carried, sent_becomes, sent_memory, becomes_stays, becomes_carried}
 use Rattle.swd_port.proofs.CompletionLaws.{becomes_completed}
 use Rattle.swd_port.proofs.RequestLaws.{lost_request, refused_with_power}
@@ -26,13 +25,14 @@ use Rattle.swd_host.specs.declared.engine.Ahead.{Ahead}
 use Rattle.swd_host.specs.declared.engine.Ahead.TheVariants.{Unsent, Sent as NextSent, Failed as NextFailed}
 use Rattle.swd_host.specs.declared.request.Place.{Place}
 use Rattle.swd_host.specs.declared.request.Place.TheVariants.{Identify, Wipe, Inspect, Select, Power, Powered}
-use Rattle.swd_host.specs.declared.request.Place.TheVariants.{Configure, Recall, Configured, Aim, Transfer, Confirm, Behind}
+use Rattle.swd_host.specs.declared.request.Place.TheVariants.{Configure, Recall, Configured, Aim, Transfer, Confirm}
+use Rattle.swd_host.specs.declared.request.Place.TheVariants.{Behind}
 use Rattle.swd_host.specs.declared.request.Job.{Job}
 use Rattle.swd_host.specs.declared.request.Job.TheVariants.{At, Resend, Status, LastStatus, Clear, Check}
-use Rattle.swd_host.specs.Tracks.{Hand, Reachable, Calm, HasPower, Up, HasCsw, HasRecalled, IsAimed, Under, Has, Sure}
-use Rattle.swd_host.specs.Tracks.{Hurt, Broken, Spoilt, Facts, Refused, by_damage, by_error, Owes, Checks, cleared}
+use Rattle.swd_host.specs.Tracks.{Hand, Calm, HasPower, Up, Under, Has, Sure}
+use Rattle.swd_host.specs.Tracks.{Hurt, Broken, Facts, Refused, by_damage, by_error, Owes, Checks, cleared}
 use Rattle.swd_host.specs.Tracks.{kept, Done, Returned, Resent, Before, Within, IsWithin, within_none, within_first}
-use Rattle.swd_host.specs.Tracks.{within_both, memory_once_done, next_hand, AheadAt, DoneBy, ahead_of, Fallen}
+use Rattle.swd_host.specs.Tracks.{within_both, memory_once_done, next_hand, AheadAt, DoneBy, ahead_of}
 use Rattle.swd_host.specs.Tracks.{BusErrorOf, own_error, next_error}
 
 -- the fields that the host's facts are about, the flags and the counts aside

@@ -1,47 +1,23 @@
 -- Each turnaround and the lead keep what the engine knows.
-use Rattle.std.proofs.Common.{◌≡◌, ◌≢◌, ◌+◌, ◌-◌, ◌*◌, ◌/◌, ◌%◌, ◌^◌, ◌≤◌, ◌<◌, ℕ, Bool, true, false, refl, sym, ap}
+use Rattle.std.proofs.Common.{◌≡◌, ◌≢◌, ◌+◌, ◌%◌, ℕ, refl, ap}
 use Rattle.std.proofs.Common.{subst, inl, inr, arith, ◌∙◌}
-use Rattle.std.specs.Prelude.{Option, Some, None, ◌⊎◌, ◌||◌, ◌&&◌, not, ◌==◌, if◌then◌else◌}
-use Rattle.swd_bits.specs.Bits.{low_bits}
-use Rattle.swd_bits.specs.Wire.{phase}
-use Rattle.swd_port.specs.declared.access.Access.{Access}
-use Rattle.swd_port.specs.declared.access.Access.TheVariants.{Read as AccessRead, Write as AccessWrite}
-use Rattle.swd_host.specs.declared.task.Task.{Task}
-use Rattle.swd_host.specs.declared.task.Task.TheVariants.{Read, BurstRead, Write, BurstWrite}
-use Rattle.swd_host.specs.Tasks.{access_of}
-use Rattle.swd_port.specs.PlainMemory.{PlainMemory, plain_after, plain_answer, address}
-use Rattle.swd_port.specs.Registers.{bit_of}
-use Rattle.swd_port.specs.Phases.{phase_number}
-use Rattle.swd_port.specs.Port.{Port, Target}
-use Rattle.swd_port.specs.declared.register.Register.{Register}
-use Rattle.swd_port.specs.declared.register.Register.TheVariants.{AbortWrite, CtrlStatWrite, SelectWrite, CswWrite}
-use Rattle.swd_port.specs.declared.register.Register.TheVariants.{TarWrite, DrwWrite}
+use Rattle.std.specs.Prelude.{None, ◌||◌}
+use Rattle.swd_port.specs.Port.{Port}
 use Rattle.swd_port.specs.declared.state.Reset.{Reset}
-use Rattle.swd_port.specs.declared.state.Reset.TheVariants.{Unreset, Fresh, Live}
-use Rattle.swd_port.specs.declared.state.Line.TheVariants.{Idle, Awaits}
-use Rattle.swd_port.specs.Completion.{Completes}
-use Rattle.swd_port.specs.Moving.{Gives, Passes}
+use Rattle.swd_port.specs.declared.state.Reset.TheVariants.{Unreset, Fresh}
+use Rattle.swd_port.specs.Moving.{Passes}
 use Rattle.swd_port.specs.Leading.{Leads, is_awaiting}
-use Rattle.swd_port.specs.Phases.{IsPhaseOf}
-use Rattle.swd_port.specs.Moves.{Passed, Given, Gave, Spoiled, WasReset, whole as given_whole}
-use Rattle.swd_port.specs.Moves.{damaged as given_damaged}
-use Rattle.swd_port.specs.Transfers.{Aimed, Sent}
-use Rattle.swd_port.specs.Laws.WordsRead.{Clears}
-use Rattle.swd_port.proofs.PhaseLemmas.{bits_phase}
-use Rattle.swd_port.proofs.MovingLaws.{data_given_exact, data_given_at_rest, turnaround_passed}
-use Rattle.swd_port.proofs.MovingLaws.{turnaround_passed_at_rest, line_reset, idle_cycles_at_rest}
-use Rattle.swd_port.proofs.StatusLaws.{flags_cleared}
-use Rattle.swd_port.proofs.CompletionLaws.{none_done, kept as kept_by, write_begins}
-use Rattle.swd_host.specs.declared.flags.Flags.{Flags}
+use Rattle.swd_port.specs.Moves.{Passed, WasReset}
+use Rattle.swd_port.proofs.MovingLaws.{turnaround_passed}
+use Rattle.swd_port.proofs.MovingLaws.{turnaround_passed_at_rest, line_reset}
+use Rattle.swd_port.proofs.CompletionLaws.{none_done, kept as kept_by}
 use Rattle.swd_host.specs.declared.request.Place.{Place}
 use Rattle.swd_host.specs.declared.request.Place.TheVariants.{Identify, Wipe, Inspect, Select, Power, Powered}
-use Rattle.swd_host.specs.declared.request.Place.TheVariants.{Configure, Recall, Configured, Aim, Transfer, Confirm, Behind}
+use Rattle.swd_host.specs.declared.request.Place.TheVariants.{Configure, Recall, Configured, Aim, Transfer, Confirm}
+use Rattle.swd_host.specs.declared.request.Place.TheVariants.{Behind}
 use Rattle.swd_host.specs.declared.request.Job.{Job}
 use Rattle.swd_host.specs.declared.request.Job.TheVariants.{At, Resend, Status, LastStatus, Clear, Check}
-use Rattle.swd_host.specs.Flags.{clear_word}
-use Rattle.swd_host.specs.Tasks.{access_of}
-use Rattle.swd_host.specs.declared.engine.Engine.{Engine}
-use Rattle.swd_host.specs.Tracks.{Hand, no_select, Under, Sure, Resent, Before, Faulting, FaultedAt, Waiting, Unled}
+use Rattle.swd_host.specs.Tracks.{Hand, Under, Sure, Resent, Before, FaultedAt, Waiting, Unled}
 use Rattle.swd_host.proofs.Frames.{frame_passed, same_passed, has_framed, before_framed, resent_framed}
 use Rattle.swd_host.proofs.Blocks.{resent_stays}
 use Rattle.swd_host.proofs.Asks.{hurt_calm}

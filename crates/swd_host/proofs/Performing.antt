@@ -27,21 +27,21 @@ use Rattle.swd_host.specs.declared.engine.Ahead.{Ahead}
 use Rattle.swd_host.specs.declared.engine.Ahead.TheVariants.{Unsent, Sent, Failed}
 use Rattle.swd_host.specs.declared.task.Task.{Task}
 use Rattle.swd_host.specs.Tasks.{access_of, is_burst, is_block, task_for, most_begun, most_of}
-use Rattle.swd_host.specs.Engines.{is_ahead, is_ahead_in, begun_of, is_resting, finished_at, finished_of, may_start}
+use Rattle.swd_host.specs.Engines.{is_ahead, is_ahead_in, begun_of, finished_at, finished_of, may_start}
 use Rattle.swd_host.specs.Progress.{least_in, open_requests}
 use Rattle.swd_host.specs.Tracks.{Hand, Counted, IsWithin, within_none, within_first, within_both, IsReady, Follows}
 use Rattle.swd_host.specs.Tracks.{hand_of, next_read, Up, AheadAt, IsKnownAt, DueAt, DueFits}
 use Rattle.swd_host.specs.Turns.{is_failed, has_failed, Starts, Goes}
 use Rattle.swd_host.specs.Reports.{Fits, EndsAt, Follower, told_by}
 use Rattle.swd_host.specs.Standing.{Waits, Reached, ContinuesAt, Stands, HasOpened, IsOpen, Does, DoesOver}
-use Rattle.swd_host.specs.Standing.{IsAnew, HasSentFor, anew, on}
-use Rattle.swd_host.proofs.Fitting.{IsLeft, none_left, MayBegin, fits_by}
+use Rattle.swd_host.specs.Standing.{HasSentFor, anew, on}
+use Rattle.swd_host.proofs.Fitting.{IsLeft, none_left, fits_by}
 use Rattle.swd_port.specs.declared.wire.Due.TheVariants.{Nothing}
 use Rattle.swd_port.proofs.CallLaws.{others_uncounted, identification_kept}
 use Rattle.swd_host.proofs.Lists.{memory_next, answers_next, access_at, follower_continues}
 use Rattle.swd_host.proofs.Starts.{IsFirst, IsAnswered, same_access, ahead_state, calm_by, burst_continues, task_most}
-use Rattle.swd_host.proofs.Starts.{start_follows, start_left, start_least, start_begun, begun_burst, first_start}
-use Rattle.swd_host.proofs.Starts.{answered_start, anew_going, block_burst, next_is, single_block}
+use Rattle.swd_host.proofs.Starts.{start_follows, start_left, start_least, start_begun, first_start}
+use Rattle.swd_host.proofs.Starts.{answered_start, anew_going, block_burst, next_is}
 use Rattle.swd_host.proofs.Ends.{Answers, Stops, answered_there, stops_there, stopped_state, outcome_case}
 use Rattle.swd_host.proofs.Ends.{later_memory, begun_there}
 
@@ -228,8 +228,8 @@ module _ (i : ℕ) (list : List Access) (o e g f : Engine) (answers : List Answe
   begun_sent : 1 ≤ f.begun → HasSentFor i o e → o.requests + 1 + i + f.begun ≤ f.requests
   begun_sent some sent = by_cases (has_failed e) (o.requests + 1 + i + f.begun ≤ f.requests)
       (λ failed. absurd (
-          let at : IsAnswered g = answered_start (get_or list i d) following e g starts failed in
-          omega (arith, ap (λ x. x.begun) (here_at_once failed), at.begun)))
+      let at : IsAnswered g = answered_start (get_or list i d) following e g starts failed in
+      omega (arith, ap (λ x. x.begun) (here_at_once failed), at.begun)))
       (λ going. begun_on going some sent)
 
   begun_few : f.begun ≤ most_begun f.task
@@ -250,7 +250,8 @@ module _ (i : ℕ) (list : List Access) (o e g f : Engine) (answers : List Answe
       → (b : Access) → (if has_failed e then None else following) ≡ Some b → Follower i list b
   follower_here next b = by_cases (has_failed e)
       ((if has_failed e then None else following) ≡ Some b → Follower i list b)
-      (λ failed is. absurd (let never : None ≡ Some b = sym (ap (λ x. if x then None else following) failed) ∙ is in cc))
+      (λ failed is. absurd (let never : None ≡ Some b = sym (ap (λ x. if x then None else following) failed)
+      ∙ is in cc))
       (λ going is. next b (sym (ap (λ x. if x then None else following) going) ∙ is))
 
   chain_here : ((b : Access) → following ≡ Some b → Follower i list b) → is_burst f.task ≡ true
@@ -262,7 +263,8 @@ module _ (i : ℕ) (list : List Access) (o e g f : Engine) (answers : List Answe
       burst_continues e.bursts (get_or list i d) (if has_failed e then None else following)
       (sym (ap is_burst task) ∙ burst) in
       subst (ContinuesAt list (i + 1)) (sym access_here)
-      (follower_continues list i (get_or list i d) (if has_failed e then None else following) on_it (follower_here next))
+      (follower_continues list i (get_or list i d) (if has_failed e then None else following) on_it
+      (follower_here next))
 
   -- A STOP
   within_left : (m now : PlainMemory) → ((b : Access) → following ≡ Some b → Follower i list b)
@@ -274,7 +276,7 @@ module _ (i : ℕ) (list : List Access) (o e g f : Engine) (answers : List Answe
       let second : get_or list (i + 1) d ≡ next_read f.task =
       next_is f.task (get_or list (i + 1) d) block (chain.1 d) in
       let both : memory_after (take (i + 1 + 1) list) m
-          ≡ plain_after (next_read f.task) (memory_after (take (i + 1) list) m) =
+      ≡ plain_after (next_read f.task) (memory_after (take (i + 1) list) m) =
       memory_next list (i + 1) d m chain.0 ∙ ap (λ a. plain_after a (memory_after (take (i + 1) list) m)) second in
       let count : i + 1 + 1 ≡ i + 2 = omega arith in
       record {
@@ -298,9 +300,10 @@ module _ (i : ℕ) (list : List Access) (o e g f : Engine) (answers : List Answe
       let same : begun_of f ≡ f.begun = begun_there f end at in
       fits_by (most_of o.bursts) i list m answers f end now (omega arith) r.answered (omega (arith, begun_most))
       (λ begun. (
-          omega (arith, list_has next),
-          never,
-          omega (arith, begun_sent (some_of (begun_of f) f.begun same begun) r.sent, opened.least)))
+        omega (arith, list_has next),
+        never,
+        omega (arith, begun_sent (some_of (begun_of f) f.begun same begun) r.sent, opened.least),
+      ))
       (λ all. absurd (never all))
       (subst (λ b. IsLeft i list m b now) (sym same) (within_left m now next within))
 
@@ -348,8 +351,9 @@ module _ (i : ℕ) (list : List Access) (o e g f : Engine) (answers : List Answe
       → Reached i list m o s e answers t → HasSentFor (i + 1) o f
   answered_sent m answer is r = by_cases (has_failed e) (HasSentFor (i + 1) o f)
       (λ failed. answered_at_once failed
-          (starts.tar ∙ failed_tar (is_ahead e) r.met (hand_of e (memory_after (take i list) m)) t e.ahead refl failed r.ready)
-          r.sent)
+      (starts.tar ∙ failed_tar (is_ahead e) r.met (hand_of e (memory_after
+      (take i list) m)) t e.ahead refl failed r.ready)
+      r.sent)
       (λ going. answered_on answer is going r.sent)
 
   answered_reached : (m : PlainMemory) → AreAccesses list → (answer : Answer) (more : List Answer)

@@ -1,60 +1,33 @@
 -- Every request keeps what the engine knows.
-use Rattle.std.proofs.Common.{◌≡◌, ◌≢◌, ◌+◌, ◌%◌, ◌^◌, ◌≤◌, ◌<◌, ℕ, Bool, true, false, refl, sym, ap, subst, inl, inr}
+use Rattle.std.proofs.Common.{◌≡◌, ◌≤◌, ℕ, Bool, true, false, refl, sym, ap, subst, inl, inr}
 use Rattle.std.proofs.Common.{arith, ◌∙◌}
-use Rattle.std.specs.Prelude.{Option, Some, None, ◌⊎◌, ◌||◌, ◌==◌, if◌then◌else◌, max}
-use Rattle.swd_bits.specs.declared.request.Request.{Request}
-use Rattle.swd_bits.specs.declared.request.Reg4.TheVariants.{R0, R4, R8, RC}
-use Rattle.swd_port.specs.declared.access.Access.{Access}
-use Rattle.swd_port.specs.declared.access.Access.TheVariants.{Read as AccessRead, Write as AccessWrite}
+use Rattle.std.specs.Prelude.{None, max}
 use Rattle.swd_host.specs.declared.task.Task.{Task}
 use Rattle.swd_host.specs.declared.task.Task.TheVariants.{Read, BurstRead, Write, BurstWrite}
-use Rattle.swd_host.specs.Tasks.{access_of}
-use Rattle.swd_port.specs.declared.access.Answer.TheVariants.{Value, Written, BusFault}
-use Rattle.swd_port.specs.PlainMemory.{PlainMemory, plain_after, plain_answer, answer_of, address, word_at}
-use Rattle.swd_port.specs.Port.{Port, Target, register}
-use Rattle.swd_port.specs.declared.register.Register.{Register}
-use Rattle.swd_port.specs.declared.register.Register.TheVariants.{DpidrRead, AbortWrite, CtrlStatRead, CtrlStatWrite}
-use Rattle.swd_port.specs.declared.register.Register.TheVariants.{ResendRead, SelectWrite, RdbuffRead, CswRead}
-use Rattle.swd_port.specs.declared.register.Register.TheVariants.{CswWrite, TarWrite, DrwRead, DrwWrite}
-use Rattle.swd_port.specs.declared.state.Reset.TheVariants.{Unreset, Live}
-use Rattle.swd_port.specs.declared.state.Line.TheVariants.{Drives, Awaits}
-use Rattle.swd_port.specs.Answers.{is_exempt}
-use Rattle.swd_port.specs.Completion.{Completes}
-use Rattle.swd_port.specs.Asking.{Asks, is_posted, pending_once_read}
-use Rattle.swd_port.specs.Moves.{Kept}
-use Rattle.swd_port.specs.Outcomes.{Stays, Accepts, Refuses, Spares, SeesOkay, SeesWait, SeesFault, SeesNone}
-use Rattle.swd_port.specs.Outcomes.{OkayOrLost, OkayWaitOrLost, okay, wait, lost}
-use Rattle.swd_port.specs.Transfers.{Sent, Advanced, Succeeded, Failed, Aimed, Buffered, Carries}
-use Rattle.swd_port.specs.Laws.Requests.{Confirms as ConfirmsThen, confirms_okay, confirms_wait, confirms_fault}
-use Rattle.swd_port.specs.Laws.Requests.{confirms_lost}
-use Rattle.swd_port.specs.Laws.WordsRead.{OnLine}
-use Rattle.swd_port.proofs.RequestLaws.{free_request_at_rest, confirming_request, refused_with_power}
-use Rattle.swd_port.proofs.StatusLaws.{buffer_returned, carried_where_held}
-use Rattle.swd_port.proofs.CompletionLaws.{none_done, kept as kept_by, sent_stays, sent_carried, read_begins}
+use Rattle.swd_port.specs.PlainMemory.{PlainMemory}
+use Rattle.swd_port.specs.Port.{Port}
+use Rattle.swd_port.specs.declared.register.Register.TheVariants.{CtrlStatWrite}
+use Rattle.swd_port.specs.declared.register.Register.TheVariants.{SelectWrite}
+use Rattle.swd_port.specs.declared.register.Register.TheVariants.{CswWrite, TarWrite}
+use Rattle.swd_port.specs.declared.state.Reset.TheVariants.{Live}
+use Rattle.swd_port.specs.Asking.{Asks}
 use Rattle.swd_host.specs.declared.flags.Flags.{Flags}
 use Rattle.swd_host.specs.declared.request.Place.{Place}
 use Rattle.swd_host.specs.declared.request.Place.TheVariants.{Identify, Wipe, Inspect, Select, Power, Powered}
-use Rattle.swd_host.specs.declared.request.Place.TheVariants.{Configure, Recall, Configured, Aim, Transfer, Confirm, Behind}
+use Rattle.swd_host.specs.declared.request.Place.TheVariants.{Configure, Recall, Configured, Aim, Transfer, Confirm}
+use Rattle.swd_host.specs.declared.request.Place.TheVariants.{Behind}
 use Rattle.swd_host.specs.declared.request.Job.{Job}
 use Rattle.swd_host.specs.declared.request.Job.TheVariants.{At, Resend, Status, LastStatus, Clear, Check}
-use Rattle.swd_host.specs.declared.engine.Cue.TheVariants.{Ask as CueAsk}
-use Rattle.swd_host.specs.declared.engine.Phase.TheVariants.{Ask, Data, Waited, Faulted}
-use Rattle.swd_host.specs.declared.engine.State.{State}
-use Rattle.swd_host.specs.declared.engine.State.TheVariants.{Leading, Doing, Resting}
-use Rattle.swd_host.specs.declared.engine.Engine.{Engine}
-use Rattle.swd_host.specs.Requests.{request_of, is_exempt_place, begins, begins_next}
+use Rattle.swd_host.specs.Requests.{request_of, begins, begins_next}
 use Rattle.std.proofs.Math.Nat.{le-max_left, le-max_right, max-zero}
 use Rattle.swd_host.specs.Tracks.{Hand, Saw, saw_okay, saw_wait, saw_fault, saw_none, Counted, no_select}
-use Rattle.swd_host.specs.Tracks.{csw_word_read, Reachable, Calm, Up, IsAimed, Under, Has, is_wipe, Sure, Hurt}
-use Rattle.swd_host.specs.Tracks.{Broken, Facts, Spoilt, Refused, by_damage, by_error, Owes, Checks, cleared, kept}
-use Rattle.swd_host.specs.Tracks.{Done, Returned, Resent, Before, During, Transfers, Confirms, Confirmed, FaultedAt}
-use Rattle.swd_host.specs.Tracks.{Within, Says, Reads, Writes, Awake}
-use Rattle.swd_host.proofs.Frames.{Frame, Same, frame_waits, frame_refuses, frame_accepts, same_accepts, calm_framed}
-use Rattle.swd_host.proofs.Frames.{has_framed, sure_framed, hurt_framed, resent_framed, owes_framed, before_framed}
-use Rattle.swd_host.proofs.Frames.{before_within, has_within, within_carried, within_stays, within_sent, within_idle}
-use Rattle.swd_host.proofs.Frames.{within_done}
-use Rattle.swd_host.proofs.Asked.{Came, came_okay, came_wait, came_fault, came_lost, reads_from, writes_from, status}
-use Rattle.swd_host.proofs.Asked.{abort, status_asked, abort_asked}
+use Rattle.swd_host.specs.Tracks.{Calm, Has, Sure, Hurt}
+use Rattle.swd_host.specs.Tracks.{Broken, Facts, Refused, by_damage, by_error, Owes, Checks, cleared, kept}
+use Rattle.swd_host.specs.Tracks.{Before, During}
+use Rattle.swd_host.specs.Tracks.{Says}
+use Rattle.swd_host.proofs.Frames.{owes_framed}
+use Rattle.swd_host.proofs.Asked.{Came, came_okay, came_wait, came_fault, came_lost, status}
+use Rattle.swd_host.proofs.Asked.{status_asked, abort_asked}
 use Rattle.swd_host.proofs.Transfers.{drw_asked, confirm_asked}
 use Rattle.swd_host.proofs.Asks.{hurt_calm, spoilt_calm, hurt_asked, write_asked, wipe_asked, identify_asked}
 use Rattle.swd_host.proofs.Asks.{recall_asked, configured_asked}
@@ -140,7 +113,8 @@ module _ (n : ℕ) (base : Counted) (b : ℕ) (k : Hand) (v : ℕ) (s t : Port) 
       (λ e. absurd (cc)) (omega arith) h.has (λ e. absurd (cc)) l h asks (λ w. w)
   plain_asked Powered h asks none other =
       says_asked (At Powered) (powered_rest n b k s (inl h)) (inl h) asks (λ x. x)
-  plain_asked Configure h asks none other = write_asked Configure n base b b k v s t CswWrite refl refl refl refl refl refl
+  plain_asked Configure h asks none other = write_asked Configure n base b b k v s t CswWrite refl refl refl refl
+      refl refl
       (λ e. absurd (cc)) (omega arith) h.has.calm (λ e. h.has.debug) l h asks (λ w. w)
   plain_asked Recall h asks none other = recall_asked n base b k v s t l h asks
   plain_asked Configured h asks none other = configured_asked n base b k v s t l h asks
@@ -177,7 +151,8 @@ module _ (n : ℕ) (base : Counted) (b : ℕ) (k : Hand) (v : ℕ) (s t : Port) 
   place_hurt Recall h asks = hurt_asked Recall n base b (max b 0) k v s t refl (le-max_left b 0) l h asks
   place_hurt Transfer h asks = hurt_asked Transfer n base b (max b 1) k v s t refl (le-max_left b 1) l h asks
   place_hurt Confirm h asks =
-      hurt_asked Confirm n base b (max b (begins_next k.task)) k v s t refl (le-max_left b (begins_next k.task)) l h asks
+      hurt_asked Confirm n base b (max b (begins_next k.task)) k v s t refl (le-max_left b
+      (begins_next k.task)) l h asks
   place_hurt Identify h asks = absurd (let c = h.confirms in cc)
   place_hurt Wipe h asks = absurd (let c = h.confirms in cc)
   place_hurt Select h asks = absurd (let c = h.confirms in cc)

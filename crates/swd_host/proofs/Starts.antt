@@ -50,7 +50,8 @@ write_access false at word = refl
 pub task_access : (kind : Bursts) (a : Access) (following : Option Access) → access_of (task_for kind a following) ≡ a
 task_access WriteBursts (AccessRead at) following = refl
 task_access ReadBursts (AccessRead at) following = read_access (continues (AccessRead at) following) at
-task_access WriteBursts (AccessWrite at word) following = write_access (continues (AccessWrite at word) following) at word
+task_access WriteBursts (AccessWrite at word) following = write_access (continues
+    (AccessWrite at word) following) at word
 task_access ReadBursts (AccessWrite at word) following = refl
 
 -- the address after this one, in its kilobyte
@@ -259,7 +260,8 @@ first_least false NextFailed aims going = absurd (cc)
 first_least false Unsent true going = omega arith
 first_least false Unsent false going = omega arith
 
-first_access : (ahead : Bool) (further : Ahead) (aims : Bool) → is_state_of false (first_state ahead further aims) ≡ true
+first_access : (ahead : Bool) (further : Ahead) (aims : Bool) → is_state_of false
+    (first_state ahead further aims) ≡ true
 first_access true further aims = refl
 first_access false NextSent aims = refl
 first_access false NextFailed aims = refl
@@ -349,7 +351,8 @@ module _ (a : Access) (following : Option Access) (e g : Engine) (starts : Start
       let burst : is_burst e.task ≡ true = ahead_burst e.state e.task is in
       let next = continues_by (access_of e.task) a (chain burst) in
       transfers_by g.task n g.begun (hand_of g m) s
-      (ap is_read starts.task ∙ next_writes e.bursts e.task a (if has_failed e then None else following) (ahead_write e.state e.task is) (chain burst))
+      (ap is_read starts.task ∙ next_writes e.bursts e.task a (if has_failed e then None else following)
+      (ahead_write e.state e.task is) (chain burst))
       (begun_here (failed_by true further is at) burst)
       (poised_writes n (address (access_of e.task) + 4) g.begun (hand_of g m) s
       (ap address same_access ∙ next.next) h)
@@ -424,12 +427,13 @@ module _ (a : Access) (following : Option Access) (e g : Engine) (starts : Start
       let calm : is_ahead e ≡ false = calm_by e.state e.task anew.plain in
       let aims : g.aims ≡ true = starts.aims ∙ (ap (λ x. not (x || is_known e.tar (address a))) calm
       ∙ ap (λ x. not (is_known x (address a))) anew.tar) in
-      let state : g.state ≡ Doing (At Aim) Ask = state_by false Unsent calm anew.ahead ∙ ap (first_state false Unsent) aims
+      let state : g.state ≡ Doing (At Aim) Ask = state_by false Unsent calm anew.ahead
+      ∙ ap (first_state false Unsent) aims
       in
       record {
         aims = aims;
         begun = starts.begun ∙ ap (λ x. bit (x && not (has_failed e))) anew.plain;
-        least = ap (least_in g.aims) state ;
+        least = ap (least_in g.aims) state;
       }
 
   pub anew_going : IsAnew e → has_failed e ≡ false

@@ -1,12 +1,9 @@
 -- What a data phase that was read tells the engine.
-use Rattle.std.proofs.Common.{◌≡◌, ◌≢◌, ◌+◌, ◌%◌, ◌^◌, ◌≤◌, ◌<◌, ℕ, Bool, true, false, refl, sym, ap, subst, inl, inr}
+use Rattle.std.proofs.Common.{◌≡◌, ◌≢◌, ◌+◌, ◌%◌, ◌^◌, ◌<◌, ℕ, false, refl, sym, ap, subst, inl}
 use Rattle.std.proofs.Common.{arith, ◌∙◌}
-use Rattle.std.specs.Prelude.{Option, Some, None, ◌⊎◌}
-use Rattle.swd_port.specs.declared.access.Access.{Access}
-use Rattle.swd_port.specs.declared.access.Access.TheVariants.{Read as AccessRead, Write as AccessWrite}
+use Rattle.std.specs.Prelude.{Option, Some, None}
 use Rattle.swd_host.specs.declared.task.Task.{Task}
 use Rattle.swd_host.specs.declared.task.Task.TheVariants.{Read, BurstRead, Write, BurstWrite}
-use Rattle.swd_host.specs.Tasks.{access_of}
 use Rattle.swd_port.specs.Phases.{word_in}
 use Rattle.swd_port.specs.Port.{Port}
 use Rattle.swd_port.specs.declared.state.Reset.{Reset}
@@ -18,20 +15,21 @@ use Rattle.swd_port.proofs.CompletionLaws.{kept as kept_by}
 use Rattle.swd_host.specs.declared.flags.Flags.{Flags}
 use Rattle.swd_host.specs.declared.request.Place.{Place}
 use Rattle.swd_host.specs.declared.request.Place.TheVariants.{Identify, Wipe, Inspect, Select, Power, Powered}
-use Rattle.swd_host.specs.declared.request.Place.TheVariants.{Configure, Recall, Configured, Aim, Transfer, Confirm, Behind}
+use Rattle.swd_host.specs.declared.request.Place.TheVariants.{Configure, Recall, Configured, Aim, Transfer, Confirm}
+use Rattle.swd_host.specs.declared.request.Place.TheVariants.{Behind}
 use Rattle.swd_host.specs.declared.request.Job.{Job}
 use Rattle.swd_host.specs.declared.request.Job.TheVariants.{At, Resend, Status, LastStatus, Clear, Check}
 use Rattle.swd_host.specs.Requests.{word_for, word_of_task}
 use Rattle.swd_host.specs.Tasks.{is_burst_write}
 use Rattle.swd_host.specs.Engines.{is_ahead_at}
 use Rattle.swd_host.specs.declared.engine.Phase.TheVariants.{Data}
-use Rattle.swd_host.specs.Tracks.{Hand, Calm, Under, Sure, Resent, Before, During, Transfers, Confirms, Confirmed}
-use Rattle.swd_host.specs.Tracks.{Says, Tells, Reads, whole, changed, Awake, Taken, TookAt, ConfirmTook, TakenFor}
+use Rattle.swd_host.specs.Tracks.{Hand, Under, Sure, Resent, Before, During, Transfers, Confirms, Confirmed}
+use Rattle.swd_host.specs.Tracks.{Says, Tells, Reads, whole, changed, Awake, TookAt, ConfirmTook, TakenFor}
 use Rattle.swd_host.proofs.Frames.{Frame, Same, frame_passed, same_passed, calm_framed, has_framed, sure_framed}
 use Rattle.swd_host.proofs.Frames.{resent_framed, done_framed, before_framed}
 use Rattle.swd_host.proofs.Transfers.{under_stays}
 use Rattle.swd_host.proofs.Blocks.{resent_stays}
-use Rattle.swd_host.proofs.Sends.{facts_rest, refused_rest, checks_rest, inspect_rest, powered_rest}
+use Rattle.swd_host.proofs.Sends.{refused_rest, checks_rest, inspect_rest, powered_rest}
 
 pub got_whole_of : (word bits : ℕ) → Got None word bits → word_in bits ≡ Some word
 got_whole_of word bits (got_whole e i h) = h

@@ -1,11 +1,11 @@
 -- What an engine shows: its cue, its outcome, how many accesses are begun.
-use Rattle.std.specs.Prelude.{ℕ, ◌+◌, ◌^◌, ◌<◌, ◌==◌, ◌&&◌, Bool, true, false, not, if◌then◌else◌, Option, Some, None}
+use Rattle.std.specs.Prelude.{not, ℕ, ◌+◌, ◌^◌, ◌<◌, ◌==◌, Bool, true, false, if◌then◌else◌, Option, Some, None}
 use Rattle.std.specs.Prelude.{is_some}
 use Rattle.swd_port.specs.declared.access.Answer.TheVariants.{Written}
 use Rattle.swd_port.specs.Phases.{phase_number}
 use Rattle.swd_host.specs.declared.task.Task.{Task}
 use Rattle.swd_host.specs.declared.outcome.Outcome.{Outcome}
-use Rattle.swd_host.specs.declared.outcome.Outcome.TheVariants.{Opened, Answered, Stopped}
+use Rattle.swd_host.specs.declared.outcome.Outcome.TheVariants.{Opened, Answered}
 use Rattle.swd_host.specs.declared.request.Place.TheVariants.{Identify, Confirm}
 use Rattle.swd_host.specs.declared.request.Job.{Job}
 use Rattle.swd_host.specs.declared.request.Job.TheVariants.{At}

@@ -15,7 +15,7 @@ use Rattle.swd_host.specs.declared.outcome.Report.{Report}
 use Rattle.swd_host.specs.declared.outcome.Refused.{Refused}
 use Rattle.swd_host.specs.declared.outcome.Refused.TheVariants.{TooMany, Unaligned, Memory}
 use Rattle.swd_host.specs.declared.outcome.End.{End}
-use Rattle.swd_host.specs.declared.outcome.End.TheVariants.{All, Lost, TriesOut, WrongId, Confused}
+use Rattle.swd_host.specs.declared.outcome.End.TheVariants.{All, Lost, TriesOut}
 use Rattle.swd_host.specs.Plain.{memory_after, answers_of, AreAccesses, is_aligned}
 use Rattle.swd_host.specs.Tracks.{no_select}
 

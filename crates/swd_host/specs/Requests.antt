@@ -8,7 +8,8 @@ use Rattle.swd_host.specs.declared.task.Task.{Task}
 use Rattle.swd_host.specs.declared.task.Task.TheVariants.{Read, BurstRead, Write, BurstWrite}
 use Rattle.swd_host.specs.declared.request.Place.{Place}
 use Rattle.swd_host.specs.declared.request.Place.TheVariants.{Identify, Wipe, Inspect, Select, Power, Powered}
-use Rattle.swd_host.specs.declared.request.Place.TheVariants.{Configure, Recall, Configured, Aim, Transfer, Confirm, Behind}
+use Rattle.swd_host.specs.declared.request.Place.TheVariants.{Configure, Recall, Configured, Aim, Transfer, Confirm}
+use Rattle.swd_host.specs.declared.request.Place.TheVariants.{Behind}
 use Rattle.swd_host.specs.declared.request.Job.{Job}
 use Rattle.swd_host.specs.declared.request.Job.TheVariants.{At, Resend, Status, LastStatus, Clear, Check}
 use Rattle.swd_host.specs.Tasks.{access_of, is_read}

@@ -1,6 +1,6 @@
 -- What the engine's state says of the port at the other end, and of the memory behind it: the invariant of the host.
-use Rattle.std.specs.Prelude.{ℕ, ◌≡◌, ◌≢◌, ◌+◌, ◌-◌, ◌*◌, ◌%◌, ◌^◌, ◌<◌, ◌≤◌, ◌⊎◌, ◌||◌, ◌&&◌, ◌==◌, Bool, true}
-use Rattle.std.specs.Prelude.{false, not, if◌then◌else◌, Option, Some, None, max}
+use Rattle.std.specs.Prelude.{ℕ, ◌≡◌, ◌≢◌, ◌+◌, ◌%◌, ◌^◌, ◌<◌, ◌≤◌, ◌⊎◌, ◌&&◌, ◌==◌, Bool, true}
+use Rattle.std.specs.Prelude.{false, if◌then◌else◌, Option, Some, None, max}
 use Rattle.swd_bits.specs.Bits.{bit}
 use Rattle.swd_port.specs.declared.access.Access.{Access}
 use Rattle.swd_port.specs.declared.access.Access.TheVariants.{Read as AccessRead, Write as AccessWrite}
@@ -13,28 +13,28 @@ use Rattle.swd_port.specs.PlainMemory.{PlainMemory, address, plain_answer, plain
 use Rattle.swd_port.specs.Phases.{phase_number, flipped}
 use Rattle.swd_port.specs.Port.{Port, Target}
 use Rattle.swd_port.specs.declared.register.Register.{Register}
-use Rattle.swd_port.specs.declared.register.Register.TheVariants.{DpidrRead, AbortWrite, CtrlStatRead, CtrlStatWrite}
-use Rattle.swd_port.specs.declared.register.Register.TheVariants.{ResendRead, SelectWrite, RdbuffRead, CswRead}
-use Rattle.swd_port.specs.declared.register.Register.TheVariants.{CswWrite, TarWrite, DrwRead, DrwWrite}
+use Rattle.swd_port.specs.declared.register.Register.TheVariants.{AbortWrite, CtrlStatWrite}
+use Rattle.swd_port.specs.declared.register.Register.TheVariants.{SelectWrite}
+use Rattle.swd_port.specs.declared.register.Register.TheVariants.{CswWrite, TarWrite, DrwWrite}
 use Rattle.swd_port.specs.declared.state.Reset.TheVariants.{Unreset, Live}
 use Rattle.swd_port.specs.declared.state.Line.TheVariants.{Idle, Drives, Awaits}
 use Rattle.swd_port.specs.Transfers.{Sent, Becomes, Advanced}
 use Rattle.swd_port.specs.Laws.WordsRead.{holds}
 use Rattle.swd_host.specs.declared.flags.Flags.{Flags}
 use Rattle.swd_host.specs.declared.outcome.End.{End}
-use Rattle.swd_host.specs.declared.outcome.End.TheVariants.{All, Lost, TriesOut, WrongId, Confused}
+use Rattle.swd_host.specs.declared.outcome.End.TheVariants.{Lost, TriesOut}
 use Rattle.swd_host.specs.declared.outcome.Outcome.{Outcome}
 use Rattle.swd_host.specs.declared.outcome.Outcome.TheVariants.{Opened, Answered, Stopped}
 use Rattle.swd_host.specs.declared.task.Task.{Task}
 use Rattle.swd_host.specs.declared.task.Task.TheVariants.{Read, BurstRead, Write, BurstWrite}
 use Rattle.swd_host.specs.declared.request.Place.{Place}
 use Rattle.swd_host.specs.declared.request.Place.TheVariants.{Identify, Wipe, Inspect, Select, Power, Powered}
-use Rattle.swd_host.specs.declared.request.Place.TheVariants.{Configure, Recall, Configured, Aim, Transfer, Confirm, Behind}
+use Rattle.swd_host.specs.declared.request.Place.TheVariants.{Configure, Recall, Configured, Aim, Transfer, Confirm}
+use Rattle.swd_host.specs.declared.request.Place.TheVariants.{Behind}
 use Rattle.swd_host.specs.declared.request.Job.{Job}
 use Rattle.swd_host.specs.declared.request.Job.TheVariants.{At, Resend, Status, LastStatus, Clear, Check}
 use Rattle.swd_host.specs.declared.engine.Ahead.{Ahead}
 use Rattle.swd_host.specs.declared.engine.Ahead.TheVariants.{Unsent, Sent as NextSent, Failed as NextFailed}
-use Rattle.swd_host.specs.declared.engine.Phase.{Phase}
 use Rattle.swd_host.specs.declared.engine.Phase.TheVariants.{Ask, Data, Waited, Faulted}
 use Rattle.swd_host.specs.declared.engine.State.{State}
 use Rattle.swd_host.specs.declared.engine.State.TheVariants.{Leading, Doing, Resting}
@@ -367,7 +367,8 @@ During (Check p owed) n b k s = Says (Check p owed) n b k s
 pub data IsWithin (b : ℕ) (k : Hand) (m : PlainMemory) : Type 0 where
   within_none : m ≡ k.memory → IsWithin b k m
   within_first : 1 ≤ b → m ≡ memory_once_done k → IsWithin b k m
-  within_both : 2 ≤ b → is_block k.task ≡ true → m ≡ plain_after (next_read k.task) (memory_once_done k) → IsWithin b k m
+  within_both : 2 ≤ b → is_block k.task ≡ true → m ≡ plain_after (next_read k.task) (memory_once_done k)
+      → IsWithin b k m
 
 -- so it is now, and so it will be
 pub record Within (b : ℕ) (k : Hand) (s : Target) : Type 0 where

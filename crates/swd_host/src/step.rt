@@ -7,7 +7,8 @@ ghost use Rattle.swd_host.specs.Early.{EarlyWaiting, GlimpsedEarly, ShownEarly};
 ghost use Rattle.swd_host.specs.Flags.{is_configured, no_flags};
 ghost use Rattle.swd_host.specs.Requests.{is_exempt, is_unread, is_write};
 ghost use Rattle.swd_host.specs.Turns.{LandsAnswered, LandsAt, LandsFrom};
-ghost use Rattle.swd_host.specs.Tracks.{Before, Checks, Cleared, Comes, ComesWith, Earns, FaultedAt, HasAsked, Refused, Resent, Taken};
+ghost use Rattle.swd_host.specs.Tracks.{Before, Checks, Cleared, Comes, ComesWith, Earns, FaultedAt, HasAsked};
+ghost use Rattle.swd_host.specs.Tracks.{Refused, Resent, Taken};
 ghost use Rattle.swd_host.specs.Tracks.{TakenFor, TookAt, Waiting, WasSent};
 
 use crate::engine::{Ahead, Engine, Phase, State};

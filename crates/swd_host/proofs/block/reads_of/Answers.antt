@@ -1,4 +1,5 @@
-use Rattle.std.proofs.Common.{◌≡◌, ◌+◌, ◌*◌, ◌∙◌, ◌++◌, ◌∷◌, [], ap, sym, arith, if◌then◌else◌, is_ok, length, length-append}
+use Rattle.std.proofs.Common.{◌≡◌, ◌+◌, ◌*◌, ◌∙◌, ◌++◌, ◌∷◌, [], ap, sym, arith, if◌then◌else◌, is_ok, length}
+use Rattle.std.proofs.Common.{length-append}
 use Rattle.swd_port.specs.declared.access.Access.TheVariants.{Read}
 use Rattle.swd_host.proofs.Blocked.{reads_next}
 use Rattle.swd_host.proofs.block.reads_of.Goals as goal

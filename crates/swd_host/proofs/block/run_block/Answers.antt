@@ -1,5 +1,4 @@
-use Rattle.std.proofs.Common.{◌≡◌, ◌≤◌, ◌∙◌, length, subst, sym}
-use Rattle.swd_port.specs.PlainMemory.{reads}
+use Rattle.std.proofs.Common.{◌≤◌, ◌∙◌, length, subst, sym}
 use Rattle.swd_host.specs.Plain.{AreAccesses}
 use Rattle.swd_host.specs.Reports.{RunsWithin, told_of}
 use Rattle.swd_host.proofs.Blocked.{may_read}

@@ -1,5 +1,4 @@
 use Rattle.std.proofs.Common.{◌≡◌, ◌<◌, ℕ, true, ap, sym, subst}
-use Rattle.std.specs.Prelude.{Option, Some, None, IfSome}
 use Rattle.swd_bits.specs.declared.ack.Ack.{Ack}
 use Rattle.swd_bits.specs.Bits.{low_bits, number}
 use Rattle.swd_bits.specs.Wire.{ack}

@@ -1,6 +1,5 @@
-use Rattle.std.proofs.Common.{◌≡◌, false, sym, ap, refl, ◌∙◌}
+use Rattle.std.proofs.Common.{sym, ap, refl, ◌∙◌}
 use Rattle.std.specs.Prelude.{is_some}
-use Rattle.swd_host.specs.Engines.{is_resting}
 use Rattle.swd_host.proofs.Going.{goes_refl, goes_then}
 use Rattle.swd_host.proofs.running.drive.Goals as goal
 

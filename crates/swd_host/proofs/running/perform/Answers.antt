@@ -48,6 +48,7 @@ loop-index-preserved g c =
 pub returns-clause-does : goal.returns-clause-does
 returns-clause-does g c =
     all_does c.loop-index.index c.args.accesses.now c.args.engine.now c.loop-index.engine
-    c.loop-index.invariant.added.part (g.W.Wire.port c.args.wire.now) (g.W.Wire.port c.loop-index.wire) c.requires.opened
+    c.loop-index.invariant.added.part (g.W.Wire.port c.args.wire.now) (g.W.Wire.port c.loop-index.wire)
+    c.requires.opened
     (omega arith) c.loop-index.invariant.stands c.args.answers.now.items c.loop-index.answers.items
     (g.W.Wire.port c.lead.new.self) c.loop-index.invariant.added.whole c.lead.ensures.step

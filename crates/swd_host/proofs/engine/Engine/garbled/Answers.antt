@@ -1,4 +1,4 @@
-use Rattle.std.proofs.Common.{◌≡◌, ◌-◌, ◌+◌, sym, subst}
+use Rattle.std.proofs.Common.{◌-◌, ◌+◌, sym, subst}
 use Rattle.swd_host.specs.declared.engine.Phase.TheVariants.{Ask, Data}
 use Rattle.swd_host.specs.declared.engine.State.TheVariants.{Doing}
 use Rattle.swd_host.specs.Progress.{left_for, least_for}
