@@ -266,8 +266,8 @@ module _ (list : List Access) (tries : ℕ) (earlier : Told) (e f : Engine) (bef
           grows = g.grows;
           later = λ c i. subst (Again g.more list m (since told earlier)) (sym (done.becomes c)) g.again;
           now = λ all. subst (Again g.more list m (since told earlier))
-              (sym (whole_same rest opened.memory (told_by does.answers last end) u.target.memory done.settled all done.now
-              done.later)) g.again;
+              (sym (whole_same rest opened.memory (told_by does.answers last end) u.target.memory done.settled all
+              done.now done.later)) g.again;
         }
 
     done_whole : end ≡ All → length after ≡ length list

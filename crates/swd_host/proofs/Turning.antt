@@ -33,7 +33,8 @@ use Rattle.swd_host.specs.declared.engine.State.TheVariants.{Leading, Doing, Res
 use Rattle.swd_host.specs.declared.engine.Engine.{Engine}
 use Rattle.swd_host.specs.Requests.{request_of, word_for, confirmed_by, is_confirm, begins}
 use Rattle.swd_host.specs.Engines.{lead_cue, cue_of, cue_at, data_cue, is_ahead_at, is_resting, one_more, job_in}
-use Rattle.swd_host.specs.Progress.{left_at, left_for, left_in, clears_last, least_in, open_requests, is_opening_place, is_job_of}
+use Rattle.swd_host.specs.Progress.{left_at, left_for, left_in, clears_last, least_in, open_requests, is_opening_place}
+use Rattle.swd_host.specs.Progress.{is_job_of}
 use Rattle.swd_host.specs.Progress.{is_state_of, is_quiet, moves_first, calls_left}
 use Rattle.swd_host.specs.Tracks.{Hand, Counted, Before, Refused, by_damage, by_error, Tracks}
 use Rattle.swd_host.specs.Tracks.{TracksEngine, Follows, IsTask, Saw, Left, TakenFor, Hears, HasSent, HasRead}
@@ -455,7 +456,8 @@ some_ones true ones low switch e none = absurd (let is : 100 ≡ ones = cc in om
 some_ones false ones low switch e none = absurd (let is : 56 ≡ ones = cc in omega arith)
 
 led_left : (n tries : ℕ) (base : Counted) (b : Bool) (k : Hand) (x : State) (stray : Bool) (task : Task)
-    (ones low : ℕ) (switch : Bool) (s t : Port) → cue_at x stray task ≡ Lead ones switch low → Leads s ones t → Tracks x n tries base b k s
+    (ones low : ℕ) (switch : Bool) (s t : Port) → cue_at x stray task ≡ Lead ones switch low → Leads s ones t
+    → Tracks x n tries base b k s
     → Left x n b k t
 led_left n tries base b k Leading stray task ones low switch s t e leads h =
     led n b k ones s t (some_ones stray ones low switch e) leads h
