@@ -92,8 +92,8 @@ across : (job : Job) (n n' : ℕ) (stray : Bool) (start s y z t : Port) (r : Reg
     → EarlyBefore job n' stray start t
 across job n n' stray start s y z t r read flip plain live first a last more h =
     early_stays job n' stray start z t last
-    (early_carried job n n' stray start y z (frame_accepts r read flip y z plain live a) (same_accepts r read flip y z a)
-    more (early_stays job n stray start s y first h))
+    (early_carried job n n' stray start y z (frame_accepts r read flip y z plain live a)
+    (same_accepts r read flip y z a) more (early_stays job n stray start s y first h))
 
 module _ (job : Job) (n : ℕ) (stray : Bool) (start s y z t : Port) (flip : Option ℕ) (live : s.target.reset ≡ Live)
     (first : Completes s y) (sp : Spares flip y z) (more : y.tally.disturbed ≤ z.tally.disturbed) (last : Completes z t)
@@ -168,8 +168,8 @@ module _ (n : ℕ) (base : Counted) (stray : Bool) (start : Port) (v : ℕ) (s t
 
   ask_wipe : Woken n stray start s → Asks s (request_of (At Wipe) k) v t → EarlySaw (At Wipe) v n base stray start t
   ask_wipe h asks =
-      exempt_early (At Wipe) n base stray start v s t (request_of (At Wipe) k) AbortWrite (reached (At Wipe) h.any.select)
-      refl (no_drw AbortWrite refl) h l asks
+      exempt_early (At Wipe) n base stray start v s t (request_of (At Wipe) k) AbortWrite
+      (reached (At Wipe) h.any.select) refl (no_drw AbortWrite refl) h l asks
       (λ y z flip first sp a more last.
       abort_awaits (At Wipe) n stray start s y z t flip h.live first sp more last h a)
 
@@ -213,7 +213,8 @@ module _ (n : ℕ) (base : Counted) (stray : Bool) (start : Port) (v : ℕ) (s t
       (no_drw CtrlStatRead refl) w l asks
       (λ y z flip first sp a more last. (
         status_in y.target,
-        status_shows job n stray start s y z t flip w.live first sp more last h (cleared_rests owed n stray start s h) a,
+        status_shows job n stray start s y z t flip w.live first sp more last h
+            (cleared_rests owed n stray start s h) a,
         status_reads job n stray start s y z t flip w.live first sp more last h a,
       ))
 
@@ -333,8 +334,8 @@ module _ (n : ℕ) (base : Counted) (stray : Bool) (start : Port) (v : ℕ) (s t
                 | inr g ↦ frame_refuses SelectWrite false y z g
               ] in
               early_none o.none.not_okay o.none.not_wait o.none.not_fault
-              (early_lost n base start s y z t first last h.woken.any.select f.select h.woken.any.paid l o.disturbed o.lost
-              (comes_carried start y z f comes)))
+              (early_lost n base start s y z t first last h.woken.any.select f.select h.woken.any.paid l o.disturbed
+              o.lost (comes_carried start y z f comes)))
         ]
       ]
 

@@ -272,7 +272,8 @@ module _ (n b : ℕ) (k : Hand) (s t : Port) (sent : ℕ) (range : sent < 2 ^ 33
       let clear : t.target.sticky_error ≡ false = sticky_gone owed.error owed.damaged s.target t.target c h.error in
       cleared (facts_framed owed.error p b k s t (frame_abort (clear_word owed) s t g)
       (λ no_error. clear ∙ sym (h.error ∙ no_error)) h.facts) clear
-      (write_gone owed.error owed.damaged s.target t.target c h.damaged) (paid_on AbortWrite (clear_word owed) g h.paid)))
+      (write_gone owed.error owed.damaged s.target t.target c h.damaged)
+      (paid_on AbortWrite (clear_word owed) g h.paid)))
       (λ h x. (let sticky : t.target.sticky_error ≡ s.target.sticky_error = ap (λ i. i.sticky_error) x.target in
       kept (facts_framed owed.error p b k s t (frame_spoiled s t x) (λ y. sticky) h.facts) (sticky ∙ h.error)
       (ap (λ i. i.write_error) x.target) (omega (arith, ap (λ i. i.disturbed) x.tally, h.paid))))

@@ -291,7 +291,8 @@ module _ (js : List ℕ) (k kk j : ℕ) (list : List Access) (m x now : PlainMem
           record {
             reported = a.reported;
             answers = added ∙ (ap (λ l. earlier.answers ++ l) no_part ∙ (append-nil earlier.answers ∙ a.answers));
-            memory = subst (λ q. IsAfter js k list m q ⊎ (((since raw earlier).begun ≡ 1) × IsAfter js (k + 1) list m q))
+            memory = subst (λ q. IsAfter js k list m q
+                ⊎ (((since raw earlier).begun ≡ 1) × IsAfter js (k + 1) list m q))
                 (sym same) (none_memory zero_done a.memory);
             few = since_few raw earlier fit.few;
             begun = λ one. none_begun zero_done
@@ -322,7 +323,8 @@ module _ (js : List ℕ) (k kk j : ℕ) (list : List Access) (m x now : PlainMem
   some_memory some zero is =
       let more : List ℕ = (onward some).more in
       let same : kk + j ≡ kk = omega arith in
-      let there : now ≡ memory_after (take kk (drop k list)) x = left ∙ ap (λ n. memory_after (take n (drop k list)) x) same in
+      let there : now ≡ memory_after (take kk (drop k list)) x =
+      left ∙ ap (λ n. memory_after (take n (drop k list)) x) same in
       inl (subst (IsAfter more (k + kk) list m) (sym there)
       (done_here some kk (omega arith) fit.reported).after)
   some_memory some (suc i) is =

@@ -167,7 +167,8 @@ shadow_twice c a p q f h =
 -- copies of one access
 shadow_copies : (n c : ℕ) (a : Access) (p q : PlainMemory) → HasPlace (c + n) a p → Shadow c (plain_after a p) q
     → Shadow (c + n) (plain_after a p) (memory_after (replicate n a) q)
-shadow_copies zero c a p q f h = record { words = h.words; room = h.room; most = omega (arith, h.most); least = h.least }
+shadow_copies zero c a p q f h =
+    record { words = h.words; room = h.room; most = omega (arith, h.most); least = h.least }
 shadow_copies (suc n) c a p q f h =
     let t : Twice c a p q = shadow_twice c a p q (record { now = f.now; later = omega (arith, f.later) }) h in
     let k : Shadow (c + 1 + n) (plain_after a p) (memory_after (replicate n a) (plain_after a q)) =
@@ -280,8 +281,8 @@ after_shadow js (suc i) list d m l room =
     ≡ memory_after (replicate n a) (plain_after a q) =
     ap (λ xs. memory_after xs m) (repeated_next js list i d low)
     ∙ memory_append (repeated js 0 (take i list)) (a ∷ replicate n a) m in
-    subst (λ n. Shadow (below n js) (memory_after (take n list) m) (memory_after (repeated js 0 (take n list)) m)) (sym s)
-    (subst (λ n. Shadow n (memory_after (take (i + 1) list) m) (memory_after (repeated js 0 (take (i + 1) list)) m))
+    subst (λ n. Shadow (below n js) (memory_after (take n list) m) (memory_after (repeated js 0 (take n list)) m))
+    (sym s) (subst (λ n. Shadow n (memory_after (take (i + 1) list) m) (memory_after (repeated js 0 (take (i + 1) list)) m))
     (sym e)
     (subst (λ x. Shadow (below i js + n) x (memory_after (repeated js 0 (take (i + 1) list)) m)) (sym plain)
     (subst (λ y. Shadow (below i js + n) (plain_after a p) y) (sym there) all)))

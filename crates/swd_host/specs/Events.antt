@@ -96,4 +96,5 @@ abbrev pub MeetsSent : Engine → Engine → Type 0
 MeetsSent e f = Meets (is_event_sent e.state) None e f
 
 abbrev pub MeetsRead : Option ℕ → Engine → Engine → Type 0
-MeetsRead word e f = Meets (is_event (job_in e.state) word e.task e.aims e.stray) (wrong_id_read (job_in e.state) word) e f
+MeetsRead word e f =
+    Meets (is_event (job_in e.state) word e.task e.aims e.stray) (wrong_id_read (job_in e.state) word) e f

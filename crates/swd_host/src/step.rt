@@ -169,7 +169,8 @@ impl Engine {
         ensures tracks { Comes (TakenFor job (Some word)) self.old self.new }
         ensures early { ComesEarly (EarlyTold job word) self.old self.new }
         ensures lands { LandsFrom job Phase.Data self.old self.new }
-        ensures meets { Meets (is_event job (Some word) self.old.task self.old.aims self.old.stray) (wrong_id_read job (Some word)) self.old self.new }
+        ensures meets { Meets (is_event job (Some word) self.old.task self.old.aims self.old.stray)
+            (wrong_id_read job (Some word)) self.old self.new }
     {
         match job {
             Job::At(place) if self.is_unread(place) => self.pass_over(place),

@@ -206,10 +206,28 @@ fn a_run_goes_on_after_each_lost_acknowledgement(rt: HostRuntime) -> Result<(), 
     Ok(())
 }
 
+// The run, gone on with twice.
+fn gone_on_twice<S: Simulated + Drop, R: Abort>(
+    rt: &R,
+    alloc: Global,
+    run: &Run,
+    late: bool,
+) -> Result<Stage<S>, Fail> {
+    let Some(stage) = begun::<S>(alloc, run, late)? else {
+        panic!(rt; "a mark isn't legal");
+    };
+    let stage = gone_on(alloc, run.accesses, stage, run.tries)?;
+    gone_on(alloc, run.accesses, stage, run.tries)
+}
+
 // Two acknowledgements are lost, the later one also of a request that was sent because of the earlier, and a data phase
-// between them is changed: 1,683 runs.
-#[test]
-fn a_run_goes_on_after_any_two(rt: HostRuntime) -> Result<(), Fail> {
+// between them is changed.
+fn two_are_lost<R: Abort>(
+    rt: &R,
+    alloc: Global,
+    (earlier, later): (usize, usize),
+    late: bool,
+) -> Result<(), Fail> {
     let far = Access::Write(0x3000_0000, 1);
     let accesses = [WRITE, far, READ, Access::Write(0x2000_0004, 7)];
     let answers = [
@@ -218,25 +236,27 @@ fn a_run_goes_on_after_any_two(rt: HostRuntime) -> Result<(), Fail> {
         Answer::Value(WORD),
         Answer::Written,
     ];
-    for late in [false, true] {
-        for earlier in 1..34_usize {
-            for later in earlier.saturating_add(1)..52 {
-                let flip = (earlier.saturating_add(3), Mark::Flip(4));
-                let marks = [(earlier, Mark::Deaf), (later, Mark::Mute(0)), flip];
-                let run = run_of(&marks, &accesses).tries(1);
-                let Some(stage) = begun::<Bench>(rt.alloc(), &run, late)? else {
-                    panic!(rt; "{earlier} {later}: a mark isn't legal");
-                };
-                let stage = gone_on(rt.alloc(), &accesses, stage, 1)?;
-                let mut stage = gone_on(rt.alloc(), &accesses, stage, 1)?;
-                assert_eq!(rt; stage.report.ended, End::All, "{earlier} {later}");
-                assert_eq!(rt;
-                    stage.report.answers.as_slice(),
-                    answers.as_slice(),
-                    "{earlier} {later}"
-                );
-                stage.target.settle();
-                assert!(rt; stage.target.memory().log().len() <= 5, "{earlier} {later}");
+    let flip = (earlier.saturating_add(3), Mark::Flip(4));
+    let marks = [(earlier, Mark::Deaf), (later, Mark::Mute(0)), flip];
+    let run = run_of(&marks, &accesses).tries(1);
+    let mut stage = gone_on_twice::<Bench, R>(rt, alloc, &run, late)?;
+    assert_eq!(rt; stage.report.ended, End::All, "{earlier} {later}");
+    assert_eq!(rt;
+        stage.report.answers.as_slice(),
+        answers.as_slice(),
+        "{earlier} {later}"
+    );
+    stage.target.settle();
+    assert!(rt; stage.target.memory().log().len() <= 5, "{earlier} {later}");
+    Ok(())
+}
+
+#[test]
+fn a_run_goes_on_after_any_two(rt: HostRuntime) -> Result<(), Fail> {
+    for earlier in 1..34_usize {
+        for later in earlier.saturating_add(1)..52 {
+            for late in [false, true] {
+                two_are_lost(&rt, rt.alloc(), (earlier, later), late)?;
             }
         }
     }
