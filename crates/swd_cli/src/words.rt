@@ -53,6 +53,8 @@ decimal:
   w 20000000 deadbeef      writes a word
   r 20000000               reads a word
   rn 20000000 4            reads words, here four, one after the other
+  block 20000000 4         reads the same words as one block, at one request a word; no other line
+                           with accesses may stand beside it
 
 A plan has one mark a line, what befalls the first request, the second and so on. After its last
 line nothing does:

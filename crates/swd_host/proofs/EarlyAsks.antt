@@ -1,33 +1,33 @@
 -- Going on after a lost acknowledgement: each request of the opening keeps what is known, until SELECT's OK tells that
 -- nothing is pending any more.
-use Rattle.std.proofs.Common.{◌≡◌, ◌≢◌, ◌+◌, ◌%◌, ◌^◌, ◌≤◌, ◌<◌, ℕ, Bool, true, false, refl, sym, ap, subst, inl, inr}
+use Rattle.std.proofs.Common.{◌≡◌, ◌≢◌, ◌+◌, ◌%◌, ◌≤◌, ℕ, Bool, true, false, refl, sym, ap, subst, inl, inr}
 use Rattle.std.proofs.Common.{arith, ◌∙◌}
-use Rattle.std.specs.Prelude.{Option, Some, None, ◌⊎◌, ◌==◌}
+use Rattle.std.specs.Prelude.{Option, None, ◌⊎◌}
 use Rattle.swd_bits.specs.declared.request.Request.{Request}
-use Rattle.swd_port.specs.Port.{Port, Target, register}
+use Rattle.swd_port.specs.Port.{Port, register}
 use Rattle.swd_port.specs.declared.register.Register.{Register}
 use Rattle.swd_port.specs.declared.register.Register.TheVariants.{DpidrRead, AbortWrite, CtrlStatRead, SelectWrite}
 use Rattle.swd_port.specs.declared.register.Register.TheVariants.{DrwRead}
-use Rattle.swd_port.specs.declared.state.Reset.TheVariants.{Unreset, Live}
+use Rattle.swd_port.specs.declared.state.Reset.TheVariants.{Live}
 use Rattle.swd_port.specs.Answers.{is_exempt}
 use Rattle.swd_port.specs.Asking.{Asks, is_posted, status_in}
-use Rattle.swd_port.specs.Completion.{Completes, MayBecome}
+use Rattle.swd_port.specs.Completion.{Completes}
 use Rattle.swd_port.specs.Moves.{Kept}
-use Rattle.swd_port.specs.Outcomes.{Stays, Accepts, Refuses, Spares, SeesOkay, SeesNone, okay, wait, fault, lost}
+use Rattle.swd_port.specs.Outcomes.{Stays, Accepts, Spares, okay, wait, fault, lost}
 use Rattle.swd_port.specs.Laws.WordsRead.{OnLine}
 use Rattle.swd_port.proofs.CompletionLaws.{none_done, kept as kept_by, may_become_carried}
 use Rattle.swd_port.proofs.RequestLaws.{exempt_request, identification_read, free_request, lost_request}
-use Rattle.swd_port.proofs.RequestLaws.{refused_with_power}
 use Rattle.swd_port.proofs.StatusLaws.{status_returned, identification_returned}
 use Rattle.swd_host.specs.declared.flags.Flags.{Flags}
 use Rattle.swd_host.specs.declared.request.Place.TheVariants.{Identify, Wipe, Inspect, Select, Power, Powered}
-use Rattle.swd_host.specs.declared.request.Place.TheVariants.{Configure, Recall, Configured, Aim, Transfer, Confirm, Behind}
+use Rattle.swd_host.specs.declared.request.Place.TheVariants.{Configure, Recall, Configured, Aim, Transfer, Confirm}
+use Rattle.swd_host.specs.declared.request.Place.TheVariants.{Behind}
 use Rattle.swd_host.specs.declared.request.Job.{Job}
 use Rattle.swd_host.specs.declared.request.Job.TheVariants.{At, Resend, Status, LastStatus, Clear, Check}
 use Rattle.swd_host.specs.declared.task.Task.{Task}
 use Rattle.swd_host.specs.Flags.{flags_in}
 use Rattle.swd_host.specs.Requests.{request_of}
-use Rattle.swd_host.specs.Tracks.{Counted, no_select, Reads, Writes, Calm}
+use Rattle.swd_host.specs.Tracks.{Counted, no_select, Reads, Writes}
 use Rattle.swd_host.specs.Early.{ComesFrom, Glimpsed, Shows, Anywhere, Resettled, Woken, Wiped, clean, hurt, Inspected}
 use Rattle.swd_host.specs.Early.{Met, Clearing, Cleared, EarlyBefore, Settled, IsOver, EarlyDuring, EarlyLost}
 use Rattle.swd_host.specs.Early.{EarlySaw, early_okay, early_wait, early_fault, early_none}

@@ -1,21 +1,21 @@
 -- Going on after a lost acknowledgement: what stays known of the port, whatever the transfer left pending comes to.
-use Rattle.std.proofs.Common.{◌≡◌, ◌≢◌, ◌+◌, ◌%◌, ◌≤◌, ◌<◌, ℕ, Bool, true, false, refl, sym, ap, subst, inl, inr, arith}
+use Rattle.std.proofs.Common.{◌≡◌, ◌≢◌, ◌+◌, ◌%◌, ◌≤◌, ℕ, Bool, true, false, refl, sym, ap, subst, inl, inr, arith}
 use Rattle.std.proofs.Common.{◌∙◌}
-use Rattle.std.specs.Prelude.{None, ◌⊎◌}
-use Rattle.swd_port.specs.PlainMemory.{PlainMemory}
+use Rattle.std.specs.Prelude.{None}
 use Rattle.swd_port.specs.Port.{Port, Target}
-use Rattle.swd_port.specs.declared.state.Reset.TheVariants.{Unreset, Live}
+use Rattle.swd_port.specs.declared.state.Reset.TheVariants.{Unreset}
 use Rattle.swd_port.specs.Completion.{Completes, MayBecome}
 use Rattle.swd_port.specs.Moves.{Kept}
 use Rattle.swd_port.proofs.CompletionLaws.{none_done, kept as kept_by, may_become_stays, may_become_carried}
 use Rattle.swd_port.proofs.CompletionLaws.{may_become_of_none}
 use Rattle.swd_host.specs.declared.flags.Flags.{Flags}
 use Rattle.swd_host.specs.declared.request.Place.TheVariants.{Identify, Wipe, Inspect, Select, Power, Powered}
-use Rattle.swd_host.specs.declared.request.Place.TheVariants.{Configure, Recall, Configured, Aim, Transfer, Confirm, Behind}
+use Rattle.swd_host.specs.declared.request.Place.TheVariants.{Configure, Recall, Configured, Aim, Transfer, Confirm}
+use Rattle.swd_host.specs.declared.request.Place.TheVariants.{Behind}
 use Rattle.swd_host.specs.declared.request.Job.{Job}
 use Rattle.swd_host.specs.declared.request.Job.TheVariants.{At, Resend, Status, LastStatus, Clear, Check}
-use Rattle.swd_host.specs.Early.{ComesFrom, IsAwaited, Quiet, none_left, to_come, has_come, Anywhere, Resettled, Woken}
-use Rattle.swd_host.specs.Early.{Wiped, clean, hurt, Inspected, Met, Clearing, Cleared, gone, still, EarlyBefore}
+use Rattle.swd_host.specs.Early.{ComesFrom, IsAwaited, Quiet, none_left, to_come, has_come, Anywhere, Woken}
+use Rattle.swd_host.specs.Early.{Wiped, clean, hurt, Met, Clearing, Cleared, gone, still, EarlyBefore}
 use Rattle.swd_host.proofs.Frames.{Frame, Same}
 
 -- WHAT THE MEMORY MAY BECOME

@@ -1,23 +1,23 @@
 -- Going on after a lost acknowledgement: each data phase, each turnaround and the line reset keep what is known.
-use Rattle.std.proofs.Common.{◌≡◌, ◌≢◌, ◌+◌, ◌%◌, ◌^◌, ◌≤◌, ◌<◌, ℕ, Bool, true, false, refl, sym, ap, subst, arith}
+use Rattle.std.proofs.Common.{◌≡◌, ◌≢◌, ◌+◌, ◌%◌, ◌^◌, ◌<◌, ℕ, Bool, refl, sym, ap, subst, arith}
 use Rattle.std.proofs.Common.{◌∙◌, inl, inr}
-use Rattle.std.specs.Prelude.{Option, Some, None, ◌⊎◌}
-use Rattle.swd_port.specs.Port.{Port, Target}
+use Rattle.std.specs.Prelude.{Some, None, ◌⊎◌}
+use Rattle.swd_port.specs.Port.{Port}
 use Rattle.swd_port.specs.declared.register.Register.TheVariants.{AbortWrite}
 use Rattle.swd_port.specs.declared.state.Reset.{Reset}
 use Rattle.swd_port.specs.declared.state.Reset.TheVariants.{Unreset, Fresh, Live}
-use Rattle.swd_port.specs.Completion.{Completes}
 use Rattle.swd_port.specs.Phases.{phase_number, word_in}
 use Rattle.swd_port.specs.Moving.{Takes, Gives, Passes}
 use Rattle.swd_port.specs.Leading.{Leads}
-use Rattle.swd_port.specs.Moves.{Passed, Gave, Spoiled, Got, whole as got_whole, damaged as got_damaged}
+use Rattle.swd_port.specs.Moves.{Gave, Spoiled}
 use Rattle.swd_port.specs.Laws.WordsRead.{Clears}
 use Rattle.swd_port.proofs.CompletionLaws.{none_done, kept as kept_by, may_become_carried}
 use Rattle.swd_port.proofs.MovingLaws.{data_taken, take_moves_nothing, turnaround_passed, data_given, line_reset}
 use Rattle.swd_port.proofs.StatusLaws.{flags_cleared}
 use Rattle.swd_host.specs.declared.flags.Flags.{Flags}
 use Rattle.swd_host.specs.declared.request.Place.TheVariants.{Identify, Wipe, Inspect, Select, Power, Powered}
-use Rattle.swd_host.specs.declared.request.Place.TheVariants.{Configure, Recall, Configured, Aim, Transfer, Confirm, Behind}
+use Rattle.swd_host.specs.declared.request.Place.TheVariants.{Configure, Recall, Configured, Aim, Transfer, Confirm}
+use Rattle.swd_host.specs.declared.request.Place.TheVariants.{Behind}
 use Rattle.swd_host.specs.declared.request.Job.{Job}
 use Rattle.swd_host.specs.declared.request.Job.TheVariants.{At, Resend, Status, LastStatus, Clear, Check}
 use Rattle.swd_host.specs.declared.task.Task.{Task}
@@ -27,7 +27,7 @@ use Rattle.swd_host.specs.Tracks.{Reads, Writes, whole, changed}
 use Rattle.swd_host.specs.Early.{Glimpsed, Shows, Anywhere, Resettled, Woken, Wiped, clean, hurt, Met, Clearing}
 use Rattle.swd_host.specs.Early.{Cleared, gone, still, EarlyBefore, EarlyDuring, EarlyWaiting, EarlyFaulted}
 use Rattle.swd_host.specs.Early.{EarlySent, EarlyTaken}
-use Rattle.swd_host.proofs.Frames.{Frame, Same, frame_passed, same_passed, frame_abort, frame_spoiled}
+use Rattle.swd_host.proofs.Frames.{Frame, frame_passed, same_passed, frame_abort, frame_spoiled}
 use Rattle.swd_host.proofs.Takes.{got_whole_of, got_changed_of}
 use Rattle.swd_host.proofs.Gives.{spells, whole_given, changed_given, clear_small, sticky_gone, write_gone}
 use Rattle.swd_host.proofs.EarlyFrames.{none_stays, awaited_quiet, any_stays, woken_stays, early_stays, woken_carried}

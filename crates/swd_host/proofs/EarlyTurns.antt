@@ -1,18 +1,16 @@
 -- Going on after a lost acknowledgement: from what each call keeps early to what engine and port keep.
-use Rattle.std.proofs.Common.{◌≡◌, ◌+◌, ◌-◌, ◌≤◌, ◌<◌, ℕ, Bool, true, false, refl, sym, ap, subst, inl, inr, arith, ◌∙◌}
-use Rattle.std.specs.Prelude.{Option, Some, None, ◌⊎◌}
+use Rattle.std.proofs.Common.{◌≡◌, ◌+◌, ◌≤◌, ℕ, Bool, true, refl, sym, ap, subst, arith, ◌∙◌}
 use Rattle.swd_port.specs.PlainMemory.{PlainMemory}
 use Rattle.swd_port.specs.Port.{Port}
 use Rattle.swd_port.specs.Completion.{MayBecome}
 use Rattle.swd_port.specs.declared.register.Register.TheVariants.{SelectWrite}
-use Rattle.swd_host.specs.declared.task.Task.{Task}
 use Rattle.swd_host.specs.declared.request.Place.{Place}
 use Rattle.swd_host.specs.declared.request.Place.TheVariants.{Identify, Wipe, Inspect, Select, Power, Powered}
-use Rattle.swd_host.specs.declared.request.Place.TheVariants.{Configure, Recall, Configured, Aim, Transfer, Confirm, Behind}
+use Rattle.swd_host.specs.declared.request.Place.TheVariants.{Configure, Recall, Configured, Aim, Transfer, Confirm}
+use Rattle.swd_host.specs.declared.request.Place.TheVariants.{Behind}
 use Rattle.swd_host.specs.declared.request.Job.{Job}
 use Rattle.swd_host.specs.declared.request.Job.TheVariants.{At, Resend, Status, LastStatus, Clear, Check}
 use Rattle.swd_host.specs.declared.engine.Phase.TheVariants.{Data}
-use Rattle.swd_host.specs.declared.engine.State.{State}
 use Rattle.swd_host.specs.declared.engine.State.TheVariants.{Doing}
 use Rattle.swd_host.specs.declared.engine.Engine.{Engine}
 use Rattle.swd_host.specs.Progress.{left_at, left_for, is_job_of}

@@ -15,7 +15,7 @@ use Rattle.swd_host.specs.Again.{IsAfter, AllBelow, AgainAt, Again, HasRoom, Gro
 use Rattle.swd_host.specs.Resuming.{is_all, is_open, since}
 use Rattle.swd_host.proofs.Lists.{memory_next, answers_next}
 use Rattle.swd_host.proofs.Repeats.{after_next, after_again, after_none}
-use Rattle.swd_host.proofs.Shadows.{Roomy, split_list, answered_next, answered_again}
+use Rattle.swd_host.proofs.Shadows.{Roomy, answered_next, answered_again}
 
 -- LISTS
 answers_length : (xs : List Access) (m : PlainMemory) → length (answers_of xs m) ≡ length xs

@@ -8,7 +8,6 @@ use Rattle.swd_port.specs.declared.access.Access.{Access}
 use Rattle.swd_port.specs.declared.access.Answer.{Answer}
 use Rattle.swd_port.specs.PlainMemory.{PlainMemory, plain_answer, plain_after}
 use Rattle.swd_port.specs.Port.{Port}
-use Rattle.swd_port.specs.Completion.{completed}
 use Rattle.swd_port.specs.Leading.{Leads}
 use Rattle.swd_port.specs.Moves.{Passed}
 use Rattle.swd_port.proofs.MovingLaws.{idle_cycles_at_rest}

@@ -1,5 +1,5 @@
 -- From the opening after a lost acknowledgement, and the list done after it, to the new report.
-use Rattle.std.proofs.Common.{◌≡◌, ◌≢◌, ◌+◌, ◌-◌, ◌*◌, ◌%◌, ◌^◌, ◌<◌, ◌≤◌, ℕ, Bool, true, false, refl, sym, ap, subst}
+use Rattle.std.proofs.Common.{◌≡◌, ◌≢◌, ◌+◌, ◌-◌, ◌*◌, ◌%◌, ◌^◌, ◌<◌, ◌≤◌, ℕ, true, refl, sym, ap, subst}
 use Rattle.std.proofs.Common.{inl, inr, arith, ◌∙◌, List, [], ◌∷◌, ◌++◌, length, take, length-append, zero, suc, ◌⊎◌}
 use Rattle.std.specs.Prelude.{None, drop}
 use Rattle.std.proofs.lemmas.List.{append-nil, take_all}
@@ -7,13 +7,12 @@ use Rattle.swd_port.specs.declared.access.Access.{Access}
 use Rattle.swd_port.specs.declared.access.Access.TheVariants.{Read}
 use Rattle.swd_port.specs.declared.access.Answer.{Answer}
 use Rattle.swd_port.specs.PlainMemory.{PlainMemory}
-use Rattle.swd_port.specs.Port.{Port, made}
-use Rattle.swd_port.specs.Choices.{Choice, IsChoice}
+use Rattle.swd_port.specs.Port.{Port}
 use Rattle.swd_port.specs.Completion.{completed, MayBecome}
 use Rattle.swd_host.specs.declared.outcome.End.{End}
 use Rattle.swd_host.specs.declared.outcome.End.TheVariants.{All, Lost, TriesOut, WrongId, Confused}
 use Rattle.swd_host.specs.declared.outcome.Outcome.TheVariants.{Opened, Stopped}
-use Rattle.swd_host.specs.declared.engine.State.TheVariants.{Leading, Resting}
+use Rattle.swd_host.specs.declared.engine.State.TheVariants.{Resting}
 use Rattle.swd_host.specs.declared.engine.Engine.{Engine}
 use Rattle.swd_host.specs.declared.engine.Ahead.TheVariants.{Unsent}
 use Rattle.swd_host.specs.declared.task.Bursts.TheVariants.{Writes}
@@ -22,17 +21,16 @@ use Rattle.swd_host.specs.Plain.{AreAccesses}
 use Rattle.swd_host.specs.Engines.{begun_of}
 use Rattle.swd_host.specs.Progress.{left_in}
 use Rattle.swd_host.specs.Tracks.{Counted, Within, IsReady, hand_of, DueAt, DueFits}
-use Rattle.swd_host.specs.Early.{ComesFrom, Early, EarlyStopped, IsEarly, Resumes, early, over}
+use Rattle.swd_host.specs.Early.{ComesFrom, Early, EarlyStopped, Resumes, early, over}
 use Rattle.swd_host.specs.Turns.{IsNew, Goes}
 use Rattle.swd_host.specs.Reports.{Told, Fits, FitsAt, EndsAt, RunFits, RunsOver, told_by}
 use Rattle.swd_host.specs.Standing.{IsOpen, Does, DoesOver}
-use Rattle.swd_host.specs.Again.{Again, AgainThen, HasRoom, MayGoOn, Leaves, LeavesOff, GoesAgain, ResumeFits}
+use Rattle.swd_host.specs.Again.{Again, AgainThen, HasRoom, MayGoOn, LeavesOff, GoesAgain, ResumeFits}
 use Rattle.swd_host.specs.Resuming.{since}
 use Rattle.swd_host.proofs.Ends.{Stops, stops_there, rests_there, later_memory, begun_there, stops_only}
 use Rattle.swd_host.proofs.Runs.{counted_at, ready_open, within_of_none}
 use Rattle.swd_host.proofs.Openings.{ends_since, opening_spends, opening_asked, opening_unbegun, opening_lost}
-use Rattle.swd_host.proofs.Openings.{has_opened}
-use Rattle.swd_host.proofs.GoingOn.{told_length, drop_length, Begun, by_earlier, by_this, since_begun, since_one}
+use Rattle.swd_host.proofs.GoingOn.{told_length, drop_length, by_earlier, by_this, since_begun, since_one}
 use Rattle.swd_host.proofs.GoingOn.{open_begun, Ongoing, goes_again, same_again, whole_same, fits_again}
 
 -- HOW THE OPENING ENDS
@@ -173,7 +171,8 @@ module _ (list : List Access) (tries : ℕ) (earlier : Told) (e f : Engine) (bef
     none = unbegun f end at (opening_unbegun Writes true tries e f s t small new goes)
 
     stop : OpeningEnds end (counted_at s) f.tries (s.tally.disturbed + f.events) s t
-    stop = opening_ends (counted_at s) s f end t at (opening_unbegun Writes true tries e f s t small new goes) due resumes
+    stop =
+        opening_ends (counted_at s) s f end t at (opening_unbegun Writes true tries e f s t small new goes) due resumes
 
     stop_ends : EndsAt end tries s t
     stop_ends = subst (λ n. EndsAt end n s t) same_tries (stop.ends s (omega arith) (omega arith))
@@ -272,7 +271,8 @@ module _ (list : List Access) (tries : ℕ) (earlier : Told) (e f : Engine) (bef
           later = λ c i. subst (Again g.more list m (since told earlier)) (sym (done.becomes c)) g.again;
           now = λ all. subst (Again g.more list m (since told earlier))
               (sym (whole_same rest opened.memory (told_by does.answers last end) u.target.memory done.settled all
-              (subst (λ n. Fits n rest opened.memory (told_by does.answers last end) u.target.memory) one done.now) later)) g.again;
+              (subst (λ n. Fits n rest opened.memory (told_by does.answers last end) u.target.memory) one done.now)
+              later)) g.again;
         }
 
     done_whole : end ≡ All → length after ≡ length list

@@ -1,7 +1,7 @@
 -- From the opening and the list done after it to the report of a run.
-use Rattle.std.proofs.Common.{◌≡◌, ◌≢◌, ◌+◌, ◌-◌, ◌*◌, ◌%◌, ◌^◌, ◌<◌, ◌≤◌, ℕ, true, false, sym, ap, subst}
+use Rattle.std.proofs.Common.{◌≡◌, ◌≢◌, ◌+◌, ◌%◌, ◌^◌, ◌<◌, ℕ, false, sym, ap, subst}
 use Rattle.std.proofs.Common.{inl, inr, arith, ◌∙◌, List, [], ◌++◌}
-use Rattle.std.specs.Prelude.{None, is_some}
+use Rattle.std.specs.Prelude.{None}
 use Rattle.swd_port.specs.declared.access.Access.{Access}
 use Rattle.swd_port.specs.declared.access.Answer.{Answer}
 use Rattle.swd_port.specs.PlainMemory.{PlainMemory}
@@ -9,7 +9,7 @@ use Rattle.swd_port.specs.Port.{Port, made}
 use Rattle.swd_port.specs.Completion.{completed, MayBecome}
 use Rattle.swd_port.proofs.CompletionLaws.{may_become_of_none}
 use Rattle.swd_host.specs.declared.outcome.End.{End}
-use Rattle.swd_host.specs.declared.outcome.End.TheVariants.{All, Lost, TriesOut, WrongId, Confused}
+use Rattle.swd_host.specs.declared.outcome.End.TheVariants.{All, Lost}
 use Rattle.swd_host.specs.declared.outcome.Outcome.TheVariants.{Opened, Stopped}
 use Rattle.swd_host.specs.declared.engine.State.TheVariants.{Resting}
 use Rattle.swd_host.specs.declared.engine.Engine.{Engine}
@@ -18,7 +18,7 @@ use Rattle.swd_host.specs.declared.engine.Ahead.TheVariants.{Unsent}
 use Rattle.swd_host.specs.declared.task.Bursts.{Bursts}
 use Rattle.swd_host.specs.Tasks.{most_of}
 use Rattle.swd_host.specs.Engines.{begun_of}
-use Rattle.swd_host.specs.Progress.{left_in, stray_left, least_in, open_requests, is_state_of}
+use Rattle.swd_host.specs.Progress.{left_in}
 use Rattle.swd_host.specs.Tracks.{Hand, Counted, IsWithin, within_none, within_first, within_both, IsReady, AheadAt}
 use Rattle.swd_host.specs.Tracks.{Tracks, Follows, hand_of, DueAt, DueFits}
 use Rattle.swd_host.specs.Early.{over}
@@ -82,7 +82,8 @@ ready_open f m n t r tar ahead = record {
 }
 
 module _ (kind : Bursts) (list : List Access) (tries : ℕ) (e f : Engine) (answers : List Answer) (s t : Port)
-    (small : tries < 2 ^ 32) (new : IsNew kind false tries e) (goes : Goes e s f t) (due : DueFits f t) (none : answers ≡ []) where
+    (small : tries < 2 ^ 32) (new : IsNew kind false tries e) (goes : Goes e s f t) (due : DueFits f t)
+    (none : answers ≡ []) where
   unbegun : f.begun ≡ 0
   unbegun = opening_unbegun kind false tries e f s t small new goes
 
@@ -124,7 +125,8 @@ module _ (kind : Bursts) (list : List Access) (tries : ℕ) (e f : Engine) (answ
       }
 
   opened_ready : (identification : ℕ) (m : PlainMemory) → f.state ≡ Resting Opened → s ≡ made identification m
-      → identification % 2 ≡ 1 → IsReady (s.tally.disturbed + f.events) (hand_of f m) t × (f.tar ≡ None) × (f.ahead ≡ Unsent)
+      → identification % 2 ≡ 1 → IsReady (s.tally.disturbed + f.events) (hand_of f m) t
+      × (f.tar ≡ None) × (f.ahead ≡ Unsent)
   opened_ready identification m at is odd =
       rests_there (counted_at s) m f Opened t at
       (goes.follows (counted_at s) m (new_follows kind tries identification m e s new is odd))
@@ -151,7 +153,8 @@ module _ (kind : Bursts) (list : List Access) (tries : ℕ) (e f : Engine) (answ
         stops_only = stops_only end tries s u ends;
         counted = omega (arith, does.asked, opening_asked kind false tries e f s t small new goes);
         least = λ whole. omega (arith, over.least whole, opened_sent kind false tries e f s t small new goes at);
-        most = omega (arith, over.most, opening_spends kind false tries e f s t small new goes, r.0.paid, does.disturbed);
+        most =
+            omega (arith, over.most, opening_spends kind false tries e f s t small new goes, r.0.paid, does.disturbed);
       })
 
 -- by what the engine was made for

@@ -1,7 +1,7 @@
 -- A memory where accesses were repeated has the words of the plain memory, and answers as it does, where the log has
 -- room for the copies.
 use Rattle.std.proofs.Common.{◌≡◌, ◌+◌, ◌<◌, ◌≤◌, ℕ, Bool, true, false, refl, sym, ap, subst, arith, ◌∙◌, List, [], ◌∷◌}
-use Rattle.std.proofs.Common.{◌++◌, length, take, zero, suc, get_or, length-append}
+use Rattle.std.proofs.Common.{length, take, zero, suc, get_or, length-append}
 use Rattle.std.specs.Prelude.{drop, is_some, unwrap_or, replicate, nat_lt, if◌then◌else◌, ◌==◌}
 use Rattle.std.proofs.lemmas.Bool.{lt-ltb}
 use Rattle.std.specs.Ordering.{nat_cmp}
@@ -282,7 +282,8 @@ after_shadow js (suc i) list d m l room =
     ap (λ xs. memory_after xs m) (repeated_next js list i d low)
     ∙ memory_append (repeated js 0 (take i list)) (a ∷ replicate n a) m in
     subst (λ n. Shadow (below n js) (memory_after (take n list) m) (memory_after (repeated js 0 (take n list)) m))
-    (sym s) (subst (λ n. Shadow n (memory_after (take (i + 1) list) m) (memory_after (repeated js 0 (take (i + 1) list)) m))
+    (sym s)
+    (subst (λ n. Shadow n (memory_after (take (i + 1) list) m) (memory_after (repeated js 0 (take (i + 1) list)) m))
     (sym e)
     (subst (λ x. Shadow (below i js + n) x (memory_after (repeated js 0 (take (i + 1) list)) m)) (sym plain)
     (subst (λ y. Shadow (below i js + n) (plain_after a p) y) (sym there) all)))

@@ -1,15 +1,15 @@
 -- Steps of the engine's own.
-use Rattle.std.proofs.Common.{◌≡◌, ◌+◌, ◌-◌, ◌*◌, ◌≤◌, ℕ, Bool, true, false, not, refl, sym, subst, arith, ◌∙◌}
-use Rattle.std.specs.Prelude.{if◌then◌else◌, ◌&&◌, Some}
-use Rattle.swd_bits.specs.Bits.{bit}
+use Rattle.std.proofs.Common.{◌≡◌, ◌+◌, ◌-◌, ◌≤◌, ℕ, Bool, true, false, not, refl, sym, subst, arith, ◌∙◌}
+use Rattle.std.specs.Prelude.{◌&&◌, Some}
 use Rattle.swd_port.specs.declared.access.Answer.TheVariants.{BusFault}
 use Rattle.swd_port.specs.Port.{Port, Target}
 use Rattle.swd_host.specs.declared.flags.Flags.{Flags}
 use Rattle.swd_host.specs.declared.request.Place.{Place}
 use Rattle.swd_host.specs.declared.request.Place.TheVariants.{Identify, Wipe, Inspect, Select, Power, Powered}
-use Rattle.swd_host.specs.declared.request.Place.TheVariants.{Configure, Recall, Configured, Aim, Transfer, Confirm, Behind}
+use Rattle.swd_host.specs.declared.request.Place.TheVariants.{Configure, Recall, Configured, Aim, Transfer, Confirm}
+use Rattle.swd_host.specs.declared.request.Place.TheVariants.{Behind}
 use Rattle.swd_host.specs.declared.request.Job.{Job}
-use Rattle.swd_host.specs.declared.request.Job.TheVariants.{At, Resend, Status, LastStatus, Clear, Check}
+use Rattle.swd_host.specs.declared.request.Job.TheVariants.{At, Clear, Check}
 use Rattle.swd_host.specs.declared.engine.Phase.TheVariants.{Ask, Data}
 use Rattle.swd_host.specs.declared.engine.State.{State}
 use Rattle.swd_host.specs.declared.engine.State.TheVariants.{Doing}
@@ -20,7 +20,7 @@ use Rattle.swd_host.specs.Tasks.{is_read}
 use Rattle.swd_host.specs.Requests.{again_at, is_behind, is_unread}
 use Rattle.swd_host.specs.Progress.{left_at, left_for, least_at, least_for, is_state_of, is_place_of}
 use Rattle.swd_host.specs.Turns.{Lands}
-use Rattle.swd_host.specs.Tracks.{Hand, Counted, Broken, Facts, Checks, cleared, kept, Earns, by_fault, Saw, saw_okay}
+use Rattle.swd_host.specs.Tracks.{Hand, Counted, Facts, Checks, cleared, kept, Earns, by_fault, Saw, saw_okay}
 use Rattle.swd_host.specs.Tracks.{saw_wait, saw_fault, saw_none, Tracks, state_seen, BusErrorOf, Cleared}
 use Rattle.swd_host.specs.Tracks.{own_error, next_error, Resent, Taken, TookAt, ConfirmTook}
 use Rattle.swd_host.specs.declared.engine.Ahead.TheVariants.{Unsent}

@@ -1,61 +1,45 @@
 -- The requests of a transfer: DRW, and the request that confirms it.
-use Rattle.std.proofs.Common.{◌≡◌, ◌≢◌, ◌+◌, ◌%◌, ◌^◌, ◌≤◌, ◌<◌, ℕ, Bool, true, false, refl, sym, ap, subst, inl, inr}
+use Rattle.std.proofs.Common.{◌≡◌, ◌+◌, ◌≤◌, ℕ, Bool, true, false, refl, sym, ap, subst, inl, inr}
 use Rattle.std.proofs.Common.{arith, ◌∙◌}
-use Rattle.std.specs.Prelude.{Option, Some, None, ◌⊎◌, ◌||◌, ◌==◌, if◌then◌else◌}
+use Rattle.std.specs.Prelude.{Option, Some, None, ◌⊎◌}
 use Rattle.swd_bits.specs.declared.request.Request.{Request}
-use Rattle.swd_bits.specs.declared.request.Reg4.TheVariants.{R0, R4, R8, RC}
-use Rattle.swd_port.specs.declared.access.Access.{Access}
-use Rattle.swd_port.specs.declared.access.Access.TheVariants.{Read as AccessRead, Write as AccessWrite}
+use Rattle.swd_bits.specs.declared.request.Reg4.TheVariants.{RC}
+use Rattle.swd_port.specs.declared.access.Access.TheVariants.{Read as AccessRead}
 use Rattle.swd_host.specs.declared.task.Task.{Task}
 use Rattle.swd_host.specs.declared.task.Task.TheVariants.{Read, BurstRead, Write, BurstWrite}
 use Rattle.swd_host.specs.Tasks.{access_of, is_read, is_block}
-use Rattle.swd_port.specs.declared.access.Answer.TheVariants.{Value, Written, BusFault}
-use Rattle.swd_port.specs.PlainMemory.{PlainMemory, plain_after, plain_answer, answer_of, address, word_at}
-use Rattle.swd_port.specs.Port.{Port, Target, register}
+use Rattle.swd_port.specs.declared.access.Answer.TheVariants.{Value}
+use Rattle.swd_port.specs.PlainMemory.{plain_answer, answer_of, address, word_at}
+use Rattle.swd_port.specs.Port.{Port, register}
 use Rattle.swd_port.specs.declared.register.Register.{Register}
-use Rattle.swd_port.specs.declared.register.Register.TheVariants.{DpidrRead, AbortWrite, CtrlStatRead, CtrlStatWrite}
-use Rattle.swd_port.specs.declared.register.Register.TheVariants.{ResendRead, SelectWrite, RdbuffRead, CswRead}
-use Rattle.swd_port.specs.declared.register.Register.TheVariants.{CswWrite, TarWrite, DrwRead, DrwWrite}
-use Rattle.swd_port.specs.declared.state.Reset.TheVariants.{Unreset, Live}
-use Rattle.swd_port.specs.declared.state.Line.TheVariants.{Drives, Awaits}
-use Rattle.swd_port.specs.Answers.{is_exempt}
+use Rattle.swd_port.specs.declared.register.Register.TheVariants.{RdbuffRead}
+use Rattle.swd_port.specs.declared.register.Register.TheVariants.{DrwRead, DrwWrite}
 use Rattle.swd_port.specs.Completion.{Completes}
 use Rattle.swd_port.specs.Asking.{Asks, pending_once_read}
 use Rattle.swd_port.specs.declared.state.Drw.{Drw}
-use Rattle.swd_port.specs.Outcomes.{Stays, Accepts, Refuses, Spares, SeesOkay, SeesWait, SeesFault, SeesNone}
-use Rattle.swd_port.specs.Outcomes.{OkayOrLost, OkayWaitOrLost, okay, wait, lost}
-use Rattle.swd_port.specs.Transfers.{Sent, Advanced, Succeeded, Failed, Aimed, Buffered, Carries}
+use Rattle.swd_port.specs.Outcomes.{Stays, Accepts, Refuses, Spares, SeesOkay, SeesWait}
+use Rattle.swd_port.specs.Outcomes.{okay, wait, lost}
+use Rattle.swd_port.specs.Transfers.{Sent, Succeeded, Failed, Aimed, Buffered}
 use Rattle.swd_port.specs.Laws.Requests.{Confirms as ConfirmsThen, confirms_okay, confirms_wait, confirms_fault}
 use Rattle.swd_port.specs.Laws.Requests.{confirms_lost}
-use Rattle.swd_port.specs.Laws.WordsRead.{OnLine}
 use Rattle.swd_port.proofs.RequestLaws.{free_request_at_rest, confirming_request, refused_with_power}
-use Rattle.swd_port.proofs.StatusLaws.{buffer_returned, carried_where_held}
-use Rattle.swd_port.proofs.CompletionLaws.{none_done, kept as kept_by, sent_stays, sent_carried, read_begins}
-use Rattle.swd_host.specs.declared.flags.Flags.{Flags}
-use Rattle.swd_host.specs.declared.request.Place.{Place}
-use Rattle.swd_host.specs.declared.request.Place.TheVariants.{Identify, Wipe, Inspect, Select, Power, Powered}
-use Rattle.swd_host.specs.declared.request.Place.TheVariants.{Configure, Recall, Configured, Aim, Transfer, Confirm, Behind}
+use Rattle.swd_port.proofs.StatusLaws.{buffer_returned}
+use Rattle.swd_port.proofs.CompletionLaws.{none_done, kept as kept_by, sent_stays, read_begins}
+use Rattle.swd_host.specs.declared.request.Place.TheVariants.{Transfer, Confirm}
 use Rattle.swd_host.specs.declared.request.Job.{Job}
-use Rattle.swd_host.specs.declared.request.Job.TheVariants.{At, Resend, Status, LastStatus, Clear, Check}
-use Rattle.swd_host.specs.declared.engine.Cue.TheVariants.{Ask as CueAsk}
-use Rattle.swd_host.specs.declared.engine.Phase.TheVariants.{Ask, Data, Waited, Faulted}
-use Rattle.swd_host.specs.declared.engine.State.{State}
-use Rattle.swd_host.specs.declared.engine.State.TheVariants.{Leading, Doing, Resting}
-use Rattle.swd_host.specs.declared.engine.Engine.{Engine}
-use Rattle.swd_host.specs.Requests.{request_of, is_exempt_place, is_confirm}
-use Rattle.swd_host.specs.Tracks.{Hand, Counted, no_select, csw_word_read, Reachable, Calm, Up, IsAimed}
-use Rattle.swd_host.specs.Tracks.{Under, Has, is_wipe, Sure, Hurt, Broken, Facts, Spoilt, Refused, by_damage}
-use Rattle.swd_host.specs.Tracks.{by_error, Owes, Checks, cleared, kept, Done, Returned, Resent, Before, During}
-use Rattle.swd_host.specs.Tracks.{Transfers, Confirms, Confirmed, FaultedAt, Within, Says, Reads, Writes, Awake}
-use Rattle.swd_host.specs.Tracks.{Tracks, TracksEngine, hand_of, Waiting, BusErrorOf, own_error, DoneBy, ahead_of}
-use Rattle.swd_host.proofs.Frames.{Frame, Same, frame_waits, frame_refuses, frame_accepts, same_accepts, calm_framed}
-use Rattle.swd_host.proofs.Frames.{has_framed, sure_framed, hurt_framed, resent_framed, owes_framed, before_framed}
-use Rattle.swd_host.proofs.Frames.{before_within, has_within, within_carried, within_stays, within_sent, within_idle}
+use Rattle.swd_host.specs.declared.request.Job.TheVariants.{At}
+use Rattle.swd_host.specs.Requests.{request_of}
+use Rattle.swd_host.specs.Tracks.{Hand, Counted, no_select, Up, IsAimed}
+use Rattle.swd_host.specs.Tracks.{Under, Sure, Broken, Refused}
+use Rattle.swd_host.specs.Tracks.{by_error, Done, Resent, During}
+use Rattle.swd_host.specs.Tracks.{Transfers, Confirms, Confirmed, FaultedAt, Within, Writes}
+use Rattle.swd_host.specs.Tracks.{Waiting, own_error, DoneBy, ahead_of}
+use Rattle.swd_host.proofs.Frames.{Frame, frame_waits, frame_refuses}
+use Rattle.swd_host.proofs.Frames.{has_framed}
+use Rattle.swd_host.proofs.Frames.{within_carried, within_stays, within_sent, within_idle}
 use Rattle.swd_host.proofs.Frames.{within_done}
-use Rattle.swd_host.proofs.Asked.{Came, came_okay, came_wait, came_fault, came_lost, reads_from, writes_from, status}
-use Rattle.swd_host.proofs.Asked.{abort, status_asked, abort_asked}
+use Rattle.swd_host.proofs.Asked.{Came, came_okay, came_wait, came_fault, came_lost, reads_from, writes_from}
 use Rattle.swd_host.proofs.Asks.{register_there, drw_register, confirming_register, not_exempt, write_asked}
-use Rattle.swd_port.proofs.CallLaws.{request_counted}
 
 -- A READ OF DRW
 pub under_stays : (b : ℕ) (k : Hand) (s t : Port) → Completes s t → Under b k s.target → Under b k t.target

@@ -1,13 +1,12 @@
 -- One call of the wire, as the engine asks for it: what the engine and the port keep.
 use Rattle.std.proofs.Common.{◌≡◌, ◌+◌, ◌-◌, ◌*◌, ◌^◌, ◌≤◌, ◌<◌, ℕ, Bool, true, false, refl, sym, ap, subst, inl, inr}
 use Rattle.std.proofs.Common.{arith, ◌∙◌}
-use Rattle.std.specs.Prelude.{Option, Some, None, ◌⊎◌, ◌||◌, ◌&&◌, not, ◌==◌, if◌then◌else◌, max}
+use Rattle.std.specs.Prelude.{Option, Some, None, ◌||◌, ◌==◌, if◌then◌else◌, max}
 use Rattle.swd_bits.specs.Bits.{bit}
 use Rattle.swd_bits.specs.declared.request.Request.{Request}
-use Rattle.swd_port.specs.declared.wire.Due.{Due}
-use Rattle.swd_port.specs.declared.wire.Due.TheVariants.{Nothing, Take, Give, Pass, Lost as DueLost}
+use Rattle.swd_port.specs.declared.wire.Due.TheVariants.{Take, Give, Pass, Lost as DueLost}
 use Rattle.swd_port.specs.PlainMemory.{PlainMemory}
-use Rattle.swd_port.specs.Port.{Port, Tally}
+use Rattle.swd_port.specs.Port.{Port}
 use Rattle.swd_port.specs.Phases.{phase_number, word_in}
 use Rattle.swd_port.specs.Answers.{due_after}
 use Rattle.swd_port.specs.Asking.{Asks}
@@ -16,17 +15,18 @@ use Rattle.swd_port.specs.Leading.{Leads}
 use Rattle.swd_port.specs.Laws.Calls.{Asked}
 use Rattle.swd_port.proofs.CallLaws.{request_counted, others_uncounted, identification_kept}
 use Rattle.swd_port.proofs.CallLaws.{due_after_request}
-use Rattle.swd_host.specs.declared.outcome.End.TheVariants.{All, Lost, TriesOut, WrongId, Confused}
-use Rattle.swd_host.specs.declared.outcome.Outcome.TheVariants.{Opened, Answered, Stopped}
+use Rattle.swd_host.specs.declared.outcome.End.TheVariants.{Lost}
+use Rattle.swd_host.specs.declared.outcome.Outcome.TheVariants.{Stopped}
 use Rattle.swd_host.specs.declared.task.Task.{Task}
 use Rattle.swd_host.specs.declared.request.Place.{Place}
 use Rattle.swd_host.specs.declared.request.Place.TheVariants.{Identify, Wipe, Inspect, Select, Power, Powered}
-use Rattle.swd_host.specs.declared.request.Place.TheVariants.{Configure, Recall, Configured, Aim, Transfer, Confirm, Behind}
+use Rattle.swd_host.specs.declared.request.Place.TheVariants.{Configure, Recall, Configured, Aim, Transfer, Confirm}
+use Rattle.swd_host.specs.declared.request.Place.TheVariants.{Behind}
 use Rattle.swd_host.specs.declared.request.Job.{Job}
 use Rattle.swd_host.specs.declared.request.Job.TheVariants.{At, Resend, Status, LastStatus, Clear, Check}
 use Rattle.swd_host.specs.declared.engine.Cue.{Cue}
 use Rattle.swd_host.specs.declared.engine.Cue.TheVariants.{Lead, Ask as CueAsk, Take as CueTake, Give as CueGive}
-use Rattle.swd_host.specs.declared.engine.Cue.TheVariants.{Pass as CuePass, Rest}
+use Rattle.swd_host.specs.declared.engine.Cue.TheVariants.{Pass as CuePass}
 use Rattle.swd_host.specs.declared.engine.Phase.TheVariants.{Ask, Data, Waited, Faulted}
 use Rattle.swd_host.specs.declared.engine.State.{State}
 use Rattle.swd_host.specs.declared.engine.State.TheVariants.{Leading, Doing, Resting}
@@ -34,7 +34,7 @@ use Rattle.swd_host.specs.declared.engine.Engine.{Engine}
 use Rattle.swd_host.specs.Requests.{request_of, word_for, confirmed_by, is_confirm, is_behind, begins, begins_next}
 use Rattle.swd_host.specs.Tasks.{most_begun}
 use Rattle.swd_host.specs.Progress.{left_again, left_cleared, least_for}
-use Rattle.swd_host.specs.Tracks.{BusErrorOf, own_error, next_error, begun_once}
+use Rattle.swd_host.specs.Tracks.{BusErrorOf, own_error, next_error}
 use Rattle.swd_host.specs.Engines.{lead_cue, cue_of, cue_at, data_cue, is_ahead_at, is_resting, one_more, job_in}
 use Rattle.swd_host.specs.Progress.{left_at, left_for, left_in, least_in, open_requests, is_opening_place, is_job_of}
 use Rattle.swd_host.specs.Progress.{is_state_of, is_quiet, moves_first, calls_left}
@@ -261,7 +261,8 @@ one_more_least n = grind arith
 one_more_exact : (n : ℕ) → n + 1 < 2 ^ 64 → one_more n ≡ n + 1
 one_more_exact n h = grind arith
 
-pub ask_goes : (e f : Engine) (on : is_resting e ≡ false) (s t : Port) (q : Request) (v : ℕ) → cue_of e ≡ CueAsk q → Asks s q v t
+pub ask_goes : (e f : Engine) (on : is_resting e ≡ false) (s t : Port) (q : Request) (v : ℕ) → cue_of e ≡ CueAsk q
+    → Asks s q v t
     → open_requests f + 1 ≤ open_requests e → f.requests ≡ one_more e.requests → Sees v e f
     → ((base : Counted) (m : PlainMemory) (u : Port) → Hears v base m e u → TracksEngine base m f u) → HearsEarly v e f
     → Goes e s f t
@@ -293,7 +294,8 @@ ask_goes e f on s t q v cue asks left sent sees tracks hears =
     (subst (λ j. EarlySaw j v (base.disturbed + e.events) base e.stray start t) (sym job)
     (ask_early (base.disturbed + e.events) base e.stray start v s t e.task few a.job
     (early_at base start e s (Doing a.job Ask) a.at h) asked)) in
-    let begun_is : f.begun ≡ max e.begun (begins a.job e.task) = sees.begun ∙ ap (λ j. max e.begun (begins j e.task)) job
+    let begun_is : f.begun ≡ max e.begun (begins a.job e.task) =
+    sees.begun ∙ ap (λ j. max e.begun (begins j e.task)) job
     in
     record {
       task = sees.task;
@@ -431,7 +433,8 @@ giving (Doing job Waited) stray task sent e = absurd (cc)
 giving (Doing job Faulted) stray task sent e = absurd (cc)
 giving (Resting outcome) stray task sent e = absurd (cc)
 
-pub take_goes : (e f : Engine) (on : is_resting e ≡ false) (s t : Port) (bits : ℕ) → bits < 2 ^ 33 → cue_of e ≡ CueTake → Takes s bits t
+pub take_goes : (e f : Engine) (on : is_resting e ≡ false) (s t : Port) (bits : ℕ) → bits < 2 ^ 33
+    → cue_of e ≡ CueTake → Takes s bits t
     → lands_from e f
     → ((base : Counted) (m : PlainMemory) (u : Port) → HasRead (word_in bits) base m e u → TracksEngine base m f u)
     → ReadsEarly (word_in bits) e f → Goes e s f t
@@ -469,7 +472,8 @@ early_left_at : (base : Counted) (start : Port) (e : Engine) (t : Port) (x : Sta
 early_left_at base start e t x at h =
     subst (λ y. EarlyLeft y (base.disturbed + e.events) e.stray start t) (sym at) h
 
-pub give_goes : (e f : Engine) (on : is_resting e ≡ false) (s t : Port) (sent : ℕ) → sent < 2 ^ 33 → cue_of e ≡ CueGive sent → Gives s sent t
+pub give_goes : (e f : Engine) (on : is_resting e ≡ false) (s t : Port) (sent : ℕ) → sent < 2 ^ 33
+    → cue_of e ≡ CueGive sent → Gives s sent t
     → lands_from e f → Dones e f → SendsEarly e f → Goes e s f t
 give_goes e f on s t sent range cue gives lands tracks sends =
     let p : IsPhase e.state e.task (CueGive sent) = giving e.state e.stray e.task sent cue in
@@ -517,7 +521,8 @@ passed_early n tries base (Doing job Ask) stray task start s t e passes h = absu
 passed_early n tries base Leading stray task start s t e passes h = absurd (cc)
 passed_early n tries base (Resting outcome) stray task start s t e passes h = absurd (cc)
 
-pub pass_goes : (e f : Engine) (on : is_resting e ≡ false) (s t : Port) → cue_of e ≡ CuePass → Passes s t → lands_from e f → Dones e f
+pub pass_goes : (e f : Engine) (on : is_resting e ≡ false) (s t : Port) → cue_of e ≡ CuePass → Passes s t
+    → lands_from e f → Dones e f
     → SendsEarly e f → Goes e s f t
 pass_goes e f on s t cue passes lands tracks sends =
     let tally : t.tally ≡ s.tally = others_uncounted.passed s t passes in
@@ -535,7 +540,8 @@ some_ones true ones low switch e none = absurd (let is : 100 ≡ ones = cc in om
 some_ones false ones low switch e none = absurd (let is : 56 ≡ ones = cc in omega arith)
 
 led_left : (n tries : ℕ) (base : Counted) (b : ℕ) (k : Hand) (x : State) (stray : Bool) (task : Task)
-    (ones low : ℕ) (switch : Bool) (s t : Port) → cue_at x stray task ≡ Lead ones switch low → Leads s ones t → Tracks x n tries base b k s
+    (ones low : ℕ) (switch : Bool) (s t : Port) → cue_at x stray task ≡ Lead ones switch low → Leads s ones t
+    → Tracks x n tries base b k s
     → Left x n b k t
 led_left n tries base b k Leading stray task ones low switch s t e leads h =
     led n b k ones s t (some_ones stray ones low switch e) leads h
@@ -558,7 +564,8 @@ led_first n tries base (Doing job Waited) stray task ones low switch start s t e
 led_first n tries base (Doing job Faulted) stray task ones low switch start s t e leads h = absurd (cc)
 led_first n tries base (Resting outcome) stray task ones low switch start s t e leads h = absurd (cc)
 
-pub lead_goes : (e f : Engine) (on : is_resting e ≡ false) (s t : Port) (ones low : ℕ) (switch : Bool) → cue_of e ≡ Lead ones switch low
+pub lead_goes : (e f : Engine) (on : is_resting e ≡ false) (s t : Port) (ones low : ℕ) (switch : Bool)
+    → cue_of e ≡ Lead ones switch low
     → Leads s ones t → lands_from e f → Dones e f → SendsEarly e f → Goes e s f t
 lead_goes e f on s t ones low switch cue leads lands tracks sends =
     let tally : t.tally ≡ s.tally = others_uncounted.led ones s t leads in

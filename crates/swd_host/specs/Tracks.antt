@@ -42,7 +42,8 @@ use Rattle.swd_host.specs.declared.engine.Engine.{Engine}
 use Rattle.swd_host.specs.Plain.{IsAccess}
 use Rattle.swd_host.specs.Tasks.{access_of, is_block}
 use Rattle.swd_host.specs.Engines.{job_in}
-use Rattle.swd_host.specs.Requests.{request_of, next_place, confirmed_by, is_exempt, is_exempt_place, is_confirm, is_behind}
+use Rattle.swd_host.specs.Requests.{request_of, next_place, confirmed_by, is_exempt, is_exempt_place, is_confirm}
+use Rattle.swd_host.specs.Requests.{is_behind}
 use Rattle.swd_host.specs.Requests.{begins}
 
 -- the access in hand, whether TAR has to be written for it, what is known of TAR and of the next access where the

@@ -25,7 +25,8 @@ use Rattle.swd_host.specs.declared.engine.Engine.{Engine}
 use Rattle.swd_host.specs.Addresses.{is_known, continues}
 use Rattle.swd_host.specs.Tasks.{task_for, access_of, is_burst, most_begun}
 use Rattle.swd_host.specs.Engines.{is_ahead, is_resting, job_in}
-use Rattle.swd_host.specs.Progress.{left_for, left_in, stray_left, least_for, least_in, open_requests, is_state_of, is_quiet}
+use Rattle.swd_host.specs.Progress.{left_for, left_in, stray_left, least_for, least_in, open_requests, is_state_of}
+use Rattle.swd_host.specs.Progress.{is_quiet}
 use Rattle.swd_host.specs.Tracks.{Counted, Follows, IsTask, begun_once, state_seen}
 use Rattle.swd_host.specs.Early.{Resumes}
 

@@ -1,5 +1,6 @@
 -- What a run over a simulated target says in terms of its plan.
-use Rattle.std.proofs.Common.{◌≡◌, ℕ, ◌+◌, ◌≤◌, ◌∙◌, List, length, Option, Some, None, Result, Ok, refl, sym, ap, subst, arith}
+use Rattle.std.proofs.Common.{◌≡◌, ℕ, ◌+◌, ◌≤◌, ◌∙◌, List, length, Option, Some, None, Result, Ok, refl, sym, ap}
+use Rattle.std.proofs.Common.{subst, arith}
 use Rattle.std.specs.Prelude.{◌↔◌, IfOk, IfSome, is_some, if◌then◌else◌}
 use Rattle.swd_trace.specs.declared.item.Item.{Item}
 use Rattle.swd_port.specs.declared.wire.Due.{Due}
@@ -29,7 +30,8 @@ excused (WrongId word) tries marks s t d l p q e = absurd e
 excused Confused tries marks s t d l p q e = absurd e
 
 -- a run from a target that was just made, which met at most the marks of a plan
-pub run_as : (tries : ℕ) (script : Meaning) (marks : List Mark) (told : Told) (s t : Port) → s ≡ made 731911287 (memory_of script) →
+pub run_as : (tries : ℕ) (script : Meaning) (marks : List Mark) (told : Told) (s t : Port)
+    → s ≡ made 731911287 (memory_of script) →
     t.tally.disturbed ≤ disturbed_among marks → t.tally.lost ≤ lost_among marks → RunsWithin (most_begun script) script.accesses tries told s t → RunsAs tries script marks told
 run_as tries script marks told s t is_made p q over =
     let fits : RunFits (most_begun script) script.accesses tries (memory_of script) told s t = over 731911287 (memory_of script) is_made refl in
@@ -74,7 +76,8 @@ block_over script addr count tries r report s t block holds many is h =
 
 -- ---- what a recorded run leaves
 
-ends_at : (ended : End) (tries : ℕ) (s t : Port) → EndsAt ended tries s t → (pending t.link.due ≡ 0) × ((t.link.due ≡ DueLost) ↔ (ended ≡ Lost))
+ends_at : (ended : End) (tries : ℕ) (s t : Port) → EndsAt ended tries s t
+    → (pending t.link.due ≡ 0) × ((t.link.due ≡ DueLost) ↔ (ended ≡ Lost))
 ends_at All tries s t e = (ap pending e, (λ d. absurd (apart t.link.due e d), λ f. absurd cc))
   where
     apart : (due : Due) → due ≡ Nothing → due ≡ DueLost → ⊥

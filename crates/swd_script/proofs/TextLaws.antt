@@ -1,5 +1,7 @@
 -- What a script means, a run takes; and the marks of a plan are legal.
-use Rattle.std.proofs.Common.{◌≡◌, ◌≢◌, ℕ, suc, zero, ◌+◌, ◌*◌, ◌%◌, ◌^◌, ◌<◌, ◌≤◌, Bool, true, false, List, [], ◌∷◌, ◌++◌, length, refl, sym, ap, ◌∙◌, subst, arith, Option, Some, None, IfSome, Result, Ok, Err}
+use Rattle.std.proofs.Common.{◌≡◌, ◌≢◌, ℕ, suc, zero, ◌+◌, ◌*◌, ◌%◌, ◌^◌, ◌<◌, ◌≤◌, Bool, true, false, List, [], ◌∷◌}
+use Rattle.std.proofs.Common.{◌++◌, length, refl, sym, ap, ◌∙◌, subst, arith, Option, Some, None, IfSome, Result, Ok}
+use Rattle.std.proofs.Common.{Err}
 use Rattle.std.specs.Prelude.{if◌then◌else◌, ◌&&◌, ◌==◌, nat_le, nat_lt, All, codes, is_some, unwrap_or, get_or}
 use Rattle.std.specs.List.{list_all}
 use Rattle.std.specs.Str.{bytes_eq}
@@ -24,7 +26,10 @@ use Rattle.swd_script.specs.Numerals.{decimal_of}
 use Rattle.swd_script.specs.Plans.{mark_of, marked, place_below, plan_line, plan_of, with_mark}
 use Rattle.swd_port.specs.PlainMemory.{reads}
 use Rattle.swd_port.proofs.ReadLists.{length_reads}
-use Rattle.swd_script.specs.Scripts.{Meaning, Sayings, after_command, are_words, as_block, beside_block, carried_out, command_of, fault_before, has_access, misplaced, nothing_said, script_line, script_meaning, script_of, whole_script, with_accesses, with_memory, with_number, with_room, without_memory}
+use Rattle.swd_script.specs.Scripts.{Meaning, Sayings, after_command, are_words, as_block, beside_block, carried_out}
+use Rattle.swd_script.specs.Scripts.{command_of, fault_before, has_access, misplaced, nothing_said, script_line}
+use Rattle.swd_script.specs.Scripts.{script_meaning, script_of, whole_script, with_accesses, with_memory, with_number}
+use Rattle.swd_script.specs.Scripts.{with_room, without_memory}
 use Rattle.swd_script.specs.Laws.{IsBlock, IsRunnable, is_at_word}
 
 and_left : (a b : Bool) → (a && b) ≡ true → a ≡ true
@@ -40,11 +45,13 @@ both true b e f = f
 both false b e f = absurd cc
 
 -- what a test that passed answers
-if_ok : {S E : Type 0} (test : Bool) (value : S) (fault : E) (next : S) → (let r : Result S E = if test then Ok value else Err fault in r ≡ Ok next) → (test ≡ true) × (value ≡ next)
+if_ok : {S E : Type 0} (test : Bool) (value : S) (fault : E) (next : S)
+    → (let r : Result S E = if test then Ok value else Err fault in r ≡ Ok next) → (test ≡ true) × (value ≡ next)
 if_ok true value fault next e = (refl, cc)
 if_ok false value fault next e = absurd cc
 
-if_number : (n : Option ℕ) (f : ℕ → Result Sayings LineFault) (next : Sayings) → with_number n f ≡ Ok next → (v : ℕ) × (f v ≡ Ok next)
+if_number : (n : Option ℕ) (f : ℕ → Result Sayings LineFault) (next : Sayings) → with_number n f ≡ Ok next
+    → (v : ℕ) × (f v ≡ Ok next)
 if_number None f next e = absurd cc
 if_number (Some v) f next e = (v, e)
 
@@ -80,7 +87,8 @@ aligned_reads addr (suc count) h =
     let a : (addr % 4 == 0) ≡ true = grind (arith, nat_tests) in
     both (addr % 4 == 0) (list_all is_at_word (reads (addr + 4) count)) a (aligned_reads (addr + 4) count (omega arith))
 
-sound_memory : (said next : Sayings) (base words : ℕ) → with_memory said base words ≡ Ok next → IsSound said → IsSound next
+sound_memory : (said next : Sayings) (base words : ℕ) → with_memory said base words ≡ Ok next → IsSound said
+    → IsSound next
 sound_memory said next base words e s =
     let test = are_words base words && nat_le words 65536 in
     let ok = if_ok test (record said { memory = Some (record { base = base; words = words }) }) Range next e in
@@ -196,11 +204,13 @@ none_before : (fault : Option LineFault) (result : Result Sayings LineFault) (ne
 none_before (Some fault) result next e = absurd cc
 none_before None result next e = refl
 
-no_fault : (fault : Option LineFault) (result : Result Sayings LineFault) (next : Sayings) → fault_before fault result ≡ Ok next → result ≡ Ok next
+no_fault : (fault : Option LineFault) (result : Result Sayings LineFault) (next : Sayings)
+    → fault_before fault result ≡ Ok next → result ≡ Ok next
 no_fault (Some fault) result next e = absurd cc
 no_fault None result next e = e
 
-sound_after : (said next : Sayings) (command : Option Command) → after_command said command ≡ Ok next → IsSound said → IsSound next
+sound_after : (said next : Sayings) (command : Option Command) → after_command said command ≡ Ok next
+    → IsSound said → IsSound next
 sound_after said next None e s = absurd cc
 sound_after said next (Some command) e s = sound_command said next command
     (no_fault (misplaced said command) (carried_out said command) next e)
@@ -209,19 +219,22 @@ sound_after said next (Some command) e s = sound_command said next command
 same_value : {S E : Type 0} (a b : S) → (let left : Result S E = Ok a in left ≡ Ok b) → a ≡ b
 same_value a b e = cc
 
-sound_line : (said next : Sayings) (words : Option (List (List ℕ))) → script_line said words ≡ Ok next → IsSound said → IsSound next
+sound_line : (said next : Sayings) (words : Option (List (List ℕ))) → script_line said words ≡ Ok next
+    → IsSound said → IsSound next
 sound_line said next None e s = absurd cc
 sound_line said next (Some []) e s = subst IsSound (same_value said next e) s
 sound_line said next (Some (name ∷ arguments)) e s = sound_after said next (command_of (name ∷ arguments)) e s
 
-after_one : {S : Type 0} (line : S → Option (List (List ℕ)) → Result S LineFault) (P : S → Type 0) (words : Option (List (List ℕ))) (old new : S) (before : ℕ) (rest : List (List ℕ)) (r : Result S LineFault) →
+after_one : {S : Type 0} (line : S → Option (List (List ℕ)) → Result S LineFault) (P : S
+    → Type 0) (words : Option (List (List ℕ))) (old new : S) (before : ℕ) (rest : List (List ℕ)) (r : Result S LineFault) →
     line old words ≡ r → ((state : S) → line old words ≡ Ok state → P state) → ((state : S) → after_lines line state (suc before) rest ≡ Ok new → P state → P new) →
     then_lines before (λ state. after_lines line state (suc before) rest) r ≡ Ok new → P new
 after_one line P words old new before rest (Ok state) k f g e = g state e (f state k)
 after_one line P words old new before rest (Err fault) k f g e = absurd cc
 
 -- what each line keeps, all lines keep
-after_all : {S : Type 0} (line : S → Option (List (List ℕ)) → Result S LineFault) (P : S → Type 0) → ((old new : S) (words : Option (List (List ℕ))) → line old words ≡ Ok new → P old → P new) →
+after_all : {S : Type 0} (line : S → Option (List (List ℕ)) → Result S LineFault) (P : S → Type 0)
+    → ((old new : S) (words : Option (List (List ℕ))) → line old words ≡ Ok new → P old → P new) →
     (texts : List (List ℕ)) (old new : S) (before : ℕ) → after_lines line old before texts ≡ Ok new → P old → P new
 after_all line P f [] old new before e h = subst P (same_value old new e) h
 after_all line P f (text ∷ rest) old new before e h =
@@ -248,7 +261,8 @@ meaning_runs (Some extent) said m w s e =
       block = s.block;
     })
 
-whole_runs : (r : Result Sayings ScriptFault) (m : Meaning) → ((said : Sayings) → r ≡ Ok said → IsSound said) → whole_script r ≡ Ok m → IsRunnable m
+whole_runs : (r : Result Sayings ScriptFault) (m : Meaning) → ((said : Sayings) → r ≡ Ok said → IsSound said)
+    → whole_script r ≡ Ok m → IsRunnable m
 whole_runs (Err fault) m f e = absurd cc
 whole_runs (Ok said) m f e = let s = f said refl in meaning_runs said.memory said m s.memory s e
 
@@ -257,7 +271,8 @@ is_runnable text m e =
     whole_runs (after_lines script_line nothing_said 0 (lines text)) m
     (λ said f. after_all script_line IsSound sound_line (lines text) nothing_said said 0 f (record { memory = tt; few = omega arith; accesses = refl; block = tt })) e
 
-legal_flip : (place : ℕ) (r : Option ℕ) (mark : Mark) → marked (λ bit. Flip bit) (place_below 33 r) ≡ Ok mark → IsMark mark
+legal_flip : (place : ℕ) (r : Option ℕ) (mark : Mark) → marked (λ bit. Flip bit) (place_below 33 r) ≡ Ok mark
+    → IsMark mark
 legal_flip place None mark e = absurd cc
 legal_flip place (Some bit) mark e = flip (nat_lt bit 33) refl e
   where
@@ -265,7 +280,8 @@ legal_flip place (Some bit) mark e = flip (nat_lt bit 33) refl e
     flip true t e = let small : bit < 33 = grind (arith, nat_tests) in subst IsMark (same_value (Flip bit) mark e) small
     flip false t e = absurd cc
 
-legal_mute : (place : ℕ) (r : Option ℕ) (mark : Mark) → marked (λ bit. Mute bit) (place_below 3 r) ≡ Ok mark → IsMark mark
+legal_mute : (place : ℕ) (r : Option ℕ) (mark : Mark) → marked (λ bit. Mute bit) (place_below 3 r) ≡ Ok mark
+    → IsMark mark
 legal_mute place None mark e = absurd cc
 legal_mute place (Some bit) mark e = mute (nat_lt bit 3) refl e
   where
@@ -301,7 +317,8 @@ one_legal mark h = at
     at zero d l = h
     at (suc k) d l = absurd (omega arith)
 
-legal_line : (old new : List Mark) (words : Option (List (List ℕ))) → plan_line old words ≡ Ok new → All IsMark old → All IsMark new
+legal_line : (old new : List Mark) (words : Option (List (List ℕ))) → plan_line old words ≡ Ok new → All IsMark old
+    → All IsMark new
 legal_line old new None e h = absurd cc
 legal_line old new (Some []) e h = subst (All IsMark) (same_value old new e) h
 legal_line old new (Some (name ∷ arguments)) e h = with_one (mark_of (name ∷ arguments)) refl e
