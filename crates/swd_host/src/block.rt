@@ -11,9 +11,16 @@ use crate::running::conduct;
 use std::alloc::{AllocError, Allocator};
 use swd_port::{Access, Wire};
 
-/// Reads `count` words at `addr` and the addresses after it, each once, over a wire that is just made: as
-/// `run` reads them, but each word comes with the request for the next one. A report may tell two
-/// accesses that were begun.
+/// Reads `count` words at `addr`, `addr + 4` and so on, each once, over a wire that is just made: as
+/// `run` reads them, but each word comes with the request for the next one, so that a word takes one
+/// request in place of two. A report may tell two accesses that were begun. `resume` doesn't go on with
+/// it.
+///
+/// # Errors
+///
+/// `TooMany` for more than 65,536 words, `Unaligned { index: 0 }` for an address of some words that
+/// isn't a multiple of 4, `Memory` where the memory of the reads or of the answers was refused. Nothing
+/// was sent then.
 pub fn run_block<W: Wire, A: Allocator + Copy>(
     alloc: A,
     wire: &mut W,

@@ -18,6 +18,14 @@ use swd_port::{Access, Answer, Wire};
 ///
 /// The access that was begun when the acknowledgement was lost may be done a second time. Where the
 /// log has room for that, the words and answers are those of a run without a loss.
+///
+/// It begins with a line reset of 100 ones, the first 34 of which let a data phase go by that the target
+/// may be in (IHI 0031, B4, protocol error response), and the opening. A transfer that was left pending
+/// may turn out a bus error then: its flag is cleared once, without an event.
+///
+/// # Errors
+///
+/// `Memory` where the memory of the answers was refused. Nothing was sent then.
 pub fn resume<W: Wire, A: Allocator>(
     alloc: A,
     wire: &mut W,

@@ -177,6 +177,11 @@ pub(crate) fn perform<W: Wire, A: Allocator>(
 /// The answers are those of the first accesses of the list. A run that isn't whole ends at a lost
 /// acknowledgement, after which nothing more is sent, or where an access or the opening met more than
 /// `tries` events. A run that is whole ends with eight idle cycles.
+///
+/// # Errors
+///
+/// `TooMany` for more than 65,536 accesses, `Unaligned` for the first address that isn't a multiple of 4,
+/// `Memory` where the memory of the answers was refused. Nothing was sent then.
 pub fn run<W: Wire, A: Allocator>(
     alloc: A,
     wire: &mut W,
