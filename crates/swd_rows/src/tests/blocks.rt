@@ -5,7 +5,6 @@ use crate::Simulated;
 use std::alloc::Global;
 use std::process::Abort;
 use std::test::Fail;
-use swd_bits::data_bits;
 use swd_clocked::ClockedBench;
 use swd_host::{Cue, End, Engine, Outcome, run_block};
 use swd_port::{Access, Answer, Due, Transfer};
@@ -101,7 +100,7 @@ fn a_block_reads_rdbuff_once(rt: HostRuntime) -> Result<(), Fail> {
     let answers = [ZERO, ZERO, ZERO];
     let blocks = [
         block_of(&[], 3, whole(&answers, 14, &log)),
-        block_of(&[], 0, whole(&[], 9, &[])),
+        block_of(&[], 0, whole(&answers[..0], 9, &log[..0])),
         block_of(&[], 1, whole(&answers[..1], 12, &log[..1])),
     ];
     all_come_out(&rt, rt.alloc(), &blocks)
@@ -218,7 +217,8 @@ fn a_block_that_stops_tells_what_was_begun(rt: HostRuntime) -> Result<(), Fail> 
     all_come_out(&rt, rt.alloc(), &blocks)
 }
 
-// A reply to a request: OK, with this word where it is read, or with a damaged one; or FAULT.
+// A reply to a request: OK, with this word where it is read, or with the word 0 and its first place
+// changed; or FAULT.
 #[derive(Clone, Copy)]
 enum Reply {
     Okay(u32),
@@ -238,7 +238,7 @@ fn replied(engine: &mut Engine, reply: Reply) {
         Reply::Damaged => {
             seen(engine, 1);
             if let Cue::Take = engine.cue() {
-                engine.taken(data_bits(0) + 1);
+                engine.taken(1);
             }
         }
         Reply::Fault => {
