@@ -78,7 +78,7 @@ fn is_refused<S: Simulated + Drop, R: Abort, A: Allocator>(
     alloc: A,
     reads: &[Access],
 ) -> Result<bool, Fail> {
-    let Some(target) = target_of::<S>(global, &run_of(&[], &[]).room(40), QUIRKS)? else {
+    let Some(target) = target_of::<S>(global, &run_of(&[], &[]), QUIRKS)? else {
         panic!(rt; "no target");
     };
     let Some(mut wire) = recorder_over(global, target) else {
@@ -106,9 +106,9 @@ fn is_refused<S: Simulated + Drop, R: Abort, A: Allocator>(
     Ok(true)
 }
 
-// How many of these heaps, each larger than the one before, refuse forty answers: the smaller ones.
+// How many of these heaps, each larger than the one before, refuse sixteen answers: the smaller ones.
 fn refusals<S: Simulated + Drop, R: Abort>(rt: &R, global: Global) -> Result<usize, Fail> {
-    let reads = [READ; 40];
+    let reads = [READ; 16];
     let mut refused = 0usize;
     for size in 1..40usize {
         let heap = LocalHeap::new(global, size * 16)?;
