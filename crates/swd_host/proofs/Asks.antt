@@ -257,6 +257,7 @@ up_accepts m r read flip s t p a h = record {
   calm = calm_accepts m r read flip s t p a h.calm;
   debug =
       (ap (λ i. i.debug_power) a.target) ∙ h.debug;
+  system = (ap (λ i. i.system_power) a.target) ∙ h.system;
   increments = (ap (λ i. i.increments) a.target) ∙ h.increments;
 }
 

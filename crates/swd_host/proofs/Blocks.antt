@@ -101,6 +101,7 @@ module _ (at n c : ℕ) (k : Hand) (x y : Port) (flip : Option ℕ) (task : k.ta
     live = ac.live;
     select = ap (λ i. i.select) ac.target ∙ u.select;
     debug = ap (λ i. i.debug_power) ac.target ∙ u.debug;
+    system = ap (λ i. i.system_power) ac.target ∙ u.system;
     increments = ap (λ i. i.increments) ac.target ∙ u.increments;
     begun = omega arith;
     sent = read_begins (address (access_of k.task) + 4) (memory_once_done k) flip x y next_aimed ac;

@@ -15,7 +15,7 @@ use Rattle.swd_port.specs.Completion.{Completes}
 use Rattle.swd_port.specs.Moves.{Kept}
 use Rattle.swd_port.specs.Outcomes.{Stays, Accepts, Spares, okay, wait, fault, lost}
 use Rattle.swd_port.specs.Laws.WordsRead.{OnLine}
-use Rattle.swd_port.proofs.CompletionLaws.{none_done, kept as kept_by, may_become_carried}
+use Rattle.swd_port.proofs.CompletionLaws.{none_done, kept as kept_by}
 use Rattle.swd_port.proofs.RequestLaws.{exempt_request, identification_read, free_request, lost_request}
 use Rattle.swd_port.proofs.StatusLaws.{status_returned, identification_returned}
 use Rattle.swd_host.specs.declared.flags.Flags.{Flags}
@@ -34,7 +34,7 @@ use Rattle.swd_host.specs.Early.{EarlySaw, early_okay, early_wait, early_fault, 
 use Rattle.swd_host.proofs.Frames.{Frame, Same, frame_same, frame_accepts, same_accepts, frame_waits, same_waits}
 use Rattle.swd_host.proofs.Frames.{frame_refuses, same_refuses}
 use Rattle.swd_host.proofs.Asked.{reads_from, writes_from}
-use Rattle.swd_host.proofs.EarlyFrames.{comes_stays, comes_carried, come_at_rest, none_stays, quiet_met, any_stays}
+use Rattle.swd_host.proofs.EarlyFrames.{comes_stays, comes_same, comes_carried, come_at_rest, none_stays, quiet_met, any_stays}
 use Rattle.swd_host.proofs.EarlyFrames.{woken_stays, early_stays, early_carried, wiped_woken, cleared_woken}
 use Rattle.swd_host.proofs.EarlyFrames.{cleared_rests}
 
@@ -49,7 +49,7 @@ lost_comes : (r : Register) (read : Bool) (start s t : Port) → r ≢ DrwRead �
 lost_comes r read start s t n h from =
     let l = lost_request r read s t h in
     let p : t.target.pending ≡ s.target.pending = elim l.2 [ inl e ↦ e | inr e ↦ absurd (n e) ] in
-    λ m may. from m (may_become_carried m s t p l.0.tar l.0.memory may)
+    comes_same start s t p l.0.tar l.0.memory from
 
 lost_select : (r : Register) (read : Bool) (s t : Port) → Stays s t ⊎ Accepts r read None s t
     → t.target.select ≡ s.target.select
@@ -229,8 +229,7 @@ module _ (n : ℕ) (base : Counted) (stray : Bool) (start : Port) (v : ℕ) (s t
         any = record {
           select = ap (λ i. i.select) a.target ∙ any.select;
           odd = ap (λ i. i.identification % 2) a.target ∙ any.odd;
-          comes = λ m may. any.comes m (may_become_carried m y z pending (ap (λ i. i.tar) a.target)
-              (ap (λ i. i.memory) a.target) may);
+          comes = comes_same start y z pending (ap (λ i. i.tar) a.target) (ap (λ i. i.memory) a.target) any.comes;
           awaited = elim any.awaited [ inl g ↦ inl g | inr p ↦ inr (pending ∙ p) ];
           paid = omega (arith, any.paid);
         };

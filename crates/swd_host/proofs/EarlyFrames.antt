@@ -19,22 +19,36 @@ use Rattle.swd_host.specs.Early.{Wiped, clean, hurt, Met, Clearing, Cleared, gon
 use Rattle.swd_host.proofs.Frames.{Frame, Same}
 
 -- WHAT THE MEMORY MAY BECOME
-pub comes_stays : (start s t : Port) → Completes s t → ComesFrom start s → ComesFrom start t
-comes_stays start s t c h = λ m may. h m (may_become_stays m s t c may)
-
-pub comes_carried : (start s t : Port) → Frame s t → ComesFrom start s → ComesFrom start t
-comes_carried start s t f h = λ m may. h m (may_become_carried m s t f.pending f.tar f.memory may)
-
-pub comes_at_rest : (start s : Port) → s.target.pending ≡ None → MayBecome start s.target.memory → ComesFrom start s
-comes_at_rest start s none h = λ m may. subst (MayBecome start) (sym (may_become_of_none.only m s none may)) h
-
-pub come_at_rest : (start s : Port) → s.target.pending ≡ None → ComesFrom start s → MayBecome start s.target.memory
-come_at_rest start s none h = h s.target.memory (may_become_of_none.same s none)
-
--- THE FLAG OF THE TRANSFER
 pub none_stays : (s t : Port) → Completes s t → s.target.pending ≡ None → t.target.pending ≡ None
 none_stays s t c p = ap (λ z. z.target.pending) (none_done s t p c) ∙ p
 
+pub comes_stays : (start s t : Port) → Completes s t → ComesFrom start s → ComesFrom start t
+comes_stays start s t c h = record {
+  comes = λ m may. h.comes m (may_become_stays m s t c may);
+  rests = λ none. none_stays s t c (h.rests none);
+}
+
+-- where the transfer that is pending, TAR and the memory are the same
+pub comes_same : (start s t : Port) → t.target.pending ≡ s.target.pending → t.target.tar ≡ s.target.tar
+    → t.target.memory ≡ s.target.memory → ComesFrom start s → ComesFrom start t
+comes_same start s t pending tar memory h = record {
+  comes = λ m may. h.comes m (may_become_carried m s t pending tar memory may);
+  rests = λ none. pending ∙ h.rests none;
+}
+
+pub comes_carried : (start s t : Port) → Frame s t → ComesFrom start s → ComesFrom start t
+comes_carried start s t f h = comes_same start s t f.pending f.tar f.memory h
+
+pub comes_at_rest : (start s : Port) → s.target.pending ≡ None → MayBecome start s.target.memory → ComesFrom start s
+comes_at_rest start s none h = record {
+  comes = λ m may. subst (MayBecome start) (sym (may_become_of_none.only m s none may)) h;
+  rests = λ rest. none;
+}
+
+pub come_at_rest : (start s : Port) → s.target.pending ≡ None → ComesFrom start s → MayBecome start s.target.memory
+come_at_rest start s none h = h.comes s.target.memory (may_become_of_none.same s none)
+
+-- THE FLAG OF THE TRANSFER
 pub quiet_stays : (stray : Bool) (s t : Port) → Completes s t → Quiet stray s.target → Quiet stray t.target
 quiet_stays stray s t c (none_left p e) = subst (λ z. Quiet stray z.target) (sym (none_done s t p c)) (none_left p e)
 quiet_stays stray s t c (has_come g p e) = subst (λ z. Quiet stray z.target) (sym (none_done s t p c)) (has_come g p e)

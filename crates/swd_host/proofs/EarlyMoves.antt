@@ -11,7 +11,7 @@ use Rattle.swd_port.specs.Moving.{Takes, Gives, Passes}
 use Rattle.swd_port.specs.Leading.{Leads}
 use Rattle.swd_port.specs.Moves.{Gave, Spoiled}
 use Rattle.swd_port.specs.Laws.WordsRead.{Clears}
-use Rattle.swd_port.proofs.CompletionLaws.{none_done, kept as kept_by, may_become_carried}
+use Rattle.swd_port.proofs.CompletionLaws.{none_done, kept as kept_by}
 use Rattle.swd_port.proofs.MovingLaws.{data_taken, take_moves_nothing, turnaround_passed, data_given, line_reset}
 use Rattle.swd_port.proofs.StatusLaws.{flags_cleared}
 use Rattle.swd_host.specs.declared.flags.Flags.{Flags}
@@ -30,8 +30,8 @@ use Rattle.swd_host.specs.Early.{EarlySent, EarlyTaken}
 use Rattle.swd_host.proofs.Frames.{Frame, frame_passed, same_passed, frame_abort, frame_spoiled}
 use Rattle.swd_host.proofs.Takes.{got_whole_of, got_changed_of}
 use Rattle.swd_host.proofs.Gives.{spells, whole_given, changed_given, clear_small, sticky_gone, write_gone}
-use Rattle.swd_host.proofs.EarlyFrames.{none_stays, awaited_quiet, any_stays, woken_stays, early_stays, woken_carried}
-use Rattle.swd_host.proofs.EarlyFrames.{early_carried, cleared_rests}
+use Rattle.swd_host.proofs.EarlyFrames.{comes_same, none_stays, awaited_quiet, any_stays, woken_stays, early_stays}
+use Rattle.swd_host.proofs.EarlyFrames.{woken_carried, early_carried, cleared_rests}
 
 -- DATA PHASES THAT ARE READ
 not_unreset : (r : Reset) → r ≡ Live → r ≢ Unreset
@@ -270,8 +270,7 @@ led_early n ones stray start s t some leads h =
       any = record {
         select = ap (λ i. i.select) g.target ∙ k.select;
         odd = ap (λ i. i.identification % 2) g.target ∙ k.odd;
-        comes = λ m may. k.comes m (may_become_carried m y t pending (ap (λ i. i.tar) g.target)
-            (ap (λ i. i.memory) g.target) may);
+        comes = comes_same start y t pending (ap (λ i. i.tar) g.target) (ap (λ i. i.memory) g.target) k.comes;
         awaited = elim k.awaited [ inl x ↦ inl x | inr p ↦ inr (pending ∙ p) ];
         paid = omega (arith, ap (λ i. i.disturbed) g.tally, k.paid);
       };

@@ -190,7 +190,7 @@ pub record Stops (end : End) (base : Counted) (tries n : ℕ) (b : ℕ) (k : Han
   -- the disturbances that were met as events, or more than the tries allow
   pub paid : ((end ≡ Lost) × (n ≤ t.tally.disturbed)) ⊎ (base.disturbed + tries < t.tally.disturbed)
   pub ends : (s : Port) (stray : Bool) (task : Task) → s.tally.disturbed ≤ base.disturbed → s.tally.lost ≤ base.lost
-      → DueAt (Resting (Stopped end)) stray task t.link.due → EndsAt end tries s t
+      → t.target.identification % 2 ≡ 1 → DueAt (Resting (Stopped end)) stray task t.link.due → EndsAt end tries s t
   pub never : end ≢ All
 
 stops_by : (end : End) (n tries : ℕ) (base : Counted) (b : ℕ) (k : Hand) (t : Port)
@@ -199,13 +199,14 @@ stops_by : (end : End) (n tries : ℕ) (base : Counted) (b : ℕ) (k : Hand) (t 
 stops_by Lost n tries base b k t h = record {
   within = h.within;
   paid = inl (refl, h.paid);
-  ends = λ s stray task fewer less due. (due, omega (arith, h.more), h.select);
+  ends = λ s stray task fewer less odd due.
+      (due, omega (arith, h.more), record { select = h.select; odd = odd });
   never = λ is. absurd (cc);
 }
 stops_by TriesOut n tries base b k t h = record {
   within = h.0;
   paid = inr h.1;
-  ends = λ s stray task fewer less due. (due, omega (arith, h.1));
+  ends = λ s stray task fewer less odd due. (due, omega (arith, h.1), record { select = h.2; odd = odd });
   never = λ is. absurd (cc);
 }
 stops_by All n tries base b k t h = absurd h

@@ -8,7 +8,8 @@ use Rattle.swd_host.specs.declared.outcome.End.TheVariants.{All}
 use Rattle.swd_host.specs.declared.engine.Engine.{Engine}
 use Rattle.swd_host.specs.Plain.{memory_after, answers_of}
 use Rattle.swd_host.specs.Engines.{begun_of}
-use Rattle.swd_host.specs.Reports.{Fits, told_by}
+use Rattle.swd_host.specs.Reports.{Fits}
+use Rattle.swd_host.specs.Standing.{told_by}
 
 -- the memory is that after the accesses that are answered, and after some of those that are begun besides
 pub record IsLeft (i : ℕ) (list : List Access) (m : PlainMemory) (begun : ℕ) (now : PlainMemory) : Type 0 where

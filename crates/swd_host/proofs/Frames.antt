@@ -175,6 +175,7 @@ pub up_framed : (m : PlainMemory) (s t : Port) → Frame s t → t.target.sticky
 up_framed m s t f e h = record {
   calm = calm_framed m s t f e h.calm;
   debug = f.debug ∙ h.debug;
+  system = f.system ∙ h.system;
   increments = f.increments ∙ h.increments;
 }
 
@@ -193,6 +194,7 @@ under_framed b c k s t g f e h = record {
   select = f.select ∙ h.select;
   debug = f.debug
       ∙ h.debug;
+  system = f.system ∙ h.system;
   increments = f.increments ∙ h.increments;
   begun = omega (arith, h.begun);
   sent = sent_carried _ _ s.target t.target (carries s t f e) h.sent;
@@ -231,6 +233,7 @@ broken_framed p b k s t f h = record {
   select = f.select
       ∙ h.select;
   debug = f.debug ∙ h.debug;
+  system = f.system ∙ h.system;
   increments = f.increments ∙ h.increments;
   pending = f.pending ∙ h.pending;
   memory = f.memory ∙ h.memory;

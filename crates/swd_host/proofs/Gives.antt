@@ -174,6 +174,7 @@ module _ (n b : ℕ) (k : Hand) (s t : Port) (sent : ℕ) (range : sent < 2 ^ 33
               sticky = ap (λ i. i.sticky_error) g.target ∙ c.sticky;
             };
             debug = ap (λ i. i.debug_power) g.target ∙ h.has.debug;
+            system = ap (λ i. i.system_power) g.target ∙ h.has.system;
             increments = ap (λ i. i.increments) g.target;
           };
           upper = ap (λ i. i.csw_upper) g.target;
@@ -202,6 +203,7 @@ module _ (n b : ℕ) (k : Hand) (s t : Port) (sent : ℕ) (range : sent < 2 ^ 33
               sticky = ap (λ i. i.sticky_error) g.target ∙ c.sticky;
             };
             debug = ap (λ i. i.debug_power) g.target ∙ h.has.up.debug;
+            system = ap (λ i. i.system_power) g.target ∙ h.has.up.system;
             increments = ap (λ i. i.increments) g.target ∙ h.has.up.increments;
           };
           tar = ap (λ i. i.tar) g.target;
@@ -222,6 +224,7 @@ module _ (n b : ℕ) (k : Hand) (s t : Port) (sent : ℕ) (range : sent < 2 ^ 33
         live = ap (λ i. i.reset) g.target ∙ c.live;
         select = ap (λ i. i.select) g.target ∙ c.select;
         debug = ap (λ i. i.debug_power) g.target ∙ h.up.debug;
+        system = ap (λ i. i.system_power) g.target ∙ h.up.system;
         increments = ap (λ i. i.increments) g.target ∙ h.up.increments;
         begun = begun;
         sent = subst (λ a. Sent a k.memory y.target) (sym is)

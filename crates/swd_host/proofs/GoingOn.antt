@@ -49,6 +49,14 @@ drop_at (suc i) n [] d = nothing n (suc i + n) d
 drop_at (suc i) n (x ∷ list) d = drop_at i n list d ∙ (let e : suc (i + n) ≡ suc i + n = omega arith in
     ap (λ j. get_or (x ∷ list) j d) e)
 
+-- one more access was repeated at most
+pub grows_few : (js : List ℕ) (earlier : Told) (more : List ℕ) → Grows js earlier more → length more ≤ length js + 1
+grows_few js earlier more (inl same) = (let e = ap length same in omega (arith, e))
+grows_few js earlier more (inr (begun, same)) =
+    let e = ap length same in
+    let l = length-append js (length earlier.answers ∷ []) in
+    omega (arith, e, l)
+
 -- THE ACCESSES FROM i ON, over a memory where earlier ones were repeated
 record Walked (js : List ℕ) (i n : ℕ) (list : List Access) (m q : PlainMemory) : Type 0 where
   answers : answers_of (take i list) m ++ answers_of (take n (drop i list)) q ≡ answers_of (take (i + n) list) m

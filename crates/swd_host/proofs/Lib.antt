@@ -13,6 +13,7 @@ mod EarlyAsks
 mod EarlyMoves
 mod EarlyTurns
 mod Turning
+mod Working
 mod StepLemmas
 mod Going
 mod Lists
@@ -24,5 +25,9 @@ mod Starts
 mod Ends
 mod Performing
 mod Openings
+mod Opened
+mod Alone
+mod Outsides
 mod Blocked
 mod Runs
+mod SessionLaws

@@ -23,11 +23,11 @@ pub ends_since : (end : End) (tries : ℕ) (s t u : Port) → s.tally.disturbed 
     → s.tally.lost ≤ t.tally.lost → EndsAt end tries t u → EndsAt end tries s u
 ends_since All tries s t u fewer less h = h
 ends_since Lost tries s t u fewer less h = (h.0, omega (arith, h.1), h.2)
-ends_since TriesOut tries s t u fewer less h = (h.0, omega (arith, h.1))
+ends_since TriesOut tries s t u fewer less h = (h.0, omega (arith, h.1), h.2)
 ends_since (WrongId word) tries s t u fewer less h = absurd h
 ends_since Confused tries s t u fewer less h = absurd h
 
-stray_few : (again : Bool) → stray_left again ≤ 5
+pub stray_few : (again : Bool) → stray_left again ≤ 5
 stray_few true = omega arith
 stray_few false = omega arith
 

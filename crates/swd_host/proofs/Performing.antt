@@ -1,5 +1,5 @@
 -- From what holds between two accesses to what doing the whole list comes to.
-use Rattle.std.proofs.Common.{◌≡◌, ◌≢◌, ◌+◌, ◌-◌, ◌*◌, ◌^◌, ◌<◌, ◌≤◌, ℕ, Bool, true, false, refl, sym, ap, subst}
+use Rattle.std.proofs.Common.{◌≡◌, ◌≢◌, ◌+◌, ◌-◌, ◌*◌, ◌%◌, ◌^◌, ◌<◌, ◌≤◌, ℕ, Bool, true, false, refl, sym, ap, subst}
 use Rattle.std.proofs.Common.{inl, inr, arith, ◌∙◌, List, [], ◌∷◌, ◌++◌, length, take, zero, suc, get_or, length-append}
 use Rattle.std.specs.Prelude.{Option, Some, None, if◌then◌else◌, nat_lt, is_some, ◌&&◌, not}
 use Rattle.std.proofs.lemmas.Bool.{ltb-true, ltb-false}
@@ -31,9 +31,9 @@ use Rattle.swd_host.specs.Progress.{least_in, open_requests}
 use Rattle.swd_host.specs.Tracks.{Hand, Counted, IsWithin, within_none, within_first, within_both, IsReady, Follows}
 use Rattle.swd_host.specs.Tracks.{hand_of, next_read, Up, AheadAt, IsKnownAt, DueAt, DueFits}
 use Rattle.swd_host.specs.Turns.{is_failed, has_failed, Starts, Goes}
-use Rattle.swd_host.specs.Reports.{Fits, EndsAt, Follower, told_by}
+use Rattle.swd_host.specs.Reports.{Fits, EndsAt, Follower}
 use Rattle.swd_host.specs.Standing.{Waits, Reached, ContinuesAt, Stands, HasOpened, IsOpen, Does, DoesOver}
-use Rattle.swd_host.specs.Standing.{HasSentFor, anew, on}
+use Rattle.swd_host.specs.Standing.{HasSentFor, anew, on, told_by}
 use Rattle.swd_host.proofs.Fitting.{IsLeft, none_left, fits_by}
 use Rattle.swd_port.specs.declared.wire.Due.TheVariants.{Nothing}
 use Rattle.swd_port.proofs.CallLaws.{others_uncounted, identification_kept}
@@ -324,6 +324,7 @@ module _ (i : ℕ) (list : List Access) (o e g f : Engine) (answers : List Answe
         later = stop_fits m stop.within.later end stop.never at next r stop.within.ends;
         ends = subst (λ n. EndsAt end n s u) tries_here
             (stop.ends s f.stray f.task r.fewest stands.lost
+            (ap (λ w. w % 2) (goes.identification ∙ stands.identification) ∙ is.odd)
             (subst (λ x. DueAt x f.stray f.task u.link.due) at due));
         least = λ whole. absurd (stop.never whole);
         most = elim stop.paid [
@@ -438,7 +439,23 @@ module _ (i : ℕ) (list : List Access) (o e : Engine) (answers : List Answer) (
         settled = last;
         becomes = λ c. ap (λ x. x.target.memory) (same c u idle) ∙ memory;
         later = fits last refl;
-        ends = passed.due;
+        ends = (
+          record {
+            due = passed.due;
+            known = record {
+              select = ap (λ x. x.select) passed.target ∙ up.calm.select;
+              odd = ap (λ x. x.identification % 2) passed.target
+                  ∙ (ap (λ w. w % 2) stands.identification ∙ is.odd);
+            };
+            settled = idle;
+          },
+          record {
+            sticky_error = ap (λ x. x.sticky_error) passed.target ∙ up.calm.sticky;
+            write_error = ap (λ x. x.write_error) passed.target ∙ ready.flag;
+            debug = ap (λ x. x.debug_power) passed.target ∙ up.debug;
+            system = ap (λ x. x.system_power) passed.target ∙ up.system;
+          },
+        );
         least = λ all. omega (arith, sent_least i o e r.sent);
         most = omega (arith, r.most, r.fewest, ready.paid);
       }

@@ -194,7 +194,7 @@ has_select Transfer b k s h = h.up.calm.select
 has_select Confirm b k s h = h.select
 has_select Behind b k s h = absurd h
 
-before_select : (job : Job) (n b : ℕ) (k : Hand) (s : Port) → Before job n b k s → s.target.select ≡ no_select
+pub before_select : (job : Job) (n b : ℕ) (k : Hand) (s : Port) → Before job n b k s → s.target.select ≡ no_select
 before_select (At p) n b k s (inl h) = has_select p b k s h.has
 before_select (At p) n b k s (inr h) = has_select h.back b k s h.has
 before_select (Resend p) n b k s h = returned_select p h.0 b k s h.1.returned

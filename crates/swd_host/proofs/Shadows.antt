@@ -1,9 +1,10 @@
 -- A memory where accesses were repeated has the words of the plain memory, and answers as it does, where the log has
 -- room for the copies.
 use Rattle.std.proofs.Common.{◌≡◌, ◌+◌, ◌<◌, ◌≤◌, ℕ, Bool, true, false, refl, sym, ap, subst, arith, ◌∙◌, List, [], ◌∷◌}
-use Rattle.std.proofs.Common.{length, take, zero, suc, get_or, length-append}
+use Rattle.std.proofs.Common.{length, take, zero, suc, get_or, length-append, inl, inr}
 use Rattle.std.specs.Prelude.{drop, is_some, unwrap_or, replicate, nat_lt, if◌then◌else◌, ◌==◌}
 use Rattle.std.proofs.lemmas.Bool.{lt-ltb}
+use Rattle.std.proofs.lemmas.List.{take_all}
 use Rattle.std.specs.Ordering.{nat_cmp}
 use Rattle.std.specs.FinMap.{FinMap, get, contains_key}
 use Rattle.swd_port.specs.declared.access.Access.{Access}
@@ -14,7 +15,9 @@ use Rattle.swd_port.specs.PlainMemory.{PlainMemory, address, succeeds_at, words_
 use Rattle.swd_port.specs.PlainMemory.{answer_of, transfer_of, done}
 use Rattle.swd_port.proofs.MapLemmas.{get_same, insert_twice}
 use Rattle.swd_host.specs.Plain.{memory_after}
-use Rattle.swd_host.specs.Again.{times, repeated, IsAfter, HasRoom}
+use Rattle.swd_host.specs.declared.outcome.End.TheVariants.{All}
+use Rattle.swd_host.specs.Reports.{Told}
+use Rattle.swd_host.specs.Again.{times, repeated, IsAfter, Again, HasRoom}
 use Rattle.swd_host.proofs.Lists.{memory_append, memory_next}
 use Rattle.swd_host.proofs.Repeats.{repeated_next}
 
@@ -313,3 +316,19 @@ answered_again js k list d m q l room h =
     (shadow_twice c (get_or list k d) (memory_after (take k list) m) q
     (place_there list k (c + 1) d m l (record { one = omega (arith, room); all = omega (arith, few, room) }))
     (subst (λ x. Shadow c x q) (memory_next list k d m l) there)).answer
+
+-- a whole list, some of whose accesses were repeated, has the words of the plain memory
+pub again_words : (more js : List ℕ) (list : List Access) (m : PlainMemory) (told : Told) (now : PlainMemory)
+    (d : Access) → length more ≤ length js + 1 → HasRoom js list m → told.ended ≡ All → Again more list m told now
+    → now.words ≡ (memory_after list m).words
+again_words more js list m told now d few room all (k, a) =
+    let whole : k ≡ length list = a.all all in
+    let roomy : Roomy (length more) list m = record { one = omega (arith, room); all = omega (arith, room, few) } in
+    let here : IsAfter more k list m now = elim a.memory [
+      | inl h ↦ h
+      | inr h ↦ absurd ((a.begun h.0).1 all)
+    ] in
+    let shadow : Shadow (below k more) (memory_after (take k list) m) (memory_after (repeated more 0 (take k list)) m) =
+    after_shadow more k list d m (omega arith) roomy in
+    ap (λ x. x.words) here.memory ∙ (shadow.words
+    ∙ ap (λ xs. (memory_after xs m).words) (ap (λ n. take n list) whole ∙ take_all (length list) list (omega arith)))

@@ -20,6 +20,8 @@ use Rattle.swd_host.specs.Tasks.{is_read}
 use Rattle.swd_host.specs.Requests.{again_at, is_behind, is_unread}
 use Rattle.swd_host.specs.Progress.{left_at, left_for, least_at, least_for, is_state_of, is_place_of}
 use Rattle.swd_host.specs.Turns.{Lands}
+use Rattle.swd_host.specs.Flags.{flags_in}
+use Rattle.swd_host.specs.Early.{Shows, EarlyBefore, EarlyTold}
 use Rattle.swd_host.specs.Tracks.{Hand, Counted, Facts, Checks, cleared, kept, Earns, by_fault, Saw, saw_okay}
 use Rattle.swd_host.specs.Tracks.{saw_wait, saw_fault, saw_none, Tracks, state_seen, BusErrorOf, Cleared}
 use Rattle.swd_host.specs.Tracks.{own_error, next_error, Resent, Taken, TookAt, ConfirmTook}
@@ -36,6 +38,7 @@ lands_within n n' m m' x y e f a b part h = record {
   requests =
       h.requests;
   begun = h.begun;
+  never = h.never;
   bursts = h.bursts;
   left = omega (arith, h.left);
   least = omega (arith, h.least);
@@ -141,3 +144,10 @@ took_taken Aim word n b k t read h = h
 took_taken Transfer word n b k t read h = absurd (cc)
 took_taken Confirm word n b k t read h = confirm_taken k.task word n b k t read h
 took_taken Behind word n b k t read h = h
+
+-- the word that was read after ABORT, early: only the flag that SELECT's write met is cleared then
+pub told_check : (p : Place) (owed : Flags) (word n : ℕ) (stray : Bool) (start s : Port)
+    → EarlyTold (Check p owed) word n stray start s
+    → Shows (flags_in word) s.target × EarlyBefore (Check p owed) n stray start s
+told_check Select owed word n x start s h = h
+told_check p owed word n x start s h = elim h [ ]

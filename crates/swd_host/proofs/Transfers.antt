@@ -49,6 +49,7 @@ under_stays b k s t c h =
       live = kp.reset ∙ h.live;
       select = kp.select ∙ h.select;
       debug = kp.debug_power ∙ h.debug;
+      system = kp.system_power ∙ h.system;
       increments = kp.increments ∙ h.increments;
       begun = h.begun;
       sent = sent_stays _ _ s t c h.sent;
@@ -75,6 +76,7 @@ read_under b k at flip s y some e h a = record {
   live = a.live;
   select = ap (λ i. i.select) a.target ∙ h.up.calm.select;
   debug = ap (λ i. i.debug_power) a.target ∙ h.up.debug;
+  system = ap (λ i. i.system_power) a.target ∙ h.up.system;
   increments = ap (λ i. i.increments) a.target ∙ h.up.increments;
   begun = some;
   sent = read_sent k at flip s y e h a;
@@ -195,6 +197,7 @@ done_there b k r read flip x y p h d a = record {
           ∙ d.sticky_error;
     };
     debug = ap (λ i. i.debug_power) a.target ∙ h.debug;
+    system = ap (λ i. i.system_power) a.target ∙ h.system;
     increments = ap (λ i. i.increments) a.target ∙ h.increments;
   };
   advanced = λ i q e z. ap (λ i. i.tar) a.target ∙ d.advanced (sym (ap (λ i. i.increments) a.target) ∙ i) q e z;
@@ -261,6 +264,7 @@ module _ (r : Register) (q : Request) (h : Hand) (x y : Port) (power : q.ap ≡ 
         live = f.reset ∙ u.live;
         select = f.select ∙ u.select;
         debug = f.debug ∙ u.debug;
+        system = f.system ∙ u.system;
         increments = f.increments ∙ u.increments;
         pending = f.pending ∙ d.pending;
         memory = f.memory ∙ d.unchanged;
@@ -322,6 +326,7 @@ under_more b c k s some h = record {
   live = h.live;
   select = h.select;
   debug = h.debug;
+  system = h.system;
   increments = h.increments;
   begun = some;
   sent = h.sent;
@@ -337,6 +342,7 @@ broken_more b c k s some h = record {
   live = h.live;
   select = h.select;
   debug = h.debug;
+  system = h.system;
   increments = h.increments;
   pending = h.pending;
   memory = h.memory;

@@ -41,7 +41,7 @@ use Rattle.swd_host.specs.Progress.{is_state_of, is_quiet, moves_first, calls_le
 use Rattle.swd_host.specs.Tracks.{Hand, Counted, Before, Refused, by_damage, by_error, Tracks}
 use Rattle.swd_host.specs.Tracks.{TracksEngine, Follows, IsTask, Saw, Left, TakenFor, Hears, HasSent, HasRead}
 use Rattle.swd_host.specs.Tracks.{hand_of, state_seen, due_of, DueAt, DueFits}
-use Rattle.swd_host.specs.Turns.{Sees, lands_from, IsCountable, Goes}
+use Rattle.swd_host.specs.Turns.{Sees, lands_from, IsCountable, Goes, begun_left}
 use Rattle.swd_host.specs.Early.{Early, IsEarly, Resumes, early, over, EarlySaw, EarlyLeft, EarlyTaken, HearsEarly}
 use Rattle.swd_host.specs.Early.{SendsEarly, ReadsEarly}
 use Rattle.swd_host.proofs.EarlyAsks.{ask_early}
@@ -94,12 +94,12 @@ ask_cue false None q e = absurd (cc)
 ask_cue false (Some word) q e = absurd (cc)
 
 -- A REQUEST
-record IsAsking (x : State) (task : Task) (q : Request) : Type 0 where
-  job : Job
-  at : x ≡ Doing job Ask
-  is : q ≡ request_of job task
+pub record IsAsking (x : State) (task : Task) (q : Request) : Type 0 where
+  pub job : Job
+  pub at : x ≡ Doing job Ask
+  pub is : q ≡ request_of job task
 
-asking : (x : State) (stray : Bool) (task : Task) (q : Request) → cue_at x stray task ≡ CueAsk q
+pub asking : (x : State) (stray : Bool) (task : Task) (q : Request) → cue_at x stray task ≡ CueAsk q
     → IsAsking x task q
 asking (Doing job Ask) stray task q e = record {
   job = job;
@@ -192,7 +192,7 @@ resumed_left base start e s job at opening (over m may h) =
     before_left job (base.disturbed + e.events) e.begun (hand_of e m) s opening
     (tracked base m e s (Doing job Ask) at h.tracks)
 
-opening_begins : (job : Job) (task : Task) → is_job_of true job ≡ true → begins job task ≡ 0
+pub opening_begins : (job : Job) (task : Task) → is_job_of true job ≡ true → begins job task ≡ 0
 opening_begins job task h = grind arith
 
 -- a request was sent for each access that is begun, and for TAR
@@ -226,7 +226,7 @@ next_few task = grind arith
 one_few : (task : Task) → 1 ≤ most_begun task
 one_few task = grind arith
 
-begins_few : (job : Job) (task : Task) → begins job task ≤ most_begun task
+pub begins_few : (job : Job) (task : Task) → begins job task ≤ most_begun task
 begins_few (At Transfer) task = one_few task
 begins_few (At Confirm) task = next_few task
 begins_few (At Identify) task = omega arith
@@ -246,19 +246,19 @@ begins_few LastStatus task = omega arith
 begins_few (Clear p owed) task = omega arith
 begins_few (Check p owed) task = omega arith
 
-max_few : (a b most : ℕ) → a ≤ most → b ≤ most → max a b ≤ most
+pub max_few : (a b most : ℕ) → a ≤ most → b ≤ most → max a b ≤ most
 max_few a b most h i = grind arith
 
 max_grown : (a b : ℕ) → a < max a b → max a b ≡ b
 max_grown a b h = grind arith
 
-max_none : (a b : ℕ) → a ≡ 0 → b ≡ 0 → max a b ≡ 0
+pub max_none : (a b : ℕ) → a ≡ 0 → b ≡ 0 → max a b ≡ 0
 max_none a b h i = grind arith
 
-one_more_least : (n : ℕ) → (n ≤ one_more n) × (one_more n ≤ n + 1)
+pub one_more_least : (n : ℕ) → (n ≤ one_more n) × (one_more n ≤ n + 1)
 one_more_least n = grind arith
 
-one_more_exact : (n : ℕ) → n + 1 < 2 ^ 64 → one_more n ≡ n + 1
+pub one_more_exact : (n : ℕ) → n + 1 < 2 ^ 64 → one_more n ≡ n + 1
 one_more_exact n h = grind arith
 
 pub ask_goes : (e f : Engine) (on : is_resting e ≡ false) (s t : Port) (q : Request) (v : ℕ) → cue_of e ≡ CueAsk q
@@ -337,7 +337,7 @@ read_due : (read : Bool) → (if read then Take else Give) ≡ due_of read
 read_due true = refl
 read_due false = refl
 
-due_seen : (job : Job) (stray : Bool) (task : Task) (one two four : Bool) →
+pub due_seen : (job : Job) (stray : Bool) (task : Task) (one two four : Bool) →
     DueAt (if one then Doing job Data else if two then Doing job Waited else if four then Doing job Faulted else
     Resting (Stopped Lost)) stray task
     (if one then (if (request_of job task).read then Take else Give) else if two || four then Pass else DueLost)
@@ -359,6 +359,9 @@ ask_due e f s t q v cue asks sees =
     (due_seen a.job f.stray e.task (v == 1) (v == 2) (v == 4))))
 
 -- EVERY OTHER CALL
+pub left_few : (x : State) (task : Task) (b : ℕ) → begun_left x task b ≤ b
+left_few x task b = grind arith
+
 no_lost : (x : State) → is_quiet x ≡ true → x ≡ Resting (Stopped Lost) → ⊥
 no_lost x h is = absurd (let both : true ≡ false = sym h ∙ ap is_quiet is in cc)
 
@@ -381,12 +384,12 @@ moves e f on s t lands tally identified follows steps = record {
   part = lands.part;
   rests = λ at. absurd (let both : true ≡ false = sym at ∙ on in cc);
   bursts = lands.bursts;
-  few = λ few. omega (arith, lands.begun);
-  unbegun = λ opening h. omega (arith, lands.begun);
+  few = λ few. omega (arith, lands.begun, left_few f.state e.task e.begun);
+  unbegun = λ opening h. omega (arith, lands.begun, left_few f.state e.task e.begun);
   more = omega (arith, lands.requests);
   spends = omega (arith, lands.requests, lands.left);
   least = λ few. omega (arith, lands.requests, lands.least);
-  begun = λ few grows. absurd (omega (arith, lands.begun));
+  begun = λ few grows. absurd (omega (arith, lands.begun, left_few f.state e.task e.begun));
   follows = follows;
   resumes = resumes_by e f s t lands.task (omega (arith, ap (λ i. i.lost) tally)) steps follows;
   identification = identified;
@@ -556,7 +559,7 @@ led_first : (n tries : ℕ) (base : Counted) (x : State) (stray : Bool) (task : 
     (start s t : Port) → cue_at x stray task ≡ Lead ones switch low → Leads s ones t
     → Early x n tries base stray start s → EarlyLeft x n stray start t
 led_first n tries base Leading stray task ones low switch start s t e leads h =
-    led_early n ones stray start s t (some_ones stray ones low switch e) leads h.0
+    led_early n ones stray start s t (some_ones stray ones low switch e) leads h
 led_first n tries base (Doing job Data) stray task ones low switch start s t e leads h =
     absurd (lead_cue_none (is_ahead_at job Data task) (word_for job task) ones low switch e)
 led_first n tries base (Doing job Ask) stray task ones low switch start s t e leads h = absurd (cc)

@@ -1,18 +1,17 @@
 -- What the report of a run that went on after a lost acknowledgement says of the plain memory: the accesses that were
 -- begun when an acknowledgement was lost may have been done twice.
-use Rattle.std.specs.Prelude.{ℕ, ◌≡◌, ◌≢◌, ◌+◌, ◌-◌, ◌*◌, ◌%◌, ◌<◌, ◌≤◌, ◌⊎◌, ◌==◌, List, [], ◌∷◌, ◌++◌, length, take}
-use Rattle.std.specs.Prelude.{replicate, if◌then◌else◌}
+use Rattle.std.specs.Prelude.{ℕ, ◌≡◌, ◌≢◌, ◌+◌, ◌-◌, ◌*◌, ◌<◌, ◌≤◌, ◌⊎◌, ◌==◌, List, [], ◌∷◌, ◌++◌, length, take}
+use Rattle.std.specs.Prelude.{replicate, drop, if◌then◌else◌}
 use Rattle.swd_port.specs.declared.access.Access.{Access}
 use Rattle.swd_port.specs.declared.access.Answer.{Answer}
-use Rattle.swd_port.specs.declared.wire.Due.TheVariants.{Lost as DueLost}
+use Rattle.swd_port.specs.declared.wire.Due.{Due}
 use Rattle.swd_port.specs.PlainMemory.{PlainMemory}
-use Rattle.swd_port.specs.Port.{Port, made}
+use Rattle.swd_port.specs.Port.{Port}
 use Rattle.swd_port.specs.Choices.{Choice, IsChoice}
 use Rattle.swd_port.specs.Completion.{completed}
-use Rattle.swd_host.specs.declared.outcome.End.TheVariants.{All, Lost}
-use Rattle.swd_host.specs.Plain.{memory_after, answers_of, AreAccesses}
-use Rattle.swd_host.specs.Tracks.{no_select}
-use Rattle.swd_host.specs.Reports.{Told, EndsAt}
+use Rattle.swd_host.specs.declared.outcome.End.TheVariants.{All}
+use Rattle.swd_host.specs.Plain.{memory_after, answers_of}
+use Rattle.swd_host.specs.Reports.{Told, Closes, IsKnown, IsAtRest, EndsAt}
 
 -- LISTS WITH REPEATED ACCESSES
 -- how often a place stands in a list of places
@@ -58,30 +57,28 @@ abbrev pub HasRoom : List ℕ → List Access → PlainMemory → Type 0
 HasRoom js list m = length (memory_after list m).log + 1 + length js ≤ m.room
 
 -- GOING ON
--- where a run of this list can be gone on with: an acknowledgement was lost
-pub record MayGoOn (list : List Access) (told : Told) (s : Port) : Type 0 where
-  pub accepted : length list ≤ 65536
-  pub accesses : AreAccesses list
-  pub reported : length told.answers ≤ length list
-  pub due : s.link.due ≡ DueLost
-  pub select : s.target.select ≡ no_select
-  pub odd : s.target.identification % 2 ≡ 1
-
--- a run over a target that was just made leaves that where it ends so, and no access was done twice
-pub record Leaves (list : List Access) (m : PlainMemory) (told : Told) (t : Port) : Type 0 where
-  pub goes_on : MayGoOn list told t
-  pub again : AgainThen [] list m told t
-
+-- A run over a target at rest leaves this, however it ended: no access was done twice.
 abbrev pub LeavesOff : List Access → Told → Port → Port → Type 0
-LeavesOff list told s t =
-    (identification : ℕ) (m : PlainMemory) → s ≡ made identification m → identification % 2 ≡ 1 → told.ended ≡ Lost
-    → Leaves list m told t
+LeavesOff list told s t = IsAtRest s → AgainThen [] list s.target.memory told t
 
 -- the places afterwards: the same, or, where an access was begun, that one's too
 abbrev pub Grows : List ℕ → Told → List ℕ → Type 0
 Grows js earlier more = (more ≡ js) ⊎ ((earlier.begun ≡ 1) × (more ≡ js ++ length earlier.answers ∷ []))
 
--- the new report is told of the same memory as the earlier one
+-- the answers that came after those of an earlier report
+abbrev pub added_in : Told → Told → List Answer
+added_in earlier told = drop (length earlier.answers) told.answers
+
+-- What is true of a report of going on whatever the other end did: new answers come after the earlier ones, and they close
+-- as those of a run over the rest of the list. Beside what the opening of a run may take stand five requests more.
+pub record Continues (list : List Access) (tries : ℕ) (earlier told : Told) (next : Due) : Type 0 where
+  pub kept : told.answers ≡ earlier.answers ++ added_in earlier told
+  pub number : length told.answers ≤ length list
+  pub closes : Closes 5 1 (drop (length earlier.answers) list) tries
+      (record told { answers = added_in earlier told }) next
+
+-- The new report is told of the same memory as the earlier one. Once nothing is pending any more, the words of a whole
+-- list are those of a run without a loss.
 pub record GoesAgain (js : List ℕ) (list : List Access) (m : PlainMemory) (earlier told : Told) (t : Port)
     : Type 0 where
   pub more : List ℕ
@@ -89,24 +86,24 @@ pub record GoesAgain (js : List ℕ) (list : List Access) (m : PlainMemory) (ear
   pub later : AgainThen more list m told t
   -- a whole list leaves nothing pending
   pub now : told.ended ≡ All → Again more list m told t.target.memory
+  pub words : told.ended ≡ All → t.target.memory.words ≡ (memory_after list m).words
 
 -- The theorem of going on, from the port s and an earlier report to the port t and the report after it.
 pub record ResumeFits (list : List Access) (tries : ℕ) (earlier told : Told) (s t : Port) : Type 0 where
   pub again : (js : List ℕ) (m : PlainMemory) → AgainThen js list m earlier s → HasRoom js list m
       → GoesAgain js list m earlier told t
+  -- where it ends early, it can be gone on with again
   pub ends : EndsAt told.ended tries s t
   pub stops_only : t.tally.lost ≡ s.tally.lost → t.tally.disturbed ≤ s.tally.disturbed + tries → told.ended ≡ All
-  pub whole : told.ended ≡ All → length told.answers ≡ length list
-  -- where it ends so again, it can be gone on with again
-  pub goes_on : told.ended ≡ Lost → MayGoOn list told t
   -- the requests of this call alone
   pub counted : t.tally.asked ≡ s.tally.asked + told.requests
   pub most : told.requests ≤ 14 + 6 * length list + 5 * (t.tally.disturbed - s.tally.disturbed)
-  -- new answers come after the earlier ones
-  pub added : List Answer
-  pub kept : told.answers ≡ earlier.answers ++ added
   -- an access that was begun before stays so until it is answered
-  pub stays : earlier.begun ≡ 1 → added ≡ [] → told.ended ≢ All → told.begun ≡ 1
+  pub stays : earlier.begun ≡ 1 → added_in earlier told ≡ [] → told.ended ≢ All → told.begun ≡ 1
   -- another is begun only once its requests were sent: nine of the opening, one of TAR, and one for each access
   pub begun : told.begun ≢ 0 → (told.begun ≡ 1) × (told.ended ≢ All)
-      × (((earlier.begun ≡ 1) × (added ≡ [])) ⊎ (11 + length added ≤ told.requests))
+      × (((earlier.begun ≡ 1) × (added_in earlier told ≡ [])) ⊎ (11 + length (added_in earlier told) ≤ told.requests))
+
+-- so it is from every target whose SELECT is 0, whatever is due, set or pending
+abbrev pub ResumesOver : List Access → ℕ → Told → Told → Port → Port → Type 0
+ResumesOver list tries earlier told s t = IsKnown s.target → ResumeFits list tries earlier told s t

@@ -1,5 +1,5 @@
--- Going on after a lost acknowledgement: what is known of the port from the line reset on, until nothing is pending
--- any more. From then on the invariant is that of a run.
+-- The beginning of the opening: what is known of the port from the line reset on, whatever flags are set, until SELECT
+-- is written and nothing is pending any more. From then on the invariant is that of a run over one memory.
 use Rattle.std.specs.Prelude.{ℕ, ◌≡◌, ◌≢◌, ◌+◌, ◌%◌, ◌<◌, ◌≤◌, ◌⊎◌, ◌==◌, Bool, true, false, Option, Some, None}
 use Rattle.swd_port.specs.PlainMemory.{PlainMemory}
 use Rattle.swd_port.specs.Port.{Port, Target}
@@ -21,9 +21,11 @@ use Rattle.swd_host.specs.Engines.{job_in}
 use Rattle.swd_host.specs.Flags.{flags_in}
 use Rattle.swd_host.specs.Tracks.{Counted, no_select, Calm, Reads, Writes, Follows, IsTask}
 
--- every memory that may come of the transfer that is pending now might have come at the start
-abbrev pub ComesFrom : Port → Port → Type 0
-ComesFrom start s = (m : PlainMemory) → MayBecome s m → MayBecome start m
+-- every memory that may come of the transfer that is pending now might have come at the start; and where nothing was
+-- pending then, nothing is
+pub record ComesFrom (start s : Port) : Type 0 where
+  pub comes : (m : PlainMemory) → MayBecome s m → MayBecome start m
+  pub rests : start.target.pending ≡ None → s.target.pending ≡ None
 
 -- THE FLAG OF A TRANSFER THAT WAS LEFT PENDING, where the engine may still meet it (`stray`)
 
@@ -155,11 +157,12 @@ pub record EarlyLost (n : ℕ) (base : Counted) (start s : Port) : Type 0 where
 
 abbrev pub EarlyStopped : End → ℕ → ℕ → Counted → Port → Port → Type 0
 EarlyStopped Lost n tries base start s = EarlyLost n base start s
-EarlyStopped TriesOut n tries base start s = ComesFrom start s × (base.disturbed + tries < s.tally.disturbed)
+EarlyStopped TriesOut n tries base start s =
+    ComesFrom start s × (base.disturbed + tries < s.tally.disturbed) × (s.target.select ≡ no_select)
 EarlyStopped end n tries base start s = ⊥
 
 abbrev pub Early : State → ℕ → ℕ → Counted → Bool → Port → Port → Type 0
-Early Leading n tries base stray start s = Anywhere n stray start s × (stray ≡ true)
+Early Leading n tries base stray start s = Anywhere n stray start s
 Early (Doing job Ask) n tries base stray start s = EarlyBefore job n stray start s
 Early (Doing job Data) n tries base stray start s = EarlyDuring job n stray start s
 Early (Doing job Waited) n tries base stray start s = EarlyWaiting job n stray start s

@@ -13,3 +13,4 @@ pub mod Reports
 pub mod Again
 pub mod Resuming
 pub mod Standing
+pub mod Sessions

@@ -1,16 +1,15 @@
 -- What a report says of the plain memory: the theorem of the host.
-use Rattle.std.specs.Prelude.{ℕ, ◌≡◌, ◌≢◌, ◌+◌, ◌-◌, ◌*◌, ◌%◌, ◌<◌, ◌≤◌, List, length, take, false}
+use Rattle.std.specs.Prelude.{ℕ, ◌≡◌, ◌≢◌, ◌+◌, ◌-◌, ◌*◌, ◌%◌, ◌<◌, ◌≤◌, List, length, take, false, true, None, min}
 use Rattle.std.specs.Prelude.{slice_index_or as get_or}
 use Rattle.swd_port.specs.declared.access.Access.{Access}
 use Rattle.swd_port.specs.declared.access.Access.TheVariants.{Read}
 use Rattle.swd_port.specs.declared.access.Answer.{Answer}
+use Rattle.swd_port.specs.declared.wire.Due.{Due}
 use Rattle.swd_port.specs.declared.wire.Due.TheVariants.{Nothing, Lost as DueLost}
 use Rattle.swd_port.specs.PlainMemory.{PlainMemory}
-use Rattle.swd_port.specs.Port.{Port, made}
+use Rattle.swd_port.specs.Port.{Port, Target}
 use Rattle.swd_port.specs.Choices.{Choice}
 use Rattle.swd_port.specs.Completion.{completed}
-use Rattle.swd_host.specs.declared.engine.Engine.{Engine}
-use Rattle.swd_host.specs.Engines.{begun_of}
 use Rattle.swd_host.specs.declared.outcome.Report.{Report}
 use Rattle.swd_host.specs.declared.outcome.Refused.{Refused}
 use Rattle.swd_host.specs.declared.outcome.Refused.TheVariants.{TooMany, Unaligned, Memory}
@@ -33,10 +32,6 @@ told_of report = record {
   requests = report.requests;
   ended = report.ended;
 }
-
--- the report of an engine
-abbrev pub told_by : List Answer → Engine → End → Told
-told_by answers e ended = record { answers = answers; begun = begun_of e; requests = e.requests; ended = ended }
 
 -- The answers are those of the first k accesses of the list over the plain memory, and the memory is that after them,
 -- or after some of the accesses that were begun besides. At most so many are begun.
@@ -62,15 +57,58 @@ RefusedAs list (Unaligned index) =
     × (is_aligned (get_or list index (Read 0)) ≡ false)
 RefusedAs list Memory = (length list ≤ 65536) × AreAccesses list
 
--- how a run may end, and what it leaves on the wire: it is never that an identification was wrong, or that the target
--- confused the host
+-- WHATEVER CAME BACK
+
+-- what has to come next on the wire, by how a call ended
+abbrev pub due_at : End → Due
+due_at Lost = DueLost
+due_at end = Nothing
+
+-- the most requests that an opening and n accesses take, where each meets so many events at most: the opening takes ten,
+-- an access six, and an event brings five more
+abbrev pub most_requests : ℕ → ℕ → ℕ
+most_requests tries n = 10 + 5 * tries + n * (6 + 5 * tries)
+
+-- What is true of a report whatever the other end did: it tells of the list alone, all of it where the run is whole, and
+-- what comes next on the wire. No access but the one after those that are answered took requests, and no more than its
+-- tries allow; spare are those that the opening may take beside.
+pub record Closes (spare limit : ℕ) (list : List Access) (tries : ℕ) (told : Told) (next : Due) : Type 0 where
+  pub number : length told.answers ≤ length list
+  pub whole : told.ended ≡ All → length told.answers ≡ length list
+  pub begun : told.begun ≤ limit
+  pub due : next ≡ due_at told.ended
+  pub spends : told.requests ≤ spare + most_requests tries (min (length list) (length told.answers + 1))
+
+-- WHERE WHAT CAME BACK FITS THE LAW
+
+-- SELECT names AP 0 and the banks 0, and the identification is one of this protocol
+pub record IsKnown (s : Target) : Type 0 where
+  pub select : s.select ≡ no_select
+  pub odd : s.identification % 2 ≡ 1
+
+-- A target at rest: a call may begin. No transfer is pending; flags, power, CSW, TAR and all else are whatever they are.
+pub record IsAtRest (s : Port) : Type 0 where
+  pub due : s.link.due ≡ Nothing
+  pub known : IsKnown s.target
+  pub settled : s.target.pending ≡ None
+
+-- no flag is set, and power is on
+pub record IsPowered (s : Target) : Type 0 where
+  pub sticky_error : s.sticky_error ≡ false
+  pub write_error : s.write_error ≡ false
+  pub debug : s.debug_power ≡ true
+  pub system : s.system_power ≡ true
+
+-- How a call may end, and what it leaves: a whole list a target at rest, powered and with no flag; a lost acknowledgement
+-- or too many events a known one, whose last transfer may be pending. It is never that an identification was wrong, or
+-- that the target confused the host.
 abbrev pub EndsAt : End → ℕ → Port → Port → Type 0
-EndsAt All tries s t = t.link.due ≡ Nothing
-EndsAt Lost tries s t = (t.link.due ≡ DueLost) × (s.tally.lost < t.tally.lost) × (t.target.select ≡ no_select)
-EndsAt TriesOut tries s t = (t.link.due ≡ Nothing) × (s.tally.disturbed + tries < t.tally.disturbed)
+EndsAt All tries s t = IsAtRest t × IsPowered t.target
+EndsAt Lost tries s t = (t.link.due ≡ DueLost) × (s.tally.lost < t.tally.lost) × IsKnown t.target
+EndsAt TriesOut tries s t = (t.link.due ≡ Nothing) × (s.tally.disturbed + tries < t.tally.disturbed) × IsKnown t.target
 EndsAt end tries s t = ⊥
 
--- The theorem of a run over a target that was just made: the report fits the memory as it is at the end, and as it
+-- The theorem of a run over a target at rest with this memory: the report fits the memory as it is at the end, and as it
 -- will be once a transfer that is still pending took effect; and the run stops early only at a lost acknowledgement
 -- or past its tries. At most so many accesses are begun that aren't answered.
 pub record RunFits (limit : ℕ) (list : List Access) (tries : ℕ) (m : PlainMemory) (told : Told) (s t : Port)
@@ -88,11 +126,9 @@ pub record Follower (i : ℕ) (list : List Access) (a : Access) : Type 0 where
   pub number : i + 1 < length list
   pub same : (d : Access) → get_or list (i + 1) d ≡ a
 
--- so it is for every memory that the target was made with, where its identification is one of this protocol
+-- so it is for every target at rest, whatever its memory; one that was just made is such a one
 abbrev pub RunsWithin : ℕ → List Access → ℕ → Told → Port → Port → Type 0
-RunsWithin limit list tries told s t =
-    (identification : ℕ) (m : PlainMemory) → s ≡ made identification m → identification % 2 ≡ 1
-    → RunFits limit list tries m told s t
+RunsWithin limit list tries told s t = IsAtRest s → RunFits limit list tries s.target.memory told s t
 
 -- in a run one access at most is begun that isn't answered
 abbrev pub RunsOver : List Access → ℕ → Told → Port → Port → Type 0

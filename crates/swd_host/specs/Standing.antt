@@ -1,9 +1,10 @@
 -- What holds between two accesses of a list, and after it.
-use Rattle.std.specs.Prelude.{ℕ, ◌≡◌, ◌+◌, ◌-◌, ◌*◌, ◌^◌, ◌<◌, ◌≤◌, ◌++◌, List, length, take, Bool, true, false, Some}
+use Rattle.std.specs.Prelude.{ℕ, ◌≡◌, ◌+◌, ◌-◌, ◌*◌, ◌%◌, ◌^◌, ◌<◌, ◌≤◌, ◌++◌, List, length, take, Bool, true, false, Some, min}
 use Rattle.std.specs.Prelude.{None, slice_index_or as get_or}
 use Rattle.swd_port.specs.declared.access.Access.{Access}
 use Rattle.swd_port.specs.declared.access.Answer.{Answer}
 use Rattle.swd_port.specs.declared.register.Register.TheVariants.{DrwWrite}
+use Rattle.swd_port.specs.declared.wire.Due.{Due}
 use Rattle.swd_port.specs.PlainMemory.{PlainMemory, address}
 use Rattle.swd_port.specs.Port.{Port}
 use Rattle.swd_port.specs.Choices.{Choice}
@@ -17,9 +18,13 @@ use Rattle.swd_host.specs.declared.engine.Engine.{Engine}
 use Rattle.swd_host.specs.Addresses.{continues}
 use Rattle.swd_host.specs.Plain.{memory_after, answers_of, AreAccesses}
 use Rattle.swd_host.specs.Tasks.{access_of, is_burst, most_of}
-use Rattle.swd_host.specs.Engines.{is_ahead, finished_of, may_start}
+use Rattle.swd_host.specs.Engines.{begun_of, is_ahead, finished_of, may_start}
 use Rattle.swd_host.specs.Tracks.{Hand, Up, Writes, IsReady, hand_of, DueFits}
-use Rattle.swd_host.specs.Reports.{Fits, EndsAt, told_by}
+use Rattle.swd_host.specs.Reports.{Told, Fits, EndsAt, due_at}
+
+-- the report of an engine
+abbrev pub told_by : List Answer → Engine → End → Told
+told_by answers e ended = record { answers = answers; begun = begun_of e; requests = e.requests; ended = ended }
 
 -- the next access's write was answered OK and awaits its data: TAR has its address
 pub record Poised (n at : ℕ) (m : PlainMemory) (s : Port) : Type 0 where
@@ -36,6 +41,7 @@ Waits false n k s = IsReady n k s
 -- the target is up over this memory, no flag is set, and the engine doesn't know TAR
 pub record IsOpen (m : PlainMemory) (e : Engine) (s : Port) : Type 0 where
   pub up : Up m s.target
+  pub odd : s.target.identification % 2 ≡ 1
   pub flag : s.target.write_error ≡ false
   pub tar : e.tar ≡ None
   pub ahead : e.ahead ≡ Unsent
@@ -69,6 +75,17 @@ pub record Reached (i : ℕ) (list : List Access) (m : PlainMemory) (o : Engine)
 abbrev pub ContinuesAt : List Access → ℕ → Access → Type 0
 ContinuesAt list i a = (i < length list) × ((d : Access) → continues a (Some (get_or list i d)) ≡ true)
 
+-- i accesses are answered: what the engine keeps by itself, whatever came back
+pub record Stays (i : ℕ) (list : List Access) (o e : Engine) (answers : List Answer) (t : Port) : Type 0 where
+  pub due : DueFits e t
+  pub rests : may_start (finished_of e) ≡ true
+  pub chain : is_burst e.task ≡ true → ContinuesAt list i (access_of e.task)
+  pub tried : e.tries ≡ o.tries
+  pub bursts : e.bursts ≡ o.bursts
+  pub number : length answers ≡ i
+  pub few : e.begun ≤ most_of o.bursts
+  pub spent : e.requests ≤ o.requests + i * (6 + 5 * o.tries)
+
 -- i accesses are answered, from the engine o and the port s at the end of the opening
 pub record Stands (i : ℕ) (list : List Access) (o : Engine) (s : Port) (e : Engine) (answers : List Answer)
     (t : Port) : Type 0 where
@@ -94,6 +111,18 @@ pub record HasOpened (e : Engine) : Type 0 where
   pub least : 9 ≤ e.requests
   pub most : e.requests ≤ 2 ^ 35
   pub tries : e.tries < 2 ^ 32
+
+-- What an engine that opened its target as o comes to by itself, once it did a list: no access but the one after those
+-- that are answered took requests.
+pub record Performs (list : List Access) (o f : Engine) (before after : List Answer) (end : End) (next : Due)
+    : Type 0 where
+  pub answers : List Answer
+  pub added : after ≡ before ++ answers
+  pub number : length answers ≤ length list
+  pub whole : end ≡ All → length answers ≡ length list
+  pub begun : begun_of f ≤ most_of o.bursts
+  pub due : next ≡ due_at end
+  pub spends : f.requests ≤ o.requests + min (length list) (length answers + 1) * (6 + 5 * o.tries)
 
 -- What doing a list over this memory comes to.
 pub record DoesOver (list : List Access) (m : PlainMemory) (o f : Engine) (answers : List Answer) (end : End)

@@ -103,6 +103,7 @@ pub record HasPower (m : PlainMemory) (s : Target) : Type 0 where
 pub record Up (m : PlainMemory) (s : Target) : Type 0 where
   pub calm : Calm m s
   pub debug : s.debug_power ≡ true
+  pub system : s.system_power ≡ true
   pub increments : s.increments ≡ true
 
 pub record HasCsw (m : PlainMemory) (s : Target) : Type 0 where
@@ -130,6 +131,7 @@ pub record Under (b : ℕ) (k : Hand) (s : Target) : Type 0 where
   pub live : s.reset ≡ Live
   pub select : s.select ≡ no_select
   pub debug : s.debug_power ≡ true
+  pub system : s.system_power ≡ true
   pub increments : s.increments ≡ true
   pub begun : 1 ≤ b
   pub sent : Sent (access_of k.task) k.memory s
@@ -180,6 +182,7 @@ pub record Broken (p : Place) (b : ℕ) (k : Hand) (s : Target) : Type 0 where
   pub live : s.reset ≡ Live
   pub select : s.select ≡ no_select
   pub debug : s.debug_power ≡ true
+  pub system : s.system_power ≡ true
   pub increments : s.increments ≡ true
   pub pending : s.pending ≡ None
   pub memory : s.memory ≡ k.memory
@@ -407,7 +410,8 @@ pub record LostAt (n : ℕ) (base : Counted) (b : ℕ) (k : Hand) (s : Port) : T
 
 abbrev pub StoppedAt : End → ℕ → ℕ → Counted → ℕ → Hand → Port → Type 0
 StoppedAt Lost n tries base b k s = LostAt n base b k s
-StoppedAt TriesOut n tries base b k s = Within b k s.target × (base.disturbed + tries < s.tally.disturbed)
+StoppedAt TriesOut n tries base b k s =
+    Within b k s.target × (base.disturbed + tries < s.tally.disturbed) × (s.target.select ≡ no_select)
 StoppedAt end n tries base b k s = ⊥
 
 -- a target before its first line reset, as it was made

@@ -1,13 +1,14 @@
 -- What one call of the engine leaves, and what calls of engine and wire keep one after the other.
 use Rattle.std.specs.Prelude.{ℕ, ◌≡◌, ◌+◌, ◌-◌, ◌*◌, ◌^◌, ◌<◌, ◌≤◌, ◌&&◌, ◌||◌, Bool, true, false, not, if◌then◌else◌}
-use Rattle.std.specs.Prelude.{Option, Some, None, Result, Ok, Err}
+use Rattle.std.specs.Prelude.{Option, Some, None, Result, Ok, Err, min}
+use Rattle.swd_host.specs.declared.task.Task.{Task}
 use Rattle.swd_bits.specs.Bits.{bit}
 use Rattle.swd_port.specs.declared.access.Access.{Access}
 use Rattle.swd_port.specs.declared.access.Answer.{Answer}
 use Rattle.swd_port.specs.PlainMemory.{PlainMemory, address}
 use Rattle.swd_port.specs.Port.{Port}
 use Rattle.swd_host.specs.declared.outcome.End.{End}
-use Rattle.swd_host.specs.declared.outcome.End.TheVariants.{Lost}
+use Rattle.swd_host.specs.declared.outcome.End.TheVariants.{All, Lost}
 use Rattle.swd_host.specs.declared.outcome.Outcome.{Outcome}
 use Rattle.swd_host.specs.declared.outcome.Outcome.TheVariants.{Opened, Answered, Stopped}
 use Rattle.swd_host.specs.declared.task.Bursts.{Bursts}
@@ -23,7 +24,7 @@ use Rattle.swd_host.specs.declared.engine.State.{State}
 use Rattle.swd_host.specs.declared.engine.State.TheVariants.{Leading, Doing, Resting}
 use Rattle.swd_host.specs.declared.engine.Engine.{Engine}
 use Rattle.swd_host.specs.Addresses.{is_known, continues}
-use Rattle.swd_host.specs.Tasks.{task_for, access_of, is_burst, most_begun}
+use Rattle.swd_host.specs.Tasks.{task_for, access_of, is_burst, is_block, most_begun}
 use Rattle.swd_host.specs.Engines.{is_ahead, is_resting, job_in}
 use Rattle.swd_host.specs.Progress.{left_for, left_in, stray_left, least_for, least_in, open_requests, is_state_of}
 use Rattle.swd_host.specs.Progress.{is_quiet}
@@ -90,6 +91,16 @@ pub record Sees (seen : ℕ) (e f : Engine) : Type 0 where
   pub least : least_in f.aims f.state ≤ least_in e.aims e.state + 1
   pub part : (opening : Bool) → is_state_of opening e.state ≡ true → is_state_of opening f.state ≡ true
 
+-- the accesses that are begun and not answered, once a state came: an answer leaves at most the next one of a block
+abbrev pub begun_left : State → Task → ℕ → ℕ
+begun_left (Resting (Answered answer)) task b = min b (bit (is_block task))
+begun_left state task b = b
+
+-- an engine never stops as one that did all: that is for whoever hands out the accesses to say
+abbrev pub is_all_stop : State → Bool
+is_all_stop (Resting (Stopped All)) = true
+is_all_stop state = false
+
 -- From a state, with so many requests open and sent: the next request is due, or an outcome came. No access is begun
 -- by it.
 pub record Lands (open_then sent_then : ℕ) (x : State) (e f : Engine) : Type 0 where
@@ -98,7 +109,8 @@ pub record Lands (open_then sent_then : ℕ) (x : State) (e f : Engine) : Type 0
   pub tries : f.tries ≡ e.tries
   pub requests : f.requests ≡ e.requests
   pub bursts : f.bursts ≡ e.bursts
-  pub begun : f.begun ≤ e.begun
+  pub begun : f.begun ≡ begun_left f.state e.task e.begun
+  pub never : is_all_stop f.state ≡ false
   pub left : open_requests f ≤ 5 * (e.tries - e.events) + stray_left e.stray + open_then
   pub least : least_in f.aims f.state ≤ sent_then
   pub part : (opening : Bool) → is_state_of opening x ≡ true → is_state_of opening f.state ≡ true
@@ -123,6 +135,21 @@ lands_from e f = Lands (left_in e.state) (least_in e.aims e.state) e.state e f
 -- don't reach their greatest value
 abbrev pub IsCountable : Engine → Type 0
 IsCountable e = e.requests + open_requests e < 2 ^ 64
+
+-- what the engine keeps by itself, whatever came back
+pub record Works (e f : Engine) : Type 0 where
+  pub task : f.task ≡ e.task
+  pub aims : f.aims ≡ e.aims
+  pub tries : f.tries ≡ e.tries
+  pub part : (opening : Bool) → is_state_of opening e.state ≡ true → is_state_of opening f.state ≡ true
+  pub rests : is_resting e ≡ true → f ≡ e
+  pub bursts : f.bursts ≡ e.bursts
+  pub few : e.begun ≤ most_begun e.task → f.begun ≤ most_begun e.task
+  pub unbegun : is_state_of true e.state ≡ true → e.begun ≡ 0 → f.begun ≡ 0
+  pub more : e.requests ≤ f.requests
+  pub spends : f.requests + open_requests f ≤ e.requests + open_requests e
+  pub least : IsCountable e → e.requests + least_in f.aims f.state ≤ f.requests + least_in e.aims e.state
+  pub never : is_all_stop e.state ≡ false → is_all_stop f.state ≡ false
 
 pub record Goes (e : Engine) (s : Port) (f : Engine) (t : Port) : Type 0 where
   -- the engine alone
@@ -154,6 +181,9 @@ pub record Goes (e : Engine) (s : Port) (f : Engine) (t : Port) : Type 0 where
 -- an access from its start
 abbrev pub GoesFrom : Access → Option Access → Engine → Port → Engine → Port → Type 0
 GoesFrom a following e s f t = (g : Engine) × Starts a following e g × Goes g s f t
+
+abbrev pub WorksFrom : Access → Option Access → Engine → Engine → Type 0
+WorksFrom a following e f = (g : Engine) × Starts a following e g × Works g f
 
 -- the access is the one that continues the burst, where its DRW write was answered OK
 pub record GoesOn (e : Engine) (a : Access) : Type 0 where

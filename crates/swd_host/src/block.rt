@@ -3,7 +3,7 @@ ghost use Rattle.std.specs.Prelude.{◌≡◌, ◌≤◌, ◌+◌, ◌*◌, ◌^
 ghost use Rattle.swd_port.specs.declared.wire.Due.TheVariants.{Nothing};
 ghost use Rattle.swd_port.specs.PlainMemory.{reads};
 ghost use Rattle.swd_host.specs.Plain.{AreAccesses};
-ghost use Rattle.swd_host.specs.Reports.{RefusedAs, RunsWithin, told_of};
+ghost use Rattle.swd_host.specs.Reports.{Closes, RefusedAs, RunsWithin, told_of};
 
 use crate::engine::Engine;
 use crate::outcome::{Refused, Report};
@@ -11,7 +11,7 @@ use crate::running::conduct;
 use std::alloc::{AllocError, Allocator};
 use swd_port::{Access, Wire};
 
-/// Reads `count` words at `addr`, `addr + 4` and so on, each once, over a wire that is just made: as
+/// Reads `count` words at `addr`, `addr + 4` and so on, each once, over a target at rest: as
 /// `run` reads them, but each word comes with the request for the next one, so that a word takes one
 /// request in place of two. A report may tell two accesses that were begun. `resume` doesn't go on with
 /// it.
@@ -30,8 +30,10 @@ pub fn run_block<W: Wire, A: Allocator + Copy>(
 ) -> Result<Report<A>, Refused>
     requires due { (W.port wire.old).link.due ≡ Nothing }
     requires range { addr + 4 * count ≤ 2 ^ 32 }
-    ensures fits { IfOk result (λ report.
-        RunsWithin 2 (reads addr count) tries (told_of report) (W.port wire.old) (W.port wire.new)) }
+    ensures closes { IfOk result (λ report.
+        Closes 0 2 (reads addr count) tries (told_of report) (W.port wire.new).link.due) }
+    ensures fits { IfOk result (λ report. W.lawful wire.new → W.lawful wire.old
+        × RunsWithin 2 (reads addr count) tries (told_of report) (W.port wire.old) (W.port wire.new)) }
     ensures accepted { IfOk result (λ report. (count ≤ 65536) × AreAccesses (reads addr count)) }
     ensures refused { IfErr result (RefusedAs (reads addr count)) }
     ensures untouched { IfErr result (λ refused. wire.new ≡ wire.old) }

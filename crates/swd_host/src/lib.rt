@@ -5,7 +5,9 @@
 mod block;
 mod engine;
 mod flags;
+pub mod laws;
 mod outcome;
+mod outside;
 mod phase;
 mod request;
 mod resuming;
@@ -16,5 +18,6 @@ mod task;
 pub use block::run_block;
 pub use engine::{Cue, Engine};
 pub use outcome::{End, Outcome, Refused, Report};
+pub use outside::run_outside;
 pub use resuming::resume;
 pub use running::run;

@@ -1,8 +1,9 @@
 //! Goes on after a lost acknowledgement.
 ghost use Rattle.std.specs.Prelude.{◌≡◌, ◌≤◌, IfOk, IfErr, IfSome, length};
 ghost use Rattle.std.specs.Vec.{vec_capacity};
+ghost use Rattle.swd_host.specs.Plain.{AreAccesses};
 ghost use Rattle.swd_host.specs.Reports.{told_of};
-ghost use Rattle.swd_host.specs.Again.{MayGoOn, ResumeFits};
+ghost use Rattle.swd_host.specs.Again.{Continues, ResumesOver};
 ghost use Rattle.swd_host.specs.Resuming.{since};
 ghost use Rattle.swd_host.specs.declared.outcome.Refused.TheVariants.{Memory};
 
@@ -12,11 +13,11 @@ use crate::running::{open, perform, reported};
 use std::alloc::Allocator;
 use swd_port::{Access, Answer, Wire};
 
-/// Goes on after a run of these accesses over this wire that ended `Lost`, or after a `resume` that did:
-/// from the first access that isn't answered. The report is that of the whole list, but that its
-/// `requests` are those of this call alone.
+/// Goes on after a run of these accesses over this wire that ended early, `Lost` or `TriesOut`, or after
+/// a `resume` that did: from the first access that isn't answered. The report is that of the whole list,
+/// but that its `requests` are those of this call alone.
 ///
-/// The access that was begun when the acknowledgement was lost may be done a second time. Where the
+/// The access that was begun when the run ended may be done a second time by each call. Where the
 /// log has room for that, the words and answers are those of a run without a loss.
 ///
 /// It begins with a line reset of 100 ones, the first 34 of which let a data phase go by that the target
@@ -33,9 +34,12 @@ pub fn resume<W: Wire, A: Allocator>(
     report: &Report<A>,
     tries: u32,
 ) -> Result<Report<A>, Refused>
-    requires { MayGoOn accesses.now (told_of report.now) (W.port wire.old) }
-    ensures fits { IfOk result (λ told.
-        ResumeFits accesses.now tries (told_of report.now) (told_of told) (W.port wire.old) (W.port wire.new)) }
+    requires accepted { (length accesses.now ≤ 65536) × AreAccesses accesses.now }
+    requires reported { length (told_of report.now).answers ≤ length accesses.now }
+    ensures continues { IfOk result (λ told. Continues accesses.now tries (told_of report.now) (told_of told)
+        (W.port wire.new).link.due) }
+    ensures fits { IfOk result (λ told. W.lawful wire.new → W.lawful wire.old
+        × ResumesOver accesses.now tries (told_of report.now) (told_of told) (W.port wire.old) (W.port wire.new)) }
     ensures refused { IfErr result (λ refused. refused ≡ Memory) }
     ensures untouched { IfErr result (λ refused. wire.new ≡ wire.old) }
     ensures plan { W.plan wire.new ≡ W.plan wire.old }

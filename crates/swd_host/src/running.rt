@@ -1,5 +1,5 @@
 //! Runs an engine over a wire.
-ghost use Rattle.std.specs.Prelude.{◌≡◌, ◌<◌, ◌≤◌, ◌%◌, ℕ, Some, None, true, false, IfOk, IfErr, IfNone, IfSome};
+ghost use Rattle.std.specs.Prelude.{◌≡◌, ◌<◌, ◌≤◌, Some, true, false, IfOk, IfErr, IfNone, IfSome};
 ghost use Rattle.std.specs.Prelude.{◌+◌, length, []};
 ghost use Rattle.std.specs.Vec.{vec_capacity};
 ghost use Rattle.swd_port.specs.declared.wire.Due.TheVariants.{Nothing};
@@ -8,10 +8,10 @@ ghost use Rattle.swd_host.specs.Engines.{finished_of, is_ahead, is_resting, may_
 ghost use Rattle.swd_host.specs.Progress.{calls_left};
 ghost use Rattle.swd_host.specs.Tasks.{access_of, most_of};
 ghost use Rattle.swd_host.specs.Tracks.{DueFits};
-ghost use Rattle.swd_host.specs.Turns.{Goes, GoesFrom, GoesOn, IsNew, Starts, answered_as, opened_as};
+ghost use Rattle.swd_host.specs.Turns.{Works, WorksFrom, Goes, GoesFrom, GoesOn, IsNew, Starts, answered_as, opened_as};
 ghost use Rattle.swd_host.specs.Again.{LeavesOff};
-ghost use Rattle.swd_host.specs.Reports.{Follower, RefusedAs, RunsOver, RunsWithin, told_by, told_of};
-ghost use Rattle.swd_host.specs.Standing.{Does, HasOpened};
+ghost use Rattle.swd_host.specs.Reports.{Closes, Follower, RefusedAs, RunsOver, RunsWithin, told_of};
+ghost use Rattle.swd_host.specs.Standing.{Does, HasOpened, Performs, told_by};
 
 use crate::engine::{Cue, Engine};
 use crate::outcome::{End, Outcome, Refused, Report};
@@ -25,7 +25,9 @@ fn turn<W: Wire>(wire: &mut W, engine: &mut Engine)
     requires due { DueFits engine.old (W.port wire.old) }
     requires goes_on { is_resting engine.old ≡ false }
     ensures due { DueFits engine.new (W.port wire.new) }
-    ensures goes { Goes engine.old (W.port wire.old) engine.new (W.port wire.new) }
+    ensures works { Works engine.old engine.new }
+    ensures goes { W.lawful wire.new → W.lawful wire.old
+        × Goes engine.old (W.port wire.old) engine.new (W.port wire.new) }
     ensures falls { calls_left engine.new < calls_left engine.old }
     ensures plan { W.plan wire.new ≡ W.plan wire.old }
 {
@@ -62,7 +64,9 @@ fn turn<W: Wire>(wire: &mut W, engine: &mut Engine)
 fn drive<W: Wire>(wire: &mut W, engine: &mut Engine) -> Outcome
     requires { DueFits engine.old (W.port wire.old) }
     ensures due { DueFits engine.new (W.port wire.new) }
-    ensures goes { Goes engine.old (W.port wire.old) engine.new (W.port wire.new) }
+    ensures works { Works engine.old engine.new }
+    ensures goes { W.lawful wire.new → W.lawful wire.old
+        × Goes engine.old (W.port wire.old) engine.new (W.port wire.new) }
     ensures finished { finished_of engine.new ≡ Some result }
     ensures plan { W.plan wire.new ≡ W.plan wire.old }
 {
@@ -104,7 +108,9 @@ pub(crate) fn open<W: Wire>(wire: &mut W, engine: &mut Engine) -> Result<(), End
     requires due { DueFits engine.old (W.port wire.old) }
     requires new { IsNew engine.old.bursts engine.old.stray engine.old.tries engine.old }
     ensures due { DueFits engine.new (W.port wire.new) }
-    ensures goes { Goes engine.old (W.port wire.old) engine.new (W.port wire.new) }
+    ensures works { Works engine.old engine.new }
+    ensures goes { W.lawful wire.new → W.lawful wire.old
+        × Goes engine.old (W.port wire.old) engine.new (W.port wire.new) }
     ensures finished { engine.new.state ≡ opened_as result }
     ensures plan { W.plan wire.new ≡ W.plan wire.old }
 {
@@ -133,7 +139,9 @@ fn access<W: Wire>(
     requires rests { may_start (finished_of engine.old) ≡ true }
     requires chain { GoesOn engine.old access }
     ensures due { DueFits engine.new (W.port wire.new) }
-    ensures goes { GoesFrom access following engine.old (W.port wire.old) engine.new (W.port wire.new) }
+    ensures works { WorksFrom access following engine.old engine.new }
+    ensures goes { W.lawful wire.new → W.lawful wire.old
+        × GoesFrom access following engine.old (W.port wire.old) engine.new (W.port wire.new) }
     ensures finished { finished_of engine.new ≡ Some (answered_as result) }
     ensures plan { W.plan wire.new ≡ W.plan wire.old }
 {
@@ -157,7 +165,10 @@ pub(crate) fn perform<W: Wire, A: Allocator>(
     requires due { (W.port wire.old).link.due ≡ Nothing }
     requires few { length accesses.now ≤ 65536 }
     requires room { length answers.old.items + length accesses.now ≤ vec_capacity answers.old }
-    ensures does { Does accesses.now engine.old engine.new answers.old.items answers.new.items result
+    ensures performs { Performs accesses.now engine.old engine.new answers.old.items answers.new.items result
+        (W.port wire.new).link.due }
+    ensures does { W.lawful wire.new → W.lawful wire.old
+        × Does accesses.now engine.old engine.new answers.old.items answers.new.items result
         (W.port wire.old) (W.port wire.new) }
     ensures plan { W.plan wire.new ≡ W.plan wire.old }
 {
@@ -172,11 +183,17 @@ pub(crate) fn perform<W: Wire, A: Allocator>(
     End::All
 }
 
-/// Does the accesses in order, each once, over a wire that is just made.
+/// Does the accesses in order, each once, over a target at rest: one that was just made, that a run
+/// before this one left whole, or that another debugger left so, whatever flags, power, CSW and TAR it
+/// has.
 ///
 /// The answers are those of the first accesses of the list. A run that isn't whole ends at a lost
 /// acknowledgement, after which nothing more is sent, or where an access or the opening met more than
-/// `tries` events. A run that is whole ends with eight idle cycles.
+/// `tries` events; `resume` goes on from both. A run that is whole ends with eight idle cycles, and
+/// leaves the target at rest with power on.
+///
+/// Whatever the other end does, the run ends, after at most `10 + 5 * tries` requests and
+/// `6 + 5 * tries` for each access.
 ///
 /// # Errors
 ///
@@ -189,10 +206,12 @@ pub fn run<W: Wire, A: Allocator>(
     tries: u32,
 ) -> Result<Report<A>, Refused>
     requires { (W.port wire.old).link.due ≡ Nothing }
-    ensures fits { IfOk result (λ report.
-        RunsOver accesses.now tries (told_of report) (W.port wire.old) (W.port wire.new)) }
+    ensures closes { IfOk result (λ report.
+        Closes 0 1 accesses.now tries (told_of report) (W.port wire.new).link.due) }
+    ensures fits { IfOk result (λ report. W.lawful wire.new → W.lawful wire.old
+        × RunsOver accesses.now tries (told_of report) (W.port wire.old) (W.port wire.new)) }
     ensures accepted { IfOk result (λ report. (length accesses.now ≤ 65536) × AreAccesses accesses.now) }
-    ensures goes_on { IfOk result (λ report.
+    ensures goes_on { IfOk result (λ report. W.lawful wire.new →
         LeavesOff accesses.now (told_of report) (W.port wire.old) (W.port wire.new)) }
     ensures refused { IfErr result (RefusedAs accesses.now) }
     ensures untouched { IfErr result (λ refused. wire.new ≡ wire.old) }
@@ -219,9 +238,11 @@ pub(crate) fn conduct<W: Wire, A: Allocator>(
     requires accepted { (length accesses.now ≤ 65536) × AreAccesses accesses.now }
     requires none { answers.items ≡ [] }
     requires room { length accesses.now ≤ vec_capacity answers }
-    ensures fits { RunsWithin (most_of engine.bursts) accesses.now engine.tries (told_of result)
+    ensures closes { Closes 0 (most_of engine.bursts) accesses.now engine.tries (told_of result)
+        (W.port wire.new).link.due }
+    ensures fits { W.lawful wire.new → W.lawful wire.old
+        × RunsWithin (most_of engine.bursts) accesses.now engine.tries (told_of result)
         (W.port wire.old) (W.port wire.new) }
-    ensures identification { (W.port wire.new).target.identification ≡ (W.port wire.old).target.identification }
     ensures plan { W.plan wire.new ≡ W.plan wire.old }
 {
     let mut engine = engine;

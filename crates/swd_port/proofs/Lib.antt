@@ -1,4 +1,6 @@
 mod CountSteps
+mod NotedSteps
+mod Telling
 pub mod MapLemmas
 pub mod RegisterLemmas
 pub mod PhaseLemmas

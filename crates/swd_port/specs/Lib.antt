@@ -8,6 +8,7 @@ pub mod Completion
 pub mod Asking
 pub mod Moving
 pub mod Leading
+pub mod Stories
 pub mod Moves
 pub mod Outcomes
 pub mod Transfers

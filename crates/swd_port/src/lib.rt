@@ -3,11 +3,14 @@
 
 mod abort;
 mod access;
+mod call;
 mod count;
 mod csw;
 mod ctrl_stat;
 pub mod laws;
 mod mark;
+mod noted;
+mod outside;
 mod register;
 mod select;
 mod state;
@@ -15,10 +18,13 @@ mod wire;
 
 pub use abort::Abort;
 pub use access::{Access, Answer, Transfer};
+pub use call::Call;
 pub use count::Count;
 pub use csw::Csw;
 pub use ctrl_stat::CtrlStat;
 pub use mark::Mark;
+pub use noted::Noted;
+pub use outside::{Gone, Outside, Story, Transport};
 pub use register::Register;
 pub use select::Select;
 pub use state::{Drw, Line, Reply, Reset};

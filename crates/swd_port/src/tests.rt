@@ -2,7 +2,7 @@ ghost use Rattle.std.specs.Prelude.{◌≡◌, []};
 ghost use Rattle.std.specs.FinMap.{empty};
 ghost use Rattle.swd_port.specs.declared.state.Line.TheVariants.{Idle};
 ghost use Rattle.swd_port.specs.declared.wire.Due.TheVariants.{Nothing};
-ghost use Rattle.swd_port.specs.Port.{made_target};
+ghost use Rattle.swd_port.specs.Port.{made_target, made};
 
 use super::*;
 use bitflags::Flags;
@@ -163,4 +163,52 @@ fn nobody_answers_on_an_open_wire(rt: HostRuntime) {
     assert_eq!(rt; wire.due(), Due::Lost);
     wire.lead(100, false, 2);
     assert_eq!(rt; wire.due(), Due::Nothing);
+}
+
+// A way that answers OK to all, and reads zeros.
+#[derive(Drop)]
+struct Agreeing {
+    failing: bool,
+}
+
+impl Transport for Agreeing {
+    fn lead(&mut self, ones: u32, switch: bool, zeros: u32) -> Result<(), Gone> {
+        let _ = (ones, switch, zeros);
+        Ok(())
+    }
+
+    fn ask(&mut self, request: u8) -> Result<u8, Gone> {
+        let _ = request;
+        if self.failing { Err(Gone) } else { Ok(1) }
+    }
+
+    fn take(&mut self) -> Result<u64, Gone> {
+        Ok(0)
+    }
+
+    fn give(&mut self, bits: u64) -> Result<(), Gone> {
+        let _ = bits;
+        Ok(())
+    }
+
+    fn pass(&mut self) -> Result<(), Gone> {
+        Ok(())
+    }
+}
+
+// Any story.
+struct Untold;
+
+impl Story for Untold {
+    ghost at = { λ _. made 0 (record { words = empty; log = []; room = 0 }) };
+}
+
+#[test]
+fn a_wire_to_the_outside_says_what_came_back(rt: HostRuntime) {
+    let mut wire: Outside<Agreeing, Untold> = Outside::new(Agreeing { failing: false });
+    assert_eq!(rt; identification(&mut &mut wire), Some(0));
+    assert_eq!(rt; wire.due(), Due::Nothing);
+    let mut wire: Outside<Agreeing, Untold> = Outside::new(Agreeing { failing: true });
+    assert_eq!(rt; identification(&mut &mut wire), None);
+    assert_eq!(rt; wire.due(), Due::Lost);
 }

@@ -1,5 +1,6 @@
 //! The wire between a host and a target, with the law that the other end keeps.
 ghost use Rattle.std.specs.Prelude.{◌≡◌, ◌<◌, ◌^◌, List, []};
+ghost use Rattle.swd_port.specs.Answers.{due_after};
 ghost use Rattle.swd_port.specs.declared.wire.Due.TheVariants.{Nothing, Take, Give, Pass};
 ghost use Rattle.swd_port.specs.Port.{Port};
 ghost use Rattle.swd_port.specs.Choices.{Mark};
@@ -54,6 +55,10 @@ pub trait Wire {
     /// them no meaning: each request has a mark of its own, freely chosen.
     ghost plan: { Self → List Mark } = { λ _. [] };
 
+    /// What was seen so far fits a port machine whose state is `port`. Of a simulated end it always
+    /// holds; of hardware nobody can prove it, and what is told of a run is told where it holds.
+    ghost lawful: { Self → Type 0 } = { λ _. Unit {0} };
+
     /// What has to come next.
     fn due(&self) -> Due
         ensures { result ≡ (port self.now).link.due };
@@ -63,7 +68,8 @@ pub trait Wire {
     /// Where something other than `Due::Nothing` was due, the first 34 of the ones are left undriven.
     fn lead(&mut self, ones: u32, switch: bool, zeros: u32)
         requires { MayLead (port self.old).link.due ones switch zeros }
-        ensures step { Leads (port self.old) ones (port self.new) }
+        ensures due { (port self.new).link.due ≡ Nothing }
+        ensures step { lawful self.new → lawful self.old × Leads (port self.old) ones (port self.new) }
         ensures plan { plan self.new ≡ plan self.old };
 
     /// Sends the eight bits of a request, and after a turnaround sees three bits: 1 is OK, 2 WAIT,
@@ -71,7 +77,8 @@ pub trait Wire {
     fn ask(&mut self, request: Request) -> u8
         requires { (port self.old).link.due ≡ Nothing }
         ensures range { result < 8 }
-        ensures step { Asks (port self.old) request result (port self.new) }
+        ensures due { (port self.new).link.due ≡ due_after request.read result }
+        ensures step { lawful self.new → lawful self.old × Asks (port self.old) request result (port self.new) }
         ensures plan { plan self.new ≡ plan self.old };
 
     /// Takes the 33 bits of a read's data phase, 32 of the word and above them the parity, and the
@@ -79,7 +86,8 @@ pub trait Wire {
     fn take(&mut self) -> u64
         requires { (port self.old).link.due ≡ Take }
         ensures range { result < 2 ^ 33 }
-        ensures step { Takes (port self.old) result (port self.new) }
+        ensures due { (port self.new).link.due ≡ Nothing }
+        ensures step { lawful self.new → lawful self.old × Takes (port self.old) result (port self.new) }
         ensures plan { plan self.new ≡ plan self.old };
 
     /// Sends the turnaround and the 33 bits of a write's data phase, 32 of the word and above them
@@ -87,13 +95,15 @@ pub trait Wire {
     fn give(&mut self, bits: u64)
         requires due { (port self.old).link.due ≡ Give }
         requires range { bits < 2 ^ 33 }
-        ensures step { Gives (port self.old) bits (port self.new) }
+        ensures due { (port self.new).link.due ≡ Nothing }
+        ensures step { lawful self.new → lawful self.old × Gives (port self.old) bits (port self.new) }
         ensures plan { plan self.new ≡ plan self.old };
 
     /// The turnaround after WAIT or FAULT.
     fn pass(&mut self)
         requires { (port self.old).link.due ≡ Pass }
-        ensures step { Passes (port self.old) (port self.new) }
+        ensures due { (port self.new).link.due ≡ Nothing }
+        ensures step { lawful self.new → lawful self.old × Passes (port self.old) (port self.new) }
         ensures plan { plan self.new ≡ plan self.old };
 }
 
@@ -101,6 +111,8 @@ impl<W: Wire> Wire for &mut W {
     ghost port = { λ wire. W.Wire.port wire.now };
 
     ghost plan = { λ wire. W.Wire.plan wire.now };
+
+    ghost lawful = { λ wire. W.Wire.lawful wire.now };
 
     fn due(&self) -> Due {
         (**self).due()

@@ -18,6 +18,10 @@ port_by {W} {A} {g} recorder = with_asked recorder.asked.ticks (g.port recorder.
 abbrev pub plan_by : {W A : Type 0} {g : Ghosts W} → Recorder W A g → List Mark
 plan_by {W} {A} {g} recorder = g.plan recorder.wire
 
+-- what was seen so far fits it
+abbrev pub lawful_by : {W A : Type 0} {g : Ghosts W} → Recorder W A g → Type 0
+lawful_by {W} {A} {g} recorder = g.lawful recorder.wire
+
 -- the wire that the calls are handed on to
 abbrev pub wire_under : {W A : Type 0} {g : Ghosts W} → Recorder W A g → W
 wire_under recorder = recorder.wire

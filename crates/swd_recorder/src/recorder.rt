@@ -2,6 +2,7 @@
 ghost use Rattle.std.specs.Prelude.{◌≡◌, ◌<◌, ◌^◌, ◌+◌, ◌↔◌, true, false};
 ghost use Rattle.swd_port.specs.declared.wire.Due.TheVariants.{Nothing, Take, Give, Pass, Lost};
 ghost use Rattle.swd_port.specs.Leading.{MayLead, Leads};
+ghost use Rattle.swd_port.specs.Answers.{due_after};
 ghost use Rattle.swd_port.specs.Asking.{Asks};
 ghost use Rattle.swd_port.specs.Moving.{Takes, Gives, Passes};
 ghost use Rattle.swd_port.specs.Laws.Calls.{with_asked};
@@ -87,11 +88,13 @@ impl<W: Wire, A: Allocator> Recorder<W, A> {
 }
 
 impl<W: Wire, A: Allocator> Wire for Recorder<W, A> {
-    ghost use Rattle.swd_recorder.specs.Recorders.{kept_by, port_by, plan_by};
+    ghost use Rattle.swd_recorder.specs.Recorders.{kept_by, port_by, plan_by, lawful_by};
 
     ghost port = { port_by };
 
     ghost plan = { plan_by };
+
+    ghost lawful = { lawful_by };
 
     fn due(&self) -> Due {
         self.wire.due()
@@ -99,7 +102,8 @@ impl<W: Wire, A: Allocator> Wire for Recorder<W, A> {
 
     fn lead(&mut self, ones: u32, switch: bool, zeros: u32)
         requires { MayLead (port_by self.old).link.due ones switch zeros }
-        ensures step { Leads (port_by self.old) ones (port_by self.new) }
+        ensures due { (port_by self.new).link.due ≡ Nothing }
+        ensures step { lawful_by self.new → lawful_by self.old × Leads (port_by self.old) ones (port_by self.new) }
         ensures plan { plan_by self.new ≡ plan_by self.old }
         ensures records { RecordsLead ones switch zeros (kept_by self.old) (kept_by self.new) }
     {
@@ -110,7 +114,8 @@ impl<W: Wire, A: Allocator> Wire for Recorder<W, A> {
     fn ask(&mut self, request: Request) -> u8
         requires { (port_by self.old).link.due ≡ Nothing }
         ensures range { result < 8 }
-        ensures step { Asks (port_by self.old) request result (port_by self.new) }
+        ensures due { (port_by self.new).link.due ≡ due_after request.read result }
+        ensures step { lawful_by self.new → lawful_by self.old × Asks (port_by self.old) request result (port_by self.new) }
         ensures plan { plan_by self.new ≡ plan_by self.old }
         ensures records { RecordsAsk request result (kept_by self.old) (kept_by self.new) }
     {
@@ -123,7 +128,8 @@ impl<W: Wire, A: Allocator> Wire for Recorder<W, A> {
     fn take(&mut self) -> u64
         requires { (port_by self.old).link.due ≡ Take }
         ensures range { result < 2 ^ 33 }
-        ensures step { Takes (port_by self.old) result (port_by self.new) }
+        ensures due { (port_by self.new).link.due ≡ Nothing }
+        ensures step { lawful_by self.new → lawful_by self.old × Takes (port_by self.old) result (port_by self.new) }
         ensures plan { plan_by self.new ≡ plan_by self.old }
         ensures records { RecordsPhase result (kept_by self.old) (kept_by self.new) }
     {
@@ -135,7 +141,8 @@ impl<W: Wire, A: Allocator> Wire for Recorder<W, A> {
     fn give(&mut self, bits: u64)
         requires due { (port_by self.old).link.due ≡ Give }
         requires range { bits < 2 ^ 33 }
-        ensures step { Gives (port_by self.old) bits (port_by self.new) }
+        ensures due { (port_by self.new).link.due ≡ Nothing }
+        ensures step { lawful_by self.new → lawful_by self.old × Gives (port_by self.old) bits (port_by self.new) }
         ensures plan { plan_by self.new ≡ plan_by self.old }
         ensures records { RecordsPhase bits (kept_by self.old) (kept_by self.new) }
     {
@@ -145,7 +152,8 @@ impl<W: Wire, A: Allocator> Wire for Recorder<W, A> {
 
     fn pass(&mut self)
         requires { (port_by self.old).link.due ≡ Pass }
-        ensures step { Passes (port_by self.old) (port_by self.new) }
+        ensures due { (port_by self.new).link.due ≡ Nothing }
+        ensures step { lawful_by self.new → lawful_by self.old × Passes (port_by self.old) (port_by self.new) }
         ensures plan { plan_by self.new ≡ plan_by self.old }
         ensures records { RecordsRefusal (kept_by self.old) (kept_by self.new) }
     {

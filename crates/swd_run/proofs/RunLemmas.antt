@@ -1,5 +1,5 @@
 -- What a run over a simulated target says in terms of its plan.
-use Rattle.std.proofs.Common.{◌≡◌, ℕ, ◌+◌, ◌≤◌, ◌∙◌, List, length, Option, Some, None, Result, Ok, refl, sym, ap}
+use Rattle.std.proofs.Common.{◌≡◌, ℕ, ◌+◌, ◌%◌, ◌≤◌, ◌∙◌, List, length, Option, Some, None, Result, Ok, refl, sym, ap}
 use Rattle.std.proofs.Common.{subst, arith}
 use Rattle.std.specs.Prelude.{◌↔◌, IfOk, IfSome, is_some, if◌then◌else◌}
 use Rattle.swd_trace.specs.declared.item.Item.{Item}
@@ -14,9 +14,9 @@ use Rattle.swd_host.specs.declared.outcome.End.TheVariants.{All, Lost, TriesOut,
 use Rattle.swd_host.specs.declared.outcome.Report.{Report}
 use Rattle.swd_host.specs.declared.outcome.Refused.{Refused}
 use Rattle.swd_port.specs.declared.access.Access.{Access}
-use Rattle.swd_port.specs.PlainMemory.{reads}
+use Rattle.swd_port.specs.PlainMemory.{PlainMemory, reads}
 use Rattle.swd_script.specs.Laws.{IsBlock}
-use Rattle.swd_host.specs.Reports.{EndsAt, RunFits, RunsOver, RunsWithin, Told, told_of}
+use Rattle.swd_host.specs.Reports.{Closes, EndsAt, Fits, IsAtRest, RunFits, RunsWithin, Told}
 use Rattle.swd_script.specs.Scripts.{Meaning}
 use Rattle.swd_run.specs.Running.{IsExcused, RunsAs, AreRead, Ran, memory_of, most_begun}
 use Rattle.swd_run.specs.Tracing.{AreItems, IsTraceOf, IsRecorded}
@@ -29,56 +29,69 @@ excused TriesOut tries marks s t d l p q e = let grew = e.1 in omega arith
 excused (WrongId word) tries marks s t d l p q e = absurd e
 excused Confused tries marks s t d l p q e = absurd e
 
+-- a target that was just made is at rest
+pub made_rests : (m : PlainMemory) (s : Port) → s ≡ made 731911287 m → IsAtRest s
+made_rests m s is_made = record {
+  due = ap (λ x. x.link.due) is_made;
+  known = record {
+    select = ap (λ x. x.target.select) is_made;
+    odd = ap (λ x. x.target.identification % 2) is_made;
+  };
+  settled = ap (λ x. x.target.pending) is_made;
+}
+
 -- a run from a target that was just made, which met at most the marks of a plan
-pub run_as : (tries : ℕ) (script : Meaning) (marks : List Mark) (told : Told) (s t : Port)
-    → s ≡ made 731911287 (memory_of script) →
-    t.tally.disturbed ≤ disturbed_among marks → t.tally.lost ≤ lost_among marks → RunsWithin (most_begun script) script.accesses tries told s t → RunsAs tries script marks told
-run_as tries script marks told s t is_made p q over =
-    let fits : RunFits (most_begun script) script.accesses tries (memory_of script) told s t = over 731911287 (memory_of script) is_made refl in
+pub run_as : (tries : ℕ) (script : Meaning) (marks : List Mark) (told : Told) (s t : Port) (due : Due)
+    → s ≡ made 731911287 (memory_of script)
+    → t.tally.disturbed ≤ disturbed_among marks → t.tally.lost ≤ lost_among marks
+    → Closes 0 (most_begun script) script.accesses tries told due
+    → RunsWithin (most_begun script) script.accesses tries told s t → RunsAs tries script marks told
+run_as tries script marks told s t due is_made p q closes over =
+    let fits : RunFits (most_begun script) script.accesses tries s.target.memory told s t =
+    over (made_rests (memory_of script) s is_made) in
     let d : s.tally.disturbed ≡ 0 = ap (λ x. x.tally.disturbed) is_made in
     let l : s.tally.lost ≡ 0 = ap (λ x. x.tally.lost) is_made in
     let most = fits.most in
+    let spends = closes.spends in
     record {
       memory = t.target.memory;
-      fits = fits.now;
+      fits = subst (λ m. Fits (most_begun script) script.accesses m told t.target.memory)
+          (ap (λ x. x.target.memory) is_made) fits.now;
       excused = excused told.ended tries marks s t d l p q fits.ends;
       whole = λ none few. fits.stops_only (omega arith) (omega arith);
       least = fits.least;
       most = omega arith;
+      spends = omega arith;
     }
 
--- a run of single accesses, or of a block, is one of the script's
-pub list_over : {A : Type 0} (script : Meaning) (list : List Access) (tries : ℕ) (r : Result (Report A) Refused)
-    (report : Report A) (s t : Port) → script.block ≡ None → list ≡ script.accesses → r ≡ Ok report
-    → IfOk r (λ report. RunsOver list tries (told_of report) s t)
-    → RunsWithin (most_begun script) script.accesses tries (told_of report) s t
-list_over script list tries r report s t single same is h =
-    let one : most_begun script ≡ 1 = ap (λ b. if is_some b then 2 else 1) single in
-    let ran : RunsOver list tries (told_of report) s t =
-    subst (λ x. IfOk x (λ report. RunsOver list tries (told_of report) s t)) is h in
-    subst (λ n. RunsWithin n script.accesses tries (told_of report) s t) (sym one)
-    (subst (λ x. RunsOver x tries (told_of report) s t) same ran)
+-- what a call says of a list, it says of a script whose accesses are the list
+module _ {A : Type 0} (script : Meaning) (P : ℕ → List Access → Report A → Type 0) (r : Result (Report A) Refused)
+    (report : Report A) (is : r ≡ Ok report) where
+  -- single accesses
+  pub list_over : (list : List Access) → script.block ≡ None → list ≡ script.accesses → IfOk r (P 1 list)
+      → P (most_begun script) script.accesses report
+  list_over list single same h =
+      let one : most_begun script ≡ 1 = ap (λ b. if is_some b then 2 else 1) single in
+      let ran : P 1 list report = subst (λ x. IfOk x (P 1 list)) is h in
+      subst (λ n. P n script.accesses report) (sym one) (subst (λ x. P 1 x report) same ran)
 
-pub block_over : {A : Type 0} (script : Meaning) (addr count : ℕ) (tries : ℕ) (r : Result (Report A) Refused)
-    (report : Report A) (s t : Port) → script.block ≡ Some addr
-    → IfSome script.block (λ at. IsBlock at script.accesses) → count ≡ length script.accesses → r ≡ Ok report
-    → IfOk r (λ report. RunsWithin 2 (reads addr count) tries (told_of report) s t)
-    → RunsWithin (most_begun script) script.accesses tries (told_of report) s t
-block_over script addr count tries r report s t block holds many is h =
-    let two : most_begun script ≡ 2 = ap (λ b. if is_some b then 2 else 1) block in
-    let whole : IsBlock addr script.accesses =
-    subst (λ b. IfSome b (λ at. IsBlock at script.accesses)) block holds in
-    let same : reads addr count ≡ script.accesses = ap (reads addr) many ∙ sym whole.same in
-    let ran : RunsWithin 2 (reads addr count) tries (told_of report) s t =
-    subst (λ x. IfOk x (λ report. RunsWithin 2 (reads addr count) tries (told_of report) s t)) is h in
-    subst (λ n. RunsWithin n script.accesses tries (told_of report) s t) (sym two)
-    (subst (λ x. RunsWithin 2 x tries (told_of report) s t) same ran)
+  -- a block
+  pub block_over : (addr count : ℕ) → script.block ≡ Some addr → IfSome script.block (λ at. IsBlock at script.accesses)
+      → count ≡ length script.accesses → IfOk r (P 2 (reads addr count))
+      → P (most_begun script) script.accesses report
+  block_over addr count block holds many h =
+      let two : most_begun script ≡ 2 = ap (λ b. if is_some b then 2 else 1) block in
+      let whole : IsBlock addr script.accesses =
+      subst (λ b. IfSome b (λ at. IsBlock at script.accesses)) block holds in
+      let same : reads addr count ≡ script.accesses = ap (reads addr) many ∙ sym whole.same in
+      let ran : P 2 (reads addr count) report = subst (λ x. IfOk x (P 2 (reads addr count))) is h in
+      subst (λ n. P n script.accesses report) (sym two) (subst (λ x. P 2 x report) same ran)
 
 -- ---- what a recorded run leaves
 
 ends_at : (ended : End) (tries : ℕ) (s t : Port) → EndsAt ended tries s t
     → (pending t.link.due ≡ 0) × ((t.link.due ≡ DueLost) ↔ (ended ≡ Lost))
-ends_at All tries s t e = (ap pending e, (λ d. absurd (apart t.link.due e d), λ f. absurd cc))
+ends_at All tries s t e = (ap pending e.0.due, (λ d. absurd (apart t.link.due e.0.due d), λ f. absurd cc))
   where
     apart : (due : Due) → due ≡ Nothing → due ≡ DueLost → ⊥
     apart due e d = cc
@@ -93,7 +106,8 @@ ends_at Confused tries s t e = absurd e
 pub run_recorded : (tries : ℕ) (script : Meaning) (told : Told) (s t : Port) → s ≡ made 731911287 (memory_of script) →
     RunsWithin (most_begun script) script.accesses tries told s t → IsRecorded told t
 run_recorded tries script told s t is_made over =
-    let fits : RunFits (most_begun script) script.accesses tries (memory_of script) told s t = over 731911287 (memory_of script) is_made refl in
+    let fits : RunFits (most_begun script) script.accesses tries s.target.memory told s t =
+    over (made_rests (memory_of script) s is_made) in
     let (rests, lost) = ends_at told.ended tries s t fits.ends in
     record {
       asked = (let counted = fits.counted in let none : s.tally.asked ≡ 0 = ap (λ x. x.tally.asked) is_made in omega (arith, counted, none));

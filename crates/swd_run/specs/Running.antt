@@ -1,6 +1,6 @@
 -- What an answer to a script and a plan says: the theorem of the host, over texts.
 use Rattle.std.specs.Prelude.{◌≡◌, ℕ, ◌+◌, ◌*◌, ◌<◌, ◌≤◌, List, [], length, Option, Result, Ok, Err, IfSome, IsOk}
-use Rattle.std.specs.Prelude.{is_some, if◌then◌else◌}
+use Rattle.std.specs.Prelude.{is_some, if◌then◌else◌, min}
 use Rattle.std.specs.Io.KnownBytes.{Appends}
 use Rattle.swd_io.specs.Blocks.{Stopped}
 use Rattle.swd_io.specs.Pieces.{IsText}
@@ -12,7 +12,7 @@ use Rattle.swd_port.specs.PlainMemory.{PlainMemory}
 use Rattle.swd_target.specs.MemoryWords.{zero_memory}
 use Rattle.swd_host.specs.declared.outcome.End.{End}
 use Rattle.swd_host.specs.declared.outcome.End.TheVariants.{All, Lost, TriesOut, WrongId, Confused}
-use Rattle.swd_host.specs.Reports.{Told, Fits}
+use Rattle.swd_host.specs.Reports.{Told, Fits, most_requests}
 use Rattle.swd_script.specs.Scripts.{Meaning, script_of}
 use Rattle.swd_script.specs.Plans.{plan_of}
 use Rattle.swd_script.specs.Readers.{IsScriptFault, IsPlanFault}
@@ -46,6 +46,8 @@ pub record RunsAs (tries : ℕ) (script : Meaning) (marks : List Mark) (told : T
   pub whole : lost_among marks ≡ 0 → disturbed_among marks ≤ tries → told.ended ≡ All
   pub least : told.ended ≡ All → 9 + length script.accesses ≤ told.requests
   pub most : told.requests ≤ 9 + 6 * length script.accesses + 5 * disturbed_among marks
+  -- no more than so many tries allow, whatever the plan: no access took requests but those that are answered and the next
+  pub spends : told.requests ≤ most_requests tries (min (length script.accesses) (length told.answers + 1))
 
 -- the readers' texts are a script and a plan with these meanings
 pub record AreRead (script plan : Option (List ℕ)) (meaning : Meaning) (marks : List Mark) : Type 0 where

@@ -2,7 +2,7 @@
 ghost use Rattle.std.specs.Prelude.{◌≡◌, IfSome};
 ghost use Rattle.swd_port.specs.declared.wire.Due.TheVariants.{Nothing};
 ghost use Rattle.swd_port.specs.Port.{made};
-ghost use Rattle.swd_host.specs.Reports.{told_of, RunsWithin};
+ghost use Rattle.swd_host.specs.Reports.{told_of, Closes, RunsWithin};
 ghost use Rattle.swd_script.specs.Readers.{meaning};
 ghost use Rattle.swd_script.specs.Laws.{IsRunnable};
 ghost use Rattle.swd_target.specs.Marks.{IsPlan};
@@ -64,7 +64,9 @@ pub(crate) fn run_over<W: Wire, A: Allocator + Copy>(
 ) -> Option<Report<A>>
     requires script { IsRunnable (meaning script.now) }
     requires due { (W.port wire.old).link.due ≡ Nothing }
-    ensures fits { IfSome result (λ report. RunsWithin (most_begun (meaning script.now))
+    ensures closes { IfSome result (λ report. Closes 0 (most_begun (meaning script.now))
+        (meaning script.now).accesses tries (told_of report) (W.port wire.new).link.due) }
+    ensures fits { IfSome result (λ report. W.lawful wire.new → RunsWithin (most_begun (meaning script.now))
         (meaning script.now).accesses tries (told_of report) (W.port wire.old) (W.port wire.new)) }
     ensures plan { W.plan wire.new ≡ W.plan wire.old }
 {

@@ -13,32 +13,32 @@ use swd_target::{Bench, Mark, Quirks};
 use swd_trace::Item;
 
 // The requests, as bytes.
-const DPIDR: u8 = 0xa5;
+pub const DPIDR: u8 = 0xa5;
 
-const ABORT: u8 = 0x81;
+pub const ABORT: u8 = 0x81;
 
-const CTRL_STAT: u8 = 0x8d;
+pub const CTRL_STAT: u8 = 0x8d;
 
-const CTRL_STAT_WRITE: u8 = 0xa9;
+pub const CTRL_STAT_WRITE: u8 = 0xa9;
 
-const SELECT: u8 = 0xb1;
+pub const SELECT: u8 = 0xb1;
 
-const RESEND: u8 = 0x95;
+pub const RESEND: u8 = 0x95;
 
-const RDBUFF: u8 = 0xbd;
+pub const RDBUFF: u8 = 0xbd;
 
-const CSW: u8 = 0x87;
+pub const CSW: u8 = 0x87;
 
-const CSW_WRITE: u8 = 0xa3;
+pub const CSW_WRITE: u8 = 0xa3;
 
-const TAR: u8 = 0x8b;
+pub const TAR: u8 = 0x8b;
 
-const DRW: u8 = 0x9f;
+pub const DRW: u8 = 0x9f;
 
-const DRW_WRITE: u8 = 0xbb;
+pub const DRW_WRITE: u8 = 0xbb;
 
 // Eight zeros, after a run that is whole.
-const IDLE: Item = Item::Idle(8);
+pub const IDLE: Item = Item::Idle(8);
 
 // The lead and the opening, where CSW's read returns this unknown word.
 fn opening(filler: u32) -> [Item; 13] {

@@ -1,7 +1,6 @@
 //! Going on after a lost acknowledgement.
-ghost use Rattle.std.specs.Prelude.{◌≡◌, IfOk, IfSome};
-ghost use Rattle.swd_host.specs.declared.outcome.End.TheVariants.{Lost};
-ghost use Rattle.swd_host.specs.Again.{MayGoOn};
+ghost use Rattle.std.specs.Prelude.{◌≤◌, IfOk, IfSome, length};
+ghost use Rattle.swd_host.specs.Plain.{AreAccesses};
 ghost use Rattle.swd_host.specs.Reports.{told_of};
 
 use super::row::{
@@ -29,8 +28,9 @@ fn begun<S: Simulated + Drop>(
     run: &Run,
     late: bool,
 ) -> Result<Option<Stage<S>>, Fail>
-    ensures { IfOk result (λ found. IfSome found (λ stage. stage.report.ended ≡ Lost →
-        MayGoOn run.now.accesses.now (told_of stage.report) (S.Wire.port stage.target))) }
+    ensures { IfOk result (λ found. IfSome found (λ stage. (length run.now.accesses.now ≤ 65536)
+        × AreAccesses run.now.accesses.now
+        × (length (told_of stage.report).answers ≤ length run.now.accesses.now))) }
 {
     let quirks = Quirks { late, ..QUIRKS };
     let Some(mut target) = target_of::<S>(alloc, run, quirks)? else {
@@ -47,10 +47,9 @@ fn gone_on<S: Simulated + Drop>(
     stage: Stage<S>,
     tries: u32,
 ) -> Result<Stage<S>, Fail>
-    requires { stage.report.ended ≡ Lost →
-        MayGoOn accesses.now (told_of stage.report) (S.Wire.port stage.target) }
-    ensures { IfOk result (λ stage. stage.report.ended ≡ Lost →
-        MayGoOn accesses.now (told_of stage.report) (S.Wire.port stage.target)) }
+    requires accepted { (length accesses.now ≤ 65536) × AreAccesses accesses.now }
+    requires reported { length (told_of stage.report).answers ≤ length accesses.now }
+    ensures { IfOk result (λ stage. length (told_of stage.report).answers ≤ length accesses.now) }
 {
     let Stage { mut target, report } = stage;
     match report.ended {

@@ -1,7 +1,8 @@
-use Rattle.std.proofs.Common.{◌≤◌, ◌∙◌, length, subst, sym}
+use Rattle.std.proofs.Common.{◌≤◌, ◌∙◌, false, length, subst, sym}
 use Rattle.swd_host.specs.Plain.{AreAccesses}
-use Rattle.swd_host.specs.Reports.{RunsWithin, told_of}
+use Rattle.swd_host.specs.Reports.{Closes, RunsWithin, told_of}
 use Rattle.swd_host.proofs.Blocked.{may_read}
+use Rattle.swd_host.proofs.Alone.{closes_as}
 use Rattle.swd_host.proofs.Runs.{runs_as}
 use Rattle.swd_host.proofs.block.run_block.Goals as goal
 
@@ -17,7 +18,16 @@ conduct-requires-clause-accepted g c =
     (may_read c.args.addr c.args.count c.in_default.ensures.none)
 
 pub returns-clause-fits : goal.returns-clause-fits
-returns-clause-fits g c =
-    subst (λ list. RunsWithin 2 list c.args.tries (told_of c.conduct.result) (g.W.Wire.port c.args.wire.now)
-    (g.W.Wire.port c.conduct.new.wire)) (c.deref.ensures.value ∙ c.in-Ok.ensures)
-    (runs_as _ c.args.tries _ c.blocks-2.result _ _ _ c.blocks-2.ensures.new c.conduct.ensures.fits)
+returns-clause-fits g c = λ lawful.
+    let was = c.conduct.ensures.fits lawful in (
+      was.0,
+      subst (λ list. RunsWithin 2 list c.args.tries (told_of c.conduct.result) (g.W.Wire.port c.args.wire.now)
+          (g.W.Wire.port c.conduct.new.wire)) (c.deref.ensures.value ∙ c.in-Ok.ensures)
+          (runs_as _ c.args.tries _ c.blocks-2.result _ _ _ c.blocks-2.ensures.new was.1),
+    )
+
+pub returns-clause-closes : goal.returns-clause-closes
+returns-clause-closes g c =
+    subst (λ list. Closes 0 2 list c.args.tries (told_of c.conduct.result) (g.W.Wire.port c.conduct.new.wire).link.due)
+    (c.deref.ensures.value ∙ c.in-Ok.ensures)
+    (closes_as _ false 0 c.args.tries _ c.blocks-2.result _ _ c.blocks-2.ensures.new c.conduct.ensures.closes)

@@ -1,33 +1,74 @@
-use Rattle.std.proofs.Common.{ap, ◌∙◌, subst, sym, length}
+use Rattle.std.proofs.Common.{ap, ◌∙◌, ◌++◌, [], subst, sym, length, true}
+use Rattle.std.specs.Prelude.{drop}
+use Rattle.std.proofs.lemmas.List.{append-nil}
+use Rattle.swd_host.specs.declared.task.Bursts.TheVariants.{Writes}
 use Rattle.swd_host.specs.Reports.{told_of}
 use Rattle.swd_host.specs.Resuming.{since}
-use Rattle.swd_host.specs.Standing.{Does}
-use Rattle.swd_host.proofs.Resumed.{resume_stops, resume_performs, resumed_as, rest_is}
+use Rattle.swd_host.specs.Standing.{Does, Performs, told_by}
+use Rattle.swd_host.proofs.Alone.{opening_closes, list_closes}
+use Rattle.swd_host.proofs.Resumed.{resume_stops, resume_performs, resumed_as, rest_is, continues}
 use Rattle.swd_host.proofs.resuming.resume.Goals as goal
 
-pub returns-in-Err-clause-fits : goal.returns-in-Err-clause-fits
-returns-in-Err-clause-fits g c =
+pub returns-in-Err-clause-continues : goal.returns-in-Err-clause-continues
+returns-in-Err-clause-continues g c =
     let earlier = told_of c.args.report.now in
-    resumed_as c.args.accesses.now c.args.tries earlier _ _ _ _
-    (c.since.ensures ∙ ap (λ x. since x earlier) c.reported.ensures)
-    (resume_stops c.args.accesses.now c.args.tries earlier c.again-engine.result c.open.new.engine
-    c.in-Some.answers.items (g.W.Wire.port c.args.wire.now) (g.W.Wire.port c.open.new.wire) c.ranges.tries.fits
-    c.again-engine.ensures.again c.requires c.open.ensures.goes c.open.ensures.due
-    (c.in-Some.ensures.kept ∙ c.deref.ensures.value) c.in-Err.end c.in-Err.ensures.finished)
+    continues c.args.accesses.now c.args.tries (told_by c.in-Some.answers.items c.open.new.engine c.in-Err.end) earlier
+    _ [] _ c.requires.reported (c.since.ensures ∙ ap (λ x. since x earlier) c.reported.ensures)
+    (c.in-Some.ensures.kept ∙ c.deref.ensures.value ∙ sym (append-nil earlier.answers))
+    (opening_closes Writes true c.args.tries c.again-engine.result c.open.new.engine c.ranges.tries.fits
+    c.again-engine.ensures.again c.open.ensures.works _ c.in-Err.end _ c.in-Err.ensures.finished c.open.ensures.due)
 
-pub returns-clause-fits : goal.returns-clause-fits
-returns-clause-fits g c =
+pub returns-clause-continues : goal.returns-clause-continues
+returns-clause-continues g c =
     let earlier = told_of c.args.report.now in
-    resumed_as c.args.accesses.now c.args.tries earlier _ _ _ _
-    (c.since-2.ensures ∙ ap (λ x. since x earlier) c.reported-2.ensures)
-    (resume_performs c.args.accesses.now c.args.tries earlier c.again-engine.result c.open.new.engine
-    c.in-Some.answers.items (g.W.Wire.port c.args.wire.now) (g.W.Wire.port c.open.new.wire) c.ranges.tries.fits
-    c.again-engine.ensures.again c.requires c.open.ensures.goes c.open.ensures.due
-    (c.in-Some.ensures.kept ∙ c.deref.ensures.value) c.perform-ended.result c.perform-ended.new.engine
-    c.perform-ended.new.answers.items (g.W.Wire.port c.perform-ended.new.wire) c.in_default-open.ensures.finished
-    (subst (λ rest. Does rest c.open.new.engine c.perform-ended.new.engine c.in-Some.answers.items
-    c.perform-ended.new.answers.items c.perform-ended.result (g.W.Wire.port c.open.new.wire)
-    (g.W.Wire.port c.perform-ended.new.wire))
+    let rest = drop (length earlier.answers) c.args.accesses.now in
+    let p : Performs rest c.open.new.engine c.perform-ended.new.engine c.in-Some.answers.items
+    c.perform-ended.new.answers.items c.perform-ended.result (g.W.Wire.port c.perform-ended.new.wire).link.due =
+    subst (λ rest. Performs rest c.open.new.engine c.perform-ended.new.engine c.in-Some.answers.items
+    c.perform-ended.new.answers.items c.perform-ended.result (g.W.Wire.port c.perform-ended.new.wire).link.due)
     (rest_is c.len.result (length earlier.answers) c.args.accesses.now
     (c.len.ensures ∙ sym c.deref.ensures.len ∙ ap length c.deref.ensures.value) c.requires.reported)
-    c.perform-ended.ensures.does))
+    c.perform-ended.ensures.performs in
+    continues c.args.accesses.now c.args.tries
+    (told_by c.perform-ended.new.answers.items c.perform-ended.new.engine c.perform-ended.result) earlier
+    _ p.answers _ c.requires.reported (c.since-2.ensures ∙ ap (λ x. since x earlier) c.reported-2.ensures)
+    (p.added ∙ ap (λ l. l ++ p.answers) (c.in-Some.ensures.kept ∙ c.deref.ensures.value))
+    (list_closes Writes true c.args.tries c.again-engine.result c.open.new.engine c.ranges.tries.fits
+    c.again-engine.ensures.again c.open.ensures.works rest c.perform-ended.new.engine c.perform-ended.result _
+    c.in-Some.answers.items c.perform-ended.new.answers.items p)
+
+pub returns-in-Err-clause-fits : goal.returns-in-Err-clause-fits
+returns-in-Err-clause-fits g c = λ lawful.
+    let earlier = told_of c.args.report.now in
+    let opened = c.open.ensures.goes lawful in (
+      opened.0,
+      λ known.
+          resumed_as c.args.accesses.now c.args.tries earlier _ _ _ _
+          (c.since.ensures ∙ ap (λ x. since x earlier) c.reported.ensures)
+          (resume_stops c.args.accesses.now c.args.tries earlier c.again-engine.result c.open.new.engine
+          c.in-Some.answers.items (g.W.Wire.port c.args.wire.now) (g.W.Wire.port c.open.new.wire) c.ranges.tries.fits
+          c.again-engine.ensures.again c.requires.accepted.1 c.requires.reported known opened.1 c.open.ensures.due
+          (c.in-Some.ensures.kept ∙ c.deref.ensures.value) c.in-Err.end c.in-Err.ensures.finished),
+    )
+
+pub returns-clause-fits : goal.returns-clause-fits
+returns-clause-fits g c = λ lawful.
+    let earlier = told_of c.args.report.now in
+    let does = c.perform-ended.ensures.does lawful in
+    let opened = c.open.ensures.goes does.0 in (
+      opened.0,
+      λ known.
+          resumed_as c.args.accesses.now c.args.tries earlier _ _ _ _
+          (c.since-2.ensures ∙ ap (λ x. since x earlier) c.reported-2.ensures)
+          (resume_performs c.args.accesses.now c.args.tries earlier c.again-engine.result c.open.new.engine
+          c.in-Some.answers.items (g.W.Wire.port c.args.wire.now) (g.W.Wire.port c.open.new.wire) c.ranges.tries.fits
+          c.again-engine.ensures.again c.requires.accepted.1 c.requires.reported known opened.1 c.open.ensures.due
+          (c.in-Some.ensures.kept ∙ c.deref.ensures.value) c.perform-ended.result c.perform-ended.new.engine
+          c.perform-ended.new.answers.items (g.W.Wire.port c.perform-ended.new.wire) c.in_default-open.ensures.finished
+          (subst (λ rest. Does rest c.open.new.engine c.perform-ended.new.engine c.in-Some.answers.items
+          c.perform-ended.new.answers.items c.perform-ended.result (g.W.Wire.port c.open.new.wire)
+          (g.W.Wire.port c.perform-ended.new.wire))
+          (rest_is c.len.result (length earlier.answers) c.args.accesses.now
+          (c.len.ensures ∙ sym c.deref.ensures.len ∙ ap length c.deref.ensures.value) c.requires.reported)
+          does.1)),
+    )

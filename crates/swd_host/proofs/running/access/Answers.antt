@@ -11,6 +11,16 @@ drive-requires g c =
 pub unreachable-requires : goal.unreachable-requires
 unreachable-requires g c =
     not_opened c.drive.new.engine.state c.drive.new.engine.task
-    (c.drive.ensures.goes.part false (start_access c.args.access c.args.following c.args.engine.now c.start.new.self
+    (c.drive.ensures.works.part false (start_access c.args.access c.args.following c.args.engine.now c.start.new.self
     c.start.ensures.starts))
     c.in-Opened.ensures.finished
+
+pub returns-in-Answered-clause-goes : goal.returns-in-Answered-clause-goes
+returns-in-Answered-clause-goes g c = λ lawful.
+    let was = c.drive.ensures.goes lawful in
+    (was.0, (c.start.new.self, c.start.ensures.starts, was.1))
+
+pub returns-in-Stopped-clause-goes : goal.returns-in-Stopped-clause-goes
+returns-in-Stopped-clause-goes g c = λ lawful.
+    let was = c.drive.ensures.goes lawful in
+    (was.0, (c.start.new.self, c.start.ensures.starts, was.1))

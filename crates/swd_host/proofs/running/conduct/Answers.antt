@@ -1,22 +1,48 @@
-use Rattle.std.proofs.Common.{rules}
+use Rattle.std.proofs.Common.{rules, ap, false, ◌∙◌, ◌++◌}
+use Rattle.swd_host.specs.Standing.{told_by}
+use Rattle.swd_host.proofs.Alone.{opening_closes, list_closes, closes_told}
 use Rattle.swd_host.proofs.Runs.{opening_stops, list_fits, told_as}
 use Rattle.swd_host.proofs.running.conduct.Goals as goal
 
 pub returns-in-Err-clause-fits : goal.returns-in-Err-clause-fits
-returns-in-Err-clause-fits g c = λ identification m is odd.
-    told_as _ _ _ m _ _ _ _ c.reported.ensures
-    (opening_stops c.args.engine.bursts c.args.accesses.now c.args.engine.tries c.args.engine c.open.new.engine
-    c.args.answers.items
-    (g.W.Wire.port c.args.wire.now) (g.W.Wire.port c.open.new.wire) (search rules) c.requires.new
-    c.open.ensures.goes c.open.ensures.due c.requires.none identification m c.in-Err.end is odd
-    c.in-Err.ensures.finished)
+returns-in-Err-clause-fits g c = λ lawful.
+    let opened = c.open.ensures.goes lawful in (
+      opened.0,
+      λ rest.
+          told_as _ _ _ _ _ _ _ _ c.reported.ensures
+          (opening_stops c.args.engine.bursts c.args.accesses.now c.args.engine.tries c.args.engine c.open.new.engine
+          c.args.answers.items
+          (g.W.Wire.port c.args.wire.now) (g.W.Wire.port c.open.new.wire) (search rules) c.requires.new
+          opened.1 c.open.ensures.due c.requires.none rest c.in-Err.end c.in-Err.ensures.finished),
+    )
 
 pub returns-clause-fits : goal.returns-clause-fits
-returns-clause-fits g c = λ identification m is odd.
-    told_as _ _ _ m _ _ _ _ c.reported-2.ensures
-    (list_fits c.args.engine.bursts c.args.accesses.now c.args.engine.tries c.args.engine c.open.new.engine
-    c.args.answers.items
-    (g.W.Wire.port c.args.wire.now) (g.W.Wire.port c.open.new.wire) (search rules) c.requires.new
-    c.open.ensures.goes c.open.ensures.due c.requires.none c.perform-ended.new.engine
-    c.perform-ended.new.answers.items c.perform-ended.result (g.W.Wire.port c.perform-ended.new.wire)
-    c.in_default.ensures.finished c.perform-ended.ensures.does identification m is odd c.requires.accepted.1)
+returns-clause-fits g c = λ lawful.
+    let does = c.perform-ended.ensures.does lawful in
+    let opened = c.open.ensures.goes does.0 in (
+      opened.0,
+      λ rest.
+          told_as _ _ _ _ _ _ _ _ c.reported-2.ensures
+          (list_fits c.args.engine.bursts c.args.accesses.now c.args.engine.tries c.args.engine c.open.new.engine
+          c.args.answers.items
+          (g.W.Wire.port c.args.wire.now) (g.W.Wire.port c.open.new.wire) (search rules) c.requires.new
+          opened.1 c.open.ensures.due c.requires.none rest c.perform-ended.new.engine
+          c.perform-ended.new.answers.items c.perform-ended.result (g.W.Wire.port c.perform-ended.new.wire)
+          c.in_default.ensures.finished does.1 c.requires.accepted.1),
+    )
+
+pub returns-in-Err-clause-closes : goal.returns-in-Err-clause-closes
+returns-in-Err-clause-closes g c =
+    closes_told 0 _ _ _ _ _ _ (c.reported.ensures ∙ ap (λ l. told_by l c.open.new.engine c.in-Err.end) c.requires.none)
+    (opening_closes c.args.engine.bursts false c.args.engine.tries c.args.engine c.open.new.engine (search rules)
+    c.requires.new c.open.ensures.works c.args.accesses.now c.in-Err.end _ c.in-Err.ensures.finished c.open.ensures.due)
+
+pub returns-clause-closes : goal.returns-clause-closes
+returns-clause-closes g c =
+    let p = c.perform-ended.ensures.performs in
+    closes_told 0 _ _ _ _ _ _ (c.reported-2.ensures
+    ∙ ap (λ l. told_by l c.perform-ended.new.engine c.perform-ended.result)
+    (p.added ∙ ap (λ l. l ++ p.answers) c.requires.none))
+    (list_closes c.args.engine.bursts false c.args.engine.tries c.args.engine c.open.new.engine (search rules)
+    c.requires.new c.open.ensures.works c.args.accesses.now c.perform-ended.new.engine c.perform-ended.result _
+    c.args.answers.items c.perform-ended.new.answers.items p)

@@ -1,13 +1,15 @@
 use Rattle.std.proofs.Common.{◌≡◌}
 use Rattle.swd_host.specs.Progress.{calls_left}
 use Rattle.swd_host.specs.Tracks.{DueFits}
-use Rattle.swd_host.specs.Turns.{Goes}
+use Rattle.swd_host.specs.Turns.{Works, Goes}
 use Rattle.swd_host.proofs.running.drive.Given as goal
 
 abbrev pub invariant-loop-outcome : goal.invariant-loop-outcome
 invariant-loop-outcome g l = record {
   due : DueFits l.engine (g.W.Wire.port l.wire);
-  goes : Goes l.fn.engine (g.W.Wire.port l.fn.wire) l.engine (g.W.Wire.port l.wire);
+  works : Works l.fn.engine l.engine;
+  goes : g.W.Wire.lawful l.wire → g.W.Wire.lawful l.fn.wire
+      × Goes l.fn.engine (g.W.Wire.port l.fn.wire) l.engine (g.W.Wire.port l.wire);
   plan : g.W.Wire.plan l.wire ≡ g.W.Wire.plan l.fn.wire;
 }
 

@@ -10,5 +10,5 @@ returns-in-Stopped-clause-finished g c =
 pub returns-in_default-clause-finished : goal.returns-in_default-clause-finished
 returns-in_default-clause-finished g c =
     opened_state c.drive.new.engine.state c.drive.new.engine.task c.drive.result
-    (c.drive.ensures.goes.part true (ap (is_state_of true) c.requires.new.leads)) c.drive.ensures.finished
+    (c.drive.ensures.works.part true (ap (is_state_of true) c.requires.new.leads)) c.drive.ensures.finished
     (λ end is. c.in_default.not-Stopped end is)

@@ -1,7 +1,7 @@
 use Rattle.std.proofs.Common.{◌≡◌, ◌+◌, ◌≤◌, ◌++◌, List, length}
 use Rattle.std.specs.Vec.{vec_capacity}
 use Rattle.swd_port.specs.declared.access.Answer.{Answer}
-use Rattle.swd_host.specs.Standing.{Stands}
+use Rattle.swd_host.specs.Standing.{Stands, Stays}
 use Rattle.swd_host.proofs.running.perform.Given as goal
 
 -- these answers were added
@@ -12,7 +12,9 @@ pub record Added (before after : List Answer) : Type 0 where
 abbrev pub invariant-loop-index : goal.invariant-loop-index
 invariant-loop-index g l = record {
   added : Added l.fn.answers.items l.answers.items;
-  stands : Stands l.index l.accesses l.fn.engine (g.W.Wire.port l.fn.wire) l.engine added.part (g.W.Wire.port l.wire);
+  stays : Stays l.index l.accesses l.fn.engine l.engine added.part (g.W.Wire.port l.wire);
+  stands : g.W.Wire.lawful l.wire → g.W.Wire.lawful l.fn.wire
+      × Stands l.index l.accesses l.fn.engine (g.W.Wire.port l.fn.wire) l.engine added.part (g.W.Wire.port l.wire);
   capacity : length l.fn.answers.items + length l.accesses ≤ vec_capacity l.answers;
   plan : g.W.Wire.plan l.wire ≡ g.W.Wire.plan l.fn.wire;
 }

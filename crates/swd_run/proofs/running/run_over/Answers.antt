@@ -1,25 +1,50 @@
-use Rattle.std.proofs.Common.{ap, length, sym, subst, ◌∙◌}
-use Rattle.swd_host.specs.Reports.{RunsWithin, told_of}
+use Rattle.std.proofs.Common.{◌≡◌, List, ℕ, ap, length, sym, subst, ◌∙◌}
+use Rattle.swd_port.specs.declared.access.Access.{Access}
+use Rattle.swd_port.specs.Port.{Port}
+use Rattle.swd_host.specs.declared.outcome.Report.{Report}
+use Rattle.swd_host.specs.Reports.{Closes, RunsWithin, told_of}
 use Rattle.swd_script.specs.Readers.{meaning}
 use Rattle.swd_run.specs.Running.{most_begun}
 use Rattle.swd_run.proofs.RunLemmas.{block_over, list_over}
 use Rattle.swd_run.proofs.running.run_over.Goals as goal
 use Rattle.swd_run.proofs.running.run_over.Goals.{in-Some, in-None}
 
+pub returns-in-Ok-clause-closes : goal.returns-in-Ok-clause-closes
+returns-in-Ok-clause-closes g c =
+    let script = meaning c.args.script.now in
+    elim c.match-script.branch [
+      | in-Some w ↦ subst (λ x. Closes 0 (most_begun script) script.accesses c.args.tries (told_of c.in-Ok.report)
+          (g.W.Wire.port x).link.due) (sym w.wire-is)
+          (block_over script (λ n list report. Closes 0 n list c.args.tries (told_of report)
+          (g.W.Wire.port w.run_block-outcome.new.wire).link.due) w.run_block-outcome.result c.in-Ok.report
+          (sym w.outcome-is ∙ c.in-Ok.is) w.in-Some.addr _ w.in-Some.is c.requires.script.block
+          (ap length c.as_slice-accesses.ensures.value) w.run_block-outcome.ensures.closes)
+      | in-None w ↦ subst (λ x. Closes 0 (most_begun script) script.accesses c.args.tries (told_of c.in-Ok.report)
+          (g.W.Wire.port x).link.due) (sym w.wire-is)
+          (list_over script (λ n list report. Closes 0 n list c.args.tries (told_of report)
+          (g.W.Wire.port w.run-outcome.new.wire).link.due) w.run-outcome.result c.in-Ok.report
+          (sym w.outcome-is ∙ c.in-Ok.is) _ w.in-None.is c.as_slice-accesses.ensures.value
+          w.run-outcome.ensures.closes)
+    ]
+
 pub returns-in-Ok-clause-fits : goal.returns-in-Ok-clause-fits
-returns-in-Ok-clause-fits g c =
+returns-in-Ok-clause-fits g c = λ lawful.
     let script = meaning c.args.script.now in
     let start = g.W.Wire.port c.args.wire.now in
     elim c.match-script.branch [
       | in-Some w ↦ subst (λ x. RunsWithin (most_begun script) script.accesses c.args.tries (told_of c.in-Ok.report)
           start (g.W.Wire.port x)) (sym w.wire-is)
-          (block_over script w.in-Some.addr _ c.args.tries w.run_block-outcome.result c.in-Ok.report start
-          (g.W.Wire.port w.run_block-outcome.new.wire) w.in-Some.is c.requires.script.block
-          (ap length c.as_slice-accesses.ensures.value)
-          (sym w.outcome-is ∙ c.in-Ok.is) w.run_block-outcome.ensures.fits)
+          (block_over script (λ n list report. g.W.Wire.lawful w.run_block-outcome.new.wire
+          → g.W.Wire.lawful c.args.wire.now × RunsWithin n list c.args.tries (told_of report) start
+          (g.W.Wire.port w.run_block-outcome.new.wire)) w.run_block-outcome.result c.in-Ok.report
+          (sym w.outcome-is ∙ c.in-Ok.is) w.in-Some.addr _ w.in-Some.is c.requires.script.block
+          (ap length c.as_slice-accesses.ensures.value) w.run_block-outcome.ensures.fits
+          (subst (λ x. g.W.Wire.lawful x) w.wire-is lawful)).1
       | in-None w ↦ subst (λ x. RunsWithin (most_begun script) script.accesses c.args.tries (told_of c.in-Ok.report)
           start (g.W.Wire.port x)) (sym w.wire-is)
-          (list_over script _ c.args.tries w.run-outcome.result c.in-Ok.report start
-          (g.W.Wire.port w.run-outcome.new.wire) w.in-None.is c.as_slice-accesses.ensures.value
-          (sym w.outcome-is ∙ c.in-Ok.is) w.run-outcome.ensures.fits)
+          (list_over script (λ n list report. g.W.Wire.lawful w.run-outcome.new.wire
+          → g.W.Wire.lawful c.args.wire.now × RunsWithin n list c.args.tries (told_of report) start
+          (g.W.Wire.port w.run-outcome.new.wire)) w.run-outcome.result c.in-Ok.report
+          (sym w.outcome-is ∙ c.in-Ok.is) _ w.in-None.is c.as_slice-accesses.ensures.value
+          w.run-outcome.ensures.fits (subst (λ x. g.W.Wire.lawful x) w.wire-is lawful)).1
     ]

@@ -15,4 +15,4 @@ returns g c =
     let disturbed = subst (λ (x : List Mark). (port_of bench).tally.disturbed ≤ disturbed_among x) plan (c.marks_used.ensures.disturbed_most bench) in
     let lost = subst (λ (x : List Mark). (port_of bench).tally.lost ≤ lost_among x) plan (c.marks_used.ensures.lost_most bench) in
     run_as c.args.tries (meaning c.args.script.now) marks (told_of c.in_ok-report.report) (port_of c.in_ok-bench.bench) (port_of bench)
-    c.in_ok-bench.ensures.port disturbed lost c.in_ok-report.ensures.fits
+    _ c.in_ok-bench.ensures.port disturbed lost c.in_ok-report.ensures.closes (c.in_ok-report.ensures.fits tt)

@@ -22,10 +22,10 @@ returns-clause-runs g c =
     let disturbed = subst (λ (x : List Mark). (port_of bench).tally.disturbed ≤ disturbed_among x) plan (c.marks_used.ensures.disturbed_most bench) in
     let lost = subst (λ (x : List Mark). (port_of bench).tally.lost ≤ lost_among x) plan (c.marks_used.ensures.lost_most bench) in
     run_as c.args.tries script marks (told_of c.in_ok-report.report) (port_by c.new-recorder.result) (port_by recorder)
-    start disturbed lost c.in_ok-report.ensures.fits
+    _ start disturbed lost c.in_ok-report.ensures.closes (c.in_ok-report.ensures.fits tt)
 
 pub returns-clause-recorded : goal.returns-clause-recorded
 returns-clause-recorded g c =
     let script = meaning c.args.script.now in
     let start : port_by c.new-recorder.result ≡ made 731911287 (memory_of script) = c.new-recorder.ensures.port ∙ ap (with_asked 0) c.in_ok-bench.ensures.port in
-    run_recorded c.args.tries script (told_of c.in_ok-report.report) (port_by c.new-recorder.result) (port_by c.run_over.new.wire) start c.in_ok-report.ensures.fits
+    run_recorded c.args.tries script (told_of c.in_ok-report.report) (port_by c.new-recorder.result) (port_by c.run_over.new.wire) start (c.in_ok-report.ensures.fits tt)

@@ -2,7 +2,8 @@ use Rattle.std.proofs.Common.{◌≡◌, ◌+◌, ◌∙◌, Some, ap, sym, subs
 use Rattle.swd_host.specs.declared.request.Job.TheVariants.{At}
 use Rattle.swd_host.specs.Requests.{is_unread}
 use Rattle.swd_host.specs.Tracks.{TakenFor, hand_of}
-use Rattle.swd_host.proofs.StepLemmas.{took_taken}
+use Rattle.swd_host.specs.Early.{EarlyTold, Shows}
+use Rattle.swd_host.proofs.StepLemmas.{told_check, took_taken}
 use Rattle.swd_host.proofs.engine.Engine.told.Goals as goal
 
 pub returns-in-At-2-clause-tracks : goal.returns-in-At-2-clause-tracks
@@ -14,3 +15,10 @@ returns-in-At-2-clause-tracks c base m t task h =
     (took_taken c.in-At-2.place c.args.word _ _ (hand_of e m) t
     (ap (λ p. is_unread p e.task) same ∙ (sym c.is_unread.ensures ∙ c.if-is_unread.false))
     (subst (λ j. TakenFor j (Some c.args.word) (base.disturbed + e.events) e.begun (hand_of e m) t) c.in-At-2.is h))
+
+pub returns-in-Check-clause-early : goal.returns-in-Check-clause-early
+returns-in-Check-clause-early c base start t h =
+    let e = c.args.self.now in
+    let told = told_check c.in-Check.place c.in-Check.owed c.args.word _ _ start t
+    (subst (λ j. EarlyTold j c.args.word (base.disturbed + e.events) e.stray start t) c.in-Check.is h) in
+    c.check.ensures.early base start t (subst (λ x. Shows x t.target) (sym c.flags_of-in-Check.ensures) told.0) told.1

@@ -3,11 +3,11 @@ use Rattle.swd_port.proofs.OpenWires.{open_reset, open_idle}
 use Rattle.swd_port.proofs.tests.OpenWireWire.lead.Goals as goal
 
 pub returns-then-ones-ne0-clause-step : goal.returns-then-ones-ne0-clause-step
-returns-then-ones-ne0-clause-step c =
+returns-then-ones-ne0-clause-step c = λ lawful.
     let old = c.args.self.now in
-    open_reset c.args.ones old.due old.reset old.asked.ticks (grind arith)
+    (tt, open_reset c.args.ones old.due old.reset old.asked.ticks (grind arith))
 
 pub returns-else-ones-ne0-clause-step : goal.returns-else-ones-ne0-clause-step
-returns-else-ones-ne0-clause-step c =
+returns-else-ones-ne0-clause-step c = λ lawful.
     let old = c.args.self.now in
-    open_idle c.args.ones old.due old.reset old.asked.ticks (grind arith)
+    (tt, open_idle c.args.ones old.due old.reset old.asked.ticks (grind arith))

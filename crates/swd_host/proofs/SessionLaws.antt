@@ -1,0 +1,71 @@
+-- Calls one after the other over one target.
+use Rattle.std.proofs.Common.{◌≡◌, ◌+◌, ◌%◌, ℕ, refl, sym, ap, subst, arith, ◌∙◌, List, ◌++◌, length, take}
+use Rattle.std.proofs.Common.{zero, suc}
+use Rattle.std.proofs.lemmas.List.{take_all}
+use Rattle.swd_port.specs.declared.access.Access.{Access}
+use Rattle.swd_port.specs.declared.access.Answer.{Answer}
+use Rattle.swd_port.specs.PlainMemory.{PlainMemory}
+use Rattle.swd_port.specs.Port.{Port, made}
+use Rattle.swd_host.specs.declared.outcome.End.TheVariants.{All}
+use Rattle.swd_host.specs.Plain.{memory_after, answers_of}
+use Rattle.swd_host.specs.Reports.{Told, FitsAt, EndsAt, IsAtRest, RunFits}
+use Rattle.swd_host.specs.Sessions.{Session, none, then, IsAsOne, Resumed, first, again, RepeatsFew}
+use Rattle.swd_host.proofs.Lists.{memory_append, answers_append}
+use Rattle.swd_host.proofs.GoingOn.{grows_few}
+
+pub made_rests : (identification : ℕ) (m : PlainMemory) → identification % 2 ≡ 1 → IsAtRest (made identification m)
+made_rests identification m odd =
+    record { due = refl; known = record { select = refl; odd = odd }; settled = refl }
+
+-- A CALL THAT ENDED WHOLE
+module _ (limit tries : ℕ) (list : List Access) (told : Told) (s t : Port)
+    (runs : RunFits limit list tries s.target.memory told s t) (all : told.ended ≡ All) where
+  whole_fit : FitsAt limit runs.now.0 list s.target.memory told t.target.memory
+  whole_fit = runs.now.1
+
+  whole_list : take runs.now.0 list ≡ list
+  whole_list = ap (λ n. take n list) (whole_fit.all all) ∙ take_all (length list) list (omega arith)
+
+  pub whole_answers : told.answers ≡ answers_of list s.target.memory
+  whole_answers = whole_fit.answers ∙ ap (λ xs. answers_of xs s.target.memory) whole_list
+
+  pub whole_rests : IsAtRest t
+  whole_rests =
+      let ends : EndsAt All tries s t = subst (λ end. EndsAt end tries s t) all runs.ends in ends.0
+
+  -- no access is begun beside
+  unbegun : (b : ℕ) → told.begun ≡ b → b ≡ 0
+  unbegun zero is = refl
+  unbegun (suc b) is = absurd ((whole_fit.begun (λ none. absurd (let e = sym is ∙ none in omega arith))).1 all)
+
+  pub whole_memory : t.target.memory ≡ memory_after list s.target.memory
+  whole_memory =
+      let (j, few, left) = whole_fit.memory in
+      let none = unbegun told.begun refl in
+      let count : runs.now.0 + j ≡ runs.now.0 = omega arith in
+      left ∙ (ap (λ n. memory_after (take n list) s.target.memory) count
+      ∙ ap (λ xs. memory_after xs s.target.memory) whole_list)
+
+pub as_one : (s : Port) (list : List Access) (answers : List Answer) (t : Port) → IsAtRest s
+    → Session s list answers t → IsAsOne s list answers t
+as_one s list answers t rest none = record { rests = rest; answers_are = refl; memory = refl }
+as_one s list answers t rest (then {done = done} {answers = old} {t = u} {u = v} before limit tries more told runs all) =
+    let b : IsAsOne s done old u = as_one s done old u rest before in
+    let r : RunFits limit more tries u.target.memory told u t = runs b.rests in
+    let m : PlainMemory = s.target.memory in
+    record {
+      rests = whole_rests limit tries more told u v r all;
+      answers_are = ap (λ l. l ++ told.answers) b.answers_are
+          ∙ (ap (λ l. answers_of done m ++ l) (whole_answers limit tries more told u v r all
+          ∙ ap (answers_of more) b.memory) ∙ sym (answers_append done more m));
+      memory = whole_memory limit tries more told u v r all
+          ∙ (ap (memory_after more) b.memory ∙ sym (memory_append done more m));
+    }
+
+pub repeats_few : (list : List Access) (m : PlainMemory) (c : ℕ) (js : List ℕ) (told : Told) (t : Port)
+    → Resumed list m c js told t → RepeatsFew list m c js told t
+repeats_few list m c js told t (first told_of) = record { few = omega arith; told_of = told_of }
+repeats_few list m c js told t (again {c = n} {js = ks} {earlier = earlier} {told = later} {s = s} {t = u} before g) =
+    let b : RepeatsFew list m n ks earlier s = repeats_few list m n ks earlier s before in
+    let few = grows_few ks earlier g.more g.grows in
+    record { few = omega (arith, b.few); told_of = g.later }

@@ -1,0 +1,6 @@
+use Rattle.std.proofs.Common.{refl}
+use Rattle.swd_host.proofs.SessionLaws.{made_rests}
+use Rattle.swd_host.proofs.laws.made_is_at_rest.Goals as goal
+
+pub returns : goal.returns
+returns c = record { rests = made_rests; memory = λ identification m. refl }

@@ -1,0 +1,40 @@
+-- Calls one after the other over one target.
+use Rattle.std.specs.Prelude.{ℕ, ◌≡◌, ◌+◌, ◌%◌, ◌≤◌, List, [], ◌++◌, length}
+use Rattle.swd_port.specs.declared.access.Access.{Access}
+use Rattle.swd_port.specs.declared.access.Answer.{Answer}
+use Rattle.swd_port.specs.PlainMemory.{PlainMemory}
+use Rattle.swd_port.specs.Port.{Port, made}
+use Rattle.swd_host.specs.declared.outcome.End.TheVariants.{All}
+use Rattle.swd_host.specs.Plain.{memory_after, answers_of}
+use Rattle.swd_host.specs.Reports.{Told, IsAtRest, RunsWithin}
+use Rattle.swd_host.specs.Again.{AgainThen, GoesAgain}
+
+-- a target that was just made is at rest, with its memory, where its identification is one of this protocol
+pub record MadeIsAtRest : Type 0 where
+  pub rests : (identification : ℕ) (m : PlainMemory) → identification % 2 ≡ 1 → IsAtRest (made identification m)
+  pub memory : (identification : ℕ) (m : PlainMemory) → (made identification m).target.memory ≡ m
+
+-- Calls from the port s to the port t, runs and blocks, each of which ended whole: the accesses of all, and all answers.
+pub data Session (s : Port) : List Access → List Answer → Port → Type 0 where
+  none : Session s [] [] s
+  then : {done : List Access} {answers : List Answer} {t u : Port} → Session s done answers t
+      → (limit tries : ℕ) (list : List Access) (told : Told) → RunsWithin limit list tries told t u → told.ended ≡ All
+      → Session s (done ++ list) (answers ++ told.answers) u
+
+-- they are as one call with all accesses over the plain memory, and the target is at rest again
+pub record IsAsOne (s : Port) (list : List Access) (answers : List Answer) (t : Port) : Type 0 where
+  pub rests : IsAtRest t
+  pub answers_are : answers ≡ answers_of list s.target.memory
+  pub memory : t.target.memory ≡ memory_after list s.target.memory
+
+-- A list that c calls of `resume` went on with, one after the other, since a report that was told of this memory.
+pub data Resumed (list : List Access) (m : PlainMemory) : ℕ → List ℕ → Told → Port → Type 0 where
+  first : {told : Told} {t : Port} → AgainThen [] list m told t → Resumed list m 0 [] told t
+  again : {c : ℕ} {js : List ℕ} {earlier told : Told} {s t : Port} → Resumed list m c js earlier s
+      → (g : GoesAgain js list m earlier told t) → Resumed list m (c + 1) g.more told t
+
+-- each of them repeated one access at most
+pub record RepeatsFew (list : List Access) (m : PlainMemory) (c : ℕ) (js : List ℕ) (told : Told) (t : Port)
+    : Type 0 where
+  pub few : length js ≤ c
+  pub told_of : AgainThen js list m told t

@@ -1,0 +1,6 @@
+use Rattle.swd_port.specs.declared.call.Call.TheVariants.{Passed}
+use Rattle.swd_port.proofs.Telling.{told}
+use Rattle.swd_port.proofs.outside.OutsideWire.pass.Goals as goal
+
+pub returns-clause-step : goal.returns-clause-step
+returns-clause-step g c = told g.S.Story.at _ _ Passed c.and-self.ensures

@@ -1,0 +1,34 @@
+//! The calls so far, for contracts alone.
+ghost use Rattle.std.specs.Prelude.{◌≡◌, List, [], ◌∷◌};
+ghost use Rattle.swd_port.specs.declared.call.Call.{Call as Noticed};
+ghost use base.Fml.{ftrue};
+
+use crate::call::Call;
+use std::marker::Model;
+
+/// The calls of a wire so far, the last one first, as `calls`: a program never reads them. It takes
+/// no bytes.
+#[derive(Drop)]
+pub struct Noted {
+    pub ghost calls: { List Noticed },
+}
+
+impl Model for Noted {
+    ghost also_owns = { λ _. ftrue };
+}
+
+impl Noted {
+    /// No call yet.
+    pub fn new() -> Noted
+        ensures { result.calls ≡ [] }
+    {
+        Noted {}
+    }
+
+    /// One call more.
+    pub fn and(&self, _call: &Call) -> Noted
+        ensures { result.calls ≡ _call.now ∷ self.now.calls }
+    {
+        Noted {}
+    }
+}
