@@ -5,9 +5,10 @@ use Rattle.swd_bits.specs.declared.ack.Ack.{Ack}
 use Rattle.swd_bits.specs.declared.ack.Ack.TheVariants.{Ok as AckOk, Wait as AckWait, Fault as AckFault}
 use Rattle.swd_bits.specs.Bits.{number}
 use Rattle.swd_bits.specs.Wire.{ack}
+use Rattle.swd_port.specs.declared.wire.Due.TheVariants.{Lost}
 use Rattle.swd_port.specs.Port.{Register, Reset}
 use Rattle.swd_port.specs.Choices.{Mark, Clean, Wait, Flip, Deaf, Mute, IsMark, is_wait, is_deaf}
-use Rattle.swd_port.specs.Answers.{Reply, Okay, Waits, Faults, Silent, answer, may_wait, MayAnswer, reply_under, driven, seen_at, is_answered, is_exempt}
+use Rattle.swd_port.specs.Answers.{Reply, Okay, Waits, Faults, Silent, answer, may_wait, MayAnswer, reply_under, driven, seen_at, Sees, IsNoAcknowledgement, due_after, is_answered, is_exempt}
 
 answer_by : (a b c : Bool) → (if not a then Silent else if b then Okay else if c then Faults else Okay) ≢ Waits
 answer_by true true c = λ e. cc
@@ -87,3 +88,50 @@ seen_driven mark Faults a h e = e
 seen_driven mark Silent a h e = e
 
 pub ruleset answer_laws = (never_waits, allowed, waits, waits_only, seen_lt, seen_driven)
+
+muted_none : (place : ℕ) (reply : Reply) → place < 3 → IsNoAcknowledgement (seen_at (Mute place) reply)
+muted_none place Silent h = record { not_okay = refl; not_wait = refl; not_fault = refl }
+muted_none zero Okay h = record { not_okay = refl; not_wait = refl; not_fault = refl }
+muted_none zero Waits h = record { not_okay = refl; not_wait = refl; not_fault = refl }
+muted_none zero Faults h = record { not_okay = refl; not_wait = refl; not_fault = refl }
+muted_none (suc zero) Okay h = record { not_okay = refl; not_wait = refl; not_fault = refl }
+muted_none (suc zero) Waits h = record { not_okay = refl; not_wait = refl; not_fault = refl }
+muted_none (suc zero) Faults h = record { not_okay = refl; not_wait = refl; not_fault = refl }
+muted_none (suc (suc zero)) Okay h = record { not_okay = refl; not_wait = refl; not_fault = refl }
+muted_none (suc (suc zero)) Waits h = record { not_okay = refl; not_wait = refl; not_fault = refl }
+muted_none (suc (suc zero)) Faults h = record { not_okay = refl; not_wait = refl; not_fault = refl }
+muted_none (suc (suc (suc n))) reply h = absurd (omega arith)
+
+-- nothing but a line reset is due then
+pub lost_due : (read : Bool) (seen : ℕ) → (seen == 1) ≡ false → (seen == 2) ≡ false → (seen == 4) ≡ false → due_after read seen ≡ Lost
+lost_due read seen e f g = rw (e, f, g) refl
+
+pub none_due : (read : Bool) (seen : ℕ) → IsNoAcknowledgement seen → due_after read seen ≡ Lost
+none_due read seen none = lost_due read seen none.not_okay none.not_wait none.not_fault
+
+pub muted_due : (place : ℕ) (reply : Reply) (read : Bool) → place < 3 → due_after read (seen_at (Mute place) reply) ≡ Lost
+muted_due place reply read h = none_due read (seen_at (Mute place) reply) (muted_none place reply h)
+
+pub deaf_silent : (mark : Mark) (r : Register) (a : Reply) → is_deaf mark ≡ true → reply_under mark r a ≡ Silent
+deaf_silent mark r a deaf = rw deaf refl
+
+-- what a simulated target shows is one of the numbers that the host may see
+pub sees_seen_at : (mark : Mark) (reply : Reply) → IsMark mark → (is_deaf mark ≡ true → reply ≡ Silent)
+    → Sees mark reply (seen_at mark reply)
+sees_seen_at Clean Okay legal deaf = refl
+sees_seen_at Clean Waits legal deaf = refl
+sees_seen_at Clean Faults legal deaf = refl
+sees_seen_at Clean Silent legal deaf = refl
+sees_seen_at Wait Okay legal deaf = refl
+sees_seen_at Wait Waits legal deaf = refl
+sees_seen_at Wait Faults legal deaf = refl
+sees_seen_at Wait Silent legal deaf = refl
+sees_seen_at (Flip place) Okay legal deaf = refl
+sees_seen_at (Flip place) Waits legal deaf = refl
+sees_seen_at (Flip place) Faults legal deaf = refl
+sees_seen_at (Flip place) Silent legal deaf = refl
+sees_seen_at (Mute place) reply legal deaf = muted_none place reply legal
+sees_seen_at Deaf Silent legal deaf = record { not_okay = refl; not_wait = refl; not_fault = refl }
+sees_seen_at Deaf Okay legal deaf = absurd (let never = deaf refl in cc)
+sees_seen_at Deaf Waits legal deaf = absurd (let never = deaf refl in cc)
+sees_seen_at Deaf Faults legal deaf = absurd (let never = deaf refl in cc)

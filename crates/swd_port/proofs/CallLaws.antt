@@ -1,27 +1,24 @@
 -- Laws of every call, whatever the state: what is due after it, and the numbers.
-use Rattle.std.proofs.Common.{◌≡◌, ◌≢◌, ◌+◌, ◌≤◌, ℕ, Bool, false, refl, sym, ap, inl, inr, arith, ◌∙◌}
+use Rattle.std.proofs.Common.{◌≡◌, ◌≢◌, ◌+◌, ◌≤◌, ℕ, false, refl, sym, ap, inl, inr, arith, ◌∙◌}
 use Rattle.std.specs.Prelude.{◌==◌}
 use Rattle.swd_bits.specs.declared.ack.Ack.{Ack}
 use Rattle.swd_bits.specs.declared.ack.Ack.TheVariants.{Ok as AckOk, Wait as AckWait, Fault as AckFault}
 use Rattle.swd_bits.specs.Bits.{low_bits, number}
 use Rattle.swd_bits.specs.Wire.{ack}
 use Rattle.swd_bits.proofs.BitsLemmas.{number-low_bits}
-use Rattle.swd_port.specs.declared.wire.Due.TheVariants.{Nothing, Lost}
+use Rattle.swd_port.specs.declared.wire.Due.TheVariants.{Nothing}
 use Rattle.swd_port.specs.Port.{Port}
-use Rattle.swd_port.specs.Choices.{Mark, Clean, Wait, Flip, Deaf, Mute, disturbs, loses}
-use Rattle.swd_port.specs.Answers.{due_after}
+use Rattle.swd_port.specs.Choices.{Mark, Clean, Wait, Flip, Deaf, Mute, Choice, disturbs, loses}
+use Rattle.swd_bits.specs.declared.request.Request.{Request}
+use Rattle.swd_port.specs.Answers.{Reply, driven, seen_at, due_after}
 use Rattle.swd_port.specs.Completion.{Completes}
 use Rattle.swd_port.specs.Moves.{Kept}
 use Rattle.swd_port.specs.Outcomes.{Steady}
-use Rattle.swd_port.specs.Asking.{tally_after}
+use Rattle.swd_port.specs.Asking.{AsksNow, reply_in, tally_after}
 use Rattle.swd_port.specs.Laws.Calls.{DueAfterRequest, AcknowledgementSeen, NoAcknowledgementSeen, NothingDue, RequestCounted, OthersUncounted, IdentificationKept, with_asked, CountedApart}
 use Rattle.swd_port.proofs.CompletionLaws.{kept}
+use Rattle.swd_port.proofs.AnswerLaws.{lost_due, none_due, muted_due}
 use Rattle.swd_port.proofs.RequestLaws.{steady}
-
-pub due_after_request : DueAfterRequest
-due_after_request q seen s t (a, b, mark, c, first, now, last) =
-    let k : Kept b t = kept b t last in
-    ap (λ l. l.due) k.link ∙ ap (λ p. p.link.due) now.after ∙ ap (due_after q.read) (sym now.sees)
 
 -- acknowledgements by their numbers
 ack_bits : (a : Ack) → low_bits 3 (number (ack a)) ≡ ack a
@@ -36,8 +33,15 @@ acknowledgement_seen seen a range = (λ e. sym (ap number e ∙ number-low_bits 
 differs : (seen n : ℕ) → seen ≢ n → (seen == n) ≡ false
 differs seen n other = grind arith
 
-lost_due : (read : Bool) (seen : ℕ) → (seen == 1) ≡ false → (seen == 2) ≡ false → (seen == 4) ≡ false → due_after read seen ≡ Lost
-lost_due read seen e f g = rw (e, f, g) refl
+-- a request that isn't lost shows what is driven
+plain_seen : (mark : Mark) (reply : Reply) → loses mark ≡ 0 → seen_at mark reply ≡ driven reply
+plain_seen mark reply h = grind arith
+
+plain_due : (mark : Mark) (c : Choice) (q : Request) (seen : ℕ) (s t : Port) → AsksNow mark c s q seen t
+    → seen_at mark (reply_in mark s.target q) ≡ driven (reply_in mark s.target q)
+    → seen ≡ driven (reply_in mark s.target q) → t.link.due ≡ due_after q.read seen
+plain_due mark c q seen s t now same sees =
+    ap (λ p. p.link.due) now.after ∙ ap (due_after q.read) (same ∙ sym sees)
 
 pub no_acknowledgement_seen : NoAcknowledgementSeen
 no_acknowledgement_seen seen read range none =
@@ -45,6 +49,20 @@ no_acknowledgement_seen seen read range none =
     let not_wait : (seen == 2) ≡ false = differs seen 2 (λ e. none AckWait ((acknowledgement_seen seen AckWait range).1 e)) in
     let not_fault : (seen == 4) ≡ false = differs seen 4 (λ e. none AckFault ((acknowledgement_seen seen AckFault range).1 e)) in
     (record { not_okay = not_okay; not_wait = not_wait; not_fault = not_fault }, lost_due read seen not_okay not_wait not_fault)
+
+due_now : (mark : Mark) (c : Choice) (q : Request) (seen : ℕ) (s t : Port) → AsksNow mark c s q seen t
+    → t.link.due ≡ due_after q.read seen
+due_now Clean c q seen s t now = plain_due Clean c q seen s t now (plain_seen Clean _ refl) now.sees
+due_now Wait c q seen s t now = plain_due Wait c q seen s t now (plain_seen Wait _ refl) now.sees
+due_now (Flip place) c q seen s t now = plain_due (Flip place) c q seen s t now (plain_seen (Flip place) _ refl) now.sees
+due_now Deaf c q seen s t now = ap (λ p. p.link.due) now.after ∙ sym (none_due q.read seen now.sees)
+due_now (Mute place) c q seen s t now = ap (λ p. p.link.due) now.after
+    ∙ (muted_due place (reply_in (Mute place) s.target q) q.read now.legal ∙ sym (none_due q.read seen now.sees))
+
+pub due_after_request : DueAfterRequest
+due_after_request q seen s t (a, b, mark, c, first, now, last) =
+    let k : Kept b t = kept b t last in
+    ap (λ l. l.due) k.link ∙ due_now mark c q seen a b now
 
 -- nothing is due after a step that leaves it so
 due_stays : (b t : Port) → b.link.due ≡ Nothing → Completes b t → t.link.due ≡ Nothing

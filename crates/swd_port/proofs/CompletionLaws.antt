@@ -5,7 +5,7 @@ use Rattle.swd_port.specs.declared.access.Access.{Access}
 use Rattle.swd_port.specs.declared.access.Access.TheVariants.{Read, Write}
 use Rattle.swd_port.specs.PlainMemory.{PlainMemory, plain_after, succeeds_at, address, done}
 use Rattle.swd_port.specs.Port.{Port, Target, Drw, TarWrite, DrwRead, DrwWrite}
-use Rattle.swd_port.specs.Choices.{Choice, IsChoice}
+use Rattle.swd_port.specs.Choices.{Choice}
 use Rattle.swd_port.specs.Completion.{Completes, completed, completion_of, memory_after, access_at, next_address, MayBecome}
 use Rattle.swd_port.specs.Laws.Completion.{MayBecomeOfNone}
 use Rattle.swd_port.specs.Moves.{Kept, Gave}

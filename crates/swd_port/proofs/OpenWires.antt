@@ -28,7 +28,7 @@ open_asked q due reset n = (
   Deaf,
   choice,
   inl refl,
-  record { legal = tt; choice = choice_fits; settled = tt; word = tt; sees = refl; after = refl },
+  record { legal = tt; choice = choice_fits; settled = tt; word = tt; sees = record { not_okay = refl; not_wait = refl; not_fault = refl }; after = refl },
   inl refl,
 )
 

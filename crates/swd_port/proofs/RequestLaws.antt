@@ -1,19 +1,20 @@
 -- Laws of requests: what each answer leaves, whatever the mark.
-use Rattle.std.proofs.Common.{◌≡◌, ◌≢◌, ◌+◌, ◌<◌, ◌≤◌, ◌^◌, ℕ, zero, suc, Bool, true, false, refl, sym, ap, subst, inl, inr, arith, ◌∙◌}
-use Rattle.std.specs.Prelude.{Option, Some, None, ◌⊎◌, ◌==◌, ◌||◌, if◌then◌else◌}
+use Rattle.std.proofs.Common.{◌≡◌, ◌≢◌, ◌+◌, ◌<◌, ◌≤◌, ◌^◌, ℕ, Bool, true, false, refl, sym, ap, subst, inl, inr, arith, ◌∙◌}
+use Rattle.std.specs.Prelude.{Option, Some, None, ◌⊎◌, ◌||◌, if◌then◌else◌}
 use Rattle.swd_bits.specs.declared.request.Request.{Request}
 use Rattle.swd_port.specs.declared.wire.Due.TheVariants.{Lost}
 use Rattle.swd_port.specs.PlainMemory.{PlainMemory}
 use Rattle.swd_port.specs.declared.access.Access.{Access}
 use Rattle.swd_port.specs.Port.{Port, Target, Register, DpidrRead, DrwRead, Drw, Reset, Unreset, Live, register}
 use Rattle.swd_port.specs.Choices.{Mark, Clean, Wait, Flip, Deaf, Mute, IsMark, Choice, IsChoice, is_wait, is_deaf, flip_of, disturbs}
-use Rattle.swd_port.specs.Answers.{Reply, Okay, Waits, Faults, Silent, is_exempt, is_unpowered, seen_at, due_after}
+use Rattle.swd_port.specs.Answers.{Reply, Okay, Waits, Faults, Silent, is_exempt, is_unpowered, seen_at, Sees, IsNoAcknowledgement, due_after}
 use Rattle.swd_port.specs.Asking.{AsksNow, after_reply, reply_in, IsSettled, IsWordRead, value_in, pending_once_read, after_okay, target_after}
 use Rattle.swd_port.specs.Outcomes.{Steady, Unmoved, Stays, Defers, Refuses, Accepts, Heard, SeesOkay, SeesFault, SeesNone, OkayOrLost, OkayWaitOrLost, FaultOrLost, okay, wait, lost, fault}
 use Rattle.swd_port.specs.Completion.{Completes}
 use Rattle.swd_port.specs.Moves.{Around, Kept}
 use Rattle.swd_port.specs.Transfers.{Sent}
 use Rattle.swd_port.specs.Laws.Requests.{FreeOrFault, LeftByLost, ExemptRequest, ExemptRequestAtRest, IdentificationRead, IdentificationReadAtRest, FlaggedRequest, FlaggedRequestAtRest, UnpoweredRequestAtRest, FreeRequest, FreeRequestAtRest, FreeRequestExact, LostRequest, RefusedWithPower, UnmovedByExempt, UnmovedByFree, UnmovedByRefused, Confirms, confirms_okay, confirms_wait, confirms_fault, confirms_lost, ConfirmingRequest}
+use Rattle.swd_port.proofs.AnswerLaws.{muted_due}
 use Rattle.swd_port.proofs.CompletionLaws.{kept, none_done, sent_stays, sent_succeeds, sent_fails}
 
 -- the request with its reply and its register as variables
@@ -22,7 +23,7 @@ pub record Told (mark : Mark) (c : Choice) (reply : Reply) (r : Register) (s : P
   pub choice : IsChoice c
   pub settled : IsSettled reply r s.target.pending
   pub word : IsWordRead reply q.read (value_in r c.filler s.target)
-  pub sees : seen ≡ seen_at mark reply
+  pub sees : Sees mark reply seen
   pub after : t ≡ after_reply mark reply r q c s
 
 pub told : (mark : Mark) (c : Choice) (reply : Reply) (r : Register) (s : Port) (q : Request) (seen : ℕ) (t : Port) →
@@ -86,41 +87,22 @@ heard mark reply r q c s t n is few none e =
 no_loss : (a b : ℕ) → b ≡ a + 0 → b ≡ a
 no_loss a b e = omega arith
 
--- a place of the acknowledgement that is changed makes it none
-record NoAck (n : ℕ) (read : Bool) : Type 0 where
-  pub not_okay : (n == 1) ≡ false
-  pub not_wait : (n == 2) ≡ false
-  pub not_fault : (n == 4) ≡ false
-  pub due : due_after read n ≡ Lost
-
-muted : (place : ℕ) (reply : Reply) (read : Bool) → place < 3 → NoAck (seen_at (Mute place) reply) read
-muted place Silent read h = record { not_okay = refl; not_wait = refl; not_fault = refl; due = refl }
-muted zero Okay read h = record { not_okay = refl; not_wait = refl; not_fault = refl; due = refl }
-muted zero Waits read h = record { not_okay = refl; not_wait = refl; not_fault = refl; due = refl }
-muted zero Faults read h = record { not_okay = refl; not_wait = refl; not_fault = refl; due = refl }
-muted (suc zero) Okay read h = record { not_okay = refl; not_wait = refl; not_fault = refl; due = refl }
-muted (suc zero) Waits read h = record { not_okay = refl; not_wait = refl; not_fault = refl; due = refl }
-muted (suc zero) Faults read h = record { not_okay = refl; not_wait = refl; not_fault = refl; due = refl }
-muted (suc (suc zero)) Okay read h = record { not_okay = refl; not_wait = refl; not_fault = refl; due = refl }
-muted (suc (suc zero)) Waits read h = record { not_okay = refl; not_wait = refl; not_fault = refl; due = refl }
-muted (suc (suc zero)) Faults read h = record { not_okay = refl; not_wait = refl; not_fault = refl; due = refl }
-muted (suc (suc (suc n))) reply read h = absurd (omega arith)
-
+-- a lost request
 sees_none : (mark : Mark) (c : Choice) (reply : Reply) (r : Register) (s : Port) (q : Request) (seen : ℕ) (t : Port) → Told mark c reply r s q seen t →
-    NoAck (seen_at mark reply) q.read → t.tally.disturbed ≡ s.tally.disturbed + 0 → t.tally.lost ≡ s.tally.lost + 1 → SeesNone seen s t
-sees_none mark c reply r s q seen t h none disturbed one = record {
-  none = record { not_okay = ap (λ n. n == 1) h.sees ∙ none.not_okay; not_wait = ap (λ n. n == 2) h.sees ∙ none.not_wait; not_fault = ap (λ n. n == 4) h.sees ∙ none.not_fault };
-  due = ap (λ p. p.link.due) h.after ∙ none.due;
+    IsNoAcknowledgement seen → due_after q.read (seen_at mark reply) ≡ Lost → t.tally.disturbed ≡ s.tally.disturbed + 0 → t.tally.lost ≡ s.tally.lost + 1 → SeesNone seen s t
+sees_none mark c reply r s q seen t h none due disturbed one = record {
+  none = none;
+  due = ap (λ p. p.link.due) h.after ∙ due;
   asked = ap (λ p. p.tally.asked) h.after;
   disturbed = omega arith;
   lost = one;
 }
 
 deaf_none : (c : Choice) (r : Register) (s : Port) (q : Request) (seen : ℕ) (t : Port) → Told Deaf c Silent r s q seen t → SeesNone seen s t
-deaf_none c r s q seen t h = sees_none Deaf c Silent r s q seen t h (record { not_okay = refl; not_wait = refl; not_fault = refl; due = refl }) (ap (λ p. p.tally.disturbed) h.after) (ap (λ p. p.tally.lost) h.after)
+deaf_none c r s q seen t h = sees_none Deaf c Silent r s q seen t h h.sees refl (ap (λ p. p.tally.disturbed) h.after) (ap (λ p. p.tally.lost) h.after)
 
 mute_none : (place : ℕ) (c : Choice) (reply : Reply) (r : Register) (s : Port) (q : Request) (seen : ℕ) (t : Port) → Told (Mute place) c reply r s q seen t → SeesNone seen s t
-mute_none place c reply r s q seen t h = sees_none (Mute place) c reply r s q seen t h (muted place reply q.read h.legal) (ap (λ p. p.tally.disturbed) h.after) (ap (λ p. p.tally.lost) h.after)
+mute_none place c reply r s q seen t h = sees_none (Mute place) c reply r s q seen t h h.sees (muted_due place reply q.read h.legal) (ap (λ p. p.tally.disturbed) h.after) (ap (λ p. p.tally.lost) h.after)
 
 -- an OK that is seen
 clean_okay : (c : Choice) (r : Register) (s : Port) (q : Request) (seen : ℕ) (t : Port) → (after_okay r s.target).reset ≡ Live → Told Clean c Okay r s q seen t → SeesOkay r q.read seen s t
@@ -178,10 +160,10 @@ free_told Deaf c r s q seen t live h = lost (deaf_none c r s q seen t h) (inl (s
 free_told (Mute place) c r s q seen t live h = lost (mute_none place c Okay r s q seen t h) (inr (accepts (Mute place) c r s q seen t live h))
 
 -- FAULT, unless it is lost
-sees_fault : (mark : Mark) (c : Choice) (r : Register) (s : Port) (q : Request) (seen : ℕ) (t : Port) (n : ℕ) → is_exempt r ≡ false → disturbs mark ≡ n → n ≤ 1 → seen_at mark Faults ≡ 4 →
+sees_fault : (mark : Mark) (c : Choice) (r : Register) (s : Port) (q : Request) (seen : ℕ) (t : Port) (n : ℕ) → is_exempt r ≡ false → disturbs mark ≡ n → n ≤ 1 → seen_at mark Faults ≡ 4 → seen ≡ 4 →
     t.tally.lost ≡ s.tally.lost → Told mark c Faults r s q seen t → SeesFault r q.ap seen s t
-sees_fault mark c r s q seen t n plain is few four none h = record {
-  is = h.sees ∙ four;
+sees_fault mark c r s q seen t n plain is few four sees none h = record {
+  is = sees;
   due = ap (λ p. p.link.due) h.after ∙ ap (due_after q.read) four;
   heard = heard mark Faults r q c s t n is few none h.after;
   refuses = refuses mark r q c s t plain h.settled h.after;
@@ -189,9 +171,9 @@ sees_fault mark c r s q seen t n plain is few four none h = record {
 
 fault_told : (mark : Mark) (c : Choice) (r : Register) (s : Port) (q : Request) (seen : ℕ) (t : Port) → is_exempt r ≡ false →
     Told mark c (if is_deaf mark then Silent else Faults) r s q seen t → FaultOrLost r q.ap seen s t
-fault_told Clean c r s q seen t plain h = fault (sees_fault Clean c r s q seen t 0 plain refl (omega arith) refl (no_loss _ _ (ap (λ p. p.tally.lost) h.after)) h)
-fault_told Wait c r s q seen t plain h = fault (sees_fault Wait c r s q seen t 1 plain refl (omega arith) refl (no_loss _ _ (ap (λ p. p.tally.lost) h.after)) h)
-fault_told (Flip place) c r s q seen t plain h = fault (sees_fault (Flip place) c r s q seen t 1 plain refl (omega arith) refl (no_loss _ _ (ap (λ p. p.tally.lost) h.after)) h)
+fault_told Clean c r s q seen t plain h = fault (sees_fault Clean c r s q seen t 0 plain refl (omega arith) refl h.sees (no_loss _ _ (ap (λ p. p.tally.lost) h.after)) h)
+fault_told Wait c r s q seen t plain h = fault (sees_fault Wait c r s q seen t 1 plain refl (omega arith) refl h.sees (no_loss _ _ (ap (λ p. p.tally.lost) h.after)) h)
+fault_told (Flip place) c r s q seen t plain h = fault (sees_fault (Flip place) c r s q seen t 1 plain refl (omega arith) refl h.sees (no_loss _ _ (ap (λ p. p.tally.lost) h.after)) h)
 fault_told Deaf c r s q seen t plain h = lost (deaf_none c r s q seen t h) (inl (stays Deaf r q c s t h.after))
 fault_told (Mute place) c r s q seen t plain h = lost (mute_none place c Faults r s q seen t h) (inr (refuses (Mute place) r q c s t plain h.settled h.after))
 

@@ -18,6 +18,7 @@ use Rattle.swd_port.specs.Leading.{Leads, after_lead}
 use Rattle.swd_port.specs.Transfers.{Sent, owed, Aimed}
 use Rattle.swd_port.specs.Laws.Accesses.{Ready}
 use Rattle.swd_port.proofs.PhaseLemmas.{word_phase, word_flip}
+use Rattle.swd_port.proofs.AnswerLaws.{sees_seen_at, deaf_silent}
 
 abbrev pub choice : Choice
 choice = record { address = 0; wraps = true; filler = 0 }
@@ -38,7 +39,7 @@ after mark q s = after_reply mark (reply_in mark s.target q) (register s.target.
 -- such a request is a call of `ask`
 asks : (mark : Mark) (q : Request) (s : Port) → IsMark mark → IsSettled (reply_in mark s.target q) (register s.target.select q) s.target.pending →
     IsWordRead (reply_in mark s.target q) q.read (value_in (register s.target.select q) choice.filler s.target) → Asks s q (seen_at mark (reply_in mark s.target q)) (after mark q s)
-asks mark q s legal settled word = (s, after mark q s, mark, choice, inl refl, record { legal = legal; choice = choice_fits; settled = settled; word = word; sees = refl; after = refl }, inl refl)
+asks mark q s legal settled word = (s, after mark q s, mark, choice, inl refl, record { legal = legal; choice = choice_fits; settled = settled; word = word; sees = sees_seen_at mark (reply_in mark s.target q) legal (deaf_silent mark _ _); after = refl }, inl refl)
 
 -- a memory of one word
 abbrev memory : PlainMemory

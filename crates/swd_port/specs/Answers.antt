@@ -11,7 +11,7 @@ use Rattle.swd_bits.specs.declared.ack.Ack.TheVariants.{Ok as AckOk, Wait as Ack
 use Rattle.swd_port.specs.declared.wire.Due.{Due}
 use Rattle.swd_port.specs.declared.wire.Due.TheVariants.{Take, Give, Pass, Lost}
 use Rattle.swd_port.specs.Port.{Register, DpidrRead, AbortWrite, CtrlStatRead, Reset, Unreset, Fresh, Live}
-use Rattle.swd_port.specs.Choices.{Mark, Mute, is_wait, is_deaf}
+use Rattle.swd_port.specs.Choices.{Mark, Deaf, Mute, is_wait, is_deaf}
 
 -- never WAIT or FAULT: DPIDR read, CTRL/STAT read, ABORT write
 abbrev pub is_exempt : Register → Bool
@@ -78,6 +78,19 @@ abbrev pub seen_at : Mark → Reply → ℕ
 seen_at mark Silent = driven Silent
 seen_at (Mute place) reply = bit_xor (driven reply) (2 ^ place)
 seen_at mark reply = driven reply
+
+-- the number is none of OK, WAIT and FAULT
+pub record IsNoAcknowledgement (seen : ℕ) : Type 0 where
+  pub not_okay : (seen == 1) ≡ false
+  pub not_wait : (seen == 2) ≡ false
+  pub not_fault : (seen == 4) ≡ false
+
+-- the number that the host may see: of a lost request any that is no acknowledgement, since a line that fails may read as
+-- anything; of every other the one that is driven (this project's choice)
+abbrev pub Sees : Mark → Reply → ℕ → Type 0
+Sees Deaf reply seen = IsNoAcknowledgement seen
+Sees (Mute place) reply seen = IsNoAcknowledgement seen
+Sees mark reply seen = seen ≡ driven reply
 
 -- what has to come after an acknowledgement that was seen
 abbrev pub due_after : Bool → ℕ → Due

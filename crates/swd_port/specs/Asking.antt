@@ -11,7 +11,7 @@ use Rattle.swd_port.specs.Port.{DpZeroRead, CswRead, TarRead, DrwRead, ApZeroRea
 use Rattle.swd_port.specs.Port.{Reads, register}
 use Rattle.swd_port.specs.Choices.{Mark, IsMark, flip_of, disturbs, loses, Choice, IsChoice}
 use Rattle.swd_port.specs.Answers.{Reply, Okay, Waits, Faults, Silent, is_exempt, is_dpidr, is_okay, is_unpowered}
-use Rattle.swd_port.specs.Answers.{answer, reply_under, seen_at, due_after}
+use Rattle.swd_port.specs.Answers.{answer, reply_under, seen_at, Sees, due_after}
 use Rattle.swd_port.specs.Completion.{Completes}
 
 -- an AP read or the RDBUFF read: they return the read buffer, and READOK tells of them
@@ -137,7 +137,7 @@ pub record AsksNow (mark : Mark) (c : Choice) (s : Port) (q : Request) (seen : �
   pub choice : IsChoice c
   pub settled : IsSettled (reply_in mark s.target q) (register s.target.select q) s.target.pending
   pub word : IsWordRead (reply_in mark s.target q) q.read (value_in (register s.target.select q) c.filler s.target)
-  pub sees : seen ≡ seen_at mark (reply_in mark s.target q)
+  pub sees : Sees mark (reply_in mark s.target q) seen
   pub after : t ≡ after_reply mark (reply_in mark s.target q) (register s.target.select q) q c s
 
 -- one call of `ask`: some mark, some choice, and completion before and after

@@ -1,6 +1,7 @@
 -- What a request leaves of the port, told by what the host sees: the words of the laws. All of it follows from the
 -- definition of a request, which says where each rule comes from.
-use Rattle.std.specs.Prelude.{ℕ, ◌≡◌, ◌≢◌, ◌<◌, ◌≤◌, ◌+◌, ◌^◌, ◌==◌, ◌⊎◌, Bool, true, false, if◌then◌else◌, Option}
+pub use Rattle.swd_port.specs.Answers.{IsNoAcknowledgement}
+use Rattle.std.specs.Prelude.{ℕ, ◌≡◌, ◌≢◌, ◌<◌, ◌≤◌, ◌+◌, ◌^◌, ◌⊎◌, Bool, true, false, if◌then◌else◌, Option}
 use Rattle.std.specs.Prelude.{Some, None}
 use Rattle.swd_port.specs.declared.wire.Due.TheVariants.{Take, Give, Pass, Lost}
 use Rattle.swd_port.specs.Port.{Port, Target, Register, Unreset, Live}
@@ -83,12 +84,6 @@ pub record SeesFault (r : Register) (ap : Bool) (seen : ℕ) (s t : Port) : Type
   pub due : t.link.due ≡ Pass
   pub heard : Heard s t
   pub refuses : Refuses r ap s t
-
--- the number is none of OK, WAIT and FAULT
-pub record IsNoAcknowledgement (seen : ℕ) : Type 0 where
-  pub not_okay : (seen == 1) ≡ false
-  pub not_wait : (seen == 2) ≡ false
-  pub not_fault : (seen == 4) ≡ false
 
 -- no acknowledgement was seen: one request more, and it is lost
 pub record SeesNone (seen : ℕ) (s t : Port) : Type 0 where

@@ -1,6 +1,5 @@
 -- The calls of a wire to an end of which nothing is proved, and the stories of a port machine that they fit.
 use Rattle.std.specs.Prelude.{ℕ, List, [], ◌∷◌, length}
-use Rattle.swd_bits.specs.declared.request.Request.{Request}
 use Rattle.swd_port.specs.declared.call.Call.{Call}
 use Rattle.swd_port.specs.declared.call.Call.TheVariants.{Led, Asked, Took, Gave, Passed}
 use Rattle.swd_port.specs.declared.wire.Due.{Due}

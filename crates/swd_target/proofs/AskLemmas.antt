@@ -11,7 +11,7 @@ use Rattle.swd_port.specs.declared.state.Line.TheVariants.{Idle}
 use Rattle.swd_port.specs.declared.state.Reply.{Reply}
 use Rattle.swd_port.specs.declared.state.Reply.TheVariants.{Okay, Waits, Faults, Silent}
 use Rattle.swd_port.specs.Choices.{IsMark, is_deaf, is_wait, flip_of, disturbs, loses, Choice, IsChoice}
-use Rattle.swd_port.specs.Answers.{reply_under, seen_at, due_after}
+use Rattle.swd_port.specs.Answers.{reply_under, seen_at, Sees, due_after}
 use Rattle.swd_port.specs.Completion.{Completes}
 use Rattle.swd_port.specs.Asking.{Asks, AsksNow, IsSettled, IsWordRead, value_in, line_after, phase_after, after_reply, target_after, tally_after}
 use Rattle.swd_port.specs.Moving.{Gives, GivesNow, Arrival, after_bits, arrival}
@@ -20,6 +20,7 @@ use Rattle.swd_target.specs.Flips.{line_flipped, line_under}
 use Rattle.swd_target.specs.Simulations.{Simulation, stepped, transferred, accepted_after, is_owed, settled, reply_to, phase_to, link_after, asked}
 use Rattle.swd_target.specs.Targets.{state_of, simulation, stand_in, choice_for, answer_at, reply_when, settled_when}
 use Rattle.swd_target.specs.Requests.{port_at, Transfers, AsksUnder, AnswersUnder, DataComes}
+use Rattle.swd_port.proofs.AnswerLaws.{sees_seen_at, deaf_silent}
 use Rattle.swd_target.proofs.TargetLemmas.{is_choice}
 
 -- Flip and Mute leave the reply alone
@@ -61,7 +62,8 @@ asks_under l n s a b t mark r reply c q phase legal choice before named replies 
     let k : Link = link_after mark q reply phase l in
     let P = λ (x : Register). IsSettled (reply_at mark x q a) x a.pending in
     let V = λ (x : Register). IsWordRead (reply_at mark x q a) q.read (value_in x c.filler a) in
-    let S = λ (x : Register). seen_at mark reply ≡ seen_at mark (reply_at mark x q a) in
+    let S = λ (x : Register). Sees mark (reply_at mark x q a) (seen_at mark reply) in
+    let silent = λ (deaf : is_deaf mark ≡ true). sym replies ∙ deaf_silent mark r (answer_at r q.ap a) deaf in
     let T = λ (x : Register). port_at k (tally_after mark n) b ≡ after_reply mark (reply_at mark x q a) x q c (port_at l n a) in
     let whole : port_at k (tally_after mark n) b ≡ after_reply mark reply r q c (port_at l n a) =
     ap (port_at k (tally_after mark n)) after ∙ ap (λ (x : Line). port_at (record k { line = x }) (tally_after mark n) (target_after reply r q.ap a)) line in
@@ -71,7 +73,8 @@ asks_under l n s a b t mark r reply c q phase legal choice before named replies 
       choice = choice;
       settled = subst P (sym named) (subst (λ x. IsSettled x r a.pending) (sym replies) settled);
       word = subst V (sym named) (subst (λ x. IsWordRead x q.read (value_in r c.filler a)) (sym replies) word);
-      sees = subst S (sym named) (ap (seen_at mark) (sym replies));
+      sees = subst S (sym named) (subst (λ x. Sees mark x (seen_at mark reply)) (sym replies)
+          (sees_seen_at mark reply legal silent));
       after = subst T (sym named) (whole ∙ ap (λ x. after_reply mark x r q c (port_at l n a)) (sym replies));
     } in
     (port_at l n a, port_at k (tally_after mark n) b, c, completes_at l n s a before, now, completes_at k (tally_after mark n) b t later)
