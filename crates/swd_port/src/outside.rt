@@ -25,10 +25,11 @@ pub trait Transport {
     /// Drives ones, and then zeros.
     fn lead(&mut self, ones: u32, switch: bool, zeros: u32) -> Result<(), Gone>;
 
-    /// Sends the eight bits of a request, and sees three bits.
+    /// Sends the eight bits of a request, the first in time least significant, and sees three bits.
     fn ask(&mut self, request: u8) -> Result<u8, Gone>;
 
-    /// Takes 33 bits.
+    /// Takes the 33 bits of a read's data phase, and the turnaround: directly after `ask`, where it saw
+    /// OK for a read.
     fn take(&mut self) -> Result<u64, Gone>;
 
     /// Sends 33 bits.
@@ -38,16 +39,23 @@ pub trait Transport {
     fn pass(&mut self) -> Result<(), Gone>;
 }
 
-/// A wire over a transport. Where the transport fails, or gives a number that has too many bits, the
-/// line reads as ones, and from there on the transport isn't called any more.
+/// A wire over a transport. Where the transport fails, or gives a number that has too many bits, no
+/// acknowledgement is seen, and from there on the transport isn't called any more.
+///
+/// A read's data phase is fetched with its acknowledgement, so that one that fails is a lost
+/// acknowledgement, too, which the law of a wire knows. A write's data that failed show at the next
+/// request.
 #[derive(Drop)]
 pub struct Outside<T: Transport, S: Story> {
     transport: T,
     due: Due,
+    // The data phase of the read that was answered last.
+    fetched: u64,
     pub gone: bool,
     pub noted: Noted,
     story: PhantomData<S>,
     ghost tracked: { due ≡ due_by noted.calls },
+    ghost range: { fetched < 2 ^ 33 },
 }
 
 impl<T: Transport, S: Story> Wire for Outside<T, S> {
@@ -73,7 +81,7 @@ impl<T: Transport, S: Story> Wire for Outside<T, S> {
     }
 
     fn take(&mut self) -> u64 {
-        let bits = self.phase();
+        let bits = self.fetched;
         self.noted = self.noted.and(&Call::Took(bits));
         self.due = Due::Nothing;
         bits
@@ -112,6 +120,7 @@ impl<T: Transport, S: Story> Outside<T, S> {
         Outside {
             transport,
             due: Due::Nothing,
+            fetched: 0,
             gone: false,
             noted: Noted::new(),
             story: PhantomData,
@@ -129,6 +138,7 @@ impl<T: Transport, S: Story> Outside<T, S> {
             return 7;
         }
         match self.transport.ask(request.bits()) {
+            Ok(1) if request.read => self.fetch(),
             Ok(seen) if seen < 8 => seen,
             _ => {
                 self.gone = true;
@@ -137,21 +147,35 @@ impl<T: Transport, S: Story> Outside<T, S> {
         }
     }
 
-    // The 33 bits of a data phase.
-    fn phase(&mut self) -> u64
-        ensures range { result < 2 ^ 33 }
+    // The data phase of a read that was answered OK, and what is seen of its acknowledgement by that.
+    fn fetch(&mut self) -> u8
+        ensures range { result < 8 }
         ensures same { self.new.noted ≡ self.old.noted }
+        ensures due { self.new.due ≡ self.old.due }
     {
-        if self.gone {
-            return 0x1_ffff_ffff;
-        }
         match self.transport.take() {
-            Ok(bits) if bits < 0x2_0000_0000 => bits,
+            Ok(bits) if bits < 0x2_0000_0000 => {
+                self.fetched = bits;
+                1
+            }
             _ => {
                 self.gone = true;
-                0x1_ffff_ffff
+                7
             }
         }
+    }
+
+    /// The transport, once the wire isn't wanted any more.
+    pub fn into_transport(self) -> T {
+        let Outside {
+            transport,
+            due: _,
+            fetched: _,
+            gone: _,
+            noted: _,
+            story: _,
+        } = self;
+        transport
     }
 
     /// Whether the other end went away. Nothing was sent since.

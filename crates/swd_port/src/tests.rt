@@ -196,6 +196,51 @@ impl Transport for Agreeing {
     }
 }
 
+// A way that agrees to all, and fails at the call with this number.
+#[derive(Drop)]
+struct Breaking {
+    calls: u8,
+    fails_at: u8,
+}
+
+impl Breaking {
+    fn call(&mut self) -> Result<(), Gone> {
+        self.calls = self.calls.saturating_add(1);
+        if self.calls == self.fails_at {
+            Err(Gone)
+        } else {
+            Ok(())
+        }
+    }
+}
+
+impl Transport for Breaking {
+    fn lead(&mut self, ones: u32, switch: bool, zeros: u32) -> Result<(), Gone> {
+        let _ = (ones, switch, zeros);
+        self.call()
+    }
+
+    fn ask(&mut self, request: u8) -> Result<u8, Gone> {
+        let _ = request;
+        self.call()?;
+        Ok(1)
+    }
+
+    fn take(&mut self) -> Result<u64, Gone> {
+        self.call()?;
+        Ok(0)
+    }
+
+    fn give(&mut self, bits: u64) -> Result<(), Gone> {
+        let _ = bits;
+        self.call()
+    }
+
+    fn pass(&mut self) -> Result<(), Gone> {
+        self.call()
+    }
+}
+
 // Any story.
 struct Untold;
 
@@ -211,4 +256,46 @@ fn a_wire_to_the_outside_says_what_came_back(rt: HostRuntime) {
     let mut wire: Outside<Agreeing, Untold> = Outside::new(Agreeing { failing: true });
     assert_eq!(rt; identification(&mut &mut wire), None);
     assert_eq!(rt; wire.due(), Due::Lost);
+}
+
+// DPIDR is read, ABORT is written, and DPIDR is read again. What was seen after the last request.
+fn three_requests(wire: &mut Outside<Breaking, Untold>) -> u8 {
+    for register in [Register::DpidrRead, Register::AbortWrite] {
+        if wire.due() != Due::Nothing {
+            return 7;
+        }
+        let _ = wire.ask(register.request());
+        match wire.due() {
+            Due::Take => {
+                let _ = wire.take();
+            }
+            Due::Give => wire.give(0x1e),
+            _ => return 7,
+        }
+    }
+    if wire.due() != Due::Nothing {
+        return 7;
+    }
+    wire.ask(Register::DpidrRead.request())
+}
+
+#[test]
+fn nothing_is_sent_once_the_other_end_went_away(rt: HostRuntime) {
+    // The acknowledgement and the data of the first read, the acknowledgement of the write and its data, and
+    // the two of the last read.
+    for fails_at in 1..=6u8 {
+        let way = Breaking { calls: 0, fails_at };
+        let mut wire: Outside<Breaking, Untold> = Outside::new(way);
+        assert_eq!(rt; three_requests(&mut wire), 7, "{fails_at}");
+        assert!(rt; wire.is_gone(), "{fails_at}");
+        assert_eq!(rt; wire.into_transport().calls, fails_at);
+    }
+    let way = Breaking {
+        calls: 0,
+        fails_at: 7,
+    };
+    let mut wire: Outside<Breaking, Untold> = Outside::new(way);
+    assert_eq!(rt; three_requests(&mut wire), 1);
+    assert!(rt; !wire.is_gone());
+    assert_eq!(rt; wire.into_transport().calls, 6);
 }

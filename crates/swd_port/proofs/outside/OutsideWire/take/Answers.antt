@@ -1,9 +1,6 @@
-use Rattle.std.proofs.Common.{◌∷◌, ◌∙◌, ap}
 use Rattle.swd_port.specs.declared.call.Call.TheVariants.{Took}
 use Rattle.swd_port.proofs.Telling.{told}
 use Rattle.swd_port.proofs.outside.OutsideWire.take.Goals as goal
 
 pub returns-clause-step : goal.returns-clause-step
-returns-clause-step g c =
-    let call = Took c.phase-bits.result in
-    told g.S.Story.at _ _ call (c.and-self.ensures ∙ ap (λ n. call ∷ n.calls) c.phase-bits.ensures.same)
+returns-clause-step g c = told g.S.Story.at _ _ (Took c.args.self.now.fetched) c.and-self.ensures
