@@ -1,14 +1,16 @@
 -- The program's command, as a parse reads it, and what its words mean.
-use Rattle.std.specs.Prelude.{ℕ, ◌≡◌, ◌≤◌, ◌⊎◌, List, [], ◌∷◌, Option, Some, None, IsSomeAnd, true, codes, pos}
+use Rattle.std.specs.Prelude.{ℕ, ◌≡◌, ◌≤◌, ◌↔◌, ◌⊎◌, List, [], ◌∷◌, Option, Some, None, IsSomeAnd, true, codes, pos}
 use Rattle.std.specs.Option.{option_map}
 use Rattle.std.specs.String.{string_bytes}
 use Rattle.std.specs.Str.Parse.{signed_digits_value}
-use Rattle.clap.specs.Words.{App, HasKind, Kinds, Row, first_of, Rule, Text, new_app, new_rule, with_rule, with_subcommand}
+use Rattle.clap.specs.Words.{App, HasKind, Kinds, kind_of, Row, first_of, Rule, Text, new_app, new_rule, with_rule, with_subcommand}
 use Rattle.swd_cli.specs.declared.command.Line.{Line}
 use Rattle.swd_cli.specs.declared.command.Line.TheVariants.{One, Decode, Encode, Run}
 use Rattle.swd_cli.specs.declared.command.RunLine.{RunLine}
 use Rattle.swd_cli.specs.declared.command.LineFault.{LineFault}
 use Rattle.swd_cli.specs.declared.command.LineFault.TheVariants.{Clap, Memory}
+use Rattle.clap.specs.declared.error.kind.ErrorKind.{ErrorKind}
+use Rattle.clap.specs.declared.builder.action.ArgAction.TheVariants.{SetTrue}
 use Rattle.clap.specs.declared.builder.value_parser.ValueParser.TheVariants.{Signed}
 
 -- the file, which may be left out
@@ -48,9 +50,17 @@ tries_rule =
 abbrev pub trace_rule : Rule
 trace_rule = let rule = new_rule (codes "trace") in record rule { long = Some (codes "trace"); value_names = 1 }
 
--- the command that runs a script
+-- whether bus faults fail the run, by --strict
+abbrev pub strict_rule : Rule
+strict_rule = let rule = new_rule (codes "strict") in record rule { long = Some (codes "strict"); action = Some SetTrue }
+
+-- the command that runs a script, with the texts that it reads
+abbrev pub over_a_script : App
+over_a_script = with_rule (with_rule (new_app (codes "run")) script_rule) plan_rule
+
+-- and with what else it is given
 abbrev pub run_app : App
-run_app = with_rule (with_rule (with_rule (with_rule (new_app (codes "run")) script_rule) plan_rule) tries_rule) trace_rule
+run_app = with_rule (with_rule (with_rule over_a_script tries_rule) trace_rule) strict_rule
 
 -- the whole command
 abbrev pub swd_app : App
@@ -67,12 +77,18 @@ abbrev pub AreTries : ℕ → Option Text → Type 0
 AreTries tries None = tries ≡ 8
 AreTries tries (Some text) = (tries ≤ 1000) × (pos tries ≡ signed_digits_value 10 text)
 
--- the script, the plan, the number of tries and the trace that the words name
+-- the script, the plan, the number of tries and the trace that the words name, and whether they ask for a strict run
 pub record IsRunOf (run : RunLine) (rows : List Row) : Type 0 where
   pub script : Some (string_bytes run.script) ≡ first_of (codes "SCRIPT") rows
   pub plan : option_map string_bytes run.plan ≡ first_of (codes "plan") rows
   pub tries : AreTries run.tries (first_of (codes "tries") rows)
   pub trace : option_map string_bytes run.trace ≡ first_of (codes "trace") rows
+  pub strict : (run.strict ≡ true) ↔ (first_of (codes "strict") rows ≡ Some (codes "true"))
+
+-- a fault of this kind, or want of memory
+abbrev pub IsOfKind : ErrorKind → LineFault → Type 0
+IsOfKind kind Memory = Unit {0}
+IsOfKind kind (Clap error) = kind_of error ≡ kind
 
 -- Words are refused for a mistake of one of these kinds, where they have one, or for want of memory.
 abbrev pub IsRefusal : Kinds → LineFault → Type 0

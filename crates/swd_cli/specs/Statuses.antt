@@ -1,5 +1,5 @@
 -- What a command does, and the status that it ends with.
-use Rattle.std.specs.Prelude.{◌≡◌, ◌⊎◌, ℕ, Bool, List, [], Option, None, Some, Result, Ok, Err, is_ok, if◌then◌else◌}
+use Rattle.std.specs.Prelude.{◌≡◌, ◌⊎◌, ℕ, Bool, false, List, [], Option, None, Some, Result, Ok, Err, is_ok, if◌then◌else◌}
 use Rattle.swd_bits.specs.One.{Answers}
 use Rattle.swd_bits.specs.declared.one.OneFault.{OneFault}
 use Rattle.swd_text.specs.Decoding.{Decodes}
@@ -18,14 +18,20 @@ use Rattle.std.specs.Io.KnownBytes.{Appends}
 abbrev pub status_of : Bool → ℕ
 status_of done = if done then 0 else 2
 
--- the status of a run: 0 where it ended all, 1 where it ended otherwise, 2 at a fault
-abbrev pub status_of_run : Result End EngineFault → ℕ
-status_of_run (Ok All) = 0
-status_of_run (Ok Lost) = 1
-status_of_run (Ok TriesOut) = 1
-status_of_run (Ok (WrongId word)) = 1
-status_of_run (Ok Confused) = 1
-status_of_run (Err fault) = 2
+-- the status of a run: 0 where it ended all, 1 where it ended otherwise or failed its script, 2 at a fault
+abbrev pub status_of_run : Bool → Result End EngineFault → ℕ
+status_of_run failed (Ok All) = if failed then 1 else 0
+status_of_run failed (Ok Lost) = 1
+status_of_run failed (Ok TriesOut) = 1
+status_of_run failed (Ok (WrongId word)) = 1
+status_of_run failed (Ok Confused) = 1
+status_of_run failed (Err fault) = 2
+
+-- Only a strict run may fail its script. That it does where an access was answered by a bus fault, tests show.
+pub record IsStatusOf (strict : Bool) (answer : Result End EngineFault) (status : ℕ) : Type 0 where
+  pub failed : Bool
+  pub only_strict : strict ≡ false → failed ≡ false
+  pub is : status ≡ status_of_run failed answer
 
 -- a file can't be opened or made: status 2, and nothing was written
 abbrev pub NotOpened : ℕ → Option (List ℕ) → Option (List ℕ) → Type 0
@@ -33,19 +39,19 @@ NotOpened status old new = (status ≡ 2) × Appends old new []
 
 -- A run reads a script and a plan and writes a report, and its status is that of its end. The trace goes to the file
 -- that is named for it, of which nothing else is known.
-abbrev pub PerformsUnder : {S : Type 0} → Option S → ℕ → ℕ → Option (List ℕ) → Option (List ℕ) → Option (List ℕ) → Option (List ℕ) → Type 0
-PerformsUnder None tries status script plan old new =
-    (answer : Result End EngineFault) × RunsText tries answer script plan old new × (status ≡ status_of_run answer)
-PerformsUnder (Some trace) tries status script plan old new =
+abbrev pub PerformsUnder : {S : Type 0} → Option S → RunLine → ℕ → Option (List ℕ) → Option (List ℕ) → Option (List ℕ) → Option (List ℕ) → Type 0
+PerformsUnder None run status script plan old new =
+    (answer : Result End EngineFault) × RunsText run.tries answer script plan old new × IsStatusOf run.strict answer status
+PerformsUnder (Some trace) run status script plan old new =
     NotOpened status old new
     ⊎ ((answer : Result End EngineFault) × (before : Option (List ℕ)) × (after : Option (List ℕ))
-    × RunsTraced tries answer script plan old new before after × (status ≡ status_of_run answer))
+    × RunsTraced run.tries answer script plan old new before after × IsStatusOf run.strict answer status)
 
 -- The plan is empty where none is named, and else some text: no contract knows what a file held.
 abbrev pub PerformsRun : {S : Type 0} → Option S → RunLine → ℕ → Option (List ℕ) → Option (List ℕ) → Option (List ℕ) → Type 0
-PerformsRun None run status script old new = PerformsUnder run.trace run.tries status script (Some []) old new
+PerformsRun None run status script old new = PerformsUnder run.trace run status script (Some []) old new
 PerformsRun (Some plan) run status script old new =
-    NotOpened status old new ⊎ ((text : Option (List ℕ)) × PerformsUnder run.trace run.tries status script text old new)
+    NotOpened status old new ⊎ ((text : Option (List ℕ)) × PerformsUnder run.trace run status script text old new)
 
 -- A command reads a text and writes another as its engine says, and its status is that of the engine's answer.
 abbrev pub Performs : Line → ℕ → Option (List ℕ) → Option (List ℕ) → Option (List ℕ) → Option (List ℕ) → Type 0

@@ -10,7 +10,7 @@ pub enum Line {
     Decode(Option<String>),
     /// `swd encode [FILE]`: without a file, standard input.
     Encode(Option<String>),
-    /// `swd run SCRIPT [--plan FILE] [--tries N] [--trace FILE]`.
+    /// `swd run SCRIPT [--plan FILE] [--tries N] [--trace FILE] [--strict]`.
     Run(RunLine),
 }
 
@@ -25,6 +25,8 @@ pub struct RunLine {
     pub tries: u32,
     /// The file that the trace is written to, where one is named.
     pub trace: Option<String>,
+    /// Whether a bus fault fails the run.
+    pub strict: bool,
 }
 
 /// Why the words are no command.

@@ -5,6 +5,8 @@ mod command;
 mod files;
 mod program;
 mod report;
+mod trace;
+mod watch;
 mod words;
 
 use files::Disk;
@@ -12,6 +14,7 @@ use program::run_words;
 use report::tell;
 use std::process::ExitCode;
 use std::{env, io};
+use watch::Watch;
 
 // The status of the program, with its words, its standard streams and the machine's files.
 fn status(rt: &HostRuntime) -> io::Result<u8> {
@@ -27,7 +30,7 @@ fn status(rt: &HostRuntime) -> io::Result<u8> {
         texts.as_slice(),
         &mut rt.stdin(),
         &Disk { rt },
-        &mut rt.stdout(),
+        &mut Watch::new(rt.stdout()),
         &mut rt.stderr(),
     ))
 }

@@ -4,8 +4,10 @@ ghost use Rattle.swd_cli.specs.Inputs.{IsStandard, named};
 ghost use Rattle.swd_cli.specs.Statuses.{Performs, PerformsRun, PerformsUnder};
 
 use crate::command::{Line, LineFault, RunLine};
-use crate::files::Files;
+use crate::files::{Files, Identity};
 use crate::report::{DONE, FAULT, cannot_open, engine_status, one_status, run_status, tell};
+use crate::trace::{Sources, open_trace};
+use crate::watch::Watch;
 use crate::words::line;
 use clap::Error;
 use std::alloc::Global;
@@ -15,20 +17,20 @@ use swd_run::{run_text, run_traced};
 use swd_text::{decode_text, encode_text};
 
 /// Does what the words ask for, the program's name first, and returns the status: 0 where all was
-/// done, 1 where a run ended before all was done, 2 at a fault of words, texts, files or memory, which
-/// takes one line on standard error (where `clap` refuses the words, its own lines). Standard output
-/// gets the text that was asked for and nothing else.
+/// done, 1 where a run ended before all was done, or a strict one met a bus fault, 2 at a fault of words,
+/// texts, files or memory, which takes one line on standard error (where `clap` refuses the words, its own
+/// lines). Standard output gets the text that was asked for and nothing else.
 pub fn run_words<I: Read, F: Files, O: Write, E: Write>(
     alloc: Global,
     words: &[&str],
     input: &mut I,
     files: &F,
-    output: &mut O,
+    output: &mut Watch<O>,
     errors: &mut E,
 ) -> u8 {
     match line(alloc, words) {
         Ok(line) => carry_out(alloc, &line, input, files, output, errors),
-        Err(LineFault::Clap(error)) => answer_by_clap(&error, output, errors),
+        Err(LineFault::Clap(error)) => answer_by_clap(&error, &mut output.writer, errors),
         Err(LineFault::Memory) => tell(errors, "no memory"),
     }
 }
@@ -66,39 +68,43 @@ fn carry_out<I: Read, F: Files, O: Write, E: Write>(
     line: &Line,
     input: &mut I,
     files: &F,
-    output: &mut O,
+    output: &mut Watch<O>,
     errors: &mut E,
 ) -> u8
     ensures { IsStandard line.now
         → Performs line.now result (I.remaining input.old) (I.remaining input.new)
-        (O.contents output.old) (O.contents output.new) }
+        (O.contents output.old.writer) (O.contents output.new.writer) }
 {
     let Some(name) = file_of(line) else {
-        return perform(alloc, line, input, files, output, errors);
+        return perform(alloc, line, input, None, files, output, errors);
     };
     match files.open(name) {
-        Ok(mut file) => perform(alloc, line, &mut file, files, output, errors),
+        Ok(mut opened) => {
+            let source = Some(opened.identity);
+            perform(alloc, line, &mut opened.file, source, files, output, errors)
+        }
         Err(_) => cannot_open(errors, name),
     }
 }
 
-// Makes the one call of a command.
+// Makes the one call of a command. What it reads is this file, or standard input.
 fn perform<R: Read, F: Files, O: Write, E: Write>(
     alloc: Global,
     line: &Line,
     input: &mut R,
+    source: Option<Identity>,
     files: &F,
-    output: &mut O,
+    output: &mut Watch<O>,
     errors: &mut E,
 ) -> u8
     ensures { Performs line.now result (R.remaining input.old) (R.remaining input.new)
-        (O.contents output.old) (O.contents output.new) }
+        (O.contents output.old.writer) (O.contents output.new.writer) }
 {
     match line {
-        Line::One(_) => one_status(errors, one_text(input, output)),
-        Line::Decode(_) => engine_status(errors, decode_text(input, output)),
-        Line::Encode(_) => engine_status(errors, encode_text(alloc, input, output)),
-        Line::Run(run) => perform_run(alloc, run, input, files, output, errors),
+        Line::One(_) => one_status(errors, one_text(input, &mut output.writer)),
+        Line::Decode(_) => engine_status(errors, decode_text(input, &mut output.writer)),
+        Line::Encode(_) => engine_status(errors, encode_text(alloc, input, &mut output.writer)),
+        Line::Run(run) => perform_run(alloc, run, input, source, files, output, errors),
     }
 }
 
@@ -107,19 +113,48 @@ fn perform_run<S: Read, F: Files, O: Write, E: Write>(
     alloc: Global,
     run: &RunLine,
     script: &mut S,
+    source: Option<Identity>,
     files: &F,
-    output: &mut O,
+    output: &mut Watch<O>,
     errors: &mut E,
 ) -> u8
     ensures { PerformsRun run.now.plan run.now result (S.remaining script.old)
-        (O.contents output.old) (O.contents output.new) }
+        (O.contents output.old.writer) (O.contents output.new.writer) }
 {
     let Some(name) = &run.plan else {
         let mut nothing = [].as_slice();
-        return perform_under(alloc, run, script, &mut nothing, files, output, errors);
+        let read = Sources {
+            script: source,
+            plan: None,
+        };
+        return perform_under(
+            alloc,
+            run,
+            script,
+            &mut nothing,
+            read,
+            files,
+            output,
+            errors,
+        );
     };
     match files.open(name.as_str()) {
-        Ok(mut plan) => perform_under(alloc, run, script, &mut plan, files, output, errors),
+        Ok(mut opened) => {
+            let read = Sources {
+                script: source,
+                plan: Some(opened.identity),
+            };
+            perform_under(
+                alloc,
+                run,
+                script,
+                &mut opened.file,
+                read,
+                files,
+                output,
+                errors,
+            )
+        }
         Err(_) => cannot_open(errors, name.as_str()),
     }
 }
@@ -130,21 +165,23 @@ fn perform_under<S: Read, P: Read, F: Files, O: Write, E: Write>(
     run: &RunLine,
     script: &mut S,
     plan: &mut P,
+    read: Sources,
     files: &F,
-    output: &mut O,
+    output: &mut Watch<O>,
     errors: &mut E,
 ) -> u8
-    ensures { PerformsUnder run.now.trace run.now.tries result (S.remaining script.old) (P.remaining plan.old)
-        (O.contents output.old) (O.contents output.new) }
+    ensures { PerformsUnder run.now.trace run.now result (S.remaining script.old) (P.remaining plan.old)
+        (O.contents output.old.writer) (O.contents output.new.writer) }
 {
+    output.look(run.strict);
     let Some(name) = &run.trace else {
         let answer = run_text(alloc, script, plan, run.tries, output);
-        return run_status(errors, answer);
+        return run_status(errors, answer, run.strict && output.has_found());
     };
-    match files.create(name.as_str()) {
+    match open_trace(files, name.as_str(), read) {
         Ok(mut trace) => {
-            let answer = run_traced(alloc, script, plan, run.tries, output, &mut trace);
-            run_status(errors, answer)
+            let answer = run_traced(alloc, script, plan, run.tries, output, &mut trace.file);
+            run_status(errors, answer, run.strict && output.has_found())
         }
         Err(_) => cannot_open(errors, name.as_str()),
     }

@@ -12,7 +12,7 @@ use swd_text::EngineFault;
 /// The status where all was done.
 pub const DONE: u8 = 0;
 
-/// The status of a run that ended before all was done.
+/// The status of a run that ended before all was done, or met a bus fault that it may not meet.
 pub const STOPPED: u8 = 1;
 
 /// The status at a fault of words, texts, files or memory.
@@ -81,12 +81,12 @@ pub fn engine_status<E: Write>(errors: &mut E, answer: Result<(), EngineFault>) 
     }
 }
 
-/// The status of a run.
-pub fn run_status<E: Write>(errors: &mut E, answer: Result<End, EngineFault>) -> u8
-    ensures { result ≡ status_of_run answer }
+/// The status of a run, which failed its script where a bus fault is told that may not be.
+pub fn run_status<E: Write>(errors: &mut E, answer: Result<End, EngineFault>, failed: bool) -> u8
+    ensures { result ≡ status_of_run failed answer }
 {
     match answer {
-        Ok(End::All) => DONE,
+        Ok(End::All) if !failed => DONE,
         Ok(_) => STOPPED,
         Err(fault) => engine_status(errors, Err(fault)),
     }

@@ -1,8 +1,9 @@
 //! What words ask for, and what the program does with them.
 use crate::command::{Line, LineFault};
-use crate::files::Files;
+use crate::files::{Files, Identity, Opened};
 use crate::program::run_words;
 use crate::report::{cannot_open, engine_status};
+use crate::watch::Watch;
 use crate::words::line;
 use std::alloc::Global;
 use std::cell::Cell;
@@ -33,6 +34,30 @@ const CUT: &[u8] = b".\n.\n.\n.\n.\n.\n.\n.\n.\n.\nmute 0\n";
 struct Shelf<'a> {
     // how many bytes were written to a file that was made
     written: &'a Cell<usize>,
+    // how often a file was cut off
+    cuts: &'a Cell<usize>,
+}
+
+// The number of a file. Some have two names, and the first two are the standard streams.
+fn number_of(name: &str) -> u64 {
+    match name {
+        "input" => 0,
+        "output" => 1,
+        "script" | "script-again" => 2,
+        "quiet" | "quiet-again" => 3,
+        "traced" => 4,
+        _ => 5,
+    }
+}
+
+fn file<F>(name: &str, file: F) -> Opened<F> {
+    Opened {
+        file,
+        identity: Identity {
+            device: 7,
+            number: number_of(name),
+        },
+    }
 }
 
 impl<'a> Files for Shelf<'a> {
@@ -40,25 +65,39 @@ impl<'a> Files for Shelf<'a> {
 
     type Made = CountingWriter<'a>;
 
-    fn create(&self, name: &str) -> io::Result<CountingWriter<'a>> {
+    fn open(&self, name: &str) -> io::Result<Opened<&'static [u8]>> {
         match name {
-            "traced" => Ok(CountingWriter {
-                taken: self.written,
-            }),
-            _ => Err(io::Error::from(io::ErrorKind::PermissionDenied)),
+            "trace" => Ok(file(name, DPIDR_READ)),
+            "list" | "./-" => Ok(file(name, DPIDR_LINE)),
+            "script" => Ok(file(name, SCRIPT)),
+            "quiet" => Ok(file(name, b"# nothing\n.\n")),
+            "cut" => Ok(file(name, CUT)),
+            "flip33" => Ok(file(name, b"flip 33")),
+            _ => Err(io::Error::from(io::ErrorKind::NotFound)),
         }
     }
 
-    fn open(&self, name: &str) -> io::Result<&'static [u8]> {
+    fn open_to_write(&self, name: &str) -> io::Result<Opened<CountingWriter<'a>>> {
+        let made = CountingWriter {
+            taken: self.written,
+        };
         match name {
-            "trace" => Ok(DPIDR_READ),
-            "list" | "./-" => Ok(DPIDR_LINE),
-            "script" => Ok(SCRIPT),
-            "quiet" => Ok(b"# nothing\n.\n"),
-            "cut" => Ok(CUT),
-            "flip33" => Ok(b"flip 33"),
-            _ => Err(io::Error::from(io::ErrorKind::NotFound)),
+            "locked" => Err(io::Error::from(io::ErrorKind::PermissionDenied)),
+            _ => Ok(file(name, made)),
         }
+    }
+
+    fn cut_off(&self, _file: &CountingWriter<'a>) -> io::Result<()> {
+        self.cuts.set(self.cuts.get().saturating_add(1));
+        Ok(())
+    }
+
+    fn standard_input(&self) -> io::Result<Option<Identity>> {
+        Ok(Some(file("input", ()).identity))
+    }
+
+    fn standard_output(&self) -> io::Result<Option<Identity>> {
+        Ok(Some(file("output", ()).identity))
     }
 }
 
@@ -70,22 +109,29 @@ struct Ran {
     errors: Vec<u8>,
     // how many bytes of the trace
     traced: usize,
+    // how often its file was cut off
+    cuts: usize,
 }
 
 fn run_on<I: Read>(alloc: Global, words: &[&str], mut input: I) -> Ran
 where
     I: Drop,
 {
-    let mut output = Vec::new(alloc);
+    let mut output = Watch::new(Vec::new(alloc));
     let mut errors = Vec::new(alloc);
     let written = Cell::new(0);
-    let shelf = Shelf { written: &written };
+    let cuts = Cell::new(0);
+    let shelf = Shelf {
+        written: &written,
+        cuts: &cuts,
+    };
     let status = run_words(alloc, words, &mut input, &shelf, &mut output, &mut errors);
     Ran {
         status,
-        output,
+        output: output.writer,
         errors,
         traced: written.get(),
+        cuts: cuts.get(),
     }
 }
 
@@ -178,6 +224,168 @@ fn a_run_is_traced(rt: HostRuntime) {
         b"memory 20000000 1\n".as_slice(),
     );
     assert_eq!(rt; ran.traced, 0);
+}
+
+// A trace that is one of the other files, under whatever name, is refused with nothing written or cut off.
+#[test]
+fn a_trace_is_none_of_the_other_files(rt: HostRuntime) {
+    for (script, plan, trace, refused) in [
+        ("script", "quiet", "script", true),
+        ("script", "quiet", "script-again", true),
+        ("script", "quiet", "quiet", true),
+        ("script", "quiet", "quiet-again", true),
+        ("script", "quiet", "output", true),
+        ("script", "quiet", "-", true),
+        ("-", "quiet", "input", true),
+        ("-", "quiet", "script", false),
+        ("script", "quiet", "input", false),
+        ("script", "quiet", "./-", false),
+        ("script", "quiet", "traced", false),
+    ] {
+        let words = ["swd", "run", script, "--plan", plan, "--trace", trace];
+        let ran = run_on(rt.alloc(), words.as_slice(), SCRIPT);
+        assert_eq!(rt; ran.status, if refused { 2 } else { 0 });
+        assert_eq!(rt; ran.cuts, usize::from(!refused));
+        assert_eq!(rt; ran.output.is_empty(), refused);
+        assert_eq!(rt; ran.traced == 0, refused);
+        assert_eq!(rt; ran.errors.starts_with(b"swd: cannot open "), refused);
+    }
+}
+
+// Files whose standard output is open, and can't be told from another.
+#[derive(Drop)]
+struct Unknown<'a>(Shelf<'a>);
+
+impl<'a> Files for Unknown<'a> {
+    type File = &'static [u8];
+
+    type Made = CountingWriter<'a>;
+
+    fn open(&self, name: &str) -> io::Result<Opened<&'static [u8]>> {
+        self.0.open(name)
+    }
+
+    fn open_to_write(&self, name: &str) -> io::Result<Opened<CountingWriter<'a>>> {
+        self.0.open_to_write(name)
+    }
+
+    fn cut_off(&self, file: &CountingWriter<'a>) -> io::Result<()> {
+        self.0.cut_off(file)
+    }
+
+    fn standard_input(&self) -> io::Result<Option<Identity>> {
+        self.0.standard_input()
+    }
+
+    fn standard_output(&self) -> io::Result<Option<Identity>> {
+        Err(io::Error::from(io::ErrorKind::NotFound))
+    }
+}
+
+#[test]
+fn a_trace_that_may_be_standard_output_is_refused(rt: HostRuntime) {
+    let (written, cuts) = (Cell::new(0), Cell::new(0));
+    let files = Unknown(Shelf {
+        written: &written,
+        cuts: &cuts,
+    });
+    let mut output = Watch::new(Vec::new(rt.alloc()));
+    let mut errors = Vec::new(rt.alloc());
+    let words = ["swd", "run", "script", "--trace", "traced"];
+    let mut input = b"".as_slice();
+    let status = run_words(
+        rt.alloc(),
+        words.as_slice(),
+        &mut input,
+        &files,
+        &mut output,
+        &mut errors,
+    );
+    assert_eq!(rt; status, 2);
+    assert_eq!(rt; errors.as_slice(), b"swd: cannot open traced\n".as_slice());
+    assert!(rt; output.writer.is_empty());
+    assert_eq!(rt; cuts.get(), 0);
+}
+
+// A strict run fails where a bus fault was answered. Its report is that of any run.
+#[test]
+fn a_bus_fault_fails_a_strict_run(rt: HostRuntime) {
+    for (words, input, status) in [
+        (["swd", "run", "-"].as_slice(), SCRIPT, 0),
+        (["swd", "run", "-", "--strict"].as_slice(), SCRIPT, 1),
+        (
+            ["swd", "run", "--strict", "-", "--trace", "traced"].as_slice(),
+            SCRIPT,
+            1,
+        ),
+        (
+            ["swd", "run", "-", "--strict"].as_slice(),
+            b"memory 0 1\nw 4 0\nr 0\n",
+            1,
+        ),
+        (
+            ["swd", "run", "-", "--strict"].as_slice(),
+            b"memory 0 1\nw 0 0\nr 0\n",
+            0,
+        ),
+        (
+            ["swd", "run", "-", "--strict", "--plan", "cut"].as_slice(),
+            SCRIPT,
+            1,
+        ),
+        (["swd", "run", "-", "--strict"].as_slice(), b"r 0\n", 2),
+    ] {
+        assert_eq!(rt; run_on(rt.alloc(), words, input).status, status);
+    }
+    let ran = run_on(
+        rt.alloc(),
+        ["swd", "run", "-", "--strict"].as_slice(),
+        SCRIPT,
+    );
+    assert_eq!(rt; ran.output.as_slice(), REPORT);
+    assert!(rt; ran.errors.is_empty());
+}
+
+// Takes one byte at a time.
+#[derive(Drop)]
+struct ByteByByte(Vec<u8>);
+
+impl Write for ByteByByte {
+    fn write(&mut self, buf: &[u8]) -> io::Result<usize> {
+        match buf.first() {
+            Some(byte) => {
+                self.0.push(*byte)?;
+                Ok(1)
+            }
+            None => Ok(0),
+        }
+    }
+
+    fn flush(&mut self) -> io::Result<()> {
+        Ok(())
+    }
+}
+
+// A bus fault is found however the report is cut, and only at the end of a line.
+#[test]
+fn a_bus_fault_is_found_in_pieces(rt: HostRuntime) -> Result<(), Fail> {
+    for (text, found) in [
+        (b"r 30000000 busfault\n".as_slice(), true),
+        (b"r  busfault\nend all 1\n", true),
+        (b"r 30000000 busfaul\n", false),
+        (b"r 30000000 busfaults\n", false),
+        (b"busfault\n", false),
+        (b"end all 1\n", false),
+    ] {
+        for looks in [true, false] {
+            let mut watch = Watch::new(ByteByByte(Vec::new(rt.alloc())));
+            watch.look(looks);
+            watch.write_all(text)?;
+            assert_eq!(rt; watch.has_found(), found && looks);
+            assert_eq!(rt; watch.writer.0.as_slice(), text);
+        }
+    }
+    Ok(())
 }
 
 #[test]
@@ -285,8 +493,9 @@ fn ends_that_fail_take_their_lines(rt: HostRuntime) {
             &mut input,
             &Shelf {
                 written: &Cell::new(0),
+                cuts: &Cell::new(0),
             },
-            &mut Broken,
+            &mut Watch::new(Broken),
             &mut errors,
         );
         assert_eq!(rt; errors.as_slice(), b"swd: write failed\n".as_slice());
@@ -370,6 +579,84 @@ fn help_and_version_go_to_standard_output(rt: HostRuntime) {
     assert_eq!(rt; ran.status, 2);
 }
 
+// A number of tries below 0 is refused for its range, as one that is too large is.
+#[test]
+fn negative_tries_are_refused_for_their_range(rt: HostRuntime) {
+    for words in [
+        ["swd", "run", "script", "--tries", "-1"].as_slice(),
+        ["swd", "run", "script", "--tries=-1"].as_slice(),
+        ["swd", "run", "script", "--tries=1001"].as_slice(),
+    ] {
+        let ran = run_on(rt.alloc(), words, b"".as_slice());
+        let range = b"is not in 0..=1000\n".as_slice();
+        let tells = ran.errors.windows(range.len()).any(|piece| piece == range);
+        assert!(rt; tells);
+        assert_eq!(rt; ran.status, 2);
+    }
+}
+
+// Whether a text has a line that begins with these words, behind blanks.
+fn has_line(text: &[u8], start: &str) -> bool {
+    text.split(|byte| *byte == b'\n').any(|line| line
+        .trim_ascii_start()
+        .starts_with(start.as_bytes()))
+}
+
+// The help of a run names each line of scripts, plans and reports, and stays within 80 columns.
+#[test]
+fn help_tells_each_word(rt: HostRuntime) {
+    for words in [
+        ["swd", "--help"].as_slice(),
+        ["swd", "run", "--help"].as_slice(),
+        ["swd", "one", "--help"].as_slice(),
+    ] {
+        let ran = run_on(rt.alloc(), words, b"".as_slice());
+        let is_narrow = ran
+            .output
+            .split(|byte| *byte == b'\n')
+            .all(|line| line.len() <= 80);
+        assert!(rt; is_narrow);
+    }
+    let ran = run_on(
+        rt.alloc(),
+        ["swd", "run", "--help"].as_slice(),
+        b"".as_slice(),
+    );
+    for start in [
+        "memory ",
+        "room ",
+        "w ADDR VALUE ",
+        "r ADDR ",
+        "rn ",
+        "block ",
+        ". ",
+        "wait ",
+        "flip ",
+        "deaf ",
+        "mute ",
+        "r ADDR WORD ",
+        "w ADDR written ",
+        "r ADDR busfault ",
+        "w ADDR busfault ",
+        "end all ",
+        "end lost ",
+        "end tries ",
+        "end id ",
+        "end confused ",
+        "word ",
+        "number ",
+        "range ",
+        "no memory line ",
+        "memory  ",
+        "--plan ",
+        "--tries ",
+        "--trace ",
+        "--strict ",
+    ] {
+        assert!(rt; has_line(ran.output.as_slice(), start));
+    }
+}
+
 #[test]
 fn words_without_a_file(rt: HostRuntime) {
     let one = line(rt.alloc(), ["swd", "one"].as_slice());
@@ -421,6 +708,12 @@ fn words_of_a_run(rt: HostRuntime) -> Result<(), Fail> {
     assert_eq!(rt; run.plan.ok_or("no plan")?.as_str(), "p");
     assert_eq!(rt; run.tries, 8);
     assert_eq!(rt; run.trace.ok_or("no trace")?.as_str(), "t");
+    assert!(rt; !run.strict);
+    let words = ["swd", "run", "--strict", "s"];
+    let Ok(Line::Run(run)) = line(rt.alloc(), words.as_slice()) else {
+        return Err(Fail::from("no run"));
+    };
+    assert!(rt; run.strict);
     for (text, tries) in [
         ("0", Some(0)),
         ("3", Some(3)),
@@ -447,6 +740,7 @@ fn words_that_are_no_command(rt: HostRuntime) {
         ["swd", "run", "a", "b"].as_slice(),
         ["swd", "run", "a", "--plan"].as_slice(),
         ["swd", "run", "a", "--trace"].as_slice(),
+        ["swd", "run", "a", "--strict=yes"].as_slice(),
     ] {
         let refused = matches!(line(rt.alloc(), words), Err(LineFault::Clap(_)));
         assert!(rt; refused);

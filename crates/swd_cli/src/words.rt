@@ -1,36 +1,46 @@
 //! The words of the command line.
-ghost use Rattle.std.specs.Prelude.{◌≡◌, IfOk, IfErr, IfSome, Some, [], map, false};
+ghost use Rattle.std.specs.Prelude.{◌≡◌, ◌↔◌, IfOk, IfErr, IfSome, Some, [], map, true, false, codes};
 ghost use Rattle.std.specs.Option.{option_map};
 ghost use Rattle.std.specs.String.{string_bytes};
 ghost use Rattle.clap.specs.Words.{app_of, found_of, rows_of, subcommand_of, subcommand_rows_of, rule_of, shape_of};
-ghost use Rattle.clap.specs.Words.{fault_of, with_rule, with_subcommand};
+ghost use Rattle.clap.specs.Words.{fault_of, kind_of, with_rule, with_subcommand};
 ghost use Rattle.clap.specs.declared.builder.command.Command.TheViews.{out-Command};
-ghost use Rattle.swd_cli.specs.Commands.{file_rule, plan_rule, script_rule, trace_rule, tries_rule};
-ghost use Rattle.swd_cli.specs.Commands.{bare_app, over_file, run_app, swd_app, AreTries, IsLineOf, IsRunOf, IsRefusal};
+ghost use Rattle.swd_cli.specs.Commands.{file_rule, plan_rule, script_rule, strict_rule, trace_rule, tries_rule};
+ghost use Rattle.swd_cli.specs.Commands.{bare_app, over_a_script, over_file, run_app, swd_app, AreTries, IsLineOf, IsOfKind, IsRunOf, IsRefusal};
 
 use crate::command::{Line, LineFault, RunLine};
 use clap::error::ErrorKind;
-use clap::{Arg, ArgMatches, Command, value_parser};
+use clap::{Arg, ArgAction, ArgMatches, Command, Error, value_parser};
 use std::alloc::{AllocError, Global};
 
 const VERSION: &str = "0.1.0";
 
 const ABOUT: &str =
-    "Runs accesses over the Serial Wire Debug (SWD) line, and reads and writes its traces.";
+    "Runs accesses over a Serial Wire Debug (SWD) line, and reads and writes traces";
 
 const AFTER: &str = "\
-A trace is text: a character 0 or 1 for each bit on the line, in time order. Blanks and line
-ends are passed over, and so is everything from # up to the end of the line.
+A trace is text: a character 0 or 1 for each bit on the line, in time order.
+Blanks and line ends are passed over, and so is all from # to the line's end.
 
-A listing has one line an item: reset N and idle N (that many ones or zeros), switch (from JTAG),
-a transaction as in 'dp 0 read ok 2ba01477' or 'ap c write wait' (also fault, bad WORD for wrong
-parity, none N for no acknowledgement), junk B (a bit that belongs to nothing), cut BITS (the end
-of a trace that was cut off).
+A listing has one line an item:
+  reset N              N ones, at least 50: a line reset
+  switch               from JTAG to serial wire, after a reset
+  idle N               N zeros
+  dp 0 read ok WORD    a transaction: dp or ap; the register 0, 4, 8 or c; read
+                       or write; and what came of it. ok: the word moved
+  dp 0 read bad WORD   the word moved with wrong parity
+  dp 0 read wait       not now, the target said
+  dp 0 read fault      the target refused
+  dp 0 read none N     another acknowledgement was seen: 0, 3, 5, 6 or 7
+  junk B               a bit that belongs to nothing
+  cut BITS             the end of a trace that was cut off
+WORD is 8 hexadecimal digits, N a decimal number.
 
 FILE may be - for standard input; a file of that name is ./-
 
-Status: 0 all done; 1 a run that ended before all was done; 2 a fault of words, texts, files or
-memory, which is told on standard error.
+Status: 0 all done; 1 a run that ended before all was done, or that --strict
+fails; 2 a fault of words, texts, files or memory, which takes a line on
+standard error.
 
 Example, a read of the debug port's identification register:
   echo '10100101 1 100 11101110001010000000010111010100 0 1' | swd decode
@@ -45,37 +55,61 @@ const ENCODE_ABOUT: &str = "Writes the trace of a listing, one line an item";
 const RUN_ABOUT: &str = "Runs a script's accesses over a simulated target, each once";
 
 const RUN_AFTER: &str = "\
-A script has one command a line; # begins a comment. Addresses and values are hexadecimal, counts
-decimal:
-  memory 20000000 16       the target's words, all zero: the first address, and how many
-  room 100                 how many transfers the target does, before the first access; after so
-                           many each is a bus error
-  w 20000000 deadbeef      writes a word
-  r 20000000               reads a word
-  rn 20000000 4            reads words, here four, one after the other
-  block 20000000 4         reads the same words as one block, at one request a word; no other line
-                           with accesses may stand beside it
+SCRIPT may be - for standard input. The plan and the trace are files: - is none.
+The trace may be neither the script, nor the plan, nor standard output.
 
-A plan has one mark a line, what befalls the first request, the second and so on. After its last
-line nothing does:
-  .         nothing
-  wait      the target says WAIT
-  flip 3    bit 3 of the data arrives changed (0 to 31, and 32 for the parity bit)
-  deaf      the target does not see the request
-  mute 0    bit 0 of the acknowledgement arrives changed (0 to 2)
+A script has one command a line; # begins a comment. BASE, ADDR and VALUE are 1
+to 8 hexadecimal digits, addresses multiples of 4; WORDS, N and COUNT are 1 to
+10 decimal digits. A script has at most 65536 accesses.
+  memory BASE WORDS  the first command: the target's memory, 1 to 65536 words
+                     from BASE on, all zero, none past ffffffff
+  room N             once, before the first access: the target does N transfers,
+                     0 to 65536, and answers each later one with a bus error.
+                     Without it N is 65536
+  w ADDR VALUE       writes a word
+  r ADDR             reads a word
+  rn ADDR COUNT      reads COUNT words, at least 1, each by an access of its own
+  block ADDR COUNT   reads them as one block, at one request a word; no other
+                     access may stand in the script
 
-The report has one line an answer, and then how the run ended: all, with the number of answers;
-lost (no acknowledgement was seen) or tries (more WAITs or changed data than --tries for one
-access), with the number of accesses that were begun then and may have taken place.
+A plan has one mark a line, for the first request, the second and so on. After
+its last line nothing befalls a request.
+  .        nothing
+  wait     the target says WAIT
+  flip P   bit P of the data arrives changed: 0 to 31, and 32 for the parity bit
+  deaf     the target does not see the request
+  mute P   bit P, 0 to 2, of the acknowledgement arrives changed
+
+The report has one line an answer, in the script's order:
+  r ADDR WORD        the word that was read
+  w ADDR written     the write took place, once
+  r ADDR busfault    no word is there, or the target's room is used up; the
+  w ADDR busfault    same of a write. Nothing took place
+and then one line of how the run ended, after K answers. Of the accesses behind
+these, B were begun and may have taken place:
+  end all K              all accesses were answered
+  end lost K begun B     no acknowledgement was seen
+  end tries K begun B    more WAITs and changed data for one access than --tries
+  end id WORD            the target named itself by an unknown WORD
+  end confused K begun B the target did what none does
 
 A trace has what went over the line, one item a line: swd decode lists it.
 
-Status: 0 where the run ended all, 1 where it ended otherwise, 2 at a fault.";
+Status: 0 where the run ended all, 1 where it ended otherwise, 2 at a fault. A
+bus fault is an answer: without --strict it counts as done, with it the status
+is 1. A fault is told on standard error with its line, counted from 1:
+  word            an unknown command or mark, or one that may not stand there
+  number          the digits are no number of 32 bits
+  range           a number is out of its range
+  no memory line  an access or room before memory
+  memory          no memory was left for the line";
 
 // How many events an access may meet, where the words don't say it, and at most.
 const TRIES: u32 = 8;
 
 const MOST_TRIES: i64 = 1000;
+
+const TRIES_RANGE: &str = "the value of '--tries <N>' is not in 0..=1000";
 
 // A value as an owned text.
 fn owned(alloc: Global, text: Option<&str>) -> Result<Option<String>, AllocError>
@@ -110,9 +144,10 @@ fn plan_arg<'a>(alloc: Global) -> Arg<'a>
     ensures rule { rule_of result ≡ plan_rule }
     ensures local { result.global ≡ false }
 {
-    Arg::new(alloc, "plan").long("plan").value_name("FILE").help(
-        "The file with the plan; without it nothing befalls the requests",
-    )
+    Arg::new(alloc, "plan")
+        .long("plan")
+        .value_name("FILE")
+        .help("The file with the plan; without it nothing is damaged")
 }
 
 // The file that the trace is written to.
@@ -123,7 +158,18 @@ fn trace_arg<'a>(alloc: Global) -> Arg<'a>
     Arg::new(alloc, "trace")
         .long("trace")
         .value_name("FILE")
-        .help("The file to write the trace to: all that went over the line")
+        .help("The file to write the trace to; what it held is cut off")
+}
+
+// Whether bus faults fail the run.
+fn strict_arg<'a>(alloc: Global) -> Arg<'a>
+    ensures rule { rule_of result ≡ strict_rule }
+    ensures local { result.global ≡ false }
+{
+    Arg::new(alloc, "strict")
+        .long("strict")
+        .action(ArgAction::SetTrue)
+        .help("Status 1 also where an access was answered busfault")
 }
 
 // How many events an access may meet.
@@ -136,7 +182,7 @@ fn tries_arg<'a>(alloc: Global) -> Arg<'a>
         .value_name("N")
         .value_parser(value_parser!(u32).range(0..=1000))
         .default_value("8")
-        .help("How many WAITs and changed data each access may meet")
+        .help("WAITs and changed data per access, 0 to 1000")
 }
 
 fn with_arg<'a>(command: Command<'a>, arg: Arg<'a>) -> Result<Command<'a>, AllocError>
@@ -166,18 +212,27 @@ fn over_a_file<'a>(alloc: Global, name: &'a str, about: &'a str) -> Result<Comma
     with_arg(bare, file_arg(alloc))
 }
 
-// The command that runs a script.
-fn run_command<'a>(alloc: Global) -> Result<Command<'a>, AllocError>
-    ensures app { IfOk result (λ c. app_of c ≡ run_app) }
+// The command that runs a script, with the texts that it reads.
+fn over_a_script<'a>(alloc: Global) -> Result<Command<'a>, AllocError>
+    ensures app { IfOk result (λ c. app_of c ≡ over_a_script) }
     ensures local { IfOk result (λ c. (out-Command c).has_globals ≡ false) }
 {
     let bare = Command::new(alloc, "run")
         .about(RUN_ABOUT)
         .after_help(RUN_AFTER);
     let script = with_arg(bare, script_arg(alloc))?;
-    let plan = with_arg(script, plan_arg(alloc))?;
-    let tries = with_arg(plan, tries_arg(alloc))?;
-    with_arg(tries, trace_arg(alloc))
+    with_arg(script, plan_arg(alloc))
+}
+
+// The whole of it.
+fn run_command<'a>(alloc: Global) -> Result<Command<'a>, AllocError>
+    ensures app { IfOk result (λ c. app_of c ≡ run_app) }
+    ensures local { IfOk result (λ c. (out-Command c).has_globals ≡ false) }
+{
+    let bare = over_a_script(alloc)?;
+    let tries = with_arg(bare, tries_arg(alloc))?;
+    let trace = with_arg(tries, trace_arg(alloc))?;
+    with_arg(trace, strict_arg(alloc))
 }
 
 // The program without its commands, of which one is required.
@@ -205,7 +260,9 @@ fn swd_command<'a>(alloc: Global) -> Result<Command<'a>, AllocError>
 }
 
 // Words that `clap` took and that ask for nothing: there are none.
-fn refused(alloc: Global, kind: ErrorKind, why: &str) -> LineFault {
+fn refused(alloc: Global, kind: ErrorKind, why: &str) -> LineFault
+    ensures { IsOfKind kind result }
+{
     let mut command = Command::new(alloc, "swd");
     match command.error(kind, why) {
         Ok(error) => LineFault::Clap(error),
@@ -215,6 +272,25 @@ fn refused(alloc: Global, kind: ErrorKind, why: &str) -> LineFault {
 
 fn unknown(alloc: Global) -> LineFault {
     refused(alloc, ErrorKind::InvalidSubcommand, "unknown command")
+}
+
+// Whether a run's number of tries is below 0: `clap` takes the number for an option that nobody knows.
+fn asks_for_negative_tries(words: &[&str]) -> bool {
+    words.get(1) == Some(&"run")
+        && words.windows(2).any(|pair| {
+            pair[0] == "--tries" && pair[1].parse::<i64>().is_ok_and(|number| number < 0)
+        })
+}
+
+// A mistake that `clap` found. Negative numbers of tries are told by their range.
+fn told(alloc: Global, words: &[&str], fault: Error) -> LineFault
+    ensures { IsOfKind (kind_of fault) result }
+{
+    if fault.kind() == ErrorKind::UnknownArgument && asks_for_negative_tries(words) {
+        refused(alloc, fault.kind(), TRIES_RANGE)
+    } else {
+        LineFault::Clap(fault)
+    }
 }
 
 // The number that a word stands for. `None` where it is none of 0 to 1,000.
@@ -241,6 +317,13 @@ fn tries_in(word: Option<&str>) -> Option<u32>
     }
 }
 
+// Whether a flag is set, by its word.
+fn is_asked_for(word: Option<&str>) -> bool
+    ensures { (result ≡ true) ↔ (option_map (λ s. s.now) word.entry ≡ Some (codes "true")) }
+{
+    word == Some("true")
+}
+
 // What `swd run` is given.
 fn run_line(alloc: Global, matches: &ArgMatches<'_>) -> Result<RunLine, LineFault>
     ensures { IfOk result (λ run. IsRunOf run (rows_of (found_of matches.now))) }
@@ -255,13 +338,14 @@ fn run_line(alloc: Global, matches: &ArgMatches<'_>) -> Result<RunLine, LineFaul
         return Err(LineFault::Memory);
     };
     let Some(tries) = tries_in(matches.get_str("tries")) else {
-        return Err(refused(alloc, ErrorKind::InvalidValue, "a number of tries is wrong"));
+        return Err(refused(alloc, ErrorKind::InvalidValue, TRIES_RANGE));
     };
     Ok(RunLine {
         script,
         plan,
         tries,
         trace,
+        strict: is_asked_for(matches.get_str("strict")),
     })
 }
 
@@ -287,7 +371,6 @@ fn line_of(alloc: Global, matches: &ArgMatches<'_>) -> Result<Line, LineFault>
     }
 }
 
-#[tactic(auto, using(crate::proofs::CommandLemmas::simple, crate::proofs::CommandLemmas::simple_and_free))]
 /// What the words ask for, the program's name first.
 ///
 /// At `Ok` the command, its names and its number are those that the words have by `clap`'s meaning of
@@ -307,6 +390,6 @@ pub fn line<'a>(alloc: Global, words: &'a [&'a str]) -> Result<Line, LineFault>
     };
     match command.try_get_matches_from(words) {
         Ok(matches) => line_of(alloc, &matches),
-        Err(fault) => Err(LineFault::Clap(fault)),
+        Err(fault) => Err(told(alloc, words, fault)),
     }
 }

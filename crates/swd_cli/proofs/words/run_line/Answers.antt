@@ -1,4 +1,4 @@
-use Rattle.std.proofs.Common.{◌∙◌, Option, sym, ap, subst, codes}
+use Rattle.std.proofs.Common.{◌∙◌, ◌≡◌, ◌↔◌, Option, Some, true, sym, ap, subst, codes}
 use Rattle.std.specs.Option.{option_map}
 use Rattle.std.specs.String.{string_bytes}
 use Rattle.clap.specs.Words.{Text, found_of}
@@ -12,4 +12,6 @@ returns c = record {
   plan = c.in-Ok.ensures ∙ c.get_str-2.ensures ∙ first_value-rows (found_of c.args.matches.now) (codes "plan");
   tries = subst (λ (word : Option Text). AreTries c.in-Some.tries word) (c.get_str-4.ensures ∙ first_value-rows (found_of c.args.matches.now) (codes "tries")) c.in-Some.ensures;
   trace = c.in-Ok-owned.ensures ∙ c.get_str-3.ensures ∙ first_value-rows (found_of c.args.matches.now) (codes "trace");
+  strict = subst (λ (word : Option Text). (c.is_asked_for.result ≡ true) ↔ (word ≡ Some (codes "true")))
+      (c.get_str-5.ensures ∙ first_value-rows (found_of c.args.matches.now) (codes "strict")) c.is_asked_for.ensures;
 }

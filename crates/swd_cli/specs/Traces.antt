@@ -1,0 +1,10 @@
+-- Which file a trace goes to.
+use Rattle.std.specs.Prelude.{◌≢◌, ℕ, List, Some, codes}
+use Rattle.swd_cli.specs.declared.files.Identity.{Identity}
+use Rattle.swd_cli.specs.declared.trace.Sources.{Sources}
+
+-- the trace's file is neither the script's nor the plan's, and has a name: `-` would be standard output
+pub record IsBeside (trace : Identity) (name : List ℕ) (read : Sources) : Type 0 where
+  pub named : name ≢ codes "-"
+  pub script : read.script ≢ Some trace
+  pub plan : read.plan ≢ Some trace

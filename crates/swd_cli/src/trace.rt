@@ -1,0 +1,43 @@
+//! The file of a trace, which may be none of the others.
+ghost use Rattle.std.specs.Prelude.{IfOk};
+ghost use Rattle.swd_cli.specs.Traces.{IsBeside};
+
+use crate::files::{Files, Identity, Opened};
+use std::io;
+use std::io::ErrorKind;
+
+/// The files that a run reads.
+#[derive(Clone, Copy, Debug, PartialEq, Eq)]
+pub struct Sources {
+    /// The script's. `None` where it is standard input.
+    pub script: Option<Identity>,
+    /// The plan's, where one is named.
+    pub plan: Option<Identity>,
+}
+
+/// Opens the file that a trace is written to, and cuts off what it holds once it is known to be neither the
+/// script, nor the plan, nor standard output.
+///
+/// # Errors
+///
+/// Where it is one of these, under whatever name, or may be; for `-`; and where it can't be opened or made. A file
+/// that was there is as it was then.
+pub fn open_trace<F: Files>(files: &F, name: &str, read: Sources) -> io::Result<Opened<F::Made>>
+    ensures { IfOk result (λ trace. IsBeside trace.identity name.now read) }
+{
+    if name == "-" {
+        return Err(io::Error::from(ErrorKind::InvalidInput));
+    }
+    let script = match read.script {
+        Some(script) => Some(script),
+        None => files.standard_input()?,
+    };
+    let output = files.standard_output()?;
+    let trace = files.open_to_write(name)?;
+    let identity = Some(trace.identity);
+    if identity == script || identity == read.plan || identity == output {
+        return Err(io::Error::from(ErrorKind::InvalidInput));
+    }
+    files.cut_off(&trace.file)?;
+    Ok(trace)
+}
