@@ -2,7 +2,7 @@
 use clap::Error;
 
 /// A command of the program, with the names that it was given.
-#[derive(Debug, Drop)]
+#[derive(Drop)]
 pub enum Line {
     /// `swd one [FILE]`: without a file, standard input.
     One(Option<String>),
@@ -15,7 +15,7 @@ pub enum Line {
 }
 
 /// What `swd run` is given.
-#[derive(Debug, Drop)]
+#[derive(Drop)]
 pub struct RunLine {
     /// The file of the script, or `-` for standard input.
     pub script: String,

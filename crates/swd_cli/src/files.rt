@@ -9,7 +9,7 @@ use std::os::unix::fs::MetadataExt;
 use std::{fs, io};
 
 /// Which file it is, whatever its names are.
-#[derive(Clone, Copy, Debug, PartialEq, Eq)]
+#[derive(Clone, Copy, PartialEq, Eq)]
 pub struct Identity {
     /// The device that it is on.
     pub device: u64,

@@ -7,7 +7,7 @@ use std::io;
 use std::io::ErrorKind;
 
 /// The files that a run reads.
-#[derive(Clone, Copy, Debug, PartialEq, Eq)]
+#[derive(Clone, Copy)]
 pub struct Sources {
     /// The script's. `None` where it is standard input.
     pub script: Option<Identity>,

@@ -16,7 +16,7 @@ pub struct Watch<W> {
 }
 
 // How far a text was searched for `BUS_FAULT`.
-#[derive(Clone, Copy, Debug)]
+#[derive(Clone, Copy)]
 struct Search {
     // with how many of its bytes the text ends so far
     matched: usize,

@@ -1,0 +1,159 @@
+//! The engine without a wire: it says what to send, and is told what was seen.
+ghost use Rattle.std.specs.Prelude.{◌≤◌};
+
+use crate::whole::{BASE, Failure, IMAGE, writes};
+use std::alloc::Global;
+use swd_clocked::Clocked;
+use swd_host::{Cue, End, Engine, Outcome};
+use swd_port::{Access, Answer};
+use swd_target::{Memory, Quirks};
+
+const QUIRKS: Quirks = Quirks {
+    wrap: true,
+    late: false,
+    filler: 0,
+};
+
+/// The pins SWCLK and SWDIO. Here a simulated target is at their other end; on a board, registers are.
+#[derive(Drop)]
+pub struct Pins {
+    target: Clocked,
+}
+
+impl Pins {
+    // One clock. The host drives this level, or leaves SWDIO alone; the level that stands there is returned.
+    fn clock(&mut self, drive: Option<bool>) -> bool {
+        self.target.cycle(drive)
+    }
+
+    // Drives so many bits of a number, the first in time least significant.
+    fn send(&mut self, bits: u64, count: u32)
+        requires { count ≤ 64 }
+    {
+        for place in 0..count {
+            self.clock(Some(bits >> place & 1 == 1));
+        }
+    }
+
+    // Drives one level for so many clocks.
+    fn hold(&mut self, level: bool, count: u32) {
+        for _ in 0..count {
+            self.clock(Some(level));
+        }
+    }
+
+    // Looks at so many bits, the first in time least significant.
+    fn see(&mut self, count: u32) -> u64
+        requires { count ≤ 64 }
+    {
+        let mut bits = 0;
+        for place in 0..count {
+            bits |= u64::from(self.clock(None)) << place;
+        }
+        bits
+    }
+
+    // A cycle that nobody drives, where the line changes hands.
+    fn turn_around(&mut self) {
+        self.clock(None);
+    }
+
+    // Does what the engine asks for, and tells it what came of that.
+    fn follow(&mut self, engine: &mut Engine) {
+        match engine.cue() {
+            Cue::Lead {
+                ones,
+                switch,
+                zeros,
+            } => {
+                self.hold(true, ones);
+                if switch {
+                    self.send(0xe79e, 16);
+                    self.hold(true, ones);
+                }
+                self.hold(false, zeros);
+                engine.done();
+            }
+            Cue::Ask(request) => {
+                self.send(u64::from(request.bits()), 8);
+                self.turn_around();
+                let seen = self.see(3);
+                engine.seen((seen % 8) as u8);
+            }
+            Cue::Take => {
+                let bits = self.see(33);
+                self.turn_around();
+                engine.taken(bits % (1 << 33));
+            }
+            Cue::Give(bits) => {
+                self.turn_around();
+                self.send(bits, 33);
+                engine.done();
+            }
+            Cue::Pass => {
+                self.turn_around();
+                engine.done();
+            }
+            Cue::Rest => {}
+        }
+    }
+
+    // Follows the engine until it has come to something. It has after some hundred cues at most.
+    fn come_to(&mut self, engine: &mut Engine) -> Outcome {
+        for _ in 0..u32::MAX {
+            match engine.finished() {
+                Some(outcome) => return outcome,
+                None => self.follow(engine),
+            }
+        }
+        Outcome::Stopped(End::Confused)
+    }
+
+    // Does an access, where the engine has come to the end of the one before.
+    fn access(
+        &mut self,
+        engine: &mut Engine,
+        access: Access,
+        following: Option<Access>,
+    ) -> Result<Answer, Failure> {
+        match engine.finished() {
+            Some(Outcome::Opened) | Some(Outcome::Answered(_)) => engine.start(access, following),
+            _ => return Err(Failure::Stopped(End::Confused)),
+        }
+        match self.come_to(engine) {
+            Outcome::Answered(answer) => Ok(answer),
+            Outcome::Stopped(end) => Err(Failure::Stopped(end)),
+            Outcome::Opened => Err(Failure::Stopped(End::Confused)),
+        }
+    }
+}
+
+/// Loads the image, each write with the next one in view, so that the engine confirms it by that one.
+pub fn load(alloc: Global) -> Result<(), Failure> {
+    let memory = Memory::new(alloc, BASE, 64, 65_536)?;
+    let mut pins = Pins {
+        target: Clocked::new(memory, QUIRKS),
+    };
+    let mut engine = Engine::new(8);
+    match pins.come_to(&mut engine) {
+        Outcome::Opened => {}
+        Outcome::Stopped(end) => return Err(Failure::Stopped(end)),
+        Outcome::Answered(_) => return Err(Failure::Stopped(End::Confused)),
+    }
+    let accesses = writes(alloc)?;
+    for (index, access) in accesses.iter().enumerate() {
+        let following = accesses.get(index.saturating_add(1)).copied();
+        if pins.access(&mut engine, *access, following)? == Answer::BusFault {
+            return Err(Failure::BusFault(index));
+        }
+    }
+    // Eight cycles more, so that the last transfer goes through.
+    pins.hold(false, 8);
+    for (index, word) in IMAGE.iter().enumerate() {
+        let addr = BASE.wrapping_add(4 * (index as u32));
+        if pins.target.memory().word(addr) != Some(*word) {
+            return Err(Failure::Differs(index));
+        }
+    }
+    Ok(())
+}

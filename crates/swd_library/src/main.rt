@@ -1,0 +1,23 @@
+//! How a program uses the host: once by `run` and `run_block` over a wire, once by the engine alone over two pins.
+#![tactic(auto)]
+
+mod by_hand;
+mod whole;
+
+use std::io;
+use std::process::ExitCode;
+
+fn main(rt: HostRuntime) -> io::Result<ExitCode> {
+    let loaded = whole::load(rt.alloc());
+    let driven = by_hand::load(rt.alloc());
+    for (name, failed) in [("run", loaded.err()), ("by hand", driven.err())] {
+        match failed {
+            None => println!(rt; "{name}: the words are there")?,
+            Some(failure) => {
+                println!(rt; "{name}: {failure}")?;
+                return Ok(ExitCode::FAILURE);
+            }
+        }
+    }
+    Ok(ExitCode::SUCCESS)
+}

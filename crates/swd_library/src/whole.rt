@@ -1,0 +1,107 @@
+//! The host over a wire: words are written by `run`, and read back by `run_block`.
+use std::alloc::{AllocError, Global};
+use swd_host::{End, Refused, run, run_block};
+use swd_port::{Access, Answer};
+use swd_target::{Bench, MakeFault, Memory, Quirks};
+use thiserror::Error;
+
+/// Why the words aren't there.
+#[derive(Debug, Drop, Error)]
+pub enum Failure {
+    #[error("no memory")]
+    Memory,
+    /// The list was refused: an address, or too many accesses. Nothing was sent.
+    #[error("the accesses were refused")]
+    Refused,
+    /// The host stopped early.
+    #[error("the run ended before all was done")]
+    Stopped(End),
+    /// The target answered an access with a bus fault.
+    #[error("access {0} met a bus fault")]
+    BusFault(usize),
+    /// A word that was read isn't the one that was written.
+    #[error("word {0} is another")]
+    Differs(usize),
+}
+
+impl From<AllocError> for Failure {
+    fn from(_: AllocError) -> Failure {
+        Failure::Memory
+    }
+}
+
+impl From<Refused> for Failure {
+    fn from(refused: Refused) -> Failure {
+        match refused {
+            Refused::Memory => Failure::Memory,
+            Refused::Unaligned { .. } | Refused::TooMany => Failure::Refused,
+        }
+    }
+}
+
+impl From<MakeFault> for Failure {
+    fn from(_: MakeFault) -> Failure {
+        Failure::Memory
+    }
+}
+
+/// Where the words go.
+pub const BASE: u32 = 0x2000_0000;
+
+/// What is loaded.
+pub const IMAGE: [u32; 4] = [0x2000_1000, 0x2000_0011, 0xe7fe_e7fe, 0xbf00_bf00];
+
+// How many WAITs and changed data an access may meet.
+const TRIES: u32 = 8;
+
+const QUIRKS: Quirks = Quirks {
+    wrap: true,
+    late: false,
+    filler: 0,
+};
+
+/// The writes that load the image.
+pub fn writes(alloc: Global) -> Result<Vec<Access>, AllocError> {
+    let mut accesses = Vec::new(alloc);
+    let mut addr = BASE;
+    for word in IMAGE {
+        accesses.push(Access::Write(addr, word))?;
+        addr = addr.wrapping_add(4);
+    }
+    Ok(accesses)
+}
+
+// Each answer is the word of the image.
+fn compare(answers: &[Answer]) -> Result<(), Failure> {
+    for (index, (answer, word)) in answers.iter().zip(IMAGE.iter()).enumerate() {
+        match answer {
+            Answer::Value(read) if read == word => {}
+            Answer::BusFault => return Err(Failure::BusFault(index)),
+            _ => return Err(Failure::Differs(index)),
+        }
+    }
+    Ok(())
+}
+
+/// Loads the image, and reads it back.
+pub fn load(alloc: Global) -> Result<(), Failure> {
+    // The wire: here a simulated target. A probe's is an `impl Wire` of your own, or a `Transport` under `run_outside`.
+    let memory = Memory::new(alloc, BASE, 64, 65_536)?;
+    let mut wire = Bench::new(memory, QUIRKS, Vec::new(alloc));
+    let report = run(alloc, &mut wire, writes(alloc)?.as_slice(), TRIES)?;
+    if report.ended != End::All {
+        return Err(Failure::Stopped(report.ended));
+    }
+    if let Some(index) = report
+        .answers
+        .iter()
+        .position(|answer| *answer == Answer::BusFault)
+    {
+        return Err(Failure::BusFault(index));
+    }
+    let report = run_block(alloc, &mut wire, BASE, 4, TRIES)?;
+    if report.ended != End::All {
+        return Err(Failure::Stopped(report.ended));
+    }
+    compare(report.answers.as_slice())
+}
