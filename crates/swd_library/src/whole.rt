@@ -1,7 +1,7 @@
 //! The host over a wire: words are written by `run`, and read back by `run_block`.
 use std::alloc::{AllocError, Global};
 use swd_host::{End, Refused, run, run_block};
-use swd_port::{Access, Answer};
+use swd_port::{Access, Answer, Due, Wire};
 use swd_target::{Bench, MakeFault, Memory, Quirks};
 use thiserror::Error;
 
@@ -99,6 +99,10 @@ pub fn load(alloc: Global) -> Result<(), Failure> {
     {
         return Err(Failure::BusFault(index));
     }
+    // The next call asks for a wire that rests, as it does after a whole run.
+    let Due::Nothing = wire.due() else {
+        return Err(Failure::Stopped(report.ended));
+    };
     let report = run_block(alloc, &mut wire, BASE, 4, TRIES)?;
     if report.ended != End::All {
         return Err(Failure::Stopped(report.ended));
