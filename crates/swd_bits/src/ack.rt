@@ -18,6 +18,7 @@ pub enum Ack {
 impl Ack {
     /// The acknowledgement whose three bits were seen as this number, the first bit in time least
     /// significant: 1 is OK, 2 is WAIT, 4 is FAULT. `None` for the other five.
+    #[inline(always)]
     pub fn of(seen: u8) -> Option<Ack>
         requires { seen < 8 }
         ensures found { IfSome result (λ a. ack a ≡ low_bits 3 seen) }

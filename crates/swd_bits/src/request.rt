@@ -30,6 +30,7 @@ pub struct Request {
 
 impl Reg4 {
     // The register with the address bits A[3:2].
+    #[inline(always)]
     fn of(code: u8) -> Reg4
         requires { code < 4 }
         ensures { result ≡ reg4_of code }
@@ -46,6 +47,7 @@ impl Reg4 {
 impl Request {
     /// The eight bits in time order, the first bit least significant:
     /// Start, APnDP, RnW, A[2], A[3], Parity, Stop, Park.
+    #[inline(always)]
     pub fn bits(&self) -> u8
         ensures { low_bits 8 result ≡ request self.now }
     {
@@ -56,6 +58,7 @@ impl Request {
 
     /// The request with these eight bits, the first bit least significant. `None` where they are
     /// none: a wrong Start, Parity, Stop or Park bit. Sixteen of the 256 values are requests.
+    #[inline(always)]
     pub fn of(byte: u8) -> Option<Request>
         ensures found { IfSome result (λ q. request q ≡ low_bits 8 byte) }
         ensures only { IfSome result (λ q. (other : Request) → request other ≡ low_bits 8 byte → other ≡ q) }

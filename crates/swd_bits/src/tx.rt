@@ -60,6 +60,7 @@ impl Tx {
     }
 
     /// The transaction that these bits are, all of them together, with turnarounds of any value.
+    #[inline(always)]
     pub fn of(spelled: TxBits) -> Option<Tx>
         requires whole { IsSpelled spelled }
         requires short { spelled.len ≤ 49 }
@@ -128,6 +129,7 @@ fn ending_of(read: bool, end: TxEnd) -> TxBits
 }
 
 // A word, and whether the parity after it is right.
+#[inline(always)]
 fn phase_in(phase: TxBits) -> (u32, bool)
     requires whole { IsSpelled phase }
     requires len { phase.len ≡ 33 }
@@ -142,26 +144,24 @@ fn phase_in(phase: TxBits) -> (u32, bool)
 }
 
 // The data phase of a read or a write.
+#[inline(always)]
 fn moved_of(read: bool, rest: TxBits) -> TxEnd
     requires whole { IsSpelled rest }
     requires len { rest.len ≡ 34 }
     ensures { HasMoved read result (bits_of rest) }
 {
-    if read {
-        let (phase, _) = rest.split(33);
-        let (word, parity_ok) = phase_in(TxBits {
-            len: 33,
-            bits: phase,
-        });
-        TxEnd::Moved { word, parity_ok }
-    } else {
-        let (_, phase) = rest.split(1);
-        let (word, parity_ok) = phase_in(phase);
-        TxEnd::Moved { word, parity_ok }
-    }
+    // No branch: whether a transaction reads can't be foreseen.
+    let (_, phase) = rest.split(u8::from(!read));
+    let (phase, _) = phase.split(33);
+    let (word, parity_ok) = phase_in(TxBits {
+        len: 33,
+        bits: phase,
+    });
+    TxEnd::Moved { word, parity_ok }
 }
 
 // What the three bits and those after them say.
+#[inline(always)]
 fn end_of(read: bool, seen: u8, rest: TxBits) -> Option<TxEnd>
     requires seen { seen < 8 }
     requires whole { IsSpelled rest }

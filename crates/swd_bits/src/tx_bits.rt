@@ -40,6 +40,7 @@ impl TxBits {
     }
 
     // The first `len` bits as a number, and the bits after them.
+    #[inline(always)]
     pub(crate) fn split(self, len: u8) -> (u64, TxBits)
         requires whole { IsSpelled self }
         requires within { len ≤ self.len }

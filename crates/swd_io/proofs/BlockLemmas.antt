@@ -5,11 +5,12 @@ use Rattle.std.proofs.KnownBytes.{Appends-trans}
 use Rattle.std.proofs.lemmas.List.{length-append, append-nil, take-append-le}
 use Rattle.std.proofs.Math.Seq.{take-append-add}
 use Rattle.swd_io.specs.Blocks.{Carries, Stopped, SendsBy}
+use Rattle.swd_io.specs.Helds.{held_bytes}
 use Rattle.swd_io.specs.declared.block.Block.{Block}
 
 -- what was held went out
 pub gone_out : {W : Type 0} (contents : W → Option (List ℕ)) (start : Option (List ℕ)) (block after : Block W) (all text : List ℕ) →
-    text ≡ block.held.items → Appends (contents block.writer.now) (contents after.writer.now) text → after.held.items ≡ [] →
+    text ≡ held_bytes block.held → Appends (contents block.writer.now) (contents after.writer.now) text → held_bytes after.held ≡ [] →
     after.written ≡ min (block.written + length text) (2 ^ 64 - 1) → Carries contents start block all → Carries contents start after all
 gone_out contents start block after all text e a n m h =
     let whole : all ≡ h.sent ++ text = h.whole ∙ ap (λ x. h.sent ++ x) (sym e) in
@@ -25,7 +26,7 @@ gone_out contents start block after all text e a n m h =
 
 -- a beginning of what was held went out
 pub cut_short : {W : Type 0} (contents : W → Option (List ℕ)) (start new : Option (List ℕ)) (block : Block W) (all text : List ℕ) (k told : ℕ) →
-    text ≡ block.held.items → k < length text → Appends (contents block.writer.now) new (take k text) → told ≡ min (block.written + k) (2 ^ 64 - 1) →
+    text ≡ held_bytes block.held → k < length text → Appends (contents block.writer.now) new (take k text) → told ≡ min (block.written + k) (2 ^ 64 - 1) →
     Carries contents start block all → Stopped told start new all
 cut_short contents start new block all text k told e l a m h =
     let whole : all ≡ h.sent ++ text = h.whole ∙ ap (λ x. h.sent ++ x) (sym e) in

@@ -1,11 +1,12 @@
 -- A text that goes out in blocks.
 use Rattle.std.specs.Prelude.{◌≡◌, ℕ, ◌-◌, ◌^◌, ◌<◌, min, Bool, true, false, List, ◌++◌, length, take, Option, Result, Ok, Err}
 use Rattle.std.specs.Io.KnownBytes.{Appends}
+use Rattle.swd_io.specs.Helds.{held_bytes, count_of}
 use Rattle.swd_io.specs.declared.block.Block.{Block}
 
 -- how many bytes are held back
 abbrev pub held_len : {W : Type 0} → Block W → ℕ
-held_len block = length block.held.items
+held_len block = count_of block.held
 
 -- whether the writer failed
 abbrev pub is_failed : {W : Type 0} → Block W → Bool
@@ -17,7 +18,7 @@ pub record Carries {W : Type 0} (contents : W → Option (List ℕ)) (start : Op
     (all : List ℕ) : Type 0 where
   pub sent : List ℕ
   pub gone : Appends start (contents block.writer.now) sent
-  pub whole : all ≡ sent ++ block.held.items
+  pub whole : all ≡ sent ++ held_bytes block.held
   pub count : block.written ≡ min (length sent) (2 ^ 64 - 1)
 
 -- The writer began with `start`, and exactly the first bytes of the text went out, as many as are told, and not all;

@@ -1,14 +1,11 @@
 //! A block of text on its way to a writer.
-ghost use Rattle.std.specs.Prelude.{◌≡◌, ℕ, ◌-◌, ◌^◌, ◌≤◌, min, List, Option, ◌++◌, ◌∷◌, [], length, false, IfOk, IfErr};
+ghost use Rattle.std.specs.Prelude.{◌≡◌, ℕ, ◌-◌, ◌^◌, ◌≤◌, min, List, Option, ◌++◌, ◌∷◌, [], length, take, false, IfOk, IfErr};
 ghost use Rattle.std.specs.Io.KnownBytes.{Appends};
 ghost use Rattle.swd_io.specs.Blocks.{Sends, Stopped, held_len, is_failed};
 
+use crate::held::{Held, SIZE};
 use crate::output::send;
-use arrayvec::ArrayVec;
 use std::io::Write;
-
-// The most bytes that are held back.
-const SIZE: usize = 32768;
 
 /// The longest piece that is put in at once, in bytes.
 pub const LONGEST: usize = 1024;
@@ -20,7 +17,7 @@ pub const LONGEST: usize = 1024;
 #[derive(Drop)]
 pub struct Block<'a, W> {
     writer: &'a mut W,
-    held: ArrayVec<u8, SIZE>,
+    held: Held,
     // How many bytes went out, at most 2^64 - 1.
     written: u64,
     // Whether the writer failed.
@@ -36,7 +33,7 @@ impl<'a, W: Write> Block<'a, W> {
     {
         Block {
             writer,
-            held: ArrayVec::new(),
+            held: Held::new(),
             written,
             failed: false,
         }
@@ -69,6 +66,7 @@ impl<'a, W: Write> Block<'a, W> {
     }
 
     // Sends what is held.
+    #[inline(never)]
     fn send_held(&mut self)
         ensures writer { self.new.writer.ghost_name ≡ self.old.writer.ghost_name }
         ensures sends { (start : Option (List ℕ)) (all : List ℕ) → Sends W.contents start self.old all
@@ -91,6 +89,7 @@ impl<'a, W: Write> Block<'a, W> {
     }
 
     // Sends what is held where there is no room for a piece.
+    #[inline(always)]
     fn make_room(&mut self)
         ensures writer { self.new.writer.ghost_name ≡ self.old.writer.ghost_name }
         ensures sends { (start : Option (List ℕ)) (all : List ℕ) → Sends W.contents start self.old all
@@ -114,6 +113,7 @@ impl<'a, W: Write> Block<'a, W> {
     }
 
     /// Adds a piece to the text, and sends what is held where there is no room for it.
+    #[inline(always)]
     pub fn put(&mut self, piece: &[u8])
         requires { length piece.now ≤ LONGEST }
         ensures writer { self.new.writer.ghost_name ≡ self.old.writer.ghost_name }
@@ -122,7 +122,22 @@ impl<'a, W: Write> Block<'a, W> {
     {
         self.make_room();
         if !self.failed {
-            self.held.try_extend_from_slice(piece).unwrap();
+            self.held.extend(piece);
+        }
+    }
+    /// Adds the first bytes of a piece to the text, and sends what is held where there is no room for the piece. It is
+    /// copied whole: a copy of known length takes the least time.
+    #[inline(always)]
+    pub fn put_first<const N: usize>(&mut self, piece: &[u8; N], count: usize)
+        requires short { N ≤ LONGEST }
+        requires within { count ≤ N }
+        ensures writer { self.new.writer.ghost_name ≡ self.old.writer.ghost_name }
+        ensures sends { (start : Option (List ℕ)) (all : List ℕ) → Sends W.contents start self.old all
+            → Sends W.contents start self.new (all ++ take count piece.now) }
+    {
+        self.make_room();
+        if !self.failed {
+            self.held.extend_first(piece, count);
         }
     }
 }

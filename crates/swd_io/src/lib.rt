@@ -3,6 +3,7 @@
 #![tactic(auto)]
 
 mod block;
+mod held;
 mod output;
 mod pieces;
 

@@ -6,6 +6,7 @@ mod digits;
 mod encoding;
 mod fault;
 mod lister;
+mod tx_line;
 
 pub use decoding::decode_text;
 pub use encoding::{encode_text, write_items};

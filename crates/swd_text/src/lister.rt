@@ -14,6 +14,7 @@ ghost use Rattle.swd_text.specs.Listers.{Lists, GoesOn, Listed, HasRead, StopsAt
 
 use crate::digits::{WIDTH, digits_of};
 use crate::fault::{EngineFault, TextFault};
+use crate::tx_line::put_tx;
 use arrayvec::ArrayString;
 use std::io::Write;
 use swd_bits::{Scan, Sign};
@@ -70,6 +71,21 @@ impl Lister {
         }
     }
 
+    // The lines of the transactions that are due before any other item are under way, too.
+    #[inline(always)]
+    fn put_txs<W: Write>(&mut self, block: &mut Block<'_, W>)
+        ensures lists { (start : Option (List ℕ)) (bits : List Bool) (items : List Item)
+            → Lists W.contents start self.old.decoder block.old bits items
+            → (more : List Item) × Lists W.contents start self.new.decoder block.new bits more }
+        ensures scan { self.new.scan ≡ self.old.scan }
+        ensures place { self.new.place ≡ self.old.place }
+        ensures writer { block.new.writer.ghost_name ≡ block.old.writer.ghost_name }
+    {
+        while let Some(spelled) = self.decoder.due_tx() {
+            put_tx(block, spelled);
+        }
+    }
+
     // The lines of the items that are due are under way, too.
     fn put_due<W: Write>(&mut self, block: &mut Block<'_, W>)
         ensures lists { (start : Option (List ℕ)) (bits : List Bool) (items : List Item)
@@ -81,6 +97,7 @@ impl Lister {
         ensures place { self.new.place ≡ self.old.place }
         ensures writer { block.new.writer.ghost_name ≡ block.old.writer.ghost_name }
     {
+        self.put_txs(block);
         while let Some(item) = self.decoder.due() {
             put_line(block, &mut self.line, &item);
         }

@@ -1,7 +1,12 @@
 -- What a decoder holds.
 use Rattle.std.specs.Prelude.{◌≡◌, ℕ, ◌+◌, ◌-◌, ◌<◌, ◌≤◌, Bool, List, [], ◌∷◌, ◌++◌, length, replicate, min, Option, Some, None}
 use Rattle.swd_bits.specs.Bits.{low_bits}
+use Rattle.swd_bits.specs.BitLists.{bits_of, IsSpelled}
+use Rattle.swd_bits.specs.Transactions.{Spells}
+use Rattle.swd_bits.specs.declared.tx.Tx.{Tx as Transaction}
+use Rattle.swd_bits.specs.declared.tx_bits.TxBits.{TxBits}
 use Rattle.swd_trace.specs.declared.item.Item.{Item}
+use Rattle.swd_trace.specs.declared.item.Item.TheVariants.{Tx}
 use Rattle.swd_trace.specs.declared.mode.Mode.{Mode}
 use Rattle.swd_trace.specs.declared.mode.Mode.TheVariants.{Synced, AfterReset, AfterSwitch, Lost}
 use Rattle.swd_trace.specs.declared.decoder.Decoder.{Decoder}
@@ -63,6 +68,13 @@ pub record Gives (old new : Decoder) (item : Item) : Type 0 where
   pub law : (more : List Bool) → rest old more ≡ item ∷ rest new more
   pub fewer : places new < places old
   pub fed : fed_of new ≡ fed_of old
+
+-- a transaction comes, with these bits
+pub record GivesTx (old new : Decoder) (spelled : TxBits) : Type 0 where
+  pub whole : IsSpelled spelled
+  pub short : spelled.len ≤ 46
+  pub found : (tx : Transaction) × Spells tx (bits_of spelled)
+  pub gives : (tx : Transaction) → Spells tx (bits_of spelled) → Gives old new (Tx tx)
 
 -- no item comes before the next bit
 pub record Waits (old new : Decoder) : Type 0 where

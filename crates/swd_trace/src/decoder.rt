@@ -7,7 +7,7 @@ use crate::grammar::front_of;
 use crate::item::{Item, RESET_ONES, SWITCH, SWITCH_BITS};
 use crate::mode::Mode;
 use arrayvec::ArrayVec;
-use swd_bits::{MOVED_BITS, TxBits, TxEnd};
+use swd_bits::{MOVED_BITS, Tx, TxBits, TxEnd};
 
 /// Reads a trace: bits go in one or more at a time, and each item comes out as soon as it is
 /// decided, whatever may follow. How the bits are cut into pieces makes no difference.
@@ -49,11 +49,14 @@ impl Decoder {
     ghost use Rattle.swd_trace.specs.Decided.{IsUndecided, IsDecided};
     ghost use Rattle.arrayvec.specs.ArrayVec.{array_vec_len};
     ghost use Rattle.swd_bits.specs.declared.tx.Tx.{Tx};
+    ghost use Rattle.swd_bits.specs.BitLists.{bits_of};
+    ghost use Rattle.swd_bits.specs.Transactions.{Spells};
+    ghost use Rattle.swd_trace.specs.Stands.{Whole, stands};
     ghost use Rattle.swd_trace.specs.Spelled.{AreSpelled};
     ghost use Rattle.swd_trace.specs.Texts.{bits_of_items};
     ghost use Rattle.swd_trace.specs.declared.mode.Mode;
     ghost use Rattle.swd_trace.specs.declared.item.Item;
-    ghost use Rattle.swd_trace.specs.Held.{rest, HasRead, held, fed_of, held_len, places, IsSettled, IsOpen, IsOpenAt, Gives, Waits, Decides, Closes, ClosesWith, TakesMany};
+    ghost use Rattle.swd_trace.specs.Held.{rest, HasRead, held, fed_of, held_len, places, IsSettled, IsOpen, IsOpenAt, Gives, GivesTx, Waits, Decides, Closes, ClosesWith, TakesMany};
 
     /// A decoder that was fed no bit.
     pub fn new() -> Decoder
@@ -294,6 +297,51 @@ impl Decoder {
         }
     }
 
+    /// The bits of the next item, where it is decided and is a transaction, and no bits before it have to be looked at
+    /// first. `None` says nothing of what is due.
+    ///
+    /// `due` gives that item, too: where a transaction is wanted as one number, this takes less time.
+    #[inline(always)]
+    pub fn due_tx(&mut self) -> Option<TxBits>
+        ensures tx { IfSome result (λ spelled. GivesTx self.old self.new spelled) }
+        ensures read { IfSome result (λ spelled. (tx : Tx) (bits : List Bool) (items : List Item)
+            → Spells tx (bits_of spelled) → HasRead self.old bits items → HasRead self.new bits (items ++ Item.Tx tx ∷ [])) }
+        ensures none { IfNone result (self.new ≡ self.old) }
+    {
+        if self.len < self.next || self.run > 0 || self.bits % 2 == 0 {
+            return None;
+        }
+        let Mode::Synced = self.mode else {
+            return None;
+        };
+        let Front::Whole(tx, len) = front_of(self.bits, self.len) else {
+            return None;
+        };
+        let spelled = TxBits {
+            len,
+            bits: self.bits & ((1 << len) - 1),
+        };
+        self.drop_tx(tx, len);
+        Some(spelled)
+    }
+
+    // Takes away a transaction that stands at the front.
+    #[inline(always)]
+    fn drop_tx(&mut self, tx: Tx, len: u8)
+        requires run { self.old.run ≡ 0 }
+        requires mode { self.old.mode ≡ Mode.Synced }
+        requires stands { stands (low_bits self.old.len self.old.bits) ≡ Whole tx len }
+        requires some { 12 ≤ len }
+        ensures { Gives self.old self.new (Item.Tx tx) }
+    {
+        self.bits >>= len;
+        self.len -= len;
+        self.next = 1;
+        if let TxEnd::NoAck(_) = tx.result {
+            self.mode = Mode::Lost;
+        }
+    }
+
     /// The next item that is decided, whatever bits may follow. `None` where none is.
     #[inline(always)]
     pub fn due(&mut self) -> Option<Item>
@@ -440,12 +488,7 @@ impl Decoder {
                 None
             }
             Front::Whole(tx, len) => {
-                self.bits >>= len;
-                self.len -= len;
-                self.next = 1;
-                if let TxEnd::NoAck(_) = tx.result {
-                    self.mode = Mode::Lost;
-                }
+                self.drop_tx(tx, len);
                 Some(Item::Tx(tx))
             }
             Front::Broken => Some(self.junk()),

@@ -6,10 +6,10 @@ pub returns-in-Ok-clause-sends : goal.returns-in-Ok-clause-sends
 returns-in-Ok-clause-sends g c = λ start all h.
     let contents = g.W.Write.contents in
     let block = c.args.self.now in
-    let text = c.as_slice.ensures.value in
+    let text = c.as_slice.ensures in
     of_carries contents block.failed start _ all c.if-self.false
     (gone_out contents start block _ all c.as_slice.result.now text c.in-Ok.ensures.ok
-    c.clear.ensures (c.saturating_add-self.ensures ∙ ap (λ n. min (block.written + n) (2 ^ 64 - 1)) (c.len.ensures.value ∙ ap length (sym text)))
+    c.clear.ensures.bytes (c.saturating_add-self.ensures ∙ ap (λ n. min (block.written + n) (2 ^ 64 - 1)) (c.len.ensures.bytes ∙ ap length (sym text)))
     (to_carries contents block.failed start block all c.if-self.false h))
 
 pub returns-in-Err-clause-sends : goal.returns-in-Err-clause-sends
@@ -17,5 +17,5 @@ returns-in-Err-clause-sends g c = λ start all h.
     let contents = g.W.Write.contents in
     let block = c.args.self.now in
     cut_short contents start (contents c.send.new.writer) block all c.as_slice.result.now c.in-Err.unsent.sent _
-    c.as_slice.ensures.value c.in-Err.ensures.err.0 c.in-Err.ensures.err.1 c.saturating_add-self-in-Err.ensures
+    c.as_slice.ensures c.in-Err.ensures.err.0 c.in-Err.ensures.err.1 c.saturating_add-self-in-Err.ensures
     (to_carries contents block.failed start block all c.if-self.false h)

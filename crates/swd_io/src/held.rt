@@ -1,0 +1,73 @@
+//! Bytes that are held back.
+ghost use Rattle.std.specs.Prelude.{◌≡◌, ◌+◌, ◌≤◌, ◌++◌, [], length, take};
+
+/// How many bytes may be held back.
+pub(crate) const SIZE: usize = 32768;
+
+/// Up to `SIZE` bytes in a row.
+///
+/// `ArrayVec` can't take the first bytes of a longer piece: a copy of known length is a few instructions, where one
+/// of any length is a call.
+#[derive(Drop)]
+pub(crate) struct Held {
+    bytes: [u8; SIZE],
+    len: usize,
+    ghost room: { len ≤ 32768 },
+}
+
+impl Held {
+    ghost use Rattle.swd_io.specs.Helds.{held_bytes, count_of};
+
+    pub(crate) fn new() -> Held
+        ensures { held_bytes result ≡ [] }
+    {
+        Held {
+            bytes: [0; SIZE],
+            len: 0,
+        }
+    }
+
+    #[inline]
+    pub(crate) fn len(&self) -> usize
+        ensures value { result ≡ count_of self.now }
+        ensures bytes { result ≡ length (held_bytes self.now) }
+    {
+        self.len
+    }
+
+    pub(crate) fn as_slice(&self) -> &[u8]
+        ensures { result.now ≡ held_bytes self.now }
+    {
+        &self.bytes[..self.len]
+    }
+
+    pub(crate) fn clear(&mut self)
+        ensures bytes { held_bytes self.new ≡ [] }
+        ensures count { count_of self.new ≡ 0 }
+    {
+        self.len = 0;
+    }
+
+    /// Adds a piece for which there is room.
+    #[inline(always)]
+    pub(crate) fn extend(&mut self, piece: &[u8])
+        requires { count_of self.old + length piece.now ≤ SIZE }
+        ensures { held_bytes self.new ≡ held_bytes self.old ++ piece.now }
+    {
+        let len = self.len;
+        self.bytes[len..len + piece.len()].copy_from_slice(piece);
+        self.len = len + piece.len();
+    }
+
+    /// Adds the first bytes of a piece for all of which there is room.
+    #[inline(always)]
+    pub(crate) fn extend_first<const N: usize>(&mut self, piece: &[u8; N], count: usize)
+        requires room { count_of self.old + N ≤ SIZE }
+        requires within { count ≤ N }
+        ensures { held_bytes self.new ≡ held_bytes self.old ++ take count piece.now }
+    {
+        let len = self.len;
+        self.extend(piece);
+        self.len = len + count;
+    }
+}

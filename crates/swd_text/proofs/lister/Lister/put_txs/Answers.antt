@@ -1,0 +1,23 @@
+use Rattle.std.proofs.Common.{[], ◌∷◌, ◌++◌, ◌∙◌}
+use Rattle.swd_trace.specs.declared.item.Item.TheVariants.{Tx}
+use Rattle.swd_text.proofs.ListerLemmas.{one_more}
+use Rattle.swd_text.proofs.lister.Lister.put_txs.Goals as goal
+
+pub loop-spelled-preserved : goal.loop-spelled-preserved
+loop-spelled-preserved g c = record {
+  lists = λ start bits items h.
+      let i = c.loop-spelled.invariant.lists start bits items h in
+      let tx = c.in-Some.ensures.tx.found.0 in
+      let spelled = c.in-Some.ensures.tx.found.1 in
+      let gives = c.in-Some.ensures.tx.gives tx spelled in (
+        i.0 ++ Tx tx ∷ [],
+        one_more g.W.Write.contents start c.loop-spelled.self.decoder c.due_tx.new.self c.loop-spelled.block c.put_tx.new.block bits i.0 (Tx tx)
+            gives.law gives.fed (λ all s. c.put_tx.ensures.sends tx spelled start all s) i.1,
+      );
+  scan = c.loop-spelled.invariant.scan;
+  place = c.loop-spelled.invariant.place;
+  writer = c.put_tx.ensures.writer ∙ c.loop-spelled.invariant.writer;
+}
+
+pub loop-spelled-smaller : goal.loop-spelled-smaller
+loop-spelled-smaller g c = let gives = c.in-Some.ensures.tx.gives c.in-Some.ensures.tx.found.0 c.in-Some.ensures.tx.found.1 in gives.fewer
