@@ -45,6 +45,64 @@ impl<'a> Read for FailingReader<'a> {
     }
 }
 
+/// Gives one byte at a read, to the end of its text.
+#[derive(Drop)]
+pub struct OneByteReader<'a> {
+    text: &'a [u8],
+}
+
+impl<'a> OneByteReader<'a> {
+    /// Nothing was read yet.
+    pub fn new(text: &'a [u8]) -> OneByteReader<'a> {
+        OneByteReader { text }
+    }
+}
+
+impl<'a> Read for OneByteReader<'a> {
+    fn read(&mut self, buf: &mut [u8]) -> io::Result<usize> {
+        match (self.text.split_first(), buf.first_mut()) {
+            (Some((byte, rest)), Some(place)) => {
+                *place = *byte;
+                self.text = rest;
+                Ok(1)
+            }
+            _ => Ok(0),
+        }
+    }
+}
+
+/// Takes one byte at a write.
+#[derive(Drop)]
+pub struct OneByteWriter {
+    /// The bytes that it took.
+    pub taken: Vec<u8>,
+}
+
+impl OneByteWriter {
+    /// Nothing was taken yet.
+    pub fn new(alloc: Global) -> OneByteWriter {
+        OneByteWriter {
+            taken: Vec::new(alloc),
+        }
+    }
+}
+
+impl Write for OneByteWriter {
+    fn write(&mut self, buf: &[u8]) -> io::Result<usize> {
+        match buf.first() {
+            Some(byte) => {
+                self.taken.push(*byte)?;
+                Ok(1)
+            }
+            None => Ok(0),
+        }
+    }
+
+    fn flush(&mut self) -> io::Result<()> {
+        Ok(())
+    }
+}
+
 /// Takes so many bytes, fails or takes none once, and then takes all.
 #[derive(Drop)]
 pub struct ShortWriter {

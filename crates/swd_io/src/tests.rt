@@ -2,7 +2,7 @@
 use crate::{Consumer, Unread, read_pieces, send};
 use std::io;
 use std::test::Fail;
-use swd_fakes::{FailingReader, ShortWriter};
+use swd_fakes::{FailingReader, OneByteReader, OneByteWriter, ShortWriter};
 
 // Keeps what it takes, and stops at a full stop.
 #[derive(Drop)]
@@ -81,5 +81,22 @@ fn the_error_that_is_told_is_the_writers(rt: HostRuntime) -> Result<(), Fail> {
             assert_eq!(rt; writer.taken().len(), room);
         }
     }
+    Ok(())
+}
+
+// However often a reader gives one byte, or a writer takes one, nothing gives up.
+#[test]
+fn a_million_bytes_go_one_by_one(rt: HostRuntime) -> Result<(), Fail> {
+    let text = vec![in rt.alloc(); b'a'; 1_000_003]?;
+    let mut reader = OneByteReader::new(&text);
+    let mut sentence = Sentence {
+        text: Vec::new(rt.alloc()),
+    };
+    let answer = read_pieces(&mut reader, &mut (), &mut sentence);
+    assert_eq!(rt; answer, Ok(()));
+    assert!(rt; sentence.text == text);
+    let mut writer = OneByteWriter::new(rt.alloc());
+    assert!(rt; send(&mut writer, &text).is_ok());
+    assert!(rt; writer.taken == text);
     Ok(())
 }

@@ -8,6 +8,7 @@ use swd_script::ScriptFault;
 use swd_text::EngineFault;
 
 mod refusals;
+mod slow;
 
 // What a run answers, and what it writes.
 #[derive(Drop)]

@@ -1,5 +1,6 @@
 //! The engines on worked texts, with failing readers and writers, and with memory refused.
 mod cuts;
+mod slow;
 
 use crate::{EngineFault, TextFault, decode_text, encode_text};
 use linked_list_allocator::LocalHeap;
