@@ -1,7 +1,5 @@
 //! Want of memory for a clocked bench.
-ghost use Rattle.std.specs.Prelude.{IsTrue};
-ghost use Rattle.swd_target.specs.Marks.{IsPlan};
-
+use super::marks::are_legal;
 use crate::ClockedBench;
 use linked_list_allocator::LocalHeap;
 use std::alloc::Allocator;
@@ -23,12 +21,6 @@ const QUIRKS: Quirks = Quirks {
 };
 
 const MARKS: [Mark; 3] = [Mark::Wait, Mark::Flip(32), Mark::Mute(2)];
-
-fn are_legal(marks: &[Mark]) -> bool
-    ensures { IsTrue result → IsPlan marks.now }
-{
-    marks.iter().all(|mark| mark.legal())
-}
 
 // Sixteen words from 20000000, the first of them written. None for want of memory.
 fn written<A: Allocator + Copy>(alloc: A) -> Option<Memory<A>> {

@@ -1,7 +1,11 @@
 //! A memory is made, or refused.
 use crate::memory::{MakeFault, Memory};
+use crate::quirks::Quirks;
+use crate::target::Target;
 use linked_list_allocator::LocalHeap;
 use std::test::Fail;
+use swd_bits::data_bits;
+use swd_port::Register;
 
 #[test]
 fn a_memory_is_made_or_refused_in_order(rt: HostRuntime) {
@@ -46,6 +50,37 @@ fn a_memory_is_made_at_its_greatest_use(rt: HostRuntime) {
     for (addr, word) in [(0x2003_fffc, Some(0)), (0x2004_0000, None)] {
         assert_eq!(rt; memory.word(addr), word);
     }
+}
+
+// A memory may be larger than a script's: each of these words is written, and there is no room for more.
+#[test]
+fn a_memory_of_more_than_65536_words_and_transfers(rt: HostRuntime) -> Result<(), Fail> {
+    let memory = Memory::new(rt.alloc(), 0x2000_0000, 70_000, 70_000)?;
+    let quirks = Quirks {
+        wrap: false,
+        late: false,
+        filler: 0,
+    };
+    let mut target = Target::new(memory, quirks);
+    target.arrive(Register::CswWrite, data_bits(0x2300_0012));
+    target.arrive(Register::TarWrite, data_bits(0x2000_0000));
+    for word in 1..=70_000u32 {
+        target.arrive(Register::DrwWrite, data_bits(word));
+    }
+    target.arrive(Register::TarWrite, data_bits(0x2000_0000));
+    target.arrive(Register::DrwWrite, data_bits(7));
+    let memory = target.memory();
+    assert_eq!(rt; memory.log().len(), 70_000);
+    for (addr, word) in [
+        (0x2000_0000, Some(1)),
+        (0x2003_fffc, Some(65_536)),
+        (0x2004_0000, Some(65_537)),
+        (0x2004_45bc, Some(70_000)),
+        (0x2004_45c0, None),
+    ] {
+        assert_eq!(rt; memory.word(addr), word);
+    }
+    Ok(())
 }
 
 // The words have 64 bytes, and the log more: a small heap refuses the words, a larger one the log
