@@ -66,12 +66,12 @@ pub idle_due : (due : Due) (f : Frame) → due ≡ Nothing → rests due f ≡ t
 idle_due due f is e = idle_at f (subst (λ (d : Due). rests d f ≡ true) is e)
 
 -- which data phase a line is: none, a read's or a write's
-abbrev kind : Line → ℕ
+abbrev pub kind : Line → ℕ
 kind lines.Idle = 0
 kind (lines.Drives bits) = 1
 kind (lines.Awaits r flip) = 2
 
-abbrev kind_after : Reply → Bool → ℕ
+abbrev pub kind_after : Reply → Bool → ℕ
 kind_after Okay true = 1
 kind_after Okay false = 2
 kind_after reply read = 0
@@ -89,7 +89,7 @@ kind_phase Faults read r flip v = refl
 kind_phase Silent read r flip v = refl
 
 -- the phase that a request leaves is that of its reply
-kind_seen : {A : Type 0} (m : Mark) (q : Request) (s t : Target A) (a : Reply) (phase : Line) → AnswersUnder m q s a (line_under m phase) t → kind phase ≡ kind_after a q.read
+pub kind_seen : {A : Type 0} (m : Mark) (q : Request) (s t : Target A) (a : Reply) (phase : Line) → AnswersUnder m q s a (line_under m phase) t → kind phase ≡ kind_after a q.read
 kind_seen m q s t a phase u =
     sym (kind_flipped (flip_of m) phase) ∙ ap kind u.phases ∙ kind_phase _ q.read _ (flip_of m) _ ∙ ap (λ (y : Reply). kind_after y q.read) (sym u.replies)
 

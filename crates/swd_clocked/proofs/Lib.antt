@@ -1,3 +1,4 @@
 pub mod Shifts
 pub mod Frames
 pub mod Calls
+mod Spelling

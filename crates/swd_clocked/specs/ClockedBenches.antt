@@ -1,5 +1,5 @@
 -- A clocked bench as a port machine with a plan, and as a simulated target. All of it is this project's choice.
-use Rattle.std.specs.Prelude.{ℕ, ◌+◌, List, Bool, if◌then◌else◌}
+use Rattle.std.specs.Prelude.{ℕ, ◌+◌, List, take, Bool, if◌then◌else◌}
 use Rattle.swd_bits.specs.declared.request.Request.{Request}
 use Rattle.swd_port.specs.declared.mark.Mark.{Mark}
 use Rattle.swd_port.specs.declared.register.Register.TheVariants.{DrwRead}
@@ -33,6 +33,10 @@ simulation_of b = clocks.simulation_of b.clocked.value
 -- the marks of its requests
 abbrev pub plan_of : {A : Type 0} → ClockedBench A → List Mark
 plan_of b = plans.marks_of b.plan
+
+-- the marks of its requests so far, as far as its plan goes
+abbrev pub marks_so_far : {A : Type 0} → ClockedBench A → List Mark
+marks_so_far b = take (tally_of b).asked (plan_of b)
 
 -- the mark of its next request
 abbrev pub next_mark : {A : Type 0} → ClockedBench A → Mark

@@ -3,3 +3,4 @@ pub mod Cycles
 pub mod Clocks
 pub mod Rests
 pub mod ClockedBenches
+pub mod Spelled

@@ -5,6 +5,7 @@
 mod clocked;
 mod clocked_bench;
 mod frame;
+pub mod laws;
 mod phases;
 
 pub use clocked::Clocked;

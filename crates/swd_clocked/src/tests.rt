@@ -1,5 +1,6 @@
 //! Worked cycles at a clocked target, and at its bench.
 mod cycles;
+mod faults;
 mod lists;
 mod marks;
 mod parts;
