@@ -4,7 +4,7 @@ use Rattle.std.specs.Prelude.{◌==◌, not, if◌then◌else◌}
 use Rattle.std.proofs.lemmas.Bool.{le-leb}
 use Rattle.std.proofs.lemmas.List.{append_assoc}
 use Rattle.swd_trace.specs.declared.item.Item.{Item}
-use Rattle.swd_trace.specs.declared.item.Item.TheVariants.{Reset, Switch, Idle}
+use Rattle.swd_trace.specs.declared.item.Item.TheVariants.{Reset, Switch, Idle, Tx, Junk, Cut}
 use Rattle.swd_recorder.specs.Chains.{Place, Clear, Low, High, Switched, Silent, place_after, place_of, may_lower, is_between}
 use Rattle.swd_recorder.specs.Recordings.{Kept, with_item, with_items, high_items, low_items, lead_items, Adds}
 use Rattle.swd_recorder.specs.Steps.{transactions}
@@ -153,3 +153,57 @@ pub count_lead : (items : List Item) (ones lows : ℕ) (switches : Bool) → tra
 count_lead items ones lows switches =
     ap transactions (with_both items (high_items ones switches) (low_items lows))
     ∙ count_low (with_items items (high_items ones switches)) lows ∙ count_high items ones switches
+
+-- ---- the numbers of transactions, also where the recording is cut
+
+count_cons : (item : Item) (more : List Item) → transactions (item ∷ more) ≡ counted_one item + transactions more
+count_cons (Tx tx) more = omega arith
+count_cons (Reset n) more = omega arith
+count_cons Switch more = omega arith
+count_cons (Idle n) more = omega arith
+count_cons (Junk b) more = omega arith
+count_cons (Cut bits) more = omega arith
+
+count_added : (items more : List Item) → transactions (with_items items more) ≡ transactions items + transactions more
+count_added items [] = omega arith
+count_added items (item ∷ more) =
+    let a = count_added (with_item items item) more in
+    let b = count_with items item in
+    let d = count_cons item more in
+    omega (arith, a, b, d)
+
+count_both : (some rest : List Item) → transactions (some ++ rest) ≡ transactions some + transactions rest
+count_both [] rest = omega arith
+count_both (item ∷ some) rest =
+    let a = count_both some rest in
+    let b = count_cons item (some ++ rest) in
+    let d = count_cons item some in
+    omega (arith, a, b, d)
+
+-- no more than what is added
+pub adds_most : (more : List Item) (old new : Kept) → Adds more old new → transactions new.items ≤ transactions old.items + transactions more
+adds_most more old new h = by old.is_cut new.is_cut refl refl
+  where
+    by : (a b : Bool) → old.is_cut ≡ a → new.is_cut ≡ b → transactions new.items ≤ transactions old.items + transactions more
+    by true b e f = let same = ap transactions (h.stays e).1 in omega (arith, same)
+    by false true e f =
+        let (some, rest, left, parts, items) = h.cut e f in
+        let now = ap transactions items ∙ count_added old.items some in
+        let all = ap transactions parts ∙ count_both some rest in
+        omega (arith, now, all)
+    by false false e f = let now = ap transactions (h.whole f).1 ∙ count_added old.items more in omega (arith, now)
+
+-- nothing where it was cut before
+pub adds_nothing : (more : List Item) (old new : Kept) → Adds more old new → old.is_cut ≡ true → transactions new.items ≡ transactions old.items
+adds_nothing more old new h e = ap transactions (h.stays e).1
+
+pub none_in_lead : (ones lows : ℕ) (switches : Bool) → transactions (lead_items ones switches lows) ≡ 0
+none_in_lead ones lows switches = count_both (high_items ones switches) (low_items lows) ∙ (let a = high ones switches in let b = low lows in omega (arith, a, b))
+  where
+    high : (n : ℕ) (b : Bool) → transactions (high_items n b) ≡ 0
+    high zero b = refl
+    high (suc n) true = let some : suc n ≢ 0 = λ z. omega (arith, z) in ap transactions (high_is (suc n) true some refl)
+    high (suc n) false = let some : suc n ≢ 0 = λ z. omega (arith, z) in ap (λ t. transactions (if t then [] else Reset (suc n) ∷ [])) (not_zero (suc n) some)
+    low : (n : ℕ) → transactions (low_items n) ≡ 0
+    low zero = refl
+    low (suc n) = let some : suc n ≢ 0 = λ z. omega (arith, z) in ap transactions (low_is (suc n) some)

@@ -1,7 +1,7 @@
 -- A recording keeps step with its wire.
 use Rattle.std.proofs.Common.{◌≡◌, ◌≢◌, ℕ, zero, suc, ◌+◌, ◌≤◌, Bool, true, false, List, [], ◌∷◌, ◌++◌, Option, Some, None, refl, ap, ◌∙◌, subst, arith, inl, inr}
 use Rattle.std.specs.Prelude.{◌||◌, ◌==◌, not, if◌then◌else◌, nat_le, ◌&&◌, ◌↔◌, ◌⊎◌}
-use Rattle.std.proofs.lemmas.Bool.{le-leb}
+use Rattle.std.proofs.lemmas.Bool.{le-leb, leb-true}
 use Rattle.swd_bits.specs.declared.ack.Ack.{Ack}
 use Rattle.swd_bits.specs.declared.ack.Ack.TheVariants.{Ok as AckOk, Wait as AckWait, Fault as AckFault}
 use Rattle.swd_bits.specs.declared.request.Request.{Request}
@@ -15,10 +15,10 @@ use Rattle.swd_port.specs.Answers.{due_after}
 use Rattle.swd_port.specs.Leading.{MayLead}
 use Rattle.swd_recorder.specs.declared.recording.InHand.{InHand}
 use Rattle.swd_recorder.specs.Chains.{Place, Clear, Low, High, Switched, Silent, place_of_end, place_after, place_behind, place_of, may_ask, may_reset, may_lead, is_between, may_follow, is_chained}
-use Rattle.swd_recorder.specs.Recordings.{Kept, with_items, Adds, lead_items, answered, unanswered, Refuses, RecordsLead, RecordsAsk, RecordsPhase, RecordsRefusal}
+use Rattle.swd_recorder.specs.Recordings.{Kept, with_items, Adds, lead_items, answered, ack_seen, unanswered, Refuses, RecordsLead, RecordsAsk, RecordsPhase, RecordsRefusal}
 use Rattle.swd_recorder.specs.Steps.{is_held, is_at, transactions, pending, is_placed, is_counted, is_refused, EndsUnacknowledged}
 use Rattle.swd_recorder.proofs.ChainLemmas.{both, both_are, place_with, count_with, not_zero}
-use Rattle.swd_recorder.proofs.AddLemmas.{placed_one, counted, place_lead, count_lead}
+use Rattle.swd_recorder.proofs.AddLemmas.{placed_one, counted, place_lead, count_lead, adds_most, adds_nothing, none_in_lead}
 
 -- a recording in step with a wire
 pub record InStep (due : Due) (kept : Kept) (asked : ℕ) : Type 0 where
@@ -39,6 +39,21 @@ same_number a b e = grind arith
 
 number_same : (a b : ℕ) → a ≡ b → (a == b) ≡ true
 number_same a b e = grind arith
+
+-- how many transactions there are
+pub most_of : (due : Due) (kept : Kept) (n : ℕ) → is_counted due kept n ≡ true → transactions kept.items ≤ n
+most_of due kept n e =
+    leb-true (transactions kept.items) n (both (nat_le (transactions kept.items) n) (kept.is_cut || (transactions kept.items + pending due == n)) e).0
+
+pub whole_of : (due : Due) (kept : Kept) (n : ℕ) → is_counted due kept n ≡ true → kept.is_cut ≡ false → transactions kept.items + pending due ≡ n
+whole_of due kept n e uncut =
+    let rest = (both (nat_le (transactions kept.items) n) (kept.is_cut || (transactions kept.items + pending due == n)) e).1 in
+    same_number (transactions kept.items + pending due) n (when_open kept.is_cut (transactions kept.items + pending due == n) rest uncut)
+
+counted_as : (due : Due) (kept : Kept) (n : ℕ) → transactions kept.items ≤ n → (kept.is_cut ≡ false → transactions kept.items + pending due ≡ n) → is_counted due kept n ≡ true
+counted_as due kept n most whole =
+    both_are (nat_le (transactions kept.items) n) (kept.is_cut || (transactions kept.items + pending due == n)) (le-leb (transactions kept.items) n most)
+    (open_or kept.is_cut (transactions kept.items + pending due == n) (λ e. number_same (transactions kept.items + pending due) n (whole e)))
 
 -- ---- what each call of the recording asks for
 
@@ -196,17 +211,25 @@ count_by q seen items read false true four = refl
 count_by q seen items read false false true = refl
 count_by q seen items read false false false = let d = count_with items (Tx (record { request = q; result = NoAck seen })) in omega (arith, d)
 
+unanswered_most : (q : Request) (seen : ℕ) (a : Option Ack) → transactions (unanswered q seen a) ≤ 1
+unanswered_most q seen None = omega arith
+unanswered_most q seen (Some a) = omega arith
+
 pub asked : (q : Request) (seen : ℕ) (old new : Kept) (n : ℕ) → InStep Nothing old n → RecordsAsk q seen old new → InStep (due_after q.read seen) new (n + 1)
 asked q seen old new n s r = record {
   held = ap (is_held (due_after q.read seen)) r.in_hand ∙ held_by q q.read (seen == 1) (seen == 2) (seen == 4);
   placed = open_or new.is_cut (is_at (due_after q.read seen) (place_of new.items)) (λ e. let (o, items) = r.adds.whole e in
       ap (λ l. is_at (due_after q.read seen) (place_of l)) items
       ∙ place_by q seen old.items q.read (seen == 1) (seen == 2) (seen == 4) (when_open old.is_cut (is_at Nothing (place_of old.items)) s.placed o));
-  counted = open_or new.is_cut (transactions new.items + pending (due_after q.read seen) == n + 1) (λ e. let (o, items) = r.adds.whole e in
-      let before : transactions old.items + 0 ≡ n = same_number (transactions old.items + 0) n (when_open old.is_cut (transactions old.items + 0 == n) s.counted o) in
+  counted = counted_as (due_after q.read seen) new (n + 1)
+      (let most = adds_most (unanswered q seen (ack_seen seen)) old new r.adds in
+      let few = unanswered_most q seen (ack_seen seen) in
+      let before = most_of Nothing old n s.counted in
+      omega (arith, most, few, before))
+      (λ e. let (o, items) = r.adds.whole e in
+      let before = whole_of Nothing old n s.counted o in
       let now = count_by q seen old.items q.read (seen == 1) (seen == 2) (seen == 4) in
-      number_same (transactions new.items + pending (due_after q.read seen)) (n + 1)
-      (ap (λ l. transactions l + pending (due_after q.read seen)) items ∙ now ∙ omega (arith, before)));
+      ap (λ l. transactions l + pending (due_after q.read seen)) items ∙ now ∙ omega (arith, before));
 }
 
 -- ---- a transaction that becomes whole
@@ -217,11 +240,21 @@ whole_now due q end old new n p clear s adds rest = record {
   held = ap (is_held Nothing) rest;
   placed = open_or new.is_cut (is_at Nothing (place_of new.items)) (λ e.
       ap (is_at Nothing) (placed_one (Tx (record { request = q; result = end })) old new adds e ∙ clear));
-  counted = open_or new.is_cut (transactions new.items + 0 == n) (λ e. let (o, items) = adds.whole e in
-      let before : transactions old.items + pending due ≡ n = same_number (transactions old.items + pending due) n (when_open old.is_cut (transactions old.items + pending due == n) s.counted o) in
+  counted = counted_as Nothing new n (most old.is_cut refl) (λ e. let (o, items) = adds.whole e in
+      let before = whole_of due old n s.counted o in
       let now = counted (Tx (record { request = q; result = end })) old new adds e in
-      number_same (transactions new.items + 0) n (omega (arith, before, now, p)));
+      omega (arith, before, now, p));
 }
+  where
+    most : (cut : Bool) → old.is_cut ≡ cut → transactions new.items ≤ n
+    most true e =
+        let same = adds_nothing (Tx (record { request = q; result = end }) ∷ []) old new adds e in
+        let before = most_of due old n s.counted in
+        omega (arith, same, before)
+    most false e =
+        let now = adds_most (Tx (record { request = q; result = end }) ∷ []) old new adds in
+        let before = whole_of due old n s.counted e in
+        omega (arith, now, before, p)
 
 pub moved : (due : Due) (bits : ℕ) (old new : Kept) (n : ℕ) → pending due ≡ 1 → InStep due old n → RecordsPhase bits old new → InStep Nothing new n
 moved due bits old new n p s r = whole_now due r.asked.request r.result old new n p (ap place_of_end r.moved.is) s r.adds r.in_hand
@@ -275,12 +308,17 @@ led due ones lows switches old new n m s r = record {
   placed = open_or new.is_cut (is_at Nothing (place_of new.items)) (λ e. let (o, items) = r.adds.whole e in
       ap (λ l. is_at Nothing (place_of l)) items
       ∙ lead_at due old.items ones lows switches m (when_open old.is_cut (is_at due (place_of old.items)) s.placed o));
-  counted = open_or new.is_cut (transactions new.items + 0 == n) (λ e. let (o, items) = r.adds.whole e in
+  counted = counted_as Nothing new n
+      (let most = adds_most (lead_items ones switches lows) old new r.adds in
+      let none = none_in_lead ones lows switches in
+      let before = most_of due old n s.counted in
+      omega (arith, most, none, before))
+      (λ e. let (o, items) = r.adds.whole e in
       let none : old.in_hand ≡ None = none_inside old.in_hand (λ h. not_cut new.is_cut (r.inside h).0 e) in
       let rest : pending due ≡ 0 = pending_none due old.in_hand none s.held in
-      let before : transactions old.items + pending due ≡ n = same_number (transactions old.items + pending due) n (when_open old.is_cut (transactions old.items + pending due == n) s.counted o) in
+      let before = whole_of due old n s.counted o in
       let now : transactions new.items ≡ transactions old.items = ap transactions items ∙ count_lead old.items ones lows switches in
-      number_same (transactions new.items + 0) n (omega (arith, before, now, rest)));
+      omega (arith, before, now, rest));
 }
 
 -- ---- the last item

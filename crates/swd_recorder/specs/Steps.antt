@@ -1,6 +1,6 @@
 -- How a recording keeps step with the wire that it is of.
-use Rattle.std.specs.Prelude.{ℕ, suc, ◌≡◌, ◌+◌, ◌==◌, ◌||◌, not, Bool, true, false, List, [], ◌∷◌, ◌++◌, Option}
-use Rattle.std.specs.Prelude.{Some, None}
+use Rattle.std.specs.Prelude.{ℕ, suc, ◌≡◌, ◌+◌, ◌==◌, nat_le, ◌&&◌, ◌||◌, not, Bool, true, false, List, [], ◌∷◌, ◌++◌}
+use Rattle.std.specs.Prelude.{Option, Some, None}
 use Rattle.swd_bits.specs.declared.ack.Ack.{Ack}
 use Rattle.swd_bits.specs.declared.ack.Ack.TheVariants.{Ok as AckOk, Wait as AckWait, Fault as AckFault}
 use Rattle.swd_bits.specs.declared.request.Request.{Request}
@@ -54,12 +54,13 @@ pending Pass = 1
 pending Lost = 0
 
 -- The recording is of the wire, at which these are due and of which so many requests were sent. What was cut off may
--- lack items.
+-- lack items, and has no more transactions than were begun.
 abbrev pub is_placed : Due → Kept → Bool
 is_placed due kept = kept.is_cut || is_at due (place_of kept.items)
 
 abbrev pub is_counted : Due → Kept → ℕ → Bool
-is_counted due kept asked = kept.is_cut || (transactions kept.items + pending due == asked)
+is_counted due kept asked =
+    nat_le (transactions kept.items) asked && (kept.is_cut || (transactions kept.items + pending due == asked))
 
 -- WAIT or FAULT was seen
 abbrev pub is_refused : Option InHand → Bool

@@ -1,5 +1,5 @@
 //! A wire that hands every call on to another, and keeps what went over it.
-ghost use Rattle.std.specs.Prelude.{◌≡◌, ◌<◌, ◌^◌, ◌+◌, ◌↔◌, true, false};
+ghost use Rattle.std.specs.Prelude.{◌≡◌, ◌<◌, ◌≤◌, ◌^◌, ◌+◌, ◌↔◌, true, false};
 ghost use Rattle.swd_port.specs.declared.wire.Due.TheVariants.{Nothing, Take, Give, Pass, Lost};
 ghost use Rattle.swd_port.specs.Leading.{MayLead, Leads};
 ghost use Rattle.swd_port.specs.Answers.{due_after};
@@ -55,13 +55,15 @@ impl<W: Wire, A: Allocator> Recorder<W, A> {
         }
     }
 
-    /// The items so far. They are read again from their own bits. While they are not cut off there is a
-    /// transaction for each request but one that is not whole yet, and the last item is a transaction
-    /// without an acknowledgement exactly where the wire is lost.
+    /// The items so far. They are read again from their own bits, and have no more transactions than there
+    /// were requests. While they are not cut off there is a transaction for each request but one that is not
+    /// whole yet, and the last item is a transaction without an acknowledgement exactly where the wire is
+    /// lost.
     pub fn items(&self) -> &[Item]
         ensures items { result.now ≡ (kept_by self.now).items }
         ensures legal { AreLegal result.now }
         ensures read { reading_of (bits_of_items result.now) ≡ result.now }
+        ensures most { transactions result.now ≤ (port_by self.now).tally.asked }
         ensures counted { (kept_by self.now).is_cut ≡ false
             → transactions result.now + pending (port_by self.now).link.due ≡ (port_by self.now).tally.asked }
         ensures lost { (kept_by self.now).is_cut ≡ false

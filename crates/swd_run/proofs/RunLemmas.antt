@@ -19,7 +19,7 @@ use Rattle.swd_script.specs.Laws.{IsBlock}
 use Rattle.swd_host.specs.Reports.{Closes, EndsAt, Fits, IsAtRest, RunFits, RunsWithin, Told}
 use Rattle.swd_script.specs.Scripts.{Meaning}
 use Rattle.swd_run.specs.Running.{IsExcused, RunsAs, AreRead, Ran, memory_of, most_begun}
-use Rattle.swd_run.specs.Tracing.{AreItems, IsTraceOf, IsRecorded}
+use Rattle.swd_run.specs.Tracing.{AreItems, IsTraceOf, IsOfTrace, IsRecorded}
 
 excused : (ended : End) (tries : ℕ) (marks : List Mark) (s t : Port) → s.tally.disturbed ≡ 0 → s.tally.lost ≡ 0 →
     t.tally.disturbed ≤ disturbed_among marks → t.tally.lost ≤ lost_among marks → EndsAt ended tries s t → IsExcused ended tries marks
@@ -122,6 +122,13 @@ trace_of told port items recorded read count lost = record {
   read = read;
   counted = (let asked = recorded.asked in let rests = recorded.rests in omega (arith, count, asked, rests));
   lost = (λ e. recorded.lost.0 (lost.0 e), λ e. lost.1 (recorded.lost.1 e));
+}
+
+-- and also where it was cut off they are of it
+pub of_trace : (told : Told) (port : Port) (items : List Item) → IsRecorded told port → AreItems items → transactions items ≤ port.tally.asked → IsOfTrace told items
+of_trace told port items recorded read most = record {
+  read = read;
+  counted = (let asked = recorded.asked in omega (arith, most, asked));
 }
 
 -- ---- what was read, and what came of it

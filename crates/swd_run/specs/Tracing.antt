@@ -1,5 +1,5 @@
 -- What an answer to a run with its trace says: the report as without it, and the trace of what went over the wire.
-use Rattle.std.specs.Prelude.{◌≡◌, ℕ, ◌↔◌, ◌⊎◌, List, [], Option, Result, Ok, Err}
+use Rattle.std.specs.Prelude.{◌≡◌, ℕ, ◌≤◌, ◌↔◌, ◌⊎◌, List, [], Option, Result, Ok, Err}
 use Rattle.std.specs.Io.KnownBytes.{Appends}
 use Rattle.swd_io.specs.Blocks.{Stopped}
 use Rattle.swd_trace.specs.declared.item.Item.{Item}
@@ -27,6 +27,12 @@ pub record IsTraceOf (told : Told) (items : List Item) : Type 0 where
   pub counted : transactions items ≡ told.requests
   pub lost : EndsUnacknowledged items ↔ (told.ended ≡ Lost)
 
+-- Items of the trace of a run, of which the last ones may be missing where memory was refused: they are read as they
+-- stand, and are no more transactions than requests that were sent.
+pub record IsOfTrace (told : Told) (items : List Item) : Type 0 where
+  pub read : AreItems items
+  pub counted : transactions items ≤ told.requests
+
 -- how a run leaves the wire that was recorded from its start
 pub record IsRecorded (told : Told) (port : Port) : Type 0 where
   pub asked : port.tally.asked ≡ told.requests
@@ -42,10 +48,10 @@ RunsTraced tries (Ok ended) script plan old new before after =
     × (items : List Item) × IsTraceOf ran.told items × Appends before after (trace_text items)
 RunsTraced tries (Err TraceCut) script plan old new before after =
     (ran : Ran tries script plan) × Appends old new (report_of ran)
-    × (items : List Item) × AreItems items × Appends before after (trace_text items)
+    × (items : List Item) × IsOfTrace ran.told items × Appends before after (trace_text items)
 RunsTraced tries (Err (Write written)) script plan old new before after =
     (ran : Ran tries script plan) × ((Stopped written old new (report_of ran) × Appends before after [])
-    ⊎ (Appends old new (report_of ran) × (items : List Item) × AreItems items
+    ⊎ (Appends old new (report_of ran) × (items : List Item) × IsOfTrace ran.told items
     × Stopped written before after (trace_text items)))
 RunsTraced tries (Err (Script fault)) script plan old new before after =
     AreUnread (Script fault) script plan × Appends old new [] × Appends before after []

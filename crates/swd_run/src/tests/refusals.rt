@@ -155,6 +155,7 @@ fn a_traced_run_where_memory_ends(rt: HostRuntime) -> Result<(), Fail> {
     let whole = whole.trace;
     let mut stages = Stages::new(&rt);
     let mut most = 0usize;
+    let mut longest_cut = 0usize;
     for size in 1..300usize {
         let heap = LocalHeap::new(rt.alloc(), size * STEP)?;
         let run = traced_on(&rt, &heap);
@@ -172,7 +173,12 @@ fn a_traced_run_where_memory_ends(rt: HostRuntime) -> Result<(), Fail> {
         assert_eq!(rt; heap.used(), 0);
         stages.add(&rt, stage)?;
         most = trace.len();
+        if stage == Stage::Trace {
+            longest_cut = most;
+        }
     }
     stages.are(&rt, &TRACED_STAGES);
+    // What was kept before memory was refused stands written: more than the opening.
+    assert!(rt; longest_cut > 14 * 47);
     Ok(())
 }

@@ -6,7 +6,7 @@ use Rattle.swd_script.specs.Readers.{meaning}
 use Rattle.swd_script.proofs.TextLaws.{is_runnable, is_plan}
 use Rattle.swd_recorder.specs.Recorders.{port_by}
 use Rattle.swd_run.specs.Reports.{report_text}
-use Rattle.swd_run.proofs.RunLemmas.{ran_as, trace_of}
+use Rattle.swd_run.proofs.RunLemmas.{ran_as, trace_of, of_trace}
 use Rattle.swd_run.proofs.tracing.run_traced.Goals as goal
 
 pub record_script-requires-clause-script : goal.record_script-requires-clause-script
@@ -33,7 +33,7 @@ returns-in-Err-write_items g c =
       inr (
         subst (λ list. Appends start end (report_text list told)) c.as_slice.ensures.value c.in-Ok-write_report.ensures,
         c.items.result.now,
-        c.items.ensures.read,
+        of_trace told (port_by c.in-Some.recorded.recorder) c.items.result.now c.in-Some.ensures.recorded c.items.ensures.read c.items.ensures.most,
         c.in-Err-write_items.ensures,
       ),
     )
@@ -46,7 +46,7 @@ returns-then-is_cut g c =
       ran_as c.args.tries (g.S.Read.remaining c.args.script.now) (g.P.Read.remaining c.args.plan.now) (meaning c.in-Ok.texts.script) c.in-Ok.texts.plan.items told c.in-Ok.ensures.read c.in-Some.ensures.runs,
       subst (λ list. Appends start end (report_text list told)) c.as_slice.ensures.value c.in-Ok-write_report.ensures,
       c.items.result.now,
-      c.items.ensures.read,
+      of_trace told (port_by c.in-Some.recorded.recorder) c.items.result.now c.in-Some.ensures.recorded c.items.ensures.read c.items.ensures.most,
       c.in-Ok-write_items.ensures,
     )
 

@@ -1,4 +1,4 @@
-use Rattle.std.proofs.Common.{◌≡◌, List, sym, subst}
+use Rattle.std.proofs.Common.{◌≡◌, ◌+◌, ◌≤◌, List, sym, subst}
 use Rattle.std.specs.Prelude.{◌↔◌}
 use Rattle.swd_trace.specs.declared.item.Item.{Item}
 use Rattle.swd_trace.specs.Listed.{AreLegal}
@@ -7,9 +7,9 @@ use Rattle.swd_trace.specs.Texts.{bits_of_items}
 use Rattle.swd_port.specs.declared.wire.Due.TheVariants.{Lost}
 use Rattle.swd_recorder.specs.Chains.{Clear}
 use Rattle.swd_recorder.specs.Kept.{kept_of}
-use Rattle.swd_recorder.specs.Steps.{EndsUnacknowledged}
+use Rattle.swd_recorder.specs.Steps.{EndsUnacknowledged, transactions, pending}
 use Rattle.swd_recorder.proofs.ChainLemmas.{chained_read, chained_legal}
-use Rattle.swd_recorder.proofs.StepLemmas.{ends_lost}
+use Rattle.swd_recorder.proofs.StepLemmas.{ends_lost, most_of, whole_of}
 use Rattle.swd_recorder.proofs.recorder.Recorder.items.Goals as goal
 
 pub returns-clause-legal : goal.returns-clause-legal
@@ -28,3 +28,17 @@ returns-clause-lost g c = λ uncut.
     let due = (g.W.Wire.port recorder.wire).link.due in
     subst (λ (items : List Item). EndsUnacknowledged items ↔ (due ≡ Lost)) (sym c.as_slice.ensures.value)
     (ends_lost due (kept_of recorder.recording) recorder.recording.chained recorder.placed uncut)
+
+pub returns-clause-most : goal.returns-clause-most
+returns-clause-most g c =
+    let recorder = c.args.self.now in
+    let due = (g.W.Wire.port recorder.wire).link.due in
+    subst (λ (items : List Item). transactions items ≤ recorder.asked.ticks) (sym c.as_slice.ensures.value)
+    (most_of due (kept_of recorder.recording) recorder.asked.ticks recorder.counted)
+
+pub returns-clause-counted : goal.returns-clause-counted
+returns-clause-counted g c = λ uncut.
+    let recorder = c.args.self.now in
+    let due = (g.W.Wire.port recorder.wire).link.due in
+    subst (λ (items : List Item). transactions items + pending due ≡ recorder.asked.ticks) (sym c.as_slice.ensures.value)
+    (whole_of due (kept_of recorder.recording) recorder.asked.ticks recorder.counted uncut)
