@@ -31,3 +31,4 @@ mod Outsides
 mod Blocked
 mod Runs
 mod SessionLaws
+mod FieldsLemmas

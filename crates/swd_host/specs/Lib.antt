@@ -14,3 +14,6 @@ pub mod Again
 pub mod Resuming
 pub mod Standing
 pub mod Sessions
+pub mod Accepting
+pub mod Fields
+pub mod FieldsRead

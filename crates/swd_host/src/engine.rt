@@ -146,9 +146,14 @@ impl Engine {
         engine
     }
 
-    // An engine that goes on after a lost acknowledgement: its line reset lets a data phase go by
-    // first, and a transfer that is still pending may turn out a bus error.
-    pub(crate) fn again(tries: u32) -> Engine
+    /// An engine that goes on after a lost acknowledgement, at the start of a new opening. Its line reset
+    /// has 100 ones, of which the line is left undriven for the first 34: they let a data phase go by
+    /// that the target may be in (IHI 0031, B4, protocol error response). A transfer that was left
+    /// pending may turn out a bus error: its flag is cleared once, without an event.
+    ///
+    /// Begin with the first access that wasn't answered. The one that was begun may be done a second
+    /// time.
+    pub fn again(tries: u32) -> Engine
         ensures again { IsNew Bursts.Writes true tries result }
         ensures open { open_requests result ≤ 9 + 5 * (tries + 2) }
     {

@@ -2,8 +2,10 @@
 //! list of accesses over any wire, each once; and `run_block`, which reads a block of words so.
 #![tactic(auto)]
 
+mod accepting;
 mod block;
 mod engine;
+mod fields;
 mod flags;
 pub mod laws;
 mod outcome;
@@ -17,6 +19,7 @@ mod task;
 
 pub use block::run_block;
 pub use engine::{Cue, Engine};
+pub use fields::{EngineFields, JobFields, OutcomeFields, StateFields, TarFields, TaskFields};
 pub use outcome::{End, Outcome, Refused, Report};
 pub use outside::run_outside;
 pub use resuming::resume;

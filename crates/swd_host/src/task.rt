@@ -87,7 +87,7 @@ pub(crate) fn address_of(access: Access) -> u32
 }
 
 // The access that follows does the same at the address after this one.
-fn continues(access: Access, following: Option<Access>) -> bool
+pub(crate) fn continues(access: Access, following: Option<Access>) -> bool
     ensures { result ≡ continues access following }
 {
     match (access, following) {
