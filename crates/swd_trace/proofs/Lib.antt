@@ -22,3 +22,4 @@ pub mod LawLemmas
 pub mod SpelledLemmas
 pub mod RereadLemmas
 pub mod WorkedLists
+pub mod DecoderNumberLemmas

@@ -12,3 +12,5 @@ pub mod Spelled
 pub mod ItemBits
 pub mod ItemBytes
 pub mod ListReader
+pub mod Modes
+pub mod DecoderNumbers

@@ -2,11 +2,14 @@
 ghost use Rattle.std.specs.Prelude.{◌≡◌, ◌+◌, ◌^◌, ◌<◌, ◌≤◌, List, Bool};
 ghost use Rattle.swd_trace.specs.Holding.{Holds};
 
+mod fields;
+
 use crate::front::Front;
 use crate::grammar::front_of;
 use crate::item::{Item, RESET_ONES, SWITCH, SWITCH_BITS};
 use crate::mode::Mode;
 use arrayvec::ArrayVec;
+pub use fields::DecoderFields;
 use swd_bits::{MOVED_BITS, Tx, TxBits, TxEnd};
 
 /// Reads a trace: bits go in one or more at a time, and each item comes out as soon as it is

@@ -13,7 +13,7 @@ mod laws;
 mod listing;
 mod mode;
 
-pub use decoder::Decoder;
+pub use decoder::{Decoder, DecoderFields};
 pub use encoder::encode;
 pub use item::Item;
 pub use item_bytes::ItemBytes;

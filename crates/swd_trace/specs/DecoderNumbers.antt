@@ -1,0 +1,31 @@
+-- A decoder as numbers. Below how many bits nothing is decided isn't one of them: it is found again.
+use Rattle.std.specs.Prelude.{◌≡◌, ◌==◌, Bool, List, ◌++◌, replicate}
+use Rattle.swd_bits.specs.Bits.{bit, low_bits}
+use Rattle.swd_trace.specs.declared.decoder.Decoder.{Decoder}
+use Rattle.swd_trace.specs.declared.decoder.fields.DecoderFields.{DecoderFields}
+use Rattle.swd_trace.specs.declared.item.Item.{Item}
+use Rattle.swd_trace.specs.Modes.{mode_at, mode_number}
+use Rattle.swd_trace.specs.Reading.{reading, reading_of}
+
+abbrev pub decoder_fields : Decoder → DecoderFields
+decoder_fields d = record {
+  fed = d.fed;
+  run = d.run;
+  bits = d.bits;
+  mode = mode_number d.mode;
+  one = bit d.one;
+  len = d.len;
+}
+
+-- some decoder has these numbers
+abbrev pub IsDecoder : DecoderFields → Type 0
+IsDecoder fields = (d : Decoder) × (decoder_fields d ≡ fields)
+
+-- the reading of what the decoder with these numbers holds, and of what may follow
+unfoldable pub rest_in : DecoderFields → List Bool → List Item
+rest_in f more = reading (mode_at f.mode) (replicate f.run (f.one == 1) ++ (low_bits f.len f.bits ++ more))
+
+-- it was fed these bits and gave these items: the items, and the reading of what it holds, are the reading of the bits,
+-- whatever may follow
+abbrev pub HasReadIn : DecoderFields → List Bool → List Item → Type 0
+HasReadIn fields bits items = (more : List Bool) → items ++ rest_in fields more ≡ reading_of (bits ++ more)
