@@ -1,0 +1,93 @@
+-- The structs that cross to C, with a number of its own in each field, in the order of the fields.
+use Rattle.std.specs.Prelude.{ℕ, ◌*◌}
+use Rattle.swd_host.specs.declared.fields.EngineFields.{EngineFields}
+use Rattle.swd_trace.specs.declared.decoder.fields.DecoderFields.{DecoderFields}
+use Rattle.swd_c.specs.declared.cue.SwdCue.{SwdCue}
+use Rattle.swd_c.specs.declared.engine.SwdAccess.{SwdAccess}
+use Rattle.swd_c.specs.declared.item.SwdItem.{SwdItem}
+
+-- a number that is the same in each byte of four and of eight
+abbrev pub word : ℕ → ℕ
+word n = n * 0x0101_0101
+
+abbrev pub double : ℕ → ℕ
+double n = n * 0x0101_0101_0101_0101
+
+abbrev pub engine_numbered : EngineFields
+engine_numbered = record {
+  requests = double 1;
+  state = record {
+    outcome = record {
+      word = word 2;
+      kind = 3;
+    };
+    job = record {
+      kind = 4;
+      place = 5;
+      error = 6;
+      damaged = 7;
+    };
+    kind = 8;
+    phase = 9;
+  };
+  task = record {
+    addr = word 10;
+    word = word 11;
+    kind = 12;
+  };
+  tar = record {
+    word = word 13;
+    known = 14;
+  };
+  tries = word 15;
+  events = word 16;
+  aims = 17;
+  bursts = 18;
+  ahead = 19;
+  begun = 20;
+  stray = 21;
+}
+
+abbrev pub cue_numbered : SwdCue
+cue_numbered = record {
+  bits = double 22;
+  ones = word 23;
+  zeros = word 24;
+  undriven = word 25;
+  outcome = record {
+    word = word 26;
+    kind = 27;
+  };
+  kind = 28;
+  request = 29;
+  with_switch = 30;
+  begun = 31;
+}
+
+abbrev pub access_numbered : SwdAccess
+access_numbered = record {
+  addr = word 32;
+  word = word 33;
+  write = 34;
+}
+
+abbrev pub decoder_numbered : DecoderFields
+decoder_numbered = record {
+  fed = double 35;
+  run = double 36;
+  bits = double 37;
+  mode = 38;
+  one = 39;
+  len = 40;
+}
+
+abbrev pub item_numbered : SwdItem
+item_numbered = record {
+  count = double 41;
+  bits = double 42;
+  word = word 43;
+  kind = 44;
+  request = 45;
+  ack = 46;
+  parity_ok = 47;
+}

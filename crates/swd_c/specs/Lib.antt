@@ -1,0 +1,5 @@
+pub mod Cues
+pub mod Engines
+pub mod Items
+pub mod Decoders
+pub mod Layouts

@@ -1,0 +1,161 @@
+//! What a header in C is checked by.
+ghost use Rattle.std.specs.Prelude.{◌≡◌, ◌<◌, ◌^◌};
+ghost use Rattle.swd_c.specs.Layouts.{access_numbered, cue_numbered, decoder_numbered, double, engine_numbered};
+ghost use Rattle.swd_c.specs.Layouts.{item_numbered, word};
+
+use crate::cue::SwdCue;
+use crate::engine::SwdAccess;
+use crate::item::SwdItem;
+use std::mem::size_of;
+use swd_host::{EngineFields, JobFields, OutcomeFields, StateFields, TarFields, TaskFields};
+use swd_trace::DecoderFields;
+
+/// The structs that cross to C, and their sizes in bytes.
+#[repr(C)]
+#[derive(Clone, Copy, Debug, PartialEq, Eq)]
+pub struct SwdLayout {
+    pub engine: EngineFields,
+    pub cue: SwdCue,
+    pub access: SwdAccess,
+    pub decoder: DecoderFields,
+    pub item: SwdItem,
+    pub engine_size: u64,
+    pub cue_size: u64,
+    pub access_size: u64,
+    pub decoder_size: u64,
+    pub item_size: u64,
+    pub layout_size: u64,
+}
+
+// A number that is the same in each byte.
+const fn word(number: u32) -> u32
+    requires { number < 2 ^ 8 }
+    ensures { result ≡ word number }
+{
+    number * 0x0101_0101
+}
+
+const fn double(number: u64) -> u64
+    requires { number < 2 ^ 8 }
+    ensures { result ≡ double number }
+{
+    number * 0x0101_0101_0101_0101
+}
+
+fn engine_numbered() -> EngineFields
+    ensures { result ≡ engine_numbered }
+{
+    EngineFields {
+        requests: double(1),
+        state: StateFields {
+            outcome: OutcomeFields {
+                word: word(2),
+                kind: 3,
+            },
+            job: JobFields {
+                kind: 4,
+                place: 5,
+                error: 6,
+                damaged: 7,
+            },
+            kind: 8,
+            phase: 9,
+        },
+        task: TaskFields {
+            addr: word(10),
+            word: word(11),
+            kind: 12,
+        },
+        tar: TarFields {
+            word: word(13),
+            known: 14,
+        },
+        tries: word(15),
+        events: word(16),
+        aims: 17,
+        bursts: 18,
+        ahead: 19,
+        begun: 20,
+        stray: 21,
+    }
+}
+
+fn cue_numbered() -> SwdCue
+    ensures { result ≡ cue_numbered }
+{
+    SwdCue {
+        bits: double(22),
+        ones: word(23),
+        zeros: word(24),
+        undriven: word(25),
+        outcome: OutcomeFields {
+            word: word(26),
+            kind: 27,
+        },
+        kind: 28,
+        request: 29,
+        with_switch: 30,
+        begun: 31,
+    }
+}
+
+fn access_numbered() -> SwdAccess
+    ensures { result ≡ access_numbered }
+{
+    SwdAccess {
+        addr: word(32),
+        word: word(33),
+        write: 34,
+    }
+}
+
+fn decoder_numbered() -> DecoderFields
+    ensures { result ≡ decoder_numbered }
+{
+    DecoderFields {
+        fed: double(35),
+        run: double(36),
+        bits: double(37),
+        mode: 38,
+        one: 39,
+        len: 40,
+    }
+}
+
+fn item_numbered() -> SwdItem
+    ensures { result ≡ item_numbered }
+{
+    SwdItem {
+        count: double(41),
+        bits: double(42),
+        word: word(43),
+        kind: 44,
+        request: 45,
+        ack: 46,
+        parity_ok: 47,
+    }
+}
+
+/// Puts a number of its own into each field, by which a header is checked, and the sizes.
+#[unsafe(no_mangle)]
+pub extern "C" fn swd_layout(layout: &mut SwdLayout)
+    ensures engine { layout.new.engine ≡ engine_numbered }
+    ensures cue { layout.new.cue ≡ cue_numbered }
+    ensures access { layout.new.access ≡ access_numbered }
+    ensures decoder { layout.new.decoder ≡ decoder_numbered }
+    ensures item { layout.new.item ≡ item_numbered }
+{
+    *layout = SwdLayout {
+        engine: engine_numbered(),
+        cue: cue_numbered(),
+        access: access_numbered(),
+        decoder: decoder_numbered(),
+        item: item_numbered(),
+        engine_size: size_of::<EngineFields>() as u64,
+        cue_size: size_of::<SwdCue>() as u64,
+        access_size: size_of::<SwdAccess>() as u64,
+        decoder_size: size_of::<DecoderFields>() as u64,
+        item_size: size_of::<SwdItem>() as u64,
+        layout_size: size_of::<SwdLayout>() as u64,
+    };
+}

@@ -1,0 +1,24 @@
+//! The host's engine, the decoder and the clocked target for programs in C: `include/swd.h` declares what
+//! is exported here, and `docs/C.md` says how to build the archive and which promises it keeps.
+//!
+//! All state is in the caller's memory, as structs of numbers. Each call gives back control, takes no
+//! memory, and refuses what it may not be given, whatever those structs hold.
+#![tactic(auto)]
+
+mod cue;
+mod decoder;
+mod engine;
+mod item;
+mod layout;
+
+pub use cue::SwdCue;
+pub use decoder::{swd_decoder_due, swd_decoder_last, swd_decoder_new, swd_decoder_take};
+pub use engine::{
+    SwdAccess, swd_engine_again, swd_engine_blocks, swd_engine_cue, swd_engine_new,
+    swd_engine_next, swd_engine_start,
+};
+pub use item::SwdItem;
+pub use layout::{SwdLayout, swd_layout};
+
+#[cfg(test)]
+mod tests;

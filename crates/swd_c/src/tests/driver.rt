@@ -1,0 +1,184 @@
+//! A host that goes by the exports alone, over any wire.
+use crate::{SwdAccess, SwdCue, swd_engine_cue, swd_engine_next, swd_engine_start};
+use std::alloc::{AllocError, Global};
+use swd_bits::Request;
+use swd_host::{EngineFields, JobFields, OutcomeFields, StateFields, TarFields, TaskFields};
+use swd_port::{Due, Wire};
+
+/// Kinds of cues.
+pub const REST: u8 = 0;
+
+pub const ASK: u8 = 2;
+
+pub const TAKE: u8 = 3;
+
+pub const PASS: u8 = 5;
+
+pub const REFUSED: u8 = 255;
+
+/// Kinds of outcomes.
+pub const OPENED: u8 = 1;
+
+pub const VALUE: u8 = 2;
+
+pub const WRITTEN: u8 = 3;
+
+pub const BUS_FAULT: u8 = 4;
+
+pub const ALL: u8 = 5;
+
+pub const LOST: u8 = 6;
+
+pub const TRIES_OUT: u8 = 7;
+
+pub const WRONG_ID: u8 = 8;
+
+pub const CONFUSED: u8 = 9;
+
+/// Fields that are zero, as a caller's memory may be at first.
+pub const ZEROS: EngineFields = EngineFields {
+    requests: 0,
+    state: StateFields {
+        outcome: OutcomeFields { word: 0, kind: 0 },
+        job: JobFields {
+            kind: 0,
+            place: 0,
+            error: 0,
+            damaged: 0,
+        },
+        kind: 0,
+        phase: 0,
+    },
+    task: TaskFields {
+        addr: 0,
+        word: 0,
+        kind: 0,
+    },
+    tar: TarFields { word: 0, known: 0 },
+    tries: 0,
+    events: 0,
+    aims: 0,
+    bursts: 0,
+    ahead: 0,
+    begun: 0,
+    stray: 0,
+};
+
+pub const fn read(addr: u32) -> SwdAccess {
+    SwdAccess {
+        addr,
+        word: 0,
+        write: 0,
+    }
+}
+
+pub const fn write(addr: u32, word: u32) -> SwdAccess {
+    SwdAccess {
+        addr,
+        word,
+        write: 1,
+    }
+}
+
+/// An outcome of this kind, without a word.
+pub const fn plain(kind: u8) -> OutcomeFields {
+    OutcomeFields { word: 0, kind }
+}
+
+/// A value that was read.
+pub const fn value(word: u32) -> OutcomeFields {
+    OutcomeFields { word, kind: VALUE }
+}
+
+/// What came of a run.
+#[derive(Debug, Drop)]
+pub struct Told {
+    pub answers: Vec<OutcomeFields>,
+    pub begun: u8,
+    pub requests: u64,
+    pub ended: u8,
+}
+
+// Ones and zeros, where they may stand.
+fn leads<W: Wire>(wire: &mut W, cue: SwdCue) -> bool {
+    let outside = match wire.due() {
+        Due::Nothing => true,
+        _ => cue.ones >= 100 && cue.with_switch == 0,
+    };
+    if !outside || cue.ones < 50 || cue.zeros < 2 {
+        return false;
+    }
+    wire.lead(cue.ones, cue.with_switch != 0, cue.zeros);
+    true
+}
+
+/// Does what a cue says over a wire, and gives what comes of it. None where the wire may not be
+/// given that.
+pub fn reply<W: Wire>(wire: &mut W, cue: SwdCue) -> Option<u64> {
+    match (cue.kind, wire.due()) {
+        (1, _) => { if leads(wire, cue) { Some(0) } else { None } }
+        (2, Due::Nothing) => {
+            let request = Request::of(cue.request)?;
+            Some(u64::from(wire.ask(request)))
+        }
+        (3, Due::Take) => Some(wire.take()),
+        (4, Due::Give) if cue.bits < 1 << 33 => {
+            wire.give(cue.bits);
+            Some(0)
+        }
+        (5, Due::Pass) => {
+            wire.pass();
+            Some(0)
+        }
+        _ => None,
+    }
+}
+
+/// Goes on to the next outcome, and gives that cue. None where there is none after so many calls, or the
+/// wire may not be given what the engine wants.
+pub fn drive<W: Wire>(wire: &mut W, engine: &mut EngineFields) -> Option<SwdCue> {
+    let mut cue = swd_engine_cue(engine);
+    for _ in 0..10_000u32 {
+        if cue.kind == REST || cue.kind == REFUSED {
+            return Some(cue);
+        }
+        cue = swd_engine_next(engine, reply(wire, cue)?);
+    }
+    None
+}
+
+/// Does the accesses from this index on with a new engine, and tells what came of it. A run that is
+/// whole is told by the kind `ALL`.
+pub fn run_from<W: Wire>(
+    alloc: Global,
+    wire: &mut W,
+    engine: &mut EngineFields,
+    accesses: &[SwdAccess],
+    first: usize,
+) -> Result<Option<Told>, AllocError> {
+    let mut answers = Vec::new(alloc);
+    let mut cue = drive(wire, engine);
+    for index in first..accesses.len() {
+        if !swd_engine_start(engine, accesses, index) {
+            break;
+        }
+        cue = drive(wire, engine);
+        match cue {
+            Some(rest) if rest.outcome.kind <= BUS_FAULT => answers.push(rest.outcome)?,
+            _ => break,
+        }
+    }
+    let Some(last) = cue else {
+        return Ok(None);
+    };
+    Ok(Some(Told {
+        answers,
+        begun: last.begun,
+        requests: engine.requests,
+        ended: if last.outcome.kind <= BUS_FAULT {
+            ALL
+        } else {
+            last.outcome.kind
+        },
+    }))
+}

@@ -1,0 +1,210 @@
+/*
+ * Checks swd.h against the archive: sizes and places of all fields, by swd_layout, and the constants, by what
+ * the calls answer. Says what differs, with status 1.
+ */
+#include <stdio.h>
+#include <string.h>
+#include "line.h"
+#include "model.h"
+
+static int faults;
+
+static void same(const char *what, uint64_t have, uint64_t want)
+{
+	if (have != want) {
+		printf("%s: %llx, not %llx\n", what, (unsigned long long)have, (unsigned long long)want);
+		faults = 1;
+	}
+}
+
+/* The number of a field of so many bytes. */
+static uint64_t numbered(size_t size, uint64_t number)
+{
+	uint64_t bytes = 0;
+	size_t i;
+	for (i = 0; i < size; i++)
+		bytes = bytes << 8 | number;
+	return bytes;
+}
+
+#define CHECK(field, number) same(#field, layout.field, numbered(sizeof layout.field, number))
+
+static void check_fields(void)
+{
+	struct swd_layout layout;
+	memset(&layout, 0xee, sizeof layout);
+	swd_layout(&layout);
+	CHECK(engine.requests, 1);
+	CHECK(engine.state.outcome.word, 2);
+	CHECK(engine.state.outcome.kind, 3);
+	CHECK(engine.state.job.kind, 4);
+	CHECK(engine.state.job.place, 5);
+	CHECK(engine.state.job.error, 6);
+	CHECK(engine.state.job.damaged, 7);
+	CHECK(engine.state.kind, 8);
+	CHECK(engine.state.phase, 9);
+	CHECK(engine.task.addr, 10);
+	CHECK(engine.task.word, 11);
+	CHECK(engine.task.kind, 12);
+	CHECK(engine.tar.word, 13);
+	CHECK(engine.tar.known, 14);
+	CHECK(engine.tries, 15);
+	CHECK(engine.events, 16);
+	CHECK(engine.aims, 17);
+	CHECK(engine.bursts, 18);
+	CHECK(engine.ahead, 19);
+	CHECK(engine.begun, 20);
+	CHECK(engine.stray, 21);
+	CHECK(cue.bits, 22);
+	CHECK(cue.ones, 23);
+	CHECK(cue.zeros, 24);
+	CHECK(cue.undriven, 25);
+	CHECK(cue.outcome.word, 26);
+	CHECK(cue.outcome.kind, 27);
+	CHECK(cue.kind, 28);
+	CHECK(cue.request, 29);
+	CHECK(cue.with_switch, 30);
+	CHECK(cue.begun, 31);
+	CHECK(access.addr, 32);
+	CHECK(access.word, 33);
+	CHECK(access.write, 34);
+	CHECK(decoder.fed, 35);
+	CHECK(decoder.run, 36);
+	CHECK(decoder.bits, 37);
+	CHECK(decoder.mode, 38);
+	CHECK(decoder.one, 39);
+	CHECK(decoder.len, 40);
+	CHECK(item.count, 41);
+	CHECK(item.bits, 42);
+	CHECK(item.word, 43);
+	CHECK(item.kind, 44);
+	CHECK(item.request, 45);
+	CHECK(item.ack, 46);
+	CHECK(item.parity_ok, 47);
+	same("struct swd_engine", sizeof(struct swd_engine), layout.engine_size);
+	same("struct swd_cue", sizeof(struct swd_cue), layout.cue_size);
+	same("struct swd_access", sizeof(struct swd_access), layout.access_size);
+	same("struct swd_decoder", sizeof(struct swd_decoder), layout.decoder_size);
+	same("struct swd_item", sizeof(struct swd_item), layout.item_size);
+	same("struct swd_layout", sizeof(struct swd_layout), layout.layout_size);
+}
+
+static struct model target;
+
+int line_clock(int drive)
+{
+	return model_clock(&target, drive);
+}
+
+/* An engine once its lead was sent. */
+static struct swd_engine led(void)
+{
+	struct swd_engine engine;
+	swd_engine_new(&engine, 0);
+	same("SWD_LEAD", swd_engine_cue(&engine).kind, SWD_LEAD);
+	same("SWD_ASK", swd_engine_next(&engine, 0).kind, SWD_ASK);
+	return engine;
+}
+
+static void check_cues(void)
+{
+	struct swd_engine engine = led();
+	struct swd_cue cue;
+	same("SWD_REFUSED", swd_engine_next(&engine, 8).kind, SWD_REFUSED);
+	same("SWD_TAKE", swd_engine_next(&engine, 1).kind, SWD_TAKE);
+	/* Bit 0 is 0, and the parity bit is 1. */
+	cue = swd_engine_next(&engine, 0x12ba01476);
+	same("SWD_REST", cue.kind, SWD_REST);
+	same("SWD_WRONG_ID", cue.outcome.kind, SWD_WRONG_ID);
+	same("identification", cue.outcome.word, 0x2ba01476);
+	engine = led();
+	swd_engine_next(&engine, 1);
+	/* Wrong parity, and no event allowed. */
+	same("SWD_TRIES_OUT", swd_engine_next(&engine, 1).outcome.kind, SWD_TRIES_OUT);
+	engine = led();
+	swd_engine_next(&engine, 1);
+	swd_engine_next(&engine, 0x2ba01477);
+	same("SWD_GIVE", (swd_engine_next(&engine, 1)).kind, SWD_GIVE);
+	engine = led();
+	same("SWD_PASS", swd_engine_next(&engine, 2).kind, SWD_PASS);
+	same("SWD_CONFUSED", swd_engine_next(&engine, 0).outcome.kind, SWD_CONFUSED);
+	engine = led();
+	same("SWD_LOST", swd_engine_next(&engine, 7).outcome.kind, SWD_LOST);
+}
+
+static void check_outcomes(void)
+{
+	static const struct swd_access accesses[3] = { { MODEL_BASE, 1, 1 },
+	                                               { MODEL_BASE, 0, 0 },
+	                                               { 0x30000000, 0, 0 } };
+	static const uint8_t kinds[3] = { SWD_WRITTEN, SWD_VALUE, SWD_BUS_FAULT };
+	struct swd_engine engine;
+	size_t i;
+	model_new(&target);
+	swd_engine_new(&engine, 8);
+	same("SWD_OPENED", line_drive(&engine).outcome.kind, SWD_OPENED);
+	for (i = 0; i < 3; i++) {
+		same("start", swd_engine_start(&engine, accesses, 3, i), 1);
+		same("outcome", line_drive(&engine).outcome.kind, kinds[i]);
+	}
+}
+
+/* The one item that so many bits are, where they end a trace. */
+static struct swd_item item_of(struct swd_decoder *decoder, uint64_t bits, uint8_t count)
+{
+	struct swd_item item;
+	memset(&item, 0, sizeof item);
+	while (count > 0) {
+		uint8_t taken = swd_decoder_take(decoder, bits, count);
+		bits = taken < 64 ? bits >> taken : 0;
+		count = (uint8_t)(count - taken);
+		if (swd_decoder_due(decoder, &item) || taken == 0)
+			return item;
+	}
+	swd_decoder_last(decoder, &item);
+	return item;
+}
+
+static void check_items(void)
+{
+	struct swd_decoder decoder;
+	struct swd_item item;
+	swd_decoder_new(&decoder);
+	item = item_of(&decoder, 0, 3);
+	same("SWD_IDLE", item.kind, SWD_IDLE);
+	same("zeros", item.count, 3);
+	swd_decoder_new(&decoder);
+	item = item_of(&decoder, (1ull << 50) - 1, 51);
+	same("SWD_RESET", item.kind, SWD_RESET);
+	same("ones", item.count, 50);
+	swd_decoder_new(&decoder);
+	/* DPIDR's request, a turnaround, and FAULT with its turnaround. */
+	item = item_of(&decoder, 0x18a5 | 1 << 8, 13);
+	same("SWD_TRANSACTION", item.kind, SWD_TRANSACTION);
+	same("request", item.request, 0xa5);
+	same("ack", item.ack, 4);
+	swd_decoder_new(&decoder);
+	item = item_of(&decoder, 0xa5, 8);
+	same("SWD_CUT", item.kind, SWD_CUT);
+	same("bits", item.bits, 0xa5);
+	same("length", item.count, 8);
+	swd_decoder_new(&decoder);
+	item = item_of(&decoder, 0xa4 | 1, 7);
+	same("SWD_CUT", item.kind, SWD_CUT);
+	swd_decoder_new(&decoder);
+	/* Wrong parity. */
+	item = item_of(&decoder, 0x85, 8);
+	same("SWD_JUNK", item.kind, SWD_JUNK);
+	same("bit", item.bits, 1);
+}
+
+int main(void)
+{
+	check_fields();
+	check_cues();
+	check_outcomes();
+	check_items();
+	if (!faults)
+		printf("swd.h is that of the archive\n");
+	return faults;
+}

@@ -1,0 +1,60 @@
+/*
+ * A host over two functions of pins, ready to be filled in: `set` puts SWCLK and SWDIO to levels, or lets go
+ * of SWDIO, and `get` gives the level of SWDIO. Here they drive the model of a target.
+ */
+#include <stdio.h>
+#include "line.h"
+#include "model.h"
+
+static struct model target;
+
+/* What the pins are at. */
+static struct {
+	int clock, data, drives;
+} pins = { 1, 1, 0 };
+
+/* The level that the target sees and shows in this cycle. */
+static int level = 1;
+
+/*
+ * Fill in: SWDIO is driven at `data` where `drives` isn't 0, and let go of where it is; then SWCLK goes to
+ * `clock`. Wait here as long as half a cycle lasts.
+ */
+static void set(int clock, int data, int drives)
+{
+	/* The model's cycle is the falling edge: a target changes its level there, and both look before the rising one. */
+	if (pins.clock && !clock)
+		level = model_clock(&target, drives ? data : RELEASED);
+	pins.clock = clock;
+	pins.data = data;
+	pins.drives = drives;
+}
+
+/*
+ * Fill in: the level of SWDIO, 0 or 1.
+ */
+static int get(void)
+{
+	return level;
+}
+
+int line_clock(int drive)
+{
+	int drives = drive != RELEASED, data = drives ? drive : 1, bit;
+	set(0, data, drives);
+	bit = get();
+	set(1, data, drives);
+	return bit;
+}
+
+int main(void)
+{
+	static const uint32_t words[] = { 0xdeadbeef, 0x00000001, 0xffffffff };
+	struct swd_engine engine;
+	model_new(&target);
+	swd_engine_new(&engine, 8);
+	if (!line_program(&engine, MODEL_BASE + 0x20, words, 3))
+		return 1;
+	printf("3 words written and verified over pins, %lu requests\n", (unsigned long)engine.requests);
+	return 0;
+}

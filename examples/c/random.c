@@ -1,0 +1,168 @@
+/*
+ * Calls on structs of any bytes, and of bytes near to those of a struct in order: each call gives back
+ * control, and what it refuses it leaves as it was. Takes the number of calls.
+ */
+#include <stdio.h>
+#include <stdlib.h>
+#include <string.h>
+#include "swd.h"
+
+static uint64_t state = 88172645463325252u;
+
+static uint64_t any(void)
+{
+	state ^= state << 13;
+	state ^= state >> 7;
+	state ^= state << 17;
+	return state;
+}
+
+/* A number with any number of bits. */
+static uint64_t some(void)
+{
+	return any() >> any() % 64;
+}
+
+static unsigned long calls, refused;
+
+static void fill(void *object, size_t size)
+{
+	unsigned char *bytes = (unsigned char *)object;
+	uint64_t kind = any() % 3, most = 1 + any() % 14;
+	size_t i;
+	for (i = 0; i < size; i++) {
+		if (kind == 0)
+			bytes[i] = (unsigned char)any();
+		else if (kind == 1)
+			bytes[i] = (unsigned char)(any() % most);
+		else
+			bytes[i] = 0;
+	}
+}
+
+/* Changes up to two bytes. */
+static void spoil(void *object, size_t size)
+{
+	unsigned char *bytes = (unsigned char *)object;
+	uint64_t count = any() % 3;
+	while (count-- > 0)
+		bytes[any() % size] = (unsigned char)(any() % 2 ? any() : any() % 14);
+}
+
+static void fail(const char *what)
+{
+	printf("%s\n", what);
+	exit(1);
+}
+
+static void count(bool was_refused, const void *before, const void *after, size_t size)
+{
+	calls++;
+	if (was_refused) {
+		refused++;
+		if (memcmp(before, after, size) != 0)
+			fail("refused, but changed");
+	}
+}
+
+static struct swd_engine make_engine(void)
+{
+	struct swd_engine engine;
+	memset(&engine, 0, sizeof engine);
+	switch (any() % 4) {
+	case 0:
+		swd_engine_new(&engine, (uint32_t)some());
+		break;
+	case 1:
+		swd_engine_blocks(&engine, (uint32_t)some());
+		break;
+	case 2:
+		swd_engine_again(&engine, (uint32_t)some());
+		break;
+	default:
+		fill(&engine, sizeof engine);
+		break;
+	}
+	return engine;
+}
+
+/* A reply as of a target, mostly. */
+static uint64_t reply(const struct swd_cue *cue)
+{
+	if (any() % 8 == 0)
+		return some();
+	return cue->kind == SWD_ASK ? (any() % 4 ? 1 : any() % 8) : any() % ((uint64_t)1 << 33);
+}
+
+static void try_engine(void)
+{
+	struct swd_engine engine = make_engine();
+	struct swd_access accesses[3];
+	int i;
+	fill(accesses, sizeof accesses);
+	for (i = 0; i < 40; i++) {
+		struct swd_engine before = engine;
+		struct swd_cue cue = swd_engine_cue(&engine);
+		count(cue.kind == SWD_REFUSED, &before, &engine, sizeof engine);
+		if (cue.kind > SWD_PASS && cue.kind != SWD_REFUSED)
+			fail("no cue");
+		cue = swd_engine_next(&engine, reply(&cue));
+		count(cue.kind == SWD_REFUSED, &before, &engine, sizeof engine);
+		before = engine;
+		count(!swd_engine_start(&engine, accesses, 3, any() % 4), &before, &engine, sizeof engine);
+		if (any() % 4 == 0)
+			spoil(&engine, sizeof engine);
+	}
+}
+
+static struct swd_decoder make_decoder(void)
+{
+	struct swd_decoder decoder;
+	memset(&decoder, 0, sizeof decoder);
+	if (any() % 2)
+		swd_decoder_new(&decoder);
+	else
+		fill(&decoder, sizeof decoder);
+	if (any() % 2) {
+		decoder.mode = (uint8_t)(1 + any() % 4);
+		decoder.one &= 1;
+		decoder.len %= 51;
+		decoder.bits &= ((uint64_t)1 << decoder.len) - 1;
+	}
+	return decoder;
+}
+
+static void try_decoder(void)
+{
+	struct swd_decoder decoder = make_decoder();
+	struct swd_item item;
+	int i;
+	memset(&item, 0, sizeof item);
+	for (i = 0; i < 40; i++) {
+		struct swd_decoder before = decoder;
+		uint8_t most = (uint8_t)(any() % 70), taken = swd_decoder_take(&decoder, some(), most);
+		if (taken > most)
+			fail("too many bits");
+		count(taken == 0, &before, &decoder, sizeof decoder);
+		before = decoder;
+		count(!swd_decoder_due(&decoder, &item), &before, &decoder, sizeof decoder);
+		if (item.kind > SWD_CUT)
+			fail("no item");
+		before = decoder;
+		if (any() % 16 == 0)
+			count(!swd_decoder_last(&decoder, &item), &before, &decoder, sizeof decoder);
+		if (any() % 4 == 0)
+			spoil(&decoder, sizeof decoder);
+	}
+}
+
+int main(int argc, char **argv)
+{
+	unsigned long most = argc > 1 ? strtoul(argv[1], NULL, 10) : 10000000;
+	while (calls < most) {
+		try_engine();
+		try_decoder();
+	}
+	printf("%lu calls, %lu gave nothing\n", calls, refused);
+	return 0;
+}
