@@ -19,44 +19,22 @@ use Rattle.swd_port.specs.Choices.{IsMark, is_deaf, is_wait, flip_of}
 use Rattle.swd_port.specs.Answers.{driven, seen_at, due_after}
 use Rattle.swd_port.specs.Asking.{line_after, phase_after}
 use Rattle.swd_target.specs.declared.target.Target.{Target}
-use Rattle.swd_target.specs.Flips.{flip_place, line_flipped, line_under}
-use Rattle.swd_target.specs.Requests.{Answers, AnswersUnder}
+use Rattle.swd_target.specs.Flips.{line_flipped, line_under}
+use Rattle.swd_target.specs.Requests.{AnswersUnder}
 use Rattle.swd_target.specs.Simulations.{reply_to, phase_to, link_after}
 use Rattle.swd_target.specs.Targets.{simulation}
+use Rattle.swd_target.proofs.AskLemmas.{answers_deaf}
 use Rattle.swd_clocked.specs.declared.frame.Frame.{Frame}
 use Rattle.swd_clocked.specs.declared.frame.Frame.TheVariants.{Asks, Lost, High, Switches, Replies, Drives, Awaits, Passes}
 use Rattle.swd_clocked.specs.declared.clocked.Clocked.{Clocked}
-use Rattle.swd_clocked.specs.Frames.{idle, frame_register, frame_of, frame_replied, frame_seen}
-use Rattle.swd_clocked.specs.Cycles.{Moved, Requested, Seen}
+use Rattle.swd_clocked.specs.Frames.{idle, frame_register, frame_seen}
+use Rattle.swd_clocked.specs.Cycles.{Moved, Seen}
 use Rattle.swd_clocked.specs.Rests.{rests, is_idle, line_at}
 
 -- the first bit of a request is a one
 pub begins : (q : Request) (v : ℕ) → low_bits 8 v ≡ request q → v % 2 ≡ 1
 unfolding low_bits
 begins q v e = let h : (v % 2 == 1) ≡ true = cc in grind (arith, nat_tests)
-
--- a reply that was seen
-pub seen_reply : {A : Type 0} (q : Request) (s : Target A) (w : Bool) (u t : Clocked A) (seen : ℕ) (a : Reply) (x : Requested q s w u)
-    → ((reply : Reply) → (line : Line) → (reply ≡ Silent → ⊥) → u.frame ≡ Replies reply line 0 → (seen ≡ driven reply) × Moved (frame_of line) u.target u.waits t)
-    → (u.frame ≡ Lost 1 → (seen ≡ 7) × Moved (Lost 5) u.target u.waits t)
-    → ((reply : Reply) → seen ≡ driven reply → a ≡ reply)
-    → Seen q a s w t
-seen_reply q s w u t seen a x driving lost of =
-    let both : (reply : Reply) → x.reply ≡ reply → (seen ≡ driven reply) × Moved (frame_seen reply x.phase) u.target u.waits t =
-    λ reply. elim reply as (λ (y : Reply). x.reply ≡ y → (seen ≡ driven y) × Moved (frame_seen y x.phase) u.target u.waits t) [
-      | Okay ↦ λ e. driving Okay x.phase (λ n. cc) (x.frame ∙ ap (λ y. frame_replied y x.phase) e)
-      | Waits ↦ λ e. driving Waits x.phase (λ n. cc) (x.frame ∙ ap (λ y. frame_replied y x.phase) e)
-      | Faults ↦ λ e. driving Faults x.phase (λ n. cc) (x.frame ∙ ap (λ y. frame_replied y x.phase) e)
-      | Silent ↦ λ e. lost (x.frame ∙ ap (λ y. frame_replied y x.phase) e)
-    ] in
-    let z = both x.reply refl in
-    let is : a ≡ x.reply = of x.reply z.0 in
-    record {
-      phase = x.phase;
-      answers = subst (λ (y : Reply). Answers w q s y x.phase t.target) (sym is) (subst (λ (y : Target _). Answers w q s x.reply x.phase y) (sym z.1.target) x.answers);
-      frame = z.1.frame ∙ ap (λ (y : Reply). frame_seen y x.phase) (sym is);
-      waits = z.1.waits ∙ x.waits;
-    }
 
 -- between calls
 pub idle_at : (f : Frame) → is_idle f ≡ true → f ≡ idle
@@ -201,13 +179,6 @@ awaiting_at (Replies reply line place) flip e = absurd cc
 awaiting_at (Drives bits left) flip e = absurd cc
 awaiting_at Passes flip e = absurd cc
 
-pub legal_flip : (m : Mark) (f : Option ℕ) → IsMark m → f ≡ flip_of m → flip_place f < 33
-legal_flip Clean f l e = rw e (omega arith)
-legal_flip Wait f l e = rw e (omega arith)
-legal_flip (Flip p) f l e = rw e l
-legal_flip Deaf f l e = rw e (omega arith)
-legal_flip (Mute p) f l e = rw e (omega arith)
-
 -- what is due after it, and the data phase
 pub link_seen : {A : Type 0} (m : Mark) (q : Request) (a : Reply) (s t : Target A) (phase line : Line) (due : Due) (l : Link) (seen : ℕ) → AnswersUnder m q s a phase t
     → seen ≡ seen_at m a → due ≡ due_after q.read seen → line ≡ line_after a phase l.line
@@ -223,3 +194,11 @@ deaf_is Clean e = absurd cc
 deaf_is Wait e = absurd cc
 deaf_is (Flip p) e = absurd cc
 deaf_is (Mute p) e = absurd cc
+
+pub deaf_under : {A : Type 0} (m : Mark) (q : Request) (s : Target A) (w : Bool) (t : Clocked A) → m ≡ Deaf → Moved idle s w t → SeenUnder m q Silent s t
+deaf_under m q s w t deaf moved = record {
+  phase = lines.Idle;
+  answers = subst (λ (y : Mark). AnswersUnder y q s Silent lines.Idle t.target) (sym deaf) (subst (λ (y : Target _). AnswersUnder Deaf q s Silent lines.Idle y) (sym moved.target) (answers_deaf q s));
+  line = ap (λ (f : Frame). line_at f (flip_of m)) moved.frame;
+  resting = ap (λ (y : Mark). rests (due_after q.read (seen_at y Silent)) t.frame) deaf ∙ ap (rests (due_after q.read 7)) moved.frame;
+}

@@ -2,3 +2,5 @@ pub mod Shifts
 pub mod Frames
 pub mod Calls
 mod Spelling
+pub mod Marks
+pub mod Whole

@@ -32,7 +32,7 @@ pub record Shifts (n whole place rest bits : ℕ) : Type 0 where
   pub equation : rest * n + bits ≡ whole / 2 ^ place
   pub small : bits < n
 
-halved : (w k : ℕ) → w / 2 ^ k / 2 ≡ w / 2 ^ (k + 1)
+pub halved : (w k : ℕ) → w / 2 ^ k / 2 ≡ w / 2 ^ (k + 1)
 halved w k = shr-shr w k 1
 
 digit : (r : ℕ) → r < 2 → bit (r == 1) ≡ r

@@ -1,38 +1,38 @@
 -- A clocked bench as a port machine with a plan, and as a simulated target. All of it is this project's choice.
-use Rattle.std.specs.Prelude.{ℕ, ◌+◌, List, take, Bool, if◌then◌else◌}
+use Rattle.std.specs.Prelude.{ℕ, ◌+◌, List, take, Bool}
 use Rattle.swd_bits.specs.declared.request.Request.{Request}
 use Rattle.swd_port.specs.declared.mark.Mark.{Mark}
 use Rattle.swd_port.specs.declared.register.Register.TheVariants.{DrwRead}
 use Rattle.swd_port.specs.Port.{Port, Link, Tally}
-use Rattle.swd_port.specs.Choices.{Choice, is_deaf}
+use Rattle.swd_port.specs.Choices.{Choice, flip_of}
 use Rattle.swd_target.specs.Simulations.{Simulation, reply_to, phase_to, link_after}
 use Rattle.swd_target.specs.Targets.{choice_for}
 use Rattle.swd_target.specs.Requests.{port_at}
 use Rattle.swd_target.specs.Plans as plans
 use Rattle.swd_clocked.specs.declared.clocked_bench.ClockedBench.{ClockedBench}
-use Rattle.swd_clocked.specs.Clocks as clocks
+use Rattle.swd_clocked.specs.Marked as marked
 use Rattle.swd_clocked.specs.Frames.{reset_cycles}
 use Rattle.swd_clocked.specs.Rests.{line_at}
 
 -- what is due, and the data phase that its target is in
 abbrev pub link_of : {A : Type 0} → ClockedBench A → Link
-link_of b = record { due = b.due; line = line_at b.clocked.value.frame b.flip }
+link_of b = record { due = b.due; line = line_at b.marked.value.clocked.frame (flip_of b.marked.value.mark) }
 
 -- its numbers of requests
 abbrev pub tally_of : {A : Type 0} → ClockedBench A → Tally
-tally_of b = plans.tally_of b.plan
+tally_of b = marked.tally_of b.marked.value
 
 -- the state of the port machine
 abbrev pub port_of : {A : Type 0} → ClockedBench A → Port
-port_of b = port_at (link_of b) (tally_of b) (clocks.state_of b.clocked.value)
+port_of b = port_at (link_of b) (tally_of b) (marked.state_of b.marked.value)
 
 -- its target as a simulated one
 abbrev pub simulation_of : {A : Type 0} → ClockedBench A → Simulation
-simulation_of b = clocks.simulation_of b.clocked.value
+simulation_of b = marked.simulation_of b.marked.value
 
 -- the marks of its requests
 abbrev pub plan_of : {A : Type 0} → ClockedBench A → List Mark
-plan_of b = plans.marks_of b.plan
+plan_of b = marked.plan_of b.marked.value
 
 -- the marks of its requests so far, as far as its plan goes
 abbrev pub marks_so_far : {A : Type 0} → ClockedBench A → List Mark
@@ -40,25 +40,21 @@ marks_so_far b = take (tally_of b).asked (plan_of b)
 
 -- the mark of its next request
 abbrev pub next_mark : {A : Type 0} → ClockedBench A → Mark
-next_mark b = plans.mark_next b.plan
+next_mark b = plans.mark_next b.marked.value.plan
 
 -- what it chooses when a transfer takes effect
 abbrev pub choice_of : {A : Type 0} → ClockedBench A → Choice
-choice_of b = choice_for DrwRead b.clocked.value.target
+choice_of b = choice_for DrwRead b.marked.value.clocked.target
 
 -- its cycles so far
 abbrev pub cycles_of : {A : Type 0} → ClockedBench A → ℕ
-cycles_of b = clocks.cycles_of b.clocked.value
+cycles_of b = marked.cycles_of b.marked.value
 
 -- the link after a request
 abbrev pub link_asked : {A : Type 0} → Request → ClockedBench A → Link
 link_asked q b =
     let s = simulation_of b in
     link_after (next_mark b) q (reply_to (next_mark b) q s) (phase_to (next_mark b) q s) (link_of b)
-
--- the cycles of a request: none of one that the target doesn't see
-abbrev pub ask_cycles : Mark → ℕ
-ask_cycles mark = if is_deaf mark then 0 else 12
 
 -- the cycles of ones and zeros, with the switch or without
 abbrev pub lead_cycles : ℕ → Bool → ℕ → ℕ

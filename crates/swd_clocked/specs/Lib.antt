@@ -2,5 +2,8 @@ pub mod Frames
 pub mod Cycles
 pub mod Clocks
 pub mod Rests
+pub mod Damage
+pub mod Marked
+pub mod Phases
 pub mod ClockedBenches
 pub mod Spelled

@@ -42,7 +42,7 @@ pub struct Clocked<A: Allocator = Global> {
 impl<A: Allocator> Clocked<A> {
     ghost use Rattle.swd_clocked.specs.Clocks.{state_of, simulation_of, frame_in, is_held, cycles_of};
     ghost use Rattle.swd_clocked.specs.Clocks.{Clocks, Holds, Settles};
-    ghost use Rattle.swd_clocked.specs.Cycles.{Requested, ByteCame, AsksBit, LostBit, HeardBit, DataCame};
+    ghost use Rattle.swd_clocked.specs.Cycles.{Moved, Requested, ByteCame, AsksBit, LostBit, HeardBit, DataCame};
     ghost use Rattle.swd_clocked.specs.Cycles.{AwaitsBit, DrivesBit, RepliesBit, SwitchesBit};
 
     /// Makes a target that had no line reset yet, with this memory behind its access port. Nothing
@@ -131,6 +131,15 @@ impl<A: Allocator> Clocked<A> {
                 bit
             }
         }
+    }
+
+    // A cycle that doesn't reach the target: it is between transactions then.
+    pub(crate) fn miss(&mut self)
+        ensures moved { Moved idle self.old.target self.old.waits self.new }
+        ensures cycles { self.new.cycles ≡ counted 1 self.old.cycles }
+    {
+        self.cycles = self.cycles.saturating_add(1);
+        self.frame = Frame::IDLE;
     }
 
     fn ask_bit(&mut self, bits: u8, count: u8, bit: bool)

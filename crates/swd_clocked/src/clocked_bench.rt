@@ -2,28 +2,27 @@
 ghost use Rattle.std.specs.Prelude.{◌≡◌, ◌<◌, ◌^◌, true, IfOk, IfErr};
 ghost use Rattle.swd_port.specs.declared.wire.Due.TheVariants.{Nothing, Take, Give, Pass};
 ghost use Rattle.swd_port.specs.Port.{idle_link, made};
-ghost use Rattle.swd_port.specs.Choices.{is_deaf, is_wait};
 ghost use Rattle.swd_port.specs.Completion.{completed};
 ghost use Rattle.swd_port.specs.Asking.{Asks, tally_after};
 ghost use Rattle.swd_port.specs.Leading.{MayLead, Leads, LeadsNow};
 ghost use Rattle.swd_port.specs.Moving.{Takes, TakesNow, Gives, Passes, PassesNow};
 ghost use Rattle.swd_target.specs.Marks.{IsPlan};
-ghost use Rattle.swd_target.specs.Flips.{flip_place};
 ghost use Rattle.swd_target.specs.Simulations.{made_with, transferred, asked, seen_to};
 ghost use Rattle.swd_target.specs.Benches.{led, given};
 ghost use Rattle.swd_target.specs.Targets.{IsChosen};
 ghost use Rattle.swd_clocked.specs.Frames.{counted};
 ghost use Rattle.swd_clocked.specs.Rests.{rests};
 
-use crate::clocked::Clocked;
+use crate::marked::MarkedClocked;
 use std::alloc::{Allocator, Global};
 use swd_bits::Request;
 use swd_port::{Due, Mark, Wire};
-use swd_target::port::{Plan, due_after_seen, flip_bit, flip_under, seen_under};
+use swd_target::port::due_after_seen;
 use swd_target::{Memory, Quirks};
 
-/// A clocked target at the end of a wire: it drives each call of `Wire` by cycles alone. Each
-/// request uses the next mark of the plan; after its end all marks are `Clean`.
+/// A `MarkedClocked` at the end of a wire: it drives each call of `Wire` by cycles alone, as any host
+/// does that clocks so. Each request uses the next mark of the plan; after its end all marks are
+/// `Clean`.
 ///
 /// It does exactly what a `swd_target::Bench` with the same memory, quirks and plan does.
 ///
@@ -36,26 +35,10 @@ use swd_target::{Memory, Quirks};
 /// ```
 #[derive(Drop)]
 pub struct ClockedBench<A: Allocator = Global> {
-    clocked: Box<Clocked<A>, A>,
+    marked: Box<MarkedClocked<A>, A>,
     due: Due,
-    flip: Option<u8>,
-    plan: Plan<A>,
-    ghost flipped: { flip_place flip < 33 },
-    ghost resting: { rests due clocked.value.frame ≡ true },
-}
-
-// The target doesn't see the request.
-fn is_deaf(mark: Mark) -> bool
-    ensures { result ≡ is_deaf mark }
-{
-    matches!(&mark, Mark::Deaf)
-}
-
-// WAIT is asked for.
-fn is_wait(mark: Mark) -> bool
-    ensures { result ≡ is_wait mark }
-{
-    matches!(&mark, Mark::Wait)
+    ghost resting: { rests due marked.value.clocked.frame ≡ true },
+    ghost heard: { marked.value.unseen ≡ 0 },
 }
 
 impl<A: Allocator> ClockedBench<A> {
@@ -77,14 +60,12 @@ impl<A: Allocator> ClockedBench<A> {
         ensures cycles { IfOk result (λ b. cycles_of b ≡ 0) }
         ensures handed_back { IfErr result (λ e. (e.0 ≡ memory) × (e.1.items ≡ plan.items)) }
     {
-        match Box::new(alloc, Clocked::new(memory, quirks)) {
-            Ok(clocked) => Ok(ClockedBench {
-                clocked,
+        match Box::new(alloc, MarkedClocked::new(memory, quirks, plan)) {
+            Ok(marked) => Ok(ClockedBench {
+                marked,
                 due: Due::Nothing,
-                flip: None,
-                plan: Plan::new(plan),
             }),
-            Err(refused) => Err((refused.value.into_memory(), plan)),
+            Err(refused) => Err(refused.value.into_parts()),
         }
     }
 
@@ -97,21 +78,21 @@ impl<A: Allocator> ClockedBench<A> {
         ensures plan { plan_of self.new ≡ plan_of self.old }
         ensures cycles { cycles_of self.new ≡ cycles_of self.old }
     {
-        self.clocked.settle();
+        self.marked.settle();
     }
 
     /// The memory behind the access port.
     pub fn memory(&self) -> &Memory<A>
         ensures { result.now ≡ (port_of self.now).target.memory }
     {
-        self.clocked.memory()
+        self.marked.memory()
     }
 
     /// The cycles so far; it stays at its greatest value once there.
     pub fn cycles(&self) -> u64
         ensures { result ≡ cycles_of self.now }
     {
-        self.clocked.cycles
+        self.marked.cycles()
     }
 
     // Ones and zeros, cycle by cycle.
@@ -128,9 +109,9 @@ impl<A: Allocator> ClockedBench<A> {
             } else {
                 34
             };
-            self.clocked.send_reset(ones, undriven, switch);
+            self.marked.send_reset(ones, undriven, switch);
         }
-        self.clocked.send_zeros(zeros);
+        self.marked.send_zeros(zeros);
         self.due = Due::Nothing;
     }
 
@@ -143,9 +124,9 @@ impl<A: Allocator> ClockedBench<A> {
         ensures plan { plan_of self.new ≡ plan_of self.old }
         ensures cycles { cycles_of self.new ≡ counted 34 (cycles_of self.old) }
     {
-        let bits = self.clocked.take_bits();
+        let bits = self.marked.take_bits();
         self.due = Due::Nothing;
-        flip_bit(self.flip, bits)
+        bits
     }
 
     // The turnaround after WAIT or FAULT.
@@ -156,14 +137,14 @@ impl<A: Allocator> ClockedBench<A> {
         ensures plan { plan_of self.new ≡ plan_of self.old }
         ensures cycles { cycles_of self.new ≡ counted 1 (cycles_of self.old) }
     {
-        self.clocked.pass_by();
+        self.marked.pass_by();
         self.due = Due::Nothing;
     }
 }
 
 impl<A: Allocator> Wire for ClockedBench<A> {
     ghost use Rattle.swd_clocked.specs.ClockedBenches.{port_of, link_of, tally_of, simulation_of, plan_of, next_mark};
-    ghost use Rattle.swd_clocked.specs.ClockedBenches.{link_asked, cycles_of, ask_cycles, lead_cycles};
+    ghost use Rattle.swd_clocked.specs.ClockedBenches.{link_asked, cycles_of, lead_cycles};
 
     ghost port = { port_of };
 
@@ -194,16 +175,9 @@ impl<A: Allocator> Wire for ClockedBench<A> {
         ensures link { link_of self.new ≡ link_asked request self.old }
         ensures tally { tally_of self.new ≡ tally_after (next_mark self.old) (tally_of self.old) }
         ensures plan { plan_of self.new ≡ plan_of self.old }
-        ensures cycles { cycles_of self.new ≡ counted (ask_cycles (next_mark self.old)) (cycles_of self.old) }
+        ensures cycles { cycles_of self.new ≡ counted 12 (cycles_of self.old) }
     {
-        let mark = self.plan.use_mark();
-        if is_deaf(mark) {
-            self.due = Due::Lost;
-            return 7;
-        }
-        self.flip = flip_under(mark);
-        let reply = self.clocked.ask_request(is_wait(mark), request);
-        let seen = seen_under(mark, reply);
+        let seen = self.marked.ask_request(request);
         self.due = due_after_seen(request.read, seen);
         seen
     }
@@ -230,7 +204,7 @@ impl<A: Allocator> Wire for ClockedBench<A> {
         ensures plan { plan_of self.new ≡ plan_of self.old }
         ensures cycles { cycles_of self.new ≡ counted 34 (cycles_of self.old) }
     {
-        self.clocked.give_bits(flip_bit(self.flip, bits));
+        self.marked.give_bits(bits);
         self.due = Due::Nothing;
     }
 

@@ -6,10 +6,12 @@ mod clocked;
 mod clocked_bench;
 mod frame;
 pub mod laws;
+mod marked;
 mod phases;
 
 pub use clocked::Clocked;
 pub use clocked_bench::ClockedBench;
+pub use marked::MarkedClocked;
 
 #[cfg(test)]
 mod tests;

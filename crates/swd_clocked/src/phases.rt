@@ -1,39 +1,29 @@
-//! Whole phases at a clocked target, cycle by cycle, as a host drives them.
-ghost use Rattle.std.specs.Prelude.{◌≡◌, ◌≢◌, ◌≤◌, ◌<◌, ◌^◌, ◌%◌, ◌-◌, true, unwrap_or};
-ghost use Rattle.swd_port.specs.Answers.{driven};
+//! Whole phases at a clocked target whose requests meet a plan, cycle by cycle, as a host drives them.
+ghost use Rattle.std.specs.Prelude.{◌≡◌, ◌≢◌, ◌≤◌, ◌<◌, ◌^◌, ◌-◌, ◌+◌, true, is_some, unwrap_or};
 ghost use Rattle.swd_port.specs.Phases.{undriven};
+ghost use Rattle.swd_port.specs.Choices.{flip_of};
+ghost use Rattle.swd_port.specs.Phases.{flipped};
 
-use crate::clocked::{Clocked, SWITCH};
+use crate::clocked::SWITCH;
 use crate::frame::Frame;
+use crate::marked::MarkedClocked;
 use std::alloc::Allocator;
 use swd_bits::Request;
-use swd_port::{Line, Register, Reply};
 
-// The reply that is driven so.
-fn reply_of(bits: u8) -> Reply
-    ensures { (reply : Reply) → bits ≡ driven reply → result ≡ reply }
-{
-    match bits {
-        1 => Reply::Okay,
-        2 => Reply::Waits,
-        4 => Reply::Faults,
-        _ => Reply::Silent,
-    }
-}
-
-impl<A: Allocator> Clocked<A> {
-    ghost use Rattle.swd_clocked.specs.Frames.{idle, frame_of, frame_bits, frame_register, counted, reset_cycles};
-    ghost use Rattle.swd_clocked.specs.Frames.{IsRising, rise, risen, IsFalling, fall};
-    ghost use Rattle.swd_clocked.specs.Cycles.{Moved, ByteCame, DataCame, Seen};
-    ghost use Rattle.swd_clocked.specs.Clocks.{Rises};
+impl<A: Allocator> MarkedClocked<A> {
+    ghost use Rattle.swd_clocked.specs.Frames.{idle, frame_bits, frame_register, counted, reset_cycles};
+    ghost use Rattle.swd_clocked.specs.Frames.{IsRising, rise, IsFalling, fall};
+    ghost use Rattle.swd_clocked.specs.Marked.{frame_in, mark_of, unseen_of, cycles_of};
+    ghost use Rattle.swd_clocked.specs.Phases.{Goes, Brings, Leads, Sent, SeesReply, Asked};
 
     // Sends the eight bits of a request.
-    fn send_request(&mut self, bits: u8)
-        requires start { bits % 2 ≡ 1 }
-        requires frame { self.old.frame ≡ idle }
-        ensures came { ByteCame bits self.old.target self.old.waits self.new }
-        ensures cycles { self.new.cycles ≡ counted 8 self.old.cycles }
+    fn send_request(&mut self, request: Request)
+        requires frame { frame_in self.old ≡ idle }
+        requires heard { unseen_of self.old ≡ 0 }
+        ensures sent { Sent request self.old self.new }
+        ensures cycles { cycles_of self.new ≡ counted 8 (cycles_of self.old) }
     {
+        let bits = request.bits();
         let mut rest = bits;
         for place in 0..7u8 {
             let _ = self.cycle(Some(rest % 2 == 1));
@@ -44,12 +34,9 @@ impl<A: Allocator> Clocked<A> {
 
     // Sees a reply after its turnaround, the first bit least significant.
     fn see_reply(&mut self) -> u8
-        ensures replied { (reply : Reply) → (line : Line) → reply ≢ Reply.Silent
-            → self.old.frame ≡ Frame.Replies reply line 0
-            → (result ≡ driven reply) × Moved (frame_of line) self.old.target self.old.waits self.new }
-        ensures lost { self.old.frame ≡ Frame.Lost 1
-            → (result ≡ 7) × Moved (Frame.Lost 5) self.old.target self.old.waits self.new }
-        ensures cycles { self.new.cycles ≡ counted 4 self.old.cycles }
+        ensures range { result < 8 }
+        ensures sees { SeesReply result self.old self.new }
+        ensures cycles { cycles_of self.new ≡ counted 4 (cycles_of self.old) }
     {
         let _ = self.cycle(None);
         let first = self.cycle(None);
@@ -58,23 +45,26 @@ impl<A: Allocator> Clocked<A> {
         u8::from(first) + 2 * u8::from(second) + 4 * u8::from(third)
     }
 
-    // Sends a request, and sees its reply, while WAIT is asked for or not.
-    pub(crate) fn ask_request(&mut self, wait: bool, request: Request) -> Reply
-        requires { self.old.frame ≡ idle }
-        ensures seen { Seen request result self.old.target wait self.new }
-        ensures cycles { self.new.cycles ≡ counted 12 self.old.cycles }
+    // Sends a request, and sees its reply, the first bit least significant.
+    pub(crate) fn ask_request(&mut self, request: Request) -> u8
+        requires frame { frame_in self.old ≡ idle }
+        requires heard { unseen_of self.old ≡ 0 }
+        ensures range { result < 8 }
+        ensures asked { Asked request result self.old self.new }
+        ensures cycles { cycles_of self.new ≡ counted 12 (cycles_of self.old) }
     {
-        self.hold(wait);
-        self.send_request(request.bits());
-        reply_of(self.see_reply())
+        self.send_request(request);
+        self.see_reply()
     }
 
-    // Takes the 33 bits of a read, and a turnaround.
+    // Takes the 33 bits of a read as they arrive, and a turnaround.
     pub(crate) fn take_bits(&mut self) -> u64
-        requires { self.old.frame ≡ Frame.Drives (frame_bits self.old.frame) 33 }
-        ensures bits { result ≡ frame_bits self.old.frame }
-        ensures moved { Moved idle self.old.target self.old.waits self.new }
-        ensures cycles { self.new.cycles ≡ counted 34 self.old.cycles }
+        requires frame { frame_in self.old ≡ Frame.Drives (frame_bits (frame_in self.old)) 33 }
+        requires heard { unseen_of self.old ≡ 0 }
+        ensures range { result < 2 ^ 33 }
+        ensures bits { result ≡ flipped (flip_of (mark_of self.old)) (frame_bits (frame_in self.old)) }
+        ensures goes { Goes idle self.old self.new }
+        ensures cycles { cycles_of self.new ≡ counted 34 (cycles_of self.old) }
     {
         let mut bits = 0u64;
         for place in 0..33u8 {
@@ -87,10 +77,11 @@ impl<A: Allocator> Clocked<A> {
 
     // Sends a turnaround, and the 33 bits of a write.
     pub(crate) fn give_bits(&mut self, bits: u64)
-        requires frame { self.old.frame ≡ Frame.Awaits (frame_register self.old.frame) undriven 0 }
+        requires frame { frame_in self.old ≡ Frame.Awaits (frame_register (frame_in self.old)) undriven 0 }
+        requires heard { unseen_of self.old ≡ 0 }
         requires bits { bits < 2 ^ 33 }
-        ensures came { DataCame (frame_register self.old.frame) bits self.old.target self.old.waits self.new }
-        ensures cycles { self.new.cycles ≡ counted 34 self.old.cycles }
+        ensures brings { Brings (flipped (flip_of (mark_of self.old)) bits) self.old self.new }
+        ensures cycles { cycles_of self.new ≡ counted 34 (cycles_of self.old) }
     {
         let mut rest = bits;
         let _ = self.cycle(None);
@@ -103,22 +94,26 @@ impl<A: Allocator> Clocked<A> {
 
     // The turnaround after WAIT or FAULT.
     pub(crate) fn pass_by(&mut self)
-        requires { self.old.frame ≡ Frame.Passes }
-        ensures moved { Moved idle self.old.target self.old.waits self.new }
-        ensures cycles { self.new.cycles ≡ counted 1 self.old.cycles }
+        requires frame { frame_in self.old ≡ Frame.Passes }
+        requires heard { unseen_of self.old ≡ 0 }
+        ensures goes { Goes idle self.old self.new }
+        ensures cycles { cycles_of self.new ≡ counted 1 (cycles_of self.old) }
     {
         let _ = self.cycle(None);
     }
 
-    // A line reset, with the switch or without. So many of its first ones are left undriven.
+    // A line reset, with the switch or without. So many of its first ones are left undriven, among
+    // them those of a data phase that is open.
     pub(crate) fn send_reset(&mut self, ones: u32, undriven: u32, switch: bool)
-        requires frame { IsRising self.old.frame }
-        requires enough { rise self.old.frame ≤ ones }
-        requires some { 0 < rise self.old.frame }
+        requires frame { IsRising (frame_in self.old) }
+        requires heard { unseen_of self.old ≡ 0 }
+        requires enough { rise (frame_in self.old) ≤ ones }
+        requires quiet { rise (frame_in self.old) ≤ 50 + undriven }
+        requires some { 0 < rise (frame_in self.old) }
         requires least { 50 ≤ ones }
-        ensures frame { self.new.frame ≡ Frame.High }
-        ensures rises { Rises self.old self.new }
-        ensures cycles { self.new.cycles ≡ counted (reset_cycles ones switch) self.old.cycles }
+        ensures frame { frame_in self.new ≡ Frame.High }
+        ensures leads { Leads self.old self.new }
+        ensures cycles { cycles_of self.new ≡ counted (reset_cycles ones switch) (cycles_of self.old) }
     {
         self.send_ones(ones, undriven);
         if switch {
@@ -129,33 +124,39 @@ impl<A: Allocator> Clocked<A> {
 
     // Sends ones, of which so many first are left undriven.
     fn send_ones(&mut self, count: u32, undriven: u32)
-        requires frame { IsRising self.old.frame }
-        requires enough { rise self.old.frame ≤ count }
-        ensures frame { self.new.frame ≡ Frame.High }
-        ensures rises { Rises self.old self.new }
-        ensures cycles { self.new.cycles ≡ counted count self.old.cycles }
+        requires frame { IsRising (frame_in self.old) }
+        requires heard { unseen_of self.old ≡ 0 }
+        requires enough { rise (frame_in self.old) ≤ count }
+        requires quiet { rise (frame_in self.old) ≤ 50 + undriven }
+        ensures frame { frame_in self.new ≡ Frame.High }
+        ensures leads { Leads self.old self.new }
+        ensures cycles { cycles_of self.new ≡ counted count (cycles_of self.old) }
     {
         for place in 0..count {
             self.send_one(if place < undriven { None } else { Some(true) });
         }
     }
 
+    // One of the ones. It is left undriven while a data phase is open.
     fn send_one(&mut self, drive: Option<bool>)
         requires one { unwrap_or drive true ≡ true }
-        requires frame { IsRising self.old.frame }
-        ensures frame { IsRising self.new.frame }
-        ensures rise { rise self.new.frame ≡ rise self.old.frame - 1 }
-        ensures rises { Rises self.old self.new }
-        ensures cycles { self.new.cycles ≡ counted 1 self.old.cycles }
+        requires frame { IsRising (frame_in self.old) }
+        requires heard { unseen_of self.old ≡ 0 }
+        requires quiet { is_some drive ≡ true → rise (frame_in self.old) ≤ 50 }
+        ensures frame { IsRising (frame_in self.new) }
+        ensures rise { rise (frame_in self.new) ≡ rise (frame_in self.old) - 1 }
+        ensures leads { Leads self.old self.new }
+        ensures cycles { cycles_of self.new ≡ counted 1 (cycles_of self.old) }
     {
         let _ = self.cycle(drive);
     }
 
     // Sends the sixteen bits of the switch.
     fn send_switch(&mut self)
-        requires { self.old.frame ≡ Frame.High }
-        ensures moved { Moved (Frame.Lost 0) self.old.target self.old.waits self.new }
-        ensures cycles { self.new.cycles ≡ counted 16 self.old.cycles }
+        requires frame { frame_in self.old ≡ Frame.High }
+        requires heard { unseen_of self.old ≡ 0 }
+        ensures goes { Goes (Frame.Lost 0) self.old self.new }
+        ensures cycles { cycles_of self.new ≡ counted 16 (cycles_of self.old) }
     {
         for place in 0..16u8 {
             let _ = self.cycle(Some(SWITCH >> place & 1 == 1));
@@ -164,10 +165,11 @@ impl<A: Allocator> Clocked<A> {
 
     // Sends zeros.
     pub(crate) fn send_zeros(&mut self, count: u32)
-        requires frame { IsFalling self.old.frame }
-        requires enough { fall self.old.frame ≤ count }
-        ensures moved { Moved idle self.old.target self.old.waits self.new }
-        ensures cycles { self.new.cycles ≡ counted count self.old.cycles }
+        requires frame { IsFalling (frame_in self.old) }
+        requires heard { unseen_of self.old ≡ 0 }
+        requires enough { fall (frame_in self.old) ≤ count }
+        ensures goes { Goes idle self.old self.new }
+        ensures cycles { cycles_of self.new ≡ counted count (cycles_of self.old) }
     {
         for place in 0..count {
             self.send_zero();
@@ -175,11 +177,12 @@ impl<A: Allocator> Clocked<A> {
     }
 
     fn send_zero(&mut self)
-        requires { IsFalling self.old.frame }
-        ensures frame { IsFalling self.new.frame }
-        ensures fall { fall self.new.frame ≡ fall self.old.frame - 1 }
-        ensures moved { Moved self.new.frame self.old.target self.old.waits self.new }
-        ensures cycles { self.new.cycles ≡ counted 1 self.old.cycles }
+        requires frame { IsFalling (frame_in self.old) }
+        requires heard { unseen_of self.old ≡ 0 }
+        ensures frame { IsFalling (frame_in self.new) }
+        ensures fall { fall (frame_in self.new) ≡ fall (frame_in self.old) - 1 }
+        ensures goes { Goes (frame_in self.new) self.old self.new }
+        ensures cycles { cycles_of self.new ≡ counted 1 (cycles_of self.old) }
     {
         let _ = self.cycle(Some(false));
     }

@@ -43,6 +43,13 @@ impl<A: Allocator> Plan<A> {
         }
     }
 
+    /// Its marks, once they aren't used any more.
+    pub fn into_marks(self) -> Vec<Mark, A>
+        ensures { result.items ≡ marks_of self }
+    {
+        self.marks
+    }
+
     /// The mark of the next request, which is used by this.
     pub fn use_mark(&mut self) -> Mark
         ensures mark { result ≡ mark_next self.old }

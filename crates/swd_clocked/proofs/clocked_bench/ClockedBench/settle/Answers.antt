@@ -3,4 +3,4 @@ use Rattle.swd_target.proofs.TargetLemmas.{is_chosen}
 use Rattle.swd_clocked.proofs.clocked_bench.ClockedBench.settle.Goals as goal
 
 pub returns-clause-choice : goal.returns-clause-choice
-returns-clause-choice g c = is_chosen DrwRead c.args.self.now.clocked.value.target
+returns-clause-choice g c = is_chosen DrwRead c.args.self.now.marked.value.clocked.target

@@ -1,0 +1,14 @@
+use Rattle.std.proofs.Common.{◌≡◌, ◌-◌}
+use Rattle.swd_clocked.specs.Frames.{IsRising, rise, counted}
+use Rattle.swd_clocked.specs.Marked.{frame_in, unseen_of, cycles_of}
+use Rattle.swd_clocked.specs.Phases.{Leads}
+use Rattle.swd_clocked.proofs.marked.MarkedClocked.send_ones.Given as goal
+
+abbrev pub invariant-loop-place : goal.invariant-loop-place
+invariant-loop-place g l = record {
+  frame : IsRising (frame_in l.self);
+  heard : unseen_of l.self ≡ 0;
+  rise : rise (frame_in l.self) ≡ rise (frame_in l.fn.self) - l.place;
+  leads : Leads l.fn.self l.self;
+  cycles : cycles_of l.self ≡ counted l.place (cycles_of l.fn.self);
+}

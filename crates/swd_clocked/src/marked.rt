@@ -1,0 +1,223 @@
+//! A simulated target, clock by clock, whose requests meet a plan: a target and the wire to it.
+ghost use Rattle.std.specs.Prelude.{◌≡◌, ◌-◌, ◌^◌, ◌<◌, is_some, unwrap_or, true, min, IfSome, IfNone};
+ghost use Rattle.swd_bits.specs.declared.request.Request.{Request};
+ghost use Rattle.swd_port.specs.Port.{made_target};
+ghost use Rattle.swd_port.specs.declared.mark.Mark.TheVariants.{Clean};
+ghost use Rattle.swd_port.specs.Choices.{IsMark, is_deaf, is_wait};
+ghost use Rattle.swd_target.specs.Marks.{IsPlan, is_legal};
+ghost use Rattle.swd_target.specs.Simulations.{made_with};
+ghost use Rattle.swd_target.specs.Plans as plans;
+ghost use Rattle.swd_clocked.specs.Frames.{idle, counted};
+ghost use Rattle.swd_clocked.specs.Damage.{changes, turned, IsLast};
+
+use crate::clocked::Clocked;
+use crate::frame::Frame;
+use std::alloc::{Allocator, Global};
+use swd_bits::Request;
+use swd_port::Mark;
+use swd_target::port::Plan;
+use swd_target::{Memory, Quirks};
+
+// The cycles of a turnaround and an acknowledgement.
+const UNSEEN: u8 = 4;
+
+/// A simulated target and the wire to it, clock by clock, for any host. Each request uses the next
+/// mark of the plan, which says what befalls it; after the plan's end all marks are `Clean`.
+///
+/// A request is eight bits that are one, where the target awaits one: what a host sends elsewhere,
+/// and what is no request, uses no mark. It takes every sequence of cycles.
+///
+/// ```ignore
+/// let mut target = MarkedClocked::new(memory, quirks, plan);
+/// for _ in 0..50 {
+///     target.cycle(Some(true)); // a line reset
+/// }
+/// target.cycle(Some(false));
+/// // then DPIDR's request, bit by bit, and the acknowledgement with None
+/// ```
+#[derive(Drop)]
+pub struct MarkedClocked<A: Allocator = Global> {
+    pub(crate) clocked: Clocked<A>,
+    pub(crate) plan: Plan<A>,
+    // That of the last request.
+    pub(crate) mark: Mark,
+    // So many cycles more don't reach the target.
+    pub(crate) unseen: u8,
+    // Requests that met a mark, at most 2^64 - 1.
+    requests: u64,
+    ghost legal: { is_legal mark ≡ true },
+    ghost counts: { requests ≡ min (plans.tally_of plan).asked (2 ^ 64 - 1) },
+}
+
+// The target doesn't see the request.
+fn is_deaf(mark: Mark) -> bool
+    ensures { result ≡ is_deaf mark }
+{
+    matches!(&mark, Mark::Deaf)
+}
+
+// WAIT is asked for.
+fn is_wait(mark: Mark) -> bool
+    ensures { result ≡ is_wait mark }
+{
+    matches!(&mark, Mark::Wait)
+}
+
+// A bit on the other side of the damage.
+fn turned(change: bool, bit: bool) -> bool
+    ensures { result ≡ turned change bit }
+{
+    if change { !bit } else { bit }
+}
+
+impl<A: Allocator> MarkedClocked<A> {
+    ghost use Rattle.swd_clocked.specs.Clocks.{Settles};
+    ghost use Rattle.swd_clocked.specs.Marked.{state_of, simulation_of, frame_in, mark_of, unseen_of, plan_of, tally_of};
+    ghost use Rattle.swd_clocked.specs.Marked.{cycles_of, MarkedCycles, Meets, Misses, Reaches, Uses, Keeps};
+
+    /// Makes a target that had no line reset yet, with this memory behind its access port, whose
+    /// requests meet these marks. DPIDR gives 2ba01477.
+    pub fn new(memory: Memory<A>, quirks: Quirks, plan: Vec<Mark, A>) -> MarkedClocked<A>
+        requires { IsPlan plan.items }
+        ensures state { state_of result ≡ made_target 0x2ba0_1477 memory }
+        ensures exact { simulation_of result ≡ made_with quirks memory }
+        ensures frame { frame_in result ≡ idle }
+        ensures mark { mark_of result ≡ Clean }
+        ensures unseen { unseen_of result ≡ 0 }
+        ensures plan { plan_of result ≡ plan.items }
+        ensures requests { (tally_of result).asked ≡ 0 }
+        ensures cycles { cycles_of result ≡ 0 }
+    {
+        MarkedClocked {
+            clocked: Clocked::new(memory, quirks),
+            plan: Plan::new(plan),
+            mark: Mark::Clean,
+            unseen: 0,
+            requests: 0,
+        }
+    }
+
+    // The memory and the marks, once nothing else of the target is wanted.
+    pub(crate) fn into_parts(self) -> (Memory<A>, Vec<Mark, A>)
+        ensures memory { result.0 ≡ (state_of self).memory }
+        ensures plan { result.1.items ≡ plan_of self }
+    {
+        (self.clocked.into_memory(), self.plan.into_marks())
+    }
+
+    /// The memory behind the access port.
+    pub fn memory(&self) -> &Memory<A>
+        ensures { result.now ≡ (state_of self.now).memory }
+    {
+        self.clocked.memory()
+    }
+
+    /// The cycles so far; it stays at its greatest value once there.
+    pub fn cycles(&self) -> u64
+        ensures { result ≡ cycles_of self.now }
+    {
+        self.clocked.cycles
+    }
+
+    /// The requests so far that used a mark, at most 2^64 - 1.
+    pub fn requests(&self) -> u64
+        ensures { result ≡ min (tally_of self.now).asked (2 ^ 64 - 1) }
+    {
+        self.requests
+    }
+
+    /// One clock, with the bit that the host drives, or none. Gives the bit that the host sees: its
+    /// own where it drives what the target awaits, and 1 where nobody drives.
+    pub fn cycle(&mut self, drive: Option<bool>) -> bool
+        ensures cycles { MarkedCycles drive result self.old self.new }
+        ensures count { cycles_of self.new ≡ counted 1 (cycles_of self.old) }
+    {
+        if self.unseen > 0 {
+            return self.miss(self.unseen - 1, drive);
+        }
+        if self.last_of(drive.unwrap_or(true)).is_some() {
+            return self.last_bit(drive);
+        }
+        self.reach(drive)
+    }
+
+    // The request whose last bit this is.
+    fn last_of(&self, bit: bool) -> Option<Request>
+        ensures found { IfSome result (λ q. IsLast (frame_in self.now) bit q) }
+        ensures none { IfNone result ((q : Request) → IsLast (frame_in self.now) bit q → ⊥) }
+    {
+        match self.clocked.frame {
+            Frame::Asks(bits, 7) => Request::of(bits / 2 + u8::from(bit) * 128),
+            _ => None,
+        }
+    }
+
+    // The last bit of a request.
+    fn last_bit(&mut self, drive: Option<bool>) -> bool
+        requires { self.old.unseen ≡ 0 }
+        ensures meets { Meets drive result self.old self.new }
+        ensures count { cycles_of self.new ≡ counted 1 (cycles_of self.old) }
+    {
+        self.use_mark();
+        if is_deaf(self.mark) {
+            return self.miss(UNSEEN, drive);
+        }
+        self.clocked.hold(is_wait(self.mark));
+        self.reach(drive)
+    }
+
+    fn use_mark(&mut self)
+        ensures uses { Uses self.new.mark self.old.plan self.new.plan }
+        ensures clocked { self.new.clocked ≡ self.old.clocked }
+        ensures unseen { self.new.unseen ≡ self.old.unseen }
+    {
+        self.mark = self.plan.use_mark();
+        self.requests = self.requests.saturating_add(1);
+    }
+
+    // A cycle that doesn't reach the target, and so many more won't.
+    fn miss(&mut self, more: u8, drive: Option<bool>) -> bool
+        ensures misses { Misses more drive result self.old self.new }
+        ensures keeps { Keeps self.old self.new }
+        ensures count { cycles_of self.new ≡ counted 1 (cycles_of self.old) }
+    {
+        self.unseen = more;
+        self.clocked.miss();
+        drive.unwrap_or(true)
+    }
+
+    // A cycle that reaches the target.
+    fn reach(&mut self, drive: Option<bool>) -> bool
+        requires { self.old.unseen ≡ 0 }
+        ensures reaches { Reaches self.old.mark self.old.clocked.waits drive result self.old self.new }
+        ensures keeps { Keeps self.old self.new }
+        ensures count { cycles_of self.new ≡ counted 1 (cycles_of self.old) }
+    {
+        let change = self.is_changed(drive.is_some());
+        let bit = turned(change, drive.unwrap_or(true));
+        turned(change, self.clocked.cycle(Some(bit)))
+    }
+
+    // The mark changes the bit of this cycle, which the host drives or not.
+    fn is_changed(&self, driven: bool) -> bool
+        ensures { result ≡ changes (frame_in self.now) self.now.mark driven }
+    {
+        match (self.mark, self.clocked.frame) {
+            (Mark::Mute(place), Frame::Replies(_, _, now)) => now == place + 1,
+            (Mark::Flip(place), Frame::Drives(_, left)) => left + place == 33,
+            (Mark::Flip(place), Frame::Awaits(_, _, now)) => driven && now == place + 1,
+            _ => false,
+        }
+    }
+
+    /// Completes the DRW transfer that was accepted and has not taken effect yet, where there is
+    /// one. Without the quirk `late` there never is.
+    pub fn settle(&mut self)
+        ensures settles { Settles self.old.clocked self.new.clocked }
+        ensures keeps { Keeps self.old self.new }
+        ensures unseen { unseen_of self.new ≡ unseen_of self.old }
+        ensures cycles { cycles_of self.new ≡ cycles_of self.old }
+    {
+        self.clocked.settle();
+    }
+}
