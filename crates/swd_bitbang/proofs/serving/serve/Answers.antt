@@ -1,0 +1,55 @@
+use Rattle.std.proofs.Common.{ℕ, List, [], Option, None, Some, Err, refl, sym, subst, append-nil}
+use Rattle.std.specs.Io.KnownBytes.{Appends}
+use Rattle.swd_io.specs.Pieces.{Reads, LeadsOn, LeadsToEnd, fault_or}
+use Rattle.swd_io.specs.declared.pieces.Unread.{Unread}
+use Rattle.swd_io.specs.declared.pieces.Unread.TheVariants.{Reader, Consumer}
+use Rattle.swd_bitbang.specs.declared.serving.Served.{Served}
+use Rattle.swd_bitbang.specs.declared.serving.Served.TheVariants as ends
+use Rattle.swd_bitbang.specs.declared.serving.Server.{Server}
+use Rattle.swd_bitbang.specs.declared.pins.Pins.{Pins}
+use Rattle.swd_bitbang.specs.Sessions.{Serves}
+use Rattle.swd_bitbang.specs.Serving.{Begin, HasTaken, Ends}
+use Rattle.swd_bitbang.proofs.SessionLemmas.{stop_whole}
+use Rattle.swd_bitbang.proofs.serving.serve.Goals as goal
+use Rattle.swd_bitbang.proofs.serving.serve.Goals.{in-Ok, in-Err}
+
+unchanged : (known : Option (List ℕ)) → Appends known known []
+unchanged None = tt
+unchanged (Some xs) = sym (append-nil xs)
+
+-- nothing was taken yet
+nothing : {A W : Type 0} (contents : W → Option (List ℕ)) (pins : Pins A) (writer : W) → HasTaken contents (pins, contents writer) (record { pins = pins; place = 0; written = 0 }, writer) []
+nothing contents pins writer = record { levels = []; session = (refl, refl); gone = unchanged (contents writer); written = refl; place = refl }
+
+unread : {A W : Type 0} (contents : W → Option (List ℕ)) (fault : Unread Served) (text left : Option (List ℕ)) (begin : Begin A) (before after : Server A × W) →
+    HasTaken contents begin before [] →
+    Reads (LeadsOn (HasTaken contents)) (LeadsToEnd (HasTaken contents) (Ends contents)) (Err fault) text left before after →
+    Serves (fault_or fault ends.Read) text left begin.1 (contents after.1) begin.0 after.0.pins
+unread contents Reader text left begin before after h r =
+    let read = r.2 begin [] h in
+    record { read = r.0; consumed = r.1; whole = tt; ends = record { levels = read.levels; session = read.session; gone = read.gone } }
+unread contents (Consumer served) text left begin before after h r =
+    let stops = r.2 begin [] h in
+    record { read = r.0; consumed = r.1; whole = stop_whole served left stops.0; ends = stops.1 }
+
+pub returns : goal.returns
+returns g c =
+    let contents = g.W.Write.contents in
+    let pins = c.args.pins in
+    let begin : Begin g.row.A.Denot = (pins, contents c.args.writer.now) in
+    let none = nothing contents pins c.args.writer.now in
+    let text = g.R.Read.remaining c.args.reader.now in
+    let left = g.R.Read.remaining c.read_pieces.new.reader in
+    let after = c.read_pieces.new.consumer.pins in
+    let now = contents c.read_pieces.new.writer in
+    elim c.match-read_pieces.branch [
+      | in-Ok w ↦
+          let r = w.in-Ok.ensures in
+          let read = r.3 begin [] none in
+          subst (λ (x : Served). Serves x text left begin.1 now pins after) (sym w.served-is)
+          (record { read = r.0; consumed = r.1; whole = r.2; ends = record { levels = read.levels; session = read.session; gone = read.gone } })
+      | in-Err w ↦
+          subst (λ (x : Served). Serves x text left begin.1 now pins after) (sym w.served-is)
+          (subst (λ (x : Served). Serves x text left begin.1 now pins after) (sym w.fault_or-served.ensures)
+          (unread contents w.in-Err.unread text left begin (record { pins = pins; place = 0; written = 0 }, c.args.writer.now) (c.read_pieces.new.consumer, c.read_pieces.new.writer) none w.in-Err.ensures))
+    ]

@@ -1,0 +1,4 @@
+pub mod Characters
+pub mod Steps
+pub mod Sessions
+pub mod Serving

@@ -1,0 +1,64 @@
+-- A session under way.
+use Rattle.std.specs.Prelude.{ℕ, ◌≡◌, ◌-◌, ◌^◌, min, List, ◌∷◌, ◌++◌, length, Option, Some, None}
+use Rattle.std.specs.Io.KnownBytes.{Appends}
+use Rattle.swd_io.specs.Blocks.{Sends}
+use Rattle.swd_io.specs.declared.block.Block.{Block}
+use Rattle.swd_bitbang.specs.declared.pins.Sign.{Sign}
+use Rattle.swd_bitbang.specs.declared.pins.Sign.TheVariants.{Quit, Bad}
+use Rattle.swd_bitbang.specs.declared.pins.Pins.{Pins}
+use Rattle.swd_bitbang.specs.declared.serving.Served.{Served}
+use Rattle.swd_bitbang.specs.declared.serving.Served.TheVariants as ends
+use Rattle.swd_bitbang.specs.declared.serving.Server.{Server}
+use Rattle.swd_bitbang.specs.Sessions.{Session, IsQuit, IsBad, EndsAs}
+
+-- what a session began with: the pins, and what the writer held
+abbrev pub Begin : Type 0 → Type 0
+Begin A = Pins A × Option (List ℕ)
+
+-- These characters were taken, and their answers are under way.
+pub record Taken {A W : Type 0} (contents : W → Option (List ℕ)) (begin : Begin A) (server : Server A) (block : Block W)
+    (seen : List ℕ) : Type 0 where
+  pub levels : List ℕ
+  pub session : Session seen levels begin.0 server.pins
+  pub sends : Sends contents begin.1 block levels
+  pub place : server.place ≡ min (length seen) (2 ^ 64 - 1)
+
+-- These characters were taken, and their answers went out.
+pub record HasTaken {A W : Type 0} (contents : W → Option (List ℕ)) (begin : Begin A) (state : Server A × W)
+    (seen : List ℕ) : Type 0 where
+  pub levels : List ℕ
+  pub session : Session seen levels begin.0 state.0.pins
+  pub gone : Appends begin.1 (contents state.1) levels
+  pub written : state.0.written ≡ min (length levels) (2 ^ 64 - 1)
+  pub place : state.0.place ≡ min (length seen) (2 ^ 64 - 1)
+
+-- how a sign ends a session, at this place
+abbrev pub end_of : Sign → ℕ → Option Served
+end_of Quit place = Some ends.Quit
+end_of Bad place = Some (ends.Bad place)
+end_of sign place = None
+
+-- why a character ends a session
+abbrev pub IsEnd : Served → List ℕ → ℕ → Type 0
+IsEnd ends.Quit taken byte = IsQuit taken byte
+IsEnd (ends.Bad place) taken byte = IsBad place taken byte
+IsEnd served taken byte = ⊥
+
+-- The session ended within these bytes, and what was answered before is under way.
+pub record StopsIn {A W : Type 0} (contents : W → Option (List ℕ)) (begin : Begin A) (server : Server A) (block : Block W)
+    (served : Served) (text : List ℕ) : Type 0 where
+  pub taken : List ℕ
+  pub byte : ℕ
+  pub more : List ℕ
+  pub is : text ≡ taken ++ byte ∷ more
+  pub ends : IsEnd served taken byte
+  pub under_way : Taken contents begin server block taken
+
+-- a session that ended before its characters did
+abbrev pub IsStop : Served → Type 0
+IsStop ends.Ended = ⊥
+IsStop ends.Read = ⊥
+IsStop served = Unit {0}
+
+abbrev pub Ends : {A W : Type 0} → (W → Option (List ℕ)) → Begin A → Server A × W → Served → List ℕ → Type 0
+Ends contents begin state served text = IsStop served × EndsAs served begin.1 (contents state.1) text begin.0 state.0.pins

@@ -1,0 +1,92 @@
+-- What a host's characters lead to, one after another, and what is answered to them.
+use Rattle.std.specs.Prelude.{ℕ, ◌≡◌, ◌-◌, ◌^◌, min, Bool, true, false, List, [], ◌∷◌, ◌++◌, length, Option, Some, None}
+use Rattle.std.specs.Io.KnownBytes.{Appends, Consumes, IsAtEnd}
+use Rattle.swd_io.specs.Blocks.{Stopped}
+use Rattle.swd_bitbang.specs.declared.pins.Sign.{Sign}
+use Rattle.swd_bitbang.specs.declared.pins.Sign.TheVariants.{Silent, Level, Quit, Bad}
+use Rattle.swd_bitbang.specs.declared.pins.Pins.{Pins}
+use Rattle.swd_bitbang.specs.declared.serving.Served.{Served}
+use Rattle.swd_bitbang.specs.declared.serving.Served.TheVariants as ends
+use Rattle.swd_bitbang.specs.Characters.{character}
+use Rattle.swd_bitbang.specs.Steps.{Steps}
+use Rattle.swd_bitbang.specs.declared.character.Character.TheVariants.{Quits}
+
+-- what is told of a level: 0 or 1
+abbrev pub level_text : Bool → List ℕ
+level_text false = 48 ∷ []
+level_text true = 49 ∷ []
+
+abbrev pub told : Sign → List ℕ
+told (Level level) = level_text level
+told sign = []
+
+-- after Quit or a bad character nothing is looked at
+abbrev pub IsOpen : Sign → Type 0
+IsOpen Silent = Unit {0}
+IsOpen (Level level) = Unit {0}
+IsOpen Quit = ⊥
+IsOpen Bad = ⊥
+
+-- one character that doesn't end the session, and what is answered to it
+pub record Answers {A : Type 0} (byte : ℕ) (levels : List ℕ) (s t : Pins A) : Type 0 where
+  pub sign : Sign
+  pub steps : Steps (character byte) s sign t
+  pub goes_on : IsOpen sign
+  pub tells : levels ≡ told sign
+
+-- a text of characters, none of which ends the session, and all that is answered to it
+abbrev pub Session : {A : Type 0} → List ℕ → List ℕ → Pins A → Pins A → Type 0
+Session [] levels s t = (levels ≡ []) × (t ≡ s)
+Session {A} (byte ∷ text) levels s t = (m : Pins A) × (first : List ℕ) × (rest : List ℕ) × Answers byte first s m × Session text rest m t × (levels ≡ first ++ rest)
+
+-- What went over both streams: of what was read, these characters led the pins from one state to another, and exactly
+-- their answers went out.
+pub record Goes {A : Type 0} (old new : Option (List ℕ)) (taken : List ℕ) (s t : Pins A) : Type 0 where
+  pub levels : List ℕ
+  pub session : Session taken levels s t
+  pub gone : Appends old new levels
+
+-- the same, up to a character of this kind; what follows it wasn't looked at
+pub record StopsAt {A : Type 0} (IsEnd : List ℕ → ℕ → Type 0) (old new : Option (List ℕ)) (read : List ℕ) (s t : Pins A) : Type 0 where
+  pub taken : List ℕ
+  pub byte : ℕ
+  pub more : List ℕ
+  pub is : read ≡ taken ++ byte ∷ more
+  pub ends : IsEnd taken byte
+  pub goes : Goes old new taken s t
+
+-- the writer failed: of the answers to a beginning of what was read exactly the first bytes went out, as many as are told, and not all
+pub record Breaks {A : Type 0} (sent : ℕ) (old new : Option (List ℕ)) (read : List ℕ) (s t : Pins A) : Type 0 where
+  pub taken : List ℕ
+  pub more : List ℕ
+  pub is : read ≡ taken ++ more
+  pub levels : List ℕ
+  pub session : Session taken levels s t
+  pub stopped : Stopped sent old new levels
+
+abbrev pub IsQuit : List ℕ → ℕ → Type 0
+IsQuit taken byte = character byte ≡ Some Quits
+
+abbrev pub IsBad : ℕ → List ℕ → ℕ → Type 0
+IsBad place taken byte = (character byte ≡ None) × (place ≡ min (length taken) (2 ^ 64 - 1))
+
+-- how a session ended, by what was read of it
+abbrev pub EndsAs : {A : Type 0} → Served → Option (List ℕ) → Option (List ℕ) → List ℕ → Pins A → Pins A → Type 0
+EndsAs ends.Ended old new read s t = Goes old new read s t
+EndsAs ends.Read old new read s t = Goes old new read s t
+EndsAs ends.Quit old new read s t = StopsAt IsQuit old new read s t
+EndsAs (ends.Bad place) old new read s t = StopsAt (IsBad place) old new read s t
+EndsAs (ends.Write sent) old new read s t = Breaks sent old new read s t
+
+-- the end is told where the text has ended
+abbrev pub IsWhole : Served → Option (List ℕ) → Type 0
+IsWhole ends.Ended left = IsAtEnd left
+IsWhole served left = Unit {0}
+
+-- What an answer says of the reader's text, where its bytes are known, of what the reader has left of it, of what the
+-- writer holds before and after, and of the pins.
+pub record Serves {A : Type 0} (served : Served) (text left old new : Option (List ℕ)) (s t : Pins A) : Type 0 where
+  pub read : List ℕ
+  pub consumed : Consumes text left read
+  pub whole : IsWhole served left
+  pub ends : EndsAs served old new read s t

@@ -1,0 +1,2 @@
+//! Worked sessions.
+mod sessions;
