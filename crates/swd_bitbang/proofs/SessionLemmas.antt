@@ -21,35 +21,35 @@ session_more [] levels byte more s m t h a =
 session_more (b ∷ text) levels byte more s m t h a =
     (h.0, h.1, h.2 ++ more, h.3, session_more text h.2 byte more h.0 m t h.4 a, ap (λ x. x ++ more) h.5 ∙ append_assoc h.1 h.2 more)
 
-pub open_sign : (sign : Sign) (place : ℕ) → end_of sign place ≡ None → IsOpen sign
-open_sign Silent place e = tt
-open_sign (Level level) place e = tt
-open_sign Quit place e = absurd cc
-open_sign Bad place e = absurd cc
+pub open_sign : (sign : Sign) (place byte : ℕ) → end_of sign place byte ≡ None → IsOpen sign
+open_sign Silent place byte e = tt
+open_sign (Level level) place byte e = tt
+open_sign Quit place byte e = absurd cc
+open_sign Bad place byte e = absurd cc
 
 -- a character that ends the session leaves the pins as they were
-pub record EndedBy {A : Type 0} (found : Option Character) (place : ℕ) (served : Served) (s t : Pins A) : Type 0 where
+pub record EndedBy {A : Type 0} (found : Option Character) (place byte : ℕ) (served : Served) (s t : Pins A) : Type 0 where
   pub same : t ≡ s
-  pub why : (taken : List ℕ) (byte : ℕ) → character byte ≡ found → place ≡ min (length taken) (2 ^ 64 - 1) → IsEnd served taken byte
+  pub why : (taken : List ℕ) → character byte ≡ found → place ≡ min (length taken) (2 ^ 64 - 1) → IsEnd served taken byte
 
-quiet : {A : Type 0} (found : Option Character) (place : ℕ) (served : Served) (s t : Pins A) (sign : Sign) → IsOpen sign → end_of sign place ≡ Some served → EndedBy found place served s t
-quiet found place served s t Silent o e = absurd cc
-quiet found place served s t (Level level) o e = absurd cc
-quiet found place served s t Quit o e = absurd o
-quiet found place served s t Bad o e = absurd o
+quiet : {A : Type 0} (found : Option Character) (place byte : ℕ) (served : Served) (s t : Pins A) (sign : Sign) → IsOpen sign → end_of sign place byte ≡ Some served → EndedBy found place byte served s t
+quiet found place byte served s t Silent o e = absurd cc
+quiet found place byte served s t (Level level) o e = absurd cc
+quiet found place byte served s t Quit o e = absurd o
+quiet found place byte served s t Bad o e = absurd o
 
-pub ended_by : {A : Type 0} (found : Option Character) (place : ℕ) (served : Served) (s t : Pins A) (sign : Sign) → Steps found s sign t → end_of sign place ≡ Some served → EndedBy found place served s t
-ended_by (Some (Moves false level)) place served s t sign h e = quiet _ place served s t sign (subst IsOpen (sym h.0) tt) e
-ended_by (Some (Moves true level)) place served s t sign h e = quiet _ place served s t sign (subst IsOpen (sym h.0) tt) e
-ended_by (Some Looks) place served s t sign h e = quiet _ place served s t sign (subst IsOpen (sym h.1) tt) e
-ended_by (Some (Drives drives)) place served s t sign h e = quiet _ place served s t sign (subst IsOpen (sym h.0) tt) e
-ended_by (Some Nothing) place served s t sign h e = quiet _ place served s t sign (subst IsOpen (sym h.0) tt) e
-ended_by (Some Quits) place served s t sign h e =
-    let is : ends.Quit ≡ served = (let k : Some ends.Quit ≡ Some served = ap (λ (x : Sign). end_of x place) (sym h.0) ∙ e in cc) in
-    record { same = h.1; why = λ taken byte found at. subst (λ (x : Served). IsEnd x taken byte) is found }
-ended_by None place served s t sign h e =
-    let is : ends.Bad place ≡ served = (let k : Some (ends.Bad place) ≡ Some served = ap (λ (x : Sign). end_of x place) (sym h.0) ∙ e in cc) in
-    record { same = h.1; why = λ taken byte found at. subst (λ (x : Served). IsEnd x taken byte) is (found, at) }
+pub ended_by : {A : Type 0} (found : Option Character) (place byte : ℕ) (served : Served) (s t : Pins A) (sign : Sign) → Steps found s sign t → end_of sign place byte ≡ Some served → EndedBy found place byte served s t
+ended_by (Some (Moves false level)) place byte served s t sign h e = quiet _ place byte served s t sign (subst IsOpen (sym h.0) tt) e
+ended_by (Some (Moves true level)) place byte served s t sign h e = quiet _ place byte served s t sign (subst IsOpen (sym h.0) tt) e
+ended_by (Some Looks) place byte served s t sign h e = quiet _ place byte served s t sign (subst IsOpen (sym h.1) tt) e
+ended_by (Some (Drives drives)) place byte served s t sign h e = quiet _ place byte served s t sign (subst IsOpen (sym h.0) tt) e
+ended_by (Some Nothing) place byte served s t sign h e = quiet _ place byte served s t sign (subst IsOpen (sym h.0) tt) e
+ended_by (Some Quits) place byte served s t sign h e =
+    let is : ends.Quit ≡ served = (let k : Some ends.Quit ≡ Some served = ap (λ (x : Sign). end_of x place byte) (sym h.0) ∙ e in cc) in
+    record { same = h.1; why = λ taken found at. subst (λ (x : Served). IsEnd x taken byte) is found }
+ended_by None place byte served s t sign h e =
+    let is : ends.Bad place byte ≡ served = (let k : Some (ends.Bad place byte) ≡ Some served = ap (λ (x : Sign). end_of x place byte) (sym h.0) ∙ e in cc) in
+    record { same = h.1; why = λ taken found at. subst (λ (x : Served). IsEnd x taken byte) is (found, refl, at) }
 
 -- a piece of which a beginning was taken
 pub parted : (seen piece : List ℕ) (i : ℕ) → i < length piece → seen ++ piece ≡ (seen ++ take i piece) ++ get_or piece i 0 ∷ drop (suc i) piece
@@ -79,7 +79,7 @@ if_err_then (Err e) f p = f e p
 -- a session that a character ended
 pub ends_as : {A : Type 0} (served : Served) (old new : Option (List ℕ)) (text taken : List ℕ) (byte : ℕ) (more : List ℕ) (s t : Pins A) → text ≡ taken ++ byte ∷ more → IsEnd served taken byte → Goes old new taken s t → IsStop served × EndsAs served old new text s t
 ends_as ends.Quit old new text taken byte more s t is end goes = (tt, record { taken = taken; byte = byte; more = more; is = is; ends = end; goes = goes })
-ends_as (ends.Bad place) old new text taken byte more s t is end goes = (tt, record { taken = taken; byte = byte; more = more; is = is; ends = end; goes = goes })
+ends_as (ends.Bad place which) old new text taken byte more s t is end goes = (tt, record { taken = taken; byte = byte; more = more; is = is; ends = end; goes = goes })
 ends_as ends.Ended old new text taken byte more s t is end goes = absurd end
 ends_as ends.Read old new text taken byte more s t is end goes = absurd end
 ends_as (ends.Write sent) old new text taken byte more s t is end goes = absurd end
@@ -87,7 +87,7 @@ ends_as (ends.Write sent) old new text taken byte more s t is end goes = absurd 
 -- it says nothing of the end of the text
 pub stop_whole : (served : Served) (left : Option (List ℕ)) → IsStop served → IsWhole served left
 stop_whole ends.Quit left s = tt
-stop_whole (ends.Bad place) left s = tt
+stop_whole (ends.Bad place which) left s = tt
 stop_whole (ends.Write sent) left s = tt
 stop_whole ends.Ended left s = absurd s
 stop_whole ends.Read left s = absurd s

@@ -32,16 +32,16 @@ pub record HasTaken {A W : Type 0} (contents : W → Option (List ℕ)) (begin :
   pub written : state.0.written ≡ min (length levels) (2 ^ 64 - 1)
   pub place : state.0.place ≡ min (length seen) (2 ^ 64 - 1)
 
--- how a sign ends a session, at this place
-abbrev pub end_of : Sign → ℕ → Option Served
-end_of Quit place = Some ends.Quit
-end_of Bad place = Some (ends.Bad place)
-end_of sign place = None
+-- how a sign ends a session, at this byte and its place
+abbrev pub end_of : Sign → ℕ → ℕ → Option Served
+end_of Quit place byte = Some ends.Quit
+end_of Bad place byte = Some (ends.Bad place byte)
+end_of sign place byte = None
 
 -- why a character ends a session
 abbrev pub IsEnd : Served → List ℕ → ℕ → Type 0
 IsEnd ends.Quit taken byte = IsQuit taken byte
-IsEnd (ends.Bad place) taken byte = IsBad place taken byte
+IsEnd (ends.Bad place which) taken byte = IsBad place which taken byte
 IsEnd served taken byte = ⊥
 
 -- The session ended within these bytes, and what was answered before is under way.

@@ -8,14 +8,11 @@ use Rattle.swd_bitbang.specs.declared.pins.Pins.{Pins}
 use Rattle.swd_bitbang.specs.declared.serving.Served.{Served}
 use Rattle.swd_bitbang.specs.declared.serving.Served.TheVariants as ends
 use Rattle.swd_bitbang.specs.Characters.{character}
+use Rattle.swd_bitbang.specs.Traces.{level_text}
 use Rattle.swd_bitbang.specs.Steps.{Steps}
 use Rattle.swd_bitbang.specs.declared.character.Character.TheVariants.{Quits}
 
--- what is told of a level: 0 or 1
-abbrev pub level_text : Bool → List ℕ
-level_text false = 48 ∷ []
-level_text true = 49 ∷ []
-
+-- what is told of a sign
 abbrev pub told : Sign → List ℕ
 told (Level level) = level_text level
 told sign = []
@@ -67,15 +64,15 @@ pub record Breaks {A : Type 0} (sent : ℕ) (old new : Option (List ℕ)) (read 
 abbrev pub IsQuit : List ℕ → ℕ → Type 0
 IsQuit taken byte = character byte ≡ Some Quits
 
-abbrev pub IsBad : ℕ → List ℕ → ℕ → Type 0
-IsBad place taken byte = (character byte ≡ None) × (place ≡ min (length taken) (2 ^ 64 - 1))
+abbrev pub IsBad : ℕ → ℕ → List ℕ → ℕ → Type 0
+IsBad place which taken byte = (character byte ≡ None) × (which ≡ byte) × (place ≡ min (length taken) (2 ^ 64 - 1))
 
 -- how a session ended, by what was read of it
 abbrev pub EndsAs : {A : Type 0} → Served → Option (List ℕ) → Option (List ℕ) → List ℕ → Pins A → Pins A → Type 0
 EndsAs ends.Ended old new read s t = Goes old new read s t
 EndsAs ends.Read old new read s t = Goes old new read s t
 EndsAs ends.Quit old new read s t = StopsAt IsQuit old new read s t
-EndsAs (ends.Bad place) old new read s t = StopsAt (IsBad place) old new read s t
+EndsAs (ends.Bad place which) old new read s t = StopsAt (IsBad place which) old new read s t
 EndsAs (ends.Write sent) old new read s t = Breaks sent old new read s t
 
 -- the end is told where the text has ended

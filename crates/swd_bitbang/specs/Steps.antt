@@ -1,6 +1,7 @@
 -- What a character does to the two pins. The characters are OpenOCD's; which of them makes a clock is this project's choice.
 use Rattle.std.specs.Prelude.{◌≡◌, Bool, true, false, Option, Some, None, if◌then◌else◌}
 use Rattle.swd_clocked.specs.Marked.{MarkedCycles}
+use Rattle.swd_bitbang.specs.Traces.{Keeps}
 use Rattle.swd_bitbang.specs.declared.character.Character.{Character}
 use Rattle.swd_bitbang.specs.declared.character.Character.TheVariants.{Moves, Looks, Drives, Nothing, Quits}
 use Rattle.swd_bitbang.specs.declared.pins.Sign.{Sign}
@@ -22,6 +23,7 @@ pub record Passes {A : Type 0} (bit : Bool) (s t : Pins A) : Type 0 where
   pub clock : t.clock ≡ s.clock
   pub level : t.level ≡ s.level
   pub drives : t.drives ≡ s.drives
+  pub trace : Keeps bit s.trace t.trace
 
 abbrev pub ShowsBy : {A : Type 0} → Option Bool → Bool → Pins A → Pins A → Type 0
 ShowsBy (Some seen) bit s t = (bit ≡ seen) × (t ≡ s)

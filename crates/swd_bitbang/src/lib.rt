@@ -4,10 +4,12 @@
 mod character;
 mod pins;
 mod serving;
+mod trace;
 
 pub use character::Character;
 pub use pins::{Pins, Sign};
 pub use serving::{Served, serve};
+pub use trace::Trace;
 
 #[cfg(test)]
 mod tests;

@@ -4,6 +4,7 @@ ghost use Rattle.swd_bitbang.specs.declared.character.Character.TheVariants.{Mov
 ghost use Rattle.swd_bitbang.specs.Characters.{character};
 
 use crate::character::Character;
+use crate::trace::Trace;
 use std::alloc::{Allocator, Global};
 use swd_clocked::MarkedClocked;
 
@@ -28,7 +29,8 @@ pub enum Sign {
 /// no cycle.
 ///
 /// ```ignore
-/// let mut pins = Pins::new(MarkedClocked::new(memory, quirks, plan));
+/// let target = MarkedClocked::new(memory, quirks, plan);
+/// let mut pins = Pins::new(target, Trace::none(alloc));
 /// pins.take(b'e'); // low, a one
 /// pins.take(b'g'); // high: one cycle with a one went by
 /// ```
@@ -40,14 +42,17 @@ pub struct Pins<A: Allocator = Global> {
     drives: bool,
     // The bit of this clock, where it went by.
     seen: Option<bool>,
+    trace: Trace<A>,
 }
 
 impl<A: Allocator> Pins<A> {
     ghost use Rattle.swd_bitbang.specs.Steps.{fallen, driven, Steps, Shows, SeesBy};
 
-    /// The pins of a host that drives SWDIO high, with SWCLK low: no edge came yet.
-    pub fn new(target: MarkedClocked<A>) -> Pins<A>
+    /// The pins of a host that drives SWDIO high, with SWCLK low: no edge came yet. What goes over the
+    /// line is kept in this trace.
+    pub fn new(target: MarkedClocked<A>, trace: Trace<A>) -> Pins<A>
         ensures target { result.target ≡ target }
+        ensures trace { result.trace ≡ trace }
         ensures clock { result.clock ≡ false }
         ensures level { result.level ≡ true }
         ensures drives { result.drives ≡ true }
@@ -59,14 +64,16 @@ impl<A: Allocator> Pins<A> {
             level: true,
             drives: true,
             seen: None,
+            trace,
         }
     }
 
-    /// The target, once no more characters come.
-    pub fn into_target(self) -> MarkedClocked<A>
-        ensures { result ≡ self.target }
+    /// The target, and the trace of its line, once no more characters come.
+    pub fn into_parts(self) -> (MarkedClocked<A>, Trace<A>)
+        ensures target { result.0 ≡ self.target }
+        ensures trace { result.1 ≡ self.trace }
     {
-        self.target
+        (self.target, self.trace)
     }
 
     /// Takes one character of the host.
@@ -121,6 +128,7 @@ impl<A: Allocator> Pins<A> {
         let drive = self.driven();
         let bit = self.target.cycle(drive);
         self.seen = Some(bit);
+        self.trace.keep(bit);
         bit
     }
 

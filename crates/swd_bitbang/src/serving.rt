@@ -18,9 +18,9 @@ pub enum Served {
     Quit,
     /// The characters came to their end.
     Ended,
-    /// The byte at this place, from 0, is none of the protocol's characters for serial wire. It
-    /// stays at 2^64 - 1 once there.
-    Bad { place: u64 },
+    /// This byte, which stands at this place, is none of the protocol's characters for serial wire.
+    /// The first place is 0, and 2^64 - 1 stands for each later one, too.
+    Bad { place: u64, byte: u8 },
     /// The reader failed, or didn't end within 2^64 - 1 reads.
     Read,
     /// The writer failed after so many levels, at most 2^64 - 1.
@@ -37,14 +37,14 @@ struct Server<A: Allocator> {
     written: u64,
 }
 
-// How a sign ends a session, at this place.
-fn end_at(sign: Sign, place: u64) -> Option<Served>
-    ensures { result ≡ end_of sign place }
+// How a sign ends a session, at this byte and its place.
+fn end_at(sign: Sign, place: u64, byte: u8) -> Option<Served>
+    ensures { result ≡ end_of sign place byte }
 {
     match sign {
         Sign::Silent | Sign::Level(_) => None,
         Sign::Quit => Some(Served::Quit),
-        Sign::Bad => Some(Served::Bad { place }),
+        Sign::Bad => Some(Served::Bad { place, byte }),
     }
 }
 
@@ -74,7 +74,7 @@ impl<A: Allocator> Server<A> {
             → IsEnd served seen byte × Taken W.contents begin self.new block.new seen) }
     {
         let sign = self.pins.take(byte);
-        if let Some(served) = end_at(sign, self.place) {
+        if let Some(served) = end_at(sign, self.place, byte) {
             return Err(served);
         }
         put_answer(block, sign);

@@ -9,8 +9,8 @@ use Rattle.swd_bitbang.proofs.serving.Server.byte.Goals as goal
 pub returns-in-Some-clause-err : goal.returns-in-Some-clause-err
 returns-in-Some-clause-err g c = λ begin seen h.
     let old = c.args.self.now in
-    let e = ended_by (character c.args.byte) old.place c.in-Some.served old.pins c.take-sign.new.self c.take-sign.result c.take-sign.ensures (sym c.end_at.ensures ∙ c.in-Some.is) in (
-      e.why seen c.args.byte refl h.place,
+    let e = ended_by (character c.args.byte) old.place c.args.byte c.in-Some.served old.pins c.take-sign.new.self c.take-sign.result c.take-sign.ensures (sym c.end_at.ensures ∙ c.in-Some.is) in (
+      e.why seen refl h.place,
       record {
         levels = h.levels;
         session = subst (λ (p : Pins _). Session seen h.levels begin.0 p) (sym e.same) h.session;
@@ -23,7 +23,7 @@ pub returns-clause-ok : goal.returns-clause-ok
 returns-clause-ok g c = λ begin seen h.
     let old = c.args.self.now in
     let sign = c.take-sign.result in
-    let open_still = open_sign sign old.place (sym c.end_at.ensures ∙ c.in_default.is) in
+    let open_still = open_sign sign old.place c.args.byte (sym c.end_at.ensures ∙ c.in_default.is) in
     let len : length (seen ++ c.args.byte ∷ []) ≡ length seen + 1 = length-append seen (c.args.byte ∷ []) in
     let place = h.place in
     let next = c.saturating_add-self.ensures in

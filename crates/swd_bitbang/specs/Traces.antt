@@ -1,0 +1,28 @@
+-- The bits that went over a line, as they are kept. All of it is this project's choice.
+use Rattle.std.specs.Prelude.{ℕ, ◌≡◌, ◌≢◌, ◌⊎◌, Bool, true, false, List, [], ◌∷◌, ◌++◌}
+use Rattle.swd_bitbang.specs.declared.trace.Trace.{Trace}
+
+-- a level as a character: 0 or 1
+abbrev pub level_text : Bool → List ℕ
+level_text false = 48 ∷ []
+level_text true = 49 ∷ []
+
+-- the characters that are kept
+abbrev pub kept_text : {A : Type 0} → Trace A → List ℕ
+kept_text t = t.bits.items
+
+-- bits are kept
+abbrev pub is_kept : {A : Type 0} → Trace A → Bool
+is_kept t = t.wanted
+
+-- memory was refused for a bit
+abbrev pub is_cut_off : {A : Type 0} → Trace A → Bool
+is_cut_off t = t.cut
+
+-- a bit is kept, or memory is refused for it and for none before; from then on, and where none is wanted, nothing is
+pub record Keeps {A : Type 0} (bit : Bool) (s t : Trace A) : Type 0 where
+  pub wanted : t.wanted ≡ s.wanted
+  pub more : s.wanted ≡ true → s.cut ≡ false
+      → ((kept_text t ≡ kept_text s ++ level_text bit) × (t.cut ≡ false)) ⊎ ((kept_text t ≡ kept_text s) × (t.cut ≡ true))
+  pub unwanted : s.wanted ≡ false → t ≡ s
+  pub none : s.cut ≡ true → t ≡ s
