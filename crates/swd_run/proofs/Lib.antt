@@ -1,3 +1,4 @@
 pub mod ReportLemmas
+pub mod LogLemmas
 pub mod RunLemmas
 pub mod WorkedReports

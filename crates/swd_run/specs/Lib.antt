@@ -1,3 +1,5 @@
 pub mod Reports
 pub mod Running
 pub mod Tracing
+pub mod Serving
+pub mod TargetLogs

@@ -4,11 +4,15 @@
 
 mod report;
 mod running;
+mod serving;
+mod target_log;
 mod texts;
 mod tracing;
 
 pub use report::{ReportLine, answer_line, last_line, write_report};
 pub use running::run_text;
+pub use serving::{TargetFault, read_target};
+pub use target_log::write_log;
 pub use tracing::run_traced;
 
 #[cfg(test)]

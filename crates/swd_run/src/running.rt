@@ -21,14 +21,14 @@ use swd_target::{Bench, MakeFault, Memory, Quirks};
 use swd_text::EngineFault;
 
 // What the standard leaves to a target.
-const QUIRKS: Quirks = Quirks {
+pub(crate) const QUIRKS: Quirks = Quirks {
     wrap: true,
     late: false,
     filler: 0,
 };
 
 // The memory of a script. `None` where memory was refused.
-fn zero_memory<A: Allocator + Copy>(alloc: A, script: &Script<A>) -> Option<Memory<A>>
+pub(crate) fn zero_memory<A: Allocator + Copy>(alloc: A, script: &Script<A>) -> Option<Memory<A>>
     requires { IsRunnable (meaning script.now) }
     ensures { IfSome result (λ memory. memory ≡ memory_of (meaning script.now)) }
 {

@@ -1,0 +1,42 @@
+use Rattle.std.proofs.Common.{rules, ◌≡◌, ℕ, suc, List, [], ◌∷◌, length, true, refl, sym, ap, ◌∙◌, subst, arith}
+use Rattle.std.proofs.lemmas.Bool.Decides.{nat_tests}
+use Rattle.swd_port.specs.Port.{made_target}
+use Rattle.swd_port.specs.PlainMemory.{PlainMemory}
+use Rattle.swd_clocked.specs.declared.marked.MarkedClocked.{MarkedClocked}
+use Rattle.swd_script.specs.Readers.{meaning}
+use Rattle.swd_script.proofs.TextLaws.{is_runnable, is_plan}
+use Rattle.swd_run.specs.Serving.{IsAtRest, IsMade, Simulates}
+use Rattle.swd_run.proofs.serving.read_target.Goals as goal
+
+pub zero_memory-requires : goal.zero_memory-requires
+zero_memory-requires g c = let read = c.in-Ok.ensures.read in is_runnable read.script_text (meaning c.in-Ok.texts.script) read.means
+
+pub new-target-requires : goal.new-target-requires
+new-target-requires g c = let read = c.in-Ok.ensures.read in is_plan read.plan_text c.in-Ok.texts.plan.items read.plans
+
+none : {X : Type 0} (list : List X) → length list ≡ 0 → list ≡ []
+none [] e = refl
+none (x ∷ list) e = absurd (omega arith)
+
+pub returns-clause-made : goal.returns-clause-made
+returns-clause-made g c =
+    let script = c.in-Ok.texts.script in
+    let target = c.new-target.ensures in
+    let marks = c.in-Ok.texts.plan.items in
+    let made : IsMade (meaning script) marks c.new-target.result = record {
+      state = target.state ∙ ap (λ (m : PlainMemory). made_target 731911287 m) c.in-Some.ensures;
+      frame = target.frame;
+      unseen = target.unseen;
+      plan = target.plan;
+      asked = target.requests;
+      cycles = target.cycles;
+    } in
+    let pins = c.new.ensures in
+    record {
+      meaning = meaning script;
+      marks = marks;
+      read = c.in-Ok.ensures.read;
+      no_access = none script.accesses.items (let test = sym c.is_empty.ensures ∙ c.if-not-is_empty.false in grind (arith, nat_tests));
+      made = subst (λ (t : MarkedClocked _). IsMade (meaning script) marks t) (sym pins.target) made;
+      rests = record { clock = pins.clock; level = pins.level; drives = pins.drives; seen = pins.seen; kept = pins.trace };
+    }

@@ -1,0 +1,55 @@
+//! A script and a plan, to the simulated target that a host outside drives.
+ghost use Rattle.std.specs.Prelude.{◌≡◌, IfOk, IfErr, IfSome};
+ghost use Rattle.swd_script.specs.Readers.{meaning};
+ghost use Rattle.swd_script.specs.Laws.{IsRunnable};
+ghost use Rattle.swd_target.specs.Marks.{IsPlan};
+ghost use Rattle.swd_run.specs.Serving.{IsAtRest, IsTargetFault, Simulates};
+
+use crate::running::{QUIRKS, zero_memory};
+use crate::texts::{Texts, read_texts};
+use std::alloc::Allocator;
+use std::io::Read;
+use swd_bitbang::{Pins, Trace};
+use swd_clocked::MarkedClocked;
+use swd_text::EngineFault;
+
+/// Why there is no target to serve.
+#[derive(Clone, Copy, Debug, PartialEq, Eq, Drop)]
+pub enum TargetFault {
+    /// A fault of the script or the plan, a reader that failed, or no memory.
+    Texts(EngineFault),
+    /// The script has accesses: a target has those of its host alone.
+    Accesses,
+}
+
+/// Reads a script and a plan, and makes the pins of a host that has moved none, at the simulated
+/// target that they describe: its memory has the script's words, all zero, and its requests meet the
+/// plan's marks. What goes over the line is kept in the trace.
+///
+/// # Errors
+///
+/// `Texts` for the first fault of these texts, the script's before the plan's, where a reader failed,
+/// and where memory was refused for the accesses, the marks or the memory. `Accesses` where the
+/// script has accesses.
+pub fn read_target<S: Read, P: Read, A: Allocator + Copy>(
+    alloc: A,
+    script: &mut S,
+    plan: &mut P,
+    trace: Trace<A>,
+) -> Result<Pins<A>, TargetFault>
+    ensures made { IfOk result (λ pins. Simulates (S.remaining script.old) (P.remaining plan.old) trace pins) }
+    ensures fault { IfErr result (λ fault. IsTargetFault fault (S.remaining script.old) (P.remaining plan.old)) }
+{
+    let Texts { script, plan } = match read_texts(alloc, script, plan) {
+        Ok(texts) => texts,
+        Err(fault) => return Err(TargetFault::Texts(fault)),
+    };
+    if !script.accesses.is_empty() {
+        return Err(TargetFault::Accesses);
+    }
+    let Some(memory) = zero_memory(alloc, &script) else {
+        return Err(TargetFault::Texts(EngineFault::Memory));
+    };
+    let target = MarkedClocked::new(memory, QUIRKS, plan);
+    Ok(Pins::new(target, trace))
+}
