@@ -310,6 +310,7 @@ impl<W: Write> Decoder<W> {
                 self.mode = Mode::Synced;
                 self.lines.idle(1)?;
                 self.skip(1);
+                self.settle()?;
                 continue;
             }
             let text: String = (0..self.len).map(|i| if self.bits >> i & 1 == 1 { '1' } else { '0' }).collect();

@@ -129,9 +129,31 @@ fn put_moved<W: Write>(block: &mut Block<'_, W>, request: Request, word: u32, pa
     put_word(block, word, parity_ok);
 }
 
-// The line of any other transaction is under way, too: there are few.
+// The line of a transaction that was answered WAIT is under way, too.
+#[inline(always)]
+fn put_wait<W: Write>(block: &mut Block<'_, W>, request: Request)
+    ensures sends { (start : Option (List ℕ)) (all : List ℕ) → Sends W.contents start block.old all
+        → Sends W.contents start block.new (all ++ (tx_line (record { request = request; result = TxEnd.Wait }) ++ 10 ∷ [])) }
+    ensures writer { block.new.writer.ghost_name ≡ block.old.writer.ghost_name }
+{
+    put_request(block, request);
+    block.put(b"wait\n");
+}
+
+// The line of a transaction that was answered FAULT is under way, too.
+#[inline(always)]
+fn put_fault<W: Write>(block: &mut Block<'_, W>, request: Request)
+    ensures sends { (start : Option (List ℕ)) (all : List ℕ) → Sends W.contents start block.old all
+        → Sends W.contents start block.new (all ++ (tx_line (record { request = request; result = TxEnd.Fault }) ++ 10 ∷ [])) }
+    ensures writer { block.new.writer.ghost_name ≡ block.old.writer.ghost_name }
+{
+    put_request(block, request);
+    block.put(b"fault\n");
+}
+
+// The line of any transaction is under way, too.
 #[inline(never)]
-fn put_unmoved<W: Write>(block: &mut Block<'_, W>, tx: Tx)
+fn put_any_tx<W: Write>(block: &mut Block<'_, W>, tx: Tx)
     ensures sends { (start : Option (List ℕ)) (all : List ℕ) → Sends W.contents start block.old all
         → Sends W.contents start block.new (all ++ (tx_line tx ++ 10 ∷ [])) }
     ensures writer { block.new.writer.ghost_name ≡ block.old.writer.ghost_name }
@@ -154,6 +176,8 @@ pub(crate) fn put_tx<W: Write>(block: &mut Block<'_, W>, spelled: TxBits)
     };
     match tx.result {
         TxEnd::Moved { word, parity_ok } => put_moved(block, tx.request, word, parity_ok),
-        _ => put_unmoved(block, tx),
+        TxEnd::Wait => put_wait(block, tx.request),
+        TxEnd::Fault => put_fault(block, tx.request),
+        TxEnd::NoAck(_) => put_any_tx(block, tx),
     }
 }

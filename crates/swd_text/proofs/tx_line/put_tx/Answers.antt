@@ -22,10 +22,17 @@ returns-in-Moved-clause-sends g c = λ tx spelled start all h.
     subst (λ line. Sends g.W.Write.contents start c.put_moved.new.block (all ++ (line ++ 10 ∷ [])))
     (ended c.in-Some.tx tx _ (c.in-Some.ensures.only tx spelled) c.in-Moved.is) (c.put_moved.ensures.sends start all h)
 
-pub returns-in_default-result : goal.returns-in_default-result
-returns-in_default-result g c = record {
-  sends = λ tx spelled start all h.
-      subst (λ line. Sends g.W.Write.contents start c.put_unmoved.new.block (all ++ (line ++ 10 ∷ [])))
-      (ap tx_line (sym (c.in-Some.ensures.only tx spelled))) (c.put_unmoved.ensures.sends start all h);
-  writer = c.put_unmoved.ensures.writer;
-}
+pub returns-in-Wait-clause-sends : goal.returns-in-Wait-clause-sends
+returns-in-Wait-clause-sends g c = λ tx spelled start all h.
+    subst (λ line. Sends g.W.Write.contents start c.put_wait.new.block (all ++ (line ++ 10 ∷ [])))
+    (ended c.in-Some.tx tx _ (c.in-Some.ensures.only tx spelled) c.in-Wait.is) (c.put_wait.ensures.sends start all h)
+
+pub returns-in-Fault-clause-sends : goal.returns-in-Fault-clause-sends
+returns-in-Fault-clause-sends g c = λ tx spelled start all h.
+    subst (λ line. Sends g.W.Write.contents start c.put_fault.new.block (all ++ (line ++ 10 ∷ [])))
+    (ended c.in-Some.tx tx _ (c.in-Some.ensures.only tx spelled) c.in-Fault.is) (c.put_fault.ensures.sends start all h)
+
+pub returns-in-NoAck-clause-sends : goal.returns-in-NoAck-clause-sends
+returns-in-NoAck-clause-sends g c = λ tx spelled start all h.
+    subst (λ line. Sends g.W.Write.contents start c.put_any_tx.new.block (all ++ (line ++ 10 ∷ [])))
+    (ap tx_line (sym (c.in-Some.ensures.only tx spelled))) (c.put_any_tx.ensures.sends start all h)
