@@ -9,6 +9,8 @@
  * to one call at a time. A struct may be copied as a whole. Any bytes may stand in a struct: what a function
  * may not be given it refuses, and leaves the struct as it was.
  *
+ * The line has a pull-up: where nobody drives it, it reads 1.
+ *
  * A caller owes that each pointer points to a whole object of its type, that objects which a function writes
  * don't overlap others that it is given, and that a count is no more than the objects there.
  *
@@ -113,9 +115,9 @@ struct swd_access {
 
 /*
  * Makes an engine that opens a target: a line reset with the switch, DPIDR, power, and a MEM-AP set up for
- * words. Each of the opening and the accesses may meet `tries` events, such as a WAIT or a word with wrong
- * parity, and is done once whatever it meets. The last three kinds of outcomes aside, it goes on so until
- * each access is answered. From here, or from swd_engine_start, to the next outcome it sends at most
+ * words. Each of the opening and the accesses may meet `tries` events, such as a WAIT, a word with wrong
+ * parity, or write data that arrived changed; at one more it stops with SWD_TRIES_OUT. Whatever it meets, an
+ * access takes place once. From here, or from swd_engine_start, to the next outcome it sends at most
  * 9 + 5 * (tries + 1) requests, whatever it is told.
  */
 void swd_engine_new(struct swd_engine *engine, uint32_t tries);
@@ -128,7 +130,8 @@ void swd_engine_blocks(struct swd_engine *engine, uint32_t tries);
 
 /*
  * Makes an engine that goes on after SWD_LOST, over the same target: begin with the first access that wasn't
- * answered. If one was begun, it may be done a second time. For blocks of reads there is none.
+ * answered. If one was begun, it may be done a second time. For blocks of reads there is none. Its opening may
+ * take five requests more.
  */
 void swd_engine_again(struct swd_engine *engine, uint32_t tries);
 

@@ -1,5 +1,5 @@
 //! The decoder in the caller's memory.
-ghost use Rattle.std.specs.Prelude.{◌≡◌, ℕ, ◌+◌, ◌^◌, ◌<◌, ◌≤◌, ◌++◌, [], Bool, List, false, true, IsTrue};
+ghost use Rattle.std.specs.Prelude.{◌≡◌, ◌+◌, ◌^◌, ◌<◌, ◌≤◌, ◌++◌, [], Bool, List, false, IsTrue};
 ghost use Rattle.swd_bits.specs.Bits.{low_bits};
 ghost use Rattle.swd_trace.specs.declared.item.Item.{Item as ItemType};
 ghost use Rattle.swd_trace.specs.Decided.{IsDecided, IsUndecided};

@@ -1,5 +1,5 @@
 //! The host's engine in the caller's memory.
-ghost use Rattle.std.specs.Prelude.{◌≡◌, ◌≢◌, ◌+◌, ◌*◌, ◌≤◌, true, false, IfSome, IsTrue};
+ghost use Rattle.std.specs.Prelude.{◌≡◌, ◌+◌, ◌*◌, ◌≤◌, true, false, IsTrue};
 ghost use Rattle.swd_host.specs.declared.engine.Engine.{Engine as EngineType};
 ghost use Rattle.swd_port.specs.declared.access.Access.{Access as AccessType};
 ghost use Rattle.swd_host.specs.declared.task.Bursts.TheVariants.{Reads, Writes};

@@ -1,5 +1,6 @@
 //! The exports as a program in C calls them.
 mod cues;
 mod driver;
+mod items;
 mod refusals;
 mod rows;
