@@ -1,6 +1,8 @@
 //! Blocks of reads: each word comes with the request for the next one.
 use super::engine::{opened, passed, seen, taken};
-use super::row::{ALL_QUIRKS, BASE, Run, Wanted, leaves, read, run_of, stopped, target_of, whole};
+use super::row::{
+    ALL_QUIRKS, BASE, QUIRKS, Run, Wanted, leaves, read, run_of, stopped, target_of, whole,
+};
 use crate::Simulated;
 use std::alloc::Global;
 use std::process::Abort;
@@ -104,6 +106,26 @@ fn a_block_reads_rdbuff_once(rt: HostRuntime) -> Result<(), Fail> {
         block_of(&[], 1, whole(&answers[..1], 12, &log[..1])),
     ];
     all_come_out(&rt, rt.alloc(), &blocks)
+}
+
+// Each kilobyte takes the write of TAR, its reads, and a read of RDBUFF.
+#[test]
+fn a_block_has_at_most_65536_words(rt: HostRuntime) -> Result<(), Fail> {
+    for (count, requests) in [(101, 9 + 103), (65_536, 9 + 65_536 + 2 * 256)] {
+        let mut answers = Vec::new(rt.alloc());
+        let mut log = Vec::new(rt.alloc());
+        let mut addr = BASE;
+        for _ in 0..count {
+            answers.push(ZERO)?;
+            log.push(read(addr, 0))?;
+            addr = addr.saturating_add(4);
+        }
+        let mut block = block_of(&[], count, whole(&answers, requests, &log)).words(65_536);
+        block.run = block.run.room(65_536);
+        comes_out::<Bench, _>(&rt, rt.alloc(), 0, &block, QUIRKS)?;
+        comes_out::<ClockedBench, _>(&rt, rt.alloc(), 0, &block, QUIRKS)?;
+    }
+    Ok(())
 }
 
 #[test]

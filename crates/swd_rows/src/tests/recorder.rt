@@ -4,6 +4,7 @@ use super::row::{QUIRKS, run_of, target_of};
 use crate::Simulated;
 use std::test::Fail;
 use swd_bits::Request;
+use swd_clocked::ClockedBench;
 use swd_port::{Due, Register, Wire};
 use swd_target::{Bench, Mark};
 use swd_trace::Item;
@@ -11,11 +12,17 @@ use swd_trace::Item;
 const DPIDR: u8 = 0xa5;
 
 // The calls with their conditions looked at, so that a test may make any.
-fn lead<W: Wire>(wire: &mut W, ones: u32, zeros: u32) {
-    let inside = ones >= 100;
-    if (wire.due() == Due::Nothing || inside) && (ones == 0 || ones >= 50 && zeros >= 2) {
-        wire.lead(ones, false, zeros);
+fn lead_with<W: Wire>(wire: &mut W, ones: u32, switch: bool, zeros: u32) {
+    let inside = ones >= 100 && !switch;
+    if (wire.due() == Due::Nothing || inside)
+        && (ones == 0 && !switch || ones >= 50 && zeros >= 2)
+    {
+        wire.lead(ones, switch, zeros);
     }
+}
+
+fn lead<W: Wire>(wire: &mut W, ones: u32, zeros: u32) {
+    lead_with(wire, ones, false, zeros);
 }
 
 fn ask<W: Wire>(wire: &mut W, request: Request) -> u8 {
@@ -32,6 +39,60 @@ fn take<W: Wire>(wire: &mut W) -> Option<u64> {
     } else {
         None
     }
+}
+
+// Calls of `lead`, and how many cycles each drives.
+const LEADS: [(u32, bool, u32, u64); 7] = [
+    (0, false, 1, 1),
+    (0, false, 8, 8),
+    (50, false, 2, 52),
+    (56, true, 2, 130),
+    (56, false, 9, 65),
+    (50, true, 7, 123),
+    (100, false, 3, 103),
+];
+
+// A recorder drives what it keeps: the cycles are as many as on a bare wire.
+#[test]
+fn a_recorded_wire_has_the_cycles_of_a_bare_one(rt: HostRuntime) -> Result<(), Fail> {
+    for (ones, switch, zeros, cycles) in LEADS {
+        let run = run_of(&[], &[]);
+        let Some(mut bare) = target_of::<ClockedBench>(rt.alloc(), &run, QUIRKS)? else {
+            panic!(rt; "no target");
+        };
+        lead_with(&mut bare, ones, switch, zeros);
+        assert_eq!(rt; bare.cycles(), cycles);
+        let Some(target) = target_of::<ClockedBench>(rt.alloc(), &run, QUIRKS)? else {
+            panic!(rt; "no target");
+        };
+        let Some(mut wire) = recorder_over(rt.alloc(), target) else {
+            panic!(rt; "something is due");
+        };
+        lead_with(&mut wire, ones, switch, zeros);
+        assert_eq!(rt; wire.into_wire().cycles(), cycles);
+    }
+    Ok(())
+}
+
+// The same inside a transaction, where the recording is cut off: 58 cycles, the request with its
+// acknowledgement, and then a line reset, a request, and its data phase.
+#[test]
+fn a_recorded_wire_goes_on_inside_a_transaction(rt: HostRuntime) -> Result<(), Fail> {
+    let Some(target) = target_of::<ClockedBench>(rt.alloc(), &run_of(&[], &[]), QUIRKS)? else {
+        panic!(rt; "no target");
+    };
+    let Some(mut wire) = recorder_over(rt.alloc(), target) else {
+        panic!(rt; "something is due");
+    };
+    let request = Register::DpidrRead.request();
+    lead(&mut wire, 56, 2);
+    assert_eq!(rt; ask(&mut wire, request), 1);
+    lead(&mut wire, 101, 5);
+    assert_eq!(rt; ask(&mut wire, request), 1);
+    assert!(rt; take(&mut wire).is_some());
+    assert!(rt; wire.is_cut());
+    assert_eq!(rt; wire.into_wire().cycles(), 58 + 12 + 106 + 46);
+    Ok(())
 }
 
 #[test]

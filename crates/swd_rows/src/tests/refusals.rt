@@ -9,7 +9,7 @@ use std::alloc::{Allocator, Global};
 use std::process::Abort;
 use std::test::Fail;
 use swd_clocked::ClockedBench;
-use swd_host::{End, Refused, Report, run};
+use swd_host::{End, Refused, Report, run, run_block};
 use swd_port::{Access, Answer, Due, Wire};
 use swd_target::Bench;
 
@@ -70,13 +70,35 @@ fn a_list_is_refused_before_anything_is_sent(rt: HostRuntime) -> Result<(), Fail
     Ok(())
 }
 
+// How sixteen words are read.
+#[derive(Clone, Copy)]
+enum Call {
+    Run,
+    Block,
+}
+
+// Sixteen words over a wire. None where something is due on it.
+fn sixteen<W: Wire, A: Allocator + Copy>(
+    alloc: A,
+    wire: &mut W,
+    call: Call,
+) -> Option<Result<Report<A>, Refused>> {
+    if wire.due() != Due::Nothing {
+        return None;
+    }
+    match call {
+        Call::Run => Some(run(alloc, wire, &[READ; 16], 8)),
+        Call::Block => Some(run_block(alloc, wire, BASE, 16, 8)),
+    }
+}
+
 // Reads whose answers come from this memory. Whether it was refused: then nothing was sent, and a run on
 // the same wire is as on one that was just made.
-fn is_refused<S: Simulated + Drop, R: Abort, A: Allocator>(
+fn is_refused<S: Simulated + Drop, R: Abort, A: Allocator + Copy>(
     rt: &R,
     global: Global,
     alloc: A,
-    reads: &[Access],
+    call: Call,
 ) -> Result<bool, Fail> {
     let Some(target) = target_of::<S>(global, &run_of(&[], &[]), QUIRKS)? else {
         panic!(rt; "no target");
@@ -84,16 +106,11 @@ fn is_refused<S: Simulated + Drop, R: Abort, A: Allocator>(
     let Some(mut wire) = recorder_over(global, target) else {
         panic!(rt; "something is due");
     };
-    match tried(alloc, &mut wire, reads) {
+    match sixteen(alloc, &mut wire, call) {
         Some(Ok(report)) => {
             assert_eq!(rt; report.ended, End::All);
-            assert_eq!(rt; report.answers.len(), reads.len());
-            assert!(rt;
-                report
-                    .answers
-                    .iter()
-                    .all(|answer| *answer == Answer::Value(0))
-            );
+            let answers = [Answer::Value(0); 16];
+            assert_eq!(rt; report.answers.as_slice(), answers.as_slice());
             return Ok(false);
         }
         Some(Err(fault)) => assert_eq!(rt; fault, Refused::Memory),
@@ -106,28 +123,38 @@ fn is_refused<S: Simulated + Drop, R: Abort, A: Allocator>(
     Ok(true)
 }
 
-// How many of these heaps, each larger than the one before, refuse sixteen answers: the smaller ones.
-fn refusals<S: Simulated + Drop, R: Abort>(rt: &R, global: Global) -> Result<usize, Fail> {
-    let reads = [READ; 16];
+// How many of these heaps, each larger than the one before, refuse sixteen words: the smaller ones.
+fn refusals<S: Simulated + Drop, R: Abort>(
+    rt: &R,
+    global: Global,
+    call: Call,
+) -> Result<usize, Fail> {
     let mut refused = 0usize;
-    for size in 1..40usize {
+    for size in 1..60usize {
         let heap = LocalHeap::new(global, size * 16)?;
-        if is_refused::<S, R, &LocalHeap>(rt, global, &heap, &reads)? {
+        if is_refused::<S, R, &LocalHeap>(rt, global, &heap, call)? {
             refused = refused.saturating_add(1);
             assert_eq!(rt; refused, size);
         }
+        assert_eq!(rt; heap.used(), 0);
     }
     Ok(refused)
 }
 
+// A block has its reads beside its answers, each refused in turn.
 #[test]
 fn want_of_memory_is_told_before_anything_is_sent(rt: HostRuntime) -> Result<(), Fail> {
-    for refused in [
-        refusals::<Bench, _>(&rt, rt.alloc())?,
-        refusals::<ClockedBench, _>(&rt, rt.alloc())?,
-    ] {
-        assert!(rt; refused > 3 && refused < 36);
-    }
+    let run = refusals::<Bench, _>(&rt, rt.alloc(), Call::Run)?;
+    let block = refusals::<Bench, _>(&rt, rt.alloc(), Call::Block)?;
+    assert!(rt; 3 < run && run < block && block < 56);
+    assert_eq!(rt;
+        refusals::<ClockedBench, _>(&rt, rt.alloc(), Call::Run)?,
+        run
+    );
+    assert_eq!(rt;
+        refusals::<ClockedBench, _>(&rt, rt.alloc(), Call::Block)?,
+        block
+    );
     Ok(())
 }
 

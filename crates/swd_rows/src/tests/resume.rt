@@ -7,19 +7,20 @@ use super::row::{
     BASE, QUIRKS, READ, Run, WORD, WRITE, Wanted, read, run_of, stopped, target_of, whole, written,
 };
 use crate::Simulated;
-use std::alloc::Global;
+use linked_list_allocator::LocalHeap;
+use std::alloc::{Allocator, Global};
 use std::process::Abort;
 use std::test::Fail;
 use swd_clocked::ClockedBench;
-use swd_host::{End, Report};
+use swd_host::{End, Refused, Report};
 use swd_port::{Access, Answer, Transfer};
 use swd_target::{Bench, Mark, Quirks};
 
 // A target, and the last report of what was done over it.
 #[derive(Drop)]
-struct Stage<S: Simulated + Drop> {
+struct Stage<S: Simulated + Drop, A: Allocator = Global> {
     target: S,
-    report: Report,
+    report: Report<A>,
 }
 
 // The accesses over a new target. None where a mark isn't legal.
@@ -32,8 +33,22 @@ fn begun<S: Simulated + Drop>(
         × AreAccesses run.now.accesses.now
         × (length (told_of stage.report).answers ≤ length run.now.accesses.now))) }
 {
+    begun_on(alloc, alloc, run, late)
+}
+
+// The same, with answers from this memory.
+fn begun_on<S: Simulated + Drop, A: Allocator>(
+    global: Global,
+    alloc: A,
+    run: &Run,
+    late: bool,
+) -> Result<Option<Stage<S, A>>, Fail>
+    ensures { IfOk result (λ found. IfSome found (λ stage. (length run.now.accesses.now ≤ 65536)
+        × AreAccesses run.now.accesses.now
+        × (length (told_of stage.report).answers ≤ length run.now.accesses.now))) }
+{
     let quirks = Quirks { late, ..QUIRKS };
-    let Some(mut target) = target_of::<S>(alloc, run, quirks)? else {
+    let Some(mut target) = target_of::<S>(global, run, quirks)? else {
         return Ok(None);
     };
     let report = swd_host::run(alloc, &mut target, run.accesses, run.tries)?;
@@ -62,7 +77,7 @@ fn gone_on<S: Simulated + Drop>(
 }
 
 // What was reported.
-fn tells<R: Abort>(rt: &R, name: usize, report: &Report, wanted: Wanted) {
+fn tells<R: Abort, A: Allocator>(rt: &R, name: usize, report: &Report<A>, wanted: Wanted) {
     assert_eq!(rt; report.ended, wanted.ended, "{name}");
     assert_eq!(rt; report.requests, wanted.requests, "{name}");
     assert_eq!(rt; report.begun, wanted.begun, "{name}");
@@ -259,5 +274,80 @@ fn a_run_goes_on_after_any_two(rt: HostRuntime) -> Result<(), Fail> {
             }
         }
     }
+    Ok(())
+}
+
+// Goes on with them, with answers from this memory, where an acknowledgement was lost. Where the memory is
+// refused, the stage is as it was, and the refusal beside it.
+fn tried_on<S: Simulated + Drop, A: Allocator>(
+    alloc: A,
+    accesses: &[Access],
+    stage: Stage<S, A>,
+) -> (Stage<S, A>, Option<Refused>)
+    requires accepted { (length accesses.now ≤ 65536) × AreAccesses accesses.now }
+    requires reported { length (told_of stage.report).answers ≤ length accesses.now }
+    ensures { length (told_of result.0.report).answers ≤ length accesses.now }
+{
+    let Stage { mut target, report } = stage;
+    match report.ended {
+        End::Lost => match swd_host::resume(alloc, &mut target, accesses, &report, 8) {
+            Ok(report) => (Stage { target, report }, None),
+            Err(refused) => (Stage { target, report }, Some(refused)),
+        },
+        _ => (Stage { target, report }, None),
+    }
+}
+
+// Whether a heap of this size is too small to go on with sixteen reads, of which one was answered. Where it
+// is, they are gone on with on another, as if they had not been tried.
+fn is_refused<S: Simulated + Drop, R: Abort>(
+    rt: &R,
+    global: Global,
+    size: usize,
+) -> Result<bool, Fail> {
+    let small = LocalHeap::new(global, size)?;
+    let large = LocalHeap::new(global, 4096)?;
+    let accesses = [READ; 16];
+    let run = run_of(&[(15, Mark::Mute(2))], &accesses).room(32);
+    let Some(stage) = begun_on::<S, &LocalHeap>(global, &large, &run, false)? else {
+        panic!(rt; "a mark isn't legal");
+    };
+    assert_eq!(rt; stage.report.ended, End::Lost);
+    let (stage, refused) = tried_on(&small, run.accesses, stage);
+    let stage = match refused {
+        Some(fault) => {
+            assert_eq!(rt; fault, Refused::Memory);
+            assert_eq!(rt; small.used(), 0);
+            let (stage, again) = tried_on(&large, run.accesses, stage);
+            assert_eq!(rt; again, None);
+            stage
+        }
+        None => stage,
+    };
+    let answers = [Answer::Value(0); 16];
+    // The opening, and three requests for each of the fifteen that were left.
+    tells(rt, size, &stage.report, whole(&answers, 9 + 3 * 15, &[]));
+    // The read that was begun took place twice.
+    let log = [read(BASE, 0); 17];
+    leaves(rt, size, stage.target, &log);
+    Ok(refused.is_some())
+}
+
+#[test]
+fn want_of_memory_is_told_before_anything_is_sent(rt: HostRuntime) -> Result<(), Fail> {
+    let mut refused = 0usize;
+    for step in 1..40usize {
+        let size = step * 16;
+        let is = is_refused::<Bench, HostRuntime>(&rt, rt.alloc(), size)?;
+        assert_eq!(rt;
+            is_refused::<ClockedBench, HostRuntime>(&rt, rt.alloc(), size)?,
+            is
+        );
+        if is {
+            refused = refused.saturating_add(1);
+            assert_eq!(rt; refused, step);
+        }
+    }
+    assert!(rt; 3 < refused && refused < 36);
     Ok(())
 }
