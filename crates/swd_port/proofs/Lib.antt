@@ -13,6 +13,7 @@ pub mod MovingLaws
 pub mod StatusLaws
 pub mod CallLaws
 pub mod AccessLaws
+mod NeverStuckLaws
 pub mod ReadLists
 mod WorkedLaws
 mod OpenWires

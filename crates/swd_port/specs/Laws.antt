@@ -11,3 +11,4 @@ pub mod DataPhases
 pub mod WordsRead
 pub mod LineResets
 pub mod Accesses
+pub mod NeverStuck

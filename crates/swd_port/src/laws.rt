@@ -2,9 +2,11 @@
 //! nothing: its contract is the law.
 
 mod memory;
+mod steps;
 mod wire;
 mod words;
 
 pub use memory::{accesses, completion, transfers};
+pub use steps::never_stuck;
 pub use wire::{answers, calls, data_phases, line_resets, requests};
 pub use words::{phases, registers, words_read};

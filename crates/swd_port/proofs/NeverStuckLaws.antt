@@ -1,0 +1,93 @@
+-- A step for each state: the pending transfer takes effect, and an unknown word is 0.
+use Rattle.std.proofs.Common.{◌≡◌, ℕ, ◌<◌, ◌^◌, ◌+◌, ◌*◌, Bool, true, false, Option, Some, None, refl, inl, inr, arith}
+use Rattle.std.specs.Prelude.{IfSome, unwrap_or}
+use Rattle.swd_bits.specs.Bits.{bit}
+use Rattle.swd_bits.specs.declared.request.Request.{Request}
+use Rattle.swd_port.specs.Registers.{ctrl_stat_read}
+use Rattle.swd_port.specs.PlainMemory.{PlainMemory, word_at}
+use Rattle.swd_port.specs.Port.{Port, Target, Register, DpidrRead, CtrlStatRead, ResendRead, DpZeroRead, Drw, Reads, Writes, register}
+use Rattle.swd_port.specs.Choices.{Mark, IsMark, Choice, IsChoice}
+use Rattle.swd_port.specs.Answers.{Reply, Okay, Waits, Faults, Silent, seen_at}
+use Rattle.swd_port.specs.Completion.{completed, fails, buffer_after}
+use Rattle.swd_port.specs.Asking.{value_in, status_in, reply_in, after_reply, IsSettled, IsWordRead}
+use Rattle.swd_port.specs.Moving.{bits_driven, after_take, arrival, after_arrival, after_pass}
+use Rattle.swd_port.specs.Leading.{after_lead}
+use Rattle.swd_port.specs.Laws.NeverStuck.{IsOfWords, EachRequestGoes, EachCallGoes}
+use Rattle.swd_port.proofs.AnswerLaws.{sees_seen_at, deaf_silent}
+
+abbrev zeros : Choice
+zeros = record { address = 0; wraps = false; filler = 0 }
+
+zeros_are : IsChoice zeros
+zeros_are = record { address = omega arith; filler = omega arith }
+
+known : (o : Option ℕ) → IfSome o (λ word. word < 2 ^ 32) → unwrap_or o 0 < 2 ^ 32
+known None h = omega arith
+known (Some word) h = h
+
+status_word : (a b d e f : Bool) → ctrl_stat_read a b d e f < 2 ^ 32
+status_word a b d e f = grind arith
+
+-- the read buffer, once the pending transfer took effect
+completed_buffer : (pending : Option Drw) (failed : Bool) (at : ℕ) (m : PlainMemory) (buffer : Option ℕ) →
+    ((k : ℕ) → word_at k m < 2 ^ 32) → IfSome buffer (λ word. word < 2 ^ 32) →
+    IfSome (buffer_after pending failed at m buffer) (λ word. word < 2 ^ 32)
+completed_buffer None failed at m buffer words h = h
+completed_buffer (Some Reads) true at m buffer words h = tt
+completed_buffer (Some Reads) false at m buffer words h = words at
+completed_buffer (Some (Writes word)) true at m buffer words h = tt
+completed_buffer (Some (Writes word)) false at m buffer words h = h
+
+value_word : (r : Register) (x : Target) → x.identification < 2 ^ 32 → IfSome x.buffer (λ word. word < 2 ^ 32) →
+    IfSome x.last_returned (λ word. word < 2 ^ 32) → value_in r 0 x < 2 ^ 32
+value_word DpidrRead x i b l = i
+value_word CtrlStatRead x i b l = status_word x.sticky_error x.read_ok x.write_error x.debug_power x.system_power
+value_word ResendRead x i b l = known x.last_returned l
+value_word DpZeroRead x i b l = omega arith
+value_word r x i b l = known x.buffer b
+
+settled : (reply : Reply) (r : Register) → IsSettled reply r None
+settled Okay r = λ e. refl
+settled Faults r = λ e. refl
+settled Waits r = tt
+settled Silent r = tt
+
+word_read : (reply : Reply) (read : Bool) (value : ℕ) → value < 2 ^ 32 → IsWordRead reply read value
+word_read Okay true value h = h
+word_read Okay false value h = tt
+word_read Faults read value h = tt
+word_read Waits read value h = tt
+word_read Silent read value h = tt
+
+pub each_request_goes : EachRequestGoes
+each_request_goes mark s q legal words =
+    let a = completed zeros s in
+    let r = register a.target.select q in
+    let reply = reply_in mark a.target q in
+    let b = after_reply mark reply r q zeros a in
+    let x = s.target in
+    let at = unwrap_or x.tar 0 in
+    let buffer = completed_buffer x.pending (fails x.pending at x.memory) at x.memory x.buffer words.memory words.buffer in (
+      seen_at mark reply,
+      b,
+      a,
+      zeros,
+      inr (zeros, zeros_are, refl),
+      record {
+        legal = legal;
+        choice = zeros_are;
+        settled = settled reply r;
+        word = word_read reply q.read (value_in r 0 a.target)
+            (value_word r a.target words.identification buffer words.last_returned);
+        sees = sees_seen_at mark (reply_in mark (completed zeros s).target q) legal (deaf_silent mark _ _);
+        after = refl;
+      },
+    )
+
+pub each_call_goes : EachCallGoes
+each_call_goes = record {
+  taken = λ s. (bits_driven s.link.line, after_take s, (s, after_take s, inl refl, record { gets = refl; after = refl }, inl refl));
+  given = λ s sent. let t = after_arrival (arrival s.link.line sent) s in (t, (s, t, inl refl, record { after = refl }, inl refl));
+  passed = λ s. (after_pass s, (s, after_pass s, inl refl, record { after = refl }, inl refl));
+  led = λ s ones. (after_lead ones s, (s, after_lead ones s, inl refl, record { after = refl }, inl refl));
+}
