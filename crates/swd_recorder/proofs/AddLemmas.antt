@@ -204,6 +204,7 @@ none_in_lead ones lows switches = count_both (high_items ones switches) (low_ite
     high zero b = refl
     high (suc n) true = let some : suc n ≢ 0 = λ z. omega (arith, z) in ap transactions (high_is (suc n) true some refl)
     high (suc n) false = let some : suc n ≢ 0 = λ z. omega (arith, z) in ap (λ t. transactions (if t then [] else Reset (suc n) ∷ [])) (not_zero (suc n) some)
+
     low : (n : ℕ) → transactions (low_items n) ≡ 0
     low zero = refl
     low (suc n) = let some : suc n ≢ 0 = λ z. omega (arith, z) in ap transactions (low_is (suc n) some)

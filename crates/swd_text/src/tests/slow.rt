@@ -22,8 +22,8 @@ fn repeated(alloc: Global, text: &[u8], times: u32) -> Result<Vec<u8>, Fail> {
 
 #[test]
 fn a_long_trace_is_decoded_byte_by_byte(rt: HostRuntime) -> Result<(), Fail> {
-    let trace = repeated(rt.alloc(), DPIDR_TRACE, 2_200)?;
-    let listing = repeated(rt.alloc(), DPIDR_LINE, 2_200)?;
+    let trace = repeated(rt.alloc(), DPIDR_TRACE, 22_000)?;
+    let listing = repeated(rt.alloc(), DPIDR_LINE, 22_000)?;
     let mut reader = OneByteReader::new(&trace);
     let mut writer = OneByteWriter::new(rt.alloc());
     assert_eq!(rt; decode_text(&mut reader, &mut writer), Ok(()));
