@@ -5,8 +5,9 @@ use Rattle.std.specs.String.{string_bytes}
 use Rattle.std.specs.Str.Parse.{signed_digits_value}
 use Rattle.clap.specs.Words.{App, HasKind, Kinds, kind_of, Row, first_of, Rule, Text, new_app, new_rule, with_rule, with_subcommand}
 use Rattle.swd_cli.specs.declared.command.Line.{Line}
-use Rattle.swd_cli.specs.declared.command.Line.TheVariants.{One, Decode, Encode, Run}
+use Rattle.swd_cli.specs.declared.command.Line.TheVariants.{One, Decode, Encode, Run, Target}
 use Rattle.swd_cli.specs.declared.command.RunLine.{RunLine}
+use Rattle.swd_cli.specs.declared.command.TargetLine.{TargetLine}
 use Rattle.swd_cli.specs.declared.command.LineFault.{LineFault}
 use Rattle.swd_cli.specs.declared.command.LineFault.TheVariants.{Clap, Memory}
 use Rattle.clap.specs.declared.error.kind.ErrorKind.{ErrorKind}
@@ -62,11 +63,19 @@ over_a_script = with_rule (with_rule (new_app (codes "run")) script_rule) plan_r
 abbrev pub run_app : App
 run_app = with_rule (with_rule (with_rule over_a_script tries_rule) trace_rule) strict_rule
 
+-- the log, after --log
+abbrev pub log_rule : Rule
+log_rule = let rule = new_rule (codes "log") in record rule { long = Some (codes "log"); value_names = 1 }
+
+-- the command that serves a target
+abbrev pub target_app : App
+target_app = with_rule (with_rule (with_rule (with_rule (new_app (codes "target")) script_rule) plan_rule) log_rule) trace_rule
+
 -- the whole command
 abbrev pub swd_app : App
 swd_app =
-    with_subcommand (with_subcommand (with_subcommand (with_subcommand bare_app (over_file (codes "one")).top)
-    (over_file (codes "decode")).top) (over_file (codes "encode")).top) run_app.top
+    with_subcommand (with_subcommand (with_subcommand (with_subcommand (with_subcommand bare_app (over_file (codes "one")).top)
+    (over_file (codes "decode")).top) (over_file (codes "encode")).top) run_app.top) target_app.top
 
 -- the words have this command, and this file or none
 abbrev pub HasFile : Text → Option Text → Option (Text × List Row) → Type 0
@@ -85,6 +94,13 @@ pub record IsRunOf (run : RunLine) (rows : List Row) : Type 0 where
   pub trace : option_map string_bytes run.trace ≡ first_of (codes "trace") rows
   pub strict : (run.strict ≡ true) ↔ (first_of (codes "strict") rows ≡ Some (codes "true"))
 
+-- the script, the plan, the log and the trace that the words name
+pub record IsTargetOf (target : TargetLine) (rows : List Row) : Type 0 where
+  pub script : Some (string_bytes target.script) ≡ first_of (codes "SCRIPT") rows
+  pub plan : option_map string_bytes target.plan ≡ first_of (codes "plan") rows
+  pub log : option_map string_bytes target.log ≡ first_of (codes "log") rows
+  pub trace : option_map string_bytes target.trace ≡ first_of (codes "trace") rows
+
 -- a fault of this kind, or want of memory
 abbrev pub IsOfKind : ErrorKind → LineFault → Type 0
 IsOfKind kind Memory = Unit {0}
@@ -101,3 +117,4 @@ IsLineOf (One file) rows = HasFile (codes "one") (option_map string_bytes file) 
 IsLineOf (Decode file) rows = HasFile (codes "decode") (option_map string_bytes file) rows
 IsLineOf (Encode file) rows = HasFile (codes "encode") (option_map string_bytes file) rows
 IsLineOf (Run run) rows = IsSomeAnd rows (λ p. (p.0 ≡ codes "run") × IsRunOf run p.1)
+IsLineOf (Target target) rows = IsSomeAnd rows (λ p. (p.0 ≡ codes "target") × IsTargetOf target p.1)

@@ -3,7 +3,7 @@ use Rattle.std.specs.Prelude.{ℕ, ◌≡◌, ◌⊎◌, List, Option, Some, Non
 use Rattle.std.specs.Option.{option_map}
 use Rattle.std.specs.String.{string_bytes}
 use Rattle.swd_cli.specs.declared.command.Line.{Line}
-use Rattle.swd_cli.specs.declared.command.Line.TheVariants.{One, Decode, Encode, Run}
+use Rattle.swd_cli.specs.declared.command.Line.TheVariants.{One, Decode, Encode, Run, Target}
 
 -- the file that the words name
 abbrev pub named : Line → Option (List ℕ)
@@ -11,6 +11,7 @@ named (One file) = option_map string_bytes file
 named (Decode file) = option_map string_bytes file
 named (Encode file) = option_map string_bytes file
 named (Run run) = Some (string_bytes run.script)
+named (Target target) = Some (string_bytes target.script)
 
 -- standard input is read: no file is named, or `-`
 abbrev pub IsStandard : Line → Type 0

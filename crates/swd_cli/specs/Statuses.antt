@@ -6,7 +6,7 @@ use Rattle.swd_text.specs.Decoding.{Decodes}
 use Rattle.swd_text.specs.Encoding.{Encodes}
 use Rattle.swd_text.specs.declared.fault.EngineFault.{EngineFault}
 use Rattle.swd_cli.specs.declared.command.Line.{Line}
-use Rattle.swd_cli.specs.declared.command.Line.TheVariants.{One, Decode, Encode, Run}
+use Rattle.swd_cli.specs.declared.command.Line.TheVariants.{One, Decode, Encode, Run, Target}
 use Rattle.swd_cli.specs.declared.command.RunLine.{RunLine}
 use Rattle.swd_host.specs.declared.outcome.End.{End}
 use Rattle.swd_host.specs.declared.outcome.End.TheVariants.{All, Lost, TriesOut, WrongId, Confused}
@@ -62,3 +62,5 @@ Performs (Decode file) status text left old new =
 Performs (Encode file) status text left old new =
     (answer : Result (Unit {0}) EngineFault) × Encodes answer text old new × (status ≡ status_of (is_ok answer))
 Performs (Run run) status text left old new = PerformsRun run.plan run status text old new
+-- the script of a target is no standard input, which is its debugger's
+Performs (Target target) status text left old new = NotOpened status old new

@@ -12,6 +12,8 @@ pub enum Line {
     Encode(Option<String>),
     /// `swd run SCRIPT [--plan FILE] [--tries N] [--trace FILE] [--strict]`.
     Run(RunLine),
+    /// `swd target SCRIPT [--plan FILE] [--log FILE] [--trace FILE]`.
+    Target(TargetLine),
 }
 
 /// What `swd run` is given.
@@ -27,6 +29,19 @@ pub struct RunLine {
     pub trace: Option<String>,
     /// Whether a bus fault fails the run.
     pub strict: bool,
+}
+
+/// What `swd target` is given.
+#[derive(Debug, Drop)]
+pub struct TargetLine {
+    /// The file of the script, whose memory the target has.
+    pub script: String,
+    /// The file of the plan, where one is named.
+    pub plan: Option<String>,
+    /// The file that the log is written to, where one is named.
+    pub log: Option<String>,
+    /// The file that the trace is written to, where one is named.
+    pub trace: Option<String>,
 }
 
 /// Why the words are no command.

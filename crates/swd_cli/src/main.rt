@@ -5,6 +5,8 @@ mod command;
 mod files;
 mod program;
 mod report;
+mod target_command;
+mod target_words;
 mod trace;
 mod watch;
 mod words;

@@ -6,6 +6,7 @@ ghost use Rattle.swd_cli.specs.Statuses.{Performs, PerformsRun, PerformsUnder};
 use crate::command::{Line, LineFault, RunLine};
 use crate::files::{Files, Identity};
 use crate::report::{DONE, FAULT, cannot_open, engine_status, one_status, run_status, tell};
+use crate::target_command::perform_target;
 use crate::trace::{Sources, open_trace};
 use crate::watch::Watch;
 use crate::words::line;
@@ -58,6 +59,7 @@ fn file_of(line: &Line) -> Option<&str>
             None => return None,
         },
         Line::Run(run) => run.script.as_str(),
+        Line::Target(target) => target.script.as_str(),
     };
     if name == "-" { None } else { Some(name) }
 }
@@ -81,6 +83,11 @@ fn carry_out<I: Read, F: Files, O: Write, E: Write>(
     match files.open(name) {
         Ok(mut opened) => {
             let source = Some(opened.identity);
+            if let Line::Target(target) = line {
+                let script = &mut opened.file;
+                let output = &mut output.writer;
+                return perform_target(alloc, target, script, source, input, files, output, errors);
+            }
             perform(alloc, line, &mut opened.file, source, files, output, errors)
         }
         Err(_) => cannot_open(errors, name),
@@ -105,6 +112,8 @@ fn perform<R: Read, F: Files, O: Write, E: Write>(
         Line::Decode(_) => engine_status(errors, decode_text(input, &mut output.writer)),
         Line::Encode(_) => engine_status(errors, encode_text(alloc, input, &mut output.writer)),
         Line::Run(run) => perform_run(alloc, run, input, source, files, output, errors),
+        // Standard input is the debugger's.
+        Line::Target(_) => cannot_open(errors, "-"),
     }
 }
 

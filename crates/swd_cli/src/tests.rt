@@ -15,6 +15,8 @@ use swd_script::ScriptFault;
 use swd_text::{EngineFault, TextFault};
 use swd_trace::ListFault;
 
+mod target;
+
 const DPIDR_READ: &[u8] = b"10100101 1 100 11101110001010000000010111010100 0 1";
 
 const DPIDR_LINE: &[u8] = b"dp 0 read ok 2ba01477\n";
@@ -70,6 +72,7 @@ impl<'a> Files for Shelf<'a> {
             "trace" => Ok(file(name, DPIDR_READ)),
             "list" | "./-" => Ok(file(name, DPIDR_LINE)),
             "script" => Ok(file(name, SCRIPT)),
+            "memory" => Ok(file(name, b"memory 20000000 16\n")),
             "quiet" => Ok(file(name, b"# nothing\n.\n")),
             "cut" => Ok(file(name, CUT)),
             "flip33" => Ok(file(name, b"flip 33")),

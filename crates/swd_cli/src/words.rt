@@ -9,6 +9,7 @@ ghost use Rattle.swd_cli.specs.Commands.{file_rule, plan_rule, script_rule, stri
 ghost use Rattle.swd_cli.specs.Commands.{bare_app, over_a_script, over_file, run_app, swd_app, AreTries, IsLineOf, IsOfKind, IsRunOf, IsRefusal};
 
 use crate::command::{Line, LineFault, RunLine};
+use crate::target_words::{target_command, target_line};
 use clap::error::ErrorKind;
 use clap::{Arg, ArgAction, ArgMatches, Command, Error, value_parser};
 use std::alloc::{AllocError, Global};
@@ -112,7 +113,7 @@ const MOST_TRIES: i64 = 1000;
 const TRIES_RANGE: &str = "the value of '--tries <N>' is not in 0..=1000";
 
 // A value as an owned text.
-fn owned(alloc: Global, text: Option<&str>) -> Result<Option<String>, AllocError>
+pub(crate) fn owned(alloc: Global, text: Option<&str>) -> Result<Option<String>, AllocError>
     ensures { IfOk result (λ o. option_map string_bytes o ≡ option_map (λ s. s.now) text.entry) }
 {
     match text {
@@ -130,7 +131,7 @@ fn file_arg<'a>(alloc: Global) -> Arg<'a>
 }
 
 // The file of the script, which has to be there.
-fn script_arg<'a>(alloc: Global) -> Arg<'a>
+pub(crate) fn script_arg<'a>(alloc: Global) -> Arg<'a>
     ensures rule { rule_of result ≡ script_rule }
     ensures local { result.global ≡ false }
 {
@@ -140,7 +141,7 @@ fn script_arg<'a>(alloc: Global) -> Arg<'a>
 }
 
 // The file of the plan.
-fn plan_arg<'a>(alloc: Global) -> Arg<'a>
+pub(crate) fn plan_arg<'a>(alloc: Global) -> Arg<'a>
     ensures rule { rule_of result ≡ plan_rule }
     ensures local { result.global ≡ false }
 {
@@ -151,7 +152,7 @@ fn plan_arg<'a>(alloc: Global) -> Arg<'a>
 }
 
 // The file that the trace is written to.
-fn trace_arg<'a>(alloc: Global) -> Arg<'a>
+pub(crate) fn trace_arg<'a>(alloc: Global) -> Arg<'a>
     ensures rule { rule_of result ≡ trace_rule }
     ensures local { result.global ≡ false }
 {
@@ -185,7 +186,7 @@ fn tries_arg<'a>(alloc: Global) -> Arg<'a>
         .help("WAITs and changed data per access, 0 to 1000")
 }
 
-fn with_arg<'a>(command: Command<'a>, arg: Arg<'a>) -> Result<Command<'a>, AllocError>
+pub(crate) fn with_arg<'a>(command: Command<'a>, arg: Arg<'a>) -> Result<Command<'a>, AllocError>
     requires arg { arg.global ≡ false }
     requires local { (out-Command command).has_globals ≡ false }
     ensures app { IfOk result (λ c. app_of c ≡ with_rule (app_of command.entry) (rule_of arg.entry)) }
@@ -256,7 +257,8 @@ fn swd_command<'a>(alloc: Global) -> Result<Command<'a>, AllocError>
     let one = with_sub(bare, over_a_file(alloc, "one", ONE_ABOUT)?)?;
     let decode = with_sub(one, over_a_file(alloc, "decode", DECODE_ABOUT)?)?;
     let encode = with_sub(decode, over_a_file(alloc, "encode", ENCODE_ABOUT)?)?;
-    with_sub(encode, run_command(alloc)?)
+    let run = with_sub(encode, run_command(alloc)?)?;
+    with_sub(run, target_command(alloc)?)
 }
 
 // Words that `clap` took and that ask for nothing: there are none.
@@ -365,6 +367,10 @@ fn line_of(alloc: Global, matches: &ArgMatches<'_>) -> Result<Line, LineFault>
         "encode" => Ok(Line::Encode(file)),
         "run" => match run_line(alloc, rest) {
             Ok(run) => Ok(Line::Run(run)),
+            Err(fault) => Err(fault),
+        },
+        "target" => match target_line(alloc, rest) {
+            Ok(target) => Ok(Line::Target(target)),
             Err(fault) => Err(fault),
         },
         _ => Err(unknown(alloc)),

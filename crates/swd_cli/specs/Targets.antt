@@ -1,0 +1,23 @@
+-- What `swd target` does on the standard streams.
+use Rattle.std.specs.Prelude.{ℕ, ◌≡◌, ◌⊎◌, List, Option}
+use Rattle.swd_bitbang.specs.declared.serving.Served.{Served}
+use Rattle.swd_bitbang.specs.declared.serving.Served.TheVariants.{Quit, Ended, Bad, Read, Write}
+use Rattle.swd_bitbang.specs.declared.trace.Trace.{Trace}
+use Rattle.swd_bitbang.specs.declared.pins.Pins.{Pins}
+use Rattle.swd_bitbang.specs.Sessions.{Serves}
+use Rattle.swd_run.specs.Serving.{Simulates}
+use Rattle.swd_cli.specs.Statuses.{NotOpened}
+
+-- 0 where the host was served to its end and log and trace were written, 2 else
+abbrev pub IsServedStatus : Served → ℕ → Type 0
+IsServedStatus Quit status = (status ≡ 0) ⊎ (status ≡ 2)
+IsServedStatus Ended status = (status ≡ 0) ⊎ (status ≡ 2)
+IsServedStatus served status = status ≡ 2
+
+-- Nothing was written, or a host was served at the pins of a target of the script and the plan.
+abbrev pub ServesHost : (A : Type 0) → ℕ → Option (List ℕ) → Option (List ℕ) → Option (List ℕ) → Option (List ℕ)
+    → Option (List ℕ) → Option (List ℕ) → Type 0
+ServesHost A status script plan text left old new =
+    NotOpened status old new
+    ⊎ ((served : Served) × (trace : Trace A) × (s : Pins A) × (t : Pins A) × Simulates script plan trace s
+    × Serves served text left old new s t × IsServedStatus served status)

@@ -1,0 +1,185 @@
+//! A simulated target on the standard streams.
+ghost use Rattle.std.specs.Prelude.{◌≡◌, ℕ, List, Option};
+ghost use Rattle.swd_cli.specs.Targets.{IsServedStatus, ServesHost};
+
+use crate::command::TargetLine;
+use crate::files::{Files, Identity, Opened};
+use crate::report::{DONE, FAULT, cannot_open, engine_status, tell};
+use crate::trace::{Sources, open_trace};
+use std::alloc::Allocator;
+use std::io::{Read, Write};
+use swd_bitbang::{Served, Trace, serve};
+use swd_clocked::MarkedClocked;
+use swd_io::send;
+use swd_run::{TargetFault, read_target, write_log};
+
+/// Opens the plan, and serves a host at the target of the script. Without a plan nothing befalls the
+/// requests.
+pub fn perform_target<S: Read, I: Read, F: Files, O: Write, E: Write, A: Allocator + Copy>(
+    alloc: A,
+    target: &TargetLine,
+    script: &mut S,
+    source: Option<Identity>,
+    input: &mut I,
+    files: &F,
+    output: &mut O,
+    errors: &mut E,
+) -> u8
+    ensures { (plan : Option (List ℕ)) × ServesHost A result (S.remaining script.old) plan (I.remaining input.old)
+        (I.remaining input.new) (O.contents output.old) (O.contents output.new) }
+{
+    let Some(name) = &target.plan else {
+        let mut nothing = [].as_slice();
+        let read = Sources {
+            script: source,
+            plan: None,
+        };
+        return serve_under(
+            alloc,
+            target,
+            script,
+            &mut nothing,
+            read,
+            input,
+            files,
+            output,
+            errors,
+        );
+    };
+    match files.open(name.as_str()) {
+        Ok(mut opened) => {
+            let read = Sources {
+                script: source,
+                plan: Some(opened.identity),
+            };
+            let plan = &mut opened.file;
+            serve_under(
+                alloc, target, script, plan, read, input, files, output, errors,
+            )
+        }
+        Err(_) => cannot_open(errors, name.as_str()),
+    }
+}
+
+// Opens the files of log and trace, and serves a host. They are written once it is served.
+fn serve_under<S: Read, P: Read, I: Read, F: Files, O: Write, E: Write, A: Allocator + Copy>(
+    alloc: A,
+    target: &TargetLine,
+    script: &mut S,
+    plan: &mut P,
+    read: Sources,
+    input: &mut I,
+    files: &F,
+    output: &mut O,
+    errors: &mut E,
+) -> u8
+    ensures { ServesHost A result (S.remaining script.old) (P.remaining plan.old) (I.remaining input.old)
+        (I.remaining input.new) (O.contents output.old) (O.contents output.new) }
+{
+    let Ok(log) = open_record(files, &target.log, read) else {
+        return cannot_open_record(errors, &target.log);
+    };
+    let Ok(trace) = open_record(files, &target.trace, read) else {
+        return cannot_open_record(errors, &target.trace);
+    };
+    let kept = match &trace {
+        Some(_) => Trace::new(alloc),
+        None => Trace::none(alloc),
+    };
+    match read_target(alloc, script, plan, kept) {
+        Ok(pins) => {
+            let (served, pins) = serve(input, output, pins);
+            let (target, kept) = pins.into_parts();
+            let done = write_records(log, trace, &target, &kept);
+            served_status(errors, served, done)
+        }
+        Err(fault) => target_status(errors, fault),
+    }
+}
+
+// Opens a file that is written at the end, where one is named.
+fn open_record<F: Files>(
+    files: &F,
+    name: &Option<String>,
+    read: Sources,
+) -> Result<Option<F::Made>, ()> {
+    let Some(name) = name else {
+        return Ok(None);
+    };
+    match open_trace(files, name.as_str(), read) {
+        Ok(Opened { file, identity: _ }) => Ok(Some(file)),
+        Err(_) => Err(()),
+    }
+}
+
+fn cannot_open_record<E: Write>(errors: &mut E, name: &Option<String>) -> u8
+    ensures { result ≡ 2 }
+{
+    match name {
+        Some(name) => cannot_open(errors, name.as_str()),
+        None => FAULT,
+    }
+}
+
+// Writes the log and the trace, and says whether both stand whole.
+fn write_records<M: Write + Drop, A: Allocator>(
+    log: Option<M>,
+    trace: Option<M>,
+    target: &MarkedClocked<A>,
+    kept: &Trace<A>,
+) -> bool {
+    let logged = match log {
+        Some(mut log) => write_log(&mut log, target).is_ok(),
+        None => true,
+    };
+    let traced = match trace {
+        Some(mut trace) => write_trace(&mut trace, kept),
+        None => true,
+    };
+    logged && traced
+}
+
+// Writes the trace, and says whether it stands whole.
+fn write_trace<M: Write, A: Allocator>(writer: &mut M, kept: &Trace<A>) -> bool {
+    send(writer, kept.text()).is_ok() && send(writer, b"\n").is_ok() && !kept.is_cut()
+}
+
+// The status of a session, where its log and trace stand whole or not.
+fn served_status<E: Write>(errors: &mut E, served: Served, done: bool) -> u8
+    ensures { IsServedStatus served result }
+{
+    match served {
+        Served::Quit | Served::Ended => {
+            if done {
+                DONE
+            } else {
+                tell(errors, "write failed")
+            }
+        }
+        Served::Bad { place, byte } => bad_status(errors, place, byte),
+        Served::Read => tell(errors, "read failed"),
+        Served::Write { written: _ } => tell(errors, "write failed"),
+    }
+}
+
+// The status where a byte is none of the protocol's.
+fn bad_status<E: Write>(errors: &mut E, place: u64, byte: u8) -> u8
+    ensures { result ≡ 2 }
+{
+    let what = match byte {
+        b'0'..=b'7' | b'R' => "a character of JTAG: set the debugger to serial wire",
+        _ => "bad character",
+    };
+    let _ = writeln!(errors, "swd: byte {place}: {what}");
+    FAULT
+}
+
+// The status where there is no target.
+fn target_status<E: Write>(errors: &mut E, fault: TargetFault) -> u8
+    ensures { result ≡ 2 }
+{
+    match fault {
+        TargetFault::Texts(fault) => engine_status(errors, Err(fault)),
+        TargetFault::Accesses => tell(errors, "a target's script has no accesses"),
+    }
+}
