@@ -38,7 +38,7 @@ static uint32_t status(const struct model *m)
 	return (m->power ? 0xf0000000u : 0) | (uint32_t)m->sticky_error << 5 | (uint32_t)m->write_error << 7;
 }
 
-/* The word at TAR, or none where it is behind the memory. */
+/* The word at TAR, or none where it is past the end of the memory. */
 static uint32_t *word_at_tar(struct model *m)
 {
 	uint32_t place = (m->tar - MODEL_BASE) / 4;

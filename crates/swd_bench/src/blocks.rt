@@ -6,7 +6,7 @@ use swd_host::{Report, run, run_block};
 use swd_port::Access;
 use swd_target::{Bench, Mark, Memory};
 
-/// The last few reads are behind the memory.
+/// The last few reads are past the end of the memory.
 const WORDS: u32 = ACCESSES - 8;
 
 fn reads(alloc: Global) -> Result<Vec<Access>, AllocError> {
@@ -17,7 +17,7 @@ fn reads(alloc: Global) -> Result<Vec<Access>, AllocError> {
     Ok(list)
 }
 
-// One run under these marks. None for want of memory.
+// One run under these marks. None when out of memory.
 fn one_run(alloc: Global, plan: Vec<Mark>, block: bool) -> Option<Report> {
     if !are_legal(&plan) {
         return None;
@@ -32,7 +32,7 @@ fn one_run(alloc: Global, plan: Vec<Mark>, block: bool) -> Option<Report> {
     }
 }
 
-/// A sum over the reports of twenty runs. None for want of memory.
+/// A sum over the reports of twenty runs. None when out of memory.
 pub fn checksum(alloc: Global, block: bool) -> Option<u64> {
     let mut random = Random(SEED);
     let mut sum = 0;
@@ -44,7 +44,7 @@ pub fn checksum(alloc: Global, block: bool) -> Option<u64> {
     Some(sum)
 }
 
-/// The requests of a run without marks. None for want of memory.
+/// The requests of a run without marks. None when out of memory.
 pub fn requests(alloc: Global, block: bool) -> Option<u64> {
     let report = one_run(alloc, Vec::new(alloc), block)?;
     Some(report.requests)

@@ -76,7 +76,7 @@ impl Host {
     }
 }
 
-/// A sum over all bits on the line. None for want of memory.
+/// A sum over all bits on the line. None when out of memory.
 pub fn checksum(alloc: Global) -> Option<u64> {
     let memory = Memory::new(alloc, 0x2000_0000, 16, 16).ok()?;
     let target = Clocked::new(memory, QUIRKS);

@@ -14,7 +14,7 @@ use std::alloc::Global;
 use std::process::ExitCode;
 use std::{env, io};
 
-// What is printed of the workload with this name. None for want of memory.
+// What is printed of the workload with this name. None when out of memory.
 fn figure(alloc: Global, name: Option<&str>) -> Option<u64> {
     match name {
         Some("cycles") => cycles::checksum(alloc),

@@ -36,7 +36,7 @@ pub const QUIRKS: Quirks = Quirks {
     filler: 0,
 };
 
-/// Reads, and bursts of writes. A few of the addresses are behind the memory.
+/// Reads, and bursts of writes. A few of the addresses are past the end of the memory.
 #[derive(Drop)]
 struct Source {
     random: Random,
@@ -99,7 +99,7 @@ pub fn are_legal(marks: &[Mark]) -> bool
     marks.iter().all(|mark| mark.legal())
 }
 
-// One run of the list under other marks. None for want of memory.
+// One run of the list under other marks. None when out of memory.
 fn one_run(alloc: Global, accesses: &[Access], random: &mut Random) -> Option<Report> {
     let plan = plan(alloc, random).ok()?;
     if !are_legal(&plan) {
@@ -138,7 +138,7 @@ pub fn added(sum: u64, report: &Report) -> u64 {
     sum
 }
 
-/// A sum over the reports of twenty runs. None for want of memory.
+/// A sum over the reports of twenty runs. None when out of memory.
 pub fn checksum(alloc: Global) -> Option<u64> {
     let mut random = Random(SEED);
     let accesses = accesses(alloc, random).ok()?;
@@ -150,7 +150,7 @@ pub fn checksum(alloc: Global) -> Option<u64> {
     Some(sum)
 }
 
-/// A sum over the reports of five runs clock by clock. None for want of memory.
+/// A sum over the reports of five runs clock by clock. None when out of memory.
 pub fn clocked_checksum(alloc: Global) -> Option<u64> {
     let mut random = Random(SEED);
     let accesses = accesses(alloc, random).ok()?;

@@ -41,7 +41,7 @@ pub simple_and_free : is_simple_and_free swd_app ≡ true
 unfolding clap_on_literals
 simple_and_free = refl
 
--- where nothing is wrong with the words, any refusal is for want of memory
+-- where nothing is wrong with the words, any refusal is out of memory
 pub refused_for_memory : (kinds : Kinds) (answer : Result Line LineFault) → kinds ≡ [] → IfErr answer (IsRefusal kinds)
 refused_for_memory kinds (Ok line) none = tt
 refused_for_memory kinds (Err Memory) none = tt

@@ -101,12 +101,12 @@ pub record IsTargetOf (target : TargetLine) (rows : List Row) : Type 0 where
   pub log : option_map string_bytes target.log ≡ first_of (codes "log") rows
   pub trace : option_map string_bytes target.trace ≡ first_of (codes "trace") rows
 
--- a fault of this kind, or want of memory
+-- a fault of this kind, or out of memory
 abbrev pub IsOfKind : ErrorKind → LineFault → Type 0
 IsOfKind kind Memory = Unit {0}
 IsOfKind kind (Clap error) = kind_of error ≡ kind
 
--- Words are refused for a mistake of one of these kinds, where they have one, or for want of memory.
+-- Words are refused for a mistake of one of these kinds, where they have one, or when out of memory.
 abbrev pub IsRefusal : Kinds → LineFault → Type 0
 IsRefusal kinds Memory = Unit {0}
 IsRefusal kinds (Clap error) = HasKind kinds error ⊎ (kinds ≡ [])

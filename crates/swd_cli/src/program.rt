@@ -117,7 +117,7 @@ fn perform<R: Read, F: Files, O: Write, E: Write>(
     }
 }
 
-// Opens the plan, and runs the script under it. Without a plan nothing befalls the requests.
+// Opens the plan, and runs the script under it. Without a plan nothing happens to the requests.
 fn perform_run<S: Read, F: Files, O: Write, E: Write>(
     alloc: Global,
     run: &RunLine,

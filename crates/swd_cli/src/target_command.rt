@@ -13,7 +13,7 @@ use swd_clocked::MarkedClocked;
 use swd_io::send;
 use swd_run::{TargetFault, read_target, write_log};
 
-/// Opens the plan, and serves a host at the target of the script. Without a plan nothing befalls the
+/// Opens the plan, and serves a host at the target of the script. Without a plan nothing happens to the
 /// requests.
 pub fn perform_target<S: Read, I: Read, F: Files, O: Write, E: Write, A: Allocator + Copy>(
     alloc: A,

@@ -1,4 +1,4 @@
-//! A simulated target, clock by clock, at the end of a wire, with a plan of what befalls each request.
+//! A simulated target, clock by clock, at the end of a wire, with a plan of what happens to each request.
 ghost use Rattle.std.specs.Prelude.{◌≡◌, ◌<◌, ◌^◌, true, IfOk, IfErr};
 ghost use Rattle.swd_port.specs.declared.wire.Due.TheVariants.{Nothing, Take, Give, Pass};
 ghost use Rattle.swd_port.specs.Port.{idle_link, made};

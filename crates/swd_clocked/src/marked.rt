@@ -22,7 +22,7 @@ use swd_target::{Memory, Quirks};
 const UNSEEN: u8 = 4;
 
 /// A simulated target and the wire to it, clock by clock, for any host. Each request uses the next
-/// mark of the plan, which says what befalls it; after the plan's end all marks are `Clean`.
+/// mark of the plan, which says what happens to it; after the plan's end all marks are `Clean`.
 ///
 /// A request is eight bits that are one, where the target awaits one: what a host sends elsewhere,
 /// and what is no request, uses no mark. It takes every sequence of cycles.

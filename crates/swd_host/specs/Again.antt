@@ -92,7 +92,7 @@ pub record GoesAgain (js : List ℕ) (list : List Access) (m : PlainMemory) (ear
 pub record ResumeFits (list : List Access) (tries : ℕ) (earlier told : Told) (s t : Port) : Type 0 where
   pub again : (js : List ℕ) (m : PlainMemory) → AgainThen js list m earlier s → HasRoom js list m
       → GoesAgain js list m earlier told t
-  -- where it ends early, it can be gone on with again
+  -- where it ends early, it can be resumed again
   pub ends : EndsAt told.ended tries s t
   pub stops_only : t.tally.lost ≡ s.tally.lost → t.tally.disturbed ≤ s.tally.disturbed + tries → told.ended ≡ All
   -- the requests of this call alone

@@ -1,8 +1,8 @@
-//! Marks: what befalls the requests of a wire.
+//! Marks: what happens to the requests of a wire.
 ghost use Rattle.std.specs.Prelude.{◌≡◌, ◌↔◌, IsTrue};
 ghost use Rattle.swd_port.specs.Choices.{IsMark, loses};
 
-/// What befalls a request.
+/// What happens to a request.
 #[derive(Clone, Copy, Debug, PartialEq, Eq)]
 pub enum Mark {
     /// Nothing.

@@ -1,4 +1,4 @@
-//! Texts of a run: the script with its accesses, and the plan of what befalls the requests.
+//! Texts of a run: the script with its accesses, and the plan of what happens to the requests.
 #![tactic(auto)]
 
 mod command;

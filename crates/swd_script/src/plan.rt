@@ -1,4 +1,4 @@
-//! Plans: what befalls each request.
+//! Plans: what happens to each request.
 ghost use Rattle.std.specs.Prelude.{◌≡◌, ◌++◌, ◌∷◌, [], ℕ, List, Some, Ok, OnOk, IfErr, IfOk, IfSome};
 ghost use Rattle.swd_io.specs.Pieces.{IsText, IsUnread};
 ghost use Rattle.swd_script.specs.Numerals.{decimal_of as decimal_in};

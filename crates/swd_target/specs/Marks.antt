@@ -4,7 +4,7 @@ use Rattle.swd_port.specs.declared.mark.Mark.{Mark}
 use Rattle.swd_port.specs.declared.mark.Mark.TheVariants.{Clean, Flip, Mute}
 use Rattle.swd_port.specs.Choices.{IsMark}
 
--- the mark of a request by its number, counted from 0: after the end of the plan nothing befalls a request
+-- the mark of a request by its number, counted from 0: after the end of the plan nothing happens to a request
 abbrev pub mark_at : List Mark → ℕ → Mark
 mark_at plan number = unwrap_or (slice_get plan number) Clean
 

@@ -7,7 +7,7 @@ ghost use Rattle.swd_target.specs.Marks.{is_legal, IsPlan};
 use std::alloc::{Allocator, Global};
 use swd_port::{Count, Mark};
 
-/// The marks of a simulated wire's requests, in their order. After the last one nothing befalls a
+/// The marks of a simulated wire's requests, in their order. After the last one nothing happens to a
 /// request.
 #[derive(Drop)]
 pub struct Plan<A: Allocator = Global> {

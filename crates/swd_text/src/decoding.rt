@@ -10,8 +10,8 @@ use swd_io::read_pieces;
 /// may follow: what a read decides goes out before the next read. It takes no memory, and its time is
 /// linear in the text.
 ///
-/// At `Ok` the listing of the whole text stands written. At `Text` and `Read` the lines of the items
-/// that were decided before stand written, and nothing for undecided bits. At `Write` exactly the
+/// At `Ok` the listing of the whole text has been written. At `Text` and `Read` the lines of the items
+/// that were decided before have been written, and nothing for undecided bits. At `Write` exactly the
 /// first `written` bytes of that went out. The first fault that is met is answered, but where the
 /// writer fails in what stands before it, that is. Nothing is tried again.
 pub fn decode_text<R: Read, W: Write>(reader: &mut R, writer: &mut W) -> Result<(), EngineFault>

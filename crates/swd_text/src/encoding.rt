@@ -68,7 +68,7 @@ fn fault_of(fault: ListFault) -> EngineFault
 /// before the whole list was read and found normal. Memory is taken for the items alone; time is
 /// linear in the listing and in what is written.
 ///
-/// At `Ok` the trace text of all items stands written. At `Write` exactly its first `written` bytes
+/// At `Ok` the trace text of all items has been written. At `Write` exactly its first `written` bytes
 /// went out. At `List`, `Read` and `Memory` nothing did. Nothing is tried again.
 pub fn encode_text<R: Read, W: Write, A: Allocator>(
     alloc: A,

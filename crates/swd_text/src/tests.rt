@@ -307,7 +307,7 @@ fn encoding_with_memory_refused(rt: HostRuntime) -> Result<(), Fail> {
 
 #[test]
 fn lines_go_out_before_the_next_read(rt: HostRuntime) -> Result<(), Fail> {
-    // Two transactions, and how many bytes of their lines stand written before each read.
+    // Two transactions, and how many bytes of their lines have been written before each read.
     let mut trace = Vec::new(rt.alloc());
     trace.extend_from_slice(DPIDR_READ)?;
     trace.extend_from_slice(b"\n")?;

@@ -98,7 +98,7 @@ fn is_told<R: Abort>(rt: &R, name: &str, told: Option<Told>, wanted: Wanted) {
     assert_eq!(rt; told.answers.as_slice(), wanted.answers, "{name}");
 }
 
-// The engine in the caller's memory, and where the list is gone on with.
+// The engine in the caller's memory, and where the list is resumed.
 fn comes_to<R: Abort>(
     rt: &R,
     alloc: Global,

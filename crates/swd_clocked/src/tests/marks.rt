@@ -16,7 +16,7 @@ pub(super) fn are_legal(marks: &[Mark]) -> bool
     marks.iter().all(|mark| mark.legal())
 }
 
-// A bench with one word, under this plan. None where a mark isn't legal, or for want of memory.
+// A bench with one word, under this plan. None where a mark isn't legal, or when out of memory.
 fn bench_of(alloc: Global, plan: Vec<Mark>) -> Option<ClockedBench> {
     if !are_legal(&plan) {
         return None;

@@ -1,4 +1,4 @@
-//! Want of memory for a clocked bench.
+//! Out of memory: a clocked bench.
 use super::marks::are_legal;
 use crate::ClockedBench;
 use linked_list_allocator::LocalHeap;
@@ -22,7 +22,7 @@ const QUIRKS: Quirks = Quirks {
 
 const MARKS: [Mark; 3] = [Mark::Wait, Mark::Flip(32), Mark::Mute(2)];
 
-// Sixteen words from 20000000, the first of them written. None for want of memory.
+// Sixteen words from 20000000, the first of them written. None when out of memory.
 fn written<A: Allocator + Copy>(alloc: A) -> Option<Memory<A>> {
     let memory = Memory::new(alloc, BASE, 16, 16).ok()?;
     let mut target = Target::new(memory, QUIRKS);

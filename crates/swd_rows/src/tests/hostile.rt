@@ -41,7 +41,7 @@ fn four_log() -> [Transfer; 4] {
     ]
 }
 
-// Both lists send fifteen requests where nothing befalls them.
+// Both lists send fifteen requests where nothing happens to them.
 const REQUESTS: usize = 15;
 
 // The marks of a run, so that it is told which one went wrong.

@@ -1,4 +1,4 @@
-//! Lists that a host doesn't do, and want of memory.
+//! Lists that a host doesn't do, and out of memory.
 use super::items::recorder_over;
 use super::row::{
     BASE, QUIRKS, READ, Run, WORD, WRITE, read, report_of, run_of, target_of, written,

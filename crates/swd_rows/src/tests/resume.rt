@@ -220,7 +220,7 @@ fn a_run_goes_on_after_each_lost_acknowledgement(rt: HostRuntime) -> Result<(), 
     Ok(())
 }
 
-// The run, gone on with twice.
+// The run, resumed twice.
 fn gone_on_twice<S: Simulated + Drop, R: Abort>(
     rt: &R,
     alloc: Global,
@@ -299,7 +299,7 @@ fn tried_on<S: Simulated + Drop, A: Allocator>(
 }
 
 // Whether a heap of this size is too small to go on with sixteen reads, of which one was answered. Where it
-// is, they are gone on with on another, as if they had not been tried.
+// is, they are resumed on another, as if they had not been tried.
 fn is_refused<S: Simulated + Drop, R: Abort>(
     rt: &R,
     global: Global,

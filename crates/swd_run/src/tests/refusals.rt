@@ -1,4 +1,4 @@
-//! Runs on heaps of each size: where memory ended is told, and nothing stands written but what was
+//! Runs on heaps of each size: where memory ended is told, and nothing has been written but what was
 //! decided before.
 use crate::{run_text, run_traced};
 use linked_list_allocator::LocalHeap;
@@ -178,7 +178,7 @@ fn a_traced_run_where_memory_ends(rt: HostRuntime) -> Result<(), Fail> {
         }
     }
     stages.are(&rt, &TRACED_STAGES);
-    // What was kept before memory was refused stands written: more than the opening.
+    // What was kept before memory was refused has been written: more than the opening.
     assert!(rt; longest_cut > 14 * 47);
     Ok(())
 }

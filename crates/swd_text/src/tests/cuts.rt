@@ -61,7 +61,7 @@ fn a_trace_cut_off_at_each_bit(rt: HostRuntime) -> Result<(), Fail> {
         let listing = listing_of(rt.alloc(), bits)?;
         let again = bits_of(rt.alloc(), listing.as_slice())?;
         assert!(rt; again.as_slice() == bits, "after {len} bits");
-        // What stands written at a failed read is decided: the beginning of every continuation's listing.
+        // What has been written at a failed read is decided: the beginning of every continuation's listing.
         let mut reader = CutReader { text: bits };
         let mut decided = Vec::new(rt.alloc());
         let answer = decode_text(&mut reader, &mut decided);
