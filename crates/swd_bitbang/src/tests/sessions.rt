@@ -90,16 +90,15 @@ fn comes_out<R: Read>(
     Ok(())
 }
 
-// The same through each reader: whole, byte by byte, in two pieces, and without its end.
+// The same through each reader: whole, byte by byte, and without its end.
 fn comes_out_however_read(rt: &impl Abort, alloc: Global, session: &Recorded) -> Result<(), Fail> {
     let mut whole = session.characters;
     comes_out(rt, alloc, session, &mut whole, Served::Quit)?;
     let mut bytes = FailingReader::new(session.characters, usize::MAX);
     comes_out(rt, alloc, session, &mut bytes, Served::Quit)?;
-    let (first, second) = session.characters.split_at_checked(777).ok_or("cut")?;
-    let mut pieces = first.chain(second);
-    comes_out(rt, alloc, session, &mut pieces, Served::Quit)?;
-    let (_, begun) = session.characters.split_last().ok_or("empty")?;
+    let Some((_, begun)) = session.characters.split_last() else {
+        return Err(Fail::from("the session is empty"));
+    };
     let mut begun = begun;
     comes_out(rt, alloc, session, &mut begun, Served::Ended)
 }
