@@ -124,7 +124,7 @@ pub request_counted : RequestCounted
 request_counted q seen s t (a, b, mark, c, first, now, last) =
     let k : Kept s a = kept s a first in let l : Kept b t = kept b t last in
     let n : t.tally ≡ tally_after mark s.tally = l.tally ∙ ap (λ p. p.tally) now.after ∙ ap (tally_after mark) k.tally in
-    let y : Steady a.target b.target = steady _ _ q.ap a.target b.target (ap (λ p. p.target) now.after) in
+    let y : Steady a.target b.target = steady _ _ _ q.ap a.target b.target (ap (λ p. p.target) now.after) in
     record {
       asked = ap (λ n. n.asked) n;
       disturbed_least = grows _ _ _ (ap (λ n. n.disturbed) n);
@@ -134,6 +134,7 @@ request_counted q seen s t (a, b, mark, c, first, now, last) =
       write_error = l.write_error ∙ y.write_error ∙ k.write_error;
       debug_power = l.debug_power ∙ y.debug_power ∙ k.debug_power;
       system_power = l.system_power ∙ y.system_power ∙ k.system_power;
+      seen = λ e. l.power_up ∙ y.seen (k.power_up ∙ e);
       select = l.select ∙ y.select ∙ k.select;
       increments = l.increments ∙ y.increments ∙ k.increments;
       csw_upper = l.csw_upper ∙ y.csw_upper ∙ k.csw_upper;

@@ -6,7 +6,7 @@ use Rattle.swd_bits.specs.declared.request.Request.{Request}
 use Rattle.swd_port.specs.Registers.{ctrl_stat_read}
 use Rattle.swd_port.specs.PlainMemory.{PlainMemory, word_at}
 use Rattle.swd_port.specs.Port.{Port, Target, Register, DpidrRead, CtrlStatRead, ResendRead, DpZeroRead, Drw, Reads, Writes, register}
-use Rattle.swd_port.specs.Choices.{Mark, IsMark, Choice, IsChoice}
+use Rattle.swd_port.specs.Choices.{Mark, IsMark, is_wait, Choice, IsChoice}
 use Rattle.swd_port.specs.Answers.{Reply, Okay, Waits, Faults, Silent, seen_at}
 use Rattle.swd_port.specs.Completion.{completed, fails, buffer_after}
 use Rattle.swd_port.specs.Asking.{value_in, status_in, reply_in, after_reply, IsSettled, IsWordRead}
@@ -25,8 +25,8 @@ known : (o : Option ℕ) → IfSome o (λ word. word < 2 ^ 32) → unwrap_or o 0
 known None h = omega arith
 known (Some word) h = h
 
-status_word : (a b d e f : Bool) → ctrl_stat_read a b d e f < 2 ^ 32
-status_word a b d e f = grind arith
+status_word : (a b d e f g : Bool) → ctrl_stat_read a b d e f g < 2 ^ 32
+status_word a b d e f g = grind arith
 
 -- the read buffer, once the pending transfer took effect
 completed_buffer : (pending : Option Drw) (failed : Bool) (at : ℕ) (m : PlainMemory) (buffer : Option ℕ) →
@@ -38,13 +38,13 @@ completed_buffer (Some Reads) false at m buffer words h = words at
 completed_buffer (Some (Writes word)) true at m buffer words h = tt
 completed_buffer (Some (Writes word)) false at m buffer words h = h
 
-value_word : (r : Register) (x : Target) → x.identification < 2 ^ 32 → IfSome x.buffer (λ word. word < 2 ^ 32) →
-    IfSome x.last_returned (λ word. word < 2 ^ 32) → value_in r 0 x < 2 ^ 32
-value_word DpidrRead x i b l = i
-value_word CtrlStatRead x i b l = status_word x.sticky_error x.read_ok x.write_error x.debug_power x.system_power
-value_word ResendRead x i b l = known x.last_returned l
-value_word DpZeroRead x i b l = omega arith
-value_word r x i b l = known x.buffer b
+value_word : (busy : Bool) (r : Register) (x : Target) → x.identification < 2 ^ 32 → IfSome x.buffer (λ word. word < 2 ^ 32) →
+    IfSome x.last_returned (λ word. word < 2 ^ 32) → value_in busy r 0 x < 2 ^ 32
+value_word busy DpidrRead x i b l = i
+value_word busy CtrlStatRead x i b l = status_word x.sticky_error x.read_ok x.write_error x.debug_power x.system_power _
+value_word busy ResendRead x i b l = known x.last_returned l
+value_word busy DpZeroRead x i b l = omega arith
+value_word busy r x i b l = known x.buffer b
 
 settled : (reply : Reply) (r : Register) → IsSettled reply r None
 settled Okay r = λ e. refl
@@ -77,8 +77,8 @@ each_request_goes mark s q legal words =
         legal = legal;
         choice = zeros_are;
         settled = settled reply r;
-        word = word_read reply q.read (value_in r 0 a.target)
-            (value_word r a.target words.identification buffer words.last_returned);
+        word = word_read reply q.read (value_in (is_wait mark) r 0 a.target)
+            (value_word (is_wait mark) r a.target words.identification buffer words.last_returned);
         sees = sees_seen_at mark (reply_in mark (completed zeros s).target q) legal (deaf_silent mark _ _);
         after = refl;
       },

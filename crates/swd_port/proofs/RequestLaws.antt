@@ -1,14 +1,14 @@
 -- Laws of requests: what each answer leaves, whatever the mark.
 use Rattle.std.proofs.Common.{◌≡◌, ◌≢◌, ◌+◌, ◌<◌, ◌≤◌, ◌^◌, ℕ, Bool, true, false, refl, sym, ap, subst, inl, inr, arith, ◌∙◌}
-use Rattle.std.specs.Prelude.{Option, Some, None, ◌⊎◌, ◌||◌, if◌then◌else◌}
+use Rattle.std.specs.Prelude.{Option, Some, None, ◌⊎◌, ◌||◌, ◌&&◌, if◌then◌else◌}
 use Rattle.swd_bits.specs.declared.request.Request.{Request}
 use Rattle.swd_port.specs.declared.wire.Due.TheVariants.{Lost}
 use Rattle.swd_port.specs.PlainMemory.{PlainMemory}
 use Rattle.swd_port.specs.declared.access.Access.{Access}
-use Rattle.swd_port.specs.Port.{Port, Target, Register, DpidrRead, DrwRead, Drw, Reset, Unreset, Live, register}
+use Rattle.swd_port.specs.Port.{Port, Target, PowerUp, Seen, Register, DpidrRead, DrwRead, Drw, Reset, Unreset, Live, register}
 use Rattle.swd_port.specs.Choices.{Mark, Clean, Wait, Flip, Deaf, Mute, IsMark, Choice, IsChoice, is_wait, is_deaf, flip_of, disturbs}
-use Rattle.swd_port.specs.Answers.{Reply, Okay, Waits, Faults, Silent, is_exempt, is_unpowered, seen_at, Sees, IsNoAcknowledgement, due_after}
-use Rattle.swd_port.specs.Asking.{AsksNow, after_reply, reply_in, IsSettled, IsWordRead, value_in, pending_once_read, after_okay, target_after}
+use Rattle.swd_port.specs.Answers.{Reply, Okay, Waits, Faults, Silent, is_exempt, is_there, is_unpowered, seen_at, Sees, IsNoAcknowledgement, due_after}
+use Rattle.swd_port.specs.Asking.{AsksNow, after_reply, reply_in, IsSettled, IsWordRead, value_in, has_power, power_up_after, pending_once_read, after_okay, target_after}
 use Rattle.swd_port.specs.Outcomes.{Steady, Unmoved, Stays, Defers, Refuses, Accepts, Heard, SeesOkay, SeesFault, SeesNone, OkayOrLost, OkayWaitOrLost, FaultOrLost, okay, wait, lost, fault}
 use Rattle.swd_port.specs.Completion.{Completes}
 use Rattle.swd_port.specs.Moves.{Around, Kept}
@@ -22,7 +22,7 @@ pub record Told (mark : Mark) (c : Choice) (reply : Reply) (r : Register) (s : P
   pub legal : IsMark mark
   pub choice : IsChoice c
   pub settled : IsSettled reply r s.target.pending
-  pub word : IsWordRead reply q.read (value_in r c.filler s.target)
+  pub word : IsWordRead reply q.read (value_in (is_wait mark) r c.filler s.target)
   pub sees : Sees mark reply seen
   pub after : t ≡ after_reply mark reply r q c s
 
@@ -38,14 +38,17 @@ told mark c reply r s q seen t is named h =
       after = h.after;
     }))
 
-pub steady_after : (reply : Reply) (r : Register) (ap : Bool) (x : Target) → Steady x (target_after reply r ap x)
-steady_after Okay r ap x = record { write_error = refl; debug_power = refl; system_power = refl; select = refl; increments = refl; csw_upper = refl; tar = refl; identification = refl; memory = refl }
-steady_after Waits r ap x = record { write_error = refl; debug_power = refl; system_power = refl; select = refl; increments = refl; csw_upper = refl; tar = refl; identification = refl; memory = refl }
-steady_after Faults r ap x = record { write_error = refl; debug_power = refl; system_power = refl; select = refl; increments = refl; csw_upper = refl; tar = refl; identification = refl; memory = refl }
-steady_after Silent r ap x = record { write_error = refl; debug_power = refl; system_power = refl; select = refl; increments = refl; csw_upper = refl; tar = refl; identification = refl; memory = refl }
+seen_stays : (busy : Bool) (r : Register) (u : PowerUp) → u ≡ Seen → power_up_after busy r u ≡ Seen
+seen_stays busy r u e = grind arith
 
-pub steady : (reply : Reply) (r : Register) (ap : Bool) (x y : Target) → y ≡ target_after reply r ap x → Steady x y
-steady reply r ap x y e = subst (Steady x) (sym e) (steady_after reply r ap x)
+pub steady_after : (busy : Bool) (reply : Reply) (r : Register) (ap : Bool) (x : Target) → Steady x (target_after busy reply r ap x)
+steady_after busy Okay r ap x = record { write_error = refl; debug_power = refl; system_power = refl; seen = seen_stays busy r x.power_up; select = refl; increments = refl; csw_upper = refl; tar = refl; identification = refl; memory = refl }
+steady_after busy Waits r ap x = record { write_error = refl; debug_power = refl; system_power = refl; seen = λ e. e; select = refl; increments = refl; csw_upper = refl; tar = refl; identification = refl; memory = refl }
+steady_after busy Faults r ap x = record { write_error = refl; debug_power = refl; system_power = refl; seen = λ e. e; select = refl; increments = refl; csw_upper = refl; tar = refl; identification = refl; memory = refl }
+steady_after busy Silent r ap x = record { write_error = refl; debug_power = refl; system_power = refl; seen = λ e. e; select = refl; increments = refl; csw_upper = refl; tar = refl; identification = refl; memory = refl }
+
+pub steady : (busy : Bool) (reply : Reply) (r : Register) (ap : Bool) (x y : Target) → y ≡ target_after busy reply r ap x → Steady x y
+steady busy reply r ap x y e = subst (Steady x) (sym e) (steady_after busy reply r ap x)
 
 pub or_false : (b : Bool) → (b || false) ≡ b
 or_false true = refl
@@ -65,11 +68,21 @@ word_read : (read : Bool) (value : ℕ) → IsWordRead Okay read value → read 
 word_read true value h e = h
 word_read false value h e = absurd (cc)
 
-accepts : (mark : Mark) (c : Choice) (r : Register) (s : Port) (q : Request) (seen : ℕ) (t : Port) → (after_okay r s.target).reset ≡ Live →
+busy_disturbed : (mark : Mark) (r : Register) (q : Request) (c : Choice) (s t : Port) → is_wait mark ≡ true → t ≡ after_reply mark Okay r q c s →
+    (flip_of mark ≡ None) × (t.tally.disturbed ≡ s.tally.disturbed + 1)
+busy_disturbed Wait r q c s t e after = (refl, ap (λ p. p.tally.disturbed) after)
+busy_disturbed Clean r q c s t e after = absurd (cc)
+busy_disturbed (Flip place) r q c s t e after = absurd (cc)
+busy_disturbed Deaf r q c s t e after = absurd (cc)
+busy_disturbed (Mute place) r q c s t e after = absurd (cc)
+
+accepts : (mark : Mark) (c : Choice) (r : Register) (s : Port) (q : Request) (seen : ℕ) (t : Port) → (after_okay (is_wait mark) r s.target).reset ≡ Live →
     Told mark c Okay r s q seen t → Accepts r q.read (flip_of mark) s t
 accepts mark c r s q seen t live h = record {
   target = ap (λ p. p.target) h.after;
   live = ap (λ p. p.target.reset) h.after ∙ live;
+  busy = is_wait mark;
+  disturbed = λ e. busy_disturbed mark r q c s t e h.after;
   settled = h.settled;
   filler = c.filler;
   filler_range = h.choice.filler;
@@ -105,7 +118,7 @@ mute_none : (place : ℕ) (c : Choice) (reply : Reply) (r : Register) (s : Port)
 mute_none place c reply r s q seen t h = sees_none (Mute place) c reply r s q seen t h h.sees (muted_due place reply q.read h.legal) (ap (λ p. p.tally.disturbed) h.after) (ap (λ p. p.tally.lost) h.after)
 
 -- an OK that is seen
-clean_okay : (c : Choice) (r : Register) (s : Port) (q : Request) (seen : ℕ) (t : Port) → (after_okay r s.target).reset ≡ Live → Told Clean c Okay r s q seen t → SeesOkay r q.read seen s t
+clean_okay : (c : Choice) (r : Register) (s : Port) (q : Request) (seen : ℕ) (t : Port) → (after_okay false r s.target).reset ≡ Live → Told Clean c Okay r s q seen t → SeesOkay r q.read seen s t
 clean_okay c r s q seen t live h = record {
   is = h.sees;
   due = ap (λ p. p.link.due) h.after;
@@ -115,7 +128,7 @@ clean_okay c r s q seen t live h = record {
   accepts = accepts Clean c r s q seen t live h;
 }
 
-wait_okay : (c : Choice) (r : Register) (s : Port) (q : Request) (seen : ℕ) (t : Port) → (after_okay r s.target).reset ≡ Live → Told Wait c Okay r s q seen t → SeesOkay r q.read seen s t
+wait_okay : (c : Choice) (r : Register) (s : Port) (q : Request) (seen : ℕ) (t : Port) → (after_okay true r s.target).reset ≡ Live → Told Wait c Okay r s q seen t → SeesOkay r q.read seen s t
 wait_okay c r s q seen t live h = record {
   is = h.sees;
   due = ap (λ p. p.link.due) h.after;
@@ -125,7 +138,7 @@ wait_okay c r s q seen t live h = record {
   accepts = accepts Wait c r s q seen t live h;
 }
 
-flip_okay : (place : ℕ) (c : Choice) (r : Register) (s : Port) (q : Request) (seen : ℕ) (t : Port) → (after_okay r s.target).reset ≡ Live → Told (Flip place) c Okay r s q seen t → SeesOkay r q.read seen s t
+flip_okay : (place : ℕ) (c : Choice) (r : Register) (s : Port) (q : Request) (seen : ℕ) (t : Port) → (after_okay false r s.target).reset ≡ Live → Told (Flip place) c Okay r s q seen t → SeesOkay r q.read seen s t
 flip_okay place c r s q seen t live h = record {
   is = h.sees;
   due = ap (λ p. p.link.due) h.after;
@@ -136,7 +149,7 @@ flip_okay place c r s q seen t live h = record {
 }
 
 -- OK, unless it is lost
-okay_told : (mark : Mark) (c : Choice) (r : Register) (s : Port) (q : Request) (seen : ℕ) (t : Port) → (after_okay r s.target).reset ≡ Live →
+okay_told : (mark : Mark) (c : Choice) (r : Register) (s : Port) (q : Request) (seen : ℕ) (t : Port) → (after_okay (is_wait mark) r s.target).reset ≡ Live →
     Told mark c (if is_deaf mark then Silent else Okay) r s q seen t → OkayOrLost r q.read seen s t
 okay_told Clean c r s q seen t live h = okay (clean_okay c r s q seen t live h)
 okay_told Wait c r s q seen t live h = okay (wait_okay c r s q seen t live h)
@@ -145,7 +158,7 @@ okay_told Deaf c r s q seen t live h = lost (deaf_none c r s q seen t h) (inl (s
 okay_told (Mute place) c r s q seen t live h = lost (mute_none place c Okay r s q seen t h) (inr (accepts (Mute place) c r s q seen t live h))
 
 -- OK, or WAIT at a Wait mark, unless it is lost
-free_told : (mark : Mark) (c : Choice) (r : Register) (s : Port) (q : Request) (seen : ℕ) (t : Port) → (after_okay r s.target).reset ≡ Live →
+free_told : (mark : Mark) (c : Choice) (r : Register) (s : Port) (q : Request) (seen : ℕ) (t : Port) → (after_okay (is_wait mark) r s.target).reset ≡ Live →
     Told mark c (if is_deaf mark then Silent else if is_wait mark then Waits else Okay) r s q seen t → OkayWaitOrLost r q.read seen s t
 free_told Clean c r s q seen t live h = okay (clean_okay c r s q seen t live h)
 free_told Wait c r s q seen t live h = wait (record {
@@ -181,7 +194,7 @@ fault_told (Mute place) c r s q seen t plain h = lost (mute_none place c Faults 
 reply_exempt : (mark : Mark) (q : Request) (x : Target) → is_exempt (register x.select q) ≡ true → x.reset ≡ Live → reply_in mark x q ≡ (if is_deaf mark then Silent else Okay)
 reply_exempt mark q x exempt live = grind arith
 
-reply_free : (mark : Mark) (q : Request) (x : Target) → is_exempt (register x.select q) ≡ false → x.reset ≡ Live → x.write_error ≡ false → x.sticky_error ≡ false → (q.ap ≡ true → x.debug_power ≡ true) →
+reply_free : (mark : Mark) (q : Request) (x : Target) → is_exempt (register x.select q) ≡ false → x.reset ≡ Live → x.write_error ≡ false → x.sticky_error ≡ false → (q.ap ≡ true → has_power x ≡ true) →
     reply_in mark x q ≡ (if is_deaf mark then Silent else if is_wait mark then Waits else Okay)
 reply_free mark q x plain live write sticky power = grind arith
 
@@ -190,21 +203,21 @@ reply_flag : (mark : Mark) (q : Request) (x : Target) → is_exempt (register x.
 reply_flag mark q x plain live (inl flag) = grind arith
 reply_flag mark q x plain live (inr flag) = grind arith
 
-reply_unpowered : (mark : Mark) (q : Request) (x : Target) → is_exempt (register x.select q) ≡ false → x.reset ≡ Live → q.ap ≡ true → x.debug_power ≡ false →
+reply_unpowered : (mark : Mark) (q : Request) (x : Target) → is_exempt (register x.select q) ≡ false → x.reset ≡ Live → q.ap ≡ true → has_power x ≡ false →
     reply_in mark x q ≡ (if is_deaf mark then Silent else Faults)
 reply_unpowered mark q x plain live ap power = grind arith
 
 reply_identification : (mark : Mark) (q : Request) (x : Target) → register x.select q ≡ DpidrRead → x.reset ≢ Unreset → reply_in mark x q ≡ (if is_deaf mark then Silent else Okay)
 reply_identification mark q x named reset = grind arith
 
-live_stays : (r : Register) (x : Target) → x.reset ≡ Live → (after_okay r x).reset ≡ Live
-live_stays r x e = grind arith
+live_stays : (busy : Bool) (r : Register) (x : Target) → x.reset ≡ Live → (after_okay busy r x).reset ≡ Live
+live_stays busy r x e = grind arith
 
 -- one request, with no completion
 pub exempt_now : (mark : Mark) (c : Choice) (r : Register) (q : Request) (seen : ℕ) (s t : Port) → register s.target.select q ≡ r → is_exempt r ≡ true → s.target.reset ≡ Live →
     AsksNow mark c s q seen t → OkayOrLost r q.read seen s t
 exempt_now mark c r q seen s t named exempt live h =
-    okay_told mark c r s q seen t (live_stays r s.target live) (told mark c _ r s q seen t (reply_exempt mark q s.target (ap is_exempt named ∙ exempt) live) named h)
+    okay_told mark c r s q seen t (live_stays (is_wait mark) r s.target live) (told mark c _ r s q seen t (reply_exempt mark q s.target (ap is_exempt named ∙ exempt) live) named h)
 
 pub identification_now : (mark : Mark) (c : Choice) (q : Request) (seen : ℕ) (s t : Port) → register s.target.select q ≡ DpidrRead → s.target.reset ≢ Unreset →
     AsksNow mark c s q seen t → OkayOrLost DpidrRead q.read seen s t
@@ -216,14 +229,19 @@ flagged_now mark c r q seen s t named plain live flag h =
     fault_told mark c r s q seen t plain (told mark c _ r s q seen t (reply_flag mark q s.target (ap is_exempt named ∙ plain) live flag) named h)
 
 pub unpowered_now : (mark : Mark) (c : Choice) (r : Register) (q : Request) (seen : ℕ) (s t : Port) → register s.target.select q ≡ r → is_exempt r ≡ false → s.target.reset ≡ Live →
-    q.ap ≡ true → s.target.debug_power ≡ false → AsksNow mark c s q seen t → FaultOrLost r q.ap seen s t
+    q.ap ≡ true → has_power s.target ≡ false → AsksNow mark c s q seen t → FaultOrLost r q.ap seen s t
 unpowered_now mark c r q seen s t named plain live ap_access power h =
     fault_told mark c r s q seen t plain (told mark c _ r s q seen t (reply_unpowered mark q s.target (ap is_exempt named ∙ plain) live ap_access power) named h)
 
 pub free_now : (mark : Mark) (c : Choice) (r : Register) (q : Request) (seen : ℕ) (s t : Port) → register s.target.select q ≡ r → is_exempt r ≡ false → s.target.reset ≡ Live → s.target.write_error ≡ false → s.target.sticky_error ≡ false →
-    (q.ap ≡ true → s.target.debug_power ≡ true) → AsksNow mark c s q seen t → OkayWaitOrLost r q.read seen s t
+    (q.ap ≡ true → has_power s.target ≡ true) → AsksNow mark c s q seen t → OkayWaitOrLost r q.read seen s t
 free_now mark c r q seen s t named plain live write sticky power h =
-    free_told mark c r s q seen t (live_stays r s.target live) (told mark c _ r s q seen t (reply_free mark q s.target (ap is_exempt named ∙ plain) live write sticky power) named h)
+    free_told mark c r s q seen t (live_stays (is_wait mark) r s.target live) (told mark c _ r s q seen t (reply_free mark q s.target (ap is_exempt named ∙ plain) live write sticky power) named h)
+
+-- a completion leaves the power as it is
+power_kept : (s a : Port) → Kept s a → has_power a.target ≡ has_power s.target
+power_kept s a k =
+    ap (λ b. b && is_there a.target.power_up) k.debug_power ∙ ap (λ u. s.target.debug_power && is_there u) k.power_up
 
 -- the whole call, with its completions
 pub exempt_request : ExemptRequest
@@ -246,7 +264,7 @@ flagged_request r q seen s t named plain live flag (a, b, mark, c, first, now, l
     (a, b, first, flagged_now mark c r q seen a b (ap (λ x. register x q) k.select ∙ named) plain (k.reset ∙ live) (flag_stays s a k flag) now, last)
 
 free_or_fault : (mark : Mark) (c : Choice) (r : Register) (q : Request) (seen : ℕ) (s t : Port) → register s.target.select q ≡ r → is_exempt r ≡ false → s.target.reset ≡ Live → s.target.write_error ≡ false →
-    (q.ap ≡ true → s.target.debug_power ≡ true) → AsksNow mark c s q seen t → (b : Bool) → s.target.sticky_error ≡ b → FreeOrFault r q seen s t
+    (q.ap ≡ true → has_power s.target ≡ true) → AsksNow mark c s q seen t → (b : Bool) → s.target.sticky_error ≡ b → FreeOrFault r q seen s t
 free_or_fault mark c r q seen s t named plain live write power h false e = inl (e, free_now mark c r q seen s t named plain live write e power h)
 free_or_fault mark c r q seen s t named plain live write power h true e = inr (e, flagged_now mark c r q seen s t named plain live (inl e) h)
 
@@ -257,7 +275,7 @@ free_request r q seen s t named plain live write power (a, b, mark, c, first, no
       b,
       first,
       free_or_fault mark c r q seen a b (ap (λ x. register x q) k.select ∙ named) plain (k.reset ∙ live) (k.write_error ∙ write)
-          (λ e. k.debug_power ∙ power e) now a.target.sticky_error refl,
+          (λ e. power_kept s a k ∙ power e) now a.target.sticky_error refl,
       last,
     )
 
@@ -311,7 +329,7 @@ flagged_request_at_rest r q seen s t named plain live none flag h =
 pub unpowered_request_at_rest : UnpoweredRequestAtRest
 unpowered_request_at_rest r q seen s t named plain live none access power (a, b, mark, c, first, now, last) =
     let k : Kept s a = kept s a first in
-    let step : FaultOrLost r q.ap seen a b = unpowered_now mark c r q seen a b (ap (λ x. register x q) k.select ∙ named) plain (k.reset ∙ live) access (k.debug_power ∙ power) now in
+    let step : FaultOrLost r q.ap seen a b = unpowered_now mark c r q seen a b (ap (λ x. register x q) k.select ∙ named) plain (k.reset ∙ live) access (power_kept s a k ∙ power) now in
     exactly (FaultOrLost r q.ap seen) s t (λ p. fault_or_lost_rests r q.ap seen s p none) (at_rest (FaultOrLost r q.ap seen) s t none (a, b, first, step, last))
 
 free_at_rest : (r : Register) (q : Request) (seen : ℕ) (s b : Port) → s.target.sticky_error ≡ false → FreeOrFault r q seen s b → OkayWaitOrLost r q.read seen s b
@@ -333,7 +351,7 @@ powered true power h = rw (h refl) refl
 powered false power h = refl
 
 pub refused_with_power : RefusedWithPower
-refused_with_power r access s t h power = ap (λ x. x.sticky_error) h.target ∙ ap (λ x. s.target.sticky_error || x) (powered access s.target.debug_power power) ∙ or_false s.target.sticky_error
+refused_with_power r access s t h power = ap (λ x. x.sticky_error) h.target ∙ ap (λ x. s.target.sticky_error || x) (powered access (has_power s.target) power) ∙ or_false s.target.sticky_error
 
 -- what a lost request leaves
 starts_drw : (r : Register) (pending : Option Drw) → (pending_once_read r pending ≡ pending) ⊎ (r ≡ DrwRead)
@@ -341,22 +359,22 @@ starts_drw DrwRead pending = inr refl
 starts_drw r pending = inl refl
 
 pub lost_request : LostRequest
-lost_request r read s t (inl h) = subst (LeftByLost r s.target) (sym h.target) (steady_after Silent r false s.target, refl, inl refl)
-lost_request r read s t (inr h) = subst (LeftByLost r s.target) (sym h.target) (steady_after Okay r false s.target, refl, starts_drw r s.target.pending)
+lost_request r read s t (inl h) = subst (LeftByLost r s.target) (sym h.target) (steady_after false Silent r false s.target, refl, inl refl)
+lost_request r read s t (inr h) = subst (LeftByLost r s.target) (sym h.target) (steady_after h.busy Okay r false s.target, refl, starts_drw r s.target.pending)
 
 -- what it leaves in all cases
 unreset_other : (a b : Reset) → b ≡ Live → a ≢ Unreset → b ≢ Unreset
 unreset_other a b e other f = absurd (let g : Live ≡ Unreset = sym e ∙ f in cc)
 
 stays_unmoved : (s t : Port) → Stays s t → Unmoved s.target t.target
-stays_unmoved s t h = subst (Unmoved s.target) (sym h.target) (record { steady = steady_after Silent DpidrRead false s.target; sticky_error = refl; pending = refl; live = λ e. e; reset = λ e. e })
+stays_unmoved s t h = subst (Unmoved s.target) (sym h.target) (record { steady = steady_after false Silent DpidrRead false s.target; sticky_error = refl; pending = refl; live = λ e. e; reset = λ e. e })
 
 defers_unmoved : (r : Register) (s t : Port) → Defers r s t → Unmoved s.target t.target
-defers_unmoved r s t h = subst (Unmoved s.target) (sym h.target) (record { steady = steady_after Waits r false s.target; sticky_error = refl; pending = refl; live = λ e. e; reset = λ e. e })
+defers_unmoved r s t h = subst (Unmoved s.target) (sym h.target) (record { steady = steady_after false Waits r false s.target; sticky_error = refl; pending = refl; live = λ e. e; reset = λ e. e })
 
-refuses_unmoved : (r : Register) (access : Bool) (s t : Port) → (access ≡ true → s.target.debug_power ≡ true) → Refuses r access s t → Unmoved s.target t.target
+refuses_unmoved : (r : Register) (access : Bool) (s t : Port) → (access ≡ true → has_power s.target ≡ true) → Refuses r access s t → Unmoved s.target t.target
 refuses_unmoved r access s t power h = record {
-  steady = steady Faults r access s.target t.target h.target;
+  steady = steady false Faults r access s.target t.target h.target;
   sticky_error = refused_with_power r access s t h power;
   pending = ap (λ x. x.pending) h.target;
   live = λ e. ap (λ x. x.reset) h.target ∙ e;
@@ -365,7 +383,7 @@ refuses_unmoved r access s t power h = record {
 
 accepts_unmoved : (r : Register) (read : Bool) (flip : Option ℕ) (s t : Port) → r ≢ DrwRead → Accepts r read flip s t → Unmoved s.target t.target
 accepts_unmoved r read flip s t other h = record {
-  steady = steady Okay r false s.target t.target h.target;
+  steady = steady h.busy Okay r false s.target t.target h.target;
   sticky_error = ap (λ x. x.sticky_error) h.target;
   pending = ap (λ x. x.pending) h.target ∙ only_drw_starts r s.target.pending other;
   live = λ e. h.live;

@@ -11,52 +11,52 @@ use Rattle.swd_port.specs.Transfers.{Carries}
 use Rattle.swd_port.specs.Laws.WordsRead.{StatusWord, holds, IdentificationReturned, StatusReturned, BufferReturned, ValueResent, CarriedByRequest, CarriedWhereHeld, CarriedWhereRefused, CarriedWherePassed, CarriedByReset, Clears, FlagsCleared}
 
 -- CTRL/STAT
-sticky_held : (a b d e f : Bool) → holds 0x20 (ctrl_stat_read a b d e f) ≡ a
-sticky_held a b d e f = grind arith
+sticky_held : (a b d e f g : Bool) → holds 0x20 (ctrl_stat_read a b d e f g) ≡ a
+sticky_held a b d e f g = grind arith
 
-ok_held : (a b d e f : Bool) → holds 0x40 (ctrl_stat_read a b d e f) ≡ b
-ok_held a b d e f = grind arith
+ok_held : (a b d e f g : Bool) → holds 0x40 (ctrl_stat_read a b d e f g) ≡ b
+ok_held a b d e f g = grind arith
 
-write_held : (a b d e f : Bool) → holds 0x80 (ctrl_stat_read a b d e f) ≡ d
-write_held a b d e f = grind arith
+write_held : (a b d e f g : Bool) → holds 0x80 (ctrl_stat_read a b d e f g) ≡ d
+write_held a b d e f g = grind arith
 
-debug_held : (a b d e f : Bool) → holds 0x2000_0000 (ctrl_stat_read a b d e f) ≡ e
-debug_held a b d e f = grind arith
+debug_held : (a b d e f g : Bool) → holds 0x2000_0000 (ctrl_stat_read a b d e f g) ≡ (e && g)
+debug_held a b d e f g = grind arith
 
-system_held : (a b d e f : Bool) → holds 0x8000_0000 (ctrl_stat_read a b d e f) ≡ f
-system_held a b d e f = grind arith
+system_held : (a b d e f g : Bool) → holds 0x8000_0000 (ctrl_stat_read a b d e f g) ≡ (f && g)
+system_held a b d e f g = grind arith
 
-sticky_bit : (a b d e f : Bool) → bit_of 5 (ctrl_stat_read a b d e f) ≡ a
-sticky_bit a b d e f = grind arith
+sticky_bit : (a b d e f g : Bool) → bit_of 5 (ctrl_stat_read a b d e f g) ≡ a
+sticky_bit a b d e f g = grind arith
 
-ok_bit : (a b d e f : Bool) → bit_of 6 (ctrl_stat_read a b d e f) ≡ b
-ok_bit a b d e f = grind arith
+ok_bit : (a b d e f g : Bool) → bit_of 6 (ctrl_stat_read a b d e f g) ≡ b
+ok_bit a b d e f g = grind arith
 
-write_bit : (a b d e f : Bool) → bit_of 7 (ctrl_stat_read a b d e f) ≡ d
-write_bit a b d e f = grind arith
+write_bit : (a b d e f g : Bool) → bit_of 7 (ctrl_stat_read a b d e f g) ≡ d
+write_bit a b d e f g = grind arith
 
-debug_bit : (a b d e f : Bool) → bit_of 29 (ctrl_stat_read a b d e f) ≡ e
-debug_bit a b d e f = grind arith
+debug_bit : (a b d e f g : Bool) → bit_of 29 (ctrl_stat_read a b d e f g) ≡ (e && g)
+debug_bit a b d e f g = grind arith
 
-system_bit : (a b d e f : Bool) → bit_of 31 (ctrl_stat_read a b d e f) ≡ f
-system_bit a b d e f = grind arith
+system_bit : (a b d e f g : Bool) → bit_of 31 (ctrl_stat_read a b d e f g) ≡ (f && g)
+system_bit a b d e f g = grind arith
 
-status_range : (a b d e f : Bool) → ctrl_stat_read a b d e f < 2 ^ 32
-status_range a b d e f = grind arith
+status_range : (a b d e f g : Bool) → ctrl_stat_read a b d e f g < 2 ^ 32
+status_range a b d e f g = grind arith
 
 pub status_word : StatusWord
-status_word a b d e f = record {
-  sticky_held = sticky_held a b d e f;
-  ok_held = ok_held a b d e f;
-  write_held = write_held a b d e f;
-  debug_held = debug_held a b d e f;
-  system_held = system_held a b d e f;
-  sticky_bit = sticky_bit a b d e f;
-  ok_bit = ok_bit a b d e f;
-  write_bit = write_bit a b d e f;
-  debug_bit = debug_bit a b d e f;
-  system_bit = system_bit a b d e f;
-  range = status_range a b d e f;
+status_word a b d e f g = record {
+  sticky_held = sticky_held a b d e f g;
+  ok_held = ok_held a b d e f g;
+  write_held = write_held a b d e f g;
+  debug_held = debug_held a b d e f g;
+  system_held = system_held a b d e f g;
+  sticky_bit = sticky_bit a b d e f g;
+  ok_bit = ok_bit a b d e f g;
+  write_bit = write_bit a b d e f g;
+  debug_bit = debug_bit a b d e f g;
+  system_bit = system_bit a b d e f g;
+  range = status_range a b d e f g;
 }
 
 -- the read buffer and the last returned value
@@ -75,11 +75,11 @@ pub identification_returned : IdentificationReturned
 identification_returned flip s t h = record { line = h.line; range = h.value_range refl }
 
 pub status_returned : StatusReturned
-status_returned flip s t h = (record { line = h.line; range = h.value_range refl }, status_word s.target.sticky_error s.target.read_ok s.target.write_error s.target.debug_power s.target.system_power)
+status_returned flip s t h = (record { line = h.line; range = h.value_range refl }, status_word s.target.sticky_error s.target.read_ok s.target.write_error s.target.debug_power s.target.system_power _)
 
 pub buffer_returned : BufferReturned
 buffer_returned r flip value s t posted known h =
-    let is : value_in r h.filler s.target ≡ value = posted_value r s.target.identification (status_in s.target) h.filler s.target.last_returned s.target.buffer posted ∙ returned value h.filler s.target.buffer known in (
+    let is : value_in h.busy r h.filler s.target ≡ value = posted_value r s.target.identification (status_in h.busy s.target) h.filler s.target.last_returned s.target.buffer posted ∙ returned value h.filler s.target.buffer known in (
       record { line = h.line ∙ ap (λ n. Drives (flipped flip (phase_number n))) is; range = subst (λ n. n < 2 ^ 32) is (h.value_range refl) },
       ap (λ x. x.last_returned) h.target ∙ taken_by (is_posted r) s.target.buffer s.target.last_returned posted ∙ known,
     )
@@ -106,15 +106,15 @@ chosen b x y e = rw e refl
 abbrev Leaves : Target → Target → Type 0
 Leaves x y = Carries x y × (y.last_returned ≡ x.last_returned)
 
-exempt_carries : (r : Register) (x : Target) → is_exempt r ≡ true → Leaves x (after_okay r x)
-exempt_carries r x e = (
+exempt_carries : (busy : Bool) (r : Register) (x : Target) → is_exempt r ≡ true → Leaves x (after_okay busy r x)
+exempt_carries busy r x e = (
   record { pending = starts_none r x.pending e; tar = refl; memory = refl; sticky_error = refl; buffer = moves_none r _ x.tar x.buffer e; increments = refl },
   chosen (is_posted r) x.buffer x.last_returned (posts_none r e),
 )
 
 pub carried_by_request : CarriedByRequest
-carried_by_request r read flip s t (inl e) h = subst (Leaves s.target) (sym h.target) (exempt_carries r s.target e)
-carried_by_request r read flip s t (inr e) h = subst (Leaves s.target) (sym (h.target ∙ ap (λ x. after_okay x s.target) e)) (record { pending = refl; tar = refl; memory = refl; sticky_error = refl; buffer = refl; increments = refl }, refl)
+carried_by_request r read flip s t (inl e) h = subst (Leaves s.target) (sym h.target) (exempt_carries h.busy r s.target e)
+carried_by_request r read flip s t (inr e) h = subst (Leaves s.target) (sym (h.target ∙ ap (λ x. after_okay h.busy x s.target) e)) (record { pending = refl; tar = refl; memory = refl; sticky_error = refl; buffer = refl; increments = refl }, refl)
 
 pub carried_where_held : CarriedWhereHeld
 carried_where_held r s t (inl h) = subst (Carries s.target) (sym h.target) (record { pending = refl; tar = refl; memory = refl; sticky_error = refl; buffer = refl; increments = refl })

@@ -9,7 +9,7 @@ use Rattle.swd_port.specs.declared.access.Access.TheVariants.{Write}
 use Rattle.swd_port.specs.PlainMemory.{PlainMemory, succeeds_at}
 use Rattle.swd_port.specs.Phases.{phase_number}
 use Rattle.swd_port.specs.Port.{Port, Live, DrwWrite, made_target, made, register}
-use Rattle.swd_port.specs.Choices.{Mark, Clean, Wait, Flip, Deaf, Mute, IsMark, Choice, IsChoice}
+use Rattle.swd_port.specs.Choices.{Mark, Clean, Wait, Flip, Deaf, Mute, IsMark, is_wait, Choice, IsChoice}
 use Rattle.swd_port.specs.Answers.{Okay, seen_at}
 use Rattle.swd_port.specs.Completion.{completed}
 use Rattle.swd_port.specs.Asking.{Asks, reply_in, after_reply, value_in, IsSettled, IsWordRead}
@@ -38,7 +38,7 @@ after mark q s = after_reply mark (reply_in mark s.target q) (register s.target.
 
 -- such a request is a call of `ask`
 asks : (mark : Mark) (q : Request) (s : Port) → IsMark mark → IsSettled (reply_in mark s.target q) (register s.target.select q) s.target.pending →
-    IsWordRead (reply_in mark s.target q) q.read (value_in (register s.target.select q) choice.filler s.target) → Asks s q (seen_at mark (reply_in mark s.target q)) (after mark q s)
+    IsWordRead (reply_in mark s.target q) q.read (value_in (is_wait mark) (register s.target.select q) choice.filler s.target) → Asks s q (seen_at mark (reply_in mark s.target q)) (after mark q s)
 asks mark q s legal settled word = (s, after mark q s, mark, choice, inl refl, record { legal = legal; choice = choice_fits; settled = settled; word = word; sees = sees_seen_at mark (reply_in mark s.target q) legal (deaf_silent mark _ _); after = refl }, inl refl)
 
 -- a memory of one word

@@ -6,8 +6,8 @@ use Rattle.swd_bits.specs.declared.request.Reg4.TheVariants.{R0, R4, R8, RC}
 use Rattle.swd_port.specs.declared.wire.Due.TheVariants.{Lost}
 use Rattle.swd_port.specs.PlainMemory.{PlainMemory, succeeds_at}
 use Rattle.swd_port.specs.Phases.{phase_number}
-use Rattle.swd_port.specs.Port.{Port, Drives, made, register}
-use Rattle.swd_port.specs.Choices.{Clean, Choice}
+use Rattle.swd_port.specs.Port.{Port, CtrlStatRead, Drives, made, register}
+use Rattle.swd_port.specs.Choices.{Clean, Wait, Choice}
 use Rattle.swd_port.specs.Answers.{seen_at}
 use Rattle.swd_port.specs.Completion.{completed}
 use Rattle.swd_port.specs.Asking.{reply_in, after_reply, value_in}
@@ -38,12 +38,16 @@ asked q s = after_reply Clean (reply_in Clean s.target q) (register s.target.sel
 abbrev seen : Request → Port → ℕ
 seen q s = seen_at Clean (reply_in Clean s.target q)
 
+-- a request of a busy target
+abbrev asked_busy : Request → Port → Port
+asked_busy q s = after_reply Wait (reply_in Wait s.target q) (register s.target.select q) q choice s
+
 -- a read with its data phase, and the value that it gives
 abbrev taken : Request → Port → Port
 taken q s = after_take (asked q s)
 
 abbrev value : Request → Port → ℕ
-value q s = value_in (register s.target.select q) choice.filler s.target
+value q s = value_in false (register s.target.select q) choice.filler s.target
 
 -- a write whose word arrives, and one whose data is damaged
 abbrev given : Request → ℕ → Port → Port
@@ -98,6 +102,33 @@ no_power_beside_write_error m = refl
 
 powered : (m : PlainMemory) → value (dp_read R4) (up m) ≡ 0xf000_0000
 powered m = refl
+
+-- power that a busy target finds late when CTRL/STAT is read, then seen when it is read again
+abbrev late : PlainMemory → Port
+late m = asked_busy (dp_read R4) (given (dp_write R4) 0x5000_0000 (live m))
+
+late_in_status : (m : PlainMemory) → value_in true CtrlStatRead choice.filler (given (dp_write R4) 0x5000_0000 (live m)).target ≡ 0x5000_0000
+late_in_status m = refl
+
+late_is_disturbed : (m : PlainMemory) → (late m).tally.disturbed ≡ 1
+late_is_disturbed m = refl
+
+late_is_a_fault : (m : PlainMemory) → seen (ap_read R0) (late m) ≡ 4
+late_is_a_fault m = refl
+
+late_no_more : (m : PlainMemory) → value (dp_read R4) (late m) ≡ 0xf000_0000
+late_no_more m = refl
+
+late_no_more_for_access_ports : (m : PlainMemory) → seen (ap_read R0) (asked (dp_read R4) (late m)) ≡ 1
+late_no_more_for_access_ports m = refl
+
+-- once it was seen, no busy target finds it late
+stays_there : (m : PlainMemory) → value_in true CtrlStatRead choice.filler (asked (dp_read R4) (late m)).target ≡ 0xf000_0000
+stays_there m = refl
+
+-- an access port that answers has it
+there_by_access : (m : PlainMemory) → value_in true CtrlStatRead choice.filler (up m).target ≡ 0xf000_0000
+there_by_access m = refl
 
 csw_is_posted : (m : PlainMemory) → value (ap_read R0) (up m) ≡ 0xa5a5_a5a5
 csw_is_posted m = refl

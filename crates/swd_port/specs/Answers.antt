@@ -10,7 +10,7 @@ use Rattle.swd_bits.specs.Wire.{ack}
 use Rattle.swd_bits.specs.declared.ack.Ack.TheVariants.{Ok as AckOk, Wait as AckWait, Fault as AckFault}
 use Rattle.swd_port.specs.declared.wire.Due.{Due}
 use Rattle.swd_port.specs.declared.wire.Due.TheVariants.{Take, Give, Pass, Lost}
-use Rattle.swd_port.specs.Port.{Register, DpidrRead, AbortWrite, CtrlStatRead, Reset, Unreset, Fresh, Live}
+use Rattle.swd_port.specs.Port.{PowerUp, Late, Register, DpidrRead, AbortWrite, CtrlStatRead, Reset, Unreset, Fresh, Live}
 use Rattle.swd_port.specs.Choices.{Mark, Deaf, Mute, is_wait, is_deaf}
 
 -- never WAIT or FAULT: DPIDR read, CTRL/STAT read, ABORT write
@@ -32,9 +32,14 @@ is_answered Unreset r = false
 is_answered Fresh r = is_dpidr r
 is_answered Live r = true
 
+-- the power that was asked for is there
+abbrev pub is_there : PowerUp → Bool
+is_there Late = false
+is_there u = true
+
 -- an access of any AP while there is no debug power (FAULT for it: this project's choice)
 abbrev pub is_unpowered : Bool → Bool → Bool
-is_unpowered ap debug_power = ap && not debug_power
+is_unpowered ap powered = ap && not powered
 
 -- the answer where no WAIT is asked for: FAULT while STICKYERR or WDATAERR is set, and for an unpowered AP access
 abbrev pub answer : Reset → Bool → Bool → Bool → Register → Reply

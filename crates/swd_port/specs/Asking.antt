@@ -1,16 +1,18 @@
 -- A request and its acknowledgement: one call of `ask`.
 -- Source: IHI 0031, B4, "Packet request", "Acknowledge response", "Data transfer", "Read accesses"; B2, on
 -- CTRL/STAT, RDBUFF and RESEND; and MEM-AP, "DRW, Data Read/Write register".
-use Rattle.std.specs.Prelude.{ℕ, ◌≡◌, ◌<◌, ◌^◌, ◌+◌, ◌||◌, Bool, true, false, if◌then◌else◌, Option, Some, None}
+use Rattle.std.specs.Prelude.{ℕ, ◌≡◌, ◌<◌, ◌^◌, ◌+◌, ◌||◌, ◌&&◌, Bool, true, false, if◌then◌else◌, Option, Some, None}
 use Rattle.std.specs.Prelude.{unwrap_or}
 use Rattle.swd_bits.specs.declared.request.Request.{Request}
 use Rattle.swd_port.specs.Registers.{ctrl_stat_read, csw_read}
 use Rattle.swd_port.specs.Phases.{phase_number, flipped}
 use Rattle.swd_port.specs.Port.{Port, Target, Tally, Register, DpidrRead, CtrlStatRead, ResendRead, RdbuffRead}
-use Rattle.swd_port.specs.Port.{DpZeroRead, CswRead, TarRead, DrwRead, ApZeroRead, Live, Line, Drives, Awaits, Drw}
+use Rattle.swd_port.specs.Port.{DpZeroRead, CswRead, CswWrite, TarRead, TarWrite, DrwRead, DrwWrite, ApZeroRead}
+use Rattle.swd_port.specs.Port.{ApIgnoredWrite, Live, PowerUp, Late, Seen, Line, Drives, Awaits, Drw}
 use Rattle.swd_port.specs.Port.{Reads, register}
-use Rattle.swd_port.specs.Choices.{Mark, IsMark, flip_of, disturbs, loses, Choice, IsChoice}
-use Rattle.swd_port.specs.Answers.{Reply, Okay, Waits, Faults, Silent, is_exempt, is_dpidr, is_okay, is_unpowered}
+use Rattle.swd_port.specs.Choices.{Mark, IsMark, flip_of, is_wait, disturbs, loses, Choice, IsChoice}
+use Rattle.swd_port.specs.Answers.{Reply, Okay, Waits, Faults, Silent, is_exempt, is_dpidr, is_okay, is_there}
+use Rattle.swd_port.specs.Answers.{is_unpowered}
 use Rattle.swd_port.specs.Answers.{answer, reply_under, seen_at, Sees, due_after}
 use Rattle.swd_port.specs.Completion.{Completes}
 
@@ -23,9 +25,13 @@ is_posted DrwRead = true
 is_posted ApZeroRead = true
 is_posted _ = false
 
+-- there is debug power
+abbrev pub has_power : Target → Bool
+has_power x = x.debug_power && is_there x.power_up
+
 -- the answer of a state where no WAIT is asked for
 abbrev pub answer_in : Target → Request → Reply
-answer_in x q = answer x.reset x.sticky_error x.write_error (is_unpowered q.ap x.debug_power) (register x.select q)
+answer_in x q = answer x.reset x.sticky_error x.write_error (is_unpowered q.ap (has_power x)) (register x.select q)
 
 -- what is answered in a state under a mark (this project's choice)
 abbrev pub reply_in : Mark → Target → Request → Reply
@@ -41,13 +47,33 @@ value_read ResendRead identification status last_returned buffer filler = unwrap
 value_read DpZeroRead identification status last_returned buffer filler = 0
 value_read r identification status last_returned buffer filler = unwrap_or buffer filler
 
--- the word of CTRL/STAT in a state
-abbrev pub status_in : Target → ℕ
-status_in x = ctrl_stat_read x.sticky_error x.read_ok x.write_error x.debug_power x.system_power
+-- a request for a register of an access port
+abbrev pub is_access_port : Register → Bool
+is_access_port CswRead = true
+is_access_port CswWrite = true
+is_access_port TarRead = true
+is_access_port TarWrite = true
+is_access_port DrwRead = true
+is_access_port DrwWrite = true
+is_access_port ApZeroRead = true
+is_access_port ApIgnoredWrite = true
+is_access_port r = false
+
+-- What an OK tells of the power, where the target may be busy: a read of CTRL/STAT finds it there, or late where the target
+-- is busy and it wasn't seen to be there before; an access port that answers has it (this project's choice)
+abbrev pub power_up_after : Bool → Register → PowerUp → PowerUp
+power_up_after busy CtrlStatRead Seen = Seen
+power_up_after busy CtrlStatRead u = if busy then Late else Seen
+power_up_after busy r u = if is_access_port r then Seen else u
+
+-- the word of CTRL/STAT in a state, as a target returns it that may be busy
+abbrev pub status_in : Bool → Target → ℕ
+status_in busy x = ctrl_stat_read x.sticky_error x.read_ok x.write_error x.debug_power x.system_power
+    (is_there (power_up_after busy CtrlStatRead x.power_up))
 
 -- the word that a read returns in a state; the filler stands for an unknown one (this project's choice)
-abbrev pub value_in : Register → ℕ → Target → ℕ
-value_in r filler x = value_read r x.identification (status_in x) x.last_returned x.buffer filler
+abbrev pub value_in : Bool → Register → ℕ → Target → ℕ
+value_in busy r filler x = value_read r x.identification (status_in busy x) x.last_returned x.buffer filler
 
 -- the data phase that follows an OK; its 33 bits arrive with the changed place (the changed place: this project's
 -- choice)
@@ -75,13 +101,14 @@ pending_once_read r pending = pending
 -- The target after an OK: a DPIDR read makes a fresh one live, and a read has its effects. A write has those of its
 -- data phase, which follows. READOK tells whether the last AP read or RDBUFF read that was answered at all was
 -- answered OK.
-abbrev pub after_okay : Register → Target → Target
-after_okay r x = record x {
+abbrev pub after_okay : Bool → Register → Target → Target
+after_okay busy r x = record x {
   reset = if is_dpidr r then Live else x.reset;
   read_ok = if is_posted r then true else x.read_ok;
   buffer = buffer_once_read r (csw_read x.increments x.csw_upper) x.tar x.buffer;
   last_returned = if is_posted r then x.buffer else x.last_returned;
   pending = pending_once_read r x.pending;
+  power_up = power_up_after busy r x.power_up;
 }
 
 -- after WAIT: nothing but READOK changed
@@ -93,15 +120,15 @@ after_wait r x = record x { read_ok = if is_posted r then false else x.read_ok }
 abbrev pub after_fault : Register → Bool → Target → Target
 after_fault r ap x = record x {
   read_ok = if is_posted r then false else x.read_ok;
-  sticky_error = x.sticky_error || is_unpowered ap x.debug_power;
+  sticky_error = x.sticky_error || is_unpowered ap (has_power x);
 }
 
 -- after a reply; silence changes nothing
-abbrev pub target_after : Reply → Register → Bool → Target → Target
-target_after Okay r ap x = after_okay r x
-target_after Waits r ap x = after_wait r x
-target_after Faults r ap x = after_fault r ap x
-target_after Silent r ap x = x
+abbrev pub target_after : Bool → Reply → Register → Bool → Target → Target
+target_after busy Okay r ap x = after_okay busy r x
+target_after busy Waits r ap x = after_wait r x
+target_after busy Faults r ap x = after_fault r ap x
+target_after busy Silent r ap x = x
 
 -- one request more, by its mark (this project's choice)
 abbrev pub tally_after : Mark → Tally → Tally
@@ -112,9 +139,9 @@ abbrev pub after_reply : Mark → Reply → Register → Request → Choice → 
 after_reply mark reply r q c s = record {
   link = record {
     due = due_after q.read (seen_at mark reply);
-    line = line_after reply (phase_after q.read r (flip_of mark) (value_in r c.filler s.target)) s.link.line;
+    line = line_after reply (phase_after q.read r (flip_of mark) (value_in (is_wait mark) r c.filler s.target)) s.link.line;
   };
-  target = target_after reply r q.ap s.target;
+  target = target_after (is_wait mark) reply r q.ap s.target;
   tally = tally_after mark s.tally;
 }
 
@@ -136,7 +163,8 @@ pub record AsksNow (mark : Mark) (c : Choice) (s : Port) (q : Request) (seen : �
   pub legal : IsMark mark
   pub choice : IsChoice c
   pub settled : IsSettled (reply_in mark s.target q) (register s.target.select q) s.target.pending
-  pub word : IsWordRead (reply_in mark s.target q) q.read (value_in (register s.target.select q) c.filler s.target)
+  pub word : IsWordRead (reply_in mark s.target q) q.read
+      (value_in (is_wait mark) (register s.target.select q) c.filler s.target)
   pub sees : Sees mark (reply_in mark s.target q) seen
   pub after : t ≡ after_reply mark (reply_in mark s.target q) (register s.target.select q) q c s
 

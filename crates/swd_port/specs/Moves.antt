@@ -21,6 +21,7 @@ pub record Kept (s t : Port) : Type 0 where
   pub read_ok : t.target.read_ok ≡ s.target.read_ok
   pub debug_power : t.target.debug_power ≡ s.target.debug_power
   pub system_power : t.target.system_power ≡ s.target.system_power
+  pub power_up : t.target.power_up ≡ s.target.power_up
   pub select : t.target.select ≡ s.target.select
   pub increments : t.target.increments ≡ s.target.increments
   pub csw_upper : t.target.csw_upper ≡ s.target.csw_upper

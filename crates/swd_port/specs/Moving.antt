@@ -8,7 +8,8 @@ use Rattle.swd_port.specs.declared.select.Select.{Select}
 use Rattle.swd_port.specs.Registers.{bit_of, select_of, csw_of}
 use Rattle.swd_port.specs.Phases.{word_in, flipped, undriven}
 use Rattle.swd_port.specs.Port.{Port, Target, idle_link, Register, AbortWrite, CtrlStatWrite, SelectWrite, CswWrite}
-use Rattle.swd_port.specs.Port.{TarWrite, DrwWrite, ApIgnoredWrite, Line, Drives, Awaits, Drw, Writes}
+use Rattle.swd_port.specs.Port.{TarWrite, DrwWrite, ApIgnoredWrite, PowerUp, Unseen, Line, Drives, Awaits, Drw}
+use Rattle.swd_port.specs.Port.{Writes}
 use Rattle.swd_port.specs.Completion.{Completes}
 
 -- the 33 bits that the host gets; an undriven line reads 1 (this project's choice)
@@ -83,6 +84,11 @@ abbrev pub power_after : ℕ → Arrival → Bool → Bool
 power_after n (Arrives CtrlStatWrite word) power = bit_of n word
 power_after n a power = power
 
+-- power that is asked for anew was not seen yet
+abbrev pub power_up_written : Arrival → PowerUp → PowerUp
+power_up_written (Arrives CtrlStatWrite word) u = Unseen
+power_up_written a u = u
+
 -- SELECT
 abbrev pub select_after : Arrival → Select → Select
 select_after (Arrives SelectWrite word) select = select_of word
@@ -115,6 +121,7 @@ after_bits a x = record x {
   write_error = write_error_after a x.write_error;
   debug_power = power_after 28 a x.debug_power;
   system_power = power_after 30 a x.system_power;
+  power_up = power_up_written a x.power_up;
   select = select_after a x.select;
   increments = increments_after a x.increments;
   csw_upper = csw_upper_after a x.csw_upper;

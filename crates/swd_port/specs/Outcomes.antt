@@ -4,7 +4,7 @@ pub use Rattle.swd_port.specs.Answers.{IsNoAcknowledgement}
 use Rattle.std.specs.Prelude.{ℕ, ◌≡◌, ◌≢◌, ◌<◌, ◌≤◌, ◌+◌, ◌^◌, ◌⊎◌, Bool, true, false, if◌then◌else◌, Option}
 use Rattle.std.specs.Prelude.{Some, None}
 use Rattle.swd_port.specs.declared.wire.Due.TheVariants.{Take, Give, Pass, Lost}
-use Rattle.swd_port.specs.Port.{Port, Target, Register, Unreset, Live}
+use Rattle.swd_port.specs.Port.{Port, Target, Register, Unreset, Live, Seen}
 use Rattle.swd_port.specs.Answers.{is_exempt}
 use Rattle.swd_port.specs.Asking.{value_in, phase_after, after_okay, after_wait, after_fault}
 
@@ -13,6 +13,7 @@ pub record Steady (x y : Target) : Type 0 where
   pub write_error : y.write_error ≡ x.write_error
   pub debug_power : y.debug_power ≡ x.debug_power
   pub system_power : y.system_power ≡ x.system_power
+  pub seen : x.power_up ≡ Seen → y.power_up ≡ Seen
   pub select : y.select ≡ x.select
   pub increments : y.increments ≡ x.increments
   pub csw_upper : y.csw_upper ≡ x.csw_upper
@@ -38,15 +39,18 @@ pub record Refuses (r : Register) (ap : Bool) (s t : Port) : Type 0 where
   pub settled : s.target.pending ≡ None
 
 -- The target answered OK, and is live. A read's value is fixed here, and its phase stands on the line, with this
--- place changed; a write's phase is awaited. Any word stands for an unknown value.
+-- place changed; a write's phase is awaited. Any word stands for an unknown value. Where the target is busy, so that it may
+-- find power late, the request is disturbed, and its phase isn't changed.
 pub record Accepts (r : Register) (read : Bool) (flip : Option ℕ) (s t : Port) : Type 0 where
-  pub target : t.target ≡ after_okay r s.target
+  pub busy : Bool
+  pub disturbed : busy ≡ true → (flip ≡ None) × (t.tally.disturbed ≡ s.tally.disturbed + 1)
+  pub target : t.target ≡ after_okay busy r s.target
   pub live : t.target.reset ≡ Live
   pub settled : is_exempt r ≡ false → s.target.pending ≡ None
   pub filler : ℕ
   pub filler_range : filler < 2 ^ 32
-  pub value_range : read ≡ true → value_in r filler s.target < 2 ^ 32
-  pub line : t.link.line ≡ phase_after read r flip (value_in r filler s.target)
+  pub value_range : read ≡ true → value_in busy r filler s.target < 2 ^ 32
+  pub line : t.link.line ≡ phase_after read r flip (value_in busy r filler s.target)
 
 -- the host saw OK, WAIT or FAULT: one request more, none lost, at most one disturbed
 pub record Heard (s t : Port) : Type 0 where

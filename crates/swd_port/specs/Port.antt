@@ -8,6 +8,8 @@ pub use Rattle.swd_port.specs.declared.register.Register.TheVariants.{CswWrite, 
 pub use Rattle.swd_port.specs.declared.register.Register.TheVariants.{ApZeroRead, ApIgnoredWrite}
 pub use Rattle.swd_port.specs.declared.state.Reset.{Reset}
 pub use Rattle.swd_port.specs.declared.state.Reset.TheVariants.{Unreset, Fresh, Live}
+pub use Rattle.swd_port.specs.declared.state.PowerUp.{PowerUp}
+pub use Rattle.swd_port.specs.declared.state.PowerUp.TheVariants.{Unseen, Late, Seen}
 pub use Rattle.swd_port.specs.declared.state.Drw.{Drw}
 pub use Rattle.swd_port.specs.declared.state.Drw.TheVariants.{Reads, Writes}
 pub use Rattle.swd_port.specs.declared.state.Line.{Line}
@@ -116,6 +118,8 @@ pub record Target : Type 0 where
   pub read_ok : Bool
   pub debug_power : Bool
   pub system_power : Bool
+  -- whether that power is there
+  pub power_up : PowerUp
   -- SELECT
   pub select : Select
   -- CSW: whether AddrInc is 01, single, and bits [30:24]
@@ -155,6 +159,7 @@ made_target identification memory = record {
   read_ok = false;
   debug_power = false;
   system_power = false;
+  power_up = Unseen;
   select = record { apsel = 0; apbanksel = 0; dpbanksel = 0 };
   increments = false;
   csw_upper = 0;

@@ -1,7 +1,7 @@
 -- The fields of the registers, and the words that carry them.
 -- Source: IHI 0031, B2, "ABORT, AP Abort register", "CTRL/STAT, Control/Status register", "SELECT, AP Select
 -- register"; and MEM-AP, "CSW, Control/Status Word register".
-use Rattle.std.specs.Prelude.{ℕ, ◌<◌, ◌+◌, ◌*◌, ◌/◌, ◌%◌, ◌^◌, ◌==◌, Bool, true, false}
+use Rattle.std.specs.Prelude.{ℕ, ◌<◌, ◌+◌, ◌*◌, ◌/◌, ◌%◌, ◌^◌, ◌==◌, ◌&&◌, Bool, true, false}
 use Rattle.swd_bits.specs.Bits.{bit}
 use Rattle.swd_port.specs.declared.abort.Abort.{Abort}
 use Rattle.swd_port.specs.declared.ctrl_stat.CtrlStat.{CtrlStat}
@@ -70,12 +70,14 @@ pub record IsCsw (c : Csw) : Type 0 where
   pub addr_inc : c.addr_inc < 4
   pub upper : c.upper < 128
 
--- CTRL/STAT as it is read: STICKYERR 5, READOK 6, WDATAERR 7, and each power request with its acknowledgement, 28
--- with 29 and 30 with 31; all others read 0 (at once, and the zeros: this project's choice)
-abbrev pub ctrl_stat_read : Bool → Bool → Bool → Bool → Bool → ℕ
-ctrl_stat_read sticky_error read_ok write_error debug_power system_power =
+-- CTRL/STAT as it is read: STICKYERR 5, READOK 6, WDATAERR 7, the requests for debug and for system power, 28 and 30,
+-- and, where the power is there, their acknowledgements, 29 and 31; all others read 0 (the zeros, and that both powers
+-- come at once: this project's choice)
+abbrev pub ctrl_stat_read : Bool → Bool → Bool → Bool → Bool → Bool → ℕ
+ctrl_stat_read sticky_error read_ok write_error debug_power system_power there =
     bit sticky_error * 0x20 + bit read_ok * 0x40 + bit write_error * 0x80 +
-    bit debug_power * 0x3000_0000 + bit system_power * 0xc000_0000
+    bit debug_power * 0x1000_0000 + bit (debug_power && there) * 0x2000_0000 +
+    bit system_power * 0x4000_0000 + bit (system_power && there) * 0x8000_0000
 
 -- AddrInc of a CSW that increments, 01, and of one that doesn't, 00
 abbrev pub addr_inc_of : Bool → ℕ

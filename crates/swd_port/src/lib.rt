@@ -27,7 +27,7 @@ pub use noted::Noted;
 pub use outside::{Gone, Outside, Story, Transport};
 pub use register::Register;
 pub use select::Select;
-pub use state::{Drw, Line, Reply, Reset};
+pub use state::{Drw, Line, PowerUp, Reply, Reset};
 pub use wire::{Due, Wire};
 
 #[cfg(test)]

@@ -13,6 +13,17 @@ pub enum Reset {
     Live,
 }
 
+/// Whether the power that was asked for in CTRL/STAT is there.
+#[derive(Clone, Copy, Debug, PartialEq, Eq)]
+pub enum PowerUp {
+    /// Nothing was seen of it since it was asked for: it is there, unless the next read of CTRL/STAT finds it late.
+    Unseen,
+    /// A read of CTRL/STAT found that it isn't there yet.
+    Late,
+    /// It was seen to be there, and stays.
+    Seen,
+}
+
 /// A DRW transfer that was accepted and did not take effect yet.
 #[derive(Clone, Copy, Debug, PartialEq, Eq)]
 pub enum Drw {

@@ -5,14 +5,14 @@ use Rattle.swd_port.specs.declared.access.Answer.TheVariants.{Value}
 use Rattle.swd_port.specs.Phases.{IsPhaseOf}
 use Rattle.swd_port.specs.PlainMemory.{PlainMemory, word_at, plain_answer, plain_after}
 use Rattle.swd_port.specs.Port.{Port, Target, Live, RdbuffRead, DrwRead, DrwWrite, request_of}
-use Rattle.swd_port.specs.Asking.{Asks}
+use Rattle.swd_port.specs.Asking.{Asks, has_power}
 use Rattle.swd_port.specs.Moving.{Takes, Gives}
 use Rattle.swd_port.specs.Transfers.{Aimed, Succeeded}
 
 -- a target that is ready for transfers: live and powered, SELECT is 0, CSW increments, and WDATAERR is clear
 pub record Ready (x : Target) : Type 0 where
   pub live : x.reset ≡ Live
-  pub power : x.debug_power ≡ true
+  pub power : has_power x ≡ true
   pub select : x.select ≡ record { apsel = 0; apbanksel = 0; dpbanksel = 0 }
   pub increments : x.increments ≡ true
   pub write_error : x.write_error ≡ false

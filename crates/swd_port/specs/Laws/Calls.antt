@@ -5,7 +5,7 @@ use Rattle.swd_bits.specs.declared.ack.Ack.{Ack}
 use Rattle.swd_bits.specs.Bits.{low_bits, number}
 use Rattle.swd_bits.specs.Wire.{ack}
 use Rattle.swd_port.specs.declared.wire.Due.TheVariants.{Nothing, Lost}
-use Rattle.swd_port.specs.Port.{Port}
+use Rattle.swd_port.specs.Port.{Port, Seen}
 use Rattle.swd_port.specs.Answers.{due_after}
 use Rattle.swd_port.specs.Asking.{Asks}
 use Rattle.swd_port.specs.Moving.{Takes, Gives, Passes}
@@ -42,6 +42,7 @@ pub record Asked (s t : Port) : Type 0 where
   pub write_error : t.target.write_error ≡ s.target.write_error
   pub debug_power : t.target.debug_power ≡ s.target.debug_power
   pub system_power : t.target.system_power ≡ s.target.system_power
+  pub seen : s.target.power_up ≡ Seen → t.target.power_up ≡ Seen
   pub select : t.target.select ≡ s.target.select
   pub increments : t.target.increments ≡ s.target.increments
   pub csw_upper : t.target.csw_upper ≡ s.target.csw_upper

@@ -6,7 +6,7 @@ use Rattle.swd_port.specs.PlainMemory.{PlainMemory}
 use Rattle.swd_port.specs.Port.{Port, Target, Register, DpidrRead, DrwRead, Unreset, Live, register}
 use Rattle.swd_port.specs.Answers.{is_exempt}
 use Rattle.swd_port.specs.Completion.{Completes}
-use Rattle.swd_port.specs.Asking.{Asks}
+use Rattle.swd_port.specs.Asking.{Asks, has_power}
 use Rattle.swd_port.specs.Moves.{Around}
 use Rattle.swd_port.specs.Outcomes.{Steady, Unmoved, Stays, Refuses, Accepts, SeesOkay, SeesWait, SeesFault, SeesNone}
 use Rattle.swd_port.specs.Outcomes.{OkayOrLost, OkayWaitOrLost, FaultOrLost}
@@ -18,7 +18,7 @@ IsFlagged x = (x.sticky_error ≡ true) ⊎ (x.write_error ≡ true)
 
 -- there is debug power, where a request is for an access port
 abbrev pub IsPowered : Bool → Target → Type 0
-IsPowered ap x = ap ≡ true → x.debug_power ≡ true
+IsPowered ap x = ap ≡ true → has_power x ≡ true
 
 -- a live target answers an exempt request OK, unless it is lost
 abbrev pub ExemptRequest : Type 0
@@ -55,7 +55,7 @@ FlaggedRequestAtRest = (r : Register) (q : Request) (seen : ℕ) (s t : Port) �
 abbrev pub UnpoweredRequestAtRest : Type 0
 UnpoweredRequestAtRest = (r : Register) (q : Request) (seen : ℕ) (s t : Port) → register s.target.select q ≡ r →
     is_exempt r ≡ false → s.target.reset ≡ Live → s.target.pending ≡ None → q.ap ≡ true →
-    s.target.debug_power ≡ false → Asks s q seen t → FaultOrLost r q.ap seen s t
+    has_power s.target ≡ false → Asks s q seen t → FaultOrLost r q.ap seen s t
 
 -- OK or WAIT unless it is lost; but FAULT where STICKYERR is set when it is answered
 abbrev pub FreeOrFault : Register → Request → ℕ → Port → Port → Type 0

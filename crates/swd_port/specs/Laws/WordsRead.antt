@@ -1,11 +1,11 @@
 -- Laws of the words that are read, and of returned values.
-use Rattle.std.specs.Prelude.{ℕ, ◌≡◌, ◌<◌, ◌^◌, ◌==◌, ◌⊎◌, Bool, true, false, Option, Some}
+use Rattle.std.specs.Prelude.{ℕ, ◌≡◌, ◌<◌, ◌^◌, ◌==◌, ◌&&◌, ◌⊎◌, Bool, true, false, Option, Some}
 use Rattle.std.specs.Int.RustNames.{bit_and}
 use Rattle.swd_port.specs.Registers.{bit_of, ctrl_stat_read, ctrl_stat_mask}
 use Rattle.swd_port.specs.Phases.{phase_number, flipped}
 use Rattle.swd_port.specs.Port.{Port, Target, Register, DpidrRead, AbortWrite, CtrlStatRead, ResendRead, Drives}
-use Rattle.swd_port.specs.Answers.{is_exempt}
-use Rattle.swd_port.specs.Asking.{is_posted, status_in}
+use Rattle.swd_port.specs.Answers.{is_exempt, is_there}
+use Rattle.swd_port.specs.Asking.{is_posted, status_in, power_up_after}
 use Rattle.swd_port.specs.Moves.{Passed, Gave, WasReset}
 use Rattle.swd_port.specs.Outcomes.{Stays, Defers, Accepts, Refuses}
 use Rattle.swd_port.specs.Transfers.{Carries}
@@ -15,23 +15,23 @@ abbrev pub holds : ℕ → ℕ → Bool
 holds mask word = bit_and (bit_and word ctrl_stat_mask) mask == mask
 
 -- STICKYERR, READOK, WDATAERR and the two power acknowledgements are read back, whatever the others are
-pub record StatusReads (sticky_error read_ok write_error debug_power system_power : Bool) (word : ℕ) : Type 0 where
+pub record StatusReads (sticky_error read_ok write_error debug_power system_power there : Bool) (word : ℕ) : Type 0 where
   pub sticky_held : holds 0x20 word ≡ sticky_error
   pub ok_held : holds 0x40 word ≡ read_ok
   pub write_held : holds 0x80 word ≡ write_error
-  pub debug_held : holds 0x2000_0000 word ≡ debug_power
-  pub system_held : holds 0x8000_0000 word ≡ system_power
+  pub debug_held : holds 0x2000_0000 word ≡ (debug_power && there)
+  pub system_held : holds 0x8000_0000 word ≡ (system_power && there)
   pub sticky_bit : bit_of 5 word ≡ sticky_error
   pub ok_bit : bit_of 6 word ≡ read_ok
   pub write_bit : bit_of 7 word ≡ write_error
-  pub debug_bit : bit_of 29 word ≡ debug_power
-  pub system_bit : bit_of 31 word ≡ system_power
+  pub debug_bit : bit_of 29 word ≡ (debug_power && there)
+  pub system_bit : bit_of 31 word ≡ (system_power && there)
   pub range : word < 2 ^ 32
 
 abbrev pub StatusWord : Type 0
-StatusWord = (sticky_error read_ok write_error debug_power system_power : Bool) →
-    StatusReads sticky_error read_ok write_error debug_power system_power
-    (ctrl_stat_read sticky_error read_ok write_error debug_power system_power)
+StatusWord = (sticky_error read_ok write_error debug_power system_power there : Bool) →
+    StatusReads sticky_error read_ok write_error debug_power system_power there
+    (ctrl_stat_read sticky_error read_ok write_error debug_power system_power there)
 
 -- the line has the phase of a value, which is a word
 pub record OnLine (value : ℕ) (flip : Option ℕ) (t : Port) : Type 0 where
@@ -43,15 +43,15 @@ abbrev pub IdentificationReturned : Type 0
 IdentificationReturned = (flip : Option ℕ) (s t : Port) → Accepts DpidrRead true flip s t →
     OnLine s.target.identification flip t
 
--- the word of CTRL/STAT in a state tells its flags and powers
-abbrev pub StatusTells : Target → Type 0
-StatusTells x =
-    StatusReads x.sticky_error x.read_ok x.write_error x.debug_power x.system_power (status_in x)
+-- the word of CTRL/STAT in a state tells its flags, and the powers, where they are there
+abbrev pub StatusTells : Bool → Target → Type 0
+StatusTells busy x = StatusReads x.sticky_error x.read_ok x.write_error x.debug_power x.system_power
+    (is_there (power_up_after busy CtrlStatRead x.power_up)) (status_in busy x)
 
--- CTRL/STAT returns the flags and powers as they were when it was answered
+-- CTRL/STAT returns the flags as they were when it was answered, and the powers as they are found then
 abbrev pub StatusReturned : Type 0
-StatusReturned = (flip : Option ℕ) (s t : Port) → Accepts CtrlStatRead true flip s t →
-    OnLine (status_in s.target) flip t × StatusTells s.target
+StatusReturned = (flip : Option ℕ) (s t : Port) → (h : Accepts CtrlStatRead true flip s t) →
+    OnLine (status_in h.busy s.target) flip t × StatusTells h.busy s.target
 
 -- RDBUFF, and every AP read, returns the read buffer, and its value is the last returned
 abbrev pub BufferReturned : Type 0
