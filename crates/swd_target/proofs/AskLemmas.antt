@@ -55,24 +55,24 @@ reply_at mark r q s = reply_under mark r (answer_at r q.ap s)
 
 asks_under : (l : Link) (n : Tally) (s a b t : State) (mark : Mark) (r : Register) (reply : Reply) (c : Choice) (q : Request) (phase : Line)
     → IsMark mark → IsChoice c → Transfers s a → register a.select q ≡ r → reply_at mark r q a ≡ reply → IsSettled reply r a.pending
-    → IsWordRead reply q.read (value_in r c.filler a) → line_after reply phase l.line ≡ line_after reply (phase_after q.read r (flip_of mark) (value_in r c.filler a)) l.line
-    → b ≡ target_after reply r q.ap a → Transfers b t
+    → IsWordRead reply q.read (value_in (is_wait mark) r c.filler a) → line_after reply phase l.line ≡ line_after reply (phase_after q.read r (flip_of mark) (value_in (is_wait mark) r c.filler a)) l.line
+    → b ≡ target_after (is_wait mark) reply r q.ap a → Transfers b t
     → AsksUnder mark (port_at l n s) q (seen_at mark reply) (port_at (link_after mark q reply phase l) (tally_after mark n) t)
 asks_under l n s a b t mark r reply c q phase legal choice before named replies settled word line after later =
     let k : Link = link_after mark q reply phase l in
     let P = λ (x : Register). IsSettled (reply_at mark x q a) x a.pending in
-    let V = λ (x : Register). IsWordRead (reply_at mark x q a) q.read (value_in x c.filler a) in
+    let V = λ (x : Register). IsWordRead (reply_at mark x q a) q.read (value_in (is_wait mark) x c.filler a) in
     let S = λ (x : Register). Sees mark (reply_at mark x q a) (seen_at mark reply) in
     let silent = λ (deaf : is_deaf mark ≡ true). sym replies ∙ deaf_silent mark r (answer_at r q.ap a) deaf in
     let T = λ (x : Register). port_at k (tally_after mark n) b ≡ after_reply mark (reply_at mark x q a) x q c (port_at l n a) in
     let whole : port_at k (tally_after mark n) b ≡ after_reply mark reply r q c (port_at l n a) =
-    ap (port_at k (tally_after mark n)) after ∙ ap (λ (x : Line). port_at (record k { line = x }) (tally_after mark n) (target_after reply r q.ap a)) line in
+    ap (port_at k (tally_after mark n)) after ∙ ap (λ (x : Line). port_at (record k { line = x }) (tally_after mark n) (target_after (is_wait mark) reply r q.ap a)) line in
     let now : AsksNow mark c (port_at l n a) q (seen_at mark reply) (port_at k (tally_after mark n) b) =
     record {
       legal = legal;
       choice = choice;
       settled = subst P (sym named) (subst (λ x. IsSettled x r a.pending) (sym replies) settled);
-      word = subst V (sym named) (subst (λ x. IsWordRead x q.read (value_in r c.filler a)) (sym replies) word);
+      word = subst V (sym named) (subst (λ x. IsWordRead x q.read (value_in (is_wait mark) r c.filler a)) (sym replies) word);
       sees = subst S (sym named) (subst (λ x. Sees mark x (seen_at mark reply)) (sym replies)
           (sees_seen_at mark reply legal silent));
       after = subst T (sym named) (whole ∙ ap (λ x. after_reply mark x r q c (port_at l n a)) (sym replies));
@@ -86,9 +86,9 @@ settled_at mark waits q s deaf wait =
     ap (λ (x : Reply). if is_owed r x then transferred s else s) (same_reply mark waits r (answer_at r q.ap (transferred s).state) deaf wait)
 
 -- the simulated target after a reply
-abbrev pub after_now : Request → Simulation → Reply → Register → Simulation
-after_now q a reply r =
-    accepted_after reply (stepped (λ c. target_after reply r q.ap) a)
+abbrev pub after_now : Mark → Request → Simulation → Reply → Register → Simulation
+after_now mark q a reply r =
+    accepted_after reply (stepped (λ c. target_after (is_wait mark) reply r q.ap) a)
 
 -- what a request is exactly, from its parts
 pub record Exactly (mark : Mark) (q : Request) (s t : Simulation) (reply : Reply) (phase : Line) : Type 0 where
@@ -98,8 +98,8 @@ pub record Exactly (mark : Mark) (q : Request) (s t : Simulation) (reply : Reply
 
 asks_exactly : (mark : Mark) (waits : Bool) (q : Request) (s a b t : Simulation) (r : Register) (reply : Reply) (phase : Line)
     → is_deaf mark ≡ false → is_wait mark ≡ waits → register s.state.select q ≡ r → a ≡ settled_when waits r q.ap s → register a.state.select q ≡ r
-    → reply ≡ reply_when waits r (answer_at r q.ap a.state) → phase ≡ line_after reply (phase_after q.read r None (value_in r a.quirks.filler a.state)) Idle
-    → b ≡ stepped (λ c. target_after reply r q.ap) a → t ≡ accepted_after reply b
+    → reply ≡ reply_when waits r (answer_at r q.ap a.state) → phase ≡ line_after reply (phase_after q.read r None (value_in (is_wait mark) r a.quirks.filler a.state)) Idle
+    → b ≡ stepped (λ c. target_after (is_wait mark) reply r q.ap) a → t ≡ accepted_after reply b
     → Exactly mark q s t reply (line_under mark phase)
 asks_exactly mark waits q s a b t r reply phase deaf wait named settles same replies phases after last =
     let S : settled mark q s ≡ a =
@@ -109,14 +109,14 @@ asks_exactly mark waits q s a b t r reply phase deaf wait named settles same rep
     subst (λ (x : Register). reply ≡ reply_under mark x (answer_at x q.ap a.state)) (sym same) is in
     let told : reply ≡ reply_to mark q s =
     subst (λ (x : Simulation). reply ≡ reply_under mark (register x.state.select q) (answer_at (register x.state.select q) q.ap x.state)) (sym S) there in
-    let lines : line_under mark phase ≡ line_after reply (phase_after q.read r (flip_of mark) (value_in r a.quirks.filler a.state)) Idle =
-    ap (line_under mark) phases ∙ phase_idle reply q.read r (flip_of mark) (value_in r a.quirks.filler a.state) in
-    let lined : line_under mark phase ≡ line_after reply (phase_after q.read (register a.state.select q) (flip_of mark) (value_in (register a.state.select q) a.quirks.filler a.state)) Idle =
-    subst (λ (x : Register). line_under mark phase ≡ line_after reply (phase_after q.read x (flip_of mark) (value_in x a.quirks.filler a.state)) Idle) (sym same) lines in
-    let P = λ (x : Simulation) (y : Reply). line_under mark phase ≡ line_after y (phase_after q.read (register x.state.select q) (flip_of mark) (value_in (register x.state.select q) x.quirks.filler x.state)) Idle in
-    let ended : t ≡ after_now q a reply r = last ∙ ap (accepted_after reply) after in
-    let there' : t ≡ after_now q a reply (register a.state.select q) = subst (λ (x : Register). t ≡ after_now q a reply x) (sym same) ended in
-    let Q = λ (x : Simulation) (y : Reply). t ≡ after_now q x y (register x.state.select q) in
+    let lines : line_under mark phase ≡ line_after reply (phase_after q.read r (flip_of mark) (value_in (is_wait mark) r a.quirks.filler a.state)) Idle =
+    ap (line_under mark) phases ∙ phase_idle reply q.read r (flip_of mark) (value_in (is_wait mark) r a.quirks.filler a.state) in
+    let lined : line_under mark phase ≡ line_after reply (phase_after q.read (register a.state.select q) (flip_of mark) (value_in (is_wait mark) (register a.state.select q) a.quirks.filler a.state)) Idle =
+    subst (λ (x : Register). line_under mark phase ≡ line_after reply (phase_after q.read x (flip_of mark) (value_in (is_wait mark) x a.quirks.filler a.state)) Idle) (sym same) lines in
+    let P = λ (x : Simulation) (y : Reply). line_under mark phase ≡ line_after y (phase_after q.read (register x.state.select q) (flip_of mark) (value_in (is_wait mark) (register x.state.select q) x.quirks.filler x.state)) Idle in
+    let ended : t ≡ after_now mark q a reply r = last ∙ ap (accepted_after reply) after in
+    let there' : t ≡ after_now mark q a reply (register a.state.select q) = subst (λ (x : Register). t ≡ after_now mark q a reply x) (sym same) ended in
+    let Q = λ (x : Simulation) (y : Reply). t ≡ after_now mark q x y (register x.state.select q) in
     record {
       replies = told;
       phases = subst (λ (y : Reply). P (settled mark q s) y) told (subst (λ (x : Simulation). P x reply) (sym S) lined);
@@ -128,17 +128,22 @@ pub answers_under : {A : Type 0} (mark : Mark) (waits : Bool) (q : Request) (s a
     → IsMark mark → is_deaf mark ≡ false → is_wait mark ≡ waits → register s.select q ≡ r → register a.select q ≡ r
     → Transfers (state_of s) (state_of a) → simulation a ≡ settled_when waits r q.ap (simulation s)
     → reply ≡ reply_when waits r (answer_at r q.ap (state_of a)) → IsSettled reply r a.pending
-    → IsWordRead reply q.read (value_in r (stand_in r a) (state_of a))
-    → phase ≡ line_after reply (phase_after q.read r None (value_in r (stand_in r a) (state_of a))) Idle
-    → phase ≡ line_after reply (phase_after q.read r None (value_in r a.quirks.filler (simulation a).state)) Idle
-    → state_of b ≡ target_after reply r q.ap (state_of a) → simulation b ≡ stepped (λ c. target_after reply r q.ap) (simulation a)
+    → IsWordRead reply q.read (value_in waits r (stand_in r a) (state_of a))
+    → phase ≡ line_after reply (phase_after q.read r None (value_in waits r (stand_in r a) (state_of a))) Idle
+    → phase ≡ line_after reply (phase_after q.read r None (value_in waits r a.quirks.filler (simulation a).state)) Idle
+    → state_of b ≡ target_after waits reply r q.ap (state_of a) → simulation b ≡ stepped (λ c. target_after waits reply r q.ap) (simulation a)
     → Transfers (state_of b) (state_of t) → simulation t ≡ accepted_after reply (simulation b)
     → AnswersUnder mark q s reply (line_under mark phase) t
 answers_under mark waits q s a b t r reply phase legal deaf wait named same before settles replies settled word lawful exact after after' later last =
     let law = λ (l : Link) (n : Tally). asks_under l n (state_of s) (state_of a) (state_of b) (state_of t) mark r reply (choice_for r a) q (line_under mark phase)
-    legal (is_choice r a) before same (same_reply mark waits r (answer_at r q.ap (state_of a)) deaf wait ∙ sym replies) settled word
-    (ap (λ (x : Line). line_after reply (line_under mark x) l.line) lawful ∙ phase_under reply q.read r (flip_of mark) (value_in r (stand_in r a) (state_of a)) l.line) after later in
-    let x = asks_exactly mark waits q (simulation s) (simulation a) (simulation b) (simulation t) r reply phase deaf wait named settles same replies exact after' last in
+    legal (is_choice r a) before same (same_reply mark waits r (answer_at r q.ap (state_of a)) deaf wait ∙ sym replies) settled
+    (subst (λ w. IsWordRead reply q.read (value_in w r (stand_in r a) (state_of a))) (sym wait) word)
+    (ap (λ (x : Line). line_after reply (line_under mark x) l.line) (lawful ∙ ap (λ w. line_after reply (phase_after q.read r None (value_in w r (stand_in r a) (state_of a))) Idle) (sym wait))
+    ∙ phase_under reply q.read r (flip_of mark) (value_in (is_wait mark) r (stand_in r a) (state_of a)) l.line)
+    (after ∙ ap (λ w. target_after w reply r q.ap (state_of a)) (sym wait)) later in
+    let x = asks_exactly mark waits q (simulation s) (simulation a) (simulation b) (simulation t) r reply phase deaf wait named settles same replies
+    (exact ∙ ap (λ w. line_after reply (phase_after q.read r None (value_in w r a.quirks.filler (simulation a).state)) Idle) (sym wait))
+    (after' ∙ ap (λ w. stepped (λ c. target_after w reply r q.ap) (simulation a)) (sym wait)) last in
     record { step = law; replies = x.replies; phases = x.phases; exact = x.exact }
 
 -- a request that the target doesn't see

@@ -11,7 +11,7 @@ use Rattle.swd_port.specs.declared.state.Reply.TheVariants.{Okay, Waits, Faults,
 use Rattle.swd_port.specs.Choices.{Choice, IsChoice}
 use Rattle.swd_port.specs.Answers.{answer, is_exempt, is_unpowered}
 use Rattle.swd_port.specs.Completion.{completion_of, fails}
-use Rattle.swd_port.specs.Asking.{IsSettled}
+use Rattle.swd_port.specs.Asking.{IsSettled, has_power}
 use Rattle.swd_target.specs.declared.target.Target.{Target}
 use Rattle.swd_target.specs.Simulations.{Simulation, is_owed, transferred}
 use Rattle.swd_target.specs.Targets.{state_of, simulation, stand_in, choice_for, answer_at, reply_when, settled_when, is_settling, IsChosen}
@@ -34,7 +34,7 @@ owed_by exempt waits r reset sticky write unpowered failing x = grind arith
 
 pub owed : {A : Type 0} (waits : Bool) (r : Register) (ap_ : Bool) (t : Target A)
     → is_owed r (reply_when waits r (answer_at r ap_ (transferred (simulation t)).state)) ≡ is_settling waits r (answer_at r ap_ (state_of t)) (fails t.pending t.tar.word t.memory)
-owed waits r ap_ t = owed_by _ waits r t.reset t.sticky_error t.write_error (is_unpowered ap_ t.debug_power) (fails t.pending t.tar.word t.memory) refl
+owed waits r ap_ t = owed_by _ waits r t.reset t.sticky_error t.write_error (is_unpowered ap_ (has_power (state_of t))) (fails t.pending t.tar.word t.memory) refl
 
 -- where the code does not settle, it need not
 pub settled_unless : (waits : Bool) (r : Register) (a : Reply) (failing : Bool) (pending : Option Drw) → is_settling waits r a failing ≡ false

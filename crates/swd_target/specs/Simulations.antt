@@ -10,7 +10,7 @@ use Rattle.swd_port.specs.declared.state.Reply.{Reply}
 use Rattle.swd_port.specs.declared.state.Reply.TheVariants.{Okay, Faults}
 use Rattle.swd_port.specs.PlainMemory.{PlainMemory}
 use Rattle.swd_port.specs.Port.{Link, Target as State, made_target, register}
-use Rattle.swd_port.specs.Choices.{Choice, flip_of}
+use Rattle.swd_port.specs.Choices.{Choice, flip_of, is_wait}
 use Rattle.swd_port.specs.Answers.{is_exempt, is_okay, seen_at, due_after}
 use Rattle.swd_port.specs.Completion.{completion_of}
 use Rattle.swd_port.specs.Asking.{reply_in, value_in, phase_after, line_after, target_after}
@@ -78,7 +78,7 @@ abbrev pub phase_to : Mark → Request → Simulation → Line
 phase_to mark q s =
     let a = settled mark q s in
     let r = register a.state.select q in
-    line_after (reply_to mark q s) (phase_after q.read r (flip_of mark) (value_in r a.quirks.filler a.state)) Idle
+    line_after (reply_to mark q s) (phase_after q.read r (flip_of mark) (value_in (is_wait mark) r a.quirks.filler a.state)) Idle
 
 -- what an OK accepted takes effect as the quirks say
 abbrev pub accepted_after : Reply → Simulation → Simulation
@@ -96,7 +96,7 @@ abbrev pub asked : Mark → Request → Simulation → Simulation
 asked mark q s =
     let a = settled mark q s in
     let reply = reply_to mark q s in
-    accepted_after reply (stepped (λ c. target_after reply (register a.state.select q) q.ap) a)
+    accepted_after reply (stepped (λ c. target_after (is_wait mark) reply (register a.state.select q) q.ap) a)
 
 -- a write is done, and not damaged
 abbrev pub is_done : Arrival → Bool

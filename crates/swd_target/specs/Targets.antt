@@ -10,10 +10,11 @@ use Rattle.swd_port.specs.declared.state.Reply.{Reply}
 use Rattle.swd_port.specs.declared.state.Reply.TheVariants.{Okay, Waits, Silent}
 use Rattle.swd_port.specs.Registers.{bit_of}
 use Rattle.swd_port.specs.Port.{Target as State}
+use Rattle.swd_port.specs.declared.state.PowerUp.TheVariants.{Unseen}
 use Rattle.swd_port.specs.Choices.{Choice, IsChoice}
 use Rattle.swd_port.specs.Answers.{answer, is_exempt, is_unpowered, may_wait}
 use Rattle.swd_port.specs.Completion.{fails, next_address}
-use Rattle.swd_port.specs.Asking.{value_in, phase_after, line_after}
+use Rattle.swd_port.specs.Asking.{has_power, value_in, phase_after, line_after}
 use Rattle.swd_target.specs.declared.quirks.Quirks.{Quirks}
 use Rattle.swd_target.specs.declared.target.Target.{Target}
 use Rattle.swd_target.specs.Contents.{known_word}
@@ -28,6 +29,7 @@ state_of t = record {
   read_ok = t.read_ok;
   debug_power = t.debug_power;
   system_power = t.system_power;
+  power_up = t.power_up;
   select = t.select;
   increments = t.increments;
   csw_upper = t.csw_upper;
@@ -71,7 +73,7 @@ pub record Steps {A : Type 0} (f : Choice → State → State) (s t : Target A) 
 
 -- the answer of a state where no WAIT is asked for
 abbrev pub answer_at : Register → Bool → State → Reply
-answer_at r ap s = answer s.reset s.sticky_error s.write_error (is_unpowered ap s.debug_power) r
+answer_at r ap s = answer s.reset s.sticky_error s.write_error (is_unpowered ap (has_power s)) r
 
 -- what is answered in its place where WAIT is asked for, or not
 abbrev pub reply_when : Bool → Register → Reply → Reply
@@ -94,8 +96,8 @@ abbrev pub settles_first : {A : Type 0} → Bool → Register → Bool → Targe
 settles_first waits r ap t = is_settling waits r (answer_at r ap (state_of t)) (fails t.pending t.tar.word t.memory)
 
 -- the data phase that follows a reply, where this word stands for an unknown one
-abbrev pub phase_in : Reply → Bool → Register → ℕ → State → Line
-phase_in reply read r filler s = line_after reply (phase_after read r None (value_in r filler s)) Idle
+abbrev pub phase_in : Bool → Reply → Bool → Register → ℕ → State → Line
+phase_in waits reply read r filler s = line_after reply (phase_after read r None (value_in waits r filler s)) Idle
 
 -- TAR after a transfer that succeeded
 abbrev pub incremented : Choice → State → State
@@ -109,7 +111,7 @@ flags_cleared word s = record s {
 }
 
 abbrev pub power_set : ℕ → State → State
-power_set word s = record s { debug_power = bit_of 28 word; system_power = bit_of 30 word }
+power_set word s = record s { debug_power = bit_of 28 word; system_power = bit_of 30 word; power_up = Unseen }
 
 -- a line reset, which ends the data phase of a write or not
 abbrev pub line_reset : Bool → State → State

@@ -2,7 +2,7 @@
 ghost use Rattle.std.specs.Prelude.{◌≡◌, true, false};
 ghost use Rattle.swd_port.specs.Port.{register};
 ghost use Rattle.swd_port.specs.Answers.{is_exempt};
-ghost use Rattle.swd_port.specs.Asking.{is_posted};
+ghost use Rattle.swd_port.specs.Asking.{is_access_port, is_posted};
 ghost use Rattle.swd_port.specs.Moving.{is_ap_write};
 
 use swd_bits::{Reg4, Request};
@@ -94,6 +94,23 @@ pub(crate) fn is_posted(register: Register) -> bool
             | Register::TarRead
             | Register::DrwRead
             | Register::ApZeroRead
+    )
+}
+
+// It is of an access port.
+pub(crate) fn is_access_port(register: Register) -> bool
+    ensures { result ≡ is_access_port register }
+{
+    matches!(
+        &register,
+        Register::CswRead
+            | Register::CswWrite
+            | Register::TarRead
+            | Register::TarWrite
+            | Register::DrwRead
+            | Register::DrwWrite
+            | Register::ApZeroRead
+            | Register::ApIgnoredWrite
     )
 }
 

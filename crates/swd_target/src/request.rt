@@ -25,8 +25,8 @@ impl<A: Allocator> Target<A> {
     {
         let register = register_named(self.select, request);
         let reply = self.reply(waits, register, request.ap);
-        let phase = self.phase(reply, register, request.read);
-        self.apply(reply, register, request.ap);
+        let phase = self.phase(waits, reply, register, request.read);
+        self.apply(waits, reply, register, request.ap);
         self.accept_after(reply);
         (reply, phase)
     }
@@ -42,14 +42,14 @@ impl<A: Allocator> Target<A> {
     }
 
     // The data phase that follows a reply.
-    fn phase(&self, reply: Reply, register: Register, read: bool) -> Line
-        ensures phase { result ≡ phase_in reply read register (stand_in register self.now) (state_of self.now) }
-        ensures exact { result ≡ phase_in reply read register self.now.quirks.filler (simulation self.now).state }
-        ensures word { IsWordRead reply read (value_in register (stand_in register self.now) (state_of self.now)) }
+    fn phase(&self, waits: bool, reply: Reply, register: Register, read: bool) -> Line
+        ensures phase { result ≡ phase_in waits reply read register (stand_in register self.now) (state_of self.now) }
+        ensures exact { result ≡ phase_in waits reply read register self.now.quirks.filler (simulation self.now).state }
+        ensures word { IsWordRead reply read (value_in waits register (stand_in register self.now) (state_of self.now)) }
         ensures driven { bits_driven result < 2 ^ 33 }
     {
         match reply {
-            Reply::Okay => phase_of(read, register, self.value(register)),
+            Reply::Okay => phase_of(read, register, self.value(waits, register)),
             _ => Line::Idle,
         }
     }

@@ -6,7 +6,8 @@ ghost use Rattle.swd_port.specs.declared.state.Reset.TheVariants.{Fresh};
 ghost use Rattle.swd_port.specs.declared.register.Register.TheVariants.{DrwRead};
 ghost use Rattle.swd_port.specs.Answers.{is_answered};
 ghost use Rattle.swd_port.specs.declared.state.Reply.TheVariants.{Okay, Waits};
-ghost use Rattle.swd_port.specs.Asking.{IsSettled, value_in, status_in, after_okay, after_wait, target_after};
+ghost use Rattle.swd_port.specs.Asking.{IsSettled, has_power, power_up_after, value_in, status_in};
+ghost use Rattle.swd_port.specs.Asking.{after_okay, after_wait, target_after};
 ghost use Rattle.swd_port.specs.Registers.{bit_of, csw_read};
 ghost use Rattle.swd_port.specs.Moving.{Arrives, Damaged, after_bits};
 ghost use Rattle.swd_port.specs.Completion.{completion_of, fails, next_address};
@@ -16,10 +17,12 @@ ghost use Rattle.swd_target.specs.Simulations.{made_with, accepted};
 use crate::content::Content;
 use crate::memory::Memory;
 use crate::quirks::Quirks;
-use crate::register::{is_access_port_write, is_exempt, is_posted};
+use crate::register::{is_access_port, is_access_port_write, is_exempt, is_posted};
 use bitflags::Flags;
 use std::alloc::{Allocator, Global};
-use swd_port::{Abort, Access, Answer, Csw, CtrlStat, Drw, Register, Reply, Reset, Select};
+use swd_port::{
+    Abort, Access, Answer, Csw, CtrlStat, Drw, PowerUp, Register, Reply, Reset, Select,
+};
 
 // What DPIDR gives.
 const IDENTIFICATION: u32 = 0x2ba0_1477;
@@ -36,6 +39,7 @@ pub struct Target<A: Allocator = Global> {
     pub(crate) read_ok: bool,
     pub(crate) debug_power: bool,
     pub(crate) system_power: bool,
+    pub(crate) power_up: PowerUp,
     pub(crate) select: Select,
     pub(crate) increments: bool,
     pub(crate) csw_upper: u8,
@@ -65,6 +69,7 @@ impl<A: Allocator> Target<A> {
             read_ok: false,
             debug_power: false,
             system_power: false,
+            power_up: PowerUp::Unseen,
             select: Select {
                 apsel: 0,
                 apbanksel: 0,
@@ -148,11 +153,18 @@ impl<A: Allocator> Target<A> {
             Reply::Silent
         } else if is_exempt(register) {
             Reply::Okay
-        } else if self.sticky_error || self.write_error || (ap && !self.debug_power) {
+        } else if self.sticky_error || self.write_error || (ap && !self.has_power()) {
             Reply::Faults
         } else {
             Reply::Okay
         }
+    }
+
+    // There is debug power.
+    fn has_power(&self) -> bool
+        ensures { result ≡ has_power (state_of self.now) }
+    {
+        self.debug_power && !matches!(&self.power_up, PowerUp::Late)
     }
 
     fn is_answering(&self, register: Register) -> bool
@@ -204,17 +216,17 @@ impl<A: Allocator> Target<A> {
         }
     }
 
-    // What a reply changes at the target.
-    pub(crate) fn apply(&mut self, reply: Reply, register: Register, ap: bool)
-        ensures { Steps (λ c. target_after reply register ap) self.old self.new }
+    // What a reply changes at the target, where WAIT was asked for or not.
+    pub(crate) fn apply(&mut self, waits: bool, reply: Reply, register: Register, ap: bool)
+        ensures { Steps (λ c. target_after waits reply register ap) self.old self.new }
     {
         match reply {
             Reply::Silent => {}
-            Reply::Okay => self.apply_okay(register),
+            Reply::Okay => self.apply_okay(waits, register),
             Reply::Waits => self.refuse_read(register),
             Reply::Faults => {
                 self.refuse_read(register);
-                if ap && !self.debug_power {
+                if ap && !self.has_power() {
                     self.sticky_error = true;
                 }
             }
@@ -230,9 +242,10 @@ impl<A: Allocator> Target<A> {
         }
     }
 
-    fn apply_okay(&mut self, register: Register)
-        ensures { Steps (λ c. after_okay register) self.old self.new }
+    fn apply_okay(&mut self, waits: bool, register: Register)
+        ensures { Steps (λ c. after_okay waits register) self.old self.new }
     {
+        self.power_up = self.power_up_after(waits, register);
         if is_posted(register) {
             self.read_ok = true;
             self.last_returned = self.buffer;
@@ -248,31 +261,47 @@ impl<A: Allocator> Target<A> {
         }
     }
 
-    // The word that a read returns.
-    pub(crate) fn value(&self, register: Register) -> u32
-        ensures value { result ≡ value_in register (stand_in register self.now) (state_of self.now) }
-        ensures exact { result ≡ value_in register self.now.quirks.filler (simulation self.now).state }
+    // What an OK tells of the power: where WAIT was asked for, CTRL/STAT finds it late, unless it was seen before. An
+    // access port that answers has it.
+    fn power_up_after(&self, waits: bool, register: Register) -> PowerUp
+        ensures { result ≡ power_up_after waits register self.now.power_up }
+    {
+        match (self.power_up, register) {
+            (PowerUp::Seen, _) => PowerUp::Seen,
+            (_, Register::CtrlStatRead) if waits => PowerUp::Late,
+            (_, Register::CtrlStatRead) => PowerUp::Seen,
+            (_, register) if is_access_port(register) => PowerUp::Seen,
+            (power_up, _) => power_up,
+        }
+    }
+
+    // The word that a read returns, where WAIT is asked for or not.
+    pub(crate) fn value(&self, waits: bool, register: Register) -> u32
+        ensures value { result ≡ value_in waits register (stand_in register self.now) (state_of self.now) }
+        ensures exact { result ≡ value_in waits register self.now.quirks.filler (simulation self.now).state }
     {
         match register {
             Register::DpidrRead => IDENTIFICATION,
-            Register::CtrlStatRead => self.status(),
+            Register::CtrlStatRead => self.status(waits),
             Register::ResendRead => self.last_returned.word,
             Register::DpZeroRead => 0,
             _ => self.buffer.word,
         }
     }
 
-    // CTRL/STAT as it is read.
-    fn status(&self) -> u32
-        ensures { result ≡ status_in (state_of self.now) }
+    // CTRL/STAT as it is read, where WAIT is asked for or not.
+    fn status(&self, waits: bool) -> u32
+        ensures { result ≡ status_in waits (state_of self.now) }
     {
-        let debug_power = CtrlStat::CDBGPWRUPREQ.bits() + CtrlStat::CDBGPWRUPACK.bits();
-        let system_power = CtrlStat::CSYSPWRUPREQ.bits() + CtrlStat::CSYSPWRUPACK.bits();
+        let power_up = self.power_up_after(waits, Register::CtrlStatRead);
+        let there = !matches!(&power_up, PowerUp::Late);
         u32::from(self.sticky_error) * CtrlStat::STICKYERR.bits()
             + u32::from(self.read_ok) * CtrlStat::READOK.bits()
             + u32::from(self.write_error) * CtrlStat::WDATAERR.bits()
-            + u32::from(self.debug_power) * debug_power
-            + u32::from(self.system_power) * system_power
+            + u32::from(self.debug_power) * CtrlStat::CDBGPWRUPREQ.bits()
+            + u32::from(self.debug_power && there) * CtrlStat::CDBGPWRUPACK.bits()
+            + u32::from(self.system_power) * CtrlStat::CSYSPWRUPREQ.bits()
+            + u32::from(self.system_power && there) * CtrlStat::CSYSPWRUPACK.bits()
     }
 
     // CSW as it is read: words alone, the device enabled, no transfer in progress.
@@ -336,6 +365,7 @@ impl<A: Allocator> Target<A> {
         let control = CtrlStat::of(word);
         self.debug_power = control.contains(CtrlStat::CDBGPWRUPREQ);
         self.system_power = control.contains(CtrlStat::CSYSPWRUPREQ);
+        self.power_up = PowerUp::Unseen;
     }
 
     // A write whose data arrived with wrong parity isn't done.
