@@ -1,7 +1,7 @@
 -- What comes of a request, by what it meets: a law for each kind, and what it leaves of the host's facts.
 use Rattle.std.proofs.Common.{◌≡◌, ◌≢◌, ◌+◌, ◌≤◌, ◌<◌, ℕ, Bool, true, false, refl, sym, ap, subst, inl, inr}
 use Rattle.std.proofs.Common.{arith, ◌∙◌}
-use Rattle.std.specs.Prelude.{Option, None, ◌⊎◌}
+use Rattle.std.specs.Prelude.{Option, None, ◌⊎◌, ◌&&◌}
 use Rattle.swd_bits.specs.declared.request.Request.{Request}
 use Rattle.swd_bits.specs.declared.request.Reg4.TheVariants.{R0, R4}
 use Rattle.swd_port.specs.Phases.{phase_number, flipped}
@@ -11,19 +11,24 @@ use Rattle.swd_port.specs.declared.register.Register.TheVariants.{AbortWrite, Ct
 use Rattle.swd_port.specs.declared.register.Register.TheVariants.{DrwRead}
 use Rattle.swd_port.specs.declared.state.Reset.TheVariants.{Live}
 use Rattle.swd_port.specs.declared.state.Line.TheVariants.{Drives, Awaits}
-use Rattle.swd_port.specs.Answers.{is_exempt}
-use Rattle.swd_port.specs.Asking.{Asks, status_in}
+use Rattle.swd_port.specs.declared.state.PowerUp.{PowerUp}
+use Rattle.swd_port.specs.declared.state.PowerUp.TheVariants.{Seen}
+use Rattle.swd_port.specs.Answers.{is_exempt, is_there}
+use Rattle.swd_port.specs.Asking.{Asks, has_power, status_in, power_up_after}
 use Rattle.swd_port.specs.Outcomes.{Stays, Accepts, Spares}
 use Rattle.swd_port.specs.Outcomes.{IsNoAcknowledgement, Refuses}
 use Rattle.swd_port.specs.Outcomes.{okay, wait, fault, lost}
-use Rattle.swd_port.specs.Laws.WordsRead.{OnLine, StatusReads}
+use Rattle.swd_port.specs.Laws.WordsRead.{OnLine, StatusTells}
 use Rattle.swd_port.proofs.RequestLaws.{exempt_request_at_rest, flagged_request_at_rest}
 use Rattle.swd_port.proofs.RequestLaws.{free_request_exact}
 use Rattle.swd_port.proofs.StatusLaws.{status_returned}
 use Rattle.swd_host.specs.declared.request.Job.{Job}
+use Rattle.swd_host.specs.declared.request.Job.TheVariants.{At}
+use Rattle.swd_host.specs.declared.request.Place.TheVariants.{Powered}
+use Rattle.swd_host.specs.Flags.{is_powered}
 use Rattle.swd_host.specs.Requests.{is_exempt as is_exempt_of}
 use Rattle.swd_host.specs.Tracks.{Hand, Counted, no_select, Before, During, FaultedAt, Waiting}
-use Rattle.swd_host.specs.Tracks.{Within, Says, Tells, Reads, Writes, whole, changed}
+use Rattle.swd_host.specs.Tracks.{HasAsked, SaysPower, Within, Says, Tells, Reads, Writes, whole, changed}
 use Rattle.swd_host.proofs.Frames.{Frame, Same, frame_waits, same_waits, frame_refuses, same_refuses, frame_accepts}
 use Rattle.swd_host.proofs.Frames.{same_accepts, before_framed, before_within, before_paid, within_carried}
 use Rattle.swd_host.proofs.Frames.{lost_within}
@@ -75,7 +80,7 @@ exempt_asked job r n base b k v s t q reg ex nodrw live rest l h asks go =
 pub free_asked : (job : Job) (r : Register) (n : ℕ) (base : Counted) (b c : ℕ) (k : Hand) (v : ℕ) (s t : Port)
     (q : Request) → register s.target.select q ≡ r → is_exempt r ≡ false → r ≢ DrwRead → s.target.reset ≡ Live
     → s.target.pending ≡ None
-    → s.target.write_error ≡ false → s.target.sticky_error ≡ false → (q.ap ≡ true → s.target.debug_power ≡ true)
+    → s.target.write_error ≡ false → s.target.sticky_error ≡ false → (q.ap ≡ true → has_power s.target ≡ true)
     → base.lost ≤ s.tally.lost → b ≤ c → Within b k s.target → n ≤ s.tally.disturbed → Asks s q v t
     → ((flip : Option ℕ) → Spares flip s t → Accepts r q.read flip s t → s.tally.disturbed ≤ t.tally.disturbed
     → During job n c k t)
@@ -105,7 +110,7 @@ held_within r access b c k s t g (inr h) w = within_carried b c k s t g (ap (λ 
 pub flagged_asked : (job : Job) (r : Register) (n : ℕ) (base : Counted) (b c : ℕ) (k : Hand) (v : ℕ) (s t : Port)
     (q : Request) → register s.target.select q ≡ r → is_exempt r ≡ false → s.target.reset ≡ Live
     → s.target.pending ≡ None
-    → s.target.write_error ≡ true → (q.ap ≡ true → s.target.debug_power ≡ true)
+    → s.target.write_error ≡ true → (q.ap ≡ true → has_power s.target ≡ true)
     → base.lost ≤ s.tally.lost → b ≤ c → Within b k s.target → n ≤ s.tally.disturbed → Asks s q v t
     → (Frame s t → Same s t → s.tally.disturbed ≤ t.tally.disturbed → FaultedAt job n c k t)
     → Came job n base c k v t
@@ -118,15 +123,8 @@ flagged_asked job r n base b c k v s t q reg ex live rest write power l g within
     ]
 
 -- CTRL/STAT READS
-tells : (word : ℕ) (s t : Port) → Frame s t → Same s t
-    → StatusReads s.target.sticky_error s.target.read_ok s.target.write_error s.target.debug_power
-    s.target.system_power word → Tells word t.target
-tells word s t f e h = record {
-  error = h.sticky_held ∙ sym e.sticky;
-  damaged = h.write_held ∙ sym e.write;
-  debug = h.debug_held ∙ sym f.debug;
-  system = h.system_held ∙ sym f.system;
-}
+tells : (busy : Bool) (s t : Port) → Same s t → StatusTells busy s.target → Tells (status_in busy s.target) t.target
+tells busy s t e h = record { error = h.sticky_held ∙ sym e.sticky; damaged = h.write_held ∙ sym e.write }
 
 abbrev pub status : Request
 status = record { ap = false; read = true; addr = R4 }
@@ -144,11 +142,80 @@ says_from job n b k s t flip live h sp a more =
     let f = frame_accepts CtrlStatRead true flip s t refl live a in
     let e = same_accepts CtrlStatRead true flip s t a in
     let r = status_returned flip s t a in (
-      status_in s.target,
-      tells (status_in s.target) s t f e r.1,
-      reads_from (status_in s.target) n
+      status_in a.busy s.target,
+      tells a.busy s t e r.1,
+      reads_from (status_in a.busy s.target) n
           (λ c. Before job c b k t) flip s t r.0 sp (before_framed n n b k s t f e (omega arith) job h)
           (λ d. before_framed n (n + 1) b k s t f e (omega arith) job h),
+    )
+
+-- what the word says of the power that was asked for
+found : (busy : Bool) (u : PowerUp) → is_there (power_up_after busy CtrlStatRead u) ≡ true
+    → power_up_after busy CtrlStatRead u ≡ Seen
+found busy u e = grind arith
+
+found_late : (busy : Bool) (u : PowerUp) → is_there (power_up_after busy CtrlStatRead u) ≡ false → busy ≡ true
+found_late busy u e = grind arith
+
+both_there : (a b there : Bool) → (a && there) && (b && there) ≡ true → there ≡ true
+both_there a b there e = grind arith
+
+both_late : (a b there : Bool) → a ≡ true → b ≡ true → (a && there) && (b && there) ≡ false → there ≡ false
+both_late a b there x y e = grind arith
+
+-- whether it is there, for as many events as there were
+module _ (n b : ℕ) (k : Hand) (s t : Port) (flip : Option ℕ) (h : Before (At Powered) n b k s)
+    (a : Accepts CtrlStatRead true flip s t) where
+  powers_told : StatusTells a.busy s.target → is_powered (status_in a.busy s.target)
+      ≡ ((s.target.debug_power && is_there (power_up_after a.busy CtrlStatRead s.target.power_up))
+      && (s.target.system_power && is_there (power_up_after a.busy CtrlStatRead s.target.power_up)))
+  powers_told r = rw (r.debug_held, r.system_held) refl
+
+  was_there : StatusTells a.busy s.target → is_powered (status_in a.busy s.target) ≡ true → t.target.power_up ≡ Seen
+  was_there r powered = ap (λ i. i.power_up) a.target
+      ∙ found a.busy s.target.power_up (both_there s.target.debug_power s.target.system_power _ (sym (powers_told r) ∙ powered))
+
+  was_late : (m : ℕ) → m ≤ n ⊎ (flip ≡ None → ⊥) → Before (At Powered) n b k s → StatusTells a.busy s.target
+      → is_powered (status_in a.busy s.target) ≡ false → s.target.write_error ≡ false → m + 1 ≤ t.tally.disturbed
+  was_late m few (inr hurt) r powered clear = absurd (let x = hurt.flag in cc)
+  was_late m few (inl sure) r powered clear =
+      let d = a.disturbed (found_late a.busy s.target.power_up (both_late s.target.debug_power s.target.system_power _
+      sure.has.debug sure.has.system (sym (powers_told r) ∙ powered))) in
+      elim few [
+        | inl less ↦ omega (arith, d.1, sure.paid, less)
+        | inr other ↦ absurd (other d.0)
+      ]
+
+  asked_power : (m : ℕ) → n ≤ m → m ≤ n ⊎ (flip ≡ None → ⊥) → Frame s t → Same s t
+      → Before (At Powered) m b k t → StatusTells a.busy s.target → HasAsked (is_powered (status_in a.busy s.target)) m b k t
+  asked_power m more few f e before r = record {
+    before = before;
+    there = λ powered clear. was_there r powered;
+    late = λ powered clear. was_late m few h r powered (sym e.write ∙ clear);
+  }
+
+pub power_from : (n b : ℕ) (k : Hand) (s t : Port) (flip : Option ℕ) → s.target.reset ≡ Live
+    → Before (At Powered) n b k s → Spares flip s t → Accepts CtrlStatRead true flip s t
+    → s.tally.disturbed ≤ t.tally.disturbed → SaysPower n b k t
+power_from n b k s t flip live h (inl none) a more =
+    let f = frame_accepts CtrlStatRead true flip s t refl live a in
+    let e = same_accepts CtrlStatRead true flip s t a in
+    let r = status_returned flip s t a in (
+      status_in a.busy s.target,
+      tells a.busy s t e r.1,
+      whole (r.0.line ∙ ap (λ x. Drives (flipped x (phase_number (status_in a.busy s.target)))) none) r.0.range
+          (asked_power n b k s t flip h a n (omega arith) (inl (omega arith)) f e
+          (before_framed n n b k s t f e (omega arith) (At Powered) h) r.1),
+    )
+power_from n b k s t flip live h (inr (place, fits, some, one)) a more =
+    let f = frame_accepts CtrlStatRead true flip s t refl live a in
+    let e = same_accepts CtrlStatRead true flip s t a in
+    let r = status_returned flip s t a in (
+      status_in a.busy s.target,
+      tells a.busy s t e r.1,
+      changed place (r.0.line ∙ ap (λ x. Drives (flipped x (phase_number (status_in a.busy s.target)))) some) r.0.range
+          (asked_power n b k s t flip h a (n + 1) (omega arith) (inr (λ none. absurd (let x = sym some ∙ none in cc))) f e
+          (before_framed n (n + 1) b k s t f e (omega (arith, one)) (At Powered) h) r.1),
     )
 
 pub status_asked : (job : Job) (n : ℕ) (base : Counted) (b : ℕ) (k : Hand) (v : ℕ) (s t : Port)
@@ -159,6 +226,13 @@ status_asked job n base b k v s t select live rest l h asks go =
     exempt_asked job CtrlStatRead n base b k v s t status (status_register s select) refl
     (λ e. absurd (cc)) live rest l h asks
     (λ flip sp a more. go (says_from job n b k s t flip live h sp a more))
+
+pub power_asked : (n : ℕ) (base : Counted) (b : ℕ) (k : Hand) (v : ℕ) (s t : Port)
+    → s.target.select ≡ no_select → s.target.reset ≡ Live → s.target.pending ≡ None → base.lost ≤ s.tally.lost
+    → Before (At Powered) n b k s → Asks s status v t → Came (At Powered) n base b k v t
+power_asked n base b k v s t select live rest l h asks =
+    exempt_asked (At Powered) CtrlStatRead n base b k v s t status (status_register s select) refl
+    (λ e. absurd (cc)) live rest l h asks (λ flip sp a more. power_from n b k s t flip live h sp a more)
 
 -- ABORT WRITES
 pub abort_register : (s : Port) → s.target.select ≡ no_select → register s.target.select abort ≡ AbortWrite

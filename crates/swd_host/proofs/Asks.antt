@@ -12,7 +12,7 @@ use Rattle.swd_port.specs.declared.register.Register.TheVariants.{ResendRead, Se
 use Rattle.swd_port.specs.declared.register.Register.TheVariants.{CswWrite, TarWrite, DrwRead, DrwWrite}
 use Rattle.swd_port.specs.Registers.{csw_read}
 use Rattle.swd_port.specs.Answers.{is_exempt}
-use Rattle.swd_port.specs.Asking.{Asks, is_posted, pending_once_read}
+use Rattle.swd_port.specs.Asking.{Asks, has_power, is_posted, pending_once_read}
 use Rattle.swd_port.specs.Outcomes.{Stays, Accepts, okay}
 use Rattle.swd_port.specs.Outcomes.{lost}
 use Rattle.swd_port.specs.Laws.WordsRead.{OnLine}
@@ -30,7 +30,7 @@ use Rattle.swd_host.specs.Tracks.{Resent, During}
 use Rattle.swd_host.specs.Tracks.{Within, Reads, Writes, Awake}
 use Rattle.swd_host.proofs.Frames.{Frame, Same, frame_accepts, same_accepts, has_framed, sure_framed}
 use Rattle.swd_host.proofs.Frames.{resent_framed, before_within, has_within}
-use Rattle.swd_host.proofs.Frames.{within_idle, lost_within}
+use Rattle.swd_host.proofs.Frames.{within_idle, lost_within, seen_accepts, has_debug}
 use Rattle.swd_host.proofs.Asked.{Came, came_okay, came_lost, reads_from, writes_from}
 use Rattle.swd_host.proofs.Asked.{free_asked, flagged_asked, abort_asked}
 
@@ -95,13 +95,13 @@ spoilt_calm p b k s h = written_calm h.back b k s (back_written p h.back k.task 
 
 -- AN ACCESS PORT'S REQUESTS HAVE POWER
 hurt_power : (p : Place) (n b : ℕ) (k : Hand) (s : Port) → Hurt p n b k s
-    → (request_of (At p) k.task).ap ≡ true → s.target.debug_power ≡ true
+    → (request_of (At p) k.task).ap ≡ true → has_power s.target ≡ true
 hurt_power Recall n b k s h e =
     let is : h.back ≡ Configure = (let c = h.confirms in cc) in
-    let has : Has Configure b k s.target = subst (λ x. Has x b k s.target) is h.has in has.debug
+    let has : Has Configure b k s.target = subst (λ x. Has x b k s.target) is h.has in has_debug s.target has.debug has.seen
 hurt_power Transfer n b k s h e =
     let has : Has Aim b k s.target = subst (λ x. Has x b k s.target)
-    (aim_confirmed k.aims h.back h.confirms) h.has in has.up.debug
+    (aim_confirmed k.aims h.back h.confirms) h.has in has_debug s.target has.up.debug has.up.seen
 hurt_power Identify n b k s h e = absurd (cc)
 hurt_power Wipe n b k s h e = absurd (cc)
 hurt_power Inspect n b k s h e = absurd (cc)
@@ -111,7 +111,7 @@ hurt_power Powered n b k s h e = absurd (cc)
 hurt_power Configured n b k s h e = absurd (cc)
 hurt_power Confirm n b k s h e =
     let has : Has Transfer b k s.target = subst (λ x. Has x b k s.target)
-    (transfer_confirmed k.task h.back h.confirms) h.has in has.up.debug
+    (transfer_confirmed k.task h.back h.confirms) h.has in has_debug s.target has.up.debug has.up.seen
 hurt_power Configure n b k s h e = absurd (let c = h.confirms in cc)
 hurt_power Aim n b k s h e = absurd (let c = h.confirms in cc)
 hurt_power Behind n b k s h e = absurd (let c = h.confirms in cc)
@@ -211,6 +211,7 @@ frame_refl s = record {
   tar = refl;
   debug = refl;
   system = refl;
+  seen = λ e. e;
   increments = refl;
   upper = refl;
   buffer = refl;
@@ -258,6 +259,7 @@ up_accepts m r read flip s t p a h = record {
   debug =
       (ap (λ i. i.debug_power) a.target) ∙ h.debug;
   system = (ap (λ i. i.system_power) a.target) ∙ h.system;
+  seen = seen_accepts a h.seen;
   increments = (ap (λ i. i.increments) a.target) ∙ h.increments;
 }
 
@@ -266,7 +268,7 @@ module _ (p : Place) (n : ℕ) (base : Counted) (b c : ℕ) (k : Hand) (v : ℕ)
   pub write_asked : (r : Register) → register_at p k.task ≡ r → (request_of (At p) k.task).read ≡ false
       → is_exempt r ≡ false → is_posted r ≡ false → is_exempt_place p ≡ false → is_wipe p ≡ false → r ≢ DrwRead
       → b ≤ c → Calm k.memory s.target → ((request_of (At p) k.task).ap ≡ true
-      → s.target.debug_power ≡ true) → base.lost ≤ s.tally.lost
+      → has_power s.target ≡ true) → base.lost ≤ s.tally.lost
       → Sure p n b k s → Asks s (request_of (At p) k.task) v t
       → (Writes r n (λ x. Sure p x c k t) t → During (At p) n c k t) → Came (At p) n base c k v t
   write_asked r reg writes ex posted plain wipe nodrw g calm power l h asks go =
@@ -346,7 +348,7 @@ recall_asked n base b k v s t l h asks =
     let calm : Calm k.memory s.target = h.has.up.calm in
     free_asked (At Recall) CswRead n base b b k v s t (request_of (At Recall) k.task)
     (register_there Recall k.task s calm.select) refl (λ e. absurd (cc)) calm.live calm.pending
-    (h.flag refl) calm.sticky (λ e. h.has.up.debug) l (omega arith) (has_within Recall b k s h.has) h.paid asks
+    (h.flag refl) calm.sticky (λ e. has_debug s.target h.has.up.debug h.has.up.seen) l (omega arith) (has_within Recall b k s h.has) h.paid asks
     (λ flip sp a more. recalled n b k s t flip h a more)
     refl (λ f e d. inl (sure_framed n (n + 1) b k s t f e (omega arith) Recall h))
 

@@ -29,7 +29,7 @@ use Rattle.swd_host.specs.Tracks.{Hand, Counted, no_select, Under, Sure, Returne
 use Rattle.swd_host.specs.Tracks.{whole, changed, by_error, next_error, FaultedAt, Within, memory_once_done, next_hand}
 use Rattle.swd_host.specs.Tracks.{DoneBy, ahead_of, IsTask}
 use Rattle.swd_host.proofs.Frames.{Frame, Same, frame_waits, same_waits, frame_accepts, same_accepts, resent_framed}
-use Rattle.swd_host.proofs.Frames.{within_next, within_sent, within_done}
+use Rattle.swd_host.proofs.Frames.{within_next, within_sent, within_done, seen_accepts}
 use Rattle.swd_host.proofs.Asked.{Came, reads_from}
 use Rattle.swd_host.proofs.Asks.{resend_rested, confirming_register}
 use Rattle.swd_host.proofs.Transfers.{under_stays, confirming_came, confirm_came}
@@ -102,6 +102,7 @@ module _ (at n c : ℕ) (k : Hand) (x y : Port) (flip : Option ℕ) (task : k.ta
     select = ap (λ i. i.select) ac.target ∙ u.select;
     debug = ap (λ i. i.debug_power) ac.target ∙ u.debug;
     system = ap (λ i. i.system_power) ac.target ∙ u.system;
+    seen = seen_accepts ac u.seen;
     increments = ap (λ i. i.increments) ac.target ∙ u.increments;
     begun = omega arith;
     sent = read_begins (address (access_of k.task) + 4) (memory_once_done k) flip x y next_aimed ac;

@@ -114,11 +114,11 @@ module _ (job : Job) (n : ℕ) (stray : Bool) (start s y z t : Port) (flip : Opt
       (omega (arith, same_count)) h)
 
   -- a CTRL/STAT read that was answered: its word is on the line
-  status_reads : Accepts CtrlStatRead true flip y z
-      → Reads (status_in y.target) n (λ c. EarlyBefore job c stray start t) t
+  status_reads : (a : Accepts CtrlStatRead true flip y z)
+      → Reads (status_in a.busy y.target) n (λ c. EarlyBefore job c stray start t) t
   status_reads a =
       let r = status_returned flip y z a in
-      reads_from (status_in y.target) n (λ c. EarlyBefore job c stray start t) flip y t
+      reads_from (status_in a.busy y.target) n (λ c. EarlyBefore job c stray start t) flip y t
       (record { line = ap (λ i. i.line) (kept_by z t last).link ∙ r.0.line; range = r.0.range })
       (spares_later flip y z t same_count sp)
       (across job n n stray start s y z t CtrlStatRead true flip refl live_then first a last (omega arith) h)
@@ -126,8 +126,8 @@ module _ (job : Job) (n : ℕ) (stray : Bool) (start s y z t : Port) (flip : Opt
       (omega (arith, same_count)) h)
 
   -- what it tells while nothing is pending
-  status_shows : s.target.pending ≡ None → Accepts CtrlStatRead true flip y z
-      → Shows (flags_in (status_in y.target)) t.target
+  status_shows : s.target.pending ≡ None → (a : Accepts CtrlStatRead true flip y z)
+      → Shows (flags_in (status_in a.busy y.target)) t.target
   status_shows none a =
       let r = (status_returned flip y z a).1 in
       let f : Frame y z = frame_accepts CtrlStatRead true flip y z refl live_then a in
@@ -139,8 +139,8 @@ module _ (job : Job) (n : ℕ) (stray : Bool) (start s y z t : Port) (flip : Opt
       }
 
   -- what it tells while the transfer may be pending
-  status_glimpsed : Wiped n stray start s → Accepts CtrlStatRead true flip y z
-      → Glimpsed (flags_in (status_in y.target)) stray t.target
+  status_glimpsed : Wiped n stray start s → (a : Accepts CtrlStatRead true flip y z)
+      → Glimpsed (flags_in (status_in a.busy y.target)) stray t.target
   status_glimpsed wiped a =
       let r = (status_returned flip y z a).1 in
       let f : Frame y z = frame_accepts CtrlStatRead true flip y z refl live_then a in
@@ -187,7 +187,7 @@ module _ (n : ℕ) (base : Counted) (stray : Bool) (start : Port) (v : ℕ) (s t
       exempt_early (Status Select) n base stray start v s t (request_of (Status Select) k) CtrlStatRead
       (reached (Status Select) h.woken.any.select) refl (no_drw CtrlStatRead refl) h.woken l asks
       (λ y z flip first sp a more last. (
-        status_in y.target,
+        status_in a.busy y.target,
         status_shows (Status Select) n stray start s y z t flip h.woken.live first sp more last h h.pending a,
         status_reads (Status Select) n stray start s y z t flip h.woken.live first sp more last h a,
       ))
@@ -199,7 +199,7 @@ module _ (n : ℕ) (base : Counted) (stray : Bool) (start : Port) (v : ℕ) (s t
       exempt_early (At Inspect) n base stray start v s t (request_of (At Inspect) k) CtrlStatRead
       (reached (At Inspect) w.any.select) refl (no_drw CtrlStatRead refl) w l asks
       (λ y z flip first sp a more last. (
-        status_in y.target,
+        status_in a.busy y.target,
         status_glimpsed (At Inspect) n stray start s y z t flip w.live first sp more last h h a,
         status_reads (At Inspect) n stray start s y z t flip w.live first sp more last h a,
       ))
@@ -212,7 +212,7 @@ module _ (n : ℕ) (base : Counted) (stray : Bool) (start : Port) (v : ℕ) (s t
       exempt_early job n base stray start v s t (request_of job k) CtrlStatRead (reached job w.any.select) refl
       (no_drw CtrlStatRead refl) w l asks
       (λ y z flip first sp a more last. (
-        status_in y.target,
+        status_in a.busy y.target,
         status_shows job n stray start s y z t flip w.live first sp more last h
             (cleared_rests owed n stray start s h) a,
         status_reads job n stray start s y z t flip w.live first sp more last h a,

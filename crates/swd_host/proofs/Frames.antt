@@ -3,14 +3,16 @@ use Rattle.std.proofs.Common.{◌≡◌, ◌≢◌, ◌+◌, ◌%◌, ◌≤◌,
 use Rattle.std.proofs.Common.{arith, ◌∙◌}
 use Rattle.std.specs.Prelude.{Option, None, ◌⊎◌, ◌||◌, if◌then◌else◌}
 use Rattle.swd_port.specs.PlainMemory.{PlainMemory, plain_after}
-use Rattle.swd_port.specs.Port.{Port}
+use Rattle.swd_port.specs.Port.{Port, Target}
 use Rattle.swd_port.specs.declared.register.Register.{Register}
 use Rattle.swd_port.specs.declared.register.Register.TheVariants.{DrwRead, AbortWrite}
 use Rattle.swd_port.specs.declared.state.Reset.TheVariants.{Unreset, Live}
 use Rattle.swd_port.specs.Completion.{Completes}
 use Rattle.swd_port.specs.Answers.{is_unpowered}
 use Rattle.swd_port.specs.declared.state.Drw.{Drw}
-use Rattle.swd_port.specs.Asking.{is_posted, buffer_once_read, pending_once_read}
+use Rattle.swd_port.specs.Asking.{has_power, power_up_after, is_posted, buffer_once_read, pending_once_read}
+use Rattle.swd_port.specs.declared.state.PowerUp.{PowerUp}
+use Rattle.swd_port.specs.declared.state.PowerUp.TheVariants.{Seen}
 use Rattle.swd_port.specs.Outcomes.{Stays, Defers, Refuses, Accepts}
 use Rattle.swd_port.specs.Moves.{Passed, Gave, Spoiled}
 use Rattle.swd_port.specs.Moving.{Arrives, sticky_error_after, write_error_after}
@@ -29,7 +31,7 @@ use Rattle.swd_host.specs.declared.request.Place.TheVariants.{Configure, Recall,
 use Rattle.swd_host.specs.declared.request.Place.TheVariants.{Behind}
 use Rattle.swd_host.specs.declared.request.Job.{Job}
 use Rattle.swd_host.specs.declared.request.Job.TheVariants.{At, Resend, Status, LastStatus, Clear, Check}
-use Rattle.swd_host.specs.Tracks.{Hand, Calm, HasPower, Up, Under, Has, Sure}
+use Rattle.swd_host.specs.Tracks.{Hand, Calm, AsksPower, HasPower, Up, Under, Has, Sure}
 use Rattle.swd_host.specs.Tracks.{Hurt, Broken, Facts, Refused, by_damage, by_error, Owes, Checks, cleared}
 use Rattle.swd_host.specs.Tracks.{kept, Done, Returned, Resent, Before, Within, IsWithin, within_none, within_first}
 use Rattle.swd_host.specs.Tracks.{within_both, memory_once_done, next_hand, AheadAt, DoneBy, ahead_of}
@@ -44,6 +46,7 @@ pub record Frame (s t : Port) : Type 0 where
   pub tar : t.target.tar ≡ s.target.tar
   pub debug : t.target.debug_power ≡ s.target.debug_power
   pub system : t.target.system_power ≡ s.target.system_power
+  pub seen : s.target.power_up ≡ Seen → t.target.power_up ≡ Seen
   pub increments : t.target.increments ≡ s.target.increments
   pub upper : t.target.csw_upper ≡ s.target.csw_upper
   pub buffer : t.target.buffer ≡ s.target.buffer
@@ -69,6 +72,7 @@ framed s t ok error write h = record {
   tar = ap (λ i. i.tar) h;
   debug = ap (λ i. i.debug_power) h;
   system = ap (λ i. i.system_power) h;
+  seen = λ e. ap (λ i. i.power_up) h ∙ e;
   increments = ap (λ i. i.increments) h;
   upper = ap (λ i. i.csw_upper) h;
   buffer = ap (λ i. i.buffer) h;
@@ -97,9 +101,9 @@ same_waits r s t h = record { sticky = ap (λ i. i.sticky_error) h.target; write
 
 pub frame_refuses : (r : Register) (access : Bool) (s t : Port) → Refuses r access s t → Frame s t
 frame_refuses r access s t h = framed s t (if is_posted r then false else s.target.read_ok)
-    (s.target.sticky_error || is_unpowered access s.target.debug_power) s.target.write_error h.target
+    (s.target.sticky_error || is_unpowered access (has_power s.target)) s.target.write_error h.target
 
-pub same_refuses : (r : Register) (access : Bool) (s t : Port) → (access ≡ true → s.target.debug_power ≡ true)
+pub same_refuses : (r : Register) (access : Bool) (s t : Port) → (access ≡ true → has_power s.target ≡ true)
     → Refuses r access s t → Same s t
 same_refuses r access s t power h = record {
   sticky = refused_with_power r access s t h power;
@@ -125,6 +129,18 @@ plain_pending r pending e = grind arith
 plain_returned : (posted : Bool) (buffer last : Option ℕ) → posted ≡ false → (if posted then buffer else last) ≡ last
 plain_returned posted buffer last e = grind arith
 
+-- power that was seen stays there
+seen_kept : (busy : Bool) (r : Register) (u : PowerUp) → u ≡ Seen → power_up_after busy r u ≡ Seen
+seen_kept busy r u e = grind arith
+
+pub seen_accepts : {r : Register} {read : Bool} {flip : Option ℕ} {s t : Port} → Accepts r read flip s t
+    → s.target.power_up ≡ Seen → t.target.power_up ≡ Seen
+seen_accepts a e = ap (λ i. i.power_up) a.target ∙ seen_kept _ _ _ e
+
+-- there is debug power, then
+pub has_debug : (x : Target) → x.debug_power ≡ true → x.power_up ≡ Seen → has_power x ≡ true
+has_debug x debug seen = rw (debug, seen) refl
+
 -- an accepted request that isn't a posted read
 pub frame_accepts : (r : Register) (read : Bool) (flip : Option ℕ) (s t : Port) → is_posted r ≡ false
     → s.target.reset ≡ Live → Accepts r read flip s t → Frame s t
@@ -136,6 +152,7 @@ frame_accepts r read flip s t plain live h = record {
   tar = ap (λ i. i.tar) h.target;
   debug = ap (λ i. i.debug_power) h.target;
   system = ap (λ i. i.system_power) h.target;
+  seen = seen_accepts h;
   increments = ap (λ i. i.increments) h.target;
   upper = ap (λ i. i.csw_upper) h.target;
   buffer = ap (λ i. i.buffer) h.target ∙ plain_buffer r _ _ _ plain;
@@ -176,7 +193,16 @@ up_framed m s t f e h = record {
   calm = calm_framed m s t f e h.calm;
   debug = f.debug ∙ h.debug;
   system = f.system ∙ h.system;
+  seen = f.seen h.seen;
   increments = f.increments ∙ h.increments;
+}
+
+asks_framed : (m : PlainMemory) (s t : Port) → Frame s t → t.target.sticky_error ≡ s.target.sticky_error
+    → AsksPower m s.target → AsksPower m t.target
+asks_framed m s t f e h = record {
+  calm = calm_framed m s t f e h.calm;
+  debug = f.debug ∙ h.debug;
+  system = f.system ∙ h.system;
 }
 
 power_framed : (m : PlainMemory) (s t : Port) → Frame s t → t.target.sticky_error ≡ s.target.sticky_error
@@ -185,6 +211,7 @@ power_framed m s t f e h = record {
   calm = calm_framed m s t f e h.calm;
   debug = f.debug ∙ h.debug;
   system = f.system ∙ h.system;
+  seen = f.seen h.seen;
 }
 
 pub under_framed : (b c : ℕ) (k : Hand) (s t : Port) → b ≤ c → Frame s t
@@ -195,6 +222,7 @@ under_framed b c k s t g f e h = record {
   debug = f.debug
       ∙ h.debug;
   system = f.system ∙ h.system;
+  seen = f.seen h.seen;
   increments = f.increments ∙ h.increments;
   begun = omega (arith, h.begun);
   sent = sent_carried _ _ s.target t.target (carries s t f e) h.sent;
@@ -215,7 +243,7 @@ has_framed Wipe b c k s t g f e h = calm_framed _ s t f e h
 has_framed Inspect b c k s t g f e h = calm_framed _ s t f e h
 has_framed Select b c k s t g f e h = calm_framed _ s t f e h
 has_framed Power b c k s t g f e h = calm_framed _ s t f e h
-has_framed Powered b c k s t g f e h = power_framed _ s t f e h
+has_framed Powered b c k s t g f e h = asks_framed _ s t f e h
 has_framed Configure b c k s t g f e h = power_framed _ s t f e h
 has_framed Recall b c k s t g f e h = record { up = up_framed _ s t f e h.up; upper = f.upper ∙ h.upper }
 has_framed Configured b c k s t g f e h = record { up = up_framed _ s t f e h.up; buffer = f.buffer ∙ h.buffer }
@@ -234,6 +262,7 @@ broken_framed p b k s t f h = record {
       ∙ h.select;
   debug = f.debug ∙ h.debug;
   system = f.system ∙ h.system;
+  seen = f.seen h.seen;
   increments = f.increments ∙ h.increments;
   pending = f.pending ∙ h.pending;
   memory = f.memory ∙ h.memory;

@@ -175,6 +175,7 @@ module _ (n b : ℕ) (k : Hand) (s t : Port) (sent : ℕ) (range : sent < 2 ^ 33
             };
             debug = ap (λ i. i.debug_power) g.target ∙ h.has.debug;
             system = ap (λ i. i.system_power) g.target ∙ h.has.system;
+            seen = ap (λ i. i.power_up) g.target ∙ h.has.seen;
             increments = ap (λ i. i.increments) g.target;
           };
           upper = ap (λ i. i.csw_upper) g.target;
@@ -204,6 +205,7 @@ module _ (n b : ℕ) (k : Hand) (s t : Port) (sent : ℕ) (range : sent < 2 ^ 33
             };
             debug = ap (λ i. i.debug_power) g.target ∙ h.has.up.debug;
             system = ap (λ i. i.system_power) g.target ∙ h.has.up.system;
+            seen = ap (λ i. i.power_up) g.target ∙ h.has.up.seen;
             increments = ap (λ i. i.increments) g.target ∙ h.has.up.increments;
           };
           tar = ap (λ i. i.tar) g.target;
@@ -225,6 +227,7 @@ module _ (n b : ℕ) (k : Hand) (s t : Port) (sent : ℕ) (range : sent < 2 ^ 33
         select = ap (λ i. i.select) g.target ∙ c.select;
         debug = ap (λ i. i.debug_power) g.target ∙ h.up.debug;
         system = ap (λ i. i.system_power) g.target ∙ h.up.system;
+        seen = ap (λ i. i.power_up) g.target ∙ h.up.seen;
         increments = ap (λ i. i.increments) g.target ∙ h.up.increments;
         begun = begun;
         sent = subst (λ a. Sent a k.memory y.target) (sym is)

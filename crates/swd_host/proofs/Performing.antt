@@ -454,6 +454,7 @@ module _ (i : ℕ) (list : List Access) (o e : Engine) (answers : List Answer) (
             write_error = ap (λ x. x.write_error) passed.target ∙ ready.flag;
             debug = ap (λ x. x.debug_power) passed.target ∙ up.debug;
             system = ap (λ x. x.system_power) passed.target ∙ up.system;
+            seen = ap (λ i. i.power_up) passed.target ∙ up.seen;
           },
         );
         least = λ all. omega (arith, sent_least i o e r.sent);

@@ -27,7 +27,8 @@ use Rattle.swd_host.specs.Tracks.{Before, During}
 use Rattle.swd_host.specs.Tracks.{Says}
 use Rattle.swd_host.proofs.Frames.{owes_framed}
 use Rattle.swd_host.proofs.Asked.{Came, came_okay, came_wait, came_fault, came_lost, status}
-use Rattle.swd_host.proofs.Asked.{status_asked, abort_asked}
+use Rattle.swd_host.proofs.Asked.{status_asked, power_asked, abort_asked}
+use Rattle.swd_host.proofs.Frames.{has_debug}
 use Rattle.swd_host.proofs.Transfers.{drw_asked, confirm_asked}
 use Rattle.swd_host.proofs.Asks.{hurt_calm, spoilt_calm, hurt_asked, write_asked, wipe_asked, identify_asked}
 use Rattle.swd_host.proofs.Asks.{recall_asked, configured_asked}
@@ -101,6 +102,10 @@ module _ (n : ℕ) (base : Counted) (b : ℕ) (k : Hand) (v : ℕ) (s t : Port) 
       → (Says job n b k t → During job n b k t) → Came job n base b k v t
   says_asked job r h asks go = status_asked job n base b k v s t r.select r.live r.pending l h asks go
 
+  powers_asked : Before (At Powered) n b k s → Asks s status v t → Came (At Powered) n base b k v t
+  powers_asked h asks =
+      let r = powered_rest n b k s h in power_asked n base b k v s t r.select r.live r.pending l h asks
+
   -- a request that begins no access
   plain_asked : (p : Place) → Sure p n b k s → Asks s (request_of (At p) k.task) v t
       → begins (At p) k.task ≡ 0 → is_confirm p ≡ false → Came (At p) n base b k v t
@@ -111,15 +116,14 @@ module _ (n : ℕ) (base : Counted) (b : ℕ) (k : Hand) (v : ℕ) (s t : Port) 
       (λ e. absurd (cc)) (omega arith) h.has (λ e. absurd (cc)) l h asks (λ w. w)
   plain_asked Power h asks none other = write_asked Power n base b b k v s t CtrlStatWrite refl refl refl refl refl refl
       (λ e. absurd (cc)) (omega arith) h.has (λ e. absurd (cc)) l h asks (λ w. w)
-  plain_asked Powered h asks none other =
-      says_asked (At Powered) (powered_rest n b k s (inl h)) (inl h) asks (λ x. x)
+  plain_asked Powered h asks none other = powers_asked (inl h) asks
   plain_asked Configure h asks none other = write_asked Configure n base b b k v s t CswWrite refl refl refl refl
       refl refl
-      (λ e. absurd (cc)) (omega arith) h.has.calm (λ e. h.has.debug) l h asks (λ w. w)
+      (λ e. absurd (cc)) (omega arith) h.has.calm (λ e. has_debug s.target h.has.debug h.has.seen) l h asks (λ w. w)
   plain_asked Recall h asks none other = recall_asked n base b k v s t l h asks
   plain_asked Configured h asks none other = configured_asked n base b k v s t l h asks
   plain_asked Aim h asks none other = write_asked Aim n base b b k v s t TarWrite refl refl refl refl refl refl
-      (λ e. absurd (cc)) (omega arith) h.has.up.calm (λ e. h.has.up.debug) l h asks (λ w. w)
+      (λ e. absurd (cc)) (omega arith) h.has.up.calm (λ e. has_debug s.target h.has.up.debug h.has.up.seen) l h asks (λ w. w)
   plain_asked Transfer h asks none other = absurd (omega arith)
   plain_asked Confirm h asks none other = absurd (cc)
   plain_asked Behind h asks none other = absurd h.has
@@ -145,8 +149,7 @@ module _ (n : ℕ) (base : Counted) (b : ℕ) (k : Hand) (v : ℕ) (s t : Port) 
       → Came (At p) n base (max b (begins (At p) k.task)) k v t
   place_hurt Inspect h asks = came_same (At Inspect) n base b k v t
       (says_asked (At Inspect) (inspect_rest n b k s (inr h)) (inr h) asks (λ x. x))
-  place_hurt Powered h asks = came_same (At Powered) n base b k v t
-      (says_asked (At Powered) (powered_rest n b k s (inr h)) (inr h) asks (λ x. x))
+  place_hurt Powered h asks = came_same (At Powered) n base b k v t (powers_asked (inr h) asks)
   place_hurt Power h asks = hurt_asked Power n base b (max b 0) k v s t refl (le-max_left b 0) l h asks
   place_hurt Recall h asks = hurt_asked Recall n base b (max b 0) k v s t refl (le-max_left b 0) l h asks
   place_hurt Transfer h asks = hurt_asked Transfer n base b (max b 1) k v s t refl (le-max_left b 1) l h asks

@@ -366,6 +366,7 @@ module _ (a : Access) (following : Option Access) (e g : Engine) (starts : Start
           select = up.1.select;
           debug = up.1.debug;
           system = up.1.system;
+          seen = up.1.seen;
           increments = up.1.increments;
           begun = begun_here (failed_by false NextSent is at) burst;
           sent = subst (λ x. Sent x m s.target) (sym (same_access ∙ next_is e.task a up.0 (chain burst))) up.1.sent;

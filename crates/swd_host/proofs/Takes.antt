@@ -1,5 +1,5 @@
 -- What a data phase that was read tells the engine.
-use Rattle.std.proofs.Common.{◌≡◌, ◌≢◌, ◌+◌, ◌%◌, ◌^◌, ◌<◌, ℕ, false, refl, sym, ap, subst, inl}
+use Rattle.std.proofs.Common.{◌≡◌, ◌≢◌, ◌+◌, ◌%◌, ◌^◌, ◌<◌, ℕ, Bool, false, refl, sym, ap, subst, inl}
 use Rattle.std.proofs.Common.{arith, ◌∙◌}
 use Rattle.std.specs.Prelude.{Option, Some, None}
 use Rattle.swd_host.specs.declared.task.Task.{Task}
@@ -23,8 +23,9 @@ use Rattle.swd_host.specs.Requests.{word_for, word_of_task}
 use Rattle.swd_host.specs.Tasks.{is_burst_write}
 use Rattle.swd_host.specs.Engines.{is_ahead_at}
 use Rattle.swd_host.specs.declared.engine.Phase.TheVariants.{Data}
+use Rattle.swd_host.specs.Flags.{is_powered}
 use Rattle.swd_host.specs.Tracks.{Hand, Under, Sure, Resent, Before, During, Transfers, Confirms, Confirmed}
-use Rattle.swd_host.specs.Tracks.{Says, Tells, Reads, whole, changed, Awake, TookAt, ConfirmTook, TakenFor}
+use Rattle.swd_host.specs.Tracks.{HasAsked, SaysPower, Says, Tells, Reads, whole, changed, Awake, TookAt, ConfirmTook, TakenFor}
 use Rattle.swd_host.proofs.Frames.{Frame, Same, frame_passed, same_passed, calm_framed, has_framed, sure_framed}
 use Rattle.swd_host.proofs.Frames.{resent_framed, done_framed, before_framed}
 use Rattle.swd_host.proofs.Transfers.{under_stays}
@@ -100,11 +101,34 @@ module _ (n b : ℕ) (k : Hand) (s t : Port) (bits : ℕ) (range : bits < 2 ^ 33
         error = says.1.error ∙ sym r.same.sticky;
         damaged = says.1.damaged
             ∙ sym r.same.write;
-        debug = says.1.debug ∙ sym r.frame.debug;
-        system = says.1.system ∙ sym r.frame.system;
       } in
       told X says.0 n bits (λ c. Before job c b k s) (λ c. Before job c b k t) s t range takes says.2
       (λ c h. before_framed c c b k s t r.frame r.same (omega (arith, r.disturbed)) job h) (good says.0 tells) bad
+
+  power_pending : (powered : Bool) (c : ℕ) → HasAsked powered c b k s → s.target.pending ≡ None
+  power_pending powered c h = (powered_rest c b k s h.before).pending
+
+  said_pending : SaysPower n b k s → s.target.pending ≡ None
+  said_pending (word, tells, whole line small h) = power_pending _ n h
+  said_pending (word, tells, changed place line small h) = power_pending _ (n + 1) h
+
+  power_took : (powered : Bool) (c : ℕ) → AtRestTook s t → HasAsked powered c b k s → HasAsked powered c b k t
+  power_took powered c r h = record {
+    before = before_framed c c b k s t r.frame r.same (omega (arith, r.disturbed)) (At Powered) h.before;
+    there = λ e clear. r.frame.seen (h.there e (sym r.same.write ∙ clear));
+    late = λ e clear. let few = h.late e (sym r.same.write ∙ clear) in omega (arith, few, r.disturbed);
+  }
+
+  power_facts : SaysPower n b k s → TookAt Powered (word_in bits) n b k t
+  power_facts says =
+      let r : AtRestTook s t = rest_took s t bits (said_pending says) takes in
+      let tells : Tells says.0 t.target = record {
+        error = says.1.error ∙ sym r.same.sticky;
+        damaged = says.1.damaged ∙ sym r.same.write;
+      } in
+      told (λ w. TookAt Powered w n b k t) says.0 n bits (λ c. HasAsked (is_powered says.0) c b k s)
+      (λ c. HasAsked (is_powered says.0) c b k t) s t range takes says.2
+      (λ c h. power_took (is_powered says.0) c r h) (λ h. (tells, h)) (λ h. h.before)
 
   resent_facts : (p : Place) (word : ℕ) → Reads word n (λ c. Resent p word c b k s) s
       → (X : Option ℕ → Type 0) → ((w : ℕ) → Resent p w n b k t → X (Some w))
@@ -166,10 +190,6 @@ module _ (n b : ℕ) (k : Hand) (s t : Port) (bits : ℕ) (range : bits < 2 ^ 33
   inspect_pending word (whole line small h) = (inspect_rest n b k s h).pending
   inspect_pending word (changed place line small h) = (inspect_rest (n + 1) b k s h).pending
 
-  powered_pending : (word : ℕ) → Reads word n (λ c. Before (At Powered) c b k s) s → s.target.pending ≡ None
-  powered_pending word (whole line small h) = (powered_rest n b k s h).pending
-  powered_pending word (changed place line small h) = (powered_rest (n + 1) b k s h).pending
-
   status_pending : (p : Place) (word : ℕ) → Reads word n (λ c. Before (Status p) c b k s) s → s.target.pending ≡ None
   status_pending p word (whole line small h) = (refused_rest p n b k s h).pending
   status_pending p word (changed place line small h) = (refused_rest p (n + 1) b k s h).pending
@@ -190,8 +210,7 @@ module _ (n b : ℕ) (k : Hand) (s t : Port) (bits : ℕ) (range : bits < 2 ^ 33
   taken_facts (At Identify) e none h = identify_facts h (awake_pending h)
   taken_facts (At Inspect) e none h = says_facts (At Inspect) (inspect_pending h.0 h.2) h
       (λ w. TookAt Inspect w n b k t) (λ w x y. (x, y)) (λ x. x)
-  taken_facts (At Powered) e none h = says_facts (At Powered) (powered_pending h.0 h.2) h
-      (λ w. TookAt Powered w n b k t) (λ w x y. (x, y)) (λ x. x)
+  taken_facts (At Powered) e none h = power_facts h
   taken_facts (At Recall) e none h = recall_facts h
   taken_facts (At Configured) e none h = resent_facts Configured h.0 h.1
       (λ w. TookAt Configured w n b k t) (λ w x. x) (λ x. x)

@@ -15,7 +15,7 @@ use Rattle.swd_port.specs.declared.register.Register.{Register}
 use Rattle.swd_port.specs.declared.register.Register.TheVariants.{RdbuffRead}
 use Rattle.swd_port.specs.declared.register.Register.TheVariants.{DrwRead, DrwWrite}
 use Rattle.swd_port.specs.Completion.{Completes}
-use Rattle.swd_port.specs.Asking.{Asks, pending_once_read}
+use Rattle.swd_port.specs.Asking.{Asks, has_power, pending_once_read}
 use Rattle.swd_port.specs.declared.state.Drw.{Drw}
 use Rattle.swd_port.specs.Outcomes.{Stays, Accepts, Refuses, Spares, SeesOkay, SeesWait}
 use Rattle.swd_port.specs.Outcomes.{okay, wait, lost}
@@ -35,7 +35,7 @@ use Rattle.swd_host.specs.Tracks.{by_error, Done, Resent, During}
 use Rattle.swd_host.specs.Tracks.{Transfers, Confirms, Confirmed, FaultedAt, Within, Writes}
 use Rattle.swd_host.specs.Tracks.{Waiting, own_error, DoneBy, ahead_of}
 use Rattle.swd_host.proofs.Frames.{Frame, frame_waits, frame_refuses}
-use Rattle.swd_host.proofs.Frames.{has_framed}
+use Rattle.swd_host.proofs.Frames.{has_framed, seen_accepts, has_debug}
 use Rattle.swd_host.proofs.Frames.{within_carried, within_stays, within_sent, within_idle}
 use Rattle.swd_host.proofs.Frames.{within_done}
 use Rattle.swd_host.proofs.Asked.{Came, came_okay, came_wait, came_fault, came_lost, reads_from, writes_from}
@@ -50,6 +50,7 @@ under_stays b k s t c h =
       select = kp.select ∙ h.select;
       debug = kp.debug_power ∙ h.debug;
       system = kp.system_power ∙ h.system;
+      seen = kp.power_up ∙ h.seen;
       increments = kp.increments ∙ h.increments;
       begun = h.begun;
       sent = sent_stays _ _ s t c h.sent;
@@ -77,6 +78,7 @@ read_under b k at flip s y some e h a = record {
   select = ap (λ i. i.select) a.target ∙ h.up.calm.select;
   debug = ap (λ i. i.debug_power) a.target ∙ h.up.debug;
   system = ap (λ i. i.system_power) a.target ∙ h.up.system;
+  seen = seen_accepts a h.up.seen;
   increments = ap (λ i. i.increments) a.target ∙ h.up.increments;
   begun = some;
   sent = read_sent k at flip s y e h a;
@@ -114,7 +116,7 @@ drw_read_asked n base b c k at v s t grows some e sent l h asks =
     let up : Up k.memory s.target = h.has.up in
     let (y, came, last) = free_request_at_rest DrwRead drw_read v s t
     (drw_register_there s up.calm.select) refl up.calm.live up.calm.pending (h.flag refl) up.calm.sticky
-    (λ x. up.debug) asks in
+    (λ x. has_debug s.target up.debug up.seen) asks in
     elim came [
       | okay a ↦
           (let x : Accepts DrwRead true a.flip s y = a.accepts in
@@ -150,7 +152,7 @@ drw_write_asked : (n : ℕ) (base : Counted) (b c : ℕ) (k : Hand) (v : ℕ) (s
     → Came (At Transfer) n base c k v t
 drw_write_asked n base b c k v s t grows r w l h asks go =
     write_asked Transfer n base b c k v s t DrwWrite r w refl refl refl refl (λ x. absurd (cc))
-    grows h.has.up.calm (λ x. h.has.up.debug) l h asks go
+    grows h.has.up.calm (λ x. has_debug s.target h.has.up.debug h.has.up.seen) l h asks go
 
 pub drw_asked : (task : Task) (n : ℕ) (base : Counted) (b c : ℕ) (k : Hand) (v : ℕ) (s t : Port) → k.task ≡ task
     → b ≤ c → 1 ≤ c → base.lost ≤ s.tally.lost → Sure Transfer n b k s → Asks s (request_of (At Transfer) k.task) v t
@@ -198,6 +200,7 @@ done_there b k r read flip x y p h d a = record {
     };
     debug = ap (λ i. i.debug_power) a.target ∙ h.debug;
     system = ap (λ i. i.system_power) a.target ∙ h.system;
+    seen = seen_accepts a h.seen;
     increments = ap (λ i. i.increments) a.target ∙ h.increments;
   };
   advanced = λ i q e z. ap (λ i. i.tar) a.target ∙ d.advanced (sym (ap (λ i. i.increments) a.target) ∙ i) q e z;
@@ -253,7 +256,7 @@ confirms_at (BurstWrite at word) n b k x y flip e single h flag paid more sp d a
 
 -- a request that confirms a transfer, whichever it is, with what is known of the transfer; what comes of it is the
 -- caller's
-module _ (r : Register) (q : Request) (h : Hand) (x y : Port) (power : q.ap ≡ true → x.target.debug_power ≡ true) where
+module _ (r : Register) (q : Request) (h : Hand) (x y : Port) (power : q.ap ≡ true → has_power x.target ≡ true) where
   broken_there : Under 1 h x.target → Failed (access_of h.task) h.memory x.target → Refuses r q.ap x y
       → Broken Confirm 1 h y.target
   broken_there u d z =
@@ -265,6 +268,7 @@ module _ (r : Register) (q : Request) (h : Hand) (x y : Port) (power : q.ap ≡ 
         select = f.select ∙ u.select;
         debug = f.debug ∙ u.debug;
         system = f.system ∙ u.system;
+        seen = f.seen u.seen;
         increments = f.increments ∙ u.increments;
         pending = f.pending ∙ d.pending;
         memory = f.memory ∙ d.unchanged;
@@ -327,6 +331,7 @@ under_more b c k s some h = record {
   select = h.select;
   debug = h.debug;
   system = h.system;
+  seen = h.seen;
   increments = h.increments;
   begun = some;
   sent = h.sent;
@@ -343,6 +348,7 @@ broken_more b c k s some h = record {
   select = h.select;
   debug = h.debug;
   system = h.system;
+  seen = h.seen;
   increments = h.increments;
   pending = h.pending;
   memory = h.memory;
@@ -367,12 +373,12 @@ module _ (n : ℕ) (base : Counted) (b c : ℕ) (k : Hand) (v : ℕ) (s t : Port
       let q : Request = request_of (At Confirm) k.task in
       let (x, y, first, came, last) = confirming_request (access_of k.task) k.memory r q v s t u.sent
       (register_there Confirm k.task s u.select) (not_exempt Confirm k.task refl) u.live (h.flag refl)
-      (λ e. u.debug) asks in
+      (λ e. has_debug s.target u.debug u.seen) asks in
       let kp = kept_by s x first in
       let ux : Under b k x.target = under_stays b k s x first u in
       let flag : x.target.write_error ≡ false = kp.write_error ∙ h.flag refl in
       let paid : n ≤ x.tally.disturbed = omega (arith, ap (λ i. i.disturbed) kp.tally, h.paid) in
-      confirming_came r q k x y (λ e. ux.debug) (At Confirm) n base c k v t
+      confirming_came r q k x y (λ e. has_debug x.target ux.debug ux.seen) (At Confirm) n base c k v t
       (omega (arith, ap (λ i. i.lost) kp.tally)) (under_more b 1 k x (omega arith) ux) flag paid last
       (λ d a. good x y last (under_more b c k x some ux) flag paid d a)
       (λ a w. record { free = refl; before = inl (sure_more (n + 1) 1 c k t some w) })

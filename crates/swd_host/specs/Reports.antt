@@ -6,6 +6,7 @@ use Rattle.swd_port.specs.declared.access.Access.TheVariants.{Read}
 use Rattle.swd_port.specs.declared.access.Answer.{Answer}
 use Rattle.swd_port.specs.declared.wire.Due.{Due}
 use Rattle.swd_port.specs.declared.wire.Due.TheVariants.{Nothing, Lost as DueLost}
+use Rattle.swd_port.specs.declared.state.PowerUp.TheVariants.{Seen}
 use Rattle.swd_port.specs.PlainMemory.{PlainMemory}
 use Rattle.swd_port.specs.Port.{Port, Target}
 use Rattle.swd_port.specs.Choices.{Choice}
@@ -92,12 +93,13 @@ pub record IsAtRest (s : Port) : Type 0 where
   pub known : IsKnown s.target
   pub settled : s.target.pending ≡ None
 
--- no flag is set, and power is on
+-- no flag is set, and power is on and there
 pub record IsPowered (s : Target) : Type 0 where
   pub sticky_error : s.sticky_error ≡ false
   pub write_error : s.write_error ≡ false
   pub debug : s.debug_power ≡ true
   pub system : s.system_power ≡ true
+  pub seen : s.power_up ≡ Seen
 
 -- How a call may end, and what it leaves: a whole list a target at rest, powered and with no flag; a lost acknowledgement
 -- or too many events a known one, whose last transfer may be pending. It is never that an identification was wrong, or

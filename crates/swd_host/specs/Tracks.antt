@@ -17,6 +17,7 @@ use Rattle.swd_port.specs.declared.register.Register.TheVariants.{AbortWrite, Ct
 use Rattle.swd_port.specs.declared.register.Register.TheVariants.{SelectWrite}
 use Rattle.swd_port.specs.declared.register.Register.TheVariants.{CswWrite, TarWrite, DrwWrite}
 use Rattle.swd_port.specs.declared.state.Reset.TheVariants.{Unreset, Live}
+use Rattle.swd_port.specs.declared.state.PowerUp.TheVariants.{Seen}
 use Rattle.swd_port.specs.declared.state.Line.TheVariants.{Idle, Drives, Awaits}
 use Rattle.swd_port.specs.Transfers.{Sent, Becomes, Advanced}
 use Rattle.swd_port.specs.Laws.WordsRead.{holds}
@@ -42,6 +43,7 @@ use Rattle.swd_host.specs.declared.engine.Engine.{Engine}
 use Rattle.swd_host.specs.Plain.{IsAccess}
 use Rattle.swd_host.specs.Tasks.{access_of, is_block}
 use Rattle.swd_host.specs.Engines.{job_in}
+use Rattle.swd_host.specs.Flags.{is_powered}
 use Rattle.swd_host.specs.Requests.{request_of, next_place, confirmed_by, is_exempt, is_exempt_place, is_confirm}
 use Rattle.swd_host.specs.Requests.{is_behind}
 use Rattle.swd_host.specs.Requests.{begins}
@@ -94,16 +96,25 @@ pub record Calm (m : PlainMemory) (s : Target) : Type 0 where
   pub memory : s.memory ≡ m
   pub sticky : s.sticky_error ≡ false
 
+-- power was asked for
+pub record AsksPower (m : PlainMemory) (s : Target) : Type 0 where
+  pub calm : Calm m s
+  pub debug : s.debug_power ≡ true
+  pub system : s.system_power ≡ true
+
+-- and was seen to be there
 pub record HasPower (m : PlainMemory) (s : Target) : Type 0 where
   pub calm : Calm m s
   pub debug : s.debug_power ≡ true
   pub system : s.system_power ≡ true
+  pub seen : s.power_up ≡ Seen
 
 -- ready for transfers
 pub record Up (m : PlainMemory) (s : Target) : Type 0 where
   pub calm : Calm m s
   pub debug : s.debug_power ≡ true
   pub system : s.system_power ≡ true
+  pub seen : s.power_up ≡ Seen
   pub increments : s.increments ≡ true
 
 pub record HasCsw (m : PlainMemory) (s : Target) : Type 0 where
@@ -132,6 +143,7 @@ pub record Under (b : ℕ) (k : Hand) (s : Target) : Type 0 where
   pub select : s.select ≡ no_select
   pub debug : s.debug_power ≡ true
   pub system : s.system_power ≡ true
+  pub seen : s.power_up ≡ Seen
   pub increments : s.increments ≡ true
   pub begun : 1 ≤ b
   pub sent : Sent (access_of k.task) k.memory s
@@ -143,7 +155,7 @@ Has Wipe b k s = Calm k.memory s
 Has Inspect b k s = Calm k.memory s
 Has Select b k s = Calm k.memory s
 Has Power b k s = Calm k.memory s
-Has Powered b k s = HasPower k.memory s
+Has Powered b k s = AsksPower k.memory s
 Has Configure b k s = HasPower k.memory s
 Has Recall b k s = HasCsw k.memory s
 Has Configured b k s = HasRecalled k.memory s
@@ -183,6 +195,7 @@ pub record Broken (p : Place) (b : ℕ) (k : Hand) (s : Target) : Type 0 where
   pub select : s.select ≡ no_select
   pub debug : s.debug_power ≡ true
   pub system : s.system_power ≡ true
+  pub seen : s.power_up ≡ Seen
   pub increments : s.increments ≡ true
   pub pending : s.pending ≡ None
   pub memory : s.memory ≡ k.memory
@@ -297,15 +310,23 @@ pub data Writes (r : Register) (n : ℕ) (P : ℕ → Type 0) (s : Port) : Type 
   whole : s.link.line ≡ Awaits r None → P n → Writes r n P s
   changed : (place : ℕ) → s.link.line ≡ Awaits r (Some place) → P (n + 1) → Writes r n P s
 
--- a word of CTRL/STAT tells the flags and the powers
+-- a word of CTRL/STAT tells the flags
 pub record Tells (word : ℕ) (s : Target) : Type 0 where
   pub error : holds 0x20 word ≡ s.sticky_error
   pub damaged : holds 0x80 word ≡ s.write_error
-  pub debug : holds 0x2000_0000 word ≡ s.debug_power
-  pub system : holds 0x8000_0000 word ≡ s.system_power
 
 abbrev pub Says : Job → ℕ → ℕ → Hand → Port → Type 0
 Says job n b k s = (word : ℕ) × Tells word s.target × Reads word n (λ c. Before job c b k s) s
+
+-- power was asked for, and CTRL/STAT said whether it is there: where it is late there was a disturbance, which isn't met
+-- as an event yet
+pub record HasAsked (powered : Bool) (n b : ℕ) (k : Hand) (s : Port) : Type 0 where
+  pub before : Before (At Powered) n b k s
+  pub there : powered ≡ true → s.target.write_error ≡ false → s.target.power_up ≡ Seen
+  pub late : powered ≡ false → s.target.write_error ≡ false → n + 1 ≤ s.tally.disturbed
+
+abbrev pub SaysPower : ℕ → ℕ → Hand → Port → Type 0
+SaysPower n b k s = (word : ℕ) × Tells word s.target × Reads word n (λ c. HasAsked (is_powered word) c b k s) s
 
 -- DPIDR was read
 pub record Awake (n : ℕ) (k : Hand) (s : Port) : Type 0 where
@@ -350,7 +371,7 @@ During (At Wipe) n b k s = Writes AbortWrite n (λ c. Sure Wipe c b k s) s
 During (At Inspect) n b k s = Says (At Inspect) n b k s
 During (At Select) n b k s = Writes SelectWrite n (λ c. Sure Select c b k s) s
 During (At Power) n b k s = Writes CtrlStatWrite n (λ c. Sure Power c b k s) s
-During (At Powered) n b k s = Says (At Powered) n b k s
+During (At Powered) n b k s = SaysPower n b k s
 During (At Configure) n b k s = Writes CswWrite n (λ c. Sure Configure c b k s) s
 During (At Recall) n b k s = Sure Configured n b k s
 During (At Configured) n b k s = (word : ℕ) × Reads word n (λ c. Resent Configured word c b k s) s
@@ -487,7 +508,7 @@ DueFits e s = DueAt e.state e.stray e.task s.link.due
 abbrev pub Taken : Place → ℕ → ℕ → ℕ → Hand → Port → Type 0
 Taken Identify word n b k s = Awake n k s × (word % 2 ≡ 1)
 Taken Inspect word n b k s = Tells word s.target × Before (At Inspect) n b k s
-Taken Powered word n b k s = Tells word s.target × Before (At Powered) n b k s
+Taken Powered word n b k s = Tells word s.target × HasAsked (is_powered word) n b k s
 Taken Configured word n b k s = Resent Configured word n b k s
 Taken Confirm word n b k s = Resent Confirm word n b k s
 Taken p word n b k s = ⊥
@@ -572,10 +593,6 @@ state_seen job seen =
     else if seen == 2 then Doing job Waited
     else if seen == 4 then Doing job Faulted
     else Resting (Stopped Lost)
-
--- power was asked for, and this says whether it is there
-abbrev pub HasAsked : Bool → ℕ → ℕ → Hand → Port → Type 0
-HasAsked powered n b k s = (powered ≡ (s.target.debug_power && s.target.system_power)) × Before (At Powered) n b k s
 
 -- WHAT A STEP OF THE ENGINE KEEPS: from what was told, of a target whose memory was this before the access, since
 -- these counts
