@@ -27,7 +27,8 @@ use Rattle.swd_host.specs.declared.request.Job.TheVariants.{At}
 use Rattle.swd_host.specs.declared.request.Place.TheVariants.{Powered}
 use Rattle.swd_host.specs.Flags.{is_powered}
 use Rattle.swd_host.specs.Requests.{is_exempt as is_exempt_of}
-use Rattle.swd_host.specs.Tracks.{Hand, Counted, no_select, Before, During, FaultedAt, Waiting}
+use Rattle.swd_host.specs.Tracks.{Hand, Counted, Before, During, FaultedAt, Waiting}
+use Rattle.swd_port.specs.Registers.{no_select}
 use Rattle.swd_host.specs.Tracks.{HasAsked, SaysPower, Within, Says, Tells, Reads, Writes, whole, changed}
 use Rattle.swd_host.proofs.Frames.{Frame, Same, frame_waits, same_waits, frame_refuses, same_refuses, frame_accepts}
 use Rattle.swd_host.proofs.Frames.{same_accepts, before_framed, before_within, before_paid, within_carried}

@@ -24,7 +24,8 @@ use Rattle.swd_host.specs.declared.request.Place.TheVariants.{Configure, Recall,
 use Rattle.swd_host.specs.declared.request.Place.TheVariants.{Behind}
 use Rattle.swd_host.specs.declared.request.Job.TheVariants.{At, Resend}
 use Rattle.swd_host.specs.Requests.{request_of, is_exempt_place, confirmed_by, written_by}
-use Rattle.swd_host.specs.Tracks.{Hand, Counted, no_select, csw_word_read, Reachable, Calm, Up, Has}
+use Rattle.swd_host.specs.Tracks.{Hand, Counted, csw_word_read, Reachable, Calm, Up, Has}
+use Rattle.swd_port.specs.Registers.{no_select}
 use Rattle.swd_host.specs.Tracks.{is_wipe, Sure, Hurt, Spoilt, by_damage}
 use Rattle.swd_host.specs.Tracks.{Resent, During}
 use Rattle.swd_host.specs.Tracks.{Within, Reads, Writes, Awake}

@@ -25,7 +25,8 @@ use Rattle.swd_host.specs.declared.request.Place.TheVariants.{Behind}
 use Rattle.swd_host.specs.declared.request.Job.TheVariants.{At, Resend}
 use Rattle.swd_host.specs.Tasks.{access_of, is_block}
 use Rattle.swd_host.specs.Requests.{request_of}
-use Rattle.swd_host.specs.Tracks.{Hand, Counted, no_select, Under, Sure, Returned, Resent, Confirms, Reads}
+use Rattle.swd_host.specs.Tracks.{Hand, Counted, Under, Sure, Returned, Resent, Confirms, Reads}
+use Rattle.swd_port.specs.Registers.{no_select}
 use Rattle.swd_host.specs.Tracks.{whole, changed, by_error, next_error, FaultedAt, Within, memory_once_done, next_hand}
 use Rattle.swd_host.specs.Tracks.{DoneBy, ahead_of, IsTask}
 use Rattle.swd_host.proofs.Frames.{Frame, Same, frame_waits, same_waits, frame_accepts, same_accepts, resent_framed}

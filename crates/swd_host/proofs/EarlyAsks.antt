@@ -27,7 +27,8 @@ use Rattle.swd_host.specs.declared.request.Job.TheVariants.{At, Resend, Status, 
 use Rattle.swd_host.specs.declared.task.Task.{Task}
 use Rattle.swd_host.specs.Flags.{flags_in}
 use Rattle.swd_host.specs.Requests.{request_of}
-use Rattle.swd_host.specs.Tracks.{Counted, no_select, Reads, Writes}
+use Rattle.swd_host.specs.Tracks.{Counted, Reads, Writes}
+use Rattle.swd_port.specs.Registers.{no_select}
 use Rattle.swd_host.specs.Early.{ComesFrom, Glimpsed, Shows, Anywhere, Resettled, Woken, Wiped, clean, hurt, Inspected}
 use Rattle.swd_host.specs.Early.{Met, Clearing, Cleared, EarlyBefore, Settled, IsOver, EarlyDuring, EarlyLost}
 use Rattle.swd_host.specs.Early.{EarlySaw, early_okay, early_wait, early_fault, early_none}

@@ -20,7 +20,8 @@ use Rattle.swd_host.specs.declared.request.Job.{Job}
 use Rattle.swd_host.specs.declared.request.Job.TheVariants.{At, Resend, Status, LastStatus, Clear, Check}
 use Rattle.swd_host.specs.Requests.{request_of, begins, begins_next}
 use Rattle.std.proofs.Math.Nat.{le-max_left, le-max_right, max-zero}
-use Rattle.swd_host.specs.Tracks.{Hand, Saw, saw_okay, saw_wait, saw_fault, saw_none, Counted, no_select}
+use Rattle.swd_host.specs.Tracks.{Hand, Saw, saw_okay, saw_wait, saw_fault, saw_none, Counted}
+use Rattle.swd_port.specs.Registers.{no_select}
 use Rattle.swd_host.specs.Tracks.{Calm, Has, Sure, Hurt}
 use Rattle.swd_host.specs.Tracks.{Broken, Facts, Refused, by_damage, by_error, Owes, Checks, cleared, kept}
 use Rattle.swd_host.specs.Tracks.{Before, During}

@@ -29,7 +29,8 @@ use Rattle.swd_host.specs.declared.request.Place.TheVariants.{Transfer, Confirm}
 use Rattle.swd_host.specs.declared.request.Job.{Job}
 use Rattle.swd_host.specs.declared.request.Job.TheVariants.{At}
 use Rattle.swd_host.specs.Requests.{request_of}
-use Rattle.swd_host.specs.Tracks.{Hand, Counted, no_select, Up, IsAimed}
+use Rattle.swd_host.specs.Tracks.{Hand, Counted, Up, IsAimed}
+use Rattle.swd_port.specs.Registers.{no_select}
 use Rattle.swd_host.specs.Tracks.{Under, Sure, Broken, Refused}
 use Rattle.swd_host.specs.Tracks.{by_error, Done, Resent, During}
 use Rattle.swd_host.specs.Tracks.{Transfers, Confirms, Confirmed, FaultedAt, Within, Writes}

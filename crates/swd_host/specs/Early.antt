@@ -19,7 +19,8 @@ use Rattle.swd_host.specs.declared.engine.State.TheVariants.{Leading, Doing, Res
 use Rattle.swd_host.specs.declared.engine.Engine.{Engine}
 use Rattle.swd_host.specs.Engines.{job_in}
 use Rattle.swd_host.specs.Flags.{flags_in}
-use Rattle.swd_host.specs.Tracks.{Counted, no_select, Calm, Reads, Writes, Follows, IsTask}
+use Rattle.swd_host.specs.Tracks.{Counted, Calm, Reads, Writes, Follows, IsTask}
+use Rattle.swd_port.specs.Registers.{no_select}
 
 -- every memory that may come of the transfer that is pending now might have come at the start; and where nothing was
 -- pending then, nothing is

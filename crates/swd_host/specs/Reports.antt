@@ -17,7 +17,7 @@ use Rattle.swd_host.specs.declared.outcome.Refused.TheVariants.{TooMany, Unalign
 use Rattle.swd_host.specs.declared.outcome.End.{End}
 use Rattle.swd_host.specs.declared.outcome.End.TheVariants.{All, Lost, TriesOut}
 use Rattle.swd_host.specs.Plain.{memory_after, answers_of, AreAccesses, is_aligned}
-use Rattle.swd_host.specs.Tracks.{no_select}
+use Rattle.swd_port.specs.Registers.{no_select}
 
 -- a report: the answers, how many accesses more were begun, the requests that were sent, and how the run ended
 pub record Told : Type 0 where

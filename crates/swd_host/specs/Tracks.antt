@@ -6,10 +6,10 @@ use Rattle.swd_port.specs.declared.access.Access.{Access}
 use Rattle.swd_port.specs.declared.access.Access.TheVariants.{Read as AccessRead, Write as AccessWrite}
 use Rattle.swd_port.specs.declared.access.Answer.{Answer}
 use Rattle.swd_port.specs.declared.access.Answer.TheVariants.{Value, Written, BusFault}
-use Rattle.swd_port.specs.declared.select.Select.{Select as SelectWord}
 use Rattle.swd_port.specs.declared.wire.Due.{Due}
 use Rattle.swd_port.specs.declared.wire.Due.TheVariants.{Nothing, Take, Give, Pass, Lost as DueLost}
 use Rattle.swd_port.specs.PlainMemory.{PlainMemory, address, plain_answer, plain_after}
+use Rattle.swd_port.specs.Registers.{no_select}
 use Rattle.swd_port.specs.Phases.{phase_number, flipped}
 use Rattle.swd_port.specs.Port.{Port, Target}
 use Rattle.swd_port.specs.declared.register.Register.{Register}
@@ -73,9 +73,6 @@ next_hand task m = record {
   ahead = Unsent;
   memory = m;
 }
-
-abbrev pub no_select : SelectWord
-no_select = record { apsel = 0; apbanksel = 0; dpbanksel = 0 }
 
 -- THE PORT, as the host knows it before each request of its sequences
 

@@ -13,8 +13,8 @@ use swd_port::{Access, Wire};
 
 /// Reads `count` words at `addr`, `addr + 4` and so on, each once, over a target at rest: as
 /// `run` reads them, but each word comes with the request for the next one, so that a word takes one
-/// request in place of two. A report may tell two accesses that were begun. `resume` doesn't go on with
-/// it.
+/// request in place of two. A report may tell two accesses that were begun. `resume` goes on with it, over
+/// the reads that it stands for, one by one.
 ///
 /// # Errors
 ///

@@ -22,6 +22,7 @@ use Rattle.swd_port.specs.declared.wire.Due.{Due}
 use Rattle.swd_port.specs.declared.wire.Due.TheVariants.{Nothing}
 use Rattle.swd_port.specs.declared.select.Select.{Select}
 use Rattle.swd_port.specs.PlainMemory.{PlainMemory}
+use Rattle.swd_port.specs.Registers.{no_select}
 
 -- the debug port's registers by direction, address and whether DPBANKSEL is 0, on which address 4 alone depends
 abbrev pub dp_register : Bool → Reg4 → Bool → Register
@@ -160,7 +161,7 @@ made_target identification memory = record {
   debug_power = false;
   system_power = false;
   power_up = Unseen;
-  select = record { apsel = 0; apbanksel = 0; dpbanksel = 0 };
+  select = no_select;
   increments = false;
   csw_upper = 0;
   tar = Some 0;

@@ -36,6 +36,10 @@ select_of word = record { apsel = word / 2 ^ 24 % 256; apbanksel = word / 16 % 1
 abbrev pub select_word : Select → ℕ
 select_word s = s.apsel % 256 * 2 ^ 24 + s.apbanksel % 16 * 16 + s.dpbanksel % 16
 
+-- SELECT 0: AP 0 and the banks 0
+abbrev pub no_select : Select
+no_select = record { apsel = 0; apbanksel = 0; dpbanksel = 0 }
+
 -- the bits that SELECT names
 abbrev pub select_mask : ℕ
 select_mask = 0xff00_00ff

@@ -7,7 +7,8 @@ ghost use Rattle.swd_port.specs.Choices.{IsMark, loses};
 pub enum Mark {
     /// Nothing.
     Clean,
-    /// WAIT is answered, where the request may get it and would get OK otherwise.
+    /// The target is busy: WAIT is answered, where the request may get it and would get OK otherwise. A read of
+    /// CTRL/STAT, which never gets WAIT, finds power late that wasn't seen to be there before.
     Wait,
     /// This one of the 33 bits of its data phase arrives changed, where it has a data phase. Bit 0
     /// is the first in time and the word's least significant, bit 32 the parity.

@@ -2,6 +2,7 @@
 use Rattle.std.specs.Prelude.{ℕ, ◌≡◌, ◌<◌, ◌^◌, true, false}
 use Rattle.swd_port.specs.declared.access.Access.TheVariants.{Read, Write}
 use Rattle.swd_port.specs.declared.access.Answer.TheVariants.{Value}
+use Rattle.swd_port.specs.Registers.{no_select}
 use Rattle.swd_port.specs.Phases.{IsPhaseOf}
 use Rattle.swd_port.specs.PlainMemory.{PlainMemory, word_at, plain_answer, plain_after}
 use Rattle.swd_port.specs.Port.{Port, Target, Live, RdbuffRead, DrwRead, DrwWrite, request_of}
@@ -13,7 +14,7 @@ use Rattle.swd_port.specs.Transfers.{Aimed, Succeeded}
 pub record Ready (x : Target) : Type 0 where
   pub live : x.reset ≡ Live
   pub power : has_power x ≡ true
-  pub select : x.select ≡ record { apsel = 0; apbanksel = 0; dpbanksel = 0 }
+  pub select : x.select ≡ no_select
   pub increments : x.increments ≡ true
   pub write_error : x.write_error ≡ false
 
