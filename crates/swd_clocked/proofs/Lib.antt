@@ -4,3 +4,4 @@ pub mod Calls
 mod Spelling
 pub mod Marks
 pub mod Whole
+pub mod Contends

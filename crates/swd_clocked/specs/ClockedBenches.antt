@@ -50,6 +50,10 @@ choice_of b = choice_for DrwRead b.marked.value.clocked.target
 abbrev pub cycles_of : {A : Type 0} → ClockedBench A → ℕ
 cycles_of b = marked.cycles_of b.marked.value
 
+-- its contended cycles so far
+abbrev pub contended_of : {A : Type 0} → ClockedBench A → ℕ
+contended_of b = marked.contended_of b.marked.value
+
 -- the link after a request
 abbrev pub link_asked : {A : Type 0} → Request → ClockedBench A → Link
 link_asked q b =

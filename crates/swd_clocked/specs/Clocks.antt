@@ -28,6 +28,10 @@ is_held c = c.waits
 abbrev pub cycles_of : {A : Type 0} → Clocked A → ℕ
 cycles_of c = c.cycles
 
+-- its contended cycles so far: those that the host drove where it was to leave the line alone
+abbrev pub contended_of : {A : Type 0} → Clocked A → ℕ
+contended_of c = c.contended.ticks
+
 -- one cycle, with the bit that the host drives, or none: an undriven line reads 1
 abbrev pub Clocks : {A : Type 0} → Option Bool → Bool → Clocked A → Clocked A → Type 0
 Clocks drive answer s t = Cycles s.frame (unwrap_or drive true) answer s.target s.waits t

@@ -114,6 +114,19 @@ abbrev pub unswitched : ℕ → Frame
 unswitched zero = High
 unswitched (suc place) = heard (switch_bit place) (unswitched place)
 
+-- The host leaves the line alone here: the target drives it, or nobody does, for a turnaround.
+abbrev pub is_released : Frame → Bool
+is_released (Replies reply line place) = true
+is_released (Drives bits left) = true
+is_released (Awaits r bits place) = place == 0
+is_released Passes = true
+is_released frame = false
+
+-- one, where the host drives a cycle in which it is to leave the line alone
+abbrev pub contends : Frame → Bool → ℕ
+contends frame true = if is_released frame then 1 else 0
+contends frame false = 0
+
 -- so many cycles more; the number stays at its greatest value
 abbrev pub counted : ℕ → ℕ → ℕ
 counted more cycles = min (cycles + more) (2 ^ 64 - 1)

@@ -44,6 +44,10 @@ tally_of m = plans.tally_of m.plan
 abbrev pub cycles_of : {A : Type 0} → MarkedClocked A → ℕ
 cycles_of m = clocks.cycles_of m.clocked
 
+-- its contended cycles so far
+abbrev pub contended_of : {A : Type 0} → MarkedClocked A → ℕ
+contended_of m = clocks.contended_of m.clocked
+
 -- a cycle that reaches the target, under a mark, while WAIT is asked for or not
 pub record Reaches {A : Type 0} (mark : Mark) (w : Bool) (drive : Option Bool) (answer : Bool)
     (s t : MarkedClocked A) : Type 0 where

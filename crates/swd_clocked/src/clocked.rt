@@ -1,13 +1,13 @@
 //! A simulated target, clock by clock.
-ghost use Rattle.std.specs.Prelude.{◌≡◌, ◌<◌, ◌^◌, false};
+ghost use Rattle.std.specs.Prelude.{◌≡◌, ◌<◌, ◌^◌, ◌+◌, is_some, false};
 ghost use Rattle.swd_port.specs.Port.{made_target};
 ghost use Rattle.swd_target.specs.Simulations.{made_with};
-ghost use Rattle.swd_clocked.specs.Frames.{frame_bits, frame_place, frame_limit, idle, counted, reply_bit, unswitched};
+ghost use Rattle.swd_clocked.specs.Frames.{frame_bits, frame_place, frame_limit, idle, counted, contends, reply_bit, unswitched};
 
 use crate::frame::Frame;
 use std::alloc::{Allocator, Global};
 use swd_bits::Request;
-use swd_port::{Line, Register, Reply};
+use swd_port::{Count, Line, Register, Reply};
 use swd_target::port::Target;
 use swd_target::{Memory, Quirks};
 
@@ -34,16 +34,18 @@ pub struct Clocked<A: Allocator = Global> {
     pub(crate) frame: Frame,
     pub(crate) waits: bool,
     pub(crate) cycles: u64,
+    // Cycles that the host drove where it was to leave the line alone, for contracts alone.
+    pub(crate) contended: Count,
     ghost bits: { frame_bits frame < 2 ^ 33 },
     ghost place: { frame_place frame < frame_limit frame },
     ghost counts: { cycles < 2 ^ 64 },
 }
 
 impl<A: Allocator> Clocked<A> {
-    ghost use Rattle.swd_clocked.specs.Clocks.{state_of, simulation_of, frame_in, is_held, cycles_of};
+    ghost use Rattle.swd_clocked.specs.Clocks.{state_of, simulation_of, frame_in, is_held, cycles_of, contended_of};
     ghost use Rattle.swd_clocked.specs.Clocks.{Clocks, Holds, Settles};
     ghost use Rattle.swd_clocked.specs.Cycles.{Moved, Requested, ByteCame, AsksBit, LostBit, HeardBit, DataCame};
-    ghost use Rattle.swd_clocked.specs.Cycles.{AwaitsBit, DrivesBit, RepliesBit, SwitchesBit};
+    ghost use Rattle.swd_clocked.specs.Cycles.{Cycles, AwaitsBit, DrivesBit, RepliesBit, SwitchesBit};
 
     /// Makes a target that had no line reset yet, with this memory behind its access port. Nothing
     /// is held, and DPIDR gives 2ba01477.
@@ -53,12 +55,14 @@ impl<A: Allocator> Clocked<A> {
         ensures frame { frame_in result ≡ idle }
         ensures held { is_held result ≡ false }
         ensures cycles { cycles_of result ≡ 0 }
+        ensures contended { contended_of result ≡ 0 }
     {
         Clocked {
             target: Target::new(memory, quirks),
             frame: Frame::IDLE,
             waits: false,
             cycles: 0,
+            contended: Count::new(),
         }
     }
 
@@ -66,6 +70,7 @@ impl<A: Allocator> Clocked<A> {
     pub fn hold(&mut self, wait: bool)
         ensures holds { Holds wait self.old self.new }
         ensures cycles { cycles_of self.new ≡ cycles_of self.old }
+        ensures contended { contended_of self.new ≡ contended_of self.old }
     {
         self.waits = wait;
     }
@@ -75,6 +80,7 @@ impl<A: Allocator> Clocked<A> {
     pub fn settle(&mut self)
         ensures settles { Settles self.old self.new }
         ensures cycles { cycles_of self.new ≡ cycles_of self.old }
+        ensures contended { contended_of self.new ≡ contended_of self.old }
     {
         self.target.complete();
     }
@@ -98,9 +104,20 @@ impl<A: Allocator> Clocked<A> {
     pub fn cycle(&mut self, drive: Option<bool>) -> bool
         ensures clocks { Clocks drive result self.old self.new }
         ensures cycles { cycles_of self.new ≡ counted 1 (cycles_of self.old) }
+        ensures contended { contended_of self.new ≡ contended_of self.old + contends (frame_in self.old) (is_some drive) }
+    {
+        self.clock(drive.unwrap_or(true), drive.is_some())
+    }
+
+    // One clock, with the bit that the line has where the target doesn't drive, and whether the host
+    // drives it.
+    pub(crate) fn clock(&mut self, bit: bool, driven: bool) -> bool
+        ensures clocks { Cycles self.old.frame bit result self.old.target self.old.waits self.new }
+        ensures cycles { cycles_of self.new ≡ counted 1 (cycles_of self.old) }
+        ensures contended { contended_of self.new ≡ contended_of self.old + contends (frame_in self.old) driven }
     {
         self.cycles = self.cycles.saturating_add(1);
-        let bit = drive.unwrap_or(true);
+        self.frame.note(&mut self.contended, driven);
         match self.frame {
             Frame::Asks(bits, count) => {
                 self.ask_bit(bits, count, bit);
@@ -134,11 +151,13 @@ impl<A: Allocator> Clocked<A> {
     }
 
     // A cycle that doesn't reach the target: it is between transactions then.
-    pub(crate) fn miss(&mut self)
+    pub(crate) fn miss(&mut self, driven: bool)
         ensures moved { Moved idle self.old.target self.old.waits self.new }
         ensures cycles { self.new.cycles ≡ counted 1 self.old.cycles }
+        ensures contended { contended_of self.new ≡ contended_of self.old + contends (frame_in self.old) driven }
     {
         self.cycles = self.cycles.saturating_add(1);
+        self.frame.note(&mut self.contended, driven);
         self.frame = Frame::IDLE;
     }
 
@@ -146,6 +165,7 @@ impl<A: Allocator> Clocked<A> {
         requires { count < 8 }
         ensures asks { AsksBit bits count bit self.old.target self.old.waits self.new }
         ensures cycles { self.new.cycles ≡ self.old.cycles }
+        ensures contended { contended_of self.new ≡ contended_of self.old }
     {
         if count == 0 && !bit {
             self.frame = Frame::IDLE;
@@ -163,6 +183,7 @@ impl<A: Allocator> Clocked<A> {
     fn byte(&mut self, bits: u8)
         ensures came { ByteCame bits self.old.target self.old.waits self.new }
         ensures cycles { self.new.cycles ≡ self.old.cycles }
+        ensures contended { contended_of self.new ≡ contended_of self.old }
     {
         match Request::of(bits) {
             Some(request) => self.request(request),
@@ -173,6 +194,7 @@ impl<A: Allocator> Clocked<A> {
     fn request(&mut self, request: Request)
         ensures requested { Requested request self.old.target self.old.waits self.new }
         ensures cycles { self.new.cycles ≡ self.old.cycles }
+        ensures contended { contended_of self.new ≡ contended_of self.old }
     {
         let (reply, phase) = self.target.request(self.waits, request);
         self.frame = Frame::replied(reply, phase);
@@ -182,6 +204,7 @@ impl<A: Allocator> Clocked<A> {
         requires { ones < 50 }
         ensures hears { LostBit ones bit self.old.target self.old.waits self.new }
         ensures cycles { self.new.cycles ≡ self.old.cycles }
+        ensures contended { contended_of self.new ≡ contended_of self.old }
     {
         if !bit {
             self.frame = Frame::Lost(0);
@@ -197,6 +220,7 @@ impl<A: Allocator> Clocked<A> {
         requires { place < 16 }
         ensures switches { SwitchesBit place bit self.old.target self.old.waits self.new }
         ensures cycles { self.new.cycles ≡ self.old.cycles }
+        ensures contended { contended_of self.new ≡ contended_of self.old }
     {
         if bit == (SWITCH >> place & 1 == 1) {
             self.frame = if place == 15 {
@@ -214,6 +238,7 @@ impl<A: Allocator> Clocked<A> {
         requires { place < 16 }
         ensures hears { HeardBit (unswitched place) bit self.old.target self.old.waits self.new }
         ensures cycles { self.new.cycles ≡ self.old.cycles }
+        ensures contended { contended_of self.new ≡ contended_of self.old }
     {
         match place {
             1 => self.ask_bit(255, 0, bit),
@@ -239,6 +264,7 @@ impl<A: Allocator> Clocked<A> {
         requires place { place < 4 }
         ensures replies { RepliesBit reply line place bit result self.old.target self.old.waits self.new }
         ensures cycles { self.new.cycles ≡ self.old.cycles }
+        ensures contended { contended_of self.new ≡ contended_of self.old }
     {
         self.frame = if place == 3 {
             Frame::after_reply(line)
@@ -257,6 +283,7 @@ impl<A: Allocator> Clocked<A> {
         requires left { left < 34 }
         ensures drives { DrivesBit bits left bit result self.old.target self.old.waits self.new }
         ensures cycles { self.new.cycles ≡ self.old.cycles }
+        ensures contended { contended_of self.new ≡ contended_of self.old }
     {
         if left == 0 {
             self.frame = Frame::IDLE;
@@ -271,6 +298,7 @@ impl<A: Allocator> Clocked<A> {
         requires place { place < 34 }
         ensures awaits { AwaitsBit register bits place bit self.old.target self.old.waits self.new }
         ensures cycles { self.new.cycles ≡ self.old.cycles }
+        ensures contended { contended_of self.new ≡ contended_of self.old }
     {
         if place == 0 {
             self.frame = Frame::Awaits(register, bits, 1);
@@ -289,6 +317,7 @@ impl<A: Allocator> Clocked<A> {
         requires { bits < 2 ^ 33 }
         ensures came { DataCame register bits self.old.target self.old.waits self.new }
         ensures cycles { self.new.cycles ≡ self.old.cycles }
+        ensures contended { contended_of self.new ≡ contended_of self.old }
     {
         self.frame = Frame::IDLE;
         self.target.arrive(register, bits);

@@ -39,6 +39,7 @@ pub struct ClockedBench<A: Allocator = Global> {
     due: Due,
     ghost resting: { rests due marked.value.clocked.frame ≡ true },
     ghost heard: { marked.value.unseen ≡ 0 },
+    ghost uncontended: { marked.value.clocked.contended.ticks ≡ 0 },
 }
 
 impl<A: Allocator> ClockedBench<A> {

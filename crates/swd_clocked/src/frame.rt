@@ -1,8 +1,8 @@
 //! What a target at the end of a clocked wire is doing.
-ghost use Rattle.std.specs.Prelude.{◌≡◌, ◌<◌, ◌^◌};
+ghost use Rattle.std.specs.Prelude.{◌≡◌, ◌<◌, ◌^◌, ◌+◌};
 ghost use Rattle.swd_port.specs.Moving.{bits_driven};
 
-use swd_port::{Line, Register, Reply};
+use swd_port::{Count, Line, Register, Reply};
 
 /// What the next cycles are. Shift registers are preset with ones, as an undriven line reads.
 #[derive(Clone, Copy, Debug, PartialEq, Eq)]
@@ -28,9 +28,30 @@ pub(crate) enum Frame {
 
 impl Frame {
     ghost use Rattle.swd_clocked.specs.Frames.{idle, frame_bits, frame_place, frame_limit, frame_of, frame_replied};
+    ghost use Rattle.swd_clocked.specs.Frames.{is_released, contends};
 
     /// Between transactions.
     pub(crate) const IDLE: Frame = Frame::Asks(0xff, 0);
+
+    // The host leaves the line alone: the target drives it, or nobody does.
+    fn is_released(self) -> bool
+        ensures { result ≡ is_released self }
+    {
+        match self {
+            Frame::Replies(_, _, _) | Frame::Drives(_, _) | Frame::Passes => true,
+            Frame::Awaits(_, _, place) => place == 0,
+            _ => false,
+        }
+    }
+
+    // Counts a cycle that the host drives where it is to leave the line alone.
+    pub(crate) fn note(self, contended: &mut Count, driven: bool)
+        ensures { contended.new.ticks ≡ contended.old.ticks + contends self driven }
+    {
+        if driven && self.is_released() {
+            contended.tick();
+        }
+    }
 
     // What begins once a request was replied to. Its last bit is a one.
     pub(crate) fn replied(reply: Reply, phase: Line) -> Frame

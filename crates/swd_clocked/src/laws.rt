@@ -2,7 +2,7 @@
 ghost use Rattle.std.specs.Prelude.{◌≡◌, ◌≤◌};
 ghost use Rattle.swd_port.specs.Choices.{disturbed_among, lost_among};
 ghost use Rattle.swd_clocked.specs.declared.clocked_bench.ClockedBench.{ClockedBench};
-ghost use Rattle.swd_clocked.specs.ClockedBenches.{port_of, plan_of, marks_so_far};
+ghost use Rattle.swd_clocked.specs.ClockedBenches.{port_of, plan_of, marks_so_far, contended_of};
 ghost use Rattle.swd_clocked.specs.Spelled.{RequestsSpell, OnesReset};
 
 use std::alloc::Allocator;
@@ -14,6 +14,13 @@ pub fn marks_used<A: Allocator>()
     ensures lost { (b : ClockedBench A) → (port_of b).tally.lost ≡ lost_among (marks_so_far b) }
     ensures disturbed_most { (b : ClockedBench A) → (port_of b).tally.disturbed ≤ disturbed_among (plan_of b) }
     ensures lost_most { (b : ClockedBench A) → (port_of b).tally.lost ≤ lost_among (plan_of b) }
+{}
+
+/// Host and target never drive the line in the same cycle, and nobody drives it in a turnaround: a
+/// bench, after whatever calls and under whatever plan, never had a cycle that the host drove where it
+/// was to leave the line alone.
+pub fn never_contended<A: Allocator>()
+    ensures { (b : ClockedBench A) → contended_of b ≡ 0 }
 {}
 
 /// The cycles of a request that is sent between transactions, and those behind it, in which the host

@@ -1,5 +1,5 @@
 //! A simulated target, clock by clock, whose requests meet a plan: a target and the wire to it.
-ghost use Rattle.std.specs.Prelude.{◌≡◌, ◌-◌, ◌^◌, ◌<◌, is_some, unwrap_or, true, min, IfSome, IfNone};
+ghost use Rattle.std.specs.Prelude.{◌≡◌, ◌-◌, ◌+◌, ◌^◌, ◌<◌, is_some, unwrap_or, true, min, IfSome, IfNone};
 ghost use Rattle.swd_bits.specs.declared.request.Request.{Request};
 ghost use Rattle.swd_port.specs.Port.{made_target};
 ghost use Rattle.swd_port.specs.declared.mark.Mark.TheVariants.{Clean};
@@ -7,7 +7,7 @@ ghost use Rattle.swd_port.specs.Choices.{IsMark, is_deaf, is_wait};
 ghost use Rattle.swd_target.specs.Marks.{IsPlan, is_legal};
 ghost use Rattle.swd_target.specs.Simulations.{made_with};
 ghost use Rattle.swd_target.specs.Plans as plans;
-ghost use Rattle.swd_clocked.specs.Frames.{idle, counted};
+ghost use Rattle.swd_clocked.specs.Frames.{idle, counted, contends};
 ghost use Rattle.swd_clocked.specs.Damage.{changes, turned, IsLast};
 
 use crate::clocked::Clocked;
@@ -73,7 +73,7 @@ fn turned(change: bool, bit: bool) -> bool
 impl<A: Allocator> MarkedClocked<A> {
     ghost use Rattle.swd_clocked.specs.Clocks.{Settles};
     ghost use Rattle.swd_clocked.specs.Marked.{state_of, simulation_of, frame_in, mark_of, unseen_of, plan_of, tally_of};
-    ghost use Rattle.swd_clocked.specs.Marked.{cycles_of, MarkedCycles, Meets, Misses, Reaches, Uses, Keeps};
+    ghost use Rattle.swd_clocked.specs.Marked.{cycles_of, contended_of, MarkedCycles, Meets, Misses, Reaches, Uses, Keeps};
 
     /// Makes a target that had no line reset yet, with this memory behind its access port, whose
     /// requests meet these marks. DPIDR gives 2ba01477.
@@ -87,6 +87,7 @@ impl<A: Allocator> MarkedClocked<A> {
         ensures plan { plan_of result ≡ plan.items }
         ensures requests { (tally_of result).asked ≡ 0 }
         ensures cycles { cycles_of result ≡ 0 }
+        ensures contended { contended_of result ≡ 0 }
     {
         MarkedClocked {
             clocked: Clocked::new(memory, quirks),
@@ -131,6 +132,7 @@ impl<A: Allocator> MarkedClocked<A> {
     pub fn cycle(&mut self, drive: Option<bool>) -> bool
         ensures cycles { MarkedCycles drive result self.old self.new }
         ensures count { cycles_of self.new ≡ counted 1 (cycles_of self.old) }
+        ensures contended { contended_of self.new ≡ contended_of self.old + contends (frame_in self.old) (is_some drive) }
     {
         if self.unseen > 0 {
             return self.miss(self.unseen - 1, drive);
@@ -157,6 +159,7 @@ impl<A: Allocator> MarkedClocked<A> {
         requires { self.old.unseen ≡ 0 }
         ensures meets { Meets drive result self.old self.new }
         ensures count { cycles_of self.new ≡ counted 1 (cycles_of self.old) }
+        ensures contended { contended_of self.new ≡ contended_of self.old + contends (frame_in self.old) (is_some drive) }
     {
         self.use_mark();
         if is_deaf(self.mark) {
@@ -180,9 +183,10 @@ impl<A: Allocator> MarkedClocked<A> {
         ensures misses { Misses more drive result self.old self.new }
         ensures keeps { Keeps self.old self.new }
         ensures count { cycles_of self.new ≡ counted 1 (cycles_of self.old) }
+        ensures contended { contended_of self.new ≡ contended_of self.old + contends (frame_in self.old) (is_some drive) }
     {
         self.unseen = more;
-        self.clocked.miss();
+        self.clocked.miss(drive.is_some());
         drive.unwrap_or(true)
     }
 
@@ -192,10 +196,11 @@ impl<A: Allocator> MarkedClocked<A> {
         ensures reaches { Reaches self.old.mark self.old.clocked.waits drive result self.old self.new }
         ensures keeps { Keeps self.old self.new }
         ensures count { cycles_of self.new ≡ counted 1 (cycles_of self.old) }
+        ensures contended { contended_of self.new ≡ contended_of self.old + contends (frame_in self.old) (is_some drive) }
     {
         let change = self.is_changed(drive.is_some());
         let bit = turned(change, drive.unwrap_or(true));
-        turned(change, self.clocked.cycle(Some(bit)))
+        turned(change, self.clocked.clock(bit, drive.is_some()))
     }
 
     // The mark changes the bit of this cycle, which the host drives or not.
@@ -217,6 +222,7 @@ impl<A: Allocator> MarkedClocked<A> {
         ensures keeps { Keeps self.old self.new }
         ensures unseen { unseen_of self.new ≡ unseen_of self.old }
         ensures cycles { cycles_of self.new ≡ cycles_of self.old }
+        ensures contended { contended_of self.new ≡ contended_of self.old }
     {
         self.clocked.settle();
     }

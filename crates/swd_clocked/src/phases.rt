@@ -13,7 +13,7 @@ use swd_bits::Request;
 impl<A: Allocator> MarkedClocked<A> {
     ghost use Rattle.swd_clocked.specs.Frames.{idle, frame_bits, frame_register, counted, reset_cycles};
     ghost use Rattle.swd_clocked.specs.Frames.{IsRising, rise, IsFalling, fall};
-    ghost use Rattle.swd_clocked.specs.Marked.{frame_in, mark_of, unseen_of, cycles_of};
+    ghost use Rattle.swd_clocked.specs.Marked.{frame_in, mark_of, unseen_of, cycles_of, contended_of};
     ghost use Rattle.swd_clocked.specs.Phases.{Goes, Brings, Leads, Sent, SeesReply, Asked};
 
     // Sends the eight bits of a request.
@@ -22,6 +22,7 @@ impl<A: Allocator> MarkedClocked<A> {
         requires heard { unseen_of self.old ≡ 0 }
         ensures sent { Sent request self.old self.new }
         ensures cycles { cycles_of self.new ≡ counted 8 (cycles_of self.old) }
+        ensures contended { contended_of self.new ≡ contended_of self.old }
     {
         let bits = request.bits();
         let mut rest = bits;
@@ -37,8 +38,9 @@ impl<A: Allocator> MarkedClocked<A> {
         ensures range { result < 8 }
         ensures sees { SeesReply result self.old self.new }
         ensures cycles { cycles_of self.new ≡ counted 4 (cycles_of self.old) }
+        ensures contended { contended_of self.new ≡ contended_of self.old }
     {
-        let _ = self.cycle(None);
+        let _ = self.cycle(None); // the turnaround after a request
         let first = self.cycle(None);
         let second = self.cycle(None);
         let third = self.cycle(None);
@@ -52,6 +54,7 @@ impl<A: Allocator> MarkedClocked<A> {
         ensures range { result < 8 }
         ensures asked { Asked request result self.old self.new }
         ensures cycles { cycles_of self.new ≡ counted 12 (cycles_of self.old) }
+        ensures contended { contended_of self.new ≡ contended_of self.old }
     {
         self.send_request(request);
         self.see_reply()
@@ -65,13 +68,14 @@ impl<A: Allocator> MarkedClocked<A> {
         ensures bits { result ≡ flipped (flip_of (mark_of self.old)) (frame_bits (frame_in self.old)) }
         ensures goes { Goes idle self.old self.new }
         ensures cycles { cycles_of self.new ≡ counted 34 (cycles_of self.old) }
+        ensures contended { contended_of self.new ≡ contended_of self.old }
     {
         let mut bits = 0u64;
         for place in 0..33u8 {
             let bit = self.cycle(None);
             bits = bits / 2 + u64::from(bit) * 0x1_0000_0000;
         }
-        let _ = self.cycle(None);
+        let _ = self.cycle(None); // the turnaround after a read's data
         bits
     }
 
@@ -82,9 +86,10 @@ impl<A: Allocator> MarkedClocked<A> {
         requires bits { bits < 2 ^ 33 }
         ensures brings { Brings (flipped (flip_of (mark_of self.old)) bits) self.old self.new }
         ensures cycles { cycles_of self.new ≡ counted 34 (cycles_of self.old) }
+        ensures contended { contended_of self.new ≡ contended_of self.old }
     {
         let mut rest = bits;
-        let _ = self.cycle(None);
+        let _ = self.cycle(None); // the turnaround before a write's data
         for place in 0..32u8 {
             let _ = self.cycle(Some(rest % 2 == 1));
             rest /= 2;
@@ -98,8 +103,9 @@ impl<A: Allocator> MarkedClocked<A> {
         requires heard { unseen_of self.old ≡ 0 }
         ensures goes { Goes idle self.old self.new }
         ensures cycles { cycles_of self.new ≡ counted 1 (cycles_of self.old) }
+        ensures contended { contended_of self.new ≡ contended_of self.old }
     {
-        let _ = self.cycle(None);
+        let _ = self.cycle(None); // the turnaround after WAIT or FAULT
     }
 
     // A line reset, with the switch or without. So many of its first ones are left undriven, among
@@ -114,6 +120,7 @@ impl<A: Allocator> MarkedClocked<A> {
         ensures frame { frame_in self.new ≡ Frame.High }
         ensures leads { Leads self.old self.new }
         ensures cycles { cycles_of self.new ≡ counted (reset_cycles ones switch) (cycles_of self.old) }
+        ensures contended { contended_of self.new ≡ contended_of self.old }
     {
         self.send_ones(ones, undriven);
         if switch {
@@ -131,6 +138,7 @@ impl<A: Allocator> MarkedClocked<A> {
         ensures frame { frame_in self.new ≡ Frame.High }
         ensures leads { Leads self.old self.new }
         ensures cycles { cycles_of self.new ≡ counted count (cycles_of self.old) }
+        ensures contended { contended_of self.new ≡ contended_of self.old }
     {
         for place in 0..count {
             self.send_one(if place < undriven { None } else { Some(true) });
@@ -147,6 +155,7 @@ impl<A: Allocator> MarkedClocked<A> {
         ensures rise { rise (frame_in self.new) ≡ rise (frame_in self.old) - 1 }
         ensures leads { Leads self.old self.new }
         ensures cycles { cycles_of self.new ≡ counted 1 (cycles_of self.old) }
+        ensures contended { contended_of self.new ≡ contended_of self.old }
     {
         let _ = self.cycle(drive);
     }
@@ -157,6 +166,7 @@ impl<A: Allocator> MarkedClocked<A> {
         requires heard { unseen_of self.old ≡ 0 }
         ensures goes { Goes (Frame.Lost 0) self.old self.new }
         ensures cycles { cycles_of self.new ≡ counted 16 (cycles_of self.old) }
+        ensures contended { contended_of self.new ≡ contended_of self.old }
     {
         for place in 0..16u8 {
             let _ = self.cycle(Some(SWITCH >> place & 1 == 1));
@@ -170,6 +180,7 @@ impl<A: Allocator> MarkedClocked<A> {
         requires enough { fall (frame_in self.old) ≤ count }
         ensures goes { Goes idle self.old self.new }
         ensures cycles { cycles_of self.new ≡ counted count (cycles_of self.old) }
+        ensures contended { contended_of self.new ≡ contended_of self.old }
     {
         for place in 0..count {
             self.send_zero();
@@ -183,6 +194,7 @@ impl<A: Allocator> MarkedClocked<A> {
         ensures fall { fall (frame_in self.new) ≡ fall (frame_in self.old) - 1 }
         ensures goes { Goes (frame_in self.new) self.old self.new }
         ensures cycles { cycles_of self.new ≡ counted 1 (cycles_of self.old) }
+        ensures contended { contended_of self.new ≡ contended_of self.old }
     {
         let _ = self.cycle(Some(false));
     }

@@ -1,4 +1,4 @@
-use Rattle.std.proofs.Common.{◌≡◌, ◌+◌, ◌*◌, ◌/◌, ◌%◌, ◌-◌, ◌^◌, None, refl, ap, subst, ◌∙◌, arith}
+use Rattle.std.proofs.Common.{◌≡◌, ◌+◌, ◌*◌, ◌/◌, ◌%◌, ◌-◌, ◌^◌, None, true, refl, ap, subst, ◌∙◌, arith}
 use Rattle.std.specs.Prelude.{◌==◌}
 use Rattle.swd_port.specs.Choices.{flip_of}
 use Rattle.swd_port.specs.Phases.{flipped, undriven}
@@ -7,6 +7,7 @@ use Rattle.swd_clocked.specs.Frames.{frame_register, shifted}
 use Rattle.swd_clocked.proofs.Shifts.{Shifts, shift_33, shifted_33, halved, counted_on, came_on}
 use Rattle.swd_clocked.proofs.Marks.{legal_mark, step_at, goes_on, goes_none, keeps_on}
 use Rattle.swd_clocked.proofs.Whole.{sent_step, flipped_small}
+use Rattle.swd_clocked.proofs.Contends.{stays_on, stays_in, data_alone}
 use Rattle.swd_clocked.proofs.marked.MarkedClocked.give_bits.Goals as goal
 
 pub loop-place-init : goal.loop-place-init
@@ -14,9 +15,9 @@ loop-place-init g c =
     let old = c.args.self.now in
     let r = frame_register old.clocked.frame in
     let got = flipped (flip_of old.mark) c.args.bits in
-    let x = step_at (Awaits r undriven 0) None c.cycle.result old c.cycle.new.self c.cycle.ensures.cycles c.requires.heard c.requires.frame tt in
+    let x = step_at (Awaits r undriven 0) _ c.cycle.result old c.cycle.new.self c.cycle.ensures.cycles c.requires.heard c.requires.frame tt in
     let goes = goes_on _ _ old old c.cycle.new.self (goes_none _ old c.requires.heard c.requires.frame) (x.turns.cycles.1.turn refl) x.keeps x.heard in
-    (undriven, omega arith, record { equation = omega arith; small = omega arith }, goes, c.cycle.ensures.count)
+    (undriven, omega arith, record { equation = omega arith; small = omega arith }, goes, c.cycle.ensures.count, stays_on _ _ _ _ refl c.cycle.ensures.contended refl)
 
 pub loop-place-preserved : goal.loop-place-preserved
 loop-place-preserved g c =
@@ -34,6 +35,7 @@ loop-place-preserved g c =
       subst (λ n. Shifts (2 ^ 33) (got * 2 ^ 33 + (2 ^ 33 - 1)) (k + 1) n next) (halved got k) (shift_33 _ _ _ _ i.2),
       goes_on _ _ _ _ _ i.3 moved d.keeps d.heard,
       counted_on _ _ _ _ _ _ i.4 cycle.ensures.count refl,
+      stays_in _ _ _ _ _ true i.5 cycle.ensures.contended i.3.moved.frame (data_alone r i.0 k true),
     )
 
 pub returns-clause-brings : goal.returns-clause-brings
@@ -54,3 +56,9 @@ returns-clause-brings g c =
       keeps = keeps_on _ _ _ i.3.keeps d.keeps;
       heard = d.heard;
     }
+
+pub returns-clause-contended : goal.returns-clause-contended
+returns-clause-contended g c =
+    let i = c.loop-place.invariant in
+    let r = frame_register c.args.self.now.clocked.frame in
+    stays_in _ _ _ _ _ true i.5 c.cycle-2.ensures.contended i.3.moved.frame (data_alone r i.0 c.loop-place.place true)

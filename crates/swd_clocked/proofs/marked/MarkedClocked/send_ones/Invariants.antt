@@ -1,6 +1,6 @@
 use Rattle.std.proofs.Common.{◌≡◌, ◌-◌}
 use Rattle.swd_clocked.specs.Frames.{IsRising, rise, counted}
-use Rattle.swd_clocked.specs.Marked.{frame_in, unseen_of, cycles_of}
+use Rattle.swd_clocked.specs.Marked.{frame_in, unseen_of, cycles_of, contended_of}
 use Rattle.swd_clocked.specs.Phases.{Leads}
 use Rattle.swd_clocked.proofs.marked.MarkedClocked.send_ones.Given as goal
 
@@ -11,4 +11,5 @@ invariant-loop-place g l = record {
   rise : rise (frame_in l.self) ≡ rise (frame_in l.fn.self) - l.place;
   leads : Leads l.fn.self l.self;
   cycles : cycles_of l.self ≡ counted l.place (cycles_of l.fn.self);
+  contended : contended_of l.self ≡ contended_of l.fn.self;
 }

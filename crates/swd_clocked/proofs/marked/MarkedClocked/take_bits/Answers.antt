@@ -7,6 +7,7 @@ use Rattle.swd_clocked.specs.Phases.{Goes}
 use Rattle.swd_clocked.proofs.Shifts.{Shifts, shift_taken, taken_33, byte_bit, halved, counted_on}
 use Rattle.swd_clocked.proofs.Marks.{legal_mark, step_at, goes_on, goes_none}
 use Rattle.swd_clocked.proofs.Whole.{driven_step, flipped_small}
+use Rattle.swd_clocked.proofs.Contends.{stays_on}
 use Rattle.swd_clocked.proofs.marked.MarkedClocked.take_bits.Goals as goal
 
 pub loop-place-init : goal.loop-place-init
@@ -15,7 +16,7 @@ loop-place-init g c =
     let small = old.clocked.counts in
     let sent = frame_bits old.clocked.frame in
     let whole : sent ≡ sent / 1 = omega arith in
-    (record { equation = omega arith; small = omega arith }, goes_none _ old c.requires.heard (c.requires.frame ∙ ap (λ n. Drives n 33) whole), omega arith)
+    (record { equation = omega arith; small = omega arith }, goes_none _ old c.requires.heard (c.requires.frame ∙ ap (λ n. Drives n 33) whole), omega arith, refl)
 
 pub loop-place-preserved : goal.loop-place-preserved
 loop-place-preserved g c =
@@ -29,6 +30,7 @@ loop-place-preserved g c =
       subst (λ n. Shifts (2 ^ 33) (got * 2 ^ 33) (k + 1) n (c.loop-place.bits / 2 + c.from.result * 2 ^ 32)) (halved got k) shift,
       goes_on _ _ _ _ _ i.1 d.moved d.keeps d.heard,
       counted_on _ _ _ _ _ _ i.2 c.cycle-bit.ensures.count refl,
+      stays_on _ _ _ _ i.3 c.cycle-bit.ensures.contended refl,
     )
 
 pub returns-clause-bits : goal.returns-clause-bits
@@ -53,3 +55,6 @@ returns-clause-goes g c =
     let goes = subst (λ n. Goes (Drives (sent / 2 ^ n) (33 - n)) start c.loop-place.self) last i.1 in
     let x = step_at (Drives (sent / 2 ^ 33) 0) None c.cycle.result c.loop-place.self c.cycle.new.self c.cycle.ensures.cycles goes.heard goes.moved.frame tt in
     goes_on _ _ _ _ _ goes (x.turns.cycles.turn refl).1 x.keeps x.heard
+
+pub returns-clause-contended : goal.returns-clause-contended
+returns-clause-contended g c = stays_on _ _ _ _ c.loop-place.invariant.3 c.cycle.ensures.contended refl
