@@ -66,7 +66,8 @@ impl<A: Allocator> Clocked<A> {
         }
     }
 
-    /// While it is set, each request that may get WAIT gets it in place of OK.
+    /// While it is set, the target is busy: each request that may get WAIT gets it in place of OK, and a read of
+    /// CTRL/STAT finds power late that wasn't seen to be there before.
     pub fn hold(&mut self, wait: bool)
         ensures holds { Holds wait self.old self.new }
         ensures cycles { cycles_of self.new ≡ cycles_of self.old }

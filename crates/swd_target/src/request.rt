@@ -18,7 +18,8 @@ impl<A: Allocator> Target<A> {
     ghost use Rattle.swd_target.specs.Targets.{state_of, simulation, stand_in, phase_in};
     ghost use Rattle.swd_target.specs.Requests.{Answers, AnswersUnder, DataComes, Transfers};
 
-    /// A request where WAIT is asked for or not: the reply, and the data phase that follows an OK.
+    /// A request where WAIT is asked for or not: the reply, and the data phase that follows an OK. Where WAIT is asked for, a
+    /// read of CTRL/STAT, which never gets it, finds power late that wasn't seen to be there before.
     pub fn request(&mut self, waits: bool, request: Request) -> (Reply, Line)
         ensures answers { Answers waits request self.old result.0 result.1 self.new }
         ensures driven { bits_driven result.1 < 2 ^ 33 }
