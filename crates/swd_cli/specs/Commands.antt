@@ -47,6 +47,17 @@ tries_rule =
       defaults = codes "8" ∷ [];
     }
 
+-- how often the run is resumed, after --resume: 0 to 1,000, and 0 without it
+abbrev pub resume_rule : Rule
+resume_rule =
+    let rule = new_rule (codes "resume") in
+    record rule {
+      long = Some (codes "resume");
+      value_names = 1;
+      parser = Some (Signed (pos 0) (pos 1000));
+      defaults = codes "0" ∷ [];
+    }
+
 -- the trace, after --trace
 abbrev pub trace_rule : Rule
 trace_rule = let rule = new_rule (codes "trace") in record rule { long = Some (codes "trace"); value_names = 1 }
@@ -61,7 +72,7 @@ over_a_script = with_rule (with_rule (new_app (codes "run")) script_rule) plan_r
 
 -- and with what else it is given
 abbrev pub run_app : App
-run_app = with_rule (with_rule (with_rule over_a_script tries_rule) trace_rule) strict_rule
+run_app = with_rule (with_rule (with_rule (with_rule over_a_script tries_rule) resume_rule) trace_rule) strict_rule
 
 -- the log, after --log
 abbrev pub log_rule : Rule
@@ -86,11 +97,17 @@ abbrev pub AreTries : ℕ → Option Text → Type 0
 AreTries tries None = tries ≡ 8
 AreTries tries (Some text) = (tries ≤ 1000) × (pos tries ≡ signed_digits_value 10 text)
 
--- the script, the plan, the number of tries and the trace that the words name, and whether they ask for a strict run
+-- and so is the number of times that the run is resumed; 0 without a word
+abbrev pub AreResumes : ℕ → Option Text → Type 0
+AreResumes resumes None = resumes ≡ 0
+AreResumes resumes (Some text) = (resumes ≤ 1000) × (pos resumes ≡ signed_digits_value 10 text)
+
+-- the script, the plan, the two numbers and the trace that the words name, and whether they ask for a strict run
 pub record IsRunOf (run : RunLine) (rows : List Row) : Type 0 where
   pub script : Some (string_bytes run.script) ≡ first_of (codes "SCRIPT") rows
   pub plan : option_map string_bytes run.plan ≡ first_of (codes "plan") rows
   pub tries : AreTries run.tries (first_of (codes "tries") rows)
+  pub resumes : AreResumes run.resumes (first_of (codes "resume") rows)
   pub trace : option_map string_bytes run.trace ≡ first_of (codes "trace") rows
   pub strict : (run.strict ≡ true) ↔ (first_of (codes "strict") rows ≡ Some (codes "true"))
 

@@ -41,11 +41,11 @@ NotOpened status old new = (status ≡ 2) × Appends old new []
 -- that is named for it, of which nothing else is known.
 abbrev pub PerformsUnder : {S : Type 0} → Option S → RunLine → ℕ → Option (List ℕ) → Option (List ℕ) → Option (List ℕ) → Option (List ℕ) → Type 0
 PerformsUnder None run status script plan old new =
-    (answer : Result End EngineFault) × RunsText run.tries answer script plan old new × IsStatusOf run.strict answer status
+    (answer : Result End EngineFault) × RunsText run.tries run.resumes answer script plan old new × IsStatusOf run.strict answer status
 PerformsUnder (Some trace) run status script plan old new =
     NotOpened status old new
     ⊎ ((answer : Result End EngineFault) × (before : Option (List ℕ)) × (after : Option (List ℕ))
-    × RunsTraced run.tries answer script plan old new before after × IsStatusOf run.strict answer status)
+    × RunsTraced run.tries run.resumes answer script plan old new before after × IsStatusOf run.strict answer status)
 
 -- The plan is empty where none is named, and else some text: no contract knows what a file held.
 abbrev pub PerformsRun : {S : Type 0} → Option S → RunLine → ℕ → Option (List ℕ) → Option (List ℕ) → Option (List ℕ) → Type 0

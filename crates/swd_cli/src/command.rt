@@ -10,7 +10,7 @@ pub enum Line {
     Decode(Option<String>),
     /// `swd encode [FILE]`: without a file, standard input.
     Encode(Option<String>),
-    /// `swd run SCRIPT [--plan FILE] [--tries N] [--trace FILE] [--strict]`.
+    /// `swd run SCRIPT [--plan FILE] [--tries N] [--resume N] [--trace FILE] [--strict]`.
     Run(RunLine),
     /// `swd target SCRIPT [--plan FILE] [--log FILE] [--trace FILE]`.
     Target(TargetLine),
@@ -25,6 +25,8 @@ pub struct RunLine {
     pub plan: Option<String>,
     /// How many events an access may meet, at most 1,000.
     pub tries: u32,
+    /// How often the run is resumed at a lost acknowledgement, at most 1,000 times.
+    pub resumes: u32,
     /// The file that the trace is written to, where one is named.
     pub trace: Option<String>,
     /// Whether a bus fault fails the run.

@@ -184,12 +184,13 @@ fn perform_under<S: Read, P: Read, F: Files, O: Write, E: Write>(
 {
     output.look(run.strict);
     let Some(name) = &run.trace else {
-        let answer = run_text(alloc, script, plan, run.tries, output);
+        let answer = run_text(alloc, script, plan, run.tries, run.resumes, output);
         return run_status(errors, answer, run.strict && output.has_found());
     };
     match open_trace(files, name.as_str(), read) {
         Ok(mut trace) => {
-            let answer = run_traced(alloc, script, plan, run.tries, output, &mut trace.file);
+            let trace = &mut trace.file;
+            let answer = run_traced(alloc, script, plan, run.tries, run.resumes, output, trace);
             run_status(errors, answer, run.strict && output.has_found())
         }
         Err(_) => cannot_open(errors, name.as_str()),

@@ -193,6 +193,26 @@ fn a_script_is_run(rt: HostRuntime) {
     assert_eq!(rt; ran.status, 0);
 }
 
+// What was lost is gone on with, and done whole.
+#[test]
+fn a_lost_run_is_resumed(rt: HostRuntime) {
+    let words = ["swd", "run", "script", "--plan", "cut", "--resume", "1"];
+    let ran = run_on(rt.alloc(), words.as_slice(), b"".as_slice());
+    let report = b"resume 0 begun 1\nw 20000000 written\nr 20000000 deadbeef\n\
+        r 20000004 00000000\nr 30000000 busfault\nend all 4\n"
+        .as_slice();
+    assert_eq!(rt; ran.output.as_slice(), report);
+    assert!(rt; ran.errors.is_empty());
+    assert_eq!(rt; ran.status, 0);
+    let words = [
+        "swd", "run", "script", "--plan", "cut", "--resume", "1", "--strict", "--trace", "traced",
+    ];
+    let ran = run_on(rt.alloc(), words.as_slice(), b"".as_slice());
+    assert_eq!(rt; ran.output.as_slice(), report);
+    assert!(rt; ran.traced > 0);
+    assert_eq!(rt; ran.status, 1);
+}
+
 #[test]
 fn a_run_that_ends_early_has_a_status(rt: HostRuntime) {
     let words = ["swd", "run", "script", "--plan", "cut"];
@@ -582,13 +602,16 @@ fn help_and_version_go_to_standard_output(rt: HostRuntime) {
     assert_eq!(rt; ran.status, 2);
 }
 
-// A number of tries below 0 is refused for its range, as one that is too large is.
+// A number below 0 is refused for its range, as one that is too large is.
 #[test]
-fn negative_tries_are_refused_for_their_range(rt: HostRuntime) {
+fn negative_numbers_are_refused_for_their_range(rt: HostRuntime) {
     for words in [
         ["swd", "run", "script", "--tries", "-1"].as_slice(),
         ["swd", "run", "script", "--tries=-1"].as_slice(),
         ["swd", "run", "script", "--tries=1001"].as_slice(),
+        ["swd", "run", "script", "--resume", "-1"].as_slice(),
+        ["swd", "run", "script", "--resume=-1"].as_slice(),
+        ["swd", "run", "script", "--resume=1001"].as_slice(),
     ] {
         let ran = run_on(rt.alloc(), words, b"".as_slice());
         let range = b"is not in 0..=1000\n".as_slice();
@@ -641,6 +664,7 @@ fn help_tells_each_word(rt: HostRuntime) {
         "w ADDR written ",
         "r ADDR busfault ",
         "w ADDR busfault ",
+        "resume K begun B ",
         "end all ",
         "end lost ",
         "end tries ",
@@ -653,6 +677,7 @@ fn help_tells_each_word(rt: HostRuntime) {
         "memory  ",
         "--plan ",
         "--tries ",
+        "--resume ",
         "--trace ",
         "--strict ",
     ] {
@@ -684,6 +709,13 @@ fn words_with_a_file(rt: HostRuntime) -> Result<(), Fail> {
         assert_eq!(rt; name.as_str(), "a");
     }
     Ok(())
+}
+
+fn resumes_in(alloc: Global, words: &[&str]) -> Option<u32> {
+    match line(alloc, words) {
+        Ok(Line::Run(run)) => Some(run.resumes),
+        _ => None,
+    }
 }
 
 fn tries_in(alloc: Global, words: &[&str]) -> Option<u32> {
@@ -728,7 +760,16 @@ fn words_of_a_run(rt: HostRuntime) -> Result<(), Fail> {
     ] {
         let words = ["swd", "run", "s", "--tries", text];
         assert_eq!(rt; tries_in(rt.alloc(), words.as_slice()), tries);
+        let words = ["swd", "run", "s", "--resume", text];
+        assert_eq!(rt; resumes_in(rt.alloc(), words.as_slice()), tries);
     }
+    assert_eq!(rt;
+        resumes_in(rt.alloc(), ["swd", "run", "s"].as_slice()),
+        Some(0)
+    );
+    let words = ["swd", "run", "s", "--tries", "5", "--resume", "7"];
+    assert_eq!(rt; tries_in(rt.alloc(), words.as_slice()), Some(5));
+    assert_eq!(rt; resumes_in(rt.alloc(), words.as_slice()), Some(7));
     Ok(())
 }
 

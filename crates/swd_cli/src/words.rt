@@ -5,8 +5,8 @@ ghost use Rattle.std.specs.String.{string_bytes};
 ghost use Rattle.clap.specs.Words.{app_of, found_of, rows_of, subcommand_of, subcommand_rows_of, rule_of, shape_of};
 ghost use Rattle.clap.specs.Words.{fault_of, kind_of, with_rule, with_subcommand};
 ghost use Rattle.clap.specs.declared.builder.command.Command.TheViews.{out-Command};
-ghost use Rattle.swd_cli.specs.Commands.{file_rule, plan_rule, script_rule, strict_rule, trace_rule, tries_rule};
-ghost use Rattle.swd_cli.specs.Commands.{bare_app, over_a_script, over_file, run_app, swd_app, AreTries, IsLineOf, IsOfKind, IsRunOf, IsRefusal};
+ghost use Rattle.swd_cli.specs.Commands.{file_rule, plan_rule, resume_rule, script_rule, strict_rule, trace_rule, tries_rule};
+ghost use Rattle.swd_cli.specs.Commands.{bare_app, over_a_script, over_file, run_app, swd_app, AreResumes, AreTries, IsLineOf, IsOfKind, IsRunOf, IsRefusal};
 
 use crate::command::{Line, LineFault, RunLine};
 use crate::target_words::{target_command, target_line};
@@ -86,6 +86,8 @@ The report has one line an answer, in the script's order:
   w ADDR written     the write took place, once
   r ADDR busfault    no word is there, or the target's room is used up; the
   w ADDR busfault    same of a write. Nothing took place
+  resume K begun B   no acknowledgement was seen after K answers; with --resume
+                     the run went on. What was begun may have been done twice
 and then one line of how the run ended, after K answers. Of the accesses behind
 these, B were begun and may have taken place:
   end all K              all accesses were answered
@@ -111,6 +113,8 @@ const TRIES: u32 = 8;
 const MOST_TRIES: i64 = 1000;
 
 const TRIES_RANGE: &str = "the value of '--tries <N>' is not in 0..=1000";
+
+const RESUMES_RANGE: &str = "the value of '--resume <N>' is not in 0..=1000";
 
 // A value as an owned text.
 pub(crate) fn owned(alloc: Global, text: Option<&str>) -> Result<Option<String>, AllocError>
@@ -186,6 +190,19 @@ fn tries_arg<'a>(alloc: Global) -> Arg<'a>
         .help("WAITs and changed data per access, 0 to 1000")
 }
 
+// How often a run is resumed.
+fn resume_arg<'a>(alloc: Global) -> Arg<'a>
+    ensures rule { rule_of result ≡ resume_rule }
+    ensures local { result.global ≡ false }
+{
+    Arg::new(alloc, "resume")
+        .long("resume")
+        .value_name("N")
+        .value_parser(value_parser!(u32).range(0..=1000))
+        .default_value("0")
+        .help("How often a lost run is resumed, 0 to 1000")
+}
+
 pub(crate) fn with_arg<'a>(command: Command<'a>, arg: Arg<'a>) -> Result<Command<'a>, AllocError>
     requires arg { arg.global ≡ false }
     requires local { (out-Command command).has_globals ≡ false }
@@ -232,7 +249,8 @@ fn run_command<'a>(alloc: Global) -> Result<Command<'a>, AllocError>
 {
     let bare = over_a_script(alloc)?;
     let tries = with_arg(bare, tries_arg(alloc))?;
-    let trace = with_arg(tries, trace_arg(alloc))?;
+    let resume = with_arg(tries, resume_arg(alloc))?;
+    let trace = with_arg(resume, trace_arg(alloc))?;
     with_arg(trace, strict_arg(alloc))
 }
 
@@ -276,20 +294,23 @@ fn unknown(alloc: Global) -> LineFault {
     refused(alloc, ErrorKind::InvalidSubcommand, "unknown command")
 }
 
-// Whether a run's number of tries is below 0: `clap` takes the number for an option that nobody knows.
-fn asks_for_negative_tries(words: &[&str]) -> bool {
+// Whether a run's number behind this option is below 0: `clap` takes the number for an option that nobody
+// knows.
+fn asks_for_negative(words: &[&str], option: &str) -> bool {
     words.get(1) == Some(&"run")
         && words.windows(2).any(|pair| {
-            pair[0] == "--tries" && pair[1].parse::<i64>().is_ok_and(|number| number < 0)
+            pair[0] == option && pair[1].parse::<i64>().is_ok_and(|number| number < 0)
         })
 }
 
-// A mistake that `clap` found. Negative numbers of tries are told by their range.
+// A mistake that `clap` found. Negative numbers are told by their range.
 fn told(alloc: Global, words: &[&str], fault: Error) -> LineFault
     ensures { IsOfKind (kind_of fault) result }
 {
-    if fault.kind() == ErrorKind::UnknownArgument && asks_for_negative_tries(words) {
+    if fault.kind() == ErrorKind::UnknownArgument && asks_for_negative(words, "--tries") {
         refused(alloc, fault.kind(), TRIES_RANGE)
+    } else if fault.kind() == ErrorKind::UnknownArgument && asks_for_negative(words, "--resume") {
+        refused(alloc, fault.kind(), RESUMES_RANGE)
     } else {
         LineFault::Clap(fault)
     }
@@ -319,6 +340,16 @@ fn tries_in(word: Option<&str>) -> Option<u32>
     }
 }
 
+// How often a run is resumed, by its word. `None` where that stands for no such number.
+fn resumes_in(word: Option<&str>) -> Option<u32>
+    ensures { IfSome result (λ resumes. AreResumes resumes (option_map (λ s. s.now) word.entry)) }
+{
+    match word {
+        Some(word) => number_in(word),
+        None => Some(0),
+    }
+}
+
 // Whether a flag is set, by its word.
 fn is_asked_for(word: Option<&str>) -> bool
     ensures { (result ≡ true) ↔ (option_map (λ s. s.now) word.entry ≡ Some (codes "true")) }
@@ -342,10 +373,14 @@ fn run_line(alloc: Global, matches: &ArgMatches<'_>) -> Result<RunLine, LineFaul
     let Some(tries) = tries_in(matches.get_str("tries")) else {
         return Err(refused(alloc, ErrorKind::InvalidValue, TRIES_RANGE));
     };
+    let Some(resumes) = resumes_in(matches.get_str("resume")) else {
+        return Err(refused(alloc, ErrorKind::InvalidValue, RESUMES_RANGE));
+    };
     Ok(RunLine {
         script,
         plan,
         tries,
+        resumes,
         trace,
         strict: is_asked_for(matches.get_str("strict")),
     })

@@ -1,7 +1,9 @@
-//! How a program uses the host: once by `run` and `run_block` over a wire, once by the engine alone over two pins.
+//! How a program uses the host: by `run` and `run_block` over a wire, by `resume` where an acknowledgement is lost, and
+//! by the engine alone over two pins.
 #![tactic(auto)]
 
 mod by_hand;
+mod resumed;
 mod whole;
 
 use std::io;
@@ -9,8 +11,13 @@ use std::process::ExitCode;
 
 fn main(rt: HostRuntime) -> io::Result<ExitCode> {
     let loaded = whole::load(rt.alloc());
+    let resumed = resumed::load(rt.alloc());
     let driven = by_hand::load(rt.alloc());
-    for (name, failed) in [("run", loaded.err()), ("by hand", driven.err())] {
+    for (name, failed) in [
+        ("run", loaded.err()),
+        ("resume", resumed.err()),
+        ("by hand", driven.err()),
+    ] {
         match failed {
             None => println!(rt; "{name}: the words are there")?,
             Some(failure) => {

@@ -51,10 +51,11 @@ pub const BASE: u32 = 0x2000_0000;
 /// What is loaded.
 pub const IMAGE: [u32; 4] = [0x2000_1000, 0x2000_0011, 0xe7fe_e7fe, 0xbf00_bf00];
 
-// How many WAITs and changed data an access may meet.
-const TRIES: u32 = 8;
+/// How many WAITs and changed data an access may meet.
+pub const TRIES: u32 = 8;
 
-const QUIRKS: Quirks = Quirks {
+/// What the standard leaves to a target.
+pub const QUIRKS: Quirks = Quirks {
     wrap: true,
     late: false,
     filler: 0,

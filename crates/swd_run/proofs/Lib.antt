@@ -1,4 +1,5 @@
 pub mod ReportLemmas
 pub mod LogLemmas
 pub mod RunLemmas
+pub mod WentLemmas
 pub mod WorkedReports

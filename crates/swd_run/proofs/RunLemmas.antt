@@ -18,16 +18,17 @@ use Rattle.swd_port.specs.PlainMemory.{PlainMemory, reads}
 use Rattle.swd_script.specs.Laws.{IsBlock}
 use Rattle.swd_host.specs.Reports.{Closes, EndsAt, Fits, IsAtRest, RunFits, RunsWithin, Told}
 use Rattle.swd_script.specs.Scripts.{Meaning}
-use Rattle.swd_run.specs.Running.{IsExcused, RunsAs, AreRead, Ran, memory_of, most_begun}
+use Rattle.swd_run.specs.declared.going_on.Stop.{Stop}
+use Rattle.swd_run.specs.Running.{IsExcused, RunsAs, RunsOn, AreRead, Ran, memory_of, most_begun}
 use Rattle.swd_run.specs.Tracing.{AreItems, IsTraceOf, IsOfTrace, IsRecorded}
 
-excused : (ended : End) (tries : ℕ) (marks : List Mark) (s t : Port) → s.tally.disturbed ≡ 0 → s.tally.lost ≡ 0 →
+pub excused : (ended : End) (tries : ℕ) (marks : List Mark) (s t : Port) →
     t.tally.disturbed ≤ disturbed_among marks → t.tally.lost ≤ lost_among marks → EndsAt ended tries s t → IsExcused ended tries marks
-excused All tries marks s t d l p q e = tt
-excused Lost tries marks s t d l p q e = let grew = e.1 in omega arith
-excused TriesOut tries marks s t d l p q e = let grew = e.1 in omega arith
-excused (WrongId word) tries marks s t d l p q e = absurd e
-excused Confused tries marks s t d l p q e = absurd e
+excused All tries marks s t p q e = tt
+excused Lost tries marks s t p q e = let grew = e.1 in omega arith
+excused TriesOut tries marks s t p q e = let grew = e.1 in omega arith
+excused (WrongId word) tries marks s t p q e = absurd e
+excused Confused tries marks s t p q e = absurd e
 
 -- a target that was just made is at rest
 pub made_rests : (m : PlainMemory) (s : Port) → s ≡ made 731911287 m → IsAtRest s
@@ -57,7 +58,7 @@ run_as tries script marks told s t due is_made p q closes over =
       memory = t.target.memory;
       fits = subst (λ m. Fits (most_begun script) script.accesses m told t.target.memory)
           (ap (λ x. x.target.memory) is_made) fits.now;
-      excused = excused told.ended tries marks s t d l p q fits.ends;
+      excused = excused told.ended tries marks s t p q fits.ends;
       whole = λ none few. fits.stops_only (omega arith) (omega arith);
       least = fits.least;
       most = omega arith;
@@ -89,7 +90,7 @@ module _ {A : Type 0} (script : Meaning) (P : ℕ → List Access → Report A �
 
 -- ---- what a recorded run leaves
 
-ends_at : (ended : End) (tries : ℕ) (s t : Port) → EndsAt ended tries s t
+pub ends_at : (ended : End) (tries : ℕ) (s t : Port) → EndsAt ended tries s t
     → (pending t.link.due ≡ 0) × ((t.link.due ≡ DueLost) ↔ (ended ≡ Lost))
 ends_at All tries s t e = (ap pending e.0.due, (λ d. absurd (apart t.link.due e.0.due d), λ f. absurd cc))
   where
@@ -102,18 +103,6 @@ ends_at TriesOut tries s t e = (ap pending e.0, (λ d. absurd (apart t.link.due 
     apart due e d = cc
 ends_at (WrongId word) tries s t e = absurd e
 ends_at Confused tries s t e = absurd e
-
-pub run_recorded : (tries : ℕ) (script : Meaning) (told : Told) (s t : Port) → s ≡ made 731911287 (memory_of script) →
-    RunsWithin (most_begun script) script.accesses tries told s t → IsRecorded told t
-run_recorded tries script told s t is_made over =
-    let fits : RunFits (most_begun script) script.accesses tries s.target.memory told s t =
-    over (made_rests (memory_of script) s is_made) in
-    let (rests, lost) = ends_at told.ended tries s t fits.ends in
-    record {
-      asked = (let counted = fits.counted in let none : s.tally.asked ≡ 0 = ap (λ x. x.tally.asked) is_made in omega (arith, counted, none));
-      rests = rests;
-      lost = lost;
-    }
 
 -- its items are its trace
 pub trace_of : (told : Told) (port : Port) (items : List Item) → IsRecorded told port → AreItems items →
@@ -133,12 +122,13 @@ of_trace told port items recorded read most = record {
 
 -- ---- what was read, and what came of it
 
-abbrev pub ran_as : (tries : ℕ) (script plan : Option (List ℕ)) (m : Meaning) (marks : List Mark) (told : Told) → AreRead script plan m marks →
-    RunsAs tries m marks told → Ran tries script plan
-ran_as tries script plan m marks told read runs = record {
+abbrev pub ran_as : (tries resumes : ℕ) (script plan : Option (List ℕ)) (m : Meaning) (marks : List Mark) (stops : List Stop) (told : Told) → AreRead script plan m marks →
+    RunsOn tries resumes m marks stops told → Ran tries resumes script plan
+ran_as tries resumes script plan m marks stops told read runs = record {
   meaning = m;
   marks = marks;
   read = read;
+  stops = stops;
   told = told;
   runs = runs;
 }

@@ -1,4 +1,5 @@
 pub mod Reports
+pub mod GoingOn
 pub mod Running
 pub mod Tracing
 pub mod Serving

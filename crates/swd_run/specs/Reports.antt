@@ -1,5 +1,5 @@
--- The report of a run: a line for each answer, and one for how the run ended. The text is this project's choice.
-use Rattle.std.specs.Prelude.{ℕ, List, [], ◌∷◌, ◌++◌, length, codes}
+-- The report of a run: a line for each answer, one for each time that the run was resumed, and one for how it ended. The text is this project's choice.
+use Rattle.std.specs.Prelude.{ℕ, List, [], ◌∷◌, ◌++◌, length, take, drop, codes}
 use Rattle.std.specs.Fmt.{decimal}
 use Rattle.swd_bits.specs.Listing.{hex8}
 use Rattle.swd_port.specs.declared.access.Access.{Access}
@@ -9,6 +9,7 @@ use Rattle.swd_port.specs.declared.access.Answer.TheVariants.{Value, Written, Bu
 use Rattle.swd_host.specs.declared.outcome.End.{End}
 use Rattle.swd_host.specs.declared.outcome.End.TheVariants.{All, Lost, TriesOut, WrongId, Confused}
 use Rattle.swd_host.specs.Reports.{Told}
+use Rattle.swd_run.specs.declared.going_on.Stop.{Stop}
 
 abbrev pub access_text : Access → List ℕ
 access_text (Read addr) = codes "r " ++ hex8 addr
@@ -42,7 +43,22 @@ answer_lines (access ∷ accesses) [] = []
 answer_lines (access ∷ accesses) (answer ∷ answers) =
     (answer_line access answer ++ 10 ∷ []) ++ answer_lines accesses answers
 
+-- the line of a place where the run was resumed, without its end
+abbrev pub resume_line : Stop → List ℕ
+resume_line stop = codes "resume " ++ stop_text stop.answered stop.begun
+
+-- the lines of the answers from one place to another
+abbrev pub lines_between : ℕ → ℕ → List Access → List Answer → List ℕ
+lines_between i j accesses answers = answer_lines (drop i (take j accesses)) (drop i (take j answers))
+
+-- the lines of the answers from a place on, with a line wherever the run was resumed
+abbrev pub lines_from : ℕ → List Stop → List Access → List Answer → List ℕ
+lines_from i [] accesses answers = answer_lines (drop i accesses) (drop i answers)
+lines_from i (stop ∷ stops) accesses answers =
+    lines_between i stop.answered accesses answers
+    ++ ((resume_line stop ++ 10 ∷ []) ++ lines_from stop.answered stops accesses answers)
+
 -- the text of a report, over the accesses that were asked for
-abbrev pub report_text : List Access → Told → List ℕ
-report_text accesses told =
-    answer_lines accesses told.answers ++ (last_line told.ended (length told.answers) told.begun ++ 10 ∷ [])
+abbrev pub report_text : List Access → List Stop → Told → List ℕ
+report_text accesses stops told =
+    lines_from 0 stops accesses told.answers ++ (last_line told.ended (length told.answers) told.begun ++ 10 ∷ [])

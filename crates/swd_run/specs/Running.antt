@@ -20,6 +20,8 @@ use Rattle.swd_script.specs.declared.fault.ScriptFault.{ScriptFault}
 use Rattle.swd_text.specs.declared.fault.EngineFault.{EngineFault}
 use Rattle.swd_text.specs.declared.fault.EngineFault.TheVariants.{Script, Plan, Text, List as Listing, Read, Write}
 use Rattle.swd_text.specs.declared.fault.EngineFault.TheVariants.{Memory, TraceCut}
+use Rattle.swd_run.specs.declared.going_on.Stop.{Stop}
+use Rattle.swd_run.specs.GoingOn.{TellOf, in_all}
 use Rattle.swd_run.specs.Reports.{report_text}
 
 -- the memory of a script, before its run
@@ -49,6 +51,22 @@ pub record RunsAs (tries : ℕ) (script : Meaning) (marks : List Mark) (told : T
   -- no more than so many tries allow, whatever the plan: no access took requests but those that are answered and the next
   pub spends : told.requests ≤ most_requests tries (min (length script.accesses) (length told.answers + 1))
 
+-- What a run comes to that may be resumed so many times. Where it never was, it comes to what a run does. Else its calls
+-- tell of the plain memory of the script; each place where it was resumed is a request that the plan lost; and it ends
+-- at a lost acknowledgement only where the plan loses more requests than it may be resumed.
+pub record RunsOn (tries resumes : ℕ) (script : Meaning) (marks : List Mark) (stops : List Stop) (told : Told)
+    : Type 0 where
+  pub alone : stops ≡ [] → RunsAs tries script marks told
+  pub tells : TellOf (most_begun script) tries script.accesses (memory_of script) stops told
+  pub few : length stops ≤ resumes
+  pub lost : length stops ≤ lost_among marks
+  pub excused : IsExcused told.ended tries marks
+  pub last : told.ended ≡ Lost → (length stops ≡ resumes) × (resumes < lost_among marks)
+  pub whole : lost_among marks ≤ resumes → disturbed_among marks ≤ tries → told.ended ≡ All
+  -- the requests of all calls
+  pub most : (in_all stops told).requests ≤ 9 + 6 * length script.accesses + 5 * disturbed_among marks
+      + length stops * (14 + 6 * length script.accesses + 5 * disturbed_among marks)
+
 -- the readers' texts are a script and a plan with these meanings
 pub record AreRead (script plan : Option (List ℕ)) (meaning : Meaning) (marks : List Mark) : Type 0 where
   pub script_text : List ℕ
@@ -59,16 +77,17 @@ pub record AreRead (script plan : Option (List ℕ)) (meaning : Meaning) (marks 
   pub plans : plan_of plan_text ≡ Ok marks
 
 -- and a run of them came to a report
-pub record Ran (tries : ℕ) (script plan : Option (List ℕ)) : Type 0 where
+pub record Ran (tries resumes : ℕ) (script plan : Option (List ℕ)) : Type 0 where
   pub meaning : Meaning
   pub marks : List Mark
   pub read : AreRead script plan meaning marks
+  pub stops : List Stop
   pub told : Told
-  pub runs : RunsAs tries meaning marks told
+  pub runs : RunsOn tries resumes meaning marks stops told
 
 -- the text of its report
-abbrev pub report_of : {tries : ℕ} {script plan : Option (List ℕ)} → Ran tries script plan → List ℕ
-report_of ran = report_text ran.meaning.accesses ran.told
+abbrev pub report_of : {tries resumes : ℕ} {script plan : Option (List ℕ)} → Ran tries resumes script plan → List ℕ
+report_of ran = report_text ran.meaning.accesses ran.stops ran.told
 
 -- the text, where it is known, is a script, or a plan
 abbrev pub IsScript : Option (List ℕ) → Type 0
@@ -89,19 +108,19 @@ AreUnread (Listing fault) script plan = ⊥
 AreUnread TraceCut script plan = ⊥
 
 -- What an answer says of the readers' texts, where their bytes are known, and of what the writer holds before and after.
-abbrev pub RunsText : ℕ → Result End EngineFault → Option (List ℕ) → Option (List ℕ) → Option (List ℕ)
+abbrev pub RunsText : ℕ → ℕ → Result End EngineFault → Option (List ℕ) → Option (List ℕ) → Option (List ℕ)
     → Option (List ℕ) → Type 0
-RunsText tries (Ok ended) script plan old new =
-    (ran : Ran tries script plan) × (ended ≡ ran.told.ended) × Appends old new (report_of ran)
-RunsText tries (Err (Write written)) script plan old new =
-    (ran : Ran tries script plan) × Stopped written old new (report_of ran)
-RunsText tries (Err (Script fault)) script plan old new = AreUnread (Script fault) script plan × Appends old new []
-RunsText tries (Err (Plan fault)) script plan old new = AreUnread (Plan fault) script plan × Appends old new []
-RunsText tries (Err Read) script plan old new = Appends old new []
-RunsText tries (Err Memory) script plan old new = IsScript script × IsPlan plan × Appends old new []
-RunsText tries (Err (Text fault)) script plan old new = ⊥
-RunsText tries (Err (Listing fault)) script plan old new = ⊥
-RunsText tries (Err TraceCut) script plan old new = ⊥
+RunsText tries resumes (Ok ended) script plan old new =
+    (ran : Ran tries resumes script plan) × (ended ≡ ran.told.ended) × Appends old new (report_of ran)
+RunsText tries resumes (Err (Write written)) script plan old new =
+    (ran : Ran tries resumes script plan) × Stopped written old new (report_of ran)
+RunsText tries resumes (Err (Script fault)) script plan old new = AreUnread (Script fault) script plan × Appends old new []
+RunsText tries resumes (Err (Plan fault)) script plan old new = AreUnread (Plan fault) script plan × Appends old new []
+RunsText tries resumes (Err Read) script plan old new = Appends old new []
+RunsText tries resumes (Err Memory) script plan old new = IsScript script × IsPlan plan × Appends old new []
+RunsText tries resumes (Err (Text fault)) script plan old new = ⊥
+RunsText tries resumes (Err (Listing fault)) script plan old new = ⊥
+RunsText tries resumes (Err TraceCut) script plan old new = ⊥
 
 -- a fault of a script, or of its reader
 abbrev pub script_fault : Unread ScriptFault → EngineFault

@@ -1,9 +1,6 @@
 -- What a script and a plan say of a simulated target that a host outside drives.
-use Rattle.std.specs.Prelude.{ℕ, ◌≡◌, ◌≢◌, List, [], ◌∷◌, ◌++◌, Option, None, true, false, codes, IfSome}
-use Rattle.std.specs.Fmt.{decimal}
-use Rattle.swd_bits.specs.Listing.{hex8}
+use Rattle.std.specs.Prelude.{ℕ, ◌≡◌, ◌≢◌, List, [], Option, None, true, false}
 use Rattle.swd_port.specs.declared.mark.Mark.{Mark}
-use Rattle.swd_port.specs.declared.access.Transfer.{Transfer}
 use Rattle.swd_port.specs.Port.{made_target}
 use Rattle.swd_clocked.specs.declared.marked.MarkedClocked.{MarkedClocked}
 use Rattle.swd_clocked.specs.Frames.{idle}
@@ -11,8 +8,7 @@ use Rattle.swd_clocked.specs.Marked.{state_of, frame_in, unseen_of, plan_of, tal
 use Rattle.swd_bitbang.specs.declared.trace.Trace.{Trace}
 use Rattle.swd_bitbang.specs.declared.pins.Pins.{Pins}
 use Rattle.swd_script.specs.Scripts.{Meaning}
-use Rattle.swd_text.specs.declared.fault.EngineFault.{EngineFault}
-use Rattle.swd_text.specs.declared.fault.EngineFault.TheVariants.{Script, Plan, Text, List as Listing, Read, Write, Memory, TraceCut}
+use Rattle.swd_text.specs.declared.fault.EngineFault.TheVariants.{Memory}
 use Rattle.swd_run.specs.declared.serving.TargetFault.{TargetFault}
 use Rattle.swd_run.specs.declared.serving.TargetFault.TheVariants.{Texts, Accesses}
 use Rattle.swd_run.specs.Running.{AreRead, AreUnread, IsScript, IsPlan, memory_of}

@@ -14,6 +14,7 @@ use Rattle.swd_host.specs.Reports.{Told}
 use Rattle.swd_text.specs.declared.fault.EngineFault.{EngineFault}
 use Rattle.swd_text.specs.declared.fault.EngineFault.TheVariants.{Script, Plan, Text, List as Listing, Read, Write}
 use Rattle.swd_text.specs.declared.fault.EngineFault.TheVariants.{Memory, TraceCut}
+use Rattle.swd_run.specs.GoingOn.{in_all}
 use Rattle.swd_run.specs.Running.{Ran, report_of, IsScript, IsPlan, AreUnread}
 
 -- items that their own bits are read as
@@ -40,25 +41,25 @@ pub record IsRecorded (told : Told) (port : Port) : Type 0 where
   pub lost : (port.link.due ≡ DueLost) ↔ (told.ended ≡ Lost)
 
 -- What an answer says of the readers' texts, where their bytes are known, of what the report's writer holds before and
--- after, and of what the trace's holds. The report is written first.
-abbrev pub RunsTraced : ℕ → Result End EngineFault → Option (List ℕ) → Option (List ℕ) → Option (List ℕ)
+-- after, and of what the trace's holds. The report is written first. The trace is that of all calls.
+abbrev pub RunsTraced : ℕ → ℕ → Result End EngineFault → Option (List ℕ) → Option (List ℕ) → Option (List ℕ)
     → Option (List ℕ) → Option (List ℕ) → Option (List ℕ) → Type 0
-RunsTraced tries (Ok ended) script plan old new before after =
-    (ran : Ran tries script plan) × (ended ≡ ran.told.ended) × Appends old new (report_of ran)
-    × (items : List Item) × IsTraceOf ran.told items × Appends before after (trace_text items)
-RunsTraced tries (Err TraceCut) script plan old new before after =
-    (ran : Ran tries script plan) × Appends old new (report_of ran)
-    × (items : List Item) × IsOfTrace ran.told items × Appends before after (trace_text items)
-RunsTraced tries (Err (Write written)) script plan old new before after =
-    (ran : Ran tries script plan) × ((Stopped written old new (report_of ran) × Appends before after [])
-    ⊎ (Appends old new (report_of ran) × (items : List Item) × IsOfTrace ran.told items
+RunsTraced tries resumes (Ok ended) script plan old new before after =
+    (ran : Ran tries resumes script plan) × (ended ≡ ran.told.ended) × Appends old new (report_of ran)
+    × (items : List Item) × IsTraceOf (in_all ran.stops ran.told) items × Appends before after (trace_text items)
+RunsTraced tries resumes (Err TraceCut) script plan old new before after =
+    (ran : Ran tries resumes script plan) × Appends old new (report_of ran)
+    × (items : List Item) × IsOfTrace (in_all ran.stops ran.told) items × Appends before after (trace_text items)
+RunsTraced tries resumes (Err (Write written)) script plan old new before after =
+    (ran : Ran tries resumes script plan) × ((Stopped written old new (report_of ran) × Appends before after [])
+    ⊎ (Appends old new (report_of ran) × (items : List Item) × IsOfTrace (in_all ran.stops ran.told) items
     × Stopped written before after (trace_text items)))
-RunsTraced tries (Err (Script fault)) script plan old new before after =
+RunsTraced tries resumes (Err (Script fault)) script plan old new before after =
     AreUnread (Script fault) script plan × Appends old new [] × Appends before after []
-RunsTraced tries (Err (Plan fault)) script plan old new before after =
+RunsTraced tries resumes (Err (Plan fault)) script plan old new before after =
     AreUnread (Plan fault) script plan × Appends old new [] × Appends before after []
-RunsTraced tries (Err Read) script plan old new before after = Appends old new [] × Appends before after []
-RunsTraced tries (Err Memory) script plan old new before after =
+RunsTraced tries resumes (Err Read) script plan old new before after = Appends old new [] × Appends before after []
+RunsTraced tries resumes (Err Memory) script plan old new before after =
     IsScript script × IsPlan plan × Appends old new [] × Appends before after []
-RunsTraced tries (Err (Text fault)) script plan old new before after = ⊥
-RunsTraced tries (Err (Listing fault)) script plan old new before after = ⊥
+RunsTraced tries resumes (Err (Text fault)) script plan old new before after = ⊥
+RunsTraced tries resumes (Err (Listing fault)) script plan old new before after = ⊥

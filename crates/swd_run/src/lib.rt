@@ -1,7 +1,9 @@
 //! The engine of `swd run`: a script's accesses over a simulated target, each once, whatever the plan
-//! does to the wire; its report, as text, and the trace of what went over the wire.
+//! does to the wire, and where it is resumed at a lost acknowledgement; its report, as text, and the
+//! trace of what went over the wire.
 #![tactic(auto)]
 
+mod going_on;
 mod report;
 mod running;
 mod serving;
@@ -9,7 +11,8 @@ mod target_log;
 mod texts;
 mod tracing;
 
-pub use report::{ReportLine, answer_line, last_line, write_report};
+pub use going_on::Stop;
+pub use report::{ReportLine, answer_line, last_line, resume_line, write_report};
 pub use running::run_text;
 pub use serving::{TargetFault, read_target};
 pub use target_log::write_log;

@@ -1,12 +1,13 @@
 //! The report of a run, as text.
-ghost use Rattle.std.specs.Prelude.{◌≡◌, ℕ, ◌+◌, ◌≤◌, List, ◌++◌, Option};
+ghost use Rattle.std.specs.Prelude.{◌≡◌, ℕ, ◌+◌, ◌≤◌, List, ◌++◌, Option, take, drop};
 ghost use Rattle.std.specs.Fmt.{decimal};
 ghost use Rattle.arrayvec.specs.ArrayString.{array_string_len};
 ghost use Rattle.swd_bits.specs.Listing.{hex8};
 ghost use Rattle.swd_host.specs.Reports.{told_of};
 ghost use Rattle.swd_io.specs.Blocks.{Sends, Writes};
-ghost use Rattle.swd_run.specs.Reports.{answer_line, last_line, report_text, stop_text};
+ghost use Rattle.swd_run.specs.Reports.{answer_line, answer_lines, last_line, lines_from, report_text, resume_line, stop_text};
 
+use crate::going_on::Stop;
 use arrayvec::ArrayString;
 use std::alloc::Allocator;
 use std::io::Write;
@@ -77,6 +78,17 @@ pub fn last_line(ended: End, answered: usize, begun: u8) -> ReportLine
     text
 }
 
+/// The line of a place where a run was resumed, without its end: as `resume 3 begun 1`.
+pub fn resume_line(stop: &Stop) -> ReportLine
+    ensures bytes { result.bytes ≡ resume_line stop.now }
+    ensures len { array_string_len result ≤ 48 }
+{
+    let mut text = ReportLine::new();
+    text.push_str("resume ");
+    push_stop(&mut text, stop.answered, stop.begun);
+    text
+}
+
 // How many accesses were answered, and how many begun.
 fn push_stop(text: &mut ReportLine, answered: usize, begun: u8)
     requires { array_string_len text.old ≤ 13 }
@@ -98,24 +110,67 @@ fn push_count(text: &mut ReportLine, count: usize)
     text.push_str(digits.format(count));
 }
 
+// The items from one place to another, as far as there are any.
+fn between<T>(items: &[T], from: usize, to: usize) -> &[T]
+    ensures { result.now ≡ drop from (take to items.now) }
+{
+    let end = to.min(items.len());
+    let start = from.min(end);
+    &items[start..end]
+}
+
+// The lines of the accesses that have answers are under way, too.
+fn put_answers<W: Write>(block: &mut Block<'_, W>, accesses: &[Access], answers: &[Answer])
+    ensures sends { (start : Option (List ℕ)) (all : List ℕ) → Sends W.contents start block.old all
+        → Sends W.contents start block.new (all ++ answer_lines accesses.now answers.now) }
+    ensures writer { block.new.writer.ghost_name ≡ block.old.writer.ghost_name }
+{
+    for (access, answer) in accesses.iter().zip(answers.iter()) {
+        block.put_line(answer_line(access, answer).as_str().as_bytes());
+    }
+}
+
+// And with them those of the places where the run was resumed.
+fn put_lines<W: Write>(
+    block: &mut Block<'_, W>,
+    accesses: &[Access],
+    stops: &[Stop],
+    answers: &[Answer],
+)
+    ensures sends { (start : Option (List ℕ)) (all : List ℕ) → Sends W.contents start block.old all
+        → Sends W.contents start block.new (all ++ lines_from 0 stops.now accesses.now answers.now) }
+    ensures writer { block.new.writer.ghost_name ≡ block.old.writer.ghost_name }
+{
+    let mut from = 0;
+    for stop in stops {
+        let done = between(accesses, from, stop.answered);
+        let told = between(answers, from, stop.answered);
+        put_answers(block, done, told);
+        block.put_line(resume_line(stop).as_str().as_bytes());
+        from = stop.answered;
+    }
+    let rest = between(accesses, from, accesses.len());
+    let last = between(answers, from, answers.len());
+    put_answers(block, rest, last);
+}
+
 // The report of a run of these accesses is under way, too.
 fn put_report<W: Write, A: Allocator>(
     block: &mut Block<'_, W>,
     accesses: &[Access],
+    stops: &[Stop],
     report: &Report<A>,
 )
     ensures sends { (start : Option (List ℕ)) (all : List ℕ) → Sends W.contents start block.old all
-        → Sends W.contents start block.new (all ++ report_text accesses.now (told_of report.now)) }
+        → Sends W.contents start block.new (all ++ report_text accesses.now stops.now (told_of report.now)) }
     ensures writer { block.new.writer.ghost_name ≡ block.old.writer.ghost_name }
 {
-    for (access, answer) in accesses.iter().zip(report.answers.iter()) {
-        block.put_line(answer_line(access, answer).as_str().as_bytes());
-    }
+    put_lines(block, accesses, stops, report.answers.as_slice());
     let last = last_line(report.ended, report.answers.len(), report.begun);
     block.put_line(last.as_str().as_bytes());
 }
 
-/// Writes the report of a run of these accesses. It takes no memory.
+/// Writes the report of a run of these accesses, which was resumed at these places. It takes no memory.
 ///
 /// # Errors
 ///
@@ -124,13 +179,14 @@ fn put_report<W: Write, A: Allocator>(
 pub fn write_report<W: Write, A: Allocator>(
     writer: &mut W,
     accesses: &[Access],
+    stops: &[Stop],
     report: &Report<A>,
 ) -> Result<(), u64>
     ensures { Writes result (W.contents writer.old) (W.contents writer.new)
-        (report_text accesses.now (told_of report.now)) }
+        (report_text accesses.now stops.now (told_of report.now)) }
 {
     let mut block = Block::new(writer, 0);
-    put_report(&mut block, accesses, report);
+    put_report(&mut block, accesses, stops, report);
     match block.flush() {
         Ok(_) => Ok(()),
         Err(written) => Err(written),

@@ -1,5 +1,5 @@
 //! Scripts run under plans: worked texts, texts at fault, and readers and writers that fail.
-use crate::{answer_line, last_line, run_text};
+use crate::{Stop, answer_line, last_line, resume_line, run_text};
 use std::test::Fail;
 use swd_fakes::{FailingReader, ShortWriter};
 use swd_host::End;
@@ -8,6 +8,7 @@ use swd_script::ScriptFault;
 use swd_text::EngineFault;
 
 mod refusals;
+mod resumed;
 mod slow;
 
 // What a run answers, and what it writes.
@@ -18,10 +19,22 @@ struct Ran {
 }
 
 fn run_on(rt: &HostRuntime, script: &[u8], plan: &[u8], tries: u32) -> Ran {
+    resumed_on(rt, script, plan, tries, 0)
+}
+
+// The same, resumed at most so many times.
+fn resumed_on(rt: &HostRuntime, script: &[u8], plan: &[u8], tries: u32, resumes: u32) -> Ran {
     let mut script = script;
     let mut plan = plan;
     let mut text = Vec::new(rt.alloc());
-    let answer = run_text(rt.alloc(), &mut script, &mut plan, tries, &mut text);
+    let answer = run_text(
+        rt.alloc(),
+        &mut script,
+        &mut plan,
+        tries,
+        resumes,
+        &mut text,
+    );
     Ran { answer, text }
 }
 
@@ -197,7 +210,7 @@ fn a_run_at_each_read_that_fails(rt: HostRuntime) {
         let mut script = FailingReader::new(ONE_READ, i);
         let mut plan = b"flip 33".as_slice();
         let mut text = Vec::new(rt.alloc());
-        let answer = run_text(rt.alloc(), &mut script, &mut plan, TRIES, &mut text);
+        let answer = run_text(rt.alloc(), &mut script, &mut plan, TRIES, 0, &mut text);
         assert_eq!(rt; answer, Err(EngineFault::Read), "at read {i}");
         assert!(rt; text.is_empty());
     }
@@ -205,7 +218,7 @@ fn a_run_at_each_read_that_fails(rt: HostRuntime) {
         let mut script = ONE_READ;
         let mut plan = FailingReader::new(THREE_WAITS, i);
         let mut text = Vec::new(rt.alloc());
-        let answer = run_text(rt.alloc(), &mut script, &mut plan, TRIES, &mut text);
+        let answer = run_text(rt.alloc(), &mut script, &mut plan, TRIES, 0, &mut text);
         assert_eq!(rt; answer, Err(EngineFault::Read), "at read {i}");
         assert!(rt; text.is_empty());
     }
@@ -218,7 +231,7 @@ fn a_run_at_each_write_that_fails(rt: HostRuntime) {
             let mut script = WORKED;
             let mut plan = b"".as_slice();
             let mut writer = ShortWriter::new(rt.alloc(), room, fails);
-            let answer = run_text(rt.alloc(), &mut script, &mut plan, TRIES, &mut writer);
+            let answer = run_text(rt.alloc(), &mut script, &mut plan, TRIES, 0, &mut writer);
             let written = room as u64;
             assert_eq!(rt; answer, Err(EngineFault::Write { written }));
             assert_eq!(rt; writer.taken(), &WORKED_REPORT[..room]);
@@ -246,7 +259,7 @@ fn a_long_report_where_a_write_fails(rt: HostRuntime) -> Result<(), Fail> {
         let mut script = line.as_slice();
         let mut plan = b"".as_slice();
         let mut writer = ShortWriter::new(rt.alloc(), room, true);
-        let answer = run_text(rt.alloc(), &mut script, &mut plan, TRIES, &mut writer);
+        let answer = run_text(rt.alloc(), &mut script, &mut plan, TRIES, 0, &mut writer);
         let written = room as u64;
         assert_eq!(rt; answer, Err(EngineFault::Write { written }));
         assert!(rt; room <= report.len());
@@ -326,4 +339,10 @@ fn answers_and_ends_have_their_lines(rt: HostRuntime) {
     ] {
         assert_eq!(rt; last_line(ended, answered, begun).as_str(), text);
     }
+    let stop = Stop {
+        answered: 65535,
+        begun: 1,
+        requests: 12,
+    };
+    assert_eq!(rt; resume_line(&stop).as_str(), "resume 65535 begun 1");
 }

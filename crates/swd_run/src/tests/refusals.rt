@@ -105,7 +105,7 @@ fn a_run_where_memory_ends(rt: HostRuntime) -> Result<(), Fail> {
         let mut script = SCRIPT;
         let mut plan = PLAN;
         let mut report = Vec::new(rt.alloc());
-        let answer = run_text(&heap, &mut script, &mut plan, TRIES, &mut report);
+        let answer = run_text(&heap, &mut script, &mut plan, TRIES, 0, &mut report);
         let Some(stage) = stage_of(answer) else {
             panic!(rt; "{size}: {answer:?}");
         };
@@ -136,6 +136,7 @@ fn traced_on<A: Allocator + Copy>(rt: &HostRuntime, alloc: A) -> Traced {
         &mut script,
         &mut plan,
         TRIES,
+        0,
         &mut report,
         &mut trace,
     );

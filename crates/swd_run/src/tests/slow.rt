@@ -38,7 +38,7 @@ fn long_texts_are_run_byte_by_byte(rt: HostRuntime) -> Result<(), Fail> {
     let mut script = OneByteReader::new(&script);
     let mut plan = OneByteReader::new(&plan);
     let mut report = OneByteWriter::new(rt.alloc());
-    let answer = run_text(rt.alloc(), &mut script, &mut plan, TRIES, &mut report);
+    let answer = run_text(rt.alloc(), &mut script, &mut plan, TRIES, 0, &mut report);
     assert_eq!(rt; answer, Ok(End::All));
     assert!(rt; report.taken == report_of(rt.alloc(), 50_000)?);
     Ok(())
@@ -77,6 +77,7 @@ fn a_long_run_is_traced_byte_by_byte(rt: HostRuntime) -> Result<(), Fail> {
         &mut script,
         &mut plan,
         TRIES,
+        0,
         &mut report,
         &mut trace,
     );

@@ -40,6 +40,7 @@ fn run_on(rt: &HostRuntime, script: &[u8], plan: &[u8]) -> Traced {
         &mut script,
         &mut plan,
         TRIES,
+        0,
         &mut report,
         &mut trace,
     );
@@ -192,6 +193,7 @@ fn traces_at_each_write_that_fails(rt: HostRuntime) {
                 &mut script,
                 &mut plan,
                 TRIES,
+                0,
                 &mut report,
                 &mut trace,
             );
@@ -218,6 +220,7 @@ fn a_report_that_fails_leaves_no_trace(rt: HostRuntime) {
                 &mut script,
                 &mut plan,
                 TRIES,
+                0,
                 &mut report,
                 &mut trace,
             );

@@ -1,7 +1,8 @@
-use Rattle.std.proofs.Common.{◌≡◌, List, ℕ, ap, length, sym, subst, ◌∙◌}
+use Rattle.std.proofs.Common.{List, ap, length, sym, subst, ◌∙◌}
 use Rattle.swd_port.specs.declared.access.Access.{Access}
-use Rattle.swd_port.specs.Port.{Port}
-use Rattle.swd_host.specs.declared.outcome.Report.{Report}
+use Rattle.swd_port.specs.PlainMemory.{reads}
+use Rattle.std.proofs.lemmas.Result.{IfOk-weaker}
+use Rattle.swd_host.specs.Plain.{AreAccesses}
 use Rattle.swd_host.specs.Reports.{Closes, RunsWithin, told_of}
 use Rattle.swd_script.specs.Readers.{meaning}
 use Rattle.swd_run.specs.Running.{most_begun}
@@ -47,4 +48,19 @@ returns-in-Ok-clause-fits g c = λ lawful.
           (g.W.Wire.port w.run-outcome.new.wire)) w.run-outcome.result c.in-Ok.report
           (sym w.outcome-is ∙ c.in-Ok.is) _ w.in-None.is c.as_slice-accesses.ensures.value
           w.run-outcome.ensures.fits (subst (λ x. g.W.Wire.lawful x) w.wire-is lawful)).1
+    ]
+
+pub returns-in-Ok-clause-accepted : goal.returns-in-Ok-clause-accepted
+returns-in-Ok-clause-accepted g c =
+    let script = meaning c.args.script.now in
+    let listed : List Access = c.as_slice-accesses.result.now in
+    elim c.match-script.branch [
+      | in-Some w ↦ block_over script (λ n list report. AreAccesses list) w.run_block-outcome.result c.in-Ok.report
+          (sym w.outcome-is ∙ c.in-Ok.is) w.in-Some.addr (length listed) w.in-Some.is c.requires.script.block
+          (ap length c.as_slice-accesses.ensures.value)
+          (IfOk-weaker w.run_block-outcome.result _ (λ report. AreAccesses (reads w.in-Some.addr (length listed))) (λ report h. h.1)
+          w.run_block-outcome.ensures.accepted)
+      | in-None w ↦ list_over script (λ n list report. AreAccesses list) w.run-outcome.result c.in-Ok.report
+          (sym w.outcome-is ∙ c.in-Ok.is) listed w.in-None.is c.as_slice-accesses.ensures.value
+          (IfOk-weaker w.run-outcome.result _ (λ report. AreAccesses listed) (λ report h. h.1) w.run-outcome.ensures.accepted)
     ]

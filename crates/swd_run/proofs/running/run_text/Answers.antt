@@ -16,19 +16,23 @@ run_script-requires-clause-plan g c = let read = c.in-Ok.ensures.read in is_plan
 
 pub returns-in-Ok-write_report : goal.returns-in-Ok-write_report
 returns-in-Ok-write_report g c =
-    let told = told_of c.in-Some.report in
+    let run = c.in-Some.resumed in
+    let told = told_of run.report in
     let start = g.W.Write.contents c.args.writer.now in
     let end = g.W.Write.contents c.write_report.new.writer in (
-      ran_as c.args.tries (g.S.Read.remaining c.args.script.now) (g.P.Read.remaining c.args.plan.now) (meaning c.in-Ok.texts.script) c.in-Ok.texts.plan.items told c.in-Ok.ensures.read c.in-Some.ensures,
+      ran_as c.args.tries c.args.resumes (g.S.Read.remaining c.args.script.now) (g.P.Read.remaining c.args.plan.now) (meaning c.in-Ok.texts.script) c.in-Ok.texts.plan.items run.stops.items told c.in-Ok.ensures.read c.in-Some.ensures,
       refl,
-      subst (λ list. Appends start end (report_text list told)) c.as_slice.ensures.value c.in-Ok-write_report.ensures,
+      subst (λ stops. Appends start end (report_text (meaning c.in-Ok.texts.script).accesses stops told)) c.as_slice-2.ensures.value
+          (subst (λ list. Appends start end (report_text list c.as_slice-2.result.now told)) c.as_slice.ensures.value c.in-Ok-write_report.ensures),
     )
 
 pub returns : goal.returns
 returns g c =
-    let told = told_of c.in-Some.report in
+    let run = c.in-Some.resumed in
+    let told = told_of run.report in
     let start = g.W.Write.contents c.args.writer.now in
     let end = g.W.Write.contents c.write_report.new.writer in (
-      ran_as c.args.tries (g.S.Read.remaining c.args.script.now) (g.P.Read.remaining c.args.plan.now) (meaning c.in-Ok.texts.script) c.in-Ok.texts.plan.items told c.in-Ok.ensures.read c.in-Some.ensures,
-      subst (λ list. Stopped c.in-Err-write_report.written start end (report_text list told)) c.as_slice.ensures.value c.in-Err-write_report.ensures,
+      ran_as c.args.tries c.args.resumes (g.S.Read.remaining c.args.script.now) (g.P.Read.remaining c.args.plan.now) (meaning c.in-Ok.texts.script) c.in-Ok.texts.plan.items run.stops.items told c.in-Ok.ensures.read c.in-Some.ensures,
+      subst (λ stops. Stopped c.in-Err-write_report.written start end (report_text (meaning c.in-Ok.texts.script).accesses stops told)) c.as_slice-2.ensures.value
+          (subst (λ list. Stopped c.in-Err-write_report.written start end (report_text list c.as_slice-2.result.now told)) c.as_slice.ensures.value c.in-Err-write_report.ensures),
     )

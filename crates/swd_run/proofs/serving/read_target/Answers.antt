@@ -1,11 +1,11 @@
-use Rattle.std.proofs.Common.{rules, ◌≡◌, ℕ, suc, List, [], ◌∷◌, length, true, refl, sym, ap, ◌∙◌, subst, arith}
+use Rattle.std.proofs.Common.{◌≡◌, List, [], ◌∷◌, length, refl, sym, ap, ◌∙◌, subst, arith}
 use Rattle.std.proofs.lemmas.Bool.Decides.{nat_tests}
 use Rattle.swd_port.specs.Port.{made_target}
 use Rattle.swd_port.specs.PlainMemory.{PlainMemory}
 use Rattle.swd_clocked.specs.declared.marked.MarkedClocked.{MarkedClocked}
 use Rattle.swd_script.specs.Readers.{meaning}
 use Rattle.swd_script.proofs.TextLaws.{is_runnable, is_plan}
-use Rattle.swd_run.specs.Serving.{IsAtRest, IsMade, Simulates}
+use Rattle.swd_run.specs.Serving.{IsMade}
 use Rattle.swd_run.proofs.serving.read_target.Goals as goal
 
 pub zero_memory-requires : goal.zero_memory-requires

@@ -1,4 +1,4 @@
-use Rattle.std.proofs.Common.{◌≡◌, ℕ, ◌-◌, ◌^◌, min, List, [], ◌∷◌, ◌++◌, ap, ◌∙◌, subst, append_assoc}
+use Rattle.std.proofs.Common.{◌-◌, ◌^◌, min, List, [], ◌∷◌, ◌++◌, ap, ◌∙◌, subst, append_assoc}
 use Rattle.swd_clocked.specs.Marked.{tally_of, cycles_of}
 use Rattle.swd_port.specs.declared.access.Transfer.{Transfer}
 use Rattle.swd_port.specs.PlainMemory.{PlainMemory}

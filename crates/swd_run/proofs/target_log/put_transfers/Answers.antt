@@ -1,6 +1,6 @@
-use Rattle.std.proofs.Common.{◌≡◌, ◌+◌, [], ◌∷◌, ◌++◌, take, sym, ap, ◌∙◌, subst, append_assoc}
+use Rattle.std.proofs.Common.{[], ◌∷◌, ◌++◌, take, sym, ap, ◌∙◌, subst, append_assoc}
 use Rattle.swd_io.specs.Blocks.{Sends}
-use Rattle.swd_run.specs.TargetLogs.{transfer_line, transfer_lines}
+use Rattle.swd_run.specs.TargetLogs.{transfer_lines}
 use Rattle.swd_run.proofs.LogLemmas.{transfers_more}
 use Rattle.swd_run.proofs.target_log.put_transfers.Goals as goal
 

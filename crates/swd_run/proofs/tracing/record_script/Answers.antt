@@ -3,29 +3,31 @@ use Rattle.swd_port.specs.declared.mark.Mark.{Mark}
 use Rattle.swd_port.specs.Choices.{disturbed_among, lost_among}
 use Rattle.swd_port.specs.Port.{made}
 use Rattle.swd_port.specs.Laws.Calls.{with_asked}
-use Rattle.swd_target.specs.Benches.{plan_of, port_of}
+use Rattle.swd_target.specs.Benches.{port_of}
 use Rattle.swd_host.specs.Reports.{told_of}
 use Rattle.swd_script.specs.Readers.{meaning}
-use Rattle.swd_recorder.specs.Recorders.{port_by, wire_under}
+use Rattle.swd_recorder.specs.Recorders.{plan_by, port_by, wire_under}
 use Rattle.swd_run.specs.Running.{memory_of}
-use Rattle.swd_run.proofs.RunLemmas.{run_as, run_recorded}
+use Rattle.swd_run.proofs.WentLemmas.{runs_on, run_recorded}
 use Rattle.swd_run.proofs.tracing.record_script.Goals as goal
 
 pub returns-clause-runs : goal.returns-clause-runs
 returns-clause-runs g c =
     let script = meaning c.args.script.now in
-    let marks = c.args.plan.items in
-    let recorder = c.run_over.new.wire in
-    let bench = wire_under recorder in
+    let run = c.in_ok-resumed.resumed in
     let start : port_by c.new-recorder.result ≡ made 731911287 (memory_of script) = c.new-recorder.ensures.port ∙ ap (with_asked 0) c.in_ok-bench.ensures.port in
-    let plan : plan_of bench ≡ marks = c.in_ok-report.ensures.plan ∙ c.new-recorder.ensures.plan ∙ c.in_ok-bench.ensures.plan in
-    let disturbed = subst (λ (x : List Mark). (port_of bench).tally.disturbed ≤ disturbed_among x) plan (c.marks_used.ensures.disturbed_most bench) in
-    let lost = subst (λ (x : List Mark). (port_of bench).tally.lost ≤ lost_among x) plan (c.marks_used.ensures.lost_most bench) in
-    run_as c.args.tries script marks (told_of c.in_ok-report.report) (port_by c.new-recorder.result) (port_by recorder)
-    _ start disturbed lost c.in_ok-report.ensures.closes (c.in_ok-report.ensures.fits tt)
+    runs_on port_by plan_by c.args.tries c.args.resumes script c.args.plan.items run.stops.items (told_of run.report)
+    c.new-recorder.result c.run_on.new.wire start (c.in_ok-resumed.ensures.went tt) (c.new-recorder.ensures.plan ∙ c.in_ok-bench.ensures.plan)
+    (λ recorder same. (
+      subst (λ (x : List Mark). (port_of (wire_under recorder)).tally.disturbed ≤ disturbed_among x) same (c.marks_used.ensures.disturbed_most (wire_under recorder)),
+      subst (λ (x : List Mark). (port_of (wire_under recorder)).tally.lost ≤ lost_among x) same (c.marks_used.ensures.lost_most (wire_under recorder)),
+    ))
+    c.in_ok-resumed.ensures.few c.in_ok-resumed.ensures.lost
 
 pub returns-clause-recorded : goal.returns-clause-recorded
 returns-clause-recorded g c =
     let script = meaning c.args.script.now in
+    let run = c.in_ok-resumed.resumed in
     let start : port_by c.new-recorder.result ≡ made 731911287 (memory_of script) = c.new-recorder.ensures.port ∙ ap (with_asked 0) c.in_ok-bench.ensures.port in
-    run_recorded c.args.tries script (told_of c.in_ok-report.report) (port_by c.new-recorder.result) (port_by c.run_over.new.wire) start (c.in_ok-report.ensures.fits tt)
+    run_recorded port_by plan_by c.args.tries c.args.resumes script c.args.plan.items run.stops.items (told_of run.report)
+    c.new-recorder.result c.run_on.new.wire start (c.in_ok-resumed.ensures.went tt)

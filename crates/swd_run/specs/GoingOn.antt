@@ -1,0 +1,87 @@
+-- A run that was resumed at lost acknowledgements: its calls, and what they tell together.
+use Rattle.std.specs.Prelude.{ℕ, ◌≡◌, ◌≢◌, ◌+◌, ◌-◌, ◌≤◌, ◌⊎◌, List, [], ◌∷◌, ◌++◌, length, take, min}
+use Rattle.swd_port.specs.declared.access.Access.{Access}
+use Rattle.swd_port.specs.declared.mark.Mark.{Mark}
+use Rattle.swd_port.specs.PlainMemory.{PlainMemory}
+use Rattle.swd_port.specs.Port.{Port}
+use Rattle.swd_host.specs.declared.outcome.End.{End}
+use Rattle.swd_host.specs.declared.outcome.End.TheVariants.{All, Lost}
+use Rattle.swd_host.specs.Plain.{memory_after, answers_of}
+use Rattle.swd_host.specs.Reports.{Told, Closes, RunsWithin, most_requests}
+use Rattle.swd_host.specs.Again.{Again, Continues, ResumesOver}
+use Rattle.swd_run.specs.declared.going_on.Stop.{Stop}
+
+-- where a call ended that told this
+abbrev pub stop_of : Told → Stop
+stop_of told = record { answered = length told.answers; begun = told.begun; requests = told.requests }
+
+-- the requests of the calls before the last one
+abbrev pub requests_before : List Stop → ℕ
+requests_before [] = 0
+requests_before (stop ∷ stops) = stop.requests + requests_before stops
+
+-- what the last call told, with the requests of all calls
+abbrev pub in_all : List Stop → Told → Told
+in_all stops told = record told { requests = requests_before stops + told.requests }
+
+-- THE CALLS
+-- A run over a wire and the calls of `resume` after it, each of them at a lost acknowledgement: from the wire s to the
+-- wire t, with the places where it was resumed, and with what the last call told.
+pub data Went {W : Type 0} (port : W → Port) (plan : W → List Mark) (limit : ℕ) (list : List Access) (tries : ℕ) (s : W)
+    : List Stop → Told → W → Type 0 where
+  ran : {told : Told} {t : W} → plan t ≡ plan s → Closes 0 limit list tries told (port t).link.due
+      → RunsWithin limit list tries told (port s) (port t) → Went port plan limit list tries s [] told t
+  resumed : {stops : List Stop} {earlier told : Told} {t u : W} → Went port plan limit list tries s stops earlier t
+      → earlier.ended ≡ Lost → plan u ≡ plan s → Continues list tries earlier told (port u).link.due
+      → ResumesOver list tries earlier told (port t) (port u)
+      → Went port plan limit list tries s (stops ++ stop_of earlier ∷ []) told u
+
+-- WHAT THEY TELL
+-- One call of a run over n accesses: after so many answers of the calls before it, of which the last one left so many
+-- accesses open, it came to so many answers, with so many accesses begun that aren't answered, and sent so many requests.
+pub record IsCall (spare limit tries n from left answered begun requests : ℕ) (ended : End) : Type 0 where
+  pub grows : from ≤ answered
+  pub number : answered ≤ n
+  pub whole : ended ≡ All → answered ≡ n
+  pub few : begun ≤ limit
+  -- an access that was begun before stays so until it is answered
+  pub stays : left ≡ 1 → answered ≡ from → ended ≢ All → begun ≡ 1
+  -- another is begun only once its requests were sent: nine of the opening, one of TAR, and one for each access
+  pub begins : begun ≢ 0 → ((left ≡ 1) × (answered ≡ from)) ⊎ (10 + (answered - from) + begun ≤ requests)
+  -- no more than its tries allow, whatever the plan: no access took requests but those that it answered and the next
+  pub spends : requests ≤ spare + most_requests tries (min (n - from) (answered - from + 1))
+
+-- The calls one after the other. Beside what the opening of a run may take, going on may take five requests more, and it
+-- leaves one access open at most.
+abbrev pub AreCalls : (spare limit tries n from left : ℕ) → List Stop → Told → Type 0
+AreCalls spare limit tries n from left [] told =
+    IsCall spare limit tries n from left (length told.answers) told.begun told.requests told.ended
+AreCalls spare limit tries n from left (stop ∷ stops) told =
+    IsCall spare limit tries n from left stop.answered stop.begun stop.requests Lost
+    × AreCalls 5 1 tries n stop.answered stop.begun stops told
+
+-- what the first call told: how many answers, and how many accesses after these were begun
+abbrev pub answered_first : List Stop → Told → ℕ
+answered_first [] told = length told.answers
+answered_first (stop ∷ stops) told = stop.answered
+
+abbrev pub begun_first : List Stop → Told → ℕ
+begun_first [] told = told.begun
+begun_first (stop ∷ stops) told = stop.begun
+
+-- The report is told of the memory, where the accesses at some places were done once more: at most one of them for each
+-- time that the run was resumed. A whole list leaves the words that it leaves where it is done once.
+pub record ToldAgain (stops : List Stop) (list : List Access) (m : PlainMemory) (told : Told) : Type 0 where
+  pub places : List ℕ
+  pub few : length places ≤ length stops
+  pub memory : PlainMemory
+  pub again : Again places list m told memory
+  pub words : told.ended ≡ All → memory.words ≡ (memory_after list m).words
+
+-- What the calls over this memory tell. The answers of the first one are the plain memory's. So are all answers, unless
+-- the first one was a block that left two accesses open, and where the log has room for the accesses that are done twice.
+pub record TellOf (limit tries : ℕ) (list : List Access) (m : PlainMemory) (stops : List Stop) (told : Told) : Type 0 where
+  pub calls : AreCalls 0 limit tries (length list) 0 0 stops told
+  pub first : take (answered_first stops told) told.answers ≡ answers_of (take (answered_first stops told) list) m
+  pub again : begun_first stops told ≤ 1 → length (memory_after list m).log + length stops ≤ m.room
+      → ToldAgain stops list m told
