@@ -1,3 +1,4 @@
+pub mod RemoteLemmas
 pub mod ReportLemmas
 pub mod LogLemmas
 pub mod RunLemmas

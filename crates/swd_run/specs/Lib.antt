@@ -4,3 +4,4 @@ pub mod Running
 pub mod Tracing
 pub mod Serving
 pub mod TargetLogs
+pub mod RemoteRuns

@@ -4,6 +4,7 @@
 #![tactic(auto)]
 
 mod going_on;
+mod remote;
 mod report;
 mod running;
 mod serving;
@@ -12,6 +13,7 @@ mod texts;
 mod tracing;
 
 pub use going_on::Stop;
+pub use remote::{Reached, run_remote};
 pub use report::{ReportLine, answer_line, last_line, resume_line, write_report};
 pub use running::run_text;
 pub use serving::{TargetFault, read_target};

@@ -8,6 +8,7 @@ use swd_script::ScriptFault;
 use swd_text::EngineFault;
 
 mod refusals;
+mod remote;
 mod resumed;
 mod slow;
 

@@ -19,7 +19,7 @@ pub(crate) struct Texts<A: Allocator> {
 }
 
 // The fault of a script that was not read.
-fn script_fault(unread: Unread<ScriptFault>) -> EngineFault
+pub(crate) fn script_fault(unread: Unread<ScriptFault>) -> EngineFault
     ensures { result ≡ script_fault_of unread }
 {
     match unread {

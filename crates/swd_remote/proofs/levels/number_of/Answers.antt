@@ -1,0 +1,19 @@
+use Rattle.std.proofs.Common.{◌≡◌, ◌+◌, ◌-◌, ◌*◌, ◌^◌, ◌<◌, [], length, drop, refl, sym, ap, ◌∙◌, subst, lit<}
+use Rattle.swd_bits.specs.Bits.{bit, low_bits}
+use Rattle.swd_remote.specs.Characters.{levels}
+use Rattle.swd_remote.proofs.LevelLemmas.{next_level, next_bound, no_levels, from_bit}
+use Rattle.swd_remote.proofs.levels.number_of.Goals as goal
+
+pub loop-place-init : goal.loop-place-init
+loop-place-init c = record { small = lit< tt; read = no_levels c.args.text.now }
+
+pub loop-place-preserved : goal.loop-place-preserved
+loop-place-preserved c =
+    let i = c.loop-place.invariant in
+    let level = c.in-Some.level in
+    let e = from_bit level c.from.result c.from.ensures in
+    record {
+      small = subst (λ n. c.loop-place.number * 2 + n < 2 ^ (c.loop-place.place + 1)) (sym e) (next_bound c.loop-place.place c.loop-place.number level i.small);
+      read = subst (λ n. levels (c.loop-place.place + 1) (c.loop-place.number * 2 + n) ≡ drop (length c.args.text.now - (c.loop-place.place + 1)) c.args.text.now) (sym e)
+          (next_level c.args.text.now c.loop-place.place c.loop-place.number level c.loop-place-test.true c.in-Some.ensures.level i.read);
+    }

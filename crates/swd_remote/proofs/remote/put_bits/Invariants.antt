@@ -1,0 +1,11 @@
+use Rattle.std.proofs.Common.{◌≡◌, ℕ, ◌-◌, List, ◌++◌, map}
+use Rattle.swd_bits.specs.Bits.{low_bits}
+use Rattle.swd_remote.specs.Characters.{driven_clock, joined}
+use Rattle.swd_remote.specs.Ways.{Lengthens}
+use Rattle.swd_remote.proofs.remote.put_bits.Given as goal
+
+-- what was put, and what is left
+abbrev pub invariant-loop-place : goal.invariant-loop-place
+invariant-loop-place g l = (done : List ℕ)
+    × Lengthens g.W.Write.contents done l.fn.outgoing l.outgoing
+    × (done ++ joined (map driven_clock (low_bits (l.count - l.place) l.rest)) ≡ joined (map driven_clock (low_bits l.count l.bits)))

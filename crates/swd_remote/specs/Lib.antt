@@ -1,0 +1,4 @@
+pub mod Packets
+pub mod Characters
+pub mod Ways
+pub mod Remotes

@@ -1,0 +1,76 @@
+//! The levels that come back.
+ghost use Rattle.std.specs.Prelude.{◌≡◌, ◌≢◌, ◌<◌, ◌≤◌, ◌^◌, ℕ, length, take, OnOk, IfOk, IfErr, IfSome, IfNone};
+ghost use Rattle.std.specs.Io.KnownBytes.{Consumes};
+ghost use Rattle.swd_remote.specs.Characters.{levels, level_character};
+ghost use Rattle.swd_remote.specs.Remotes.{ReadsLevels, IsNoLevel, Stops};
+
+use crate::remote::Fault;
+use std::io::Read;
+
+/// How many levels are read at once, at most.
+pub(crate) const MOST: usize = 64;
+
+// Fills the buffer. A read that fails isn't tried again.
+fn fill<R: Read>(reader: &mut R, buffer: &mut [u8]) -> Result<(), Fault>
+    ensures ok { OnOk result (Consumes (R.remaining reader.old) (R.remaining reader.new) buffer.new) }
+    ensures err { IfErr result (λ fault. Stops fault (length buffer.old) (R.remaining reader.old) (R.remaining reader.new)) }
+{
+    let mut at = 0;
+    while at < buffer.len() {
+        match reader.read(&mut buffer[at..]) {
+            Ok(n) => {
+                if n == 0 {
+                    return Err(Fault::Ended);
+                }
+                at += n;
+            }
+            Err(_) => return Err(Fault::Read),
+        }
+    }
+    Ok(())
+}
+
+// The level that this byte tells.
+fn level_of(byte: u8) -> Option<bool>
+    ensures level { IfSome result (λ level. byte ≡ level_character level) }
+    ensures none { IfNone result ((byte ≢ 48) × (byte ≢ 49)) }
+{
+    match byte {
+        b'0' => Some(false),
+        b'1' => Some(true),
+        _ => None,
+    }
+}
+
+// The number of these levels, of which the first is the least significant.
+fn number_of(text: &[u8]) -> Result<u64, u8>
+    requires { length text.now ≤ 64 }
+    ensures ok { IfOk result (λ number. (levels (length text.now) number ≡ text.now) × (number < 2 ^ length text.now)) }
+    ensures err { IfErr result (λ byte. IsNoLevel byte text.now) }
+{
+    let mut number = 0u64;
+    for place in 0..text.len() {
+        let byte = text[text.len() - 1 - place];
+        let Some(level) = level_of(byte) else {
+            return Err(byte);
+        };
+        number = number * 2 + u64::from(level);
+    }
+    Ok(number)
+}
+
+/// Reads so many levels, and not a byte more.
+pub(crate) fn read_levels<R: Read>(reader: &mut R, count: usize) -> Result<u64, Fault>
+    requires { count ≤ 64 }
+    ensures { ReadsLevels count result (R.remaining reader.old) (R.remaining reader.new) }
+{
+    let mut buffer = [0u8; MOST];
+    match fill(reader, &mut buffer[..count]) {
+        Ok(()) => {}
+        Err(fault) => return Err(fault),
+    }
+    match number_of(&buffer[..count]) {
+        Ok(number) => Ok(number),
+        Err(byte) => Err(Fault::NoLevel(byte)),
+    }
+}

@@ -1,0 +1,18 @@
+//! A way to a target by stretches of clocks, and the host over it: over single clocks, and over OpenOCD's
+//! remote_bitbang characters for serial wire.
+#![tactic(auto)]
+
+mod clocked_probe;
+mod levels;
+mod outgoing;
+mod probe;
+mod probe_transport;
+mod remote;
+
+pub use clocked_probe::ClockedProbe;
+pub use probe::{Probe, Stretch};
+pub use probe_transport::ProbeTransport;
+pub use remote::{Fault, Remote};
+
+#[cfg(test)]
+mod tests;

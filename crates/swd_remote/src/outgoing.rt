@@ -1,0 +1,85 @@
+//! Characters on their way to a writer.
+ghost use Rattle.std.specs.Prelude.{◌≡◌, ◌+◌, ◌≤◌, ℕ, List, Option, [], length, true, false};
+ghost use Rattle.std.specs.Io.KnownBytes.{Appends};
+ghost use Rattle.swd_remote.specs.Ways.{IsOnItsWay, Lengthens, Delivers, has_broken};
+
+use arrayvec::ArrayVec;
+use std::io::Write;
+use swd_io::send;
+
+// How many characters are held back at most.
+const HELD: usize = 4096;
+
+/// A text that is held back until it is wanted, or until there is no room for more. Once the writer failed,
+/// nothing more goes out.
+#[derive(Drop)]
+pub(crate) struct Outgoing<W> {
+    pub(crate) writer: W,
+    pub(crate) held: ArrayVec<u8, HELD>,
+    pub(crate) failed: bool,
+}
+
+impl<W: Write> Outgoing<W> {
+    /// No text yet.
+    pub(crate) fn new(writer: W) -> Outgoing<W>
+        ensures { (start : Option (List ℕ)) (text : List ℕ) → Appends start (W.contents writer) text
+            → IsOnItsWay W.contents start result text }
+    {
+        Outgoing {
+            writer,
+            held: ArrayVec::new(),
+            failed: false,
+        }
+    }
+
+    /// Sends what is held, and says whether all of the text went out.
+    pub(crate) fn flush(&mut self) -> bool
+        ensures whole { result ≡ true → Delivers W.contents self.old self.new }
+        ensures broken { result ≡ false → has_broken self.new ≡ true }
+        ensures keeps { Lengthens W.contents [] self.old self.new }
+        ensures empty { result ≡ true → (self.new.held.items ≡ []) × (has_broken self.new ≡ false) }
+    {
+        if self.failed {
+            return false;
+        }
+        match send(&mut self.writer, self.held.as_slice()) {
+            Ok(()) => {
+                self.held.clear();
+                true
+            }
+            Err(_) => {
+                self.failed = true;
+                false
+            }
+        }
+    }
+
+    // Whether there is room for so many characters, once what is held was sent where there was none.
+    fn make_room(&mut self, len: usize) -> bool
+        requires { len ≤ 16 }
+        ensures keeps { Lengthens W.contents [] self.old self.new }
+        ensures room { result ≡ true → (length self.new.held.items + len ≤ 4096) × (has_broken self.new ≡ false) }
+        ensures broken { result ≡ false → has_broken self.new ≡ true }
+    {
+        if self.failed {
+            return false;
+        }
+        if self.held.remaining_capacity() >= len {
+            return true;
+        }
+        self.flush()
+    }
+
+    /// The text is this much longer.
+    pub(crate) fn put(&mut self, piece: &[u8])
+        requires { length piece.now ≤ 16 }
+        ensures { Lengthens W.contents piece.now self.old self.new }
+    {
+        if self.make_room(piece.len()) {
+            match self.held.try_extend_from_slice(piece) {
+                Ok(()) => {}
+                Err(_) => unreachable!(),
+            }
+        }
+    }
+}

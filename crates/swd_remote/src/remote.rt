@@ -1,0 +1,235 @@
+//! OpenOCD's remote_bitbang characters for serial wire, as their client.
+ghost use Rattle.std.specs.Prelude.{◌≡◌, ◌<◌, ◌≤◌, ℕ, List, Option, None, true, length, map, replicate};
+ghost use Rattle.std.specs.Io.KnownBytes.{Appends};
+ghost use Rattle.swd_bits.specs.Bits.{low_bits};
+ghost use Rattle.swd_remote.specs.Characters.{characters, clocks, turned, driven_clock, joined, looks, is_driven};
+ghost use Rattle.swd_remote.specs.Ways.{IsOnItsWay, Lengthens};
+
+use crate::levels::{MOST, read_levels};
+use crate::outgoing::Outgoing;
+use crate::probe::{Probe, Stretch};
+use std::io::{Read, Write};
+use swd_port::Gone;
+
+/// Why the other end is gone.
+#[derive(Clone, Copy, Debug, PartialEq, Eq)]
+pub enum Fault {
+    /// It closed its end.
+    Ended,
+    /// A byte came back that is neither `0` nor `1`.
+    NoLevel(u8),
+    /// The reader failed.
+    Read,
+    /// The writer failed, or took no bytes.
+    Write,
+    /// More than 64 levels were asked for at once.
+    TooMany,
+}
+
+/// A server of OpenOCD's remote_bitbang characters for serial wire, over a reader and a writer: `swd target`
+/// of this program, or pins of a board behind a socket.
+///
+/// Characters wait until an exchange, or until there are thousands of them. Exactly as many bytes are read as
+/// levels were asked for. Nothing is tried again; after the first fault nothing is sent or read.
+///
+/// ```ignore
+/// let remote = Remote::new(rt.stdin(), rt.stdout());
+/// let mut wire = Outside::<_, Untold>::new(ProbeTransport::new(remote));
+/// let report = run_outside(alloc, &mut wire, &accesses, 8)?;
+/// let mut remote = wire.into_transport().into_probe();
+/// let gone = remote.quit().is_err();
+/// ```
+#[derive(Drop)]
+pub struct Remote<R, W> {
+    pub(crate) reader: R,
+    pub(crate) outgoing: Outgoing<W>,
+    // Whether the host drives SWDIO.
+    pub(crate) drives: bool,
+    // How many levels were asked for since the last exchange.
+    pub(crate) asked: usize,
+    pub(crate) fault: Option<Fault>,
+    ghost few: { asked ≤ 64 },
+}
+
+impl<R: Read, W: Write> Remote<R, W> {
+    ghost use Rattle.swd_remote.specs.Remotes.{QuitsAt};
+
+    /// A server to which nothing was sent yet: SWCLK is low, and the host drives SWDIO.
+    pub fn new(reader: R, writer: W) -> Remote<R, W>
+        ensures reader { result.reader ≡ reader }
+        ensures out { (start : Option (List ℕ)) (text : List ℕ) → Appends start (W.contents writer) text
+            → IsOnItsWay W.contents start result.outgoing text }
+        ensures drives { result.drives ≡ true }
+        ensures asked { result.asked ≡ 0 }
+        ensures fault { result.fault ≡ None }
+    {
+        Remote {
+            reader,
+            outgoing: Outgoing::new(writer),
+            drives: true,
+            asked: 0,
+            fault: None,
+        }
+    }
+
+    /// Sends what waits, and that the host is done.
+    ///
+    /// # Errors
+    ///
+    /// `Gone` where the other end was gone before, or the writer fails now.
+    pub fn quit(&mut self) -> Result<(), Gone>
+        ensures { QuitsAt self.old.fault W.contents result self.old self.new }
+    {
+        if self.fault.is_some() {
+            return Err(Gone);
+        }
+        self.outgoing.put(b"Q");
+        if self.outgoing.flush() {
+            Ok(())
+        } else {
+            self.fault = Some(Fault::Write);
+            Err(Gone)
+        }
+    }
+
+    /// Why the other end is gone, where it is.
+    pub fn fault(&self) -> Option<Fault>
+        ensures { result ≡ self.now.fault }
+    {
+        self.fault
+    }
+
+    /// The reader and the writer, once nothing more is sent. What still waits isn't.
+    pub fn into_parts(self) -> (R, W)
+        ensures reader { result.0 ≡ self.reader }
+        ensures writer { result.1 ≡ self.outgoing.writer }
+    {
+        let Remote {
+            reader,
+            outgoing,
+            ..
+        } = self;
+        let Outgoing { writer, .. } = outgoing;
+        (reader, writer)
+    }
+}
+
+impl<R: Read, W: Write> Probe for Remote<R, W> {
+    ghost use Rattle.swd_remote.specs.Remotes.{QueuesAt, ExchangesAt};
+
+    ghost queues = { λ stretch s t. QueuesAt s.fault W.contents stretch s t };
+
+    ghost exchanges = { λ result s t. ExchangesAt s.fault R.remaining W.contents result s t };
+
+    fn queue(&mut self, stretch: Stretch) {
+        if self.fault.is_some() {
+            return;
+        }
+        let asked = self.asked + looks(stretch);
+        if asked > MOST {
+            self.fault = Some(Fault::TooMany);
+            return;
+        }
+        put_stretch(&mut self.outgoing, self.drives, stretch);
+        self.asked = asked;
+        self.drives = is_driven(stretch);
+    }
+
+    fn exchange(&mut self) -> Result<u64, Gone> {
+        if self.fault.is_some() {
+            return Err(Gone);
+        }
+        if !self.outgoing.flush() {
+            self.fault = Some(Fault::Write);
+            return Err(Gone);
+        }
+        match read_levels(&mut self.reader, self.asked) {
+            Ok(number) => {
+                self.asked = 0;
+                Ok(number)
+            }
+            Err(fault) => {
+                self.fault = Some(fault);
+                Err(Gone)
+            }
+        }
+    }
+}
+
+// How many levels a stretch asks for.
+fn looks(stretch: Stretch) -> usize
+    ensures value { result ≡ looks stretch }
+    ensures few { result < 256 }
+{
+    match stretch {
+        Stretch::Sample { count } => usize::from(count),
+        _ => 0,
+    }
+}
+
+// Whether the host drives.
+fn is_driven(stretch: Stretch) -> bool
+    ensures { result ≡ is_driven stretch }
+{
+    matches!(&stretch, Stretch::Drive { .. } | Stretch::Hold { .. })
+}
+
+// The characters of a stretch, after a time in which the host drove or not.
+fn put_stretch<W: Write>(outgoing: &mut Outgoing<W>, drives: bool, stretch: Stretch)
+    ensures { Lengthens W.contents (characters drives stretch) outgoing.old outgoing.new }
+{
+    put_turn(outgoing, drives, is_driven(stretch));
+    put_clocks(outgoing, stretch);
+}
+
+// The host drives from here on, or not.
+fn put_turn<W: Write>(outgoing: &mut Outgoing<W>, drives: bool, wanted: bool)
+    ensures { Lengthens W.contents (turned drives wanted) outgoing.old outgoing.new }
+{
+    let turn: &[u8] = match (drives, wanted) {
+        (false, true) => b"O",
+        (true, false) => b"o",
+        _ => b"",
+    };
+    outgoing.put(turn);
+}
+
+// The clocks of a stretch.
+fn put_clocks<W: Write>(outgoing: &mut Outgoing<W>, stretch: Stretch)
+    ensures { Lengthens W.contents (clocks stretch) outgoing.old outgoing.new }
+{
+    match stretch {
+        Stretch::Drive { bits, count } => put_bits(outgoing, bits, count),
+        Stretch::Hold { level, count } => put_times(outgoing, driven_clock(level), count),
+        Stretch::Release { count } => put_times(outgoing, b"df", count),
+        Stretch::Sample { count } => put_times(outgoing, b"dcf", u32::from(count)),
+    }
+}
+
+// A clock in which the host drives a bit.
+fn driven_clock(bit: bool) -> &'static [u8]
+    ensures { result.now ≡ driven_clock bit }
+{
+    if bit { b"eg" } else { b"df" }
+}
+
+// Clocks in which the host drives the low bits of a number.
+fn put_bits<W: Write>(outgoing: &mut Outgoing<W>, bits: u64, count: u8)
+    ensures { Lengthens W.contents (joined (map driven_clock (low_bits count bits))) outgoing.old outgoing.new }
+{
+    let mut rest = bits;
+    for place in 0..count {
+        outgoing.put(driven_clock(rest % 2 == 1));
+        rest /= 2;
+    }
+}
+
+// So many clocks that are alike.
+fn put_times<W: Write>(outgoing: &mut Outgoing<W>, clock: &[u8], count: u32)
+    requires { length clock.now ≤ 16 }
+    ensures { Lengthens W.contents (joined (replicate count clock.now)) outgoing.old outgoing.new }
+{
+    for place in 0..count {
+        outgoing.put(clock);
+    }
+}

@@ -1,0 +1,81 @@
+//! A script, run at a target behind OpenOCD's remote_bitbang characters.
+ghost use Rattle.std.specs.Prelude.{◌≡◌};
+ghost use Rattle.swd_script.specs.Readers.{meaning};
+ghost use Rattle.swd_run.specs.RemoteRuns.{RunsRemote};
+
+use crate::report::write_report;
+use crate::running::run_over;
+use crate::texts::script_fault;
+use std::alloc::Allocator;
+use std::io::{Read, Write};
+use swd_host::End;
+use swd_port::{Outside, Story};
+use swd_remote::{Fault, ProbeTransport, Remote};
+use swd_script::read_script;
+use swd_text::EngineFault;
+
+/// How a run at a remote end came out.
+#[derive(Clone, Copy, Debug, PartialEq, Eq)]
+pub struct Reached {
+    /// How it ended. Where the other end went away it is lost.
+    pub ended: End,
+    /// Why the other end is gone, where it is.
+    pub fault: Option<Fault>,
+}
+
+/// Reads a script, runs its accesses at the target behind a server of remote_bitbang characters, says
+/// that the host is done, and writes the report. The script's memory and room mean nothing there.
+///
+/// Whatever comes back, the run ends; and of every story of a port machine that the replies fit the report
+/// tells the truth. Characters are sent where an answer is needed, and exactly as many bytes are read as
+/// levels were asked for. Nothing is sent after the other end went away, and the report has what is sure.
+///
+/// # Errors
+///
+/// `Script` for the first fault of the script, `Read` where its reader failed. `Memory` where memory was
+/// refused for the accesses, or for the answers, before the first bit. `Write` where the report's writer
+/// failed, or took no bytes, after exactly its first `written` bytes went out.
+pub fn run_remote<
+    P: Story,
+    S: Read,
+    R: Read + Drop,
+    W: Write + Drop,
+    O: Write,
+    A: Allocator + Copy,
+>(
+    alloc: A,
+    script: &mut S,
+    remote: Remote<R, W>,
+    tries: u32,
+    report: &mut O,
+) -> Result<Reached, EngineFault>
+    ensures { RunsRemote P.at tries result (S.remaining script.old) (O.contents report.old) (O.contents report.new) }
+{
+    let script = match read_script(alloc, script) {
+        Ok(script) => script,
+        Err(unread) => return Err(script_fault(unread)),
+    };
+    let mut wire: Outside<ProbeTransport<Remote<R, W>>, P> = Outside::new(ProbeTransport::new(
+        remote,
+    ));
+    let Some(ran) = run_over(alloc, &mut wire, &script, tries) else {
+        return Err(EngineFault::Memory);
+    };
+    let fault = hang_up(wire.into_transport());
+    match write_report(report, script.accesses.as_slice(), &[], &ran) {
+        Ok(()) => Ok(Reached {
+            ended: ran.ended,
+            fault,
+        }),
+        Err(written) => Err(EngineFault::Write { written }),
+    }
+}
+
+// Says that the host is done, and why the other end is gone, where it is.
+fn hang_up<R: Read + Drop, W: Write + Drop>(
+    transport: ProbeTransport<Remote<R, W>>,
+) -> Option<Fault> {
+    let mut remote = transport.into_probe();
+    let _ = remote.quit();
+    remote.fault()
+}

@@ -1,0 +1,122 @@
+//! A script at a target outside: a recorded session of a host in another language against a target in another
+//! language. The levels go in, and the characters and the report have to come out.
+ghost use Rattle.std.specs.Prelude.{[]};
+ghost use Rattle.std.specs.FinMap.{empty};
+ghost use Rattle.swd_port.specs.Port.{made};
+
+use crate::{Reached, run_remote};
+use swd_host::End;
+use swd_port::Story;
+use swd_remote::{Fault, Remote};
+use swd_text::EngineFault;
+
+// Any story.
+struct Untold;
+
+impl Story for Untold {
+    ghost at = { λ _. made 0 (record { words = empty; log = []; room = 0 }) };
+}
+
+const SCRIPT: &[u8] = b"memory 20000000 16\nw 20000000 deadbeef\nr 20000000\n";
+
+const REPORT: &[u8] = b"w 20000000 written\nr 20000000 deadbeef\nend all 2\n";
+
+const CHARACTERS: &[u8] = b"\
+        egegegegegegegegegegegegegegegegegegegegegegegegegegegegegegegegegegegegegegegegegegegegegegegeg\
+        egegegegegegegegdfegegegegdfdfegegegegdfdfegegegegegegegegegegegegegegegegegegegegegegegegegegeg\
+        egegegegegegegegegegegegegegegegegegegegegegegegegegegegegegegegdfdfegdfegdfdfegdfegodfdcfdcfdcf\
+        dcfdcfdcfdcfdcfdcfdcfdcfdcfdcfdcfdcfdcfdcfdcfdcfdcfdcfdcfdcfdcfdcfdcfdcfdcfdcfdcfdcfdcfdcfdcfdcf\
+        dcfdfOegdfdfdfdfdfdfegodfdcfdcfdcfdfOdfegegegegdfdfdfdfdfdfdfdfdfdfdfdfdfdfdfdfdfdfdfdfdfdfdfdfd\
+        fdfdfdfegdfegegdfdfdfegodfdcfdcfdcfdcfdcfdcfdcfdcfdcfdcfdcfdcfdcfdcfdcfdcfdcfdcfdcfdcfdcfdcfdcfd\
+        cfdcfdcfdcfdcfdcfdcfdcfdcfdcfdcfdcfdcfdfOegdfdfdfegegdfegodfdcfdcfdcfdfOdfdfdfdfdfdfdfdfdfdfdfdf\
+        dfdfdfdfdfdfdfdfdfdfdfdfdfdfdfdfdfdfdfdfdfegdfdfegdfegdfegodfdcfdcfdcfdfOdfdfdfdfdfdfdfdfdfdfdfd\
+        fdfdfdfdfdfdfdfdfdfdfdfdfdfdfdfdfegdfegdfdfegdfegegdfdfdfegodfdcfdcfdcfdcfdcfdcfdcfdcfdcfdcfdcfd\
+        cfdcfdcfdcfdcfdcfdcfdcfdcfdcfdcfdcfdcfdcfdcfdcfdcfdcfdcfdcfdcfdcfdcfdcfdcfdfOegegdfdfdfegdfegodf\
+        dcfdcfdcfdfOdfegdfdfegdfdfdfdfdfdfdfdfdfdfdfdfdfdfdfdfdfdfdfegegdfdfdfegdfdfegegegegdfdfdfdfegod\
+        fdcfdcfdcfdcfdcfdcfdcfdcfdcfdcfdcfdcfdcfdcfdcfdcfdcfdcfdcfdcfdcfdcfdcfdcfdcfdcfdcfdcfdcfdcfdcfdc\
+        fdcfdcfdcfdcfdfOegdfegegegegdfegodfdcfdcfdcfdcfdcfdcfdcfdcfdcfdcfdcfdcfdcfdcfdcfdcfdcfdcfdcfdcfd\
+        cfdcfdcfdcfdcfdcfdcfdcfdcfdcfdcfdcfdcfdcfdcfdcfdfOegegdfegdfdfdfegodfdcfdcfdcfdfOdfdfdfdfdfdfdfd\
+        fdfdfdfdfdfdfdfdfdfdfdfdfdfdfdfdfdfdfdfdfdfegdfdfegegegdfegegegdfegodfdcfdcfdcfdfOegegegegdfegeg\
+        egdfegegegegegdfegegdfegegdfegdfegdfegegegegdfegegdfegdfegegegegdfegodfdcfdcfdcfdcfdcfdcfdcfdcfd\
+        cfdcfdcfdcfdcfdcfdcfdcfdcfdcfdcfdcfdcfdcfdcfdcfdcfdcfdcfdcfdcfdcfdcfdcfdcfdcfdcfdcfdfOegegdfegdf\
+        dfdfegodfdcfdcfdcfdfOdfdfdfdfdfdfdfdfdfdfdfdfdfdfdfdfdfdfdfdfdfdfdfdfdfdfdfdfdfegdfdfegegegegege\
+        gdfdfegodfdcfdcfdcfdcfdcfdcfdcfdcfdcfdcfdcfdcfdcfdcfdcfdcfdcfdcfdcfdcfdcfdcfdcfdcfdcfdcfdcfdcfdc\
+        fdcfdcfdcfdcfdcfdcfdcfdfOegdfegegegegdfegodfdcfdcfdcfdcfdcfdcfdcfdcfdcfdcfdcfdcfdcfdcfdcfdcfdcfd\
+        cfdcfdcfdcfdcfdcfdcfdcfdcfdcfdcfdcfdcfdcfdcfdcfdcfdcfdcfdfOdfdfdfdfdfdfdfdfQ";
+
+const LEVELS: &[u8] = b"\
+        100111011100010100000000101110101000100100000000000000000000000000000000000100100100000000000000\
+        000000000000000011110100100000000000000000000000000000000000100010010100000000000000000110001000\
+        100100100000000000000000000000000000000000100100000000000000000000000000000000000100111101110111\
+        110110110101011110110";
+
+#[test]
+fn a_script_sends_what_was_recorded(rt: HostRuntime) {
+    let mut sent = Vec::new(rt.alloc());
+    let mut report = Vec::new(rt.alloc());
+    let mut script = SCRIPT;
+    let remote = Remote::new(LEVELS, &mut sent);
+    let answer = run_remote::<Untold, _, _, _, _, _>(
+        rt.alloc(),
+        &mut script,
+        remote,
+        8,
+        &mut report,
+    );
+    let reached = Reached {
+        ended: End::All,
+        fault: None,
+    };
+    assert_eq!(rt; answer, Ok(reached));
+    assert_eq!(rt; report.as_slice(), REPORT);
+    assert_eq!(rt; sent.as_slice(), CHARACTERS);
+}
+
+#[test]
+fn a_target_that_goes_away_is_told(rt: HostRuntime) {
+    // The last levels of the data phase that reads the word are missing, or none comes at all.
+    for (levels, text) in [
+        (&LEVELS[..100], b"end lost 0 begun 0\n".as_slice()),
+        (
+            &LEVELS[..LEVELS.len() - 9],
+            b"w 20000000 written\nend lost 1 begun 1\n".as_slice(),
+        ),
+        (b"".as_slice(), b"end lost 0 begun 0\n".as_slice()),
+    ] {
+        let mut sent = Vec::new(rt.alloc());
+        let mut report = Vec::new(rt.alloc());
+        let mut script = SCRIPT;
+        let remote = Remote::new(levels, &mut sent);
+        let answer = run_remote::<Untold, _, _, _, _, _>(
+            rt.alloc(),
+            &mut script,
+            remote,
+            8,
+            &mut report,
+        );
+        let reached = Reached {
+            ended: End::Lost,
+            fault: Some(Fault::Ended),
+        };
+        assert_eq!(rt; answer, Ok(reached));
+        assert_eq!(rt; report.as_slice(), text);
+        assert!(rt; CHARACTERS.starts_with(sent.as_slice()));
+    }
+}
+
+#[test]
+fn a_script_at_fault_sends_nothing(rt: HostRuntime) {
+    let mut sent = Vec::new(rt.alloc());
+    let mut report = Vec::new(rt.alloc());
+    let mut script = b"w 20000000 deadbeef\n".as_slice();
+    let remote = Remote::new(LEVELS, &mut sent);
+    let answer = run_remote::<Untold, _, _, _, _, _>(
+        rt.alloc(),
+        &mut script,
+        remote,
+        8,
+        &mut report,
+    );
+    assert!(rt; matches!(&answer, Err(EngineFault::Script(_))));
+    assert!(rt; sent.as_slice().is_empty() && report.as_slice().is_empty());
+}
