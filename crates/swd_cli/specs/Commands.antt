@@ -66,13 +66,25 @@ trace_rule = let rule = new_rule (codes "trace") in record rule { long = Some (c
 abbrev pub strict_rule : Rule
 strict_rule = let rule = new_rule (codes "strict") in record rule { long = Some (codes "strict"); action = Some SetTrue }
 
+-- whether the target is behind the standard streams, by --remote
+abbrev pub remote_rule : Rule
+remote_rule = let rule = new_rule (codes "remote") in record rule { long = Some (codes "remote"); action = Some SetTrue }
+
+-- the report then, after --report
+abbrev pub report_rule : Rule
+report_rule = let rule = new_rule (codes "report") in record rule { long = Some (codes "report"); value_names = 1 }
+
 -- the command that runs a script, with the texts that it reads
 abbrev pub over_a_script : App
 over_a_script = with_rule (with_rule (new_app (codes "run")) script_rule) plan_rule
 
 -- and with what else it is given
+abbrev pub run_here_app : App
+run_here_app = with_rule (with_rule (with_rule (with_rule over_a_script tries_rule) resume_rule) trace_rule) strict_rule
+
+-- also for a target that is elsewhere
 abbrev pub run_app : App
-run_app = with_rule (with_rule (with_rule (with_rule over_a_script tries_rule) resume_rule) trace_rule) strict_rule
+run_app = with_rule (with_rule run_here_app remote_rule) report_rule
 
 -- the log, after --log
 abbrev pub log_rule : Rule
@@ -102,7 +114,8 @@ abbrev pub AreResumes : ℕ → Option Text → Type 0
 AreResumes resumes None = resumes ≡ 0
 AreResumes resumes (Some text) = (resumes ≤ 1000) × (pos resumes ≡ signed_digits_value 10 text)
 
--- the script, the plan, the two numbers and the trace that the words name, and whether they ask for a strict run
+-- the script, the plan, the two numbers, the trace and the report that the words name, and whether they ask for a strict
+-- run and for one at a target elsewhere
 pub record IsRunOf (run : RunLine) (rows : List Row) : Type 0 where
   pub script : Some (string_bytes run.script) ≡ first_of (codes "SCRIPT") rows
   pub plan : option_map string_bytes run.plan ≡ first_of (codes "plan") rows
@@ -110,6 +123,8 @@ pub record IsRunOf (run : RunLine) (rows : List Row) : Type 0 where
   pub resumes : AreResumes run.resumes (first_of (codes "resume") rows)
   pub trace : option_map string_bytes run.trace ≡ first_of (codes "trace") rows
   pub strict : (run.strict ≡ true) ↔ (first_of (codes "strict") rows ≡ Some (codes "true"))
+  pub remote : (run.remote ≡ true) ↔ (first_of (codes "remote") rows ≡ Some (codes "true"))
+  pub report : option_map string_bytes run.report ≡ first_of (codes "report") rows
 
 -- the script, the plan, the log and the trace that the words name
 pub record IsTargetOf (target : TargetLine) (rows : List Row) : Type 0 where

@@ -1,5 +1,5 @@
 -- What a command does, and the status that it ends with.
-use Rattle.std.specs.Prelude.{◌≡◌, ◌⊎◌, ℕ, Bool, false, List, [], Option, None, Some, Result, Ok, Err, is_ok, if◌then◌else◌}
+use Rattle.std.specs.Prelude.{◌≡◌, ◌⊎◌, ℕ, Bool, false, true, List, [], Option, None, Some, Result, Ok, Err, is_ok, if◌then◌else◌}
 use Rattle.swd_bits.specs.One.{Answers}
 use Rattle.swd_bits.specs.declared.one.OneFault.{OneFault}
 use Rattle.swd_text.specs.Decoding.{Decodes}
@@ -53,6 +53,11 @@ PerformsRun None run status script old new = PerformsUnder run.trace run status 
 PerformsRun (Some plan) run status script old new =
     NotOpened status old new ⊎ ((text : Option (List ℕ)) × PerformsUnder run.trace run status script text old new)
 
+-- a run at a target elsewhere has its standard input for that target, and no script there
+abbrev pub PerformsWhere : Bool → RunLine → ℕ → Option (List ℕ) → Option (List ℕ) → Option (List ℕ) → Type 0
+PerformsWhere false run status text old new = PerformsRun run.plan run status text old new
+PerformsWhere true run status text old new = NotOpened status old new
+
 -- A command reads a text and writes another as its engine says, and its status is that of the engine's answer.
 abbrev pub Performs : Line → ℕ → Option (List ℕ) → Option (List ℕ) → Option (List ℕ) → Option (List ℕ) → Type 0
 Performs (One file) status text left old new =
@@ -61,6 +66,6 @@ Performs (Decode file) status text left old new =
     (answer : Result (Unit {0}) EngineFault) × Decodes answer text left old new × (status ≡ status_of (is_ok answer))
 Performs (Encode file) status text left old new =
     (answer : Result (Unit {0}) EngineFault) × Encodes answer text old new × (status ≡ status_of (is_ok answer))
-Performs (Run run) status text left old new = PerformsRun run.plan run status text old new
+Performs (Run run) status text left old new = PerformsWhere run.remote run status text old new
 -- the script of a target is no standard input, which is its debugger's
 Performs (Target target) status text left old new = NotOpened status old new

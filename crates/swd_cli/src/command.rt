@@ -10,7 +10,8 @@ pub enum Line {
     Decode(Option<String>),
     /// `swd encode [FILE]`: without a file, standard input.
     Encode(Option<String>),
-    /// `swd run SCRIPT [--plan FILE] [--tries N] [--resume N] [--trace FILE] [--strict]`.
+    /// `swd run SCRIPT [--plan FILE] [--tries N] [--resume N] [--trace FILE] [--strict]`, or
+    /// `swd run SCRIPT --remote --report FILE [--tries N] [--strict]`.
     Run(RunLine),
     /// `swd target SCRIPT [--plan FILE] [--log FILE] [--trace FILE]`.
     Target(TargetLine),
@@ -31,6 +32,10 @@ pub struct RunLine {
     pub trace: Option<String>,
     /// Whether a bus fault fails the run.
     pub strict: bool,
+    /// Whether the target is behind the standard streams.
+    pub remote: bool,
+    /// The file that the report is written to then.
+    pub report: Option<String>,
 }
 
 /// What `swd target` is given.

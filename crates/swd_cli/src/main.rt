@@ -4,6 +4,7 @@
 mod command;
 mod files;
 mod program;
+mod remote_command;
 mod report;
 mod target_command;
 mod target_words;

@@ -5,6 +5,7 @@ ghost use Rattle.swd_cli.specs.Statuses.{Performs, PerformsRun, PerformsUnder};
 
 use crate::command::{Line, LineFault, RunLine};
 use crate::files::{Files, Identity};
+use crate::remote_command::{Untold, perform_remote};
 use crate::report::{DONE, FAULT, cannot_open, engine_status, one_status, run_status, tell};
 use crate::target_command::perform_target;
 use crate::trace::{Sources, open_trace};
@@ -88,6 +89,15 @@ fn carry_out<I: Read, F: Files, O: Write, E: Write>(
                 let output = &mut output.writer;
                 return perform_target(alloc, target, script, source, input, files, output, errors);
             }
+            if let Line::Run(run) = line
+                && run.remote
+            {
+                let script = &mut opened.file;
+                let output = &mut output.writer;
+                return perform_remote::<Untold, _, _, _, _, _>(
+                    alloc, run, script, source, input, files, output, errors,
+                );
+            }
             perform(alloc, line, &mut opened.file, source, files, output, errors)
         }
         Err(_) => cannot_open(errors, name),
@@ -111,6 +121,8 @@ fn perform<R: Read, F: Files, O: Write, E: Write>(
         Line::One(_) => one_status(errors, one_text(input, &mut output.writer)),
         Line::Decode(_) => engine_status(errors, decode_text(input, &mut output.writer)),
         Line::Encode(_) => engine_status(errors, encode_text(alloc, input, &mut output.writer)),
+        // Standard input is the target's.
+        Line::Run(run) if run.remote => cannot_open(errors, "-"),
         Line::Run(run) => perform_run(alloc, run, input, source, files, output, errors),
         // Standard input is the debugger's.
         Line::Target(_) => cannot_open(errors, "-"),

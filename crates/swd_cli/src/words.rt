@@ -6,6 +6,7 @@ ghost use Rattle.clap.specs.Words.{app_of, found_of, rows_of, subcommand_of, sub
 ghost use Rattle.clap.specs.Words.{fault_of, kind_of, with_rule, with_subcommand};
 ghost use Rattle.clap.specs.declared.builder.command.Command.TheViews.{out-Command};
 ghost use Rattle.swd_cli.specs.Commands.{file_rule, plan_rule, resume_rule, script_rule, strict_rule, trace_rule, tries_rule};
+ghost use Rattle.swd_cli.specs.Commands.{remote_rule, report_rule, run_here_app};
 ghost use Rattle.swd_cli.specs.Commands.{bare_app, over_a_script, over_file, run_app, swd_app, AreResumes, AreTries, IsLineOf, IsOfKind, IsRunOf, IsRefusal};
 
 use crate::command::{Line, LineFault, RunLine};
@@ -59,6 +60,12 @@ const RUN_AFTER: &str = "\
 SCRIPT may be - for standard input. The plan and the trace are files: - is none.
 The trace may be neither the script, nor the plan, nor standard output.
 
+With --remote the target is behind the standard streams: a server of OpenOCD's
+remote_bitbang characters for serial wire, as swd target is one. The report goes
+to the file that --report names, which may be /dev/stderr. SCRIPT is a file,
+there is no plan, no trace and no resuming, and the script's memory means
+nothing.
+
 A script has one command a line; # begins a comment. BASE, ADDR and VALUE are 1
 to 8 hexadecimal digits, addresses multiples of 4; WORDS, N and COUNT are 1 to
 10 decimal digits. A script has at most 65536 accesses.
@@ -74,9 +81,9 @@ to 8 hexadecimal digits, addresses multiples of 4; WORDS, N and COUNT are 1 to
                      access may stand in the script
 
 A plan has one mark a line, for the first request, the second and so on. After
-its last line nothing befalls a request.
+its last line nothing happens to a request.
   .        nothing
-  wait     the target says WAIT
+  wait     the target is busy: it says WAIT, or finds its power late
   flip P   bit P of the data arrives changed: 0 to 31, and 32 for the parity bit
   deaf     the target does not see the request
   mute P   bit P, 0 to 2, of the acknowledgement arrives changed
@@ -177,6 +184,28 @@ fn strict_arg<'a>(alloc: Global) -> Arg<'a>
         .help("Status 1 also where an access was answered busfault")
 }
 
+// Whether the target is behind the standard streams.
+fn remote_arg<'a>(alloc: Global) -> Arg<'a>
+    ensures rule { rule_of result ≡ remote_rule }
+    ensures local { result.global ≡ false }
+{
+    Arg::new(alloc, "remote")
+        .long("remote")
+        .action(ArgAction::SetTrue)
+        .help("The target is a remote_bitbang server on the streams")
+}
+
+// The file that the report is written to then.
+fn report_arg<'a>(alloc: Global) -> Arg<'a>
+    ensures rule { rule_of result ≡ report_rule }
+    ensures local { result.global ≡ false }
+{
+    Arg::new(alloc, "report")
+        .long("report")
+        .value_name("FILE")
+        .help("With --remote, the file to write the report to")
+}
+
 // How many events an access may meet.
 fn tries_arg<'a>(alloc: Global) -> Arg<'a>
     ensures rule { rule_of result ≡ tries_rule }
@@ -242,9 +271,9 @@ fn over_a_script<'a>(alloc: Global) -> Result<Command<'a>, AllocError>
     with_arg(script, plan_arg(alloc))
 }
 
-// The whole of it.
-fn run_command<'a>(alloc: Global) -> Result<Command<'a>, AllocError>
-    ensures app { IfOk result (λ c. app_of c ≡ run_app) }
+// And what else it is given.
+fn run_here<'a>(alloc: Global) -> Result<Command<'a>, AllocError>
+    ensures app { IfOk result (λ c. app_of c ≡ run_here_app) }
     ensures local { IfOk result (λ c. (out-Command c).has_globals ≡ false) }
 {
     let bare = over_a_script(alloc)?;
@@ -252,6 +281,16 @@ fn run_command<'a>(alloc: Global) -> Result<Command<'a>, AllocError>
     let resume = with_arg(tries, resume_arg(alloc))?;
     let trace = with_arg(resume, trace_arg(alloc))?;
     with_arg(trace, strict_arg(alloc))
+}
+
+// The whole of it.
+fn run_command<'a>(alloc: Global) -> Result<Command<'a>, AllocError>
+    ensures app { IfOk result (λ c. app_of c ≡ run_app) }
+    ensures local { IfOk result (λ c. (out-Command c).has_globals ≡ false) }
+{
+    let here = run_here(alloc)?;
+    let remote = with_arg(here, remote_arg(alloc))?;
+    with_arg(remote, report_arg(alloc))
 }
 
 // The program without its commands, of which one is required.
@@ -370,6 +409,9 @@ fn run_line(alloc: Global, matches: &ArgMatches<'_>) -> Result<RunLine, LineFaul
     let Ok(trace) = owned(alloc, matches.get_str("trace")) else {
         return Err(LineFault::Memory);
     };
+    let Ok(report) = owned(alloc, matches.get_str("report")) else {
+        return Err(LineFault::Memory);
+    };
     let Some(tries) = tries_in(matches.get_str("tries")) else {
         return Err(refused(alloc, ErrorKind::InvalidValue, TRIES_RANGE));
     };
@@ -383,7 +425,34 @@ fn run_line(alloc: Global, matches: &ArgMatches<'_>) -> Result<RunLine, LineFaul
         resumes,
         trace,
         strict: is_asked_for(matches.get_str("strict")),
+        remote: is_asked_for(matches.get_str("remote")),
+        report,
     })
+}
+
+// What `swd run` is given, where one goes with the other.
+fn matched_line(alloc: Global, matches: &ArgMatches<'_>) -> Result<RunLine, LineFault>
+    ensures { IfOk result (λ run. IsRunOf run (rows_of (found_of matches.now))) }
+{
+    let run = match run_line(alloc, matches) {
+        Ok(run) => run,
+        Err(fault) => return Err(fault),
+    };
+    match why_unmatched(&run) {
+        Some(why) => Err(refused(alloc, ErrorKind::ArgumentConflict, why)),
+        None => Ok(run),
+    }
+}
+
+// Why options don't go with each other.
+fn why_unmatched(run: &RunLine) -> Option<&'static str> {
+    if run.remote != run.report.is_some() {
+        Some("--remote and --report FILE go together")
+    } else if run.remote && (run.plan.is_some() || run.trace.is_some() || run.resumes > 0) {
+        Some("with --remote there is no --plan, no --trace and no --resume")
+    } else {
+        None
+    }
 }
 
 // The command that was matched.
@@ -400,7 +469,7 @@ fn line_of(alloc: Global, matches: &ArgMatches<'_>) -> Result<Line, LineFault>
         "one" => Ok(Line::One(file)),
         "decode" => Ok(Line::Decode(file)),
         "encode" => Ok(Line::Encode(file)),
-        "run" => match run_line(alloc, rest) {
+        "run" => match matched_line(alloc, rest) {
             Ok(run) => Ok(Line::Run(run)),
             Err(fault) => Err(fault),
         },

@@ -1,6 +1,6 @@
 //! A server in memory: what a host writes moves the pins of a simulated target, and what it asks for can
 //! be read.
-ghost use Rattle.std.specs.Prelude.{IsTrue, []};
+ghost use Rattle.std.specs.Prelude.{◌≤◌, IfOk, IsTrue, []};
 ghost use Rattle.swd_port.specs.Port.{made};
 ghost use Rattle.std.specs.FinMap.{empty};
 ghost use Rattle.swd_target.specs.Marks.{IsPlan};
@@ -72,6 +72,16 @@ pub(super) struct End<'a> {
 
 fn broken() -> io::Error {
     io::Error::from(ErrorKind::BrokenPipe)
+}
+
+// A count of bytes that is no more than there are.
+fn at_most(gone: io::Result<usize>, room: usize) -> io::Result<usize>
+    ensures { IfOk result (λ n. n ≤ room) }
+{
+    match gone {
+        Ok(n) => Ok(n.min(room)),
+        Err(error) => Err(error),
+    }
 }
 
 impl Server {
@@ -147,7 +157,7 @@ impl Server {
 impl Write for End<'_> {
     fn write(&mut self, buf: &[u8]) -> io::Result<usize> {
         match self.server.try_borrow_mut() {
-            Ok(mut server) => server.writes(buf),
+            Ok(mut server) => at_most(server.writes(buf), buf.len()),
             Err(_) => Err(broken()),
         }
     }
@@ -159,8 +169,9 @@ impl Write for End<'_> {
 
 impl Read for End<'_> {
     fn read(&mut self, buf: &mut [u8]) -> io::Result<usize> {
+        let room = buf.len();
         match self.server.try_borrow_mut() {
-            Ok(mut server) => server.reads(buf),
+            Ok(mut server) => at_most(server.reads(buf), room),
             Err(_) => Err(broken()),
         }
     }

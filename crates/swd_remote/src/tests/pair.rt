@@ -136,11 +136,11 @@ fn characters_are_sent_where_an_answer_is_needed(rt: HostRuntime) -> Result<(), 
     ];
     // A word that is written, a read, a word of a block.
     let four = flushes(alloc, &plain(&writes[..4]))?;
-    assert_eq!(rt; flushes(alloc, &plain(&writes))?, four + 1);
+    assert_eq!(rt; flushes(alloc, &plain(&writes))?, four.saturating_add(1));
     let four = flushes(alloc, &plain(&reads[..4]))?;
-    assert_eq!(rt; flushes(alloc, &plain(&reads))?, four + 4);
+    assert_eq!(rt; flushes(alloc, &plain(&reads))?, four.saturating_add(4));
     let four = flushes(alloc, &block(&[], 4))?;
-    assert_eq!(rt; flushes(alloc, &block(&[], 5))?, four + 2);
+    assert_eq!(rt; flushes(alloc, &block(&[], 5))?, four.saturating_add(2));
     // The opening has nine requests, and five of them read; then what waits is sent at the end.
     assert_eq!(rt; flushes(alloc, &plain(&[]))?, 9 + 5 + 1);
     Ok(())

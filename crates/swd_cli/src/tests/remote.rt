@@ -1,0 +1,64 @@
+//! A run at a target behind the standard streams: what words make of it.
+use super::run_on;
+
+// The report of a run that was lost before its first access.
+const LOST: &[u8] = b"end lost 0 begun 0\n";
+
+const WORDS: [&str; 6] = ["swd", "run", "script", "--remote", "--report", "traced"];
+
+#[test]
+fn a_target_that_goes_away_takes_one_line(rt: HostRuntime) {
+    // What comes back, and what is said of it. The first request is DPIDR's.
+    let rows: [(&[u8], &[u8]); 4] = [
+        (b"", b"swd: the other end went away\n"),
+        (b"10", b"swd: the other end went away\n"),
+        (
+            b"x00",
+            b"swd: the other end sent byte 120, which is no level\n",
+        ),
+        (b"1001110111000101", b"swd: the other end went away\n"),
+    ];
+    for (levels, errors) in rows {
+        let ran = run_on(rt.alloc(), WORDS.as_slice(), levels);
+        assert_eq!(rt; ran.errors.as_slice(), errors);
+        assert_eq!(rt; ran.status, 1);
+        assert_eq!(rt; ran.traced, LOST.len());
+        assert!(rt; ran.output.starts_with(b"egeg"));
+        // Nothing is sent after it.
+        assert!(rt; ran.output.ends_with(b"dcf"));
+    }
+}
+
+#[test]
+fn a_lost_acknowledgement_is_no_fault_of_the_line(rt: HostRuntime) {
+    let ran = run_on(rt.alloc(), WORDS.as_slice(), b"111".as_slice());
+    assert!(rt; ran.errors.is_empty());
+    assert_eq!(rt; ran.status, 1);
+    assert_eq!(rt; ran.traced, LOST.len());
+    assert!(rt; ran.output.ends_with(b"dcfQ"));
+}
+
+#[test]
+fn what_does_not_go_with_it_is_refused(rt: HostRuntime) {
+    let rows: [&[&str]; 6] = [
+        &["swd", "run", "script", "--remote"],
+        &["swd", "run", "script", "--report", "traced"],
+        &[
+            "swd", "run", "script", "--remote", "--report", "traced", "--plan", "quiet",
+        ],
+        &[
+            "swd", "run", "script", "--remote", "--report", "traced", "--trace", "traced",
+        ],
+        &[
+            "swd", "run", "script", "--remote", "--report", "traced", "--resume", "1",
+        ],
+        &["swd", "run", "-", "--remote", "--report", "traced"],
+    ];
+    for words in rows {
+        let ran = run_on(rt.alloc(), words, b"".as_slice());
+        assert!(rt; ran.output.is_empty());
+        assert!(rt; !ran.errors.is_empty());
+        assert_eq!(rt; ran.status, 2);
+        assert_eq!(rt; ran.traced, 0);
+    }
+}
