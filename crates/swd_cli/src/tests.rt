@@ -194,7 +194,7 @@ fn a_script_is_run(rt: HostRuntime) {
     assert_eq!(rt; ran.status, 0);
 }
 
-// What was lost is gone on with, and done whole.
+// A lost run is resumed, and done whole.
 #[test]
 fn a_lost_run_is_resumed(rt: HostRuntime) {
     let words = ["swd", "run", "script", "--plan", "cut", "--resume", "1"];

@@ -181,7 +181,7 @@ fn accesses_over_an_undisturbed_wire(rt: HostRuntime) -> Result<(), Fail> {
     runs(
         &rt,
         rt.alloc(),
-        "behind the memory",
+        "past the end of the memory",
         run_of(&[], &accesses),
         whole(&answers, 18, &log),
     )?;
