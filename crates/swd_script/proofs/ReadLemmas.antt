@@ -1,5 +1,5 @@
 -- Laws of a text that is read line by line.
-use Rattle.std.proofs.Common.{◌≡◌, ◌≢◌, ℕ, suc, ◌+◌, ◌-◌, ◌^◌, ◌<◌, take, drop, get_or, drop-cons, take-append-drop, List, [], ◌∷◌, ◌++◌, length, append_assoc, sym, ap, ◌∙◌, subst, arith, add-one, Option, Some, None, Result, Ok, Err}
+use Rattle.std.proofs.Common.{refl, ◌≡◌, ◌≢◌, ℕ, suc, ◌+◌, ◌-◌, ◌^◌, ◌<◌, take, drop, get_or, drop-cons, take-append-drop, List, [], ◌∷◌, ◌++◌, length, append_assoc, sym, ap, ◌∙◌, subst, arith, add-one, Option, Some, None, Result, Ok, Err}
 use Rattle.std.specs.Prelude.{min, IsOk}
 use Rattle.std.proofs.lemmas.List.{append-nil, length-append}
 use Rattle.std.proofs.Math.Seq.{take-suc}
@@ -11,11 +11,11 @@ use Rattle.swd_script.specs.declared.fault.ScriptFault.{ScriptFault}
 use Rattle.swd_script.specs.declared.lines.Lines.{Lines}
 use Rattle.swd_script.specs.Faults.{line_number, after_lines, then_lines, fault_at}
 use Rattle.swd_script.specs.Lines.{lines, line_words}
-use Rattle.swd_script.specs.Readers.{EndsLine, IsFaultOf, IsFed, IsLast, IsPlanFault, IsScriptFault, RunsOut, Splits}
+use Rattle.swd_script.specs.Readers.{EndsLine, IsEndFault, IsFaultOf, IsFed, IsLast, IsPlanFault, IsScriptFault, RunsOut, Splits}
 use Rattle.swd_script.specs.Plans.{plan_line, plan_of}
 use Rattle.swd_script.specs.Scripts.{nothing_said, script_line, script_meaning, script_of, whole_script, Sayings}
-use Rattle.swd_script.specs.declared.draft.Extent.{Extent}
-use Rattle.swd_script.specs.declared.fault.ScriptFault.TheVariants.{NoMemoryLine as NoMemoryLineAt}
+use Rattle.swd_script.specs.declared.fault.ScriptFault.TheVariants.{Word as WordAt, Number as NumberAt, Range as RangeAt}
+use Rattle.swd_script.specs.declared.fault.ScriptFault.TheVariants.{NoMemoryLine as NoMemoryLineAt, Memory as MemoryAt}
 use Rattle.swd_script.specs.Scans.{without_return, Holds, IsScanned}
 use Rattle.swd_script.proofs.LineLemmas.{lines_fed, lines_last, unbroken_more}
 
@@ -61,14 +61,14 @@ splits_last seen ended old scanned f s = record {
   law = ap lines (sym (append-nil seen)) ∙ s.law [] ∙ ap (λ x. ended ++ lines x) (append-nil s.line) ∙ ap (λ x. ended ++ x) (lines_last s.line s.unbroken);
 }
 
-step_before : {S : Type 0} (take : S → Option (List (List ℕ)) → Result S LineFault) (state : S) (before count : ℕ) (rest : List (List ℕ)) →
+step_before : {S : Type 0} (take : ℕ → S → Option (List (List ℕ)) → Result S LineFault) (state : S) (before count : ℕ) (rest : List (List ℕ)) →
     after_lines take state (suc before + count) rest ≡ after_lines take state (before + suc count) rest
 step_before take state before count rest = ap (λ n. after_lines take state n rest) (omega arith)
 
 same_ok : {S : Type 0} (a b : S) → (let left : Result S ScriptFault = Ok a in left ≡ Ok b) → a ≡ b
 same_ok a b e = cc
 
-append_step : {S : Type 0} (take : S → Option (List (List ℕ)) → Result S LineFault) (next : S) (before : ℕ) (front rest : List (List ℕ)) (result : Result S LineFault) →
+append_step : {S : Type 0} (take : ℕ → S → Option (List (List ℕ)) → Result S LineFault) (next : S) (before : ℕ) (front rest : List (List ℕ)) (result : Result S LineFault) →
     ((s : S) → after_lines take s (suc before) front ≡ Ok next → after_lines take s (suc before) (front ++ rest) ≡ after_lines take next (suc before + length front) rest) →
     then_lines before (λ s. after_lines take s (suc before) front) result ≡ Ok next →
     then_lines before (λ s. after_lines take s (suc before) (front ++ rest)) result ≡ after_lines take next (before + suc (length front)) rest
@@ -76,73 +76,97 @@ append_step take next before front rest (Ok s) f e = f s e ∙ step_before take 
 append_step take next before front rest (Err fault) f e = absurd cc
 
 -- lines after others
-pub after_append : {S : Type 0} (take : S → Option (List (List ℕ)) → Result S LineFault) (start next : S) (before : ℕ) (front rest : List (List ℕ)) →
+pub after_append : {S : Type 0} (take : ℕ → S → Option (List (List ℕ)) → Result S LineFault) (start next : S) (before : ℕ) (front rest : List (List ℕ)) →
     after_lines take start before front ≡ Ok next → after_lines take start before (front ++ rest) ≡ after_lines take next (before + length front) rest
 after_append take start next before [] rest e = ap (λ s. after_lines take s before rest) (same_ok start next e) ∙ ap (λ n. after_lines take next n rest) (omega arith)
 after_append take start next before (line ∷ front) rest e =
-    append_step take next before front rest (take start (line_words line)) (λ s h. after_append take s next (suc before) front rest h) e
+    append_step take next before front rest (take (line_number before) start (line_words line)) (λ s h. after_append take s next (suc before) front rest h) e
+
+-- lines after the first ones of a text
+after_first : {S : Type 0} (take : ℕ → S → Option (List (List ℕ)) → Result S LineFault) (start next : S) (front rest : List (List ℕ))
+    → after_lines take start 0 front ≡ Ok next → after_lines take start 0 (front ++ rest) ≡ after_lines take next (length front) rest
+after_first take start next front rest e =
+    let n : 0 + length front ≡ length front = omega arith in
+    after_append take start next 0 front rest e ∙ ap (λ n. after_lines take next n rest) n
 
 -- a line without a fault
-pub after_line : {S : Type 0} (take : S → Option (List (List ℕ)) → Result S LineFault) (start mid next : S) (ended : List (List ℕ)) (line : List ℕ) →
-    after_lines take start 0 ended ≡ Ok mid → take mid (line_words line) ≡ Ok next → after_lines take start 0 (ended ++ line ∷ []) ≡ Ok next
+pub after_line : {S : Type 0} (take : ℕ → S → Option (List (List ℕ)) → Result S LineFault) (start mid next : S)
+    (ended : List (List ℕ)) (line : List ℕ) → after_lines take start 0 ended ≡ Ok mid
+    → take (line_number (length ended)) mid (line_words line) ≡ Ok next → after_lines take start 0 (ended ++ line ∷ []) ≡ Ok next
 after_line take start mid next ended line e f =
-    after_append take start mid 0 ended (line ∷ []) e ∙ ap (then_lines (0 + length ended) (λ s. after_lines take s (suc (0 + length ended)) [])) f
+    after_first take start mid ended (line ∷ []) e ∙ ap (then_lines (length ended) (λ s. after_lines take s (suc (length ended)) [])) f
 
 -- a line at fault, whatever follows
-pub after_fault : {S : Type 0} (take : S → Option (List (List ℕ)) → Result S LineFault) (start mid : S) (ended rest : List (List ℕ)) (line : List ℕ) (fault : LineFault) →
-    after_lines take start 0 ended ≡ Ok mid → take mid (line_words line) ≡ Err fault → after_lines take start 0 (ended ++ line ∷ rest) ≡ Err (fault_at fault (line_number (length ended)))
+pub after_fault : {S : Type 0} (take : ℕ → S → Option (List (List ℕ)) → Result S LineFault) (start mid : S)
+    (ended rest : List (List ℕ)) (line : List ℕ) (fault : LineFault) → after_lines take start 0 ended ≡ Ok mid
+    → take (line_number (length ended)) mid (line_words line) ≡ Err fault
+    → after_lines take start 0 (ended ++ line ∷ rest) ≡ Err (fault_at fault (line_number (length ended)))
 after_fault take start mid ended rest line fault e f =
-    after_append take start mid 0 ended (line ∷ rest) e ∙ ap (then_lines (0 + length ended) (λ s. after_lines take s (suc (0 + length ended)) rest)) f
-    ∙ ap (λ n. Err (fault_at fault (line_number n))) (omega arith)
+    after_first take start mid ended (line ∷ rest) e
+    ∙ ap (then_lines (length ended) (λ s. after_lines take s (suc (length ended)) rest)) f
 
 -- a fault of a line is one of the text
-pub runs_out : {S : Type 0} (take : S → Option (List (List ℕ)) → Result S LineFault) (start mid : S) (text : List ℕ) (ended : List (List ℕ)) (line : List ℕ) (number : ℕ) →
-    EndsLine text ended line → number ≡ line_number (length ended) → after_lines take start 0 ended ≡ Ok mid → IsOk (take mid (line_words line)) → RunsOut take start text number
+pub runs_out : {S : Type 0} (take : ℕ → S → Option (List (List ℕ)) → Result S LineFault) (start mid : S) (text : List ℕ)
+    (ended : List (List ℕ)) (line : List ℕ) (number : ℕ) → EndsLine text ended line → number ≡ line_number (length ended)
+    → after_lines take start 0 ended ≡ Ok mid → IsOk (take (line_number (length ended)) mid (line_words line))
+    → RunsOut take start text number
 runs_out {S} take start mid text ended line number l n e f = record {
   ended = ended;
   line = line;
   ends = l;
-  fine = subst IsOk (sym (after_append take start mid 0 ended (line ∷ []) e)) (fine_step (take mid (line_words line)) f);
+  fine = subst IsOk (sym (after_first take start mid ended (line ∷ []) e))
+      (fine_step (take (line_number (length ended)) mid (line_words line)) f);
   number_is = n;
 }
   where
-    fine_step : (result : Result S LineFault) → IsOk result → IsOk (then_lines (0 + length ended) (λ s. after_lines take s (suc (0 + length ended)) []) result)
+    fine_step : (result : Result S LineFault) → IsOk result
+        → IsOk (then_lines (length ended) (λ s. after_lines take s (suc (length ended)) []) result)
     fine_step (Ok next) h = h
     fine_step (Err fault) h = absurd cc
 
 number_at : (take_result : Result Sayings ScriptFault) (fault : LineFault) (number told : ℕ) → number ≡ told → take_result ≡ Err (fault_at fault told) → whole_script take_result ≡ Err (fault_at fault number)
 number_at take_result fault number told e f = ap whole_script f ∙ ap (λ n. Err (fault_at fault n)) (sym e)
 
-script_err : (said : Sayings) (text : List ℕ) (ended : List (List ℕ)) (line : List ℕ) (number : ℕ) (fault : LineFault) →
-    EndsLine text ended line → number ≡ line_number (length ended) → after_lines script_line nothing_said 0 ended ≡ Ok said → script_line said (line_words line) ≡ Err fault →
-    script_of text ≡ Err (fault_at fault number)
+script_err : (said : Sayings) (text : List ℕ) (ended : List (List ℕ)) (line : List ℕ) (number : ℕ) (fault : LineFault)
+    → EndsLine text ended line → number ≡ line_number (length ended) → after_lines script_line nothing_said 0 ended ≡ Ok said
+    → script_line number said (line_words line) ≡ Err fault → script_of text ≡ Err (fault_at fault number)
 script_err said text ended line number fault l n e f =
     number_at (after_lines script_line nothing_said 0 (lines text)) fault number (line_number (length ended)) n
-    (ap (after_lines script_line nothing_said 0) l.law ∙ after_fault script_line nothing_said said ended l.rest line fault e f)
+    (ap (after_lines script_line nothing_said 0) l.law
+    ∙ after_fault script_line nothing_said said ended l.rest line fault e (ap (λ k. script_line k said (line_words line)) (sym n) ∙ f))
 
-pub script_fault : (said : Sayings) (text : List ℕ) (ended : List (List ℕ)) (line : List ℕ) (number : ℕ) (fault : LineFault) →
-    EndsLine text ended line → number ≡ line_number (length ended) → after_lines script_line nothing_said 0 ended ≡ Ok said → IsFaultOf fault (script_line said (line_words line)) →
-    IsScriptFault (fault_at fault number) text
+pub script_fault : (said : Sayings) (text : List ℕ) (ended : List (List ℕ)) (line : List ℕ) (number : ℕ) (fault : LineFault)
+    → EndsLine text ended line → number ≡ line_number (length ended) → after_lines script_line nothing_said 0 ended ≡ Ok said
+    → IsFaultOf fault (script_line number said (line_words line)) → IsScriptFault (fault_at fault number) text
 script_fault said text ended line number Word l n e f = script_err said text ended line number Word l n e f
 script_fault said text ended line number Number l n e f = script_err said text ended line number Number l n e f
 script_fault said text ended line number Range l n e f = script_err said text ended line number Range l n e f
 script_fault said text ended line number NoMemoryLine l n e f = script_err said text ended line number NoMemoryLine l n e f
-script_fault said text ended line number Memory l n e f = runs_out script_line nothing_said said text ended line number l n e f
+script_fault said text ended line number Memory l n e f =
+    runs_out script_line nothing_said said text ended line number l n e
+    (subst (λ k. IsOk (script_line k said (line_words line))) n f)
+
+-- a line of a script without a fault
+pub script_after : (old new : Sayings) (ended : List (List ℕ)) (line : List ℕ) (number : ℕ) → number ≡ line_number (length ended)
+    → after_lines script_line nothing_said 0 ended ≡ Ok old → script_line number old (line_words line) ≡ Ok new
+    → after_lines script_line nothing_said 0 (ended ++ line ∷ []) ≡ Ok new
+script_after old new ended line number n e f =
+    after_line script_line nothing_said old new ended line e (ap (λ k. script_line k old (line_words line)) (sym n) ∙ f)
 
 plan_err : (marks : List Mark) (text : List ℕ) (ended : List (List ℕ)) (line : List ℕ) (number : ℕ) (fault : LineFault) →
-    EndsLine text ended line → number ≡ line_number (length ended) → after_lines plan_line [] 0 ended ≡ Ok marks → plan_line marks (line_words line) ≡ Err fault →
+    EndsLine text ended line → number ≡ line_number (length ended) → after_lines (λ number. plan_line) [] 0 ended ≡ Ok marks → plan_line marks (line_words line) ≡ Err fault →
     plan_of text ≡ Err (fault_at fault number)
 plan_err marks text ended line number fault l n e f =
-    ap (after_lines plan_line [] 0) l.law ∙ after_fault plan_line [] marks ended l.rest line fault e f ∙ ap (λ n. Err (fault_at fault n)) (sym n)
+    ap (after_lines (λ number. plan_line) [] 0) l.law ∙ after_fault (λ number. plan_line) [] marks ended l.rest line fault e f ∙ ap (λ n. Err (fault_at fault n)) (sym n)
 
 pub plan_fault : (marks : List Mark) (text : List ℕ) (ended : List (List ℕ)) (line : List ℕ) (number : ℕ) (fault : LineFault) →
-    EndsLine text ended line → number ≡ line_number (length ended) → after_lines plan_line [] 0 ended ≡ Ok marks → IsFaultOf fault (plan_line marks (line_words line)) →
+    EndsLine text ended line → number ≡ line_number (length ended) → after_lines (λ number. plan_line) [] 0 ended ≡ Ok marks → IsFaultOf fault (plan_line marks (line_words line)) →
     IsPlanFault (fault_at fault number) text
 plan_fault marks text ended line number Word l n e f = plan_err marks text ended line number Word l n e f
 plan_fault marks text ended line number Number l n e f = plan_err marks text ended line number Number l n e f
 plan_fault marks text ended line number Range l n e f = plan_err marks text ended line number Range l n e f
 plan_fault marks text ended line number NoMemoryLine l n e f = plan_err marks text ended line number NoMemoryLine l n e f
-plan_fault marks text ended line number Memory l n e f = runs_out plan_line [] marks text ended line number l n e f
+plan_fault marks text ended line number Memory l n e f = runs_out (λ number. plan_line) [] marks text ended line number l n e f
 
 -- the line that a line feed ends, or the text
 pub fed_line : (seen more : List ℕ) (ended : List (List ℕ)) (scanned : Option (ArrayVec (ArrayVec ℕ))) (state : Lines) (fed : IsFed seen ended scanned state) → EndsLine (seen ++ 10 ∷ more) ended fed.line
@@ -164,16 +188,24 @@ parted seen piece more i h =
     ∙ sym (append_assoc seen piece more)
 
 -- what a whole script says, or that `memory` is missing
-pub whole_said : (text : List ℕ) (ended : List (List ℕ)) (line : List ℕ) (old new : Sayings) → lines text ≡ ended ++ line ∷ [] → after_lines script_line nothing_said 0 ended ≡ Ok old →
-    script_line old (line_words line) ≡ Ok new → script_of text ≡ script_meaning new.memory new
-whole_said text ended line old new l e f =
-    ap (λ x. whole_script (after_lines script_line nothing_said 0 x)) l ∙ ap whole_script (after_line script_line nothing_said old new ended line e f)
+pub whole_said : (text : List ℕ) (ended : List (List ℕ)) (line : List ℕ) (old new : Sayings) (number : ℕ)
+    → lines text ≡ ended ++ line ∷ [] → number ≡ line_number (length ended)
+    → after_lines script_line nothing_said 0 ended ≡ Ok old → script_line number old (line_words line) ≡ Ok new
+    → script_of text ≡ script_meaning new.memory new
+whole_said text ended line old new number l n e f =
+    ap (λ x. whole_script (after_lines script_line nothing_said 0 x)) l
+    ∙ ap whole_script (script_after old new ended line number n e f)
 
-fault_of_meaning : (memory : Option Extent) (said : Sayings) (fault : ScriptFault) → script_meaning memory said ≡ Err fault → fault ≡ NoMemoryLineAt 1
-fault_of_meaning None said fault e = cc
-fault_of_meaning (Some extent) said fault e = absurd cc
-
-pub meaning_fault : (text : List ℕ) (memory : Option Extent) (said : Sayings) (fault : ScriptFault) → script_of text ≡ script_meaning memory said → script_meaning memory said ≡ Err fault → IsScriptFault fault text
-meaning_fault text memory said fault e f =
-    let k : fault ≡ NoMemoryLineAt 1 = fault_of_meaning memory said fault f in
-    subst (λ x. IsScriptFault x text) (sym k) (e ∙ f ∙ ap (λ x. Err x) k)
+-- and where memory was refused once all lines were read
+pub meaning_fault : (text : List ℕ) (ended : List (List ℕ)) (line : List ℕ) (old new : Sayings) (number : ℕ) (fault : ScriptFault)
+    → EndsLine text ended line → lines text ≡ ended ++ line ∷ [] → number ≡ line_number (length ended)
+    → after_lines script_line nothing_said 0 ended ≡ Ok old → script_line number old (line_words line) ≡ Ok new
+    → IsEndFault fault number (script_meaning new.memory new) → IsScriptFault fault text
+meaning_fault text ended line old new number (WordAt at) ends l n e f h = whole_said text ended line old new number l n e f ∙ h
+meaning_fault text ended line old new number (NumberAt at) ends l n e f h = whole_said text ended line old new number l n e f ∙ h
+meaning_fault text ended line old new number (RangeAt at) ends l n e f h = whole_said text ended line old new number l n e f ∙ h
+meaning_fault text ended line old new number (NoMemoryLineAt at) ends l n e f h =
+    whole_said text ended line old new number l n e f ∙ h
+meaning_fault text ended line old new number (MemoryAt at) ends l n e f h =
+    runs_out script_line nothing_said old text ended line at ends (h.0 ∙ n) e
+    (subst IsOk (sym (ap (λ k. script_line k old (line_words line)) (sym n) ∙ f)) refl)

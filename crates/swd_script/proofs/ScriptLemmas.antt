@@ -7,10 +7,10 @@ use Rattle.std.proofs.lemmas.Bool.Decides.{nat_tests}
 use Rattle.std.proofs.lemmas.List.{take_all, length-take-le}
 use Rattle.swd_port.specs.declared.access.Access.TheVariants.{Read}
 use Rattle.swd_script.specs.declared.command.Command.{Command}
-use Rattle.swd_script.specs.declared.command.Command.TheVariants.{Memory, Room, Read as ReadCommand, Write as WriteCommand, ReadMany, Block}
+use Rattle.swd_script.specs.declared.command.Command.TheVariants.{Memory, Room, Read as ReadCommand, Write as WriteCommand, ReadMany, Block, Verify, Next}
 use Rattle.swd_script.specs.Numerals.{decimal_of, hex_of, number_from, numeral, word_sized}
 use Rattle.swd_script.specs.Plans.{bare_mark, mark_of, marked, place_below, placed_mark, plan_line, with_mark}
-use Rattle.swd_script.specs.Scripts.{after_command, command_of, long_command, script_line, short_command, Sayings}
+use Rattle.swd_script.specs.Scripts.{after_command, bare_command, command_of, long_command, script_line, short_command, Sayings}
 use Rattle.arrayvec.specs.ArrayVec.{ArrayVec}
 use Rattle.swd_script.specs.Lines.{line_words}
 use Rattle.swd_script.specs.Scans.{HasWords}
@@ -57,12 +57,13 @@ short_cut name first =
     ∙ ap (λ n. if bytes_eq name (codes "room") then Some (Room n) else (if bytes_eq name (codes "r") then Some (ReadCommand (hex_of (take 11 first))) else None)) (decimal_cut first)
     ∙ ap (λ n. if bytes_eq name (codes "room") then Some (Room (decimal_of first)) else (if bytes_eq name (codes "r") then Some (ReadCommand n) else None)) (hex_cut first)
 
-abbrev long_shape : Bool → Bool → Bool → Bool → Option ℕ → Option ℕ → Option ℕ → Option Command
-long_shape memory write many block first second count =
+abbrev long_shape : Bool → Bool → Bool → Bool → Bool → Option ℕ → Option ℕ → Option ℕ → Option Command
+long_shape memory write many block verify first second count =
     if memory then Some (Memory first count) else
     (if write then Some (WriteCommand first second) else
     (if many then Some (ReadMany first count) else
-    (if block then Some (Block first count) else None)))
+    (if block then Some (Block first count) else
+    (if verify then Some (Verify first second) else None))))
 
 long_cut : (name first second : List ℕ)
     → long_command (take 11 name) (take 11 first) (take 11 second) ≡ long_command name first second
@@ -75,27 +76,31 @@ long_cut name first second =
     let write = bytes_eq name (codes "w") in
     let many = bytes_eq name (codes "rn") in
     let block = bytes_eq name (codes "block") in
-    ap (λ t. long_shape t (bytes_eq kept (codes "w")) (bytes_eq kept (codes "rn")) (bytes_eq kept (codes "block")) f s d)
+    let verify = bytes_eq name (codes "verify") in
+    let last = bytes_eq kept (codes "verify") in
+    ap (λ t. long_shape t (bytes_eq kept (codes "w")) (bytes_eq kept (codes "rn")) (bytes_eq kept (codes "block")) last f s d)
     (name_cut name (codes "memory") (omega arith))
-    ∙ ap (λ t. long_shape memory t (bytes_eq kept (codes "rn")) (bytes_eq kept (codes "block")) f s d)
+    ∙ ap (λ t. long_shape memory t (bytes_eq kept (codes "rn")) (bytes_eq kept (codes "block")) last f s d)
     (name_cut name (codes "w") (omega arith))
-    ∙ ap (λ t. long_shape memory write t (bytes_eq kept (codes "block")) f s d) (name_cut name (codes "rn") (omega arith))
-    ∙ ap (λ t. long_shape memory write many t f s d) (name_cut name (codes "block") (omega arith))
-    ∙ ap (λ n. long_shape memory write many block n s d) (hex_cut first)
-    ∙ ap (λ n. long_shape memory write many block (hex_of first) n d) (hex_cut second)
-    ∙ ap (λ n. long_shape memory write many block (hex_of first) (hex_of second) n) (decimal_cut second)
+    ∙ ap (λ t. long_shape memory write t (bytes_eq kept (codes "block")) last f s d) (name_cut name (codes "rn") (omega arith))
+    ∙ ap (λ t. long_shape memory write many t last f s d) (name_cut name (codes "block") (omega arith))
+    ∙ ap (λ t. long_shape memory write many block t f s d) (name_cut name (codes "verify") (omega arith))
+    ∙ ap (λ n. long_shape memory write many block verify n s d) (hex_cut first)
+    ∙ ap (λ n. long_shape memory write many block verify (hex_of first) n d) (hex_cut second)
+    ∙ ap (λ n. long_shape memory write many block verify (hex_of first) (hex_of second) n) (decimal_cut second)
 
 command_cut : (all : List (List ℕ)) → command_of (first_words all) ≡ command_of all
 command_cut [] = refl
-command_cut (name ∷ []) = refl
+command_cut (name ∷ []) = ap (λ t. if t then Some Next else None) (name_cut name (codes "next") (omega arith))
 command_cut (name ∷ first ∷ []) = short_cut name first
 command_cut (name ∷ first ∷ second ∷ []) = long_cut name first second
 command_cut (name ∷ first ∷ second ∷ third ∷ more) = refl
 
 -- the first words of a line say what all of them say
-pub script_cut : (said : Sayings) (all : List (List ℕ)) → script_line said (Some (first_words all)) ≡ script_line said (Some all)
-script_cut said [] = refl
-script_cut said (name ∷ arguments) = ap (after_command said) (command_cut (name ∷ arguments))
+pub script_cut : (number : ℕ) (said : Sayings) (all : List (List ℕ))
+    → script_line number said (Some (first_words all)) ≡ script_line number said (Some all)
+script_cut number said [] = refl
+script_cut number said (name ∷ arguments) = ap (after_command number said) (command_cut (name ∷ arguments))
 
 abbrev bare_shape : Bool → Bool → Bool → Result Mark LineFault
 bare_shape clean wait deaf = if clean then Ok Clean else (if wait then Ok Wait else (if deaf then Ok Deaf else Err Word))
@@ -134,8 +139,10 @@ plan_cut marks [] = refl
 plan_cut marks (name ∷ arguments) = ap (with_mark marks) (mark_cut (name ∷ arguments))
 
 -- what the first words of a line say is what the line says
-pub script_words : (said : Sayings) (line : List ℕ) (kept : List (ArrayVec ℕ)) → HasWords line kept → script_line said (Some (texts kept)) ≡ script_line said (line_words line)
-script_words said line kept h = ap (λ x. script_line said (Some x)) h.first ∙ script_cut said h.all ∙ ap (script_line said) (sym h.are)
+pub script_words : (number : ℕ) (said : Sayings) (line : List ℕ) (kept : List (ArrayVec ℕ)) → HasWords line kept
+    → script_line number said (Some (texts kept)) ≡ script_line number said (line_words line)
+script_words number said line kept h =
+    ap (λ x. script_line number said (Some x)) h.first ∙ script_cut number said h.all ∙ ap (script_line number said) (sym h.are)
 
 pub plan_words : (marks : List Mark) (line : List ℕ) (kept : List (ArrayVec ℕ)) → HasWords line kept → plan_line marks (Some (texts kept)) ≡ plan_line marks (line_words line)
 plan_words marks line kept h = ap (λ x. plan_line marks (Some x)) h.first ∙ plan_cut marks h.all ∙ ap (plan_line marks) (sym h.are)

@@ -15,7 +15,7 @@ use Rattle.swd_port.specs.declared.mark.Mark.{Mark}
 use Rattle.swd_port.specs.declared.mark.Mark.TheVariants.{Clean, Wait, Flip, Deaf, Mute}
 use Rattle.swd_port.specs.Choices.{IsMark}
 use Rattle.swd_script.specs.declared.command.Command.{Command}
-use Rattle.swd_script.specs.declared.command.Command.TheVariants.{Memory, Room, Read, Write, ReadMany, Block}
+use Rattle.swd_script.specs.declared.command.Command.TheVariants.{Memory, Room, Read, Write, ReadMany, Block, Verify, Next}
 use Rattle.swd_script.specs.declared.draft.Extent.{Extent}
 use Rattle.swd_script.specs.declared.fault.LineFault.{LineFault}
 use Rattle.swd_script.specs.declared.fault.LineFault.TheVariants.{Word, Range}
@@ -26,11 +26,13 @@ use Rattle.swd_script.specs.Numerals.{decimal_of}
 use Rattle.swd_script.specs.Plans.{mark_of, marked, place_below, plan_line, plan_of, with_mark}
 use Rattle.swd_port.specs.PlainMemory.{reads}
 use Rattle.swd_port.proofs.ReadLists.{length_reads}
-use Rattle.swd_script.specs.Scripts.{Meaning, Sayings, after_command, are_words, as_block, beside_block, carried_out}
-use Rattle.swd_script.specs.Scripts.{command_of, fault_before, has_access, misplaced, nothing_said, script_line}
-use Rattle.swd_script.specs.Scripts.{script_meaning, script_of, whole_script, with_accesses, with_memory, with_number}
-use Rattle.swd_script.specs.Scripts.{with_room, without_memory}
-use Rattle.swd_script.specs.Laws.{IsBlock, IsRunnable, is_at_word}
+use Rattle.swd_script.specs.declared.batch.Expected.{Expected}
+use Rattle.swd_script.specs.Faults.{line_number}
+use Rattle.swd_script.specs.Scripts.{Listed, Meaning, Sayings, after_command, are_words, as_block, as_expected, beside_block}
+use Rattle.swd_script.specs.Scripts.{carried_out, command_of, fault_before, is_some_list, misplaced, nothing_listed}
+use Rattle.swd_script.specs.Scripts.{nothing_said, script_line, script_meaning, script_of, whole_script, with_accesses}
+use Rattle.swd_script.specs.Scripts.{with_memory, with_next, with_number, with_room, with_verified, without_memory}
+use Rattle.swd_script.specs.Laws.{IsBatch, IsBlock, IsRunnable, is_at_word}
 
 and_left : (a b : Bool) → (a && b) ≡ true → a ≡ true
 and_left true b e = refl
@@ -77,9 +79,8 @@ are_words_so base words e =
 -- what the lines so far say, a run takes
 record IsSound (said : Sayings) : Type 0 where
   pub memory : IfSome said.memory (λ extent. AreWords extent.base extent.words)
-  pub few : length said.accesses ≤ 65536
-  pub accesses : list_all is_at_word said.accesses ≡ true
-  pub block : IfSome said.block (λ at. IsBlock at said.accesses)
+  pub earlier : All IsBatch said.earlier
+  pub batch : IsBatch said.batch
 
 aligned_reads : (addr count : ℕ) → addr % 4 ≡ 0 → list_all is_at_word (reads addr count) ≡ true
 aligned_reads addr zero h = refl
@@ -94,20 +95,19 @@ sound_memory said next base words e s =
     let ok = if_ok test (record said { memory = Some (record { base = base; words = words }) }) Range next e in
     subst IsSound ok.1 (record {
       memory = are_words_so base words (and_left (are_words base words) (nat_le words 65536) ok.0);
-      few = s.few;
-      accesses = s.accesses;
-      block = s.block;
+      earlier = s.earlier;
+      batch = s.batch;
     })
 
 sound_room : (said next : Sayings) (count : ℕ) → with_room said count ≡ Ok next → IsSound said → IsSound next
 sound_room said next count e s =
     let ok = if_ok (nat_le count 65536) (record said { room = Some count }) Range next e in
-    subst IsSound ok.1 (record { memory = s.memory; few = s.few; accesses = s.accesses; block = s.block })
+    subst IsSound ok.1 (record { memory = s.memory; earlier = s.earlier; batch = s.batch })
 
 -- no block is there yet
 no_block : (said : Sayings) → beside_block said ≡ None → (more : List Access)
-    → IfSome said.block (λ at. IsBlock at more)
-no_block said free more = none_there said.block (without_memory said) free
+    → IfSome said.batch.block (λ at. IsBlock at more)
+no_block said free more = none_there said.batch.block (without_memory said) free
   where
     none_there : (block : Option ℕ) (rest : Option LineFault) → (if is_some block then Some Word else rest) ≡ None
         → IfSome block (λ at. IsBlock at more)
@@ -116,88 +116,143 @@ no_block said free more = none_there said.block (without_memory said) free
 
 -- no access is there yet
 no_access : (accesses : List Access) (rest : Option LineFault)
-    → (if has_access accesses then Some Word else rest) ≡ None → accesses ≡ []
+    → (if is_some_list accesses then Some Word else rest) ≡ None → accesses ≡ []
 no_access [] rest e = refl
 no_access (access ∷ accesses) rest e = absurd cc
 
 if_block : (addr : ℕ) (r : Result Sayings LineFault) (next : Sayings) → as_block addr r ≡ Ok next
-    → (said : Sayings) × (r ≡ Ok said) × (record said { block = Some addr } ≡ next)
+    → (said : Sayings) × (r ≡ Ok said) × (record said { batch = record said.batch { block = Some addr } } ≡ next)
 if_block addr (Ok said) next e = (said, refl, cc)
 if_block addr (Err fault) next e = absurd cc
 
 room_few : (n count : ℕ) → nat_le (n + count) 65536 ≡ true → n + count ≤ 65536
 room_few n count e = grind (arith, nat_tests)
 
+one_batch : (batch : Listed) → IsBatch batch → All IsBatch (batch ∷ [])
+one_batch batch h = at
+  where
+    at : (k : ℕ) (d : Listed) → k < 1 → IsBatch (get_or (batch ∷ []) k d)
+    at zero d l = h
+    at (suc k) d l = absurd (omega arith)
+
+nothing_sound : IsBatch nothing_listed
+nothing_sound = record { few = omega arith; accesses = refl; block = tt }
+
 -- accesses are added where no block is
 sound_accesses : (said next : Sayings) (addr count : ℕ) (more : List Access)
     → with_accesses said addr count more ≡ Ok next → length more ≡ count
     → (addr % 4 ≡ 0 → list_all is_at_word more ≡ true) → beside_block said ≡ None → IsSound said → IsSound next
 sound_accesses said next addr count more e n a free s =
-    let room = nat_le (length said.accesses + count) 65536 in
-    let ok = if_ok (are_words addr count && room) (record said { accesses = said.accesses ++ more }) Range next e in
+    let old : List Access = said.batch.accesses in
+    let room = nat_le (length old + count) 65536 in
+    let ok = if_ok (are_words addr count && room) (record said { batch = record said.batch { accesses = old ++ more } }) Range next e in
     let few : room ≡ true = and_right (are_words addr count) room ok.0 in
     let words = are_words_so addr count (and_left (are_words addr count) room ok.0) in
-    let len : length (said.accesses ++ more) ≡ length said.accesses + length more = length-append said.accesses more in
+    let len : length (old ++ more) ≡ length old + length more = length-append old more in
+    let r : length old + count ≤ 65536 = room_few (length old) count few in
     subst IsSound ok.1 (record {
       memory = s.memory;
-      few = grind (arith, nat_tests);
-      accesses = list_all-append is_at_word said.accesses more ∙ both (list_all is_at_word said.accesses) (list_all is_at_word more) s.accesses (a words.aligned);
-      block = no_block said free (said.accesses ++ more);
+      earlier = s.earlier;
+      batch = record {
+        few = omega (arith, len, n, r);
+        accesses = list_all-append is_at_word old more
+            ∙ both (list_all is_at_word old) (list_all is_at_word more) s.batch.accesses (a words.aligned);
+        block = no_block said free (old ++ more);
+      };
     })
 
 -- a block is the first that is added
 sound_block : (said next : Sayings) (addr count : ℕ)
     → as_block addr (with_accesses said addr count (reads addr count)) ≡ Ok next
-    → (if has_access said.accesses then Some Word else without_memory said) ≡ None → IsSound said → IsSound next
+    → (if is_some_list said.batch.accesses then Some Word else without_memory said) ≡ None → IsSound said → IsSound next
 sound_block said next addr count e free s =
     let more : List Access = reads addr count in
-    let room = nat_le (length said.accesses + count) 65536 in
+    let old : List Access = said.batch.accesses in
+    let room = nat_le (length old + count) 65536 in
     let b = if_block addr (with_accesses said addr count more) next e in
-    let ok = if_ok (are_words addr count && room) (record said { accesses = said.accesses ++ more }) Range b.0 b.1 in
+    let ok = if_ok (are_words addr count && room) (record said { batch = record said.batch { accesses = old ++ more } }) Range b.0 b.1 in
     let few : room ≡ true = and_right (are_words addr count) room ok.0 in
     let words = are_words_so addr count (and_left (are_words addr count) room ok.0) in
-    let only : said.accesses ≡ [] = no_access said.accesses (without_memory said) free in
-    let whole : said.accesses ++ more ≡ more = ap (λ x. x ++ more) only in
+    let only : old ≡ [] = no_access old (without_memory said) free in
+    let whole : old ++ more ≡ more = ap (λ x. x ++ more) only in
     let len : length more ≡ count = length_reads addr count in
-    let same : length (said.accesses ++ more) ≡ count = ap length whole ∙ len in
-    subst IsSound (ap (λ (x : Sayings). record x { block = Some addr }) ok.1 ∙ b.2) (record {
+    let same : length (old ++ more) ≡ count = ap length whole ∙ len in
+    subst IsSound (ap (λ (x : Sayings). record x { batch = record x.batch { block = Some addr } }) ok.1 ∙ b.2) (record {
       memory = s.memory;
-      few = omega (arith, same, room_few (length said.accesses) count few, ap length only);
-      accesses = ap (list_all is_at_word) whole ∙ aligned_reads addr count words.aligned;
-      block = record {
-        same = whole ∙ ap (reads addr) (sym same);
-        end = omega (arith, words.end, same);
+      earlier = s.earlier;
+      batch = record {
+        few = omega (arith, same, room_few (length old) count few, ap length only);
+        accesses = ap (list_all is_at_word) whole ∙ aligned_reads addr count words.aligned;
+        block = record {
+          same = whole ∙ ap (reads addr) (sym same);
+          end = omega (arith, words.end, same);
+        };
       };
     })
+
+if_expected : (read : Expected) (r : Result Sayings LineFault) (next : Sayings) → as_expected read r ≡ Ok next
+    → (said : Sayings) × (r ≡ Ok said) × (record said { batch = record said.batch { expected = said.batch.expected ++ read ∷ [] } } ≡ next)
+if_expected read (Ok said) next e = (said, refl, cc)
+if_expected read (Err fault) next e = absurd cc
+
+-- a call that ends is one of those before
+sound_next : (said : Sayings) → IsSound said → IsSound (with_next said)
+sound_next said s = record {
+  memory = s.memory;
+  earlier = All-append IsBatch said.earlier (said.batch ∷ []) s.earlier (one_batch said.batch s.batch);
+  batch = nothing_sound;
+}
 
 one_aligned : (addr : ℕ) → addr % 4 ≡ 0 → ((addr % 4 == 0) && true) ≡ true
 one_aligned addr h = let a : (addr % 4 == 0) ≡ true = grind (arith, nat_tests) in both (addr % 4 == 0) true a refl
 
-sound_command : (said next : Sayings) (command : Command) → carried_out said command ≡ Ok next
+-- a read whose word is told is an access
+sound_verified : (line : ℕ) (said next : Sayings) (addr word : ℕ) → with_verified line said addr word ≡ Ok next
+    → beside_block said ≡ None → IsSound said → IsSound next
+sound_verified line said next addr word e free s =
+    let read : Expected = record { line = line; place = length said.batch.accesses; addr = addr; word = word } in
+    let more : List Access = ReadAccess addr ∷ [] in
+    let x = if_expected read (with_accesses said addr 1 more) next e in
+    let mid : IsSound x.0 = sound_accesses said x.0 addr 1 more x.1 refl (one_aligned addr) free s in
+    subst IsSound x.2 (record {
+      memory = mid.memory;
+      earlier = mid.earlier;
+      batch = record { few = mid.batch.few; accesses = mid.batch.accesses; block = mid.batch.block };
+    })
+
+same_value : {S E : Type 0} (a b : S) → (let left : Result S E = Ok a in left ≡ Ok b) → a ≡ b
+same_value a b e = cc
+
+sound_command : (line : ℕ) (said next : Sayings) (command : Command) → carried_out line said command ≡ Ok next
     → misplaced said command ≡ None → IsSound said → IsSound next
-sound_command said next (Memory base words) e free s =
+sound_command line said next (Memory base words) e free s =
     let b = if_number base (λ base. with_number words (λ words. with_memory said base words)) next e in
     let w = if_number words (λ words. with_memory said b.0 words) next b.1 in
     sound_memory said next b.0 w.0 w.1 s
-sound_command said next (Room count) e free s =
+sound_command line said next (Room count) e free s =
     let c = if_number count (λ count. with_room said count) next e in
     sound_room said next c.0 c.1 s
-sound_command said next (Read addr) e free s =
+sound_command line said next (Read addr) e free s =
     let a = if_number addr (λ addr. with_accesses said addr 1 (ReadAccess addr ∷ [])) next e in
     sound_accesses said next a.0 1 (ReadAccess a.0 ∷ []) a.1 refl (one_aligned a.0) free s
-sound_command said next (Write addr value) e free s =
+sound_command line said next (Write addr value) e free s =
     let a = if_number addr (λ addr. with_number value (λ value. with_accesses said addr 1 (WriteAccess addr value ∷ []))) next e in
     let v = if_number value (λ value. with_accesses said a.0 1 (WriteAccess a.0 value ∷ [])) next a.1 in
     sound_accesses said next a.0 1 (WriteAccess a.0 v.0 ∷ []) v.1 refl (one_aligned a.0) free s
-sound_command said next (ReadMany addr count) e free s =
+sound_command line said next (ReadMany addr count) e free s =
     let a = if_number addr (λ addr. with_number count (λ count. with_accesses said addr count (reads addr count))) next e in
     let c = if_number count (λ count. with_accesses said a.0 count (reads a.0 count)) next a.1 in
     sound_accesses said next a.0 c.0 (reads a.0 c.0) c.1 (length_reads a.0 c.0) (aligned_reads a.0 c.0) free s
-sound_command said next (Block addr count) e free s =
+sound_command line said next (Block addr count) e free s =
     let a = if_number addr (λ addr. with_number count (λ count.
     as_block addr (with_accesses said addr count (reads addr count)))) next e in
     let c = if_number count (λ count. as_block a.0 (with_accesses said a.0 count (reads a.0 count))) next a.1 in
     sound_block said next a.0 c.0 c.1 free s
+sound_command line said next (Verify addr value) e free s =
+    let a = if_number addr (λ addr. with_number value (λ value. with_verified line said addr value)) next e in
+    let v = if_number value (λ value. with_verified line said a.0 value) next a.1 in
+    sound_verified line said next a.0 v.0 v.1 free s
+sound_command line said next Next e free s = subst IsSound (same_value (with_next said) next e) (sound_next said s)
 
 none_before : (fault : Option LineFault) (result : Result Sayings LineFault) (next : Sayings)
     → fault_before fault result ≡ Ok next → fault ≡ None
@@ -209,36 +264,37 @@ no_fault : (fault : Option LineFault) (result : Result Sayings LineFault) (next 
 no_fault (Some fault) result next e = absurd cc
 no_fault None result next e = e
 
-sound_after : (said next : Sayings) (command : Option Command) → after_command said command ≡ Ok next
+sound_after : (line : ℕ) (said next : Sayings) (command : Option Command) → after_command line said command ≡ Ok next
     → IsSound said → IsSound next
-sound_after said next None e s = absurd cc
-sound_after said next (Some command) e s = sound_command said next command
-    (no_fault (misplaced said command) (carried_out said command) next e)
-    (none_before (misplaced said command) (carried_out said command) next e) s
+sound_after line said next None e s = absurd cc
+sound_after line said next (Some command) e s = sound_command line said next command
+    (no_fault (misplaced said command) (carried_out line said command) next e)
+    (none_before (misplaced said command) (carried_out line said command) next e) s
 
-same_value : {S E : Type 0} (a b : S) → (let left : Result S E = Ok a in left ≡ Ok b) → a ≡ b
-same_value a b e = cc
-
-sound_line : (said next : Sayings) (words : Option (List (List ℕ))) → script_line said words ≡ Ok next
+sound_line : (line : ℕ) (said next : Sayings) (words : Option (List (List ℕ))) → script_line line said words ≡ Ok next
     → IsSound said → IsSound next
-sound_line said next None e s = absurd cc
-sound_line said next (Some []) e s = subst IsSound (same_value said next e) s
-sound_line said next (Some (name ∷ arguments)) e s = sound_after said next (command_of (name ∷ arguments)) e s
+sound_line line said next None e s = absurd cc
+sound_line line said next (Some []) e s = subst IsSound (same_value said next e) s
+sound_line line said next (Some (name ∷ arguments)) e s = sound_after line said next (command_of (name ∷ arguments)) e s
 
-after_one : {S : Type 0} (line : S → Option (List (List ℕ)) → Result S LineFault) (P : S
-    → Type 0) (words : Option (List (List ℕ))) (old new : S) (before : ℕ) (rest : List (List ℕ)) (r : Result S LineFault) →
-    line old words ≡ r → ((state : S) → line old words ≡ Ok state → P state) → ((state : S) → after_lines line state (suc before) rest ≡ Ok new → P state → P new) →
-    then_lines before (λ state. after_lines line state (suc before) rest) r ≡ Ok new → P new
+after_one : {S : Type 0} (line : ℕ → S → Option (List (List ℕ)) → Result S LineFault) (P : S → Type 0)
+    (words : Option (List (List ℕ))) (old new : S) (before : ℕ) (rest : List (List ℕ)) (r : Result S LineFault)
+    → line (line_number before) old words ≡ r
+    → ((state : S) → line (line_number before) old words ≡ Ok state → P state)
+    → ((state : S) → after_lines line state (suc before) rest ≡ Ok new → P state → P new)
+    → then_lines before (λ state. after_lines line state (suc before) rest) r ≡ Ok new → P new
 after_one line P words old new before rest (Ok state) k f g e = g state e (f state k)
 after_one line P words old new before rest (Err fault) k f g e = absurd cc
 
 -- what each line keeps, all lines keep
-after_all : {S : Type 0} (line : S → Option (List (List ℕ)) → Result S LineFault) (P : S → Type 0)
-    → ((old new : S) (words : Option (List (List ℕ))) → line old words ≡ Ok new → P old → P new) →
-    (texts : List (List ℕ)) (old new : S) (before : ℕ) → after_lines line old before texts ≡ Ok new → P old → P new
+after_all : {S : Type 0} (line : ℕ → S → Option (List (List ℕ)) → Result S LineFault) (P : S → Type 0)
+    → ((number : ℕ) (old new : S) (words : Option (List (List ℕ))) → line number old words ≡ Ok new → P old → P new)
+    → (texts : List (List ℕ)) (old new : S) (before : ℕ) → after_lines line old before texts ≡ Ok new → P old → P new
 after_all line P f [] old new before e h = subst P (same_value old new e) h
 after_all line P f (text ∷ rest) old new before e h =
-    after_one line P (line_words text) old new before rest (line old (line_words text)) refl (λ state k. f old state (line_words text) k h) (λ state k p. after_all line P f rest state new (suc before) k p) e
+    after_one line P (line_words text) old new before rest (line (line_number before) old (line_words text)) refl
+    (λ state k. f (line_number before) old state (line_words text) k h)
+    (λ state k p. after_all line P f rest state new (suc before) k p) e
 
 meaning_runs : (memory : Option Extent) (said : Sayings) (m : Meaning)
     → IfSome memory (λ extent. AreWords extent.base extent.words) → IsSound said
@@ -249,16 +305,13 @@ meaning_runs (Some extent) said m w s e =
       base = extent.base;
       words = extent.words;
       room = unwrap_or said.room 65536;
-      accesses = said.accesses;
-      block = said.block;
+      batches = said.earlier ++ said.batch ∷ [];
     }) m e)
     (record {
       aligned = w.aligned;
       some = w.some;
       end = w.end;
-      few = s.few;
-      accesses = s.accesses;
-      block = s.block;
+      batches = All-append IsBatch said.earlier (said.batch ∷ []) s.earlier (one_batch said.batch s.batch);
     })
 
 whole_runs : (r : Result Sayings ScriptFault) (m : Meaning) → ((said : Sayings) → r ≡ Ok said → IsSound said)
@@ -266,10 +319,13 @@ whole_runs : (r : Result Sayings ScriptFault) (m : Meaning) → ((said : Sayings
 whole_runs (Err fault) m f e = absurd cc
 whole_runs (Ok said) m f e = let s = f said refl in meaning_runs said.memory said m s.memory s e
 
+none : (k : ℕ) (d : Listed) → k < 0 → IsBatch (get_or [] k d)
+none k d l = absurd (omega arith)
+
 pub is_runnable : (text : List ℕ) (m : Meaning) → script_of text ≡ Ok m → IsRunnable m
 is_runnable text m e =
     whole_runs (after_lines script_line nothing_said 0 (lines text)) m
-    (λ said f. after_all script_line IsSound sound_line (lines text) nothing_said said 0 f (record { memory = tt; few = omega arith; accesses = refl; block = tt })) e
+    (λ said f. after_all script_line IsSound sound_line (lines text) nothing_said said 0 f (record { memory = tt; earlier = none; batch = nothing_sound })) e
 
 legal_flip : (place : ℕ) (r : Option ℕ) (mark : Mark) → marked (λ bit. Flip bit) (place_below 33 r) ≡ Ok mark
     → IsMark mark
@@ -328,4 +384,4 @@ legal_line old new (Some (name ∷ arguments)) e h = with_one (mark_of (name ∷
     with_one (Err fault) k e = absurd cc
 
 pub is_plan : (text : List ℕ) (marks : List Mark) → plan_of text ≡ Ok marks → All IsMark marks
-is_plan text marks e = after_all plan_line (All IsMark) legal_line (lines text) [] marks 0 e (λ k d l. absurd (omega arith))
+is_plan text marks e = after_all (λ number. plan_line) (All IsMark) (λ number. legal_line) (lines text) [] marks 0 e (λ k d l. absurd (omega arith))

@@ -1,35 +1,48 @@
 -- The definitions at worked texts.
 use Rattle.std.proofs.Common.{◌≡◌, ℕ, List, [], ◌∷◌, ◌++◌, refl, Ok, Err, Some, None}
 use Rattle.std.specs.Prelude.{codes}
+use Rattle.swd_port.specs.declared.access.Access.{Access}
 use Rattle.swd_port.specs.declared.access.Access.TheVariants.{Read, Write}
 use Rattle.swd_port.specs.declared.mark.Mark.TheVariants.{Clean, Wait, Flip, Deaf, Mute}
 use Rattle.swd_script.specs.declared.fault.ScriptFault.TheVariants.{Word, Number, Range, NoMemoryLine}
 use Rattle.swd_script.specs.Plans.{plan_of}
-use Rattle.swd_script.specs.Scripts.{script_of}
+use Rattle.swd_script.specs.Scripts.{Listed, script_of}
 
 -- a line and its line feed
 fed : List ℕ → List ℕ
 fed line = line ++ 10 ∷ []
+
+-- single accesses
+single : List Access → Listed
+single accesses = record { accesses = accesses; block = None; expected = [] }
+
+-- three reads as a block
+of_block : Listed
+of_block = record {
+  accesses = Read 536870912 ∷ Read 536870916 ∷ Read 536870920 ∷ [];
+  block = Some 536870912;
+  expected = [];
+}
 
 script : script_of (fed (codes "memory 20000000 16") ++ fed (codes "w 20000000 deadbeef") ++ fed (codes "rn 20000000 2") ++ codes "r 30000000") ≡
     Ok (record {
       base = 536870912;
       words = 16;
       room = 65536;
-      accesses = Write 536870912 3735928559 ∷ Read 536870912 ∷ Read 536870916 ∷ Read 805306368 ∷ [];
-      block = None;
+      batches = single (Write 536870912 3735928559 ∷ Read 536870912 ∷ Read 536870916 ∷ Read 805306368 ∷ []) ∷ [];
     })
-unfolding fed
+unfolding fed single
 script = refl
 
 memory_alone : script_of (codes "memory 20000000 1")
-    ≡ Ok (record { base = 536870912; words = 1; room = 65536; accesses = []; block = None })
+    ≡ Ok (record { base = 536870912; words = 1; room = 65536; batches = single [] ∷ [] })
+unfolding single
 memory_alone = refl
 
 -- blanks, a comment at a word's end, carriage returns before line feeds
 laid_out : script_of (fed (codes "# a script" ++ 13 ∷ []) ++ fed (9 ∷ codes "memory  20000000 1#6" ++ 13 ∷ []) ++ fed [] ++ codes "room 7 ") ≡
-    Ok (record { base = 536870912; words = 1; room = 7; accesses = []; block = None })
-unfolding fed
+    Ok (record { base = 536870912; words = 1; room = 7; batches = single [] ∷ [] })
+unfolding fed single
 laid_out = refl
 
 return_at_the_end : script_of (codes "memory 20000000 1" ++ 13 ∷ []) ≡ Err (Word 1)
@@ -65,10 +78,9 @@ block : script_of (fed (codes "memory 20000000 2") ++ codes "block 20000000 3") 
       base = 536870912;
       words = 2;
       room = 65536;
-      accesses = Read 536870912 ∷ Read 536870916 ∷ Read 536870920 ∷ [];
-      block = Some 536870912;
+      batches = of_block ∷ [];
     })
-unfolding fed
+unfolding fed of_block
 block = refl
 
 read_after_a_block :
@@ -92,6 +104,46 @@ block_past_the_end = refl
 
 block_before_the_memory : script_of (codes "block 20000000 1") ≡ Err (NoMemoryLine 1)
 block_before_the_memory = refl
+
+-- a further call, a block beside single accesses, and reads whose words are told
+calls : script_of (fed (codes "memory 20000000 4") ++ fed (codes "w 20000000 5") ++ fed (codes "next") ++ fed (codes "block 20000000 3")
+    ++ fed (codes "next # and at the end") ++ fed (codes "r 20000004") ++ codes "verify 20000000 00000005") ≡
+    Ok (record {
+      base = 536870912;
+      words = 4;
+      room = 65536;
+      batches = single (Write 536870912 5 ∷ []) ∷ of_block ∷ record {
+        accesses = Read 536870916 ∷ Read 536870912 ∷ [];
+        block = None;
+        expected = record { line = 7; place = 1; addr = 536870912; word = 5 } ∷ [];
+      } ∷ [];
+    })
+unfolding fed single of_block
+calls = refl
+
+next_before_the_memory : script_of (codes "next") ≡ Err (NoMemoryLine 1)
+next_before_the_memory = refl
+
+next_with_a_number : script_of (fed (codes "memory 20000000 1") ++ codes "next 1") ≡ Err (Word 2)
+unfolding fed
+next_with_a_number = refl
+
+room_after_next : script_of (fed (codes "memory 20000000 1") ++ fed (codes "next") ++ codes "room 3") ≡ Err (Word 3)
+unfolding fed
+room_after_next = refl
+
+verify_without_a_word : script_of (fed (codes "memory 20000000 1") ++ codes "verify 20000000") ≡ Err (Word 2)
+unfolding fed
+verify_without_a_word = refl
+
+verify_beside_a_block :
+    script_of (fed (codes "memory 20000000 1") ++ fed (codes "block 20000000 1") ++ codes "verify 20000000 0") ≡ Err (Word 3)
+unfolding fed
+verify_beside_a_block = refl
+
+unaligned_verify : script_of (fed (codes "memory 20000000 1") ++ codes "verify 20000002 0") ≡ Err (Range 2)
+unfolding fed
+unaligned_verify = refl
 
 -- the first line at fault, and in it the word before the number
 first_fault : script_of (fed (codes "memory 20000000 1") ++ fed (codes "r g g") ++ codes "r 1") ≡ Err (Word 2)

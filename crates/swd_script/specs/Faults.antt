@@ -24,9 +24,10 @@ abbrev pub then_lines : {S : Type 0} → ℕ → (S → Result S ScriptFault) �
 then_lines before rest (Ok state) = rest state
 then_lines before rest (Err fault) = Err (fault_at fault (line_number before))
 
--- what some lines make of a state, each by its words, after so many other lines; or the first fault
-abbrev pub after_lines : {S : Type 0} → (S → Option (List (List ℕ)) → Result S LineFault) → S → ℕ →
+-- what some lines make of a state, each by its number and its words, after so many other lines; or the first fault
+abbrev pub after_lines : {S : Type 0} → (ℕ → S → Option (List (List ℕ)) → Result S LineFault) → S → ℕ →
     List (List ℕ) → Result S ScriptFault
 after_lines take state before [] = Ok state
 after_lines take state before (line ∷ rest) =
-    then_lines before (λ next. after_lines take next (suc before) rest) (take state (line_words line))
+    then_lines before (λ next. after_lines take next (suc before) rest)
+    (take (line_number before) state (line_words line))

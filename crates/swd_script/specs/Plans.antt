@@ -50,4 +50,4 @@ plan_line marks (Some (name ∷ arguments)) = with_mark marks (mark_of (name ∷
 
 -- the marks of a plan, or the fault of its first line at fault
 abbrev pub plan_of : List ℕ → Result (List Mark) ScriptFault
-plan_of text = after_lines plan_line [] 0 (lines text)
+plan_of text = after_lines (λ number. plan_line) [] 0 (lines text)

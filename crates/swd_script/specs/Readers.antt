@@ -1,6 +1,7 @@
 -- What the readers of scripts and plans have read.
-use Rattle.std.specs.Prelude.{◌≡◌, ◌≢◌, ℕ, List, [], ◌∷◌, ◌++◌, length, Option, Result, Ok, Err, IsOk}
+use Rattle.std.specs.Prelude.{◌≡◌, ◌≢◌, ℕ, List, [], ◌∷◌, ◌++◌, length, map, Option, Result, Ok, Err, IsOk}
 use Rattle.arrayvec.specs.ArrayVec.{ArrayVec}
+use Rattle.swd_script.specs.declared.batch.Batch.{Batch}
 use Rattle.swd_script.specs.declared.draft.Draft.{Draft}
 use Rattle.swd_script.specs.declared.fault.LineFault.{LineFault}
 use Rattle.swd_script.specs.declared.fault.LineFault.TheVariants.{Word, Number, Range, NoMemoryLine, Memory}
@@ -14,7 +15,7 @@ use Rattle.swd_script.specs.Faults.{line_number, after_lines}
 use Rattle.swd_script.specs.Lines.{lines}
 use Rattle.swd_script.specs.Plans.{plan_line, plan_of}
 use Rattle.swd_script.specs.Scans.{Holds, IsScanned}
-use Rattle.swd_script.specs.Scripts.{Meaning, Sayings, nothing_said, script_line, script_of}
+use Rattle.swd_script.specs.Scripts.{Listed, Meaning, Sayings, nothing_said, script_line, script_of}
 
 -- no line feed
 abbrev pub IsUnbroken : List ℕ → Type 0
@@ -49,10 +50,19 @@ pub record IsLast (text : List ℕ) (ended : List (List ℕ))
   pub scan : IsScanned line scanned
   pub law : lines text ≡ ended ++ line ∷ []
 
+-- the accesses of a call
+abbrev pub listed : {A : Type 0} → Batch A → Listed
+listed batch =
+    record { accesses = batch.accesses.items; block = batch.block; expected = batch.expected.items }
+
 -- what the lines so far say
 abbrev pub said : {A : Type 0} → Draft A → Sayings
-said draft =
-    record { memory = draft.memory; room = draft.room; accesses = draft.accesses.items; block = draft.block }
+said draft = record {
+  memory = draft.memory;
+  room = draft.room;
+  earlier = map listed draft.earlier.items;
+  batch = listed draft.batch;
+}
 
 -- a line at fault; where memory was refused, it has no other fault
 abbrev pub IsFaultOf : {S : Type 0} → LineFault → Result S LineFault → Type 0
@@ -62,8 +72,16 @@ IsFaultOf Number result = result ≡ Err Number
 IsFaultOf Range result = result ≡ Err Range
 IsFaultOf NoMemoryLine result = result ≡ Err NoMemoryLine
 
+-- a fault once the last line, which has this number, was read
+abbrev pub IsEndFault : ScriptFault → ℕ → Result Meaning ScriptFault → Type 0
+IsEndFault (MemoryAt number) line result = (number ≡ line) × IsOk result
+IsEndFault (WordAt number) line result = result ≡ Err (WordAt number)
+IsEndFault (NumberAt number) line result = result ≡ Err (NumberAt number)
+IsEndFault (RangeAt number) line result = result ≡ Err (RangeAt number)
+IsEndFault (NoMemoryLineAt number) line result = result ≡ Err (NoMemoryLineAt number)
+
 -- memory was refused at the line with this number: the lines up to it, and it, have no fault
-pub record RunsOut {S : Type 0} (take : S → Option (List (List ℕ)) → Result S LineFault)
+pub record RunsOut {S : Type 0} (take : ℕ → S → Option (List (List ℕ)) → Result S LineFault)
     (start : S) (text : List ℕ) (number : ℕ) : Type 0 where
   pub ended : List (List ℕ)
   pub line : List ℕ
@@ -81,7 +99,7 @@ pub record ReadsScript {A : Type 0} (reader : ScriptReader A) (seen : List ℕ) 
 pub record ReadsPlan {A : Type 0} (reader : PlanReader A) (seen : List ℕ) : Type 0 where
   pub ended : List (List ℕ)
   pub splits : Splits seen ended reader.lines
-  pub so_far : after_lines plan_line [] 0 ended ≡ Ok reader.marks.items
+  pub so_far : after_lines (λ number. plan_line) [] 0 ended ≡ Ok reader.marks.items
 
 -- what a script that was read says
 abbrev pub meaning : {A : Type 0} → Script A → Meaning
@@ -89,8 +107,7 @@ meaning script = record {
   base = script.base;
   words = script.words;
   room = script.room;
-  accesses = script.accesses.items;
-  block = script.block;
+  batches = map listed script.batches.items;
 }
 
 -- the first fault of a script, or memory was refused
@@ -107,7 +124,7 @@ IsPlanFault (WordAt number) text = plan_of text ≡ Err (WordAt number)
 IsPlanFault (NumberAt number) text = plan_of text ≡ Err (NumberAt number)
 IsPlanFault (RangeAt number) text = plan_of text ≡ Err (RangeAt number)
 IsPlanFault (NoMemoryLineAt number) text = plan_of text ≡ Err (NoMemoryLineAt number)
-IsPlanFault (MemoryAt number) text = RunsOut plan_line [] text number
+IsPlanFault (MemoryAt number) text = RunsOut (λ number. plan_line) [] text number
 
 -- these are the bytes that were taken
 abbrev pub HasReadScript : {A : Type 0} → Unit {0} → ScriptReader A × Unit {0} → List ℕ → Type 0

@@ -7,7 +7,8 @@ use Rattle.swd_port.specs.declared.access.Access.{Access}
 use Rattle.swd_port.specs.declared.access.Access.TheVariants.{Read as ReadAccess, Write as WriteAccess}
 use Rattle.swd_port.specs.PlainMemory.{reads}
 use Rattle.swd_script.specs.declared.command.Command.{Command}
-use Rattle.swd_script.specs.declared.command.Command.TheVariants.{Memory, Room, Read, Write, ReadMany, Block}
+use Rattle.swd_script.specs.declared.batch.Expected.{Expected}
+use Rattle.swd_script.specs.declared.command.Command.TheVariants.{Memory, Room, Read, Write, ReadMany, Block, Verify, Next}
 use Rattle.swd_script.specs.declared.draft.Extent.{Extent}
 use Rattle.swd_script.specs.declared.fault.LineFault.{LineFault}
 use Rattle.swd_script.specs.declared.fault.LineFault.TheVariants.{Word, Number, Range, NoMemoryLine}
@@ -17,23 +18,35 @@ use Rattle.swd_script.specs.Faults.{after_lines}
 use Rattle.swd_script.specs.Lines.{lines}
 use Rattle.swd_script.specs.Numerals.{hex_of, decimal_of}
 
--- the memory, the room of its log, and the accesses; where they are one block, its address
+-- the accesses of a call; where they are one block, its address; and those whose words are told
+pub record Listed : Type 0 where
+  pub accesses : List Access
+  pub block : Option ℕ
+  pub expected : List Expected
+
+-- the memory, the room of its log, and the calls
 pub record Meaning : Type 0 where
   pub base : ℕ
   pub words : ℕ
   pub room : ℕ
-  pub accesses : List Access
-  pub block : Option ℕ
+  pub batches : List Listed
 
--- what the lines so far say
+-- what the lines so far say: the calls that a line `next` ended, and the accesses since the last one
 pub record Sayings : Type 0 where
   pub memory : Option Extent
   pub room : Option ℕ
-  pub accesses : List Access
-  pub block : Option ℕ
+  pub earlier : List Listed
+  pub batch : Listed
+
+abbrev pub nothing_listed : Listed
+nothing_listed = record { accesses = []; block = None; expected = [] }
 
 abbrev pub nothing_said : Sayings
-nothing_said = record { memory = None; room = None; accesses = []; block = None }
+nothing_said = record { memory = None; room = None; earlier = []; batch = nothing_listed }
+
+-- a name alone
+abbrev pub bare_command : List ℕ → Option Command
+bare_command name = if bytes_eq name (codes "next") then Some Next else None
 
 -- a name and one number
 abbrev pub short_command : List ℕ → List ℕ → Option Command
@@ -47,37 +60,44 @@ long_command name first second =
     if bytes_eq name (codes "memory") then Some (Memory (hex_of first) (decimal_of second)) else
     (if bytes_eq name (codes "w") then Some (Write (hex_of first) (hex_of second)) else
     (if bytes_eq name (codes "rn") then Some (ReadMany (hex_of first) (decimal_of second)) else
-    (if bytes_eq name (codes "block") then Some (Block (hex_of first) (decimal_of second)) else None)))
+    (if bytes_eq name (codes "block") then Some (Block (hex_of first) (decimal_of second)) else
+    (if bytes_eq name (codes "verify") then Some (Verify (hex_of first) (hex_of second)) else None))))
 
 -- the command of a line's words, where the first is known and they are as many as it takes
 abbrev pub command_of : List (List ℕ) → Option Command
 command_of [] = None
-command_of (name ∷ []) = None
+command_of (name ∷ []) = bare_command name
 command_of (name ∷ first ∷ []) = short_command name first
 command_of (name ∷ first ∷ second ∷ []) = long_command name first second
 command_of (name ∷ first ∷ second ∷ third ∷ more) = None
 
-abbrev pub has_access : List Access → Bool
-has_access [] = false
-has_access (access ∷ accesses) = true
+abbrev pub is_some_list : {X : Type 0} → List X → Bool
+is_some_list [] = false
+is_some_list (x ∷ xs) = true
+
+-- there was an access, or a further call
+abbrev pub has_begun : Sayings → Bool
+has_begun said = is_some_list said.earlier || is_some_list said.batch.accesses
 
 -- a line other than `memory` has to come after it
 abbrev pub without_memory : Sayings → Option LineFault
 without_memory said = if is_none said.memory then Some NoMemoryLine else None
 
--- beside a block there is no other access
+-- beside a block there is no other access in a call
 abbrev pub beside_block : Sayings → Option LineFault
-beside_block said = if is_some said.block then Some Word else without_memory said
+beside_block said = if is_some said.batch.block then Some Word else without_memory said
 
--- why a command may not stand here: a second `memory`, a second `room` or one after an access, an access beside a
--- block, or no `memory` before it
+-- why a command may not stand here: a second `memory`, a second `room` or one after an access or `next`, an access beside
+-- a block, or no `memory` before it
 abbrev pub misplaced : Sayings → Command → Option LineFault
 misplaced said (Memory base words) = if is_some said.memory then Some Word else None
-misplaced said (Room count) = if is_some said.room || has_access said.accesses then Some Word else without_memory said
+misplaced said (Room count) = if is_some said.room || has_begun said then Some Word else without_memory said
 misplaced said (Read addr) = beside_block said
 misplaced said (Write addr value) = beside_block said
 misplaced said (ReadMany addr count) = beside_block said
-misplaced said (Block addr count) = if has_access said.accesses then Some Word else without_memory said
+misplaced said (Block addr count) = if is_some_list said.batch.accesses then Some Word else without_memory said
+misplaced said (Verify addr value) = beside_block said
+misplaced said Next = without_memory said
 
 -- what follows from a number, which has to be one
 abbrev pub with_number : Option ℕ → (ℕ → Result Sayings LineFault) → Result Sayings LineFault
@@ -96,45 +116,63 @@ with_memory said base words =
 abbrev pub with_room : Sayings → ℕ → Result Sayings LineFault
 with_room said count = if nat_le count 65536 then Ok (record said { room = Some count }) else Err Range
 
--- `count` accesses more, from an address on; a script has at most 65,536
+-- `count` accesses more, from an address on; a call has at most 65,536
 abbrev pub with_accesses : Sayings → ℕ → ℕ → List Access → Result Sayings LineFault
 with_accesses said addr count accesses =
-    if are_words addr count && nat_le (length said.accesses + count) 65536
-    then Ok (record said { accesses = said.accesses ++ accesses }) else Err Range
+    if are_words addr count && nat_le (length said.batch.accesses + count) 65536
+    then Ok (record said { batch = record said.batch { accesses = said.batch.accesses ++ accesses } }) else Err Range
 
 -- the accesses are one block, from this address on
 abbrev pub as_block : ℕ → Result Sayings LineFault → Result Sayings LineFault
-as_block addr (Ok said) = Ok (record said { block = Some addr })
+as_block addr (Ok said) = Ok (record said { batch = record said.batch { block = Some addr } })
 as_block addr (Err fault) = Err fault
 
--- what a command that may stand here adds
-abbrev pub carried_out : Sayings → Command → Result Sayings LineFault
-carried_out said (Memory base words) =
+-- an access whose word is told
+abbrev pub as_expected : Expected → Result Sayings LineFault → Result Sayings LineFault
+as_expected read (Ok said) = Ok (record said { batch = record said.batch { expected = said.batch.expected ++ read ∷ [] } })
+as_expected read (Err fault) = Err fault
+
+-- a read whose word the line with this number tells
+abbrev pub with_verified : ℕ → Sayings → ℕ → ℕ → Result Sayings LineFault
+with_verified line said addr word =
+    as_expected (record { line = line; place = length said.batch.accesses; addr = addr; word = word })
+    (with_accesses said addr 1 (ReadAccess addr ∷ []))
+
+-- what follows is a further call
+abbrev pub with_next : Sayings → Sayings
+with_next said = record said { earlier = said.earlier ++ said.batch ∷ []; batch = nothing_listed }
+
+-- what a command that may stand here adds, on the line with this number
+abbrev pub carried_out : ℕ → Sayings → Command → Result Sayings LineFault
+carried_out line said (Memory base words) =
     with_number base (λ base. with_number words (λ words. with_memory said base words))
-carried_out said (Room count) = with_number count (λ count. with_room said count)
-carried_out said (Read addr) =
+carried_out line said (Room count) = with_number count (λ count. with_room said count)
+carried_out line said (Read addr) =
     with_number addr (λ addr. with_accesses said addr 1 (ReadAccess addr ∷ []))
-carried_out said (Write addr value) =
+carried_out line said (Write addr value) =
     with_number addr (λ addr. with_number value (λ value. with_accesses said addr 1 (WriteAccess addr value ∷ [])))
-carried_out said (ReadMany addr count) =
+carried_out line said (ReadMany addr count) =
     with_number addr (λ addr. with_number count (λ count. with_accesses said addr count (reads addr count)))
-carried_out said (Block addr count) =
+carried_out line said (Block addr count) =
     with_number addr (λ addr. with_number count (λ count.
     as_block addr (with_accesses said addr count (reads addr count))))
+carried_out line said (Verify addr value) =
+    with_number addr (λ addr. with_number value (λ value. with_verified line said addr value))
+carried_out line said Next = Ok (with_next said)
 
 abbrev pub fault_before : Option LineFault → Result Sayings LineFault → Result Sayings LineFault
 fault_before (Some fault) result = Err fault
 fault_before None result = result
 
-abbrev pub after_command : Sayings → Option Command → Result Sayings LineFault
-after_command said None = Err Word
-after_command said (Some command) = fault_before (misplaced said command) (carried_out said command)
+abbrev pub after_command : ℕ → Sayings → Option Command → Result Sayings LineFault
+after_command line said None = Err Word
+after_command line said (Some command) = fault_before (misplaced said command) (carried_out line said command)
 
--- what a line adds, by its words; a line without words adds nothing
-abbrev pub script_line : Sayings → Option (List (List ℕ)) → Result Sayings LineFault
-script_line said None = Err Word
-script_line said (Some []) = Ok said
-script_line said (Some (name ∷ arguments)) = after_command said (command_of (name ∷ arguments))
+-- what the line with this number adds, by its words; a line without words adds nothing
+abbrev pub script_line : ℕ → Sayings → Option (List (List ℕ)) → Result Sayings LineFault
+script_line line said None = Err Word
+script_line line said (Some []) = Ok said
+script_line line said (Some (name ∷ arguments)) = after_command line said (command_of (name ∷ arguments))
 
 -- what a whole script says, once its last line has been read: `memory` is there, and without `room` there is room
 -- for 65,536
@@ -145,8 +183,7 @@ script_meaning (Some extent) said =
       base = extent.base;
       words = extent.words;
       room = unwrap_or said.room 65536;
-      accesses = said.accesses;
-      block = said.block;
+      batches = said.earlier ++ said.batch ∷ [];
     })
 
 abbrev pub whole_script : Result Sayings ScriptFault → Result Meaning ScriptFault

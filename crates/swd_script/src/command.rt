@@ -1,6 +1,6 @@
 //! The commands of a script.
 ghost use Rattle.std.specs.Prelude.{◌≡◌};
-ghost use Rattle.swd_script.specs.Scripts.{command_of, long_command, short_command};
+ghost use Rattle.swd_script.specs.Scripts.{bare_command, command_of, long_command, short_command};
 ghost use Rattle.swd_script.specs.Words.{texts};
 
 use crate::numeral::{decimal_of, hex_of};
@@ -37,6 +37,13 @@ pub(crate) enum Command {
         addr: Option<u32>,
         count: Option<u32>,
     },
+    /// A read whose word is told.
+    Verify {
+        addr: Option<u32>,
+        value: Option<u32>,
+    },
+    /// What follows is a further call.
+    Next,
 }
 
 /// The command of a line's first words. `None` where the first is unknown, or where they are not as
@@ -45,11 +52,23 @@ pub(crate) fn command_of(words: &[Word]) -> Option<Command>
     ensures { result ≡ command_of (texts words.now) }
 {
     match words {
+        [name] => bare_command(name.as_slice()),
         [name, first] => short_command(name.as_slice(), first.as_slice()),
         [name, first, second] => {
             long_command(name.as_slice(), first.as_slice(), second.as_slice())
         }
         _ => None,
+    }
+}
+
+// The command that is a name alone.
+fn bare_command(name: &[u8]) -> Option<Command>
+    ensures { result ≡ bare_command name.now }
+{
+    if name == b"next".as_slice() {
+        Some(Command::Next)
+    } else {
+        None
     }
 }
 
@@ -96,6 +115,12 @@ fn long_command(name: &[u8], first: &[u8], second: &[u8]) -> Option<Command>
         return Some(Command::Block {
             addr: hex_of(first),
             count: decimal_of(second),
+        });
+    }
+    if name == b"verify".as_slice() {
+        return Some(Command::Verify {
+            addr: hex_of(first),
+            value: hex_of(second),
         });
     }
     None

@@ -3,14 +3,16 @@ ghost use Rattle.std.specs.Prelude.{◌≡◌, ◌+◌, ◌∷◌, [], length, n
 ghost use Rattle.std.specs.Prelude.{Some, Ok, Err, OnOk, IfErr, IfOk};
 ghost use Rattle.swd_script.specs.Scripts.{are_words};
 
+use crate::batch::{Batch, Expected};
 use crate::command::{Command, command_of};
 use crate::fault::{LineFault, ScriptFault};
 use crate::script::Script;
 use crate::words::Word;
 use std::alloc::Allocator;
+use std::mem;
 use swd_port::Access;
 
-// The most words of a memory, the most transfers in its log, and the most accesses of a script.
+// The most words of a memory, the most transfers in its log, and the most accesses of a call.
 const MOST: u32 = 65536;
 
 /// The words of a memory: the address of the first, and how many.
@@ -23,19 +25,22 @@ pub(crate) struct Extent {
 /// What the lines of a script say so far.
 #[derive(Drop)]
 pub(crate) struct Draft<A: Allocator> {
+    alloc: A,
     pub(crate) memory: Option<Extent>,
     pub(crate) room: Option<u32>,
-    pub(crate) accesses: Vec<Access, A>,
-    // The address of the first access, where they are the reads of one block.
-    pub(crate) block: Option<u32>,
+    // The calls that a line `next` ended, and the accesses since the last one.
+    pub(crate) earlier: Vec<Batch<A>, A>,
+    pub(crate) batch: Batch<A>,
 }
 
-impl<A: Allocator> Draft<A> {
+impl<A: Allocator + Copy> Draft<A> {
     ghost use Rattle.swd_port.specs.declared.access.Access.{Access};
     ghost use Rattle.swd_port.specs.PlainMemory.{reads};
-    ghost use Rattle.swd_script.specs.Scripts.{as_block, carried_out, misplaced, nothing_said, script_line, script_meaning};
-    ghost use Rattle.swd_script.specs.Scripts.{with_accesses, with_memory, with_room};
-    ghost use Rattle.swd_script.specs.Readers.{IsFaultOf, meaning, said};
+    ghost use Rattle.swd_script.specs.declared.batch.Expected.{Expected as TheExpected};
+    ghost use Rattle.swd_script.specs.Scripts.{as_block, as_expected, carried_out, has_begun, misplaced, nothing_said};
+    ghost use Rattle.swd_script.specs.Scripts.{script_line, script_meaning, with_accesses, with_memory, with_next, with_room};
+    ghost use Rattle.swd_script.specs.Scripts.{with_verified};
+    ghost use Rattle.swd_script.specs.Readers.{IsEndFault, IsFaultOf, meaning, said};
     ghost use Rattle.swd_script.specs.Words.{texts};
 
     /// Nothing is said yet.
@@ -43,17 +48,20 @@ impl<A: Allocator> Draft<A> {
         ensures { said result ≡ nothing_said }
     {
         Draft {
+            alloc,
             memory: None,
             room: None,
-            accesses: Vec::new(alloc),
-            block: None,
+            earlier: Vec::new(alloc),
+            batch: Batch::new(alloc),
         }
     }
 
-    /// Takes a line, by its first words. After an `Err` nothing is known of what is kept.
-    pub(crate) fn line(&mut self, words: &[Word]) -> Result<(), LineFault>
-        ensures ok { OnOk result (script_line (said self.old) (Some (texts words.now)) ≡ Ok (said self.new)) }
-        ensures err { IfErr result (λ fault. IsFaultOf fault (script_line (said self.old) (Some (texts words.now)))) }
+    /// Takes the line with this number, by its first words. After an `Err` nothing is known of what is
+    /// kept.
+    pub(crate) fn line(&mut self, number: u64, words: &[Word]) -> Result<(), LineFault>
+        ensures ok { OnOk result (script_line number (said self.old) (Some (texts words.now)) ≡ Ok (said self.new)) }
+        ensures err { IfErr result (λ fault.
+            IsFaultOf fault (script_line number (said self.old) (Some (texts words.now)))) }
     {
         if words.is_empty() {
             return Ok(());
@@ -64,7 +72,7 @@ impl<A: Allocator> Draft<A> {
         if let Some(fault) = self.misplaced(command) {
             return Err(fault);
         }
-        self.carry_out(command)
+        self.carry_out(number, command)
     }
 
     // Why a command may not stand here.
@@ -74,21 +82,31 @@ impl<A: Allocator> Draft<A> {
         match command {
             Command::Memory { .. } if self.memory.is_some() => Some(LineFault::Word),
             Command::Memory { .. } => None,
-            Command::Room { .. } if self.room.is_some() || !self.accesses.is_empty() => {
+            Command::Room { .. } if self.room.is_some() || self.has_begun() => {
                 Some(LineFault::Word)
             }
-            Command::Block { .. } if !self.accesses.is_empty() => Some(LineFault::Word),
-            Command::Read { .. } | Command::Write { .. } | Command::ReadMany { .. }
-                if self.block.is_some() => { Some(LineFault::Word) }
+            Command::Block { .. } if !self.batch.accesses.is_empty() => Some(LineFault::Word),
+            Command::Read { .. }
+            | Command::Write { .. }
+            | Command::ReadMany { .. }
+            | Command::Verify { .. }
+                if self.batch.block.is_some() => { Some(LineFault::Word) }
             _ if self.memory.is_none() => Some(LineFault::NoMemoryLine),
             _ => None,
         }
     }
 
-    // Adds what a command says that may stand here.
-    fn carry_out(&mut self, command: Command) -> Result<(), LineFault>
-        ensures ok { OnOk result (carried_out (said self.old) command ≡ Ok (said self.new)) }
-        ensures err { IfErr result (λ fault. IsFaultOf fault (carried_out (said self.old) command)) }
+    // Whether there was an access, or a further call.
+    fn has_begun(&self) -> bool
+        ensures { result ≡ has_begun (said self.now) }
+    {
+        !self.earlier.is_empty() || !self.batch.accesses.is_empty()
+    }
+
+    // Adds what a command says that may stand here, on the line with this number.
+    fn carry_out(&mut self, line: u64, command: Command) -> Result<(), LineFault>
+        ensures ok { OnOk result (carried_out line (said self.old) command ≡ Ok (said self.new)) }
+        ensures err { IfErr result (λ fault. IsFaultOf fault (carried_out line (said self.old) command)) }
     {
         match command {
             Command::Memory { base, words } => self.set_memory(number(base)?, number(words)?),
@@ -103,6 +121,11 @@ impl<A: Allocator> Draft<A> {
             }
             Command::ReadMany { addr, count } => self.add_reads(number(addr)?, number(count)?),
             Command::Block { addr, count } => self.add_block(number(addr)?, number(count)?),
+            Command::Verify { addr, value } => {
+                let addr = number(addr)?;
+                self.add_verified(line, addr, number(value)?)
+            }
+            Command::Next => self.end_batch(),
         }
     }
 
@@ -136,7 +159,7 @@ impl<A: Allocator> Draft<A> {
         if !are_words(addr, 1) || !self.has_room_for(1) {
             return Err(LineFault::Range);
         }
-        match self.accesses.push(access) {
+        match self.batch.accesses.push(access) {
             Ok(()) => Ok(()),
             Err(_) => Err(LineFault::Memory),
         }
@@ -152,14 +175,50 @@ impl<A: Allocator> Draft<A> {
             return Err(LineFault::Range);
         }
         for i in 0..count {
-            if self.accesses.push(Access::Read(addr + 4 * i)).is_err() {
+            if self
+                .batch
+                .accesses
+                .push(Access::Read(addr + 4 * i))
+                .is_err()
+            {
                 return Err(LineFault::Memory);
             }
         }
         Ok(())
     }
 
-    // Adds the reads of a block, the only accesses of a script.
+    // Adds a read whose word is told by the line with this number.
+    fn add_verified(&mut self, line: u64, addr: u32, word: u32) -> Result<(), LineFault>
+        ensures ok { OnOk result (with_verified line (said self.old) addr word ≡ Ok (said self.new)) }
+        ensures err { IfErr result (λ fault. IsFaultOf fault (with_verified line (said self.old) addr word)) }
+    {
+        let place = self.batch.accesses.len();
+        self.add(addr, Access::Read(addr))?;
+        let expected = Expected {
+            line,
+            place,
+            addr,
+            word,
+        };
+        match self.batch.expected.push(expected) {
+            Ok(()) => Ok(()),
+            Err(_) => Err(LineFault::Memory),
+        }
+    }
+
+    // Ends a call: what follows is a further one.
+    fn end_batch(&mut self) -> Result<(), LineFault>
+        ensures ok { OnOk result (with_next (said self.old) ≡ said self.new) }
+        ensures err { IfErr result (λ fault. fault ≡ LineFault.Memory) }
+    {
+        let batch = mem::replace(&mut self.batch, Batch::new(self.alloc));
+        match self.earlier.push(batch) {
+            Ok(()) => Ok(()),
+            Err(_) => Err(LineFault::Memory),
+        }
+    }
+
+    // Adds the reads of a block, the only accesses of a call.
     fn add_block(&mut self, addr: u32, count: u32) -> Result<(), LineFault>
         ensures ok { OnOk result (as_block addr (with_accesses (said self.old) addr count (reads addr count))
             ≡ Ok (said self.new)) }
@@ -167,31 +226,40 @@ impl<A: Allocator> Draft<A> {
             IsFaultOf fault (as_block addr (with_accesses (said self.old) addr count (reads addr count)))) }
     {
         self.add_reads(addr, count)?;
-        self.block = Some(addr);
+        self.batch.block = Some(addr);
         Ok(())
     }
 
-    // Whether a script may have so many accesses more.
+    // Whether a call may have so many accesses more.
     fn has_room_for(&self, count: u32) -> bool
-        ensures { result ≡ nat_le (length self.now.accesses.items + count) 65536 }
+        ensures { result ≡ nat_le (length self.now.batch.accesses.items + count) 65536 }
     {
-        self.accesses.len() as u64 + u64::from(count) <= u64::from(MOST)
+        self.batch.accesses.len() as u64 + u64::from(count) <= u64::from(MOST)
     }
 
-    /// What the whole script says.
-    pub(crate) fn finish(self) -> Result<Script<A>, ScriptFault>
+    /// What the whole script says, whose last line has this number.
+    pub(crate) fn finish(self, line: u64) -> Result<Script<A>, ScriptFault>
         ensures ok { IfOk result (λ script. script_meaning self.memory (said self) ≡ Ok (meaning script)) }
-        ensures err { IfErr result (λ fault. script_meaning self.memory (said self) ≡ Err fault) }
+        ensures err { IfErr result (λ fault. IsEndFault fault line (script_meaning self.memory (said self))) }
     {
-        let Some(extent) = self.memory else {
+        let Draft {
+            alloc: _,
+            memory,
+            room,
+            earlier: mut batches,
+            batch,
+        } = self;
+        let Some(extent) = memory else {
             return Err(ScriptFault::NoMemoryLine { line: 1 });
         };
+        if batches.push(batch).is_err() {
+            return Err(ScriptFault::Memory { line });
+        }
         Ok(Script {
             base: extent.base,
             words: extent.words,
-            room: self.room.unwrap_or(MOST),
-            accesses: self.accesses,
-            block: self.block,
+            room: room.unwrap_or(MOST),
+            batches,
         })
     }
 }

@@ -11,7 +11,8 @@ use thiserror::Error;
 #[derive(Clone, Copy, Debug, PartialEq, Eq, Error)]
 pub enum ScriptFault {
     /// An unknown word, a wrong number of words, a byte that is neither printable ASCII nor a
-    /// blank, a second `memory`, a second `room`, or `room` after an access.
+    /// blank, a second `memory`, a second `room`, `room` after an access or `next`, or an access beside
+    /// a block.
     #[error("line {line}: word")]
     Word { line: u64 },
     /// Something else than the digits of a number, too many of them, or a number above 2^32 - 1.

@@ -1,6 +1,7 @@
-//! Texts of a run: the script with its accesses, and the plan of what happens to the requests.
+//! Texts of a run: the script with its calls, and the plan of what happens to the requests.
 #![tactic(auto)]
 
+mod batch;
 mod command;
 mod draft;
 mod fault;
@@ -12,6 +13,7 @@ mod plan;
 mod script;
 mod words;
 
+pub use batch::{Batch, Expected};
 pub use fault::ScriptFault;
 pub use plan::{PlanReader, read_plan};
 pub use script::{Script, ScriptReader, read_script};

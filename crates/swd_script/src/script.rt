@@ -1,16 +1,16 @@
-//! Scripts: a memory, and accesses of it.
+//! Scripts: a memory, and calls with accesses of it.
 ghost use Rattle.std.specs.Prelude.{◌≡◌, ◌++◌, ◌∷◌, [], ℕ, List, Ok, OnOk, IfErr, IfOk, IfSome};
 ghost use Rattle.swd_io.specs.Pieces.{IsText, IsUnread};
 ghost use Rattle.swd_script.specs.Readers.{IsScriptFault, meaning};
 ghost use Rattle.swd_script.specs.Scripts.{script_of};
 
+use crate::batch::Batch;
 use crate::draft::Draft;
 use crate::fault::ScriptFault;
 use crate::lines::Lines;
 use std::alloc::Allocator;
 use std::io::Read;
 use swd_io::{Consumer, Unread, read_pieces};
-use swd_port::Access;
 
 /// What a script says.
 #[derive(Drop)]
@@ -21,10 +21,8 @@ pub struct Script<A: Allocator> {
     pub words: u32,
     /// How many transfers its log has room for, at most 65,536.
     pub room: u32,
-    /// At most 65,536 accesses, each at a multiple of 4.
-    pub accesses: Vec<Access, A>,
-    /// The address of the first access, where they are the reads of one block.
-    pub block: Option<u32>,
+    /// The accesses of its calls, the first call first. There is one call at least, which may have none.
+    pub batches: Vec<Batch<A>, A>,
 }
 
 /// Reads a script, which comes in pieces (`Consumer::take`). At the first fault of the text it stops,
@@ -38,7 +36,7 @@ pub struct ScriptReader<A: Allocator> {
     draft: Draft<A>,
 }
 
-impl<A: Allocator> ScriptReader<A> {
+impl<A: Allocator + Copy> ScriptReader<A> {
     ghost use Rattle.swd_script.specs.Readers.{ReadsScript};
 
     /// A reader that has read nothing.
@@ -66,7 +64,7 @@ impl<A: Allocator> ScriptReader<A> {
         let Some(words) = self.lines.feed() else {
             return Err(ScriptFault::Word { line });
         };
-        match self.draft.line(words.as_slice()) {
+        match self.draft.line(line, words.as_slice()) {
             Ok(()) => Ok(()),
             Err(fault) => Err(fault.at(line)),
         }
@@ -76,7 +74,7 @@ impl<A: Allocator> ScriptReader<A> {
     ///
     /// # Errors
     ///
-    /// The first fault of the text. `Memory` where the list of accesses could not grow.
+    /// The first fault of the text. `Memory` where a list of accesses could not grow, or that of calls.
     pub fn finish(self) -> Result<Script<A>, ScriptFault>
         ensures ok { IfOk result (λ script. (seen : List ℕ) → ReadsScript self seen
             → script_of seen ≡ Ok (meaning script)) }
@@ -88,14 +86,14 @@ impl<A: Allocator> ScriptReader<A> {
         let Some(words) = lines.finish() else {
             return Err(ScriptFault::Word { line });
         };
-        match draft.line(words.as_slice()) {
-            Ok(()) => draft.finish(),
+        match draft.line(line, words.as_slice()) {
+            Ok(()) => draft.finish(line),
             Err(fault) => Err(fault.at(line)),
         }
     }
 }
 
-impl<A: Allocator> Consumer<()> for ScriptReader<A> {
+impl<A: Allocator + Copy> Consumer<()> for ScriptReader<A> {
     ghost use Rattle.swd_io.specs.Pieces.{LeadsOn, LeadsToEnd};
     ghost use Rattle.swd_io.proofs.PieceLemmas.{leads_nowhere, leads_further, leads_to_later_end};
     ghost use Rattle.swd_script.specs.Readers.{HasReadScript, RefusesScript};
@@ -130,9 +128,9 @@ impl<A: Allocator> Consumer<()> for ScriptReader<A> {
 ///
 /// # Errors
 ///
-/// The first fault of the text. `Memory` where the list of accesses could not grow. `Reader` where
+/// The first fault of the text. `Memory` where a list of accesses could not grow, or that of calls. `Reader` where
 /// the reader failed, or did not end within 2^64 - 1 reads.
-pub fn read_script<R: Read, A: Allocator>(
+pub fn read_script<R: Read, A: Allocator + Copy>(
     alloc: A,
     reader: &mut R,
 ) -> Result<Script<A>, Unread<ScriptFault>>

@@ -1,5 +1,5 @@
 //! Scripts and plans on worked texts, for every cut, and with memory refused.
-use crate::{PlanReader, Script, ScriptFault, ScriptReader};
+use crate::{Expected, PlanReader, Script, ScriptFault, ScriptReader};
 use linked_list_allocator::LocalHeap;
 use std::alloc::{Allocator, Global};
 use std::test::Fail;
@@ -7,7 +7,11 @@ use swd_io::Consumer;
 use swd_port::{Access, Mark};
 
 // The script that a text in two pieces says.
-fn script_in<A: Allocator>(alloc: A, text: &[u8], cut: usize) -> Result<Script<A>, ScriptFault> {
+fn script_in<A: Allocator + Copy>(
+    alloc: A,
+    text: &[u8],
+    cut: usize,
+) -> Result<Script<A>, ScriptFault> {
     let cut = cut.min(text.len());
     let mut reader = ScriptReader::new(alloc);
     reader.take(&mut (), &text[..cut])?;
@@ -22,6 +26,20 @@ fn plan_in<A: Allocator>(alloc: A, text: &[u8], cut: usize) -> Result<Vec<Mark, 
     reader.take(&mut (), &text[..cut])?;
     reader.take(&mut (), &text[cut..])?;
     reader.finish()
+}
+
+// The accesses of a call, and the address of its block.
+fn call<A: Allocator>(script: &Script<A>, place: usize) -> Option<(&[Access], Option<u32>)> {
+    let batch = script.batches.get(place)?;
+    Some((batch.accesses.as_slice(), batch.block))
+}
+
+// The accesses of a script's first call.
+fn accesses<A: Allocator>(script: &Script<A>) -> &[Access] {
+    match call(script, 0) {
+        Some((accesses, _)) => accesses,
+        None => &[],
+    }
 }
 
 fn script_fault(alloc: Global, text: &[u8]) -> Option<ScriptFault> {
@@ -48,7 +66,7 @@ fn a_script_is_read_however_it_is_cut(rt: HostRuntime) -> Result<(), Fail> {
         assert_eq!(rt; script.base, 0x2000_0000);
         assert_eq!(rt; script.words, 16);
         assert_eq!(rt; script.room, 65536);
-        assert_eq!(rt; script.accesses.as_slice(), WORKED_ACCESSES.as_slice());
+        assert_eq!(rt; accesses(&script), WORKED_ACCESSES.as_slice());
     }
     Ok(())
 }
@@ -70,8 +88,8 @@ fn blanks_comments_and_line_ends_are_passed_over(rt: HostRuntime) -> Result<(), 
         assert_eq!(rt; script.base, 0x2000_0000);
         assert_eq!(rt; script.words, 16);
         assert_eq!(rt; script.room, 5);
-        let accesses = [Access::Write(0x2000_000c, 0xdead_beef), Access::Read(0)];
-        assert_eq!(rt; script.accesses.as_slice(), accesses.as_slice());
+        let told = [Access::Write(0x2000_000c, 0xdead_beef), Access::Read(0)];
+        assert_eq!(rt; accesses(&script), told.as_slice());
     }
     Ok(())
 }
@@ -81,7 +99,7 @@ fn numbers_of_every_length_are_read(rt: HostRuntime) -> Result<(), Fail> {
     let text =
         b"memory 0 1\nw 4 1\nw 10 aB\nw 100 0aBc\nw 1000 1234567\nw 0000000c FFFFFFFF\nrn 00000010 0000000002\n";
     let script = script_in(rt.alloc(), text.as_slice(), 0)?;
-    let accesses = [
+    let told = [
         Access::Write(4, 1),
         Access::Write(0x10, 0xab),
         Access::Write(0x100, 0xabc),
@@ -90,7 +108,7 @@ fn numbers_of_every_length_are_read(rt: HostRuntime) -> Result<(), Fail> {
         Access::Read(0x10),
         Access::Read(0x14),
     ];
-    assert_eq!(rt; script.accesses.as_slice(), accesses.as_slice());
+    assert_eq!(rt; accesses(&script), told.as_slice());
     Ok(())
 }
 
@@ -104,10 +122,7 @@ fn the_greatest_numbers_are_in_range(rt: HostRuntime) -> Result<(), Fail> {
     assert_eq!(rt; script.base, 0xfffc_0000);
     assert_eq!(rt; script.words, 65536);
     assert_eq!(rt; script.room, 65536);
-    assert_eq!(rt;
-        script.accesses.as_slice(),
-        [Access::Read(0xffff_fffc)].as_slice()
-    );
+    assert_eq!(rt; accesses(&script), [Access::Read(0xffff_fffc)].as_slice());
     let script = script_in(
         rt.alloc(),
         b"memory 0 1\nroom 0\nrn fffffff8 2".as_slice(),
@@ -115,7 +130,7 @@ fn the_greatest_numbers_are_in_range(rt: HostRuntime) -> Result<(), Fail> {
     )?;
     assert_eq!(rt; script.room, 0);
     assert_eq!(rt;
-        script.accesses.as_slice(),
+        accesses(&script),
         [Access::Read(0xffff_fff8), Access::Read(0xffff_fffc)].as_slice()
     );
     Ok(())
@@ -125,10 +140,14 @@ fn the_greatest_numbers_are_in_range(rt: HostRuntime) -> Result<(), Fail> {
 fn a_block_is_the_only_access_line(rt: HostRuntime) -> Result<(), Fail> {
     let text = b"memory 20000000 2\nroom 9\n# all of it\nblock 20000000 3\n\n".as_slice();
     let script = script_in(rt.alloc(), text, 0)?;
-    assert_eq!(rt; script.block, Some(0x2000_0000));
+    assert_eq!(rt; script.batches.len(), 1);
+    assert_eq!(rt;
+        call(&script, 0).and_then(|(_, block)| block),
+        Some(0x2000_0000)
+    );
     assert_eq!(rt; script.room, 9);
     assert_eq!(rt;
-        script.accesses.as_slice(),
+        accesses(&script),
         [
             Access::Read(0x2000_0000),
             Access::Read(0x2000_0004),
@@ -141,8 +160,96 @@ fn a_block_is_the_only_access_line(rt: HostRuntime) -> Result<(), Fail> {
         b"memory 20000000 2\nrn 20000000 3\n".as_slice(),
         0,
     )?;
-    assert_eq!(rt; apart.block, None);
-    assert_eq!(rt; apart.accesses.as_slice(), script.accesses.as_slice());
+    assert_eq!(rt; call(&apart, 0).and_then(|(_, block)| block), None);
+    assert_eq!(rt; accesses(&apart), accesses(&script));
+    Ok(())
+}
+
+#[test]
+fn next_begins_a_further_call(rt: HostRuntime) -> Result<(), Fail> {
+    let text =
+        b"memory 20000000 4\nroom 9\nw 20000000 5\nnext\nblock 20000000 2 # read back\n next\t#\nnext\nrn 20000004 1\n";
+    for cut in 0..=text.len() {
+        let script = script_in(rt.alloc(), text.as_slice(), cut)?;
+        assert_eq!(rt; script.batches.len(), 4);
+        assert_eq!(rt;
+            call(&script, 0),
+            Some(([Access::Write(0x2000_0000, 5)].as_slice(), None))
+        );
+        let block = [Access::Read(0x2000_0000), Access::Read(0x2000_0004)];
+        assert_eq!(rt;
+            call(&script, 1),
+            Some((block.as_slice(), Some(0x2000_0000)))
+        );
+        assert_eq!(rt; call(&script, 2), Some(([].as_slice(), None)));
+        assert_eq!(rt;
+            call(&script, 3),
+            Some(([Access::Read(0x2000_0004)].as_slice(), None))
+        );
+        for batch in script.batches.as_slice() {
+            assert!(rt; batch.expected.is_empty());
+        }
+    }
+    Ok(())
+}
+
+#[test]
+fn a_script_has_more_than_65536_accesses_in_several_calls(rt: HostRuntime) -> Result<(), Fail> {
+    let text = b"memory 0 1\nrn 0 65536\nnext\nrn 0 34463\nr 4\nnext\nblock 0 65536\n";
+    let script = script_in(rt.alloc(), text.as_slice(), 0)?;
+    let mut lengths = script
+        .batches
+        .as_slice()
+        .iter()
+        .map(|batch| batch.accesses.len());
+    assert_eq!(rt; lengths.next(), Some(65536));
+    assert_eq!(rt; lengths.next(), Some(34464));
+    assert_eq!(rt; lengths.next(), Some(65536));
+    assert_eq!(rt; lengths.next(), None);
+    Ok(())
+}
+
+#[test]
+fn verify_is_a_read_with_its_word(rt: HostRuntime) -> Result<(), Fail> {
+    let text =
+        b"memory 20000000 4\nw 20000000 5\nverify 20000000 5\n\nr 20000004\nverify 2000000C DeadBeef\nnext\nverify 20000008 0\n";
+    let script = script_in(rt.alloc(), text.as_slice(), 0)?;
+    assert_eq!(rt;
+        accesses(&script),
+        [
+            Access::Write(0x2000_0000, 5),
+            Access::Read(0x2000_0000),
+            Access::Read(0x2000_0004),
+            Access::Read(0x2000_000c),
+        ]
+        .as_slice()
+    );
+    let mut told = script
+        .batches
+        .as_slice()
+        .iter()
+        .map(|batch| batch.expected.as_slice());
+    let here = Expected {
+        line: 3,
+        place: 1,
+        addr: 0x2000_0000,
+        word: 5,
+    };
+    let there = Expected {
+        line: 6,
+        place: 3,
+        addr: 0x2000_000c,
+        word: 0xdead_beef,
+    };
+    assert_eq!(rt; told.next(), Some([here, there].as_slice()));
+    let further = Expected {
+        line: 8,
+        place: 0,
+        addr: 0x2000_0008,
+        word: 0,
+    };
+    assert_eq!(rt; told.next(), Some([further].as_slice()));
+    assert_eq!(rt; told.next(), None);
     Ok(())
 }
 
@@ -164,6 +271,12 @@ fn a_line_is_wrong_in_its_words(rt: HostRuntime) {
         b"memory 0 1\nblock 0\n",
         b"memory 0 1\nblock 0 1 1\n",
         b"memory 0 1\nblocks 0 1\n",
+        b"memory 0 1\nnext 1\n",
+        b"memory 0 1\nNext\n",
+        b"memory 0 1\nnextnextnex\n",
+        b"memory 0 1\nverify 0\n",
+        b"memory 0 1\nverify 0 0 0\n",
+        b"memory 0 1\nverif 0 0\n",
         b"memory 0 1\nr 0\x00\n",
         b"memory 0 1\nr 0\x7f\n",
         b"memory 0 1\nr \xc3\xa9\n",
@@ -189,6 +302,8 @@ fn a_line_is_wrong_in_its_words(rt: HostRuntime) {
         b"memory 0 1\nblock 0 1\nrn 0 1\n",
         b"memory 0 1\nblock 0 1\nblock 4 1\n",
         b"memory 0 1\nblock 0 1\nroom 3\n",
+        b"memory 0 1\nblock 0 1\nverify 0 0\n",
+        b"memory 0 1\nnext\nroom 3\n",
         b"memory 0 1\nr 0\nblock 0 1\n",
         b"memory 0 1\nw 0 0\nblock g g\n",
         b"memory 0 1\nblock 0 1\nr g\n",
@@ -368,11 +483,11 @@ fn the_first_fault_of_a_line_is_told(rt: HostRuntime) {
 }
 
 #[test]
-fn a_script_has_at_most_65536_accesses(rt: HostRuntime) -> Result<(), Fail> {
+fn a_call_has_at_most_65536_accesses(rt: HostRuntime) -> Result<(), Fail> {
     let script = script_in(rt.alloc(), b"memory 0 1\nrn 0 65536\n".as_slice(), 0)?;
-    assert_eq!(rt; script.accesses.len(), 65536);
+    assert_eq!(rt; accesses(&script).len(), 65536);
     assert_eq!(rt;
-        script.accesses.as_slice().last().copied(),
+        accesses(&script).last().copied(),
         Some(Access::Read(0x3_fffc))
     );
     assert_eq!(rt;
@@ -408,7 +523,7 @@ fn a_long_line_is_read(rt: HostRuntime) -> Result<(), Fail> {
     }
     reader.take(&mut (), b"8".as_slice())?;
     let script = reader.finish()?;
-    assert_eq!(rt; script.accesses.as_slice(), [Access::Read(8)].as_slice());
+    assert_eq!(rt; accesses(&script), [Access::Read(8)].as_slice());
     Ok(())
 }
 
@@ -492,9 +607,16 @@ fn each_growth_of_a_script_is_refused(rt: HostRuntime) -> Result<(), Fail> {
     let mut refused = 0u32;
     for size in 1..200usize {
         let heap = LocalHeap::new(rt.alloc(), size * 64)?;
-        match script_in(&heap, b"memory 0 1\n\nw 0 1\nrn 0 200\nr 4\n".as_slice(), 3) {
-            Ok(script) => assert_eq!(rt; script.accesses.len(), 202),
-            Err(ScriptFault::Memory { line: 3 | 4 | 5 }) => refused = refused.saturating_add(1),
+        match script_in(
+            &heap,
+            b"memory 0 1\n\nw 0 1\nrn 0 200\nr 4\nnext\nverify 0 1\n".as_slice(),
+            3,
+        ) {
+            Ok(script) => {
+                assert_eq!(rt; accesses(&script).len(), 202);
+                assert_eq!(rt; script.batches.len(), 2);
+            }
+            Err(ScriptFault::Memory { line: 3..=8 }) => refused = refused.saturating_add(1),
             Err(_) => assert!(rt; false),
         }
     }

@@ -4,4 +4,6 @@ use Rattle.swd_port.specs.PlainMemory.{reads}
 use Rattle.swd_script.proofs.draft.Draft.add_reads.Given as goal
 
 abbrev pub invariant-loop-i : goal.invariant-loop-i
-invariant-loop-i g l = said l.self ≡ record (said l.initial.self) { accesses = l.initial.self.accesses.items ++ reads l.addr l.i }
+invariant-loop-i g l =
+    let start = said l.initial.self in
+    said l.self ≡ record start { batch = record start.batch { accesses = start.batch.accesses ++ reads l.addr l.i } }

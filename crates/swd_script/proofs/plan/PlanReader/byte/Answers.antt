@@ -19,7 +19,7 @@ returns-in-Ok-clause-ok g c = λ seen r.
     record {
       ended = r.ended ++ fed.line ∷ [];
       splits = subst (λ b. Splits (seen ++ b ∷ []) (r.ended ++ fed.line ∷ []) c.feed.new.self) feed fed.next;
-      so_far = after_line plan_line [] old (c.add_mark.new.marks.items) r.ended fed.line r.so_far (sym line_is ∙ c.in-Ok.ensures.ok);
+      so_far = after_line (λ number. plan_line) [] old (c.add_mark.new.marks.items) r.ended fed.line r.so_far (sym line_is ∙ c.in-Ok.ensures.ok);
     }
 
 pub returns-in_default-clause-err : goal.returns-in_default-clause-err

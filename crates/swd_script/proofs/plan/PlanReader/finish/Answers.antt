@@ -21,7 +21,7 @@ returns-in-Ok-clause-ok g c = λ seen r.
     let last : IsLast seen r.ended (Some c.in-Some.words) = c.in-Some.ensures seen r.ended r.splits in
     let line_is : plan_line old (Some (texts c.as_slice.result.now)) ≡ plan_line old (line_words last.line) =
     ap (λ k. plan_line old (Some (texts k))) c.as_slice.ensures.value ∙ plan_words old last.line c.in-Some.words.items last.scan in
-    ap (after_lines plan_line [] 0) last.law ∙ after_line plan_line [] old c.add_mark.new.marks.items r.ended last.line r.so_far (sym line_is ∙ c.in-Ok.ensures.ok)
+    ap (after_lines (λ number. plan_line) [] 0) last.law ∙ after_line (λ number. plan_line) [] old c.add_mark.new.marks.items r.ended last.line r.so_far (sym line_is ∙ c.in-Ok.ensures.ok)
 
 pub returns-in-Err-clause-err : goal.returns-in-Err-clause-err
 returns-in-Err-clause-err g c = λ seen r.
