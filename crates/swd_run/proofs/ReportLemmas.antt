@@ -1,34 +1,52 @@
 -- Laws of the text of a report.
 use Rattle.std.proofs.lemmas.List.{append-nil, drop_all, drop_min, drop-take, length-take, take_all, take_min}
 use Rattle.std.proofs.Math.Seq.{drop-cons}
-use Rattle.std.proofs.Common.{◌≡◌, ℕ, zero, suc, ◌+◌, ◌-◌, ◌<◌, ◌≤◌, List, [], ◌∷◌, ◌++◌, length, take, drop, get_or, min, refl, sym, ap, ap₂, ◌∙◌, append_assoc, arith, add-one}
+use Rattle.std.proofs.Common.{◌≡◌, ℕ, zero, suc, ◌+◌, ◌-◌, ◌<◌, ◌≤◌, List, [], ◌∷◌, ◌++◌, length, map, take, drop, get_or, min, refl, sym, ap, ap₂, ◌∙◌, append_assoc, arith, add-one, subst, Option}
+use Rattle.std.specs.Io.KnownBytes.{Appends}
+use Rattle.swd_io.specs.Blocks.{Stopped}
 use Rattle.swd_port.specs.declared.access.Access.{Access}
 use Rattle.swd_port.specs.declared.access.Answer.{Answer}
 use Rattle.swd_run.specs.declared.going_on.Stop.{Stop}
-use Rattle.swd_run.specs.Reports.{answer_line, answer_lines, lines_between, lines_from, resume_line}
+use Rattle.swd_script.specs.declared.batch.Batch.{Batch}
+use Rattle.swd_script.specs.Readers.{listed}
+use Rattle.swd_run.specs.declared.going_on.Resumed.{Resumed}
+use Rattle.swd_run.specs.declared.verified.Difference.{Difference}
+use Rattle.swd_run.specs.Reports.{answer_lines, lines_between, lines_from, pair_texts, resume_line, session_text}
+use Rattle.swd_run.specs.Sessions.{done_of}
+use Rattle.swd_run.specs.Verified.{first_difference}
 
--- one line more
-pub lines_more : (accesses : List Access) (answers : List Answer) (i : ℕ) (d : Access) (e : Answer) → i < length accesses → i < length answers →
-    answer_lines (take (i + 1) accesses) (take (i + 1) answers) ≡ answer_lines (take i accesses) (take i answers) ++ (answer_line (get_or accesses i d) (get_or answers i e) ++ 10 ∷ [])
-lines_more accesses answers i d e h k = ap (λ n. answer_lines (take n accesses) (take n answers)) (add-one i) ∙ more accesses answers i h k
+-- one text more
+pub pairs_more : {X Y : Type 0} (text : X → Y → List ℕ) (xs : List X) (ys : List Y) (i : ℕ) (d : X) (e : Y)
+    → i < length xs → i < length ys
+    → pair_texts text (take (i + 1) xs) (take (i + 1) ys) ≡ pair_texts text (take i xs) (take i ys) ++ text (get_or xs i d) (get_or ys i e)
+pairs_more {X} {Y} text xs ys i d e h k =
+    ap (λ n. pair_texts text (take n xs) (take n ys)) (add-one i) ∙ more xs ys i h k
   where
-    more : (accesses : List Access) (answers : List Answer) (i : ℕ) → i < length accesses → i < length answers →
-        answer_lines (take (suc i) accesses) (take (suc i) answers) ≡ answer_lines (take i accesses) (take i answers) ++ (answer_line (get_or accesses i d) (get_or answers i e) ++ 10 ∷ [])
-    more [] answers i h k = absurd (omega arith)
-    more (access ∷ accesses) [] i h k = absurd (omega arith)
-    more (access ∷ accesses) (answer ∷ answers) zero h k = append-nil (answer_line access answer ++ 10 ∷ [])
-    more (access ∷ accesses) (answer ∷ answers) (suc i) h k =
-        ap (λ x. (answer_line access answer ++ 10 ∷ []) ++ x) (more accesses answers i (omega arith) (omega arith))
-        ∙ sym (append_assoc (answer_line access answer ++ 10 ∷ []) (answer_lines (take i accesses) (take i answers)) (answer_line (get_or accesses i d) (get_or answers i e) ++ 10 ∷ []))
+    more : (xs : List X) (ys : List Y) (i : ℕ) → i < length xs → i < length ys
+        → pair_texts text (take (suc i) xs) (take (suc i) ys) ≡ pair_texts text (take i xs) (take i ys) ++ text (get_or xs i d) (get_or ys i e)
+    more [] ys i h k = absurd (omega arith)
+    more (x ∷ xs) [] i h k = absurd (omega arith)
+    more (x ∷ xs) (y ∷ ys) zero h k = append-nil (text x y)
+    more (x ∷ xs) (y ∷ ys) (suc i) h k =
+        ap (λ t. text x y ++ t) (more xs ys i (omega arith) (omega arith))
+        ∙ sym (append_assoc (text x y) (pair_texts text (take i xs) (take i ys)) (text (get_or xs i d) (get_or ys i e)))
 
--- the lines are all there once one of the lists ends
-pub lines_whole : (accesses : List Access) (answers : List Answer) (i : ℕ) → i ≡ min (length accesses) (length answers) → answer_lines (take i accesses) (take i answers) ≡ answer_lines accesses answers
-lines_whole [] answers zero h = refl
-lines_whole [] answers (suc i) h = absurd (omega arith)
-lines_whole (access ∷ accesses) [] zero h = refl
-lines_whole (access ∷ accesses) [] (suc i) h = absurd (omega arith)
-lines_whole (access ∷ accesses) (answer ∷ answers) zero h = absurd (omega arith)
-lines_whole (access ∷ accesses) (answer ∷ answers) (suc i) h = ap (λ x. (answer_line access answer ++ 10 ∷ []) ++ x) (lines_whole accesses answers i (omega arith))
+-- the texts are all there once one of the lists ends
+pub pairs_whole : {X Y : Type 0} (text : X → Y → List ℕ) (xs : List X) (ys : List Y) (i : ℕ) → i ≡ min (length xs) (length ys)
+    → pair_texts text (take i xs) (take i ys) ≡ pair_texts text xs ys
+pairs_whole text [] ys zero h = refl
+pairs_whole text [] ys (suc i) h = absurd (omega arith)
+pairs_whole text (x ∷ xs) [] zero h = refl
+pairs_whole text (x ∷ xs) [] (suc i) h = absurd (omega arith)
+pairs_whole text (x ∷ xs) (y ∷ ys) zero h = absurd (omega arith)
+pairs_whole text (x ∷ xs) (y ∷ ys) (suc i) h = ap (λ t. text x y ++ t) (pairs_whole text xs ys i (omega arith))
+
+-- the texts of what items say
+pub pairs_map : {X Y U V : Type 0} (text : U → V → List ℕ) (f : X → U) (h : Y → V) (xs : List X) (ys : List Y)
+    → pair_texts text (map f xs) (map h ys) ≡ pair_texts (λ x y. text (f x) (h y)) xs ys
+pairs_map text f h [] ys = refl
+pairs_map text f h (x ∷ xs) [] = refl
+pairs_map text f h (x ∷ xs) (y ∷ ys) = ap (λ t. text (f x) (h y) ++ t) (pairs_map text f h xs ys)
 
 -- ---- the parts of a report that was resumed
 
@@ -68,3 +86,46 @@ pub lines_end : (accesses : List Access) (answers : List Answer) (stops : List S
     text ++ lines_from from (drop i stops) accesses answers ≡ whole → text ++ answer_lines (drop from accesses) (drop from answers) ≡ whole
 lines_end accesses answers stops i from text whole high e =
     ap (λ l. text ++ lines_from from l accesses answers) (sym (drop_all i stops high)) ∙ e
+
+-- ---- the batches and runs that are kept
+
+-- a text up to some pairs, and the rest
+pub pairs_rest : {X Y : Type 0} (text : X → Y → List ℕ) (xs : List X) (ys : List Y) (i : ℕ)
+    → pair_texts text (take i xs) (take i ys) ++ pair_texts text (drop i xs) (drop i ys) ≡ pair_texts text xs ys
+pairs_rest text [] [] zero = refl
+pairs_rest text [] [] (suc i) = refl
+pairs_rest text [] (y ∷ ys) zero = refl
+pairs_rest text [] (y ∷ ys) (suc i) = refl
+pairs_rest text (x ∷ xs) [] zero = refl
+pairs_rest text (x ∷ xs) [] (suc i) = none (drop i xs)
+  where
+    none : (rest : List _) → pair_texts text rest [] ≡ []
+    none [] = refl
+    none (first ∷ rest) = refl
+pairs_rest text (x ∷ xs) (y ∷ ys) zero = refl
+pairs_rest text (x ∷ xs) (y ∷ ys) (suc i) =
+    append_assoc (text x y) (pair_texts text (take i xs) (take i ys)) (pair_texts text (drop i xs) (drop i ys))
+    ∙ ap (λ t. text x y ++ t) (pairs_rest text xs ys i)
+
+module _ {A : Type 0} (start end : Option (List ℕ)) (batches kept_batches : List (Batch A)) (runs kept_runs : List (Resumed A))
+    (same_batches : batches ≡ kept_batches) (same_runs : runs ≡ kept_runs) where
+  -- what went out is the text of those that are kept
+  pub appended : Appends start end (session_text (map listed batches) (map done_of runs))
+      → Appends start end (session_text (map listed kept_batches) (map done_of kept_runs))
+  appended h =
+      subst (λ ran. Appends start end (session_text (map listed kept_batches) (map done_of ran))) same_runs
+      (subst (λ list. Appends start end (session_text (map listed list) (map done_of runs))) same_batches h)
+
+  pub stopped : (written : ℕ) → Stopped written start end (session_text (map listed batches) (map done_of runs))
+      → Stopped written start end (session_text (map listed kept_batches) (map done_of kept_runs))
+  stopped written h =
+      subst (λ ran. Stopped written start end (session_text (map listed kept_batches) (map done_of ran))) same_runs
+      (subst (λ list. Stopped written start end (session_text (map listed list) (map done_of runs))) same_batches h)
+
+-- and the first difference is theirs
+pub first_of : {A : Type 0} (found : Option Difference) (batches kept_batches : List (Batch A)) (runs kept_runs : List (Resumed A))
+    → batches ≡ kept_batches → runs ≡ kept_runs → found ≡ first_difference (map listed batches) (map done_of runs)
+    → found ≡ first_difference (map listed kept_batches) (map done_of kept_runs)
+first_of found batches kept_batches runs kept_runs same_batches same_runs h =
+    h ∙ ap (λ list. first_difference (map listed list) (map done_of runs)) same_batches
+    ∙ ap (λ ran. first_difference (map listed kept_batches) (map done_of ran)) same_runs

@@ -17,9 +17,9 @@ use Rattle.swd_port.specs.declared.access.Access.{Access}
 use Rattle.swd_port.specs.PlainMemory.{PlainMemory, reads}
 use Rattle.swd_script.specs.Laws.{IsBlock}
 use Rattle.swd_host.specs.Reports.{Closes, EndsAt, Fits, IsAtRest, RunFits, RunsWithin, Told}
-use Rattle.swd_script.specs.Scripts.{Meaning}
-use Rattle.swd_run.specs.declared.going_on.Stop.{Stop}
-use Rattle.swd_run.specs.Running.{IsExcused, RunsAs, RunsOn, AreRead, Ran, memory_of, most_begun}
+use Rattle.swd_script.specs.Scripts.{Listed, Meaning}
+use Rattle.swd_run.specs.Running.{IsExcused, RunsAs, RunsScript, AreRead, Ran, most_begun}
+use Rattle.swd_run.specs.Sessions.{Done}
 use Rattle.swd_run.specs.Tracing.{AreItems, IsTraceOf, IsOfTrace, IsRecorded}
 
 pub excused : (ended : End) (tries : ℕ) (marks : List Mark) (s t : Port) →
@@ -41,23 +41,19 @@ made_rests m s is_made = record {
   settled = ap (λ x. x.target.pending) is_made;
 }
 
--- a run from a target that was just made, which met at most the marks of a plan
-pub run_as : (tries : ℕ) (script : Meaning) (marks : List Mark) (told : Told) (s t : Port) (due : Due)
-    → s ≡ made 731911287 (memory_of script)
+-- a run from a target at rest, which met at most the marks of a plan
+pub run_as : (tries : ℕ) (batch : Listed) (marks : List Mark) (told : Told) (s t : Port) (due : Due) → IsAtRest s
+    → s.tally.lost ≤ lost_among marks
     → t.tally.disturbed ≤ disturbed_among marks → t.tally.lost ≤ lost_among marks
-    → Closes 0 (most_begun script) script.accesses tries told due
-    → RunsWithin (most_begun script) script.accesses tries told s t → RunsAs tries script marks told
-run_as tries script marks told s t due is_made p q closes over =
-    let fits : RunFits (most_begun script) script.accesses tries s.target.memory told s t =
-    over (made_rests (memory_of script) s is_made) in
-    let d : s.tally.disturbed ≡ 0 = ap (λ x. x.tally.disturbed) is_made in
-    let l : s.tally.lost ≡ 0 = ap (λ x. x.tally.lost) is_made in
+    → Closes 0 (most_begun batch) batch.accesses tries told due
+    → RunsWithin (most_begun batch) batch.accesses tries told s t
+    → RunsAs tries batch s.target.memory marks told t.target.memory
+run_as tries batch marks told s t due rest r p q closes over =
+    let fits : RunFits (most_begun batch) batch.accesses tries s.target.memory told s t = over rest in
     let most = fits.most in
     let spends = closes.spends in
     record {
-      memory = t.target.memory;
-      fits = subst (λ m. Fits (most_begun script) script.accesses m told t.target.memory)
-          (ap (λ x. x.target.memory) is_made) fits.now;
+      fits = fits.now;
       excused = excused told.ended tries marks s t p q fits.ends;
       whole = λ none few. fits.stops_only (omega arith) (omega arith);
       least = fits.least;
@@ -65,28 +61,28 @@ run_as tries script marks told s t due is_made p q closes over =
       spends = omega arith;
     }
 
--- what a call says of a list, it says of a script whose accesses are the list
-module _ {A : Type 0} (script : Meaning) (P : ℕ → List Access → Report A → Type 0) (r : Result (Report A) Refused)
+-- what a call says of a list, it says of a batch whose accesses are the list
+module _ {A : Type 0} (batch : Listed) (P : ℕ → List Access → Report A → Type 0) (r : Result (Report A) Refused)
     (report : Report A) (is : r ≡ Ok report) where
   -- single accesses
-  pub list_over : (list : List Access) → script.block ≡ None → list ≡ script.accesses → IfOk r (P 1 list)
-      → P (most_begun script) script.accesses report
+  pub list_over : (list : List Access) → batch.block ≡ None → list ≡ batch.accesses → IfOk r (P 1 list)
+      → P (most_begun batch) batch.accesses report
   list_over list single same h =
-      let one : most_begun script ≡ 1 = ap (λ b. if is_some b then 2 else 1) single in
+      let one : most_begun batch ≡ 1 = ap (λ b. if is_some b then 2 else 1) single in
       let ran : P 1 list report = subst (λ x. IfOk x (P 1 list)) is h in
-      subst (λ n. P n script.accesses report) (sym one) (subst (λ x. P 1 x report) same ran)
+      subst (λ n. P n batch.accesses report) (sym one) (subst (λ x. P 1 x report) same ran)
 
   -- a block
-  pub block_over : (addr count : ℕ) → script.block ≡ Some addr → IfSome script.block (λ at. IsBlock at script.accesses)
-      → count ≡ length script.accesses → IfOk r (P 2 (reads addr count))
-      → P (most_begun script) script.accesses report
+  pub block_over : (addr count : ℕ) → batch.block ≡ Some addr → IfSome batch.block (λ at. IsBlock at batch.accesses)
+      → count ≡ length batch.accesses → IfOk r (P 2 (reads addr count))
+      → P (most_begun batch) batch.accesses report
   block_over addr count block holds many h =
-      let two : most_begun script ≡ 2 = ap (λ b. if is_some b then 2 else 1) block in
-      let whole : IsBlock addr script.accesses =
-      subst (λ b. IfSome b (λ at. IsBlock at script.accesses)) block holds in
-      let same : reads addr count ≡ script.accesses = ap (reads addr) many ∙ sym whole.same in
+      let two : most_begun batch ≡ 2 = ap (λ b. if is_some b then 2 else 1) block in
+      let whole : IsBlock addr batch.accesses =
+      subst (λ b. IfSome b (λ at. IsBlock at batch.accesses)) block holds in
+      let same : reads addr count ≡ batch.accesses = ap (reads addr) many ∙ sym whole.same in
       let ran : P 2 (reads addr count) report = subst (λ x. IfOk x (P 2 (reads addr count))) is h in
-      subst (λ n. P n script.accesses report) (sym two) (subst (λ x. P 2 x report) same ran)
+      subst (λ n. P n batch.accesses report) (sym two) (subst (λ x. P 2 x report) same ran)
 
 -- ---- what a recorded run leaves
 
@@ -105,30 +101,25 @@ ends_at (WrongId word) tries s t e = absurd e
 ends_at Confused tries s t e = absurd e
 
 -- its items are its trace
-pub trace_of : (told : Told) (port : Port) (items : List Item) → IsRecorded told port → AreItems items →
-    transactions items + pending port.link.due ≡ port.tally.asked → EndsUnacknowledged items ↔ (port.link.due ≡ DueLost) → IsTraceOf told items
-trace_of told port items recorded read count lost = record {
+pub trace_of : (requests : ℕ) (ended : End) (port : Port) (items : List Item) → IsRecorded requests ended port → AreItems items
+    → transactions items + pending port.link.due ≡ port.tally.asked → EndsUnacknowledged items ↔ (port.link.due ≡ DueLost)
+    → IsTraceOf requests ended items
+trace_of requests ended port items recorded read count lost = record {
   read = read;
   counted = (let asked = recorded.asked in let rests = recorded.rests in omega (arith, count, asked, rests));
   lost = (λ e. recorded.lost.0 (lost.0 e), λ e. lost.1 (recorded.lost.1 e));
 }
 
 -- and also where it was cut off they are of it
-pub of_trace : (told : Told) (port : Port) (items : List Item) → IsRecorded told port → AreItems items → transactions items ≤ port.tally.asked → IsOfTrace told items
-of_trace told port items recorded read most = record {
+pub of_trace : (requests : ℕ) (ended : End) (port : Port) (items : List Item) → IsRecorded requests ended port → AreItems items
+    → transactions items ≤ port.tally.asked → IsOfTrace requests items
+of_trace requests ended port items recorded read most = record {
   read = read;
   counted = (let asked = recorded.asked in omega (arith, most, asked));
 }
 
 -- ---- what was read, and what came of it
 
-abbrev pub ran_as : (tries resumes : ℕ) (script plan : Option (List ℕ)) (m : Meaning) (marks : List Mark) (stops : List Stop) (told : Told) → AreRead script plan m marks →
-    RunsOn tries resumes m marks stops told → Ran tries resumes script plan
-ran_as tries resumes script plan m marks stops told read runs = record {
-  meaning = m;
-  marks = marks;
-  read = read;
-  stops = stops;
-  told = told;
-  runs = runs;
-}
+abbrev pub ran_as : (tries resumes : ℕ) (script plan : Option (List ℕ)) (m : Meaning) (marks : List Mark) (runs : List Done)
+    → AreRead script plan m marks → RunsScript tries resumes m marks runs → Ran tries resumes script plan
+ran_as tries resumes script plan m marks runs read are = record { meaning = m; marks = marks; read = read; runs = runs; are = are }

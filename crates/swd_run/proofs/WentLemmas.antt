@@ -8,21 +8,21 @@ use Rattle.swd_port.specs.declared.access.Answer.{Answer}
 use Rattle.swd_port.specs.declared.mark.Mark.{Mark}
 use Rattle.swd_port.specs.declared.wire.Due.TheVariants.{Lost as DueLost}
 use Rattle.swd_port.specs.PlainMemory.{PlainMemory, plain_after}
-use Rattle.swd_port.specs.Port.{Port, made}
+use Rattle.swd_port.specs.Port.{Port}
 use Rattle.swd_port.specs.Choices.{Choice, IsChoice, disturbed_among, lost_among}
 use Rattle.swd_port.specs.Completion.{completed}
 use Rattle.swd_recorder.specs.Steps.{pending}
 use Rattle.swd_host.specs.declared.outcome.End.{End}
 use Rattle.swd_host.specs.declared.outcome.End.TheVariants.{All, Lost, TriesOut, WrongId, Confused}
 use Rattle.swd_host.specs.Plain.{memory_after, answers_of}
-use Rattle.swd_host.specs.Reports.{Told, Closes, EndsAt, Fits, IsAtRest, IsKnown, RunsWithin, most_requests}
+use Rattle.swd_host.specs.Reports.{Told, Closes, EndsAt, due_at, Fits, IsAtRest, IsKnown, RunsWithin, most_requests}
 use Rattle.swd_host.specs.Again.{Again, AgainThen, Continues, GoesAgain, Grows, HasRoom, IsAfter, ResumeFits, added_in, repeated}
-use Rattle.swd_script.specs.Scripts.{Meaning}
+use Rattle.swd_script.specs.Scripts.{Listed}
 use Rattle.swd_run.specs.declared.going_on.Stop.{Stop}
 use Rattle.swd_run.specs.GoingOn.{Went, ran, resumed, stop_of, requests_before, in_all, IsCall, AreCalls, answered_first, begun_first, ToldAgain, TellOf}
-use Rattle.swd_run.specs.Running.{IsExcused, RunsOn, memory_of, most_begun}
-use Rattle.swd_run.specs.Tracing.{IsRecorded}
-use Rattle.swd_run.proofs.RunLemmas.{ends_at, excused, made_rests, run_as}
+use Rattle.swd_run.specs.Running.{IsExcused, RunsOn, most_begun}
+use Rattle.swd_run.specs.Sessions.{Done, GoesOn}
+use Rattle.swd_run.proofs.RunLemmas.{ends_at, excused, run_as}
 
 -- ---- lists
 
@@ -57,6 +57,9 @@ known_at Confused tries s t e = absurd e
 
 lost_at : (ended : End) (tries : ℕ) (s t : Port) → ended ≡ Lost → EndsAt ended tries s t → s.tally.lost < t.tally.lost
 lost_at ended tries s t is e = (subst (λ x. EndsAt x tries s t) is e).1
+
+rests_at : (ended : End) (tries : ℕ) (s t : Port) → ended ≡ All → EndsAt ended tries s t → IsAtRest t
+rests_at ended tries s t is e = (subst (λ x. EndsAt x tries s t) is e).0
 
 -- a report of which one access at most is begun is told of the memory without a repeated one
 again_none : (most : ℕ) (list : List Access) (m : PlainMemory) (told : Told) (now : PlainMemory) → told.begun ≤ 1
@@ -195,46 +198,59 @@ is_any : IsChoice any
 is_any = record { address = omega arith; filler = omega arith }
 
 -- what the last call tells, once it is told of the memory whatever comes of a transfer that is still pending
+told_early : (stops : List Stop) (list : List Access) (js : List ℕ) (m : PlainMemory) (earlier told : Told) (t : Port)
+    → (g : GoesAgain js list m earlier told t) → length g.more ≤ length stops → (told.ended ≡ All → ⊥)
+    → ToldAgain stops list m told t.target.memory
+told_early stops list js m earlier told t g few early = record {
+  places = g.more;
+  few = few;
+  memory = (completed any t).target.memory;
+  again = g.later any is_any;
+  left = λ all. absurd (early all);
+  words = λ all. absurd (early all);
+}
+
 told_again : (stops : List Stop) (list : List Access) (js : List ℕ) (m : PlainMemory) (earlier told : Told) (t : Port)
     (ended : End) → told.ended ≡ ended → (g : GoesAgain js list m earlier told t) → length g.more ≤ length stops
-    → ToldAgain stops list m told
+    → ToldAgain stops list m told t.target.memory
 told_again stops list js m earlier told t All is g few = record {
   places = g.more;
   few = few;
   memory = t.target.memory;
   again = g.now is;
+  left = λ all. refl;
   words = g.words;
 }
-told_again stops list js m earlier told t Lost is g few = record {
-  places = g.more;
-  few = few;
-  memory = (completed any t).target.memory;
-  again = g.later any is_any;
-  words = λ all. absurd cc;
-}
-told_again stops list js m earlier told t TriesOut is g few = record {
-  places = g.more;
-  few = few;
-  memory = (completed any t).target.memory;
-  again = g.later any is_any;
-  words = λ all. absurd cc;
-}
-told_again stops list js m earlier told t (WrongId word) is g few = record {
-  places = g.more;
-  few = few;
-  memory = (completed any t).target.memory;
-  again = g.later any is_any;
-  words = λ all. absurd cc;
-}
-told_again stops list js m earlier told t Confused is g few = record {
-  places = g.more;
-  few = few;
-  memory = (completed any t).target.memory;
-  again = g.later any is_any;
-  words = λ all. absurd cc;
-}
+told_again stops list js m earlier told t Lost is g few = told_early stops list js m earlier told t g few (λ all. absurd cc)
+told_again stops list js m earlier told t TriesOut is g few =
+    told_early stops list js m earlier told t g few (λ all. absurd cc)
+told_again stops list js m earlier told t (WrongId word) is g few =
+    told_early stops list js m earlier told t g few (λ all. absurd cc)
+told_again stops list js m earlier told t Confused is g few =
+    told_early stops list js m earlier told t g few (λ all. absurd cc)
 
 -- ---- all calls
+
+-- whatever came back
+module _ {W : Type 0} (port : W → Port) (plan : W → List Mark) (lawful : W → Type 0) (limit : ℕ) (list : List Access) (tries : ℕ) (s : W)
+    where
+  -- what is due after a run is what its end says
+  pub due_after : (stops : List Stop) (told : Told) (t : W) → Went port plan lawful limit list tries s stops told t
+      → (port t).link.due ≡ due_at told.ended
+  due_after stops told t (ran same closes over) = closes.due
+  due_after stops told t (resumed went lost same goes over) = goes.closes.due
+
+  -- so it was lawful from the start
+  pub law_before : (stops : List Stop) (told : Told) (t : W) → Went port plan lawful limit list tries s stops told t
+      → lawful t → lawful s
+  law_before stops told t (ran same closes over) law = (over law).0
+  law_before stops told t (resumed {stops = before} {earlier = e} {t = u} went lost same goes over) law =
+      law_before before e u went (over law).0
+
+  pub plan_kept : (stops : List Stop) (told : Told) (t : W) → Went port plan lawful limit list tries s stops told t
+      → plan t ≡ plan s
+  plan_kept stops told t (ran same closes over) = same
+  plan_kept stops told t (resumed went lost same goes over) = same
 
 -- so it is for the places, whatever comes of a transfer that is still pending
 record Repeats (stops : List Stop) (list : List Access) (m : PlainMemory) (told : Told) (t : Port) : Type 0 where
@@ -242,52 +258,48 @@ record Repeats (stops : List Stop) (list : List Access) (m : PlainMemory) (told 
   few : length places ≤ length stops
   later : AgainThen places list m told t
 
-module _ {W : Type 0} (port : W → Port) (plan : W → List Mark) (limit : ℕ) (list : List Access) (tries : ℕ) (s : W)
+module _ {W : Type 0} (port : W → Port) (plan : W → List Mark) (lawful : W → Type 0) (limit : ℕ) (list : List Access) (tries : ℕ) (s : W)
     (rest : IsAtRest (port s)) where
-  known : (stops : List Stop) (told : Told) (t : W) → Went port plan limit list tries s stops told t → IsKnown (port t).target
-  known stops told t (ran {told = a} {t = u} same closes over) =
-      known_at a.ended tries (port s) (port u) (over rest).ends
-  known stops told t (resumed {stops = before} {earlier = e} {told = a} {t = u} {u = v} went lost same goes over) =
-      known_at a.ended tries (port u) (port v) (over (known before e u went)).ends
+  known : (stops : List Stop) (told : Told) (t : W) → Went port plan lawful limit list tries s stops told t → lawful t → IsKnown (port t).target
+  known stops told t (ran {told = a} {t = u} same closes over) law =
+      known_at a.ended tries (port s) (port u) ((over law).1 rest).ends
+  known stops told t (resumed {stops = before} {earlier = e} {told = a} {t = u} {u = v} went lost same goes over) law =
+      known_at a.ended tries (port u) (port v) ((over law).1 (known before e u went (over law).0)).ends
 
-  pub asked : (stops : List Stop) (told : Told) (t : W) → Went port plan limit list tries s stops told t
+  pub asked : (stops : List Stop) (told : Told) (t : W) → Went port plan lawful limit list tries s stops told t → lawful t
       → (port t).tally.asked ≡ (port s).tally.asked + (requests_before stops + told.requests)
-  asked stops told t (ran {told = a} {t = u} same closes over) = let h = (over rest).counted in omega (arith, h)
-  asked stops told t (resumed {stops = before} {earlier = e} {told = a} {t = u} {u = v} went lost same goes over) =
-      let h = asked before e u went in
-      let c = (over (known before e u went)).counted in
+  asked stops told t (ran {told = a} {t = u} same closes over) law = let h = ((over law).1 rest).counted in omega (arith, h)
+  asked stops told t (resumed {stops = before} {earlier = e} {told = a} {t = u} {u = v} went lost same goes over) law =
+      let h = asked before e u went (over law).0 in
+      let c = ((over law).1 (known before e u went (over law).0)).counted in
       let r = requests_more before (stop_of e) in
       omega (arith, h, c, r)
 
-  pub ending : (stops : List Stop) (told : Told) (t : W) → Went port plan limit list tries s stops told t
+  pub ending : (stops : List Stop) (told : Told) (t : W) → Went port plan lawful limit list tries s stops told t → lawful t
       → (pending (port t).link.due ≡ 0) × (((port t).link.due ≡ DueLost) ↔ (told.ended ≡ Lost))
-  ending stops told t (ran {told = a} {t = u} same closes over) = ends_at a.ended tries (port s) (port u) (over rest).ends
-  ending stops told t (resumed {stops = before} {earlier = e} {told = a} {t = u} {u = v} went lost same goes over) =
-      ends_at a.ended tries (port u) (port v) (over (known before e u went)).ends
+  ending stops told t (ran {told = a} {t = u} same closes over) law = ends_at a.ended tries (port s) (port u) ((over law).1 rest).ends
+  ending stops told t (resumed {stops = before} {earlier = e} {told = a} {t = u} {u = v} went lost same goes over) law =
+      ends_at a.ended tries (port u) (port v) ((over law).1 (known before e u went (over law).0)).ends
 
-  plan_kept : (stops : List Stop) (told : Told) (t : W) → Went port plan limit list tries s stops told t → plan t ≡ plan s
-  plan_kept stops told t (ran same closes over) = same
-  plan_kept stops told t (resumed went lost same goes over) = same
-
-  lost_more : (stops : List Stop) (told : Told) (t : W) → Went port plan limit list tries s stops told t → told.ended ≡ Lost
+  lost_more : (stops : List Stop) (told : Told) (t : W) → Went port plan lawful limit list tries s stops told t → lawful t → told.ended ≡ Lost
       → (port s).tally.lost + length stops < (port t).tally.lost
-  lost_more stops told t (ran {told = a} {t = u} same closes over) is =
-      let h = lost_at a.ended tries (port s) (port u) is (over rest).ends in omega (arith, h)
-  lost_more stops told t (resumed {stops = before} {earlier = e} {told = a} {t = u} {u = v} went lost same goes over) is =
-      let h = lost_more before e u went lost in
-      let g = lost_at a.ended tries (port u) (port v) is (over (known before e u went)).ends in
+  lost_more stops told t (ran {told = a} {t = u} same closes over) law is =
+      let h = lost_at a.ended tries (port s) (port u) is ((over law).1 rest).ends in omega (arith, h)
+  lost_more stops told t (resumed {stops = before} {earlier = e} {told = a} {t = u} {u = v} went lost same goes over) law is =
+      let h = lost_more before e u went (over law).0 lost in
+      let g = lost_at a.ended tries (port u) (port v) is ((over law).1 (known before e u went (over law).0)).ends in
       let l = one_more before (stop_of e) in
       omega (arith, h, g, l)
 
-  calls : (stops : List Stop) (told : Told) (t : W) → Went port plan limit list tries s stops told t
+  calls : (stops : List Stop) (told : Told) (t : W) → Went port plan lawful limit list tries s stops told t → lawful t
       → AreCalls 0 limit tries (length list) 0 0 stops told
-  calls stops told t (ran {told = a} {t = u} same closes over) =
-      call_ran limit tries list (port s).target.memory a (port u).target.memory _ closes (over rest).now
-  calls stops told t (resumed {stops = before} {earlier = e} {told = a} {t = u} {u = v} went lost same goes over) =
-      calls_more 0 limit tries (length list) 0 0 before e a lost (calls before e u went)
-      (call_resumed tries list e a _ (port u) (port v) goes (over (known before e u went)))
+  calls stops told t (ran {told = a} {t = u} same closes over) law =
+      call_ran limit tries list (port s).target.memory a (port u).target.memory _ closes ((over law).1 rest).now
+  calls stops told t (resumed {stops = before} {earlier = e} {told = a} {t = u} {u = v} went lost same goes over) law =
+      calls_more 0 limit tries (length list) 0 0 before e a lost (calls before e u went (over law).0)
+      (call_resumed tries list e a _ (port u) (port v) goes ((over law).1 (known before e u went (over law).0)))
 
-  first_within : (stops : List Stop) (told : Told) (t : W) → Went port plan limit list tries s stops told t
+  first_within : (stops : List Stop) (told : Told) (t : W) → Went port plan lawful limit list tries s stops told t
       → answered_first stops told ≤ length told.answers
   first_within stops told t (ran same closes over) = omega arith
   first_within stops told t (resumed {stops = before} {earlier = e} {told = a} {t = u} {u = v} went lost same goes over) =
@@ -296,9 +308,9 @@ module _ {W : Type 0} (port : W → Port) (plan : W → List Mark) (limit : ℕ)
       let l = ap length goes.kept ∙ length-append e.answers (added_in e a) in
       omega (arith, h, f, l)
 
-  first_answers : (stops : List Stop) (told : Told) (t : W) → Went port plan limit list tries s stops told t
+  first_answers : (stops : List Stop) (told : Told) (t : W) → Went port plan lawful limit list tries s stops told t → lawful t
       → take (answered_first stops told) told.answers ≡ answers_of (take (answered_first stops told) list) (port s).target.memory
-  first_answers stops told t (ran {told = a} {t = u} same closes over) = whole (over rest).now
+  first_answers stops told t (ran {told = a} {t = u} same closes over) law = whole ((over law).1 rest).now
     where
       m : PlainMemory
       m = (port s).target.memory
@@ -307,107 +319,116 @@ module _ {W : Type 0} (port : W → Port) (plan : W → List Mark) (limit : ℕ)
       whole (k, fit) =
           let many : length a.answers ≡ k = ap length fit.answers ∙ answers_many (take k list) m ∙ length-take-le k list fit.reported in
           take_all (length a.answers) a.answers (omega arith) ∙ fit.answers ∙ ap (λ n. answers_of (take n list) m) (sym many)
-  first_answers stops told t (resumed {stops = before} {earlier = e} {told = a} {t = u} {u = v} went lost same goes over) =
+  first_answers stops told t (resumed {stops = before} {earlier = e} {told = a} {t = u} {u = v} went lost same goes over) law =
       let m : PlainMemory = (port s).target.memory in
       let f = answered_same before e a in
       ap (λ n. take n a.answers) f ∙ ap (λ l. take (answered_first before e) l) goes.kept
       ∙ take-append-le (answered_first before e) e.answers (added_in e a) (first_within before e u went)
-      ∙ first_answers before e u went ∙ ap (λ n. answers_of (take n list) m) (sym f)
+      ∙ first_answers before e u went (over law).0 ∙ ap (λ n. answers_of (take n list) m) (sym f)
 
-  repeats : (stops : List Stop) (told : Told) (t : W) → Went port plan limit list tries s stops told t
+  repeats : (stops : List Stop) (told : Told) (t : W) → Went port plan lawful limit list tries s stops told t → lawful t
       → begun_first stops told ≤ 1 → length (memory_after list (port s).target.memory).log + length stops ≤ (port s).target.memory.room
       → Repeats stops list (port s).target.memory told (port t)
-  repeats stops told t (ran {told = a} {t = u} same closes over) few room = record {
+  repeats stops told t (ran {told = a} {t = u} same closes over) law few room = record {
     places = [];
     few = omega arith;
-    later = λ c is. again_none limit list (port s).target.memory a (completed c (port u)).target.memory few ((over rest).later c);
+    later = λ c is. again_none limit list (port s).target.memory a (completed c (port u)).target.memory few (((over law).1 rest).later c);
   }
-  repeats stops told t (resumed {stops = before} {earlier = e} {told = a} {t = u} {u = v} went lost same goes over) few room =
+  repeats stops told t (resumed {stops = before} {earlier = e} {told = a} {t = u} {u = v} went lost same goes over) law few room =
       let m : PlainMemory = (port s).target.memory in
       let l = one_more before (stop_of e) in
       let b = begun_same before e a in
-      let r : Repeats before list m e (port u) = repeats before e u went (omega (arith, few, b)) (omega (arith, room, l)) in
+      let r : Repeats before list m e (port u) = repeats before e u went (over law).0 (omega (arith, few, b)) (omega (arith, room, l)) in
       let has : HasRoom r.places list m = (let n = r.few in omega (arith, room, l, n)) in
-      let g : GoesAgain r.places list m e a (port v) = (over (known before e u went)).again r.places m r.later has in
+      let g : GoesAgain r.places list m e a (port v) = ((over law).1 (known before e u went (over law).0)).again r.places m r.later has in
       let more = grows_few r.places e g.more g.grows in
       let n = r.few in
       record { places = g.more; few = omega (arith, more, n, l); later = g.later }
 
-  again_told : (stops : List Stop) (told : Told) (t : W) → Went port plan limit list tries s stops told t
+  again_told : (stops : List Stop) (told : Told) (t : W) → Went port plan lawful limit list tries s stops told t → lawful t
       → begun_first stops told ≤ 1 → length (memory_after list (port s).target.memory).log + length stops ≤ (port s).target.memory.room
-      → ToldAgain stops list (port s).target.memory told
-  again_told stops told t (ran {told = a} {t = u} same closes over) few room =
+      → ToldAgain stops list (port s).target.memory told (port t).target.memory
+  again_told stops told t (ran {told = a} {t = u} same closes over) law few room =
       let m : PlainMemory = (port s).target.memory in
-      let now : Again [] list m a (port u).target.memory = again_none limit list m a (port u).target.memory few (over rest).now in
+      let now : Again [] list m a (port u).target.memory = again_none limit list m a (port u).target.memory few ((over law).1 rest).now in
       record {
         places = [];
         few = omega arith;
         memory = (port u).target.memory;
         again = now;
+        left = λ all. refl;
         words = λ all. ap (λ x. x.words) (again_whole list m a (port u).target.memory all now);
       }
-  again_told stops told t (resumed {stops = before} {earlier = e} {told = a} {t = u} {u = v} went lost same goes over) few room =
+  again_told stops told t (resumed {stops = before} {earlier = e} {told = a} {t = u} {u = v} went lost same goes over) law few room =
       let m : PlainMemory = (port s).target.memory in
       let l = one_more before (stop_of e) in
       let b = begun_same before e a in
-      let r : Repeats before list m e (port u) = repeats before e u went (omega (arith, few, b)) (omega (arith, room, l)) in
+      let r : Repeats before list m e (port u) = repeats before e u went (over law).0 (omega (arith, few, b)) (omega (arith, room, l)) in
       let n = r.few in
       let has : HasRoom r.places list m = omega (arith, room, l, n) in
-      let g : GoesAgain r.places list m e a (port v) = (over (known before e u went)).again r.places m r.later has in
+      let g : GoesAgain r.places list m e a (port v) = ((over law).1 (known before e u went (over law).0)).again r.places m r.later has in
       let more = grows_few r.places e g.more g.grows in
       told_again (before ++ stop_of e ∷ []) list r.places m e a (port v) a.ended refl g (omega (arith, more, n, l))
 
-  pub tell_of : (stops : List Stop) (told : Told) (t : W) → Went port plan limit list tries s stops told t
-      → TellOf limit tries list (port s).target.memory stops told
-  tell_of stops told t went = record {
-    calls = calls stops told t went;
-    first = first_answers stops told t went;
-    again = again_told stops told t went;
+  pub tell_of : (stops : List Stop) (told : Told) (t : W) → Went port plan lawful limit list tries s stops told t → lawful t
+      → TellOf limit tries list (port s).target.memory stops told (port t).target.memory
+  tell_of stops told t went law = record {
+    calls = calls stops told t went law;
+    first = first_answers stops told t went law;
+    again = again_told stops told t went law;
   }
 
   -- it was never resumed
-  pub alone : (stops : List Stop) (told : Told) (t : W) → Went port plan limit list tries s stops told t → stops ≡ []
+  pub alone : (stops : List Stop) (told : Told) (t : W) → Went port plan lawful limit list tries s stops told t → lawful t → stops ≡ []
       → Closes 0 limit list tries told (port t).link.due × RunsWithin limit list tries told (port s) (port t)
-  alone stops told t (ran same closes over) none = (closes, over)
-  alone stops told t (resumed {stops = before} {earlier = e} went lost same goes over) none =
+  alone stops told t (ran same closes over) law none = (closes, (over law).1)
+  alone stops told t (resumed {stops = before} {earlier = e} went lost same goes over) law none =
       let l = one_more before (stop_of e) in let z = ap length none in absurd (omega (arith, l, z))
+
+  -- a run that ended all leaves a target at rest
+  pub rests : (stops : List Stop) (told : Told) (t : W) → Went port plan lawful limit list tries s stops told t → lawful t
+      → told.ended ≡ All → IsAtRest (port t)
+  rests stops told t (ran {told = a} {t = u} same closes over) law all =
+      rests_at a.ended tries (port s) (port u) all ((over law).1 rest).ends
+  rests stops told t (resumed {stops = before} {earlier = e} {told = a} {t = u} {u = v} went lost same goes over) law all =
+      rests_at a.ended tries (port u) (port v) all ((over law).1 (known before e u went (over law).0)).ends
 
   -- under a plan of so many marks that disturb and lose
   module _ (marks : List Mark)
       (bounded : (w : W) → plan w ≡ plan s → ((port w).tally.disturbed ≤ disturbed_among marks) × ((port w).tally.lost ≤ lost_among marks)) where
-    pub excused_by : (stops : List Stop) (told : Told) (t : W) → Went port plan limit list tries s stops told t
+    pub excused_by : (stops : List Stop) (told : Told) (t : W) → Went port plan lawful limit list tries s stops told t → lawful t
         → IsExcused told.ended tries marks
-    excused_by stops told t (ran {told = a} {t = u} same closes over) =
-        excused a.ended tries marks (port s) (port u) (bounded u same).0 (bounded u same).1 (over rest).ends
-    excused_by stops told t (resumed {stops = before} {earlier = e} {told = a} {t = u} {u = v} went lost same goes over) =
-        excused a.ended tries marks (port u) (port v) (bounded v same).0 (bounded v same).1 (over (known before e u went)).ends
+    excused_by stops told t (ran {told = a} {t = u} same closes over) law =
+        excused a.ended tries marks (port s) (port u) (bounded u same).0 (bounded u same).1 ((over law).1 rest).ends
+    excused_by stops told t (resumed {stops = before} {earlier = e} {told = a} {t = u} {u = v} went lost same goes over) law =
+        excused a.ended tries marks (port u) (port v) (bounded v same).0 (bounded v same).1 ((over law).1 (known before e u went (over law).0)).ends
 
-    pub stops_lost : (stops : List Stop) (told : Told) (t : W) → Went port plan limit list tries s stops told t
+    pub stops_lost : (stops : List Stop) (told : Told) (t : W) → Went port plan lawful limit list tries s stops told t → lawful t
         → length stops ≤ lost_among marks
-    stops_lost stops told t (ran same closes over) = omega arith
-    stops_lost stops told t (resumed {stops = before} {earlier = e} {told = a} {t = u} {u = v} went lost same goes over) =
-        let h = lost_more before e u went lost in
-        let b = (bounded u (plan_kept before e u went)).1 in
+    stops_lost stops told t (ran same closes over) law = omega arith
+    stops_lost stops told t (resumed {stops = before} {earlier = e} {told = a} {t = u} {u = v} went lost same goes over) law =
+        let h = lost_more before e u went (over law).0 lost in
+        let b = (bounded u (plan_kept port plan lawful limit list tries s before e u went)).1 in
         let l = one_more before (stop_of e) in
         omega (arith, h, b, l)
 
-    pub last_lost : (stops : List Stop) (told : Told) (t : W) → Went port plan limit list tries s stops told t
+    pub last_lost : (stops : List Stop) (told : Told) (t : W) → Went port plan lawful limit list tries s stops told t → lawful t
         → told.ended ≡ Lost → length stops < lost_among marks
-    last_lost stops told t went is =
-        let h = lost_more stops told t went is in
-        let b = (bounded t (plan_kept stops told t went)).1 in
+    last_lost stops told t went law is =
+        let h = lost_more stops told t went law is in
+        let b = (bounded t (plan_kept port plan lawful limit list tries s stops told t went)).1 in
         omega (arith, h, b)
 
-    pub sends_most : (stops : List Stop) (told : Told) (t : W) → Went port plan limit list tries s stops told t
+    pub sends_most : (stops : List Stop) (told : Told) (t : W) → Went port plan lawful limit list tries s stops told t → lawful t
         → requests_before stops + told.requests ≤ 9 + 6 * length list + 5 * disturbed_among marks
         + length stops * (14 + 6 * length list + 5 * disturbed_among marks)
-    sends_most stops told t (ran {told = a} {t = u} same closes over) =
-        let h = (over rest).most in let b = (bounded u same).0 in omega (arith, h, b)
-    sends_most stops told t (resumed {stops = before} {earlier = e} {told = a} {t = u} {u = v} went lost same goes over) =
+    sends_most stops told t (ran {told = a} {t = u} same closes over) law =
+        let h = ((over law).1 rest).most in let b = (bounded u same).0 in omega (arith, h, b)
+    sends_most stops told t (resumed {stops = before} {earlier = e} {told = a} {t = u} {u = v} went lost same goes over) law =
         let x : ℕ = 14 + 6 * length list + 5 * disturbed_among marks in
         let base : ℕ = 9 + 6 * length list + 5 * disturbed_among marks in
-        let h = sends_most before e u went in
-        let g = (over (known before e u went)).most in
+        let h = sends_most before e u went (over law).0 in
+        let g = ((over law).1 (known before e u went (over law).0)).most in
         let b = (bounded v same).0 in
         let few : a.requests ≤ x = omega (arith, g, b) in
         let r = requests_more before (stop_of e) in
@@ -427,42 +448,35 @@ whole_by TriesOut tries resumes marks e last lost few = absurd (omega (arith, e,
 whole_by (WrongId word) tries resumes marks e last lost few = absurd e
 whole_by Confused tries resumes marks e last lost few = absurd e
 
-module _ {W : Type 0} (port : W → Port) (plan : W → List Mark) (tries resumes : ℕ) (script : Meaning) (marks : List Mark)
-    (stops : List Stop) (told : Told) (s t : W) (is_made : port s ≡ made 731911287 (memory_of script))
-    (went : Went port plan (most_begun script) script.accesses tries s stops told t) where
-  rest : IsAtRest (port s)
-  rest = made_rests (memory_of script) (port s) is_made
-
+-- a run over a target at rest, under a plan of these marks
+module _ {W : Type 0} (port : W → Port) (plan : W → List Mark) (lawful : W → Type 0) (tries resumes : ℕ) (batch : Listed)
+    (marks : List Mark) (run : Done) (s t : W) (rest : IsAtRest (port s)) (law : lawful t)
+    (goes : GoesOn port plan lawful (most_begun batch) tries resumes batch s run t) where
   pub runs_on : plan s ≡ marks
       → ((w : W) → plan w ≡ marks → ((port w).tally.disturbed ≤ disturbed_among marks) × ((port w).tally.lost ≤ lost_among marks))
-      → length stops ≤ resumes → (told.ended ≡ Lost → length stops ≡ resumes) → RunsOn tries resumes script marks stops told
-  runs_on planned marked few last =
-      let n : ℕ = most_begun script in
-      let list : List Access = script.accesses in
+      → RunsOn tries resumes batch (port s).target.memory marks run.stops run.told (port t).target.memory
+  runs_on planned marked =
+      let stops : List Stop = run.stops in
+      let told : Told = run.told in
+      let n : ℕ = most_begun batch in
+      let list : List Access = batch.accesses in
+      let went : Went port plan lawful (most_begun batch) batch.accesses tries s run.stops run.told t = goes.went in
       let bounded : (w : W) → plan w ≡ plan s → ((port w).tally.disturbed ≤ disturbed_among marks) × ((port w).tally.lost ≤ lost_among marks) =
       λ w same. marked w (same ∙ planned) in
-      let planned_at : plan t ≡ marks = plan_kept port plan n list tries s rest stops told t went ∙ planned in
+      let planned_at : plan t ≡ marks = plan_kept port plan lawful n list tries s stops told t went ∙ planned in
       let at_end = marked t planned_at in
-      let excused : IsExcused told.ended tries marks = excused_by port plan n list tries s rest marks bounded stops told t went in
+      let at_start = marked s planned in
+      let excused : IsExcused told.ended tries marks = excused_by port plan lawful n list tries s rest marks bounded stops told t went law in
       let lost : told.ended ≡ Lost → resumes < lost_among marks =
-      λ is. (let h = last_lost port plan n list tries s rest marks bounded stops told t went is in let e = last is in omega (arith, h, e)) in
+      λ is. (let h = last_lost port plan lawful n list tries s rest marks bounded stops told t went law is in let e = goes.lost is in omega (arith, h, e)) in
       record {
-        alone = λ none. (let (closes, over) = alone port plan n list tries s rest stops told t went none in
-            run_as tries script marks told (port s) (port t) _ is_made at_end.0 at_end.1 closes over);
-        tells = subst (λ m. TellOf n tries list m stops told) (ap (λ x. x.target.memory) is_made)
-            (tell_of port plan n list tries s rest stops told t went);
-        few = few;
-        lost = stops_lost port plan n list tries s rest marks bounded stops told t went;
+        alone = λ none. (let (closes, over) = alone port plan lawful n list tries s rest stops told t went law none in
+            run_as tries batch marks told (port s) (port t) _ rest at_start.1 at_end.0 at_end.1 closes over);
+        tells = tell_of port plan lawful n list tries s rest stops told t went law;
+        few = goes.few;
+        lost = stops_lost port plan lawful n list tries s rest marks bounded stops told t went law;
         excused = excused;
-        last = λ is. (last is, lost is);
+        last = λ is. (goes.lost is, lost is);
         whole = whole_by told.ended tries resumes marks excused lost;
-        most = sends_most port plan n list tries s rest marks bounded stops told t went;
+        most = sends_most port plan lawful n list tries s rest marks bounded stops told t went law;
       }
-
-  -- what it leaves on a wire that was recorded from its start
-  pub run_recorded : IsRecorded (in_all stops told) (port t)
-  run_recorded =
-      let ends = ending port plan (most_begun script) script.accesses tries s rest stops told t went in
-      let many = asked port plan (most_begun script) script.accesses tries s rest stops told t went in
-      let none : (port s).tally.asked ≡ 0 = ap (λ x. x.tally.asked) is_made in
-      record { asked = omega (arith, many, none); rests = ends.0; lost = ends.1 }

@@ -26,15 +26,18 @@ in_all stops told = record told { requests = requests_before stops + told.reques
 
 -- THE CALLS
 -- A run over a wire and the calls of `resume` after it, each of them at a lost acknowledgement: from the wire s to the
--- wire t, with the places where it was resumed, and with what the last call told.
-pub data Went {W : Type 0} (port : W → Port) (plan : W → List Mark) (limit : ℕ) (list : List Access) (tries : ℕ) (s : W)
-    : List Stop → Told → W → Type 0 where
+-- wire t, with the places where it was resumed, and with what the last call told. Whatever came back, each call closes;
+-- and where it was lawful, it fits.
+pub data Went {W : Type 0} (port : W → Port) (plan : W → List Mark) (lawful : W → Type 0) (limit : ℕ) (list : List Access)
+    (tries : ℕ) (s : W) : List Stop → Told → W → Type 0 where
   ran : {told : Told} {t : W} → plan t ≡ plan s → Closes 0 limit list tries told (port t).link.due
-      → RunsWithin limit list tries told (port s) (port t) → Went port plan limit list tries s [] told t
-  resumed : {stops : List Stop} {earlier told : Told} {t u : W} → Went port plan limit list tries s stops earlier t
+      → (lawful t → lawful s × RunsWithin limit list tries told (port s) (port t))
+      → Went port plan lawful limit list tries s [] told t
+  resumed : {stops : List Stop} {earlier told : Told} {t u : W}
+      → Went port plan lawful limit list tries s stops earlier t
       → earlier.ended ≡ Lost → plan u ≡ plan s → Continues list tries earlier told (port u).link.due
-      → ResumesOver list tries earlier told (port t) (port u)
-      → Went port plan limit list tries s (stops ++ stop_of earlier ∷ []) told u
+      → (lawful u → lawful t × ResumesOver list tries earlier told (port t) (port u))
+      → Went port plan lawful limit list tries s (stops ++ stop_of earlier ∷ []) told u
 
 -- WHAT THEY TELL
 -- One call of a run over n accesses: after so many answers of the calls before it, of which the last one left so many
@@ -70,18 +73,22 @@ begun_first [] told = told.begun
 begun_first (stop ∷ stops) told = stop.begun
 
 -- The report is told of the memory, where the accesses at some places were done once more: at most one of them for each
--- time that the run was resumed. A whole list leaves the words that it leaves where it is done once.
-pub record ToldAgain (stops : List Stop) (list : List Access) (m : PlainMemory) (told : Told) : Type 0 where
+-- time that the run was resumed. A whole list leaves the words that it leaves where it is done once, and that memory.
+pub record ToldAgain (stops : List Stop) (list : List Access) (m : PlainMemory) (told : Told) (after : PlainMemory)
+    : Type 0 where
   pub places : List ℕ
   pub few : length places ≤ length stops
   pub memory : PlainMemory
   pub again : Again places list m told memory
-  pub words : told.ended ≡ All → memory.words ≡ (memory_after list m).words
+  pub left : told.ended ≡ All → memory ≡ after
+  pub words : told.ended ≡ All → after.words ≡ (memory_after list m).words
 
--- What the calls over this memory tell. The answers of the first one are the plain memory's. So are all answers, unless
--- the first one was a block that left two accesses open, and where the log has room for the accesses that are done twice.
-pub record TellOf (limit tries : ℕ) (list : List Access) (m : PlainMemory) (stops : List Stop) (told : Told) : Type 0 where
+-- What the calls over this memory tell, and what they leave. The answers of the first one are the plain memory's. So are
+-- all answers, unless the first one was a block that left two accesses open, and where the log has room for the accesses
+-- that are done twice.
+pub record TellOf (limit tries : ℕ) (list : List Access) (m : PlainMemory) (stops : List Stop) (told : Told)
+    (after : PlainMemory) : Type 0 where
   pub calls : AreCalls 0 limit tries (length list) 0 0 stops told
   pub first : take (answered_first stops told) told.answers ≡ answers_of (take (answered_first stops told) list) m
   pub again : begun_first stops told ≤ 1 → length (memory_after list m).log + length stops ≤ m.room
-      → ToldAgain stops list m told
+      → ToldAgain stops list m told after

@@ -1,5 +1,7 @@
-pub mod Reports
 pub mod GoingOn
+pub mod Sessions
+pub mod Reports
+pub mod Verified
 pub mod Running
 pub mod Tracing
 pub mod Serving

@@ -1,5 +1,7 @@
 -- The report of a run: a line for each answer, one for each time that the run was resumed, and one for how it ended. The text is this project's choice.
-use Rattle.std.specs.Prelude.{ℕ, List, [], ◌∷◌, ◌++◌, length, take, drop, codes}
+use Rattle.std.specs.Prelude.{ℕ, ◌≡◌, ◌-◌, ◌^◌, min, List, [], ◌∷◌, ◌++◌, length, take, drop, codes, Option, Result, Ok, Err}
+use Rattle.std.specs.Io.KnownBytes.{Appends}
+use Rattle.swd_io.specs.Blocks.{Stopped}
 use Rattle.std.specs.Fmt.{decimal}
 use Rattle.swd_bits.specs.Listing.{hex8}
 use Rattle.swd_port.specs.declared.access.Access.{Access}
@@ -9,7 +11,9 @@ use Rattle.swd_port.specs.declared.access.Answer.TheVariants.{Value, Written, Bu
 use Rattle.swd_host.specs.declared.outcome.End.{End}
 use Rattle.swd_host.specs.declared.outcome.End.TheVariants.{All, Lost, TriesOut, WrongId, Confused}
 use Rattle.swd_host.specs.Reports.{Told}
+use Rattle.swd_script.specs.Scripts.{Listed}
 use Rattle.swd_run.specs.declared.going_on.Stop.{Stop}
+use Rattle.swd_run.specs.Sessions.{Done}
 
 abbrev pub access_text : Access → List ℕ
 access_text (Read addr) = codes "r " ++ hex8 addr
@@ -36,12 +40,19 @@ last_line TriesOut answered begun = codes "end tries " ++ stop_text answered beg
 last_line (WrongId word) answered begun = codes "end id " ++ hex8 word
 last_line Confused answered begun = codes "end confused " ++ stop_text answered begun
 
--- the lines of the accesses that have answers, each with its end
+-- the text of each pair of items, one after the other, as far as both lists go
+abbrev pub pair_texts : {X Y : Type 0} → (X → Y → List ℕ) → List X → List Y → List ℕ
+pair_texts text [] ys = []
+pair_texts text (x ∷ xs) [] = []
+pair_texts text (x ∷ xs) (y ∷ ys) = text x y ++ pair_texts text xs ys
+
+-- the line of an answered access, with its end
+abbrev pub answer_fed : Access → Answer → List ℕ
+answer_fed access answer = answer_line access answer ++ 10 ∷ []
+
+-- the lines of the accesses that have answers
 abbrev pub answer_lines : List Access → List Answer → List ℕ
-answer_lines [] answers = []
-answer_lines (access ∷ accesses) [] = []
-answer_lines (access ∷ accesses) (answer ∷ answers) =
-    (answer_line access answer ++ 10 ∷ []) ++ answer_lines accesses answers
+answer_lines accesses answers = pair_texts answer_fed accesses answers
 
 -- the line of a place where the run was resumed, without its end
 abbrev pub resume_line : Stop → List ℕ
@@ -62,3 +73,21 @@ lines_from i (stop ∷ stops) accesses answers =
 abbrev pub report_text : List Access → List Stop → Told → List ℕ
 report_text accesses stops told =
     lines_from 0 stops accesses told.answers ++ (last_line told.ended (length told.answers) told.begun ++ 10 ∷ [])
+
+-- the report of one run of a script
+abbrev pub run_report : Listed → Done → List ℕ
+run_report batch run = report_text batch.accesses run.stops run.told
+
+-- the reports of its runs, one after the other
+abbrev pub session_text : List Listed → List Done → List ℕ
+session_text batches runs = pair_texts run_report batches runs
+
+-- a writer that began with `start` has so many bytes of a text, all that there is; more than 2^64 - 1 are told as that
+pub record HasWritten (start now : Option (List ℕ)) (all : List ℕ) (told : ℕ) : Type 0 where
+  pub gone : Appends start now all
+  pub count : told ≡ min (length all) (2 ^ 64 - 1)
+
+-- so it is now, or exactly the first bytes of the text went out
+abbrev pub WritesOn : Result ℕ ℕ → Option (List ℕ) → Option (List ℕ) → List ℕ → Type 0
+WritesOn (Ok told) start now all = HasWritten start now all told
+WritesOn (Err told) start now all = Stopped told start now all

@@ -1,6 +1,6 @@
 -- What an answer to a script and a plan says: the theorem of the host, over texts.
-use Rattle.std.specs.Prelude.{◌≡◌, ℕ, ◌+◌, ◌*◌, ◌<◌, ◌≤◌, List, [], length, Option, Result, Ok, Err, IfSome, IsOk}
-use Rattle.std.specs.Prelude.{is_some, if◌then◌else◌, min}
+use Rattle.std.specs.Prelude.{◌≡◌, ℕ, ◌+◌, ◌*◌, ◌<◌, ◌≤◌, List, [], ◌∷◌, ◌++◌, length, take, Option, Result, Ok, Err, IfSome}
+use Rattle.std.specs.Prelude.{IsOk, is_some, if◌then◌else◌, min}
 use Rattle.std.specs.Io.KnownBytes.{Appends}
 use Rattle.swd_io.specs.Blocks.{Stopped}
 use Rattle.swd_io.specs.Pieces.{IsText}
@@ -13,7 +13,7 @@ use Rattle.swd_target.specs.MemoryWords.{zero_memory}
 use Rattle.swd_host.specs.declared.outcome.End.{End}
 use Rattle.swd_host.specs.declared.outcome.End.TheVariants.{All, Lost, TriesOut, WrongId, Confused}
 use Rattle.swd_host.specs.Reports.{Told, Fits, most_requests}
-use Rattle.swd_script.specs.Scripts.{Meaning, script_of}
+use Rattle.swd_script.specs.Scripts.{Listed, Meaning, script_of}
 use Rattle.swd_script.specs.Plans.{plan_of}
 use Rattle.swd_script.specs.Readers.{IsScriptFault, IsPlanFault}
 use Rattle.swd_script.specs.declared.fault.ScriptFault.{ScriptFault}
@@ -21,8 +21,11 @@ use Rattle.swd_text.specs.declared.fault.EngineFault.{EngineFault}
 use Rattle.swd_text.specs.declared.fault.EngineFault.TheVariants.{Script, Plan, Text, List as Listing, Read, Write}
 use Rattle.swd_text.specs.declared.fault.EngineFault.TheVariants.{Memory, TraceCut}
 use Rattle.swd_run.specs.declared.going_on.Stop.{Stop}
+use Rattle.swd_run.specs.declared.running.Finished.{Finished}
 use Rattle.swd_run.specs.GoingOn.{TellOf, in_all}
-use Rattle.swd_run.specs.Reports.{report_text}
+use Rattle.swd_run.specs.Sessions.{Done, ended_of}
+use Rattle.swd_run.specs.Reports.{session_text}
+use Rattle.swd_run.specs.Verified.{first_difference}
 
 -- the memory of a script, before its run
 abbrev pub memory_of : Meaning → PlainMemory
@@ -37,35 +40,51 @@ IsExcused (WrongId word) tries marks = ⊥
 IsExcused Confused tries marks = ⊥
 
 -- how many accesses are begun at most that aren't answered: of a block two
-abbrev pub most_begun : Meaning → ℕ
-most_begun script = if is_some script.block then 2 else 1
+abbrev pub most_begun : Listed → ℕ
+most_begun batch = if is_some batch.block then 2 else 1
 
--- What a run of a script under a plan comes to. The report fits the plain memory of the script, and that after the run.
-pub record RunsAs (tries : ℕ) (script : Meaning) (marks : List Mark) (told : Told) : Type 0 where
-  pub memory : PlainMemory
-  pub fits : Fits (most_begun script) script.accesses (memory_of script) told memory
+-- What a run comes to over a memory under a plan. The report fits the memory before it, and that after it.
+pub record RunsAs (tries : ℕ) (batch : Listed) (before : PlainMemory) (marks : List Mark) (told : Told) (after : PlainMemory)
+    : Type 0 where
+  pub fits : Fits (most_begun batch) batch.accesses before told after
   pub excused : IsExcused told.ended tries marks
   pub whole : lost_among marks ≡ 0 → disturbed_among marks ≤ tries → told.ended ≡ All
-  pub least : told.ended ≡ All → 9 + length script.accesses ≤ told.requests
-  pub most : told.requests ≤ 9 + 6 * length script.accesses + 5 * disturbed_among marks
+  pub least : told.ended ≡ All → 9 + length batch.accesses ≤ told.requests
+  pub most : told.requests ≤ 9 + 6 * length batch.accesses + 5 * disturbed_among marks
   -- no more than so many tries allow, whatever the plan: no access took requests but those that are answered and the next
-  pub spends : told.requests ≤ most_requests tries (min (length script.accesses) (length told.answers + 1))
+  pub spends : told.requests ≤ most_requests tries (min (length batch.accesses) (length told.answers + 1))
 
 -- What a run comes to that may be resumed so many times. Where it never was, it comes to what a run does. Else its calls
--- tell of the plain memory of the script; each place where it was resumed is a request that the plan lost; and it ends
--- at a lost acknowledgement only where the plan loses more requests than it may be resumed.
-pub record RunsOn (tries resumes : ℕ) (script : Meaning) (marks : List Mark) (stops : List Stop) (told : Told)
-    : Type 0 where
-  pub alone : stops ≡ [] → RunsAs tries script marks told
-  pub tells : TellOf (most_begun script) tries script.accesses (memory_of script) stops told
+-- tell of the memory before it; each place where it was resumed is a request that the plan lost; and it ends at a lost
+-- acknowledgement only where the plan loses more requests than it may be resumed.
+pub record RunsOn (tries resumes : ℕ) (batch : Listed) (before : PlainMemory) (marks : List Mark) (stops : List Stop)
+    (told : Told) (after : PlainMemory) : Type 0 where
+  pub alone : stops ≡ [] → RunsAs tries batch before marks told after
+  pub tells : TellOf (most_begun batch) tries batch.accesses before stops told after
   pub few : length stops ≤ resumes
   pub lost : length stops ≤ lost_among marks
   pub excused : IsExcused told.ended tries marks
   pub last : told.ended ≡ Lost → (length stops ≡ resumes) × (resumes < lost_among marks)
   pub whole : lost_among marks ≤ resumes → disturbed_among marks ≤ tries → told.ended ≡ All
-  -- the requests of all calls
-  pub most : (in_all stops told).requests ≤ 9 + 6 * length script.accesses + 5 * disturbed_among marks
-      + length stops * (14 + 6 * length script.accesses + 5 * disturbed_among marks)
+  -- the requests of all its calls
+  pub most : (in_all stops told).requests ≤ 9 + 6 * length batch.accesses + 5 * disturbed_among marks
+      + length stops * (14 + 6 * length batch.accesses + 5 * disturbed_among marks)
+
+-- The runs of a script, one after the other over the plain memory: each comes to what `RunsOn` says of the memory that
+-- the one before left, and begins only where that one ended all.
+pub data Session (tries resumes : ℕ) (marks : List Mark) (m : PlainMemory) : List Listed → List Done → PlainMemory → Type 0 where
+  none : Session tries resumes marks m [] [] m
+  then : {batches : List Listed} {runs : List Done} {before after : PlainMemory} {batch : Listed} {run : Done}
+      → Session tries resumes marks m batches runs before → ended_of runs ≡ All
+      → RunsOn tries resumes batch before marks run.stops run.told after
+      → Session tries resumes marks m (batches ++ batch ∷ []) (runs ++ run ∷ []) after
+
+-- The runs of a script over a target that was just made with its memory: all of them, or those up to one that did not end
+-- all.
+pub record RunsScript (tries resumes : ℕ) (script : Meaning) (marks : List Mark) (runs : List Done) : Type 0 where
+  pub memory : PlainMemory
+  pub session : Session tries resumes marks (memory_of script) (take (length runs) script.batches) runs memory
+  pub whole : ended_of runs ≡ All → length runs ≡ length script.batches
 
 -- the readers' texts are a script and a plan with these meanings
 pub record AreRead (script plan : Option (List ℕ)) (meaning : Meaning) (marks : List Mark) : Type 0 where
@@ -76,18 +95,22 @@ pub record AreRead (script plan : Option (List ℕ)) (meaning : Meaning) (marks 
   pub is_plan : IsText plan plan_text
   pub plans : plan_of plan_text ≡ Ok marks
 
--- and a run of them came to a report
+-- and these were the runs of them
 pub record Ran (tries resumes : ℕ) (script plan : Option (List ℕ)) : Type 0 where
   pub meaning : Meaning
   pub marks : List Mark
   pub read : AreRead script plan meaning marks
-  pub stops : List Stop
-  pub told : Told
-  pub runs : RunsOn tries resumes meaning marks stops told
+  pub runs : List Done
+  pub are : RunsScript tries resumes meaning marks runs
 
 -- the text of its report
 abbrev pub report_of : {tries resumes : ℕ} {script plan : Option (List ℕ)} → Ran tries resumes script plan → List ℕ
-report_of ran = report_text ran.meaning.accesses ran.stops ran.told
+report_of ran = session_text ran.meaning.batches ran.runs
+
+-- how it ended, and the first read that gave another word than the script tells
+abbrev pub IsFinished : {tries resumes : ℕ} {script plan : Option (List ℕ)} → Ran tries resumes script plan → Finished → Type 0
+IsFinished ran finished =
+    (finished.ended ≡ ended_of ran.runs) × (finished.differs ≡ first_difference ran.meaning.batches ran.runs)
 
 -- the text, where it is known, is a script, or a plan
 abbrev pub IsScript : Option (List ℕ) → Type 0
@@ -108,10 +131,10 @@ AreUnread (Listing fault) script plan = ⊥
 AreUnread TraceCut script plan = ⊥
 
 -- What an answer says of the readers' texts, where their bytes are known, and of what the writer holds before and after.
-abbrev pub RunsText : ℕ → ℕ → Result End EngineFault → Option (List ℕ) → Option (List ℕ) → Option (List ℕ)
+abbrev pub RunsText : ℕ → ℕ → Result Finished EngineFault → Option (List ℕ) → Option (List ℕ) → Option (List ℕ)
     → Option (List ℕ) → Type 0
-RunsText tries resumes (Ok ended) script plan old new =
-    (ran : Ran tries resumes script plan) × (ended ≡ ran.told.ended) × Appends old new (report_of ran)
+RunsText tries resumes (Ok finished) script plan old new =
+    (ran : Ran tries resumes script plan) × IsFinished ran finished × Appends old new (report_of ran)
 RunsText tries resumes (Err (Write written)) script plan old new =
     (ran : Ran tries resumes script plan) × Stopped written old new (report_of ran)
 RunsText tries resumes (Err (Script fault)) script plan old new = AreUnread (Script fault) script plan × Appends old new []

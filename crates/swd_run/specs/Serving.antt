@@ -1,5 +1,5 @@
 -- What a script and a plan say of a simulated target that a host outside drives.
-use Rattle.std.specs.Prelude.{ℕ, ◌≡◌, ◌≢◌, List, [], Option, None, true, false}
+use Rattle.std.specs.Prelude.{ℕ, ◌≡◌, List, [], ◌∷◌, Option, None, true, false}
 use Rattle.swd_port.specs.declared.mark.Mark.{Mark}
 use Rattle.swd_port.specs.Port.{made_target}
 use Rattle.swd_clocked.specs.declared.marked.MarkedClocked.{MarkedClocked}
@@ -7,7 +7,7 @@ use Rattle.swd_clocked.specs.Frames.{idle}
 use Rattle.swd_clocked.specs.Marked.{state_of, frame_in, unseen_of, plan_of, tally_of, cycles_of}
 use Rattle.swd_bitbang.specs.declared.trace.Trace.{Trace}
 use Rattle.swd_bitbang.specs.declared.pins.Pins.{Pins}
-use Rattle.swd_script.specs.Scripts.{Meaning}
+use Rattle.swd_script.specs.Scripts.{Listed, Meaning}
 use Rattle.swd_text.specs.declared.fault.EngineFault.TheVariants.{Memory}
 use Rattle.swd_run.specs.declared.serving.TargetFault.{TargetFault}
 use Rattle.swd_run.specs.declared.serving.TargetFault.TheVariants.{Texts, Accesses}
@@ -30,21 +30,27 @@ pub record IsAtRest {A : Type 0} (trace : Trace A) (pins : Pins A) : Type 0 wher
   pub seen : pins.seen ≡ None
   pub kept : pins.trace ≡ trace
 
+-- a script without accesses and without further calls
+abbrev pub IsBare : List Listed → Type 0
+IsBare [] = ⊥
+IsBare (batch ∷ []) = batch.accesses ≡ []
+IsBare (batch ∷ next ∷ batches) = ⊥
+
 -- the readers' texts are a script without accesses and a plan, and behind the pins is their target
 pub record Simulates {A : Type 0} (script plan : Option (List ℕ)) (trace : Trace A) (pins : Pins A) : Type 0 where
   pub meaning : Meaning
   pub marks : List Mark
   pub read : AreRead script plan meaning marks
-  pub no_access : meaning.accesses ≡ []
+  pub no_access : IsBare meaning.batches
   pub made : IsMade meaning marks pins.target
   pub rests : IsAtRest trace pins
 
--- the script has an access
+-- the script has an access, or further calls
 pub record HasAccesses (script plan : Option (List ℕ)) : Type 0 where
   pub meaning : Meaning
   pub marks : List Mark
   pub read : AreRead script plan meaning marks
-  pub access : meaning.accesses ≢ []
+  pub access : IsBare meaning.batches → ⊥
 
 abbrev pub IsTargetFault : TargetFault → Option (List ℕ) → Option (List ℕ) → Type 0
 IsTargetFault Accesses script plan = HasAccesses script plan

@@ -5,16 +5,17 @@ ghost use Rattle.swd_host.specs.declared.outcome.End.TheVariants.{Lost};
 ghost use Rattle.swd_host.specs.Plain.{AreAccesses};
 ghost use Rattle.swd_host.specs.Reports.{told_of};
 ghost use Rattle.swd_host.specs.Again.{Continues, ResumesOver};
-ghost use Rattle.swd_script.specs.Readers.{meaning};
-ghost use Rattle.swd_script.specs.Laws.{IsRunnable};
+ghost use Rattle.swd_script.specs.Readers.{listed};
+ghost use Rattle.swd_script.specs.Laws.{IsBatch};
 ghost use Rattle.swd_run.specs.Running.{most_begun};
-ghost use Rattle.swd_run.specs.GoingOn.{Went, stop_of};
+ghost use Rattle.swd_run.specs.GoingOn.{stop_of};
+ghost use Rattle.swd_run.specs.Sessions.{GoesOn, done_of};
 
 use crate::running::run_over;
 use std::alloc::Allocator;
 use swd_host::{End, Report, resume};
 use swd_port::Wire;
-use swd_script::Script;
+use swd_script::Batch;
 
 /// Where a run was resumed: what the call told that ended there, at a lost acknowledgement.
 #[derive(Clone, Copy, Debug, PartialEq, Eq)]
@@ -49,50 +50,47 @@ pub(crate) struct Resumed<A: Allocator> {
     pub(crate) report: Report<A>,
 }
 
-// Goes on with the accesses of a script. `None` where memory was refused, before the first bit.
+// Goes on with the accesses of a batch. `None` where memory was refused, before the first bit.
 fn resume_over<W: Wire, A: Allocator + Copy>(
     alloc: A,
     wire: &mut W,
-    script: &Script<A>,
+    batch: &Batch<A>,
     report: &Report<A>,
     tries: u32,
 ) -> Option<Report<A>>
-    requires script { IsRunnable (meaning script.now) }
-    requires accepted { AreAccesses (meaning script.now).accesses }
-    requires reported { length (told_of report.now).answers ≤ length (meaning script.now).accesses }
-    ensures continues { IfSome result (λ told. Continues (meaning script.now).accesses tries (told_of report.now)
+    requires batch { IsBatch (listed batch.now) }
+    requires accepted { AreAccesses (listed batch.now).accesses }
+    requires reported { length (told_of report.now).answers ≤ length (listed batch.now).accesses }
+    ensures continues { IfSome result (λ told. Continues (listed batch.now).accesses tries (told_of report.now)
         (told_of told) (W.port wire.new).link.due) }
     ensures fits { IfSome result (λ told. W.lawful wire.new → W.lawful wire.old
-        × ResumesOver (meaning script.now).accesses tries (told_of report.now) (told_of told)
+        × ResumesOver (listed batch.now).accesses tries (told_of report.now) (told_of told)
         (W.port wire.old) (W.port wire.new)) }
     ensures plan { W.plan wire.new ≡ W.plan wire.old }
 {
-    match resume(alloc, wire, script.accesses.as_slice(), report, tries) {
+    match resume(alloc, wire, batch.accesses.as_slice(), report, tries) {
         Ok(report) => Some(report),
         Err(_) => None,
     }
 }
 
-/// Runs the accesses of a script over a wire, and resumes the run where it ends at a lost acknowledgement, at
+/// Runs the accesses of a batch over a wire, and resumes the run where it ends at a lost acknowledgement, at
 /// most so many times. `None` where memory was refused: for the target's answers, or for a place.
 pub(crate) fn run_on<W: Wire, A: Allocator + Copy>(
     alloc: A,
     wire: &mut W,
-    script: &Script<A>,
+    batch: &Batch<A>,
     tries: u32,
     resumes: u32,
 ) -> Option<Resumed<A>>
-    requires script { IsRunnable (meaning script.now) }
+    requires batch { IsBatch (listed batch.now) }
     requires due { (W.port wire.old).link.due ≡ Nothing }
-    ensures few { IfSome result (λ resumed. length resumed.stops.items ≤ resumes) }
-    ensures lost { IfSome result (λ resumed. resumed.report.ended ≡ Lost
-        → length resumed.stops.items ≡ resumes) }
-    ensures went { IfSome result (λ resumed. W.lawful wire.new → Went W.port W.plan (most_begun (meaning script.now))
-        (meaning script.now).accesses tries wire.old resumed.stops.items (told_of resumed.report) wire.new) }
+    ensures goes { IfSome result (λ resumed. GoesOn W.port W.plan W.lawful (most_begun (listed batch.now)) tries resumes
+        (listed batch.now) wire.old (done_of resumed) wire.new) }
     ensures plan { W.plan wire.new ≡ W.plan wire.old }
 {
     let mut stops = Vec::new(alloc);
-    let mut report = run_over(alloc, wire, script, tries)?;
+    let mut report = run_over(alloc, wire, batch, tries)?;
     for done in 0..resumes {
         let End::Lost = report.ended else {
             return Some(Resumed { stops, report });
@@ -100,7 +98,7 @@ pub(crate) fn run_on<W: Wire, A: Allocator + Copy>(
         let Ok(()) = stops.push(Stop::of(&report)) else {
             return None;
         };
-        report = resume_over(alloc, wire, script, &report, tries)?;
+        report = resume_over(alloc, wire, batch, &report, tries)?;
     }
     Some(Resumed { stops, report })
 }

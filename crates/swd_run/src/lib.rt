@@ -1,6 +1,6 @@
-//! The engine of `swd run`: a script's accesses over a simulated target, each once, whatever the plan
-//! does to the wire, and where it is resumed at a lost acknowledgement; its report, as text, and the
-//! trace of what went over the wire.
+//! The engine of `swd run`: a script's calls over a simulated target, each access once, whatever the plan
+//! does to the wire, and where a call is resumed at a lost acknowledgement; their report, as text, the
+//! first word that isn't the script's, and the trace of what went over the wire.
 #![tactic(auto)]
 
 mod going_on;
@@ -8,17 +8,20 @@ mod remote;
 mod report;
 mod running;
 mod serving;
+mod session;
 mod target_log;
 mod texts;
 mod tracing;
+mod verified;
 
 pub use going_on::Stop;
 pub use remote::{Reached, run_remote};
-pub use report::{ReportLine, answer_line, last_line, resume_line, write_report};
-pub use running::run_text;
+pub use report::{ReportLine, answer_line, last_line, resume_line};
+pub use running::{Finished, run_text};
 pub use serving::{TargetFault, read_target};
 pub use target_log::write_log;
 pub use tracing::run_traced;
+pub use verified::Difference;
 
 #[cfg(test)]
 mod tests;

@@ -4,8 +4,9 @@ ghost use Rattle.swd_script.specs.Readers.{meaning};
 ghost use Rattle.swd_run.specs.RemoteRuns.{RunsRemote};
 
 use crate::report::write_report;
-use crate::running::run_over;
+use crate::session::run_all;
 use crate::texts::script_fault;
+use crate::verified::{Difference, first_difference};
 use std::alloc::Allocator;
 use std::io::{Read, Write};
 use swd_host::End;
@@ -17,14 +18,17 @@ use swd_text::EngineFault;
 /// How a run at a remote end came out.
 #[derive(Clone, Copy, Debug, PartialEq, Eq)]
 pub struct Reached {
-    /// How it ended. Where the other end went away it is lost.
+    /// How the last of its calls ended. Where the other end went away it is lost.
     pub ended: End,
+    /// The first read that gave another word than the script tells.
+    pub differs: Option<Difference>,
     /// Why the other end is gone, where it is.
     pub fault: Option<Fault>,
 }
 
-/// Reads a script, runs its accesses at the target behind a server of remote_bitbang characters, says
-/// that the host is done, and writes the report. The script's memory and room mean nothing there.
+/// Reads a script, runs its calls one after the other at the target behind a server of remote_bitbang
+/// characters, as long as each is done whole, says that the host is done, and writes their reports. Each call
+/// is resumed at most `resumes` times. The script's memory and room mean nothing there.
 ///
 /// Whatever comes back, the run ends; and of every story of a port machine that the replies fit the report
 /// tells the truth. Characters are sent where an answer is needed, and exactly as many bytes are read as
@@ -47,9 +51,10 @@ pub fn run_remote<
     script: &mut S,
     remote: Remote<R, W>,
     tries: u32,
+    resumes: u32,
     report: &mut O,
 ) -> Result<Reached, EngineFault>
-    ensures { RunsRemote P.at tries result (S.remaining script.old) (O.contents report.old) (O.contents report.new) }
+    ensures { RunsRemote P.at tries resumes result (S.remaining script.old) (O.contents report.old) (O.contents report.new) }
 {
     let script = match read_script(alloc, script) {
         Ok(script) => script,
@@ -58,13 +63,16 @@ pub fn run_remote<
     let mut wire: Outside<ProbeTransport<Remote<R, W>>, P> = Outside::new(ProbeTransport::new(
         remote,
     ));
-    let Some(ran) = run_over(alloc, &mut wire, &script, tries) else {
+    let batches = script.batches.as_slice();
+    let Some(session) = run_all(alloc, &mut wire, batches, tries, resumes) else {
         return Err(EngineFault::Memory);
     };
     let fault = hang_up(wire.into_transport());
-    match write_report(report, script.accesses.as_slice(), &[], &ran) {
+    let runs = session.runs.as_slice();
+    match write_report(report, batches, runs) {
         Ok(()) => Ok(Reached {
-            ended: ran.ended,
+            ended: session.ended,
+            differs: first_difference(batches, runs),
             fault,
         }),
         Err(written) => Err(EngineFault::Write { written }),

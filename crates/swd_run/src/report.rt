@@ -1,13 +1,16 @@
 //! The report of a run, as text.
-ghost use Rattle.std.specs.Prelude.{◌≡◌, ℕ, ◌+◌, ◌≤◌, List, ◌++◌, Option, take, drop};
+ghost use Rattle.std.specs.Prelude.{◌≡◌, ℕ, ◌+◌, ◌≤◌, List, ◌++◌, Option, take, drop, map};
 ghost use Rattle.std.specs.Fmt.{decimal};
 ghost use Rattle.arrayvec.specs.ArrayString.{array_string_len};
 ghost use Rattle.swd_bits.specs.Listing.{hex8};
 ghost use Rattle.swd_host.specs.Reports.{told_of};
 ghost use Rattle.swd_io.specs.Blocks.{Sends, Writes};
-ghost use Rattle.swd_run.specs.Reports.{answer_line, answer_lines, last_line, lines_from, report_text, resume_line, stop_text};
+ghost use Rattle.swd_script.specs.Readers.{listed};
+ghost use Rattle.swd_run.specs.Reports.{answer_line, answer_lines, last_line, lines_from, report_text, resume_line};
+ghost use Rattle.swd_run.specs.Reports.{session_text, stop_text, HasWritten, WritesOn};
+ghost use Rattle.swd_run.specs.Sessions.{done_of};
 
-use crate::going_on::Stop;
+use crate::going_on::{Resumed, Stop};
 use arrayvec::ArrayString;
 use std::alloc::Allocator;
 use std::io::Write;
@@ -15,6 +18,7 @@ use swd_bits::push_word;
 use swd_host::{End, Report};
 use swd_io::Block;
 use swd_port::{Access, Answer};
+use swd_script::Batch;
 
 /// The line of a report.
 pub type ReportLine = ArrayString<48>;
@@ -170,25 +174,43 @@ fn put_report<W: Write, A: Allocator>(
     block.put_line(last.as_str().as_bytes());
 }
 
-/// Writes the report of a run of these accesses, which was resumed at these places. It takes no memory.
+// Writes the report of one run, after so many bytes of a text that went out before, and counts on.
+fn write_run<W: Write, A: Allocator>(
+    writer: &mut W,
+    written: u64,
+    accesses: &[Access],
+    stops: &[Stop],
+    report: &Report<A>,
+) -> Result<u64, u64>
+    ensures { (start : Option (List ℕ)) (all : List ℕ) → HasWritten start (W.contents writer.old) all written
+        → WritesOn result start (W.contents writer.new) (all ++ report_text accesses.now stops.now (told_of report.now)) }
+{
+    let mut block = Block::new(writer, written);
+    put_report(&mut block, accesses, stops, report);
+    block.flush()
+}
+
+/// Writes the reports of runs of these batches, one after the other. It takes no memory.
 ///
 /// # Errors
 ///
 /// How many bytes of the text went out, where the writer failed or took no bytes: exactly its first
 /// ones. Nothing is tried again.
-pub fn write_report<W: Write, A: Allocator>(
+pub(crate) fn write_report<W: Write, A: Allocator>(
     writer: &mut W,
-    accesses: &[Access],
-    stops: &[Stop],
-    report: &Report<A>,
+    batches: &[Batch<A>],
+    runs: &[Resumed<A>],
 ) -> Result<(), u64>
     ensures { Writes result (W.contents writer.old) (W.contents writer.new)
-        (report_text accesses.now stops.now (told_of report.now)) }
+        (session_text (map listed batches.now) (map done_of runs.now)) }
 {
-    let mut block = Block::new(writer, 0);
-    put_report(&mut block, accesses, stops, report);
-    match block.flush() {
-        Ok(_) => Ok(()),
-        Err(written) => Err(written),
+    let mut written = 0;
+    for (batch, run) in batches.iter().zip(runs.iter()) {
+        let accesses = batch.accesses.as_slice();
+        match write_run(writer, written, accesses, run.stops.as_slice(), &run.report) {
+            Ok(told) => written = told,
+            Err(told) => return Err(told),
+        }
     }
+    Ok(())
 }

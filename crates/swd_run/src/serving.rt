@@ -1,9 +1,7 @@
 //! A script and a plan, to the simulated target that a host outside drives.
-ghost use Rattle.std.specs.Prelude.{◌≡◌, IfOk, IfErr, IfSome};
-ghost use Rattle.swd_script.specs.Readers.{meaning};
-ghost use Rattle.swd_script.specs.Laws.{IsRunnable};
-ghost use Rattle.swd_target.specs.Marks.{IsPlan};
-ghost use Rattle.swd_run.specs.Serving.{IsAtRest, IsTargetFault, Simulates};
+ghost use Rattle.std.specs.Prelude.{◌≡◌, ◌↔◌, true, map, IfOk, IfErr};
+ghost use Rattle.swd_script.specs.Readers.{listed};
+ghost use Rattle.swd_run.specs.Serving.{IsBare, IsTargetFault, Simulates};
 
 use crate::running::{QUIRKS, zero_memory};
 use crate::texts::{Texts, read_texts};
@@ -11,6 +9,7 @@ use std::alloc::Allocator;
 use std::io::Read;
 use swd_bitbang::{Pins, Trace};
 use swd_clocked::MarkedClocked;
+use swd_script::Batch;
 use swd_text::EngineFault;
 
 /// Why there is no target to serve.
@@ -18,7 +17,7 @@ use swd_text::EngineFault;
 pub enum TargetFault {
     /// A fault of the script or the plan, a reader that failed, or no memory.
     Texts(EngineFault),
-    /// The script has accesses: a target has those of its host alone.
+    /// The script has accesses, or further calls: a target has those of its host alone.
     Accesses,
 }
 
@@ -30,7 +29,7 @@ pub enum TargetFault {
 ///
 /// `Texts` for the first fault of these texts, the script's before the plan's, where a reader failed,
 /// and where memory was refused for the accesses, the marks or the memory. `Accesses` where the
-/// script has accesses.
+/// script has accesses, or further calls.
 pub fn read_target<S: Read, P: Read, A: Allocator + Copy>(
     alloc: A,
     script: &mut S,
@@ -44,7 +43,7 @@ pub fn read_target<S: Read, P: Read, A: Allocator + Copy>(
         Ok(texts) => texts,
         Err(fault) => return Err(TargetFault::Texts(fault)),
     };
-    if !script.accesses.is_empty() {
+    if !is_bare(script.batches.as_slice()) {
         return Err(TargetFault::Accesses);
     }
     let Some(memory) = zero_memory(alloc, &script) else {
@@ -52,4 +51,14 @@ pub fn read_target<S: Read, P: Read, A: Allocator + Copy>(
     };
     let target = MarkedClocked::new(memory, QUIRKS, plan);
     Ok(Pins::new(target, trace))
+}
+
+// Whether there is one call alone, without an access.
+fn is_bare<A: Allocator>(batches: &[Batch<A>]) -> bool
+    ensures { (result ≡ true) ↔ IsBare (map listed batches.now) }
+{
+    match batches {
+        [batch] => batch.accesses.is_empty(),
+        _ => false,
+    }
 }

@@ -1,22 +1,20 @@
 //! A run with the trace of what went over the wire.
-ghost use Rattle.std.specs.Prelude.{◌≡◌, IfSome, IfOk, IfErr};
-ghost use Rattle.std.specs.Io.KnownBytes.{Appends};
-ghost use Rattle.swd_host.specs.Reports.{told_of};
+ghost use Rattle.std.specs.Prelude.{◌≡◌, map, IfSome};
 ghost use Rattle.swd_script.specs.Readers.{meaning};
 ghost use Rattle.swd_script.specs.Laws.{IsRunnable};
 ghost use Rattle.swd_target.specs.Marks.{IsPlan};
-ghost use Rattle.swd_recorder.specs.Recorders.{kept_by, port_by};
-ghost use Rattle.swd_run.specs.GoingOn.{in_all};
-ghost use Rattle.swd_run.specs.Running.{RunsOn};
+ghost use Rattle.swd_recorder.specs.Recorders.{port_by};
+ghost use Rattle.swd_run.specs.Sessions.{done_of, ended_of, requests_of};
+ghost use Rattle.swd_run.specs.Running.{RunsScript};
 ghost use Rattle.swd_run.specs.Tracing.{RunsTraced, IsRecorded};
 
-use crate::going_on::{Resumed, run_on};
 use crate::report::write_report;
-use crate::running::target_of;
+use crate::running::{Finished, target_of};
+use crate::session::{Session, run_all};
 use crate::texts::{Texts, read_texts};
+use crate::verified::first_difference;
 use std::alloc::Allocator;
 use std::io::{Read, Write};
-use swd_host::End;
 use swd_port::{Mark, Wire};
 use swd_recorder::Recorder;
 use swd_script::Script;
@@ -24,15 +22,15 @@ use swd_target::Bench;
 use swd_target::laws::marks_used;
 use swd_text::{EngineFault, write_items};
 
-/// A run and what went over its wire.
+/// The runs of a script and what went over their wire.
 #[derive(Drop)]
 struct Recorded<W: Wire, A: Allocator> {
-    resumed: Resumed<A>,
+    session: Session<A>,
     recorder: Recorder<W, A>,
 }
 
-// Runs a script over a simulated target, resumes it at most so many times, and keeps what goes over the
-// wire. `None` where memory was refused.
+// Runs a script over a simulated target, resumes each of its calls at most so many times, and keeps what goes over
+// the wire. `None` where memory was refused.
 fn record_script<A: Allocator + Copy>(
     alloc: A,
     script: &Script<A>,
@@ -42,17 +40,25 @@ fn record_script<A: Allocator + Copy>(
 ) -> Option<Recorded<Bench<A>, A>>
     requires script { IsRunnable (meaning script.now) }
     requires plan { IsPlan plan.items }
-    ensures runs { IfSome result (λ recorded. RunsOn tries resumes (meaning script.now) plan.items
-        recorded.resumed.stops.items (told_of recorded.resumed.report)) }
-    ensures recorded { IfSome result (λ recorded. IsRecorded (in_all recorded.resumed.stops.items
-        (told_of recorded.resumed.report)) (port_by recorded.recorder)) }
+    ensures runs { IfSome result (λ recorded. RunsScript tries resumes (meaning script.now) plan.items
+        (map done_of recorded.session.runs.items)) }
+    ensures ended { IfSome result (λ recorded.
+        recorded.session.ended ≡ ended_of (map done_of recorded.session.runs.items)) }
+    ensures recorded { IfSome result (λ recorded. IsRecorded (requests_of (map done_of recorded.session.runs.items))
+        (ended_of (map done_of recorded.session.runs.items)) (port_by recorded.recorder)) }
 {
     let bench = target_of(alloc, script, plan)?;
     let mut recorder = Recorder::new(alloc, bench);
     // The marks that a run meets are among those of the plan.
     marks_used::<A>();
-    let resumed = run_on(alloc, &mut recorder, script, tries, resumes)?;
-    Some(Recorded { resumed, recorder })
+    let session = run_all(
+        alloc,
+        &mut recorder,
+        script.batches.as_slice(),
+        tries,
+        resumes,
+    )?;
+    Some(Recorded { session, recorder })
 }
 
 /// `run_text`, and then the trace of what went over the wire: the trace text of its items, one line an
@@ -76,7 +82,7 @@ pub fn run_traced<S: Read, P: Read, W: Write, T: Write, A: Allocator + Copy>(
     resumes: u32,
     writer: &mut W,
     trace: &mut T,
-) -> Result<End, EngineFault>
+) -> Result<Finished, EngineFault>
     ensures { RunsTraced tries resumes result (S.remaining script.old) (P.remaining plan.old)
         (W.contents writer.old) (W.contents writer.new) (T.contents trace.old) (T.contents trace.new) }
 {
@@ -87,14 +93,10 @@ pub fn run_traced<S: Read, P: Read, W: Write, T: Write, A: Allocator + Copy>(
     let Some(recorded) = record_script(alloc, &script, plan, tries, resumes) else {
         return Err(EngineFault::Memory);
     };
-    let Recorded { resumed, recorder } = recorded;
-    let Resumed { stops, report } = resumed;
-    match write_report(
-        writer,
-        script.accesses.as_slice(),
-        stops.as_slice(),
-        &report,
-    ) {
+    let Recorded { session, recorder } = recorded;
+    let batches = script.batches.as_slice();
+    let runs = session.runs.as_slice();
+    match write_report(writer, batches, runs) {
         Ok(()) => {}
         Err(written) => return Err(EngineFault::Write { written }),
     }
@@ -103,10 +105,12 @@ pub fn run_traced<S: Read, P: Read, W: Write, T: Write, A: Allocator + Copy>(
         Err(written) => return Err(EngineFault::Write { written }),
     }
     if recorder.is_cut() {
-        Err(EngineFault::TraceCut)
-    } else {
-        Ok(report.ended)
+        return Err(EngineFault::TraceCut);
     }
+    Ok(Finished {
+        ended: session.ended,
+        differs: first_difference(batches, runs),
+    })
 }
 
 #[cfg(test)]

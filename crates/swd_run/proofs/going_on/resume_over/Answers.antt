@@ -8,7 +8,7 @@ use Rattle.swd_run.proofs.going_on.resume_over.Goals as goal
 pub resume-requires-clause-accepted : goal.resume-requires-clause-accepted
 resume-requires-clause-accepted g c =
     subst (λ (list : List Access). (length list ≤ 65536) × AreAccesses list) (sym c.as_slice.ensures.value)
-    (c.requires.script.few, c.requires.accepted)
+    (c.requires.batch.few, c.requires.accepted)
 
 pub resume-requires-clause-reported : goal.resume-requires-clause-reported
 resume-requires-clause-reported g c =

@@ -1,7 +1,7 @@
-use Rattle.std.proofs.Common.{◌≡◌, ◌∙◌, ◌+◌, List, [], ◌∷◌, ◌++◌, length, sym, ap, subst}
+use Rattle.std.proofs.Common.{◌≡◌, ◌∙◌, ◌+◌, ◌≤◌, List, [], ◌∷◌, ◌++◌, length, sym, ap, subst, arith}
 use Rattle.std.proofs.lemmas.List.{length-append}
 use Rattle.swd_host.specs.Reports.{told_of}
-use Rattle.swd_script.specs.Readers.{meaning}
+use Rattle.swd_script.specs.Readers.{listed}
 use Rattle.swd_run.specs.declared.going_on.Stop.{Stop}
 use Rattle.swd_run.specs.Running.{most_begun}
 use Rattle.swd_run.specs.GoingOn.{Went, ran, resumed, stop_of}
@@ -9,21 +9,20 @@ use Rattle.swd_run.proofs.going_on.run_on.Goals as goal
 
 pub loop-done-init : goal.loop-done-init
 loop-done-init g c =
-    let script = meaning c.args.script.now in
+    let batch = listed c.args.batch.now in
     let told = told_of c.in_ok-report.report in
     let ensures = c.in_ok-report.ensures in
     record {
       count = ap length c.new-stops.ensures.items;
       number = ensures.closes.number;
       plan = ensures.plan;
-      went = λ lawful.
-          subst (λ (stops : List Stop). Went g.W.Wire.port g.W.Wire.plan (most_begun script) script.accesses c.args.tries c.args.wire.now stops told c.run_over.new.wire)
-          (sym c.new-stops.ensures.items) (ran ensures.plan ensures.closes (ensures.fits lawful));
+      went = subst (λ (stops : List Stop). Went g.W.Wire.port g.W.Wire.plan g.W.Wire.lawful (most_begun batch) batch.accesses c.args.tries c.args.wire.now stops told c.run_over.new.wire)
+          (sym c.new-stops.ensures.items) (ran ensures.plan ensures.closes ensures.fits);
     }
 
 pub loop-done-preserved : goal.loop-done-preserved
 loop-done-preserved g c =
-    let script = meaning c.args.script.now in
+    let batch = listed c.args.batch.now in
     let before = c.loop-done.stops.items in
     let earlier = told_of c.loop-done.report in
     let told = told_of c.in_ok-report-2.report in
@@ -35,7 +34,6 @@ loop-done-preserved g c =
       count = ap length items ∙ length-append before (stop_of earlier ∷ []) ∙ ap (λ n. n + 1) c.loop-done.invariant.count;
       number = ensures.continues.number;
       plan = plan;
-      went = λ lawful. (let (old, over) = ensures.fits lawful in
-          subst (λ (stops : List Stop). Went g.W.Wire.port g.W.Wire.plan (most_begun script) script.accesses c.args.tries c.args.wire.now stops told c.resume_over.new.wire)
-          (sym items) (resumed (c.loop-done.invariant.went old) c.in-Lost.is plan ensures.continues over));
+      went = subst (λ (stops : List Stop). Went g.W.Wire.port g.W.Wire.plan g.W.Wire.lawful (most_begun batch) batch.accesses c.args.tries c.args.wire.now stops told c.resume_over.new.wire)
+          (sym items) (resumed c.loop-done.invariant.went c.in-Lost.is plan ensures.continues ensures.fits);
     }

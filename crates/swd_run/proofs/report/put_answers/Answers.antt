@@ -4,8 +4,8 @@ use Rattle.std.proofs.lemmas.Slice.Zip.{zip_turn, zip_end}
 use Rattle.std.specs.Slice.Iter.{iter_rest}
 use Rattle.std.specs.Iterator.Adapters.{zip_first, zip_second}
 use Rattle.swd_io.specs.Blocks.{Sends}
-use Rattle.swd_run.specs.Reports.{answer_line, answer_lines}
-use Rattle.swd_run.proofs.ReportLemmas.{lines_more, lines_whole}
+use Rattle.swd_run.specs.Reports.{answer_fed, answer_line, answer_lines}
+use Rattle.swd_run.proofs.ReportLemmas.{pairs_more, pairs_whole}
 use Rattle.swd_run.proofs.report.put_answers.Goals as goal
 
 pub loop-access-preserved : goal.loop-access-preserved
@@ -26,7 +26,7 @@ loop-access-preserved g c =
       sends = λ start all h.
           subst (λ x. Sends g.W.Write.contents start c.put_line.new.self x)
           (ap (λ x. (all ++ so_far) ++ (x ++ 10 ∷ [])) line ∙ append_assoc all so_far (answer_line (get_or accesses i access) (get_or answers i answer) ++ 10 ∷ [])
-          ∙ ap (λ x. all ++ x) (sym (lines_more accesses answers i access answer turn.0 turn.1) ∙ ap (λ n. answer_lines (take n accesses) (take n answers)) (sym next)))
+          ∙ ap (λ x. all ++ x) (sym (pairs_more answer_fed accesses answers i access answer turn.0 turn.1) ∙ ap (λ n. answer_lines (take n accesses) (take n answers)) (sym next)))
           (c.put_line.ensures.sends start (all ++ so_far) (c.loop-access.invariant.sends start all h));
       writer = c.put_line.ensures.writer ∙ c.loop-access.invariant.writer;
     }
@@ -39,7 +39,7 @@ returns-clause-sends g c = λ start all h.
     let first : iter_rest (zip_first c.into_iter-access-iterator.result) ≡ accesses = search in
     let second : iter_rest (zip_second c.into_iter-access-iterator.result) ≡ answers = search in
     let ended = zip_end accesses answers c.loop-access.yielded c.into_iter-access-iterator.result c.loop-access.access-iterator c.next.new.self c.next.result first second c.loop-access.yielded_by c.in-None.is c.next.ensures.steps in
-    subst (λ x. Sends g.W.Write.contents start c.loop-access.block (all ++ x)) (lines_whole accesses answers i ended)
+    subst (λ x. Sends g.W.Write.contents start c.loop-access.block (all ++ x)) (pairs_whole answer_fed accesses answers i ended)
     (c.loop-access.invariant.sends start all h)
 
 pub returns-clause-writer : goal.returns-clause-writer

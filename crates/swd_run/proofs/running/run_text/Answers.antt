@@ -1,10 +1,10 @@
-use Rattle.std.proofs.Common.{refl, subst}
+use Rattle.std.proofs.Common.{◌≡◌, List, map, refl, subst, sym, ap, ◌∙◌}
 use Rattle.std.specs.Io.KnownBytes.{Appends}
 use Rattle.swd_io.specs.Blocks.{Stopped}
-use Rattle.swd_host.specs.Reports.{told_of}
-use Rattle.swd_script.specs.Readers.{meaning}
+use Rattle.swd_script.specs.Readers.{listed, meaning}
 use Rattle.swd_script.proofs.TextLaws.{is_runnable, is_plan}
-use Rattle.swd_run.specs.Reports.{report_text}
+use Rattle.swd_run.specs.Sessions.{done_of}
+use Rattle.swd_run.proofs.ReportLemmas.{appended, first_of, stopped}
 use Rattle.swd_run.proofs.RunLemmas.{ran_as}
 use Rattle.swd_run.proofs.running.run_text.Goals as goal
 
@@ -16,23 +16,28 @@ run_script-requires-clause-plan g c = let read = c.in-Ok.ensures.read in is_plan
 
 pub returns-in-Ok-write_report : goal.returns-in-Ok-write_report
 returns-in-Ok-write_report g c =
-    let run = c.in-Some.resumed in
-    let told = told_of run.report in
+    let script = c.in-Ok.texts.script in
+    let runs = map done_of c.in-Some.session.runs.items in
     let start = g.W.Write.contents c.args.writer.now in
     let end = g.W.Write.contents c.write_report.new.writer in (
-      ran_as c.args.tries c.args.resumes (g.S.Read.remaining c.args.script.now) (g.P.Read.remaining c.args.plan.now) (meaning c.in-Ok.texts.script) c.in-Ok.texts.plan.items run.stops.items told c.in-Ok.ensures.read c.in-Some.ensures,
-      refl,
-      subst (λ stops. Appends start end (report_text (meaning c.in-Ok.texts.script).accesses stops told)) c.as_slice-2.ensures.value
-          (subst (λ list. Appends start end (report_text list c.as_slice-2.result.now told)) c.as_slice.ensures.value c.in-Ok-write_report.ensures),
+      ran_as c.args.tries c.args.resumes (g.S.Read.remaining c.args.script.now) (g.P.Read.remaining c.args.plan.now) (meaning script) c.in-Ok.texts.plan.items runs c.in-Ok.ensures.read c.in-Some.ensures.runs,
+      (
+        c.in-Some.ensures.ended,
+        first_of c.first_difference.result c.as_slice-batches.result.now script.batches.items c.as_slice-runs.result.now c.in-Some.session.runs.items
+            c.as_slice-batches.ensures.value c.as_slice-runs.ensures.value c.first_difference.ensures,
+      ),
+      appended start end c.as_slice-batches.result.now script.batches.items c.as_slice-runs.result.now c.in-Some.session.runs.items
+          c.as_slice-batches.ensures.value c.as_slice-runs.ensures.value c.in-Ok-write_report.ensures,
     )
 
 pub returns : goal.returns
 returns g c =
-    let run = c.in-Some.resumed in
-    let told = told_of run.report in
+    let script = c.in-Ok.texts.script in
+    let runs = map done_of c.in-Some.session.runs.items in
     let start = g.W.Write.contents c.args.writer.now in
-    let end = g.W.Write.contents c.write_report.new.writer in (
-      ran_as c.args.tries c.args.resumes (g.S.Read.remaining c.args.script.now) (g.P.Read.remaining c.args.plan.now) (meaning c.in-Ok.texts.script) c.in-Ok.texts.plan.items run.stops.items told c.in-Ok.ensures.read c.in-Some.ensures,
-      subst (λ stops. Stopped c.in-Err-write_report.written start end (report_text (meaning c.in-Ok.texts.script).accesses stops told)) c.as_slice-2.ensures.value
-          (subst (λ list. Stopped c.in-Err-write_report.written start end (report_text list c.as_slice-2.result.now told)) c.as_slice.ensures.value c.in-Err-write_report.ensures),
+    let end = g.W.Write.contents c.write_report.new.writer in
+    let written = c.in-Err-write_report.written in (
+      ran_as c.args.tries c.args.resumes (g.S.Read.remaining c.args.script.now) (g.P.Read.remaining c.args.plan.now) (meaning script) c.in-Ok.texts.plan.items runs c.in-Ok.ensures.read c.in-Some.ensures.runs,
+      stopped start end c.as_slice-batches.result.now script.batches.items c.as_slice-runs.result.now c.in-Some.session.runs.items
+          c.as_slice-batches.ensures.value c.as_slice-runs.ensures.value written c.in-Err-write_report.ensures,
     )

@@ -1,11 +1,11 @@
-use Rattle.std.proofs.Common.{◌≡◌, List, [], ◌∷◌, length, refl, sym, ap, ◌∙◌, subst, arith}
+use Rattle.std.proofs.Common.{◌≡◌, Bool, true, false, List, [], ◌∷◌, length, map, refl, sym, ap, ◌∙◌, subst, arith}
 use Rattle.std.proofs.lemmas.Bool.Decides.{nat_tests}
 use Rattle.swd_port.specs.Port.{made_target}
 use Rattle.swd_port.specs.PlainMemory.{PlainMemory}
 use Rattle.swd_clocked.specs.declared.marked.MarkedClocked.{MarkedClocked}
-use Rattle.swd_script.specs.Readers.{meaning}
+use Rattle.swd_script.specs.Readers.{listed, meaning}
 use Rattle.swd_script.proofs.TextLaws.{is_runnable, is_plan}
-use Rattle.swd_run.specs.Serving.{IsMade}
+use Rattle.swd_run.specs.Serving.{IsBare, IsMade}
 use Rattle.swd_run.proofs.serving.read_target.Goals as goal
 
 pub zero_memory-requires : goal.zero_memory-requires
@@ -14,9 +14,19 @@ zero_memory-requires g c = let read = c.in-Ok.ensures.read in is_runnable read.s
 pub new-target-requires : goal.new-target-requires
 new-target-requires g c = let read = c.in-Ok.ensures.read in is_plan read.plan_text c.in-Ok.texts.plan.items read.plans
 
-none : {X : Type 0} (list : List X) → length list ≡ 0 → list ≡ []
-none [] e = refl
-none (x ∷ list) e = absurd (omega arith)
+apart : (b : Bool) → b ≡ true → b ≡ false → ⊥
+apart b e f = absurd cc
+
+pub returns-then-not-is_bare-clause-fault : goal.returns-then-not-is_bare-clause-fault
+returns-then-not-is_bare-clause-fault g c =
+    let script = c.in-Ok.texts.script in
+    record {
+      meaning = meaning script;
+      marks = c.in-Ok.texts.plan.items;
+      read = c.in-Ok.ensures.read;
+      access = λ bare. apart c.is_bare.result
+          (c.is_bare.ensures.1 (subst (λ batches. IsBare (map listed batches)) (sym c.as_slice.ensures.value) bare)) c.if-not-is_bare.true;
+    }
 
 pub returns-clause-made : goal.returns-clause-made
 returns-clause-made g c =
@@ -36,7 +46,7 @@ returns-clause-made g c =
       meaning = meaning script;
       marks = marks;
       read = c.in-Ok.ensures.read;
-      no_access = none script.accesses.items (let test = sym c.is_empty.ensures ∙ c.if-not-is_empty.false in grind (arith, nat_tests));
+      no_access = subst (λ batches. IsBare (map listed batches)) c.as_slice.ensures.value (c.is_bare.ensures.0 c.if-not-is_bare.false);
       made = subst (λ (t : MarkedClocked _). IsMade (meaning script) marks t) (sym pins.target) made;
       rests = record { clock = pins.clock; level = pins.level; drives = pins.drives; seen = pins.seen; kept = pins.trace };
     }

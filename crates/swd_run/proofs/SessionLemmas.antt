@@ -1,0 +1,169 @@
+-- Runs of a script, one after the other.
+use Rattle.std.proofs.Common.{◌≡◌, ℕ, zero, suc, ◌+◌, ◌<◌, ◌≤◌, ◌∙◌, List, [], ◌∷◌, ◌++◌, length, take, map, get_or, refl, sym, ap, subst}
+use Rattle.std.proofs.Common.{arith, append_assoc, add-one}
+use Rattle.std.specs.Prelude.{◌↔◌, All as Each}
+use Rattle.std.proofs.lemmas.List.{length-append}
+use Rattle.std.proofs.Math.Seq.{take-suc}
+use Rattle.swd_port.specs.declared.mark.Mark.{Mark}
+use Rattle.swd_port.specs.declared.wire.Due.{Due}
+use Rattle.swd_port.specs.declared.wire.Due.TheVariants.{Nothing, Lost as DueLost}
+use Rattle.swd_port.specs.Choices.{disturbed_among, lost_among}
+use Rattle.swd_port.specs.Port.{Port, made}
+use Rattle.swd_recorder.specs.Steps.{pending}
+use Rattle.swd_host.specs.declared.outcome.End.{End}
+use Rattle.swd_host.specs.declared.outcome.End.TheVariants.{All, Lost}
+use Rattle.swd_host.specs.Reports.{IsAtRest, due_at}
+use Rattle.swd_script.specs.Scripts.{Listed, Meaning}
+use Rattle.swd_run.specs.GoingOn.{in_all}
+use Rattle.swd_run.specs.Running.{RunsScript, Session, memory_of, most_begun}
+use Rattle.swd_run.specs.Running.{none as no_run, then as then_run}
+use Rattle.swd_run.specs.Sessions.{Done, GoesOn, Runs, RunsAll, ended_of, none, then, requests_of}
+use Rattle.swd_run.specs.Tracing.{IsRecorded}
+use Rattle.swd_run.proofs.RunLemmas.{made_rests}
+use Rattle.swd_run.proofs.WentLemmas.{asked, due_after, ending, law_before, plan_kept, rests, runs_on}
+
+-- ---- lists of runs
+
+pub ended_last : (runs : List Done) (run : Done) → ended_of (runs ++ run ∷ []) ≡ run.told.ended
+ended_last [] run = refl
+ended_last (first ∷ []) run = refl
+ended_last (first ∷ next ∷ runs) run = ended_last (next ∷ runs) run
+
+requests_last : (runs : List Done) (run : Done)
+    → requests_of (runs ++ run ∷ []) ≡ requests_of runs + (in_all run.stops run.told).requests
+requests_last [] run = omega arith
+requests_last (first ∷ runs) run = let h = requests_last runs run in omega (arith, h)
+
+pub map_last : {X Y : Type 0} (f : X → Y) (xs : List X) (x : X) → map f (xs ++ x ∷ []) ≡ map f xs ++ f x ∷ []
+map_last f [] x = refl
+map_last f (first ∷ xs) x = ap (λ ys. f first ∷ ys) (map_last f xs x)
+
+pub map_length : {X Y : Type 0} (f : X → Y) (xs : List X) → length (map f xs) ≡ length xs
+map_length f [] = refl
+map_length f (x ∷ xs) = ap (λ n. suc n) (map_length f xs)
+
+pub map_at : {X Y : Type 0} (f : X → Y) (xs : List X) (i : ℕ) (d : X) → get_or (map f xs) i (f d) ≡ f (get_or xs i d)
+map_at f [] i d = refl
+map_at f (x ∷ xs) zero d = refl
+map_at f (x ∷ xs) (suc i) d = map_at f xs i d
+
+-- one item more of the front of a list
+pub one_more_of : {X Y : Type 0} (f : X → Y) (xs : List X) (i : ℕ) (d : X) → i < length xs
+    → take (i + 1) (map f xs) ≡ take i (map f xs) ++ f (get_or xs i d) ∷ []
+one_more_of f xs i d low =
+    let many : length (map f xs) ≡ length xs = map_length f xs in
+    ap (λ n. take n (map f xs)) (add-one i) ∙ take-suc (map f xs) i (f d) (omega (arith, many, low))
+    ∙ ap (λ y. take i (map f xs) ++ y ∷ []) (map_at f xs i d)
+
+-- ---- runs over a wire
+
+module _ {W : Type 0} (port : W → Port) (plan : W → List Mark) (lawful : W → Type 0) (tries resumes : ℕ) (s : W) where
+  pub due_then : (batch : Listed) (run : Done) (t u : W) → run.told.ended ≡ All
+      → GoesOn port plan lawful (most_begun batch) tries resumes batch t run u → (port u).link.due ≡ Nothing
+  due_then batch run t u all goes =
+      due_after port plan lawful (most_begun batch) batch.accesses tries t run.stops run.told u goes.went
+      ∙ ap due_at all
+
+  -- over a target at rest, whose marks are among those of a plan
+  module _ (marks : List Mark) (rest : IsAtRest (port s)) (planned : plan s ≡ marks)
+      (marked : (w : W) → plan w ≡ marks
+      → ((port w).tally.disturbed ≤ disturbed_among marks) × ((port w).tally.lost ≤ lost_among marks)) where
+    pub record Facts (batches : List Listed) (runs : List Done) (t : W) : Type 0 where
+      pub law : lawful s
+      pub same : plan t ≡ marks
+      pub session : Session tries resumes marks (port s).target.memory batches runs (port t).target.memory
+      pub at_rest : ended_of runs ≡ All → IsAtRest (port t)
+      pub counted : (port t).tally.asked ≡ (port s).tally.asked + requests_of runs
+      pub ending : (pending (port t).link.due ≡ 0) × (((port t).link.due ≡ DueLost) ↔ (ended_of runs ≡ Lost))
+
+    pub facts : (batches : List Listed) (runs : List Done) (t : W)
+        → Runs port plan lawful most_begun tries resumes s batches runs t → lawful t → Facts batches runs t
+    facts batches runs t none law = record {
+      law = law;
+      same = planned;
+      session = no_run;
+      at_rest = λ all. rest;
+      counted = omega arith;
+      ending = (ap pending rest.due, (λ lost. absurd (apart (port s).link.due rest.due lost), λ lost. absurd cc));
+    }
+      where
+        apart : (due : Due) → due ≡ Nothing → due ≡ DueLost → ⊥
+        apart due e d = cc
+    facts batches runs t (then {batches = before} {runs = earlier} {t = u} {u = v} {batch = batch} {run = run} runs_before all goes) law =
+        let back : lawful u = law_before port plan lawful (most_begun batch) batch.accesses tries u run.stops run.told v goes.went law in
+        let h : Facts before earlier u = facts before earlier u runs_before back in
+        let r : IsAtRest (port u) = h.at_rest all in
+        let n : ℕ = most_begun batch in
+        let last : ended_of (earlier ++ run ∷ []) ≡ run.told.ended = ended_last earlier run in
+        let kept : plan v ≡ marks = plan_kept port plan lawful n batch.accesses tries u run.stops run.told v goes.went ∙ h.same in
+        let many = asked port plan lawful n batch.accesses tries u r run.stops run.told v goes.went law in
+        let ends = ending port plan lawful n batch.accesses tries u r run.stops run.told v goes.went law in
+        let before_counted = h.counted in
+        let sum = requests_last earlier run in
+        record {
+          law = h.law;
+          same = kept;
+          session = then_run h.session all
+              (runs_on port plan lawful tries resumes batch marks run u v r law goes h.same marked);
+          at_rest = λ e. rests port plan lawful n batch.accesses tries u r run.stops run.told v goes.went law (sym last ∙ e);
+          counted = omega (arith, many, before_counted, sum);
+          ending = subst (λ x. (pending (port v).link.due ≡ 0) × (((port v).link.due ≡ DueLost) ↔ (x ≡ Lost))) (sym last) ends;
+        }
+
+-- ---- batches and runs as they are kept
+
+-- each batch of a list is one that a host takes
+pub batch_at : {X : Type 0} (P : Listed → Type 0) (f : X → Listed) (xs : List X) (i : ℕ) (x : X) → Each P (map f xs)
+    → x ≡ get_or xs i x → i < length xs → P (f x)
+batch_at P f xs i x each is low =
+    subst P (map_at f xs i x ∙ ap f (sym is)) (each i (f x) (let many = map_length f xs in omega (arith, many, low)))
+
+-- one run more of a list of batches, in the form of the lists that are kept
+pub runs_after : {W X Y : Type 0} (port : W → Port) (plan : W → List Mark) (lawful : W → Type 0) (tries resumes : ℕ) (s t u : W)
+    (f : X → Listed) (h : Y → Done) (xs : List X) (ys : List Y) (i : ℕ) (x : X) (y : Y) (now : List Y)
+    → Runs port plan lawful most_begun tries resumes s (take i (map f xs)) (map h ys) t → ended_of (map h ys) ≡ All
+    → x ≡ get_or xs i x → i < length xs → now ≡ ys ++ y ∷ []
+    → GoesOn port plan lawful (most_begun (f x)) tries resumes (f x) t (h y) u
+    → Runs port plan lawful most_begun tries resumes s (take (i + 1) (map f xs)) (map h now) u
+runs_after port plan lawful tries resumes s t u f h xs ys i x y now before all is low pushed goes =
+    let batches : take i (map f xs) ++ f x ∷ [] ≡ take (i + 1) (map f xs) =
+    ap (λ z. take i (map f xs) ++ f z ∷ []) is ∙ sym (one_more_of f xs i x low) in
+    let runs : map h ys ++ h y ∷ [] ≡ map h now = sym (map_last h ys y) ∙ ap (map h) (sym pushed) in
+    subst (λ z. Runs port plan lawful most_begun tries resumes s z (map h now) u) batches
+    (subst (λ z. Runs port plan lawful most_begun tries resumes s (take i (map f xs) ++ f x ∷ []) z u) runs (then before all goes))
+
+pub ended_after : {Y : Type 0} (h : Y → Done) (ys : List Y) (y : Y) (now : List Y) → now ≡ ys ++ y ∷ []
+    → ended_of (map h now) ≡ (h y).told.ended
+ended_after h ys y now pushed = ap (λ l. ended_of (map h l)) pushed ∙ ap ended_of (map_last h ys y) ∙ ended_last (map h ys) (h y)
+
+pub length_after : {Y : Type 0} (ys : List Y) (y : Y) (now : List Y) → now ≡ ys ++ y ∷ [] → length now ≡ length ys + 1
+length_after ys y now pushed = ap length pushed ∙ length-append ys (y ∷ [])
+
+-- ---- a script over a target that was just made
+
+module _ {W : Type 0} (port : W → Port) (plan : W → List Mark) (lawful : W → Type 0) (tries resumes : ℕ) (script : Meaning)
+    (marks : List Mark) (runs : List Done) (s t : W) (is_made : port s ≡ made 731911287 (memory_of script)) (planned : plan s ≡ marks)
+    (marked : (w : W) → plan w ≡ marks
+    → ((port w).tally.disturbed ≤ disturbed_among marks) × ((port w).tally.lost ≤ lost_among marks)) (law : lawful t)
+    (all : RunsAll port plan lawful most_begun tries resumes script.batches s runs t) where
+  pub script_runs : RunsScript tries resumes script marks runs
+  script_runs =
+      let rest : IsAtRest (port s) = made_rests (memory_of script) (port s) is_made in
+      let batches : List Listed = take (length runs) script.batches in
+      let h : Facts port plan lawful tries resumes s marks rest planned marked batches runs t =
+      facts port plan lawful tries resumes s marks rest planned marked batches runs t all.runs_are law in
+      record {
+        memory = (port t).target.memory;
+        session = subst (λ m. Session tries resumes marks m batches runs (port t).target.memory) (ap (λ x. x.target.memory) is_made) h.session;
+        whole = all.whole;
+      }
+
+  -- what they leave on a wire that was recorded from its start
+  pub script_recorded : IsRecorded (requests_of runs) (ended_of runs) (port t)
+  script_recorded =
+      let rest : IsAtRest (port s) = made_rests (memory_of script) (port s) is_made in
+      let h : Facts port plan lawful tries resumes s marks rest planned marked (take (length runs) script.batches) runs t =
+      facts port plan lawful tries resumes s marks rest planned marked (take (length runs) script.batches) runs t all.runs_are law in
+      let many = h.counted in
+      let none : (port s).tally.asked ≡ 0 = ap (λ x. x.tally.asked) is_made in
+      record { asked = omega (arith, many, none); rests = h.ending.0; lost = h.ending.1 }

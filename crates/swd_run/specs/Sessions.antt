@@ -1,0 +1,53 @@
+-- The runs of a script, one after the other over one wire.
+use Rattle.std.specs.Prelude.{ℕ, ◌≡◌, ◌+◌, ◌≤◌, List, [], ◌∷◌, ◌++◌, length, take}
+use Rattle.swd_port.specs.declared.mark.Mark.{Mark}
+use Rattle.swd_port.specs.Port.{Port}
+use Rattle.swd_host.specs.declared.outcome.End.{End}
+use Rattle.swd_host.specs.declared.outcome.End.TheVariants.{All, Lost}
+use Rattle.swd_host.specs.Reports.{Told, told_of}
+use Rattle.swd_script.specs.Scripts.{Listed}
+use Rattle.swd_run.specs.declared.going_on.Resumed.{Resumed}
+use Rattle.swd_run.specs.declared.going_on.Stop.{Stop}
+use Rattle.swd_run.specs.GoingOn.{Went, in_all}
+
+-- where a run was resumed, and what its last call told
+pub record Done : Type 0 where
+  pub stops : List Stop
+  pub told : Told
+
+abbrev pub done_of : {A : Type 0} → Resumed A → Done
+done_of resumed = record { stops = resumed.stops.items; told = told_of resumed.report }
+
+-- how the last run ended; where there is none, all is done
+abbrev pub ended_of : List Done → End
+ended_of [] = All
+ended_of (run ∷ []) = run.told.ended
+ended_of (run ∷ next ∷ runs) = ended_of (next ∷ runs)
+
+-- the requests of all runs
+abbrev pub requests_of : List Done → ℕ
+requests_of [] = 0
+requests_of (run ∷ runs) = (in_all run.stops run.told).requests + requests_of runs
+
+-- One run over a wire, which may be resumed so many times, of a list of which so many accesses may be begun that aren't
+-- answered.
+pub record GoesOn {W : Type 0} (port : W → Port) (plan : W → List Mark) (lawful : W → Type 0) (limit tries resumes : ℕ)
+    (batch : Listed) (s : W) (run : Done) (t : W) : Type 0 where
+  pub went : Went port plan lawful limit batch.accesses tries s run.stops run.told t
+  pub few : length run.stops ≤ resumes
+  pub lost : run.told.ended ≡ Lost → length run.stops ≡ resumes
+
+-- Runs one after the other, from the wire s to the wire t. Each begins where the one before ended all.
+pub data Runs {W : Type 0} (port : W → Port) (plan : W → List Mark) (lawful : W → Type 0) (most : Listed → ℕ)
+    (tries resumes : ℕ) (s : W) : List Listed → List Done → W → Type 0 where
+  none : Runs port plan lawful most tries resumes s [] [] s
+  then : {batches : List Listed} {runs : List Done} {t u : W} {batch : Listed} {run : Done}
+      → Runs port plan lawful most tries resumes s batches runs t → ended_of runs ≡ All
+      → GoesOn port plan lawful (most batch) tries resumes batch t run u
+      → Runs port plan lawful most tries resumes s (batches ++ batch ∷ []) (runs ++ run ∷ []) u
+
+-- they are all runs of these batches, or those up to one that did not end all
+pub record RunsAll {W : Type 0} (port : W → Port) (plan : W → List Mark) (lawful : W → Type 0) (most : Listed → ℕ)
+    (tries resumes : ℕ) (batches : List Listed) (s : W) (runs : List Done) (t : W) : Type 0 where
+  pub runs_are : Runs port plan lawful most tries resumes s (take (length runs) batches) runs t
+  pub whole : ended_of runs ≡ All → length runs ≡ length batches

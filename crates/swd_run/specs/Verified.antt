@@ -1,0 +1,39 @@
+-- Words that a script tells, and what was read.
+use Rattle.std.specs.Prelude.{ℕ, ◌==◌, nat_lt, List, [], ◌∷◌, length, get_or, Option, Some, None, if◌then◌else◌}
+use Rattle.swd_port.specs.declared.access.Answer.{Answer}
+use Rattle.swd_port.specs.declared.access.Answer.TheVariants.{Value, Written, BusFault}
+use Rattle.swd_script.specs.declared.batch.Expected.{Expected}
+use Rattle.swd_script.specs.Scripts.{Listed}
+use Rattle.swd_run.specs.declared.verified.Difference.{Difference}
+use Rattle.swd_run.specs.Sessions.{Done}
+
+-- a read that was answered so
+abbrev pub difference : Expected → Answer → Difference
+difference read answer = record { line = read.line; addr = read.addr; expected = read.word; found = answer }
+
+-- what differs, where the answer isn't the word that is told
+abbrev pub differs : Expected → Answer → Option Difference
+differs read (Value word) = if word == read.word then None else Some (difference read (Value word))
+differs read Written = Some (difference read Written)
+differs read BusFault = Some (difference read BusFault)
+
+-- so it is where the read was answered
+abbrev pub differs_among : List Answer → Expected → Option Difference
+differs_among answers read =
+    if nat_lt read.place (length answers) then differs read (get_or answers read.place BusFault) else None
+
+abbrev pub or_else : Option Difference → Option Difference → Option Difference
+or_else (Some found) later = Some found
+or_else None later = later
+
+-- the first read of a call that differs
+abbrev pub difference_in : List Expected → List Answer → Option Difference
+difference_in [] answers = None
+difference_in (read ∷ reads) answers = or_else (differs_among answers read) (difference_in reads answers)
+
+-- the first of all calls
+abbrev pub first_difference : List Listed → List Done → Option Difference
+first_difference [] runs = None
+first_difference (batch ∷ batches) [] = None
+first_difference (batch ∷ batches) (run ∷ runs) =
+    or_else (difference_in batch.expected run.told.answers) (first_difference batches runs)
