@@ -233,24 +233,24 @@ told_again stops list js m earlier told t Confused is g few =
 
 -- whatever came back
 module _ {W : Type 0} (port : W → Port) (plan : W → List Mark) (lawful : W → Type 0) (limit : ℕ) (list : List Access) (tries : ℕ) (s : W)
-    where
-  -- what is due after a run is what its end says
-  pub due_after : (stops : List Stop) (told : Told) (t : W) → Went port plan lawful limit list tries s stops told t
-      → (port t).link.due ≡ due_at told.ended
-  due_after stops told t (ran same closes over) = closes.due
-  due_after stops told t (resumed went lost same goes over) = goes.closes.due
+  where
+    -- what is due after a run is what its end says
+    pub due_after : (stops : List Stop) (told : Told) (t : W) → Went port plan lawful limit list tries s stops told t
+        → (port t).link.due ≡ due_at told.ended
+    due_after stops told t (ran same closes over) = closes.due
+    due_after stops told t (resumed went lost same goes over) = goes.closes.due
 
-  -- so it was lawful from the start
-  pub law_before : (stops : List Stop) (told : Told) (t : W) → Went port plan lawful limit list tries s stops told t
-      → lawful t → lawful s
-  law_before stops told t (ran same closes over) law = (over law).0
-  law_before stops told t (resumed {stops = before} {earlier = e} {t = u} went lost same goes over) law =
-      law_before before e u went (over law).0
+    -- so it was lawful from the start
+    pub law_before : (stops : List Stop) (told : Told) (t : W) → Went port plan lawful limit list tries s stops told t
+        → lawful t → lawful s
+    law_before stops told t (ran same closes over) law = (over law).0
+    law_before stops told t (resumed {stops = before} {earlier = e} {t = u} went lost same goes over) law =
+        law_before before e u went (over law).0
 
-  pub plan_kept : (stops : List Stop) (told : Told) (t : W) → Went port plan lawful limit list tries s stops told t
-      → plan t ≡ plan s
-  plan_kept stops told t (ran same closes over) = same
-  plan_kept stops told t (resumed went lost same goes over) = same
+    pub plan_kept : (stops : List Stop) (told : Told) (t : W) → Went port plan lawful limit list tries s stops told t
+        → plan t ≡ plan s
+    plan_kept stops told t (ran same closes over) = same
+    plan_kept stops told t (resumed went lost same goes over) = same
 
 -- so it is for the places, whatever comes of a transfer that is still pending
 record Repeats (stops : List Stop) (list : List Access) (m : PlainMemory) (told : Told) (t : Port) : Type 0 where

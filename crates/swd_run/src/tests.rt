@@ -1,5 +1,5 @@
 //! Scripts run under plans: worked texts, texts at fault, and readers and writers that fail.
-use crate::{Stop, answer_line, last_line, resume_line, run_text};
+use crate::{Finished, Stop, answer_line, last_line, resume_line, run_text};
 use std::test::Fail;
 use swd_fakes::{FailingReader, ShortWriter};
 use swd_host::End;
@@ -10,13 +10,22 @@ use swd_text::EngineFault;
 mod refusals;
 mod remote;
 mod resumed;
+mod sessions;
 mod slow;
 
 // What a run answers, and what it writes.
 #[derive(Drop)]
 struct Ran {
-    answer: Result<End, EngineFault>,
+    answer: Result<Finished, EngineFault>,
     text: Vec<u8>,
+}
+
+// A run that ended so, in which no word differed.
+pub(crate) fn ended(ended: End) -> Result<Finished, EngineFault> {
+    Ok(Finished {
+        ended,
+        differs: None,
+    })
 }
 
 fn run_on(rt: &HostRuntime, script: &[u8], plan: &[u8], tries: u32) -> Ran {
@@ -59,10 +68,10 @@ const THREE_WAITS: &[u8] = b".\n.\n.\n.\n.\n.\n.\n.\n.\n.\n.\nwait\nwait\nwait\n
 #[test]
 fn a_script_is_run(rt: HostRuntime) {
     let run = run_on(&rt, WORKED, b"".as_slice(), TRIES);
-    assert_eq!(rt; run.answer, Ok(End::All));
+    assert_eq!(rt; run.answer, ended(End::All));
     assert_eq!(rt; run.text.as_slice(), WORKED_REPORT);
     let run = run_on(&rt, NO_ACCESS, b"".as_slice(), TRIES);
-    assert_eq!(rt; run.answer, Ok(End::All));
+    assert_eq!(rt; run.answer, ended(End::All));
     assert_eq!(rt; run.text.as_slice(), b"end all 0\n".as_slice());
 }
 
@@ -70,7 +79,7 @@ fn a_script_is_run(rt: HostRuntime) {
 fn a_block_is_run(rt: HostRuntime) {
     let script = b"memory 20000000 2\nblock 20000000 3\n".as_slice();
     let run = run_on(&rt, script, b"".as_slice(), TRIES);
-    assert_eq!(rt; run.answer, Ok(End::All));
+    assert_eq!(rt; run.answer, ended(End::All));
     let report =
         b"r 20000000 00000000\nr 20000004 00000000\nr 20000008 busfault\nend all 3\n".as_slice();
     assert_eq!(rt; run.text.as_slice(), report);
@@ -108,7 +117,7 @@ fn a_block_that_stops_has_two_accesses_begun(rt: HostRuntime) {
         ),
     ] {
         let run = run_on(&rt, script, plan, tries);
-        assert_eq!(rt; run.answer, Ok(answer));
+        assert_eq!(rt; run.answer, ended(answer));
         assert_eq!(rt; run.text.as_slice(), report);
     }
 }
@@ -116,13 +125,13 @@ fn a_block_that_stops_has_two_accesses_begun(rt: HostRuntime) {
 #[test]
 fn waits_count_against_the_tries(rt: HostRuntime) {
     let run = run_on(&rt, ONE_READ, THREE_WAITS, 3);
-    assert_eq!(rt; run.answer, Ok(End::All));
+    assert_eq!(rt; run.answer, ended(End::All));
     assert_eq!(rt;
         run.text.as_slice(),
         b"r 20000000 00000000\nend all 1\n".as_slice()
     );
     let run = run_on(&rt, ONE_READ, THREE_WAITS, 2);
-    assert_eq!(rt; run.answer, Ok(End::TriesOut));
+    assert_eq!(rt; run.answer, ended(End::TriesOut));
     assert_eq!(rt; run.text.as_slice(), b"end tries 0 begun 1\n".as_slice());
 }
 
@@ -131,10 +140,10 @@ fn waits_count_against_the_tries(rt: HostRuntime) {
 fn a_lost_acknowledgement_ends_a_run(rt: HostRuntime) {
     let plan = b".\n.\n.\n.\n.\n.\n.\n.\n.\n.\nmute 0\n".as_slice();
     let run = run_on(&rt, ONE_WRITE, plan, TRIES);
-    assert_eq!(rt; run.answer, Ok(End::Lost));
+    assert_eq!(rt; run.answer, ended(End::Lost));
     assert_eq!(rt; run.text.as_slice(), b"end lost 0 begun 1\n".as_slice());
     let run = run_on(&rt, ONE_WRITE, b"deaf\n".as_slice(), TRIES);
-    assert_eq!(rt; run.answer, Ok(End::Lost));
+    assert_eq!(rt; run.answer, ended(End::Lost));
     assert_eq!(rt; run.text.as_slice(), b"end lost 0 begun 0\n".as_slice());
 }
 
@@ -143,7 +152,7 @@ fn a_lost_acknowledgement_ends_a_run(rt: HostRuntime) {
 fn damaged_data_is_sent_again(rt: HostRuntime) {
     let plan = b".\n.\n.\n.\n.\n.\n.\n.\n.\n.\nflip 17\n".as_slice();
     let run = run_on(&rt, ONE_WRITE, plan, TRIES);
-    assert_eq!(rt; run.answer, Ok(End::All));
+    assert_eq!(rt; run.answer, ended(End::All));
     assert_eq!(rt;
         run.text.as_slice(),
         b"w 20000000 written\nend all 1\n".as_slice()
@@ -160,7 +169,7 @@ fn damaged_data_is_sent_again(rt: HostRuntime) {
 fn transfers_without_room_are_bus_errors(rt: HostRuntime) {
     let script = b"memory 20000000 2\nroom 1\nw 20000000 1\nr 20000000\nw 20000008 1\n".as_slice();
     let run = run_on(&rt, script, b"".as_slice(), TRIES);
-    assert_eq!(rt; run.answer, Ok(End::All));
+    assert_eq!(rt; run.answer, ended(End::All));
     let report =
         b"w 20000000 written\nr 20000000 busfault\nw 20000008 busfault\nend all 3\n".as_slice();
     assert_eq!(rt; run.text.as_slice(), report);
@@ -254,7 +263,7 @@ fn a_long_report_where_a_write_fails(rt: HostRuntime) -> Result<(), Fail> {
         line.extend_from_slice(b"r 0\n")?;
     }
     let run = run_on(&rt, line.as_slice(), b"".as_slice(), TRIES);
-    assert_eq!(rt; run.answer, Ok(End::All));
+    assert_eq!(rt; run.answer, ended(End::All));
     assert!(rt; run.text.as_slice() == report.as_slice());
     for room in [0, 1, 19, 20, 21, 7000, 32767, 32768, 32769, 40012] {
         let mut script = line.as_slice();
@@ -277,7 +286,7 @@ fn a_run_has_at_most_65536_accesses(rt: HostRuntime) {
         b"".as_slice(),
         0,
     );
-    assert_eq!(rt; run.answer, Ok(End::All));
+    assert_eq!(rt; run.answer, ended(End::All));
     // Each line of an answer has 20 bytes.
     assert_eq!(rt; run.text.len(), 65536 * 20 + 14);
     assert!(rt;

@@ -104,7 +104,8 @@ pub fn run_traced<S: Read, P: Read, W: Write, T: Write, A: Allocator + Copy>(
         Ok(()) => {}
         Err(written) => return Err(EngineFault::Write { written }),
     }
-    if recorder.is_cut() {
+    let cut = recorder.is_cut();
+    if cut {
         return Err(EngineFault::TraceCut);
     }
     Ok(Finished {

@@ -1,6 +1,7 @@
 //! Runs on heaps of each size: where memory ended is told, and nothing has been written but what was
 //! decided before.
-use crate::{run_text, run_traced};
+use super::ended;
+use crate::{Finished, run_text, run_traced};
 use linked_list_allocator::LocalHeap;
 use std::alloc::Allocator;
 use std::process::Abort;
@@ -40,13 +41,18 @@ enum Stage {
     Whole,
 }
 
-fn stage_of(answer: Result<End, EngineFault>) -> Option<Stage> {
+fn stage_of(answer: Result<Finished, EngineFault>) -> Option<Stage> {
     match answer {
-        Err(EngineFault::Script(ScriptFault::Memory { line: 3 | 4 })) => Some(Stage::Script),
+        Err(EngineFault::Script(ScriptFault::Memory { line: 3 | 4 | 6 })) => Some(Stage::Script),
         Err(EngineFault::Plan(ScriptFault::Memory { line: 1 | 9 })) => Some(Stage::Plan),
         Err(EngineFault::Memory) => Some(Stage::Run),
         Err(EngineFault::TraceCut) => Some(Stage::Trace),
-        Ok(End::All) => Some(Stage::Whole),
+        Ok(
+            Finished {
+                ended: End::All,
+                ..
+            },
+        ) => Some(Stage::Whole),
         _ => None,
     }
 }
@@ -121,7 +127,7 @@ fn a_run_where_memory_ends(rt: HostRuntime) -> Result<(), Fail> {
 // What a traced run answers, what it reports, and its trace.
 #[derive(Drop)]
 struct Traced {
-    answer: Result<End, EngineFault>,
+    answer: Result<Finished, EngineFault>,
     report: Vec<u8>,
     trace: Vec<u8>,
 }
@@ -151,7 +157,7 @@ fn traced_on<A: Allocator + Copy>(rt: &HostRuntime, alloc: A) -> Traced {
 #[test]
 fn a_traced_run_where_memory_ends(rt: HostRuntime) -> Result<(), Fail> {
     let whole = traced_on(&rt, rt.alloc());
-    assert_eq!(rt; whole.answer, Ok(End::All));
+    assert_eq!(rt; whole.answer, ended(End::All));
     assert_eq!(rt; whole.report.as_slice(), REPORT);
     let whole = whole.trace;
     let mut stages = Stages::new(&rt);

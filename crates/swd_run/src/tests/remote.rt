@@ -4,9 +4,9 @@ ghost use Rattle.std.specs.Prelude.{[]};
 ghost use Rattle.std.specs.FinMap.{empty};
 ghost use Rattle.swd_port.specs.Port.{made};
 
-use crate::{Reached, run_remote};
+use crate::{Difference, Reached, run_remote};
 use swd_host::End;
-use swd_port::Story;
+use swd_port::{Answer, Story};
 use swd_remote::{Fault, Remote};
 use swd_text::EngineFault;
 
@@ -61,15 +61,51 @@ fn a_script_sends_what_was_recorded(rt: HostRuntime) {
         &mut script,
         remote,
         8,
+        0,
         &mut report,
     );
     let reached = Reached {
         ended: End::All,
+        differs: None,
         fault: None,
     };
     assert_eq!(rt; answer, Ok(reached));
     assert_eq!(rt; report.as_slice(), REPORT);
     assert_eq!(rt; sent.as_slice(), CHARACTERS);
+}
+
+// The same list as two calls, of which the second opens anew: it isn't what was recorded, so that nothing comes back.
+#[test]
+fn a_call_that_is_lost_is_the_last_one(rt: HostRuntime) {
+    let mut sent = Vec::new(rt.alloc());
+    let mut report = Vec::new(rt.alloc());
+    let mut script =
+        b"memory 20000000 16\nw 20000000 deadbeef\nverify 20000000 5\nnext\nr 20000000\nnext\nr 20000000\n".as_slice();
+    let remote = Remote::new(LEVELS, &mut sent);
+    let answer = run_remote::<Untold, _, _, _, _, _>(
+        rt.alloc(),
+        &mut script,
+        remote,
+        8,
+        0,
+        &mut report,
+    );
+    let differs = Difference {
+        line: 3,
+        addr: 0x2000_0000,
+        expected: 5,
+        found: Answer::Value(0xdead_beef),
+    };
+    let reached = Reached {
+        ended: End::Lost,
+        differs: Some(differs),
+        fault: Some(Fault::Ended),
+    };
+    assert_eq!(rt; answer, Ok(reached));
+    assert_eq!(rt;
+        report.as_slice(),
+        b"w 20000000 written\nr 20000000 deadbeef\nend all 2\nend lost 0 begun 0\n".as_slice()
+    );
 }
 
 #[test]
@@ -92,10 +128,12 @@ fn a_target_that_goes_away_is_told(rt: HostRuntime) {
             &mut script,
             remote,
             8,
+            0,
             &mut report,
         );
         let reached = Reached {
             ended: End::Lost,
+            differs: None,
             fault: Some(Fault::Ended),
         };
         assert_eq!(rt; answer, Ok(reached));
@@ -115,6 +153,7 @@ fn a_script_at_fault_sends_nothing(rt: HostRuntime) {
         &mut script,
         remote,
         8,
+        0,
         &mut report,
     );
     assert!(rt; matches!(&answer, Err(EngineFault::Script(_))));

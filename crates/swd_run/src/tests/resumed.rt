@@ -1,8 +1,9 @@
 //! Runs that are resumed at a lost acknowledgement.
 use super::{
-    NO_ACCESS, ONE_READ, ONE_WRITE, Ran, THREE_WAITS, TRIES, WORKED, WORKED_REPORT, resumed_on,
+    NO_ACCESS, ONE_READ, ONE_WRITE, Ran, THREE_WAITS, TRIES, WORKED, WORKED_REPORT, ended,
+    resumed_on,
 };
-use crate::{run_text, run_traced};
+use crate::{Finished, run_text, run_traced};
 use linked_list_allocator::LocalHeap;
 use std::process::Abort;
 use std::test::Fail;
@@ -13,8 +14,8 @@ use swd_text::{EngineFault, decode_text};
 const LOST_WRITE: &[u8] = b".\n.\n.\n.\n.\n.\n.\n.\n.\n.\nmute 0\n";
 
 // A run ends so, after this report.
-fn comes_to<R: Abort>(rt: &R, run: &Ran, ended: End, report: &[u8]) {
-    assert_eq!(rt; run.answer, Ok(ended));
+fn comes_to<R: Abort>(rt: &R, run: &Ran, end: End, report: &[u8]) {
+    assert_eq!(rt; run.answer, ended(end));
     assert_eq!(rt; run.text.as_slice(), report);
 }
 
@@ -142,7 +143,7 @@ fn a_resumed_run_is_traced_whole(rt: HostRuntime) {
         &mut report,
         &mut trace,
     );
-    assert_eq!(rt; answer, Ok(End::All));
+    assert_eq!(rt; answer, ended(End::All));
     assert_eq!(rt;
         report.as_slice(),
         b"resume 0 begun 1\nw 20000000 written\nend all 1\n".as_slice()
@@ -171,7 +172,12 @@ fn a_resumed_run_where_memory_ends(rt: HostRuntime) -> Result<(), Fail> {
         let mut report = Vec::new(rt.alloc());
         let answer = run_text(&heap, &mut script, &mut plan, TRIES, 1, &mut report);
         match answer {
-            Ok(End::All) => {
+            Ok(
+                Finished {
+                    ended: End::All,
+                    ..
+                },
+            ) => {
                 assert_eq!(rt; report.as_slice(), whole);
                 done = true;
             }

@@ -1,5 +1,6 @@
 //! Runs with their traces: worked ones, and writers and memory that fail.
-use crate::run_traced;
+use crate::tests::ended;
+use crate::{Finished, run_traced};
 use std::test::Fail;
 use swd_fakes::ShortWriter;
 use swd_host::End;
@@ -25,7 +26,7 @@ const OPENING: &[u8] = b"reset 56\nswitch\nreset 56\nidle 2\ndp 0 read ok 2ba014
 // What a run answers, what it reports, and its trace.
 #[derive(Drop)]
 struct Traced {
-    answer: Result<End, EngineFault>,
+    answer: Result<Finished, EngineFault>,
     report: Vec<u8>,
     trace: Vec<u8>,
 }
@@ -71,7 +72,7 @@ fn after_opening(rt: &HostRuntime, lines: &[u8]) -> Result<Vec<u8>, Fail> {
 #[test]
 fn a_run_without_accesses_is_traced(rt: HostRuntime) -> Result<(), Fail> {
     let run = run_on(&rt, NO_ACCESS, b"".as_slice());
-    assert_eq!(rt; run.answer, Ok(End::All));
+    assert_eq!(rt; run.answer, ended(End::All));
     assert_eq!(rt; run.report.as_slice(), NO_ACCESS_REPORT);
     // 552 bits and fourteen line ends.
     assert_eq!(rt; run.trace.len(), 566);
@@ -95,7 +96,7 @@ fn a_run_without_accesses_is_traced(rt: HostRuntime) -> Result<(), Fail> {
 fn a_lost_acknowledgement_is_traced(rt: HostRuntime) -> Result<(), Fail> {
     let plan = b".\n.\n.\n.\n.\n.\n.\n.\n.\n.\nmute 0\n".as_slice();
     let run = run_on(&rt, ONE_WRITE, plan);
-    assert_eq!(rt; run.answer, Ok(End::Lost));
+    assert_eq!(rt; run.answer, ended(End::Lost));
     assert_eq!(rt; run.report.as_slice(), b"end lost 0 begun 1\n".as_slice());
     let listing = after_opening(
         &rt,
@@ -118,7 +119,7 @@ fn a_lost_acknowledgement_is_traced(rt: HostRuntime) -> Result<(), Fail> {
 fn a_block_is_traced(rt: HostRuntime) -> Result<(), Fail> {
     let script = b"memory 20000000 2\nblock 20000000 2\n".as_slice();
     let run = run_on(&rt, script, b"".as_slice());
-    assert_eq!(rt; run.answer, Ok(End::All));
+    assert_eq!(rt; run.answer, ended(End::All));
     let listing = after_opening(
         &rt,
         b"ap 4 write ok 20000000\nap c read ok 00000000\nap c read ok 00000000\n\
@@ -137,7 +138,7 @@ fn a_block_is_traced(rt: HostRuntime) -> Result<(), Fail> {
 fn damage_is_traced_as_the_host_sees_it(rt: HostRuntime) -> Result<(), Fail> {
     let plan = b".\n.\n.\n.\n.\n.\n.\n.\n.\n.\n.\nflip 0\n".as_slice();
     let run = run_on(&rt, ONE_READ, plan);
-    assert_eq!(rt; run.answer, Ok(End::All));
+    assert_eq!(rt; run.answer, ended(End::All));
     let listing = after_opening(
         &rt,
         b"ap 4 write ok 20000000\nap c read ok 00000000\ndp c read bad 00000001\n\
@@ -150,7 +151,7 @@ fn damage_is_traced_as_the_host_sees_it(rt: HostRuntime) -> Result<(), Fail> {
     );
     let plan = b".\n.\n.\n.\n.\n.\n.\n.\n.\n.\nflip 17\nwait\n".as_slice();
     let run = run_on(&rt, ONE_WRITE, plan);
-    assert_eq!(rt; run.answer, Ok(End::All));
+    assert_eq!(rt; run.answer, ended(End::All));
     let listing = after_opening(
         &rt,
         b"ap 4 write ok 20000000\nap c write ok deadbeef\ndp c read fault\n\

@@ -25,7 +25,7 @@ returns-in-Err-write_report g c =
       ran_as c.args.tries c.args.resumes (g.S.Read.remaining c.args.script.now) (g.P.Read.remaining c.args.plan.now) (meaning script) c.in-Ok.texts.plan.items runs c.in-Ok.ensures.read c.in-Some.ensures.runs,
       inl (
         stopped start end c.as_slice-batches.result.now script.batches.items c.as_slice-runs.result.now c.in-Some.recorded.session.runs.items
-          c.as_slice-batches.ensures.value c.as_slice-runs.ensures.value c.in-Err-write_report.written c.in-Err-write_report.ensures,
+            c.as_slice-batches.ensures.value c.as_slice-runs.ensures.value c.in-Err-write_report.written c.in-Err-write_report.ensures,
         search rules,
       ),
     )
@@ -40,15 +40,15 @@ returns-in-Err-write_items g c =
       ran_as c.args.tries c.args.resumes (g.S.Read.remaining c.args.script.now) (g.P.Read.remaining c.args.plan.now) (meaning script) c.in-Ok.texts.plan.items runs c.in-Ok.ensures.read c.in-Some.ensures.runs,
       inr (
         appended start end c.as_slice-batches.result.now script.batches.items c.as_slice-runs.result.now c.in-Some.recorded.session.runs.items
-          c.as_slice-batches.ensures.value c.as_slice-runs.ensures.value c.in-Ok-write_report.ensures,
+            c.as_slice-batches.ensures.value c.as_slice-runs.ensures.value c.in-Ok-write_report.ensures,
         c.items.result.now,
         of_trace (requests_of runs) (ended_of runs) (port_by c.in-Some.recorded.recorder) c.items.result.now c.in-Some.ensures.recorded c.items.ensures.read c.items.ensures.most,
         c.in-Err-write_items.ensures,
       ),
     )
 
-pub returns-then-is_cut : goal.returns-then-is_cut
-returns-then-is_cut g c =
+pub returns-then-cut : goal.returns-then-cut
+returns-then-cut g c =
     let script = c.in-Ok.texts.script in
     let kept = c.in-Some.recorded.session.runs.items in
     let runs = map done_of kept in
@@ -64,7 +64,7 @@ returns-then-is_cut g c =
 
 pub returns : goal.returns
 returns g c =
-    let uncut = sym c.is_cut.ensures ∙ c.if-is_cut.false in
+    let uncut = sym c.is_cut-cut.ensures ∙ c.if-cut.false in
     let script = c.in-Ok.texts.script in
     let kept = c.in-Some.recorded.session.runs.items in
     let runs = map done_of kept in
