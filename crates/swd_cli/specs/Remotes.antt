@@ -11,7 +11,8 @@ use Rattle.swd_cli.specs.Statuses.{IsStatusOf}
 -- where the other end went away, the status is 1; else it is that of the run
 abbrev pub IsReachedAs : Option Fault → Bool → Reached → ℕ → Type 0
 IsReachedAs (Some fault) strict reached status = status ≡ 1
-IsReachedAs None strict reached status = IsStatusOf strict (Ok reached.ended) status
+IsReachedAs None strict reached status =
+    IsStatusOf strict (Ok (record { ended = reached.ended; differs = reached.differs })) status
 
 abbrev pub IsReached : Bool → Result Reached EngineFault → ℕ → Type 0
 IsReached strict (Ok reached) status = IsReachedAs reached.fault strict reached status
@@ -22,4 +23,4 @@ IsReached strict (Err fault) status = status ≡ 2
 abbrev pub PerformsRemote : (ℕ → Port) → RunLine → ℕ → Option (List ℕ) → Type 0
 PerformsRemote story run status script =
     (status ≡ 2) ⊎ ((answer : Result Reached EngineFault) × (before : Option (List ℕ)) × (after : Option (List ℕ))
-    × RunsRemote story run.tries answer script before after × IsReached run.strict answer status)
+    × RunsRemote story run.tries run.resumes answer script before after × IsReached run.strict answer status)

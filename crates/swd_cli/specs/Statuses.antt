@@ -1,5 +1,5 @@
 -- What a command does, and the status that it ends with.
-use Rattle.std.specs.Prelude.{◌≡◌, ◌⊎◌, ℕ, Bool, false, true, List, [], Option, None, Some, Result, Ok, Err, is_ok, if◌then◌else◌}
+use Rattle.std.specs.Prelude.{◌≡◌, ◌⊎◌, ℕ, Bool, false, true, List, [], Option, None, Some, Result, Ok, Err, ◌||◌, is_ok, is_some, if◌then◌else◌}
 use Rattle.swd_bits.specs.One.{Answers}
 use Rattle.swd_bits.specs.declared.one.OneFault.{OneFault}
 use Rattle.swd_text.specs.Decoding.{Decodes}
@@ -10,6 +10,7 @@ use Rattle.swd_cli.specs.declared.command.Line.TheVariants.{One, Decode, Encode,
 use Rattle.swd_cli.specs.declared.command.RunLine.{RunLine}
 use Rattle.swd_host.specs.declared.outcome.End.{End}
 use Rattle.swd_host.specs.declared.outcome.End.TheVariants.{All, Lost, TriesOut, WrongId, Confused}
+use Rattle.swd_run.specs.declared.running.Finished.{Finished}
 use Rattle.swd_run.specs.Running.{RunsText}
 use Rattle.swd_run.specs.Tracing.{RunsTraced}
 use Rattle.std.specs.Io.KnownBytes.{Appends}
@@ -18,17 +19,21 @@ use Rattle.std.specs.Io.KnownBytes.{Appends}
 abbrev pub status_of : Bool → ℕ
 status_of done = if done then 0 else 2
 
--- the status of a run: 0 where it ended all, 1 where it ended otherwise or failed its script, 2 at a fault
-abbrev pub status_of_run : Bool → Result End EngineFault → ℕ
-status_of_run failed (Ok All) = if failed then 1 else 0
-status_of_run failed (Ok Lost) = 1
-status_of_run failed (Ok TriesOut) = 1
-status_of_run failed (Ok (WrongId word)) = 1
-status_of_run failed (Ok Confused) = 1
+-- the status at the end of a run: 0 where it ended all, 1 where it ended otherwise or failed its script
+abbrev pub status_of_end : Bool → End → ℕ
+status_of_end failed All = if failed then 1 else 0
+status_of_end failed Lost = 1
+status_of_end failed TriesOut = 1
+status_of_end failed (WrongId word) = 1
+status_of_end failed Confused = 1
+
+-- the status of a run, which fails its script also where a word isn't the one that the script tells; 2 at a fault
+abbrev pub status_of_run : Bool → Result Finished EngineFault → ℕ
+status_of_run failed (Ok finished) = status_of_end (failed || is_some finished.differs) finished.ended
 status_of_run failed (Err fault) = 2
 
 -- Only a strict run may fail its script. That it does where an access was answered by a bus fault, tests show.
-pub record IsStatusOf (strict : Bool) (answer : Result End EngineFault) (status : ℕ) : Type 0 where
+pub record IsStatusOf (strict : Bool) (answer : Result Finished EngineFault) (status : ℕ) : Type 0 where
   pub failed : Bool
   pub only_strict : strict ≡ false → failed ≡ false
   pub is : status ≡ status_of_run failed answer
@@ -41,10 +46,10 @@ NotOpened status old new = (status ≡ 2) × Appends old new []
 -- that is named for it, of which nothing else is known.
 abbrev pub PerformsUnder : {S : Type 0} → Option S → RunLine → ℕ → Option (List ℕ) → Option (List ℕ) → Option (List ℕ) → Option (List ℕ) → Type 0
 PerformsUnder None run status script plan old new =
-    (answer : Result End EngineFault) × RunsText run.tries run.resumes answer script plan old new × IsStatusOf run.strict answer status
+    (answer : Result Finished EngineFault) × RunsText run.tries run.resumes answer script plan old new × IsStatusOf run.strict answer status
 PerformsUnder (Some trace) run status script plan old new =
     NotOpened status old new
-    ⊎ ((answer : Result End EngineFault) × (before : Option (List ℕ)) × (after : Option (List ℕ))
+    ⊎ ((answer : Result Finished EngineFault) × (before : Option (List ℕ)) × (after : Option (List ℕ))
     × RunsTraced run.tries run.resumes answer script plan old new before after × IsStatusOf run.strict answer status)
 
 -- The plan is empty where none is named, and else some text: no contract knows what a file held.

@@ -7,7 +7,7 @@ ghost use Rattle.swd_cli.specs.Remotes.{IsReached, PerformsRemote};
 
 use crate::command::RunLine;
 use crate::files::{Files, Identity};
-use crate::report::{STOPPED, cannot_open, engine_status, run_status, tell};
+use crate::report::{STOPPED, cannot_open, engine_status, finished_status, tell};
 use crate::trace::{Sources, open_trace};
 use crate::watch::Watch;
 use std::alloc::Global;
@@ -54,6 +54,7 @@ pub fn perform_remote<P: Story, S: Read, I: Read, F: Files, O: Write, E: Write>(
                 script,
                 remote,
                 run.tries,
+                run.resumes,
                 &mut report,
             );
             reached_status(errors, answer, run.strict, report.has_found())
@@ -72,13 +73,14 @@ fn reached_status<E: Write>(
     ensures { IsReached strict answer result }
 {
     match answer {
-        Ok(Reached { ended, fault: None }) => run_status(errors, Ok(ended), strict && found),
-        Ok(
-            Reached {
-                ended: _,
-                fault: Some(fault),
-            },
-        ) => gone_status(errors, fault),
+        Ok(reached) => {
+            let failed = strict && found;
+            let status = finished_status(errors, reached.ended, reached.differs, failed);
+            match reached.fault {
+                Some(fault) => gone_status(errors, fault),
+                None => status,
+            }
+        }
         Err(fault) => engine_status(errors, Err(fault)),
     }
 }

@@ -1,18 +1,21 @@
 //! What the program says of a fault, and the status that it ends with.
-ghost use Rattle.std.specs.Prelude.{◌≡◌, is_ok};
-ghost use Rattle.swd_cli.specs.Statuses.{status_of, status_of_run};
+ghost use Rattle.std.specs.Prelude.{◌≡◌, ◌||◌, is_ok, is_some};
+ghost use Rattle.swd_cli.specs.Statuses.{status_of, status_of_end, status_of_run};
 
 use std::fmt;
 use std::fmt::{Display, Formatter};
 use std::io::Write;
 use swd_bits::OneFault;
 use swd_host::End;
+use swd_port::Answer;
+use swd_run::{Difference, Finished};
 use swd_text::EngineFault;
 
 /// The status where all was done.
 pub const DONE: u8 = 0;
 
-/// The status of a run that ended before all was done, or met a bus fault that it may not meet.
+/// The status of a run that ended before all was done, read a word that isn't the script's, or met a bus
+/// fault that it may not meet.
 pub const STOPPED: u8 = 1;
 
 /// The status at a fault of words, texts, files or memory.
@@ -82,12 +85,55 @@ pub fn engine_status<E: Write>(errors: &mut E, answer: Result<(), EngineFault>) 
 }
 
 /// The status of a run, which failed its script where a bus fault is told that may not be.
-pub fn run_status<E: Write>(errors: &mut E, answer: Result<End, EngineFault>, failed: bool) -> u8
+pub fn run_status<E: Write>(
+    errors: &mut E,
+    answer: Result<Finished, EngineFault>,
+    failed: bool,
+) -> u8
     ensures { result ≡ status_of_run failed answer }
 {
     match answer {
-        Ok(End::All) if !failed => DONE,
-        Ok(_) => STOPPED,
+        Ok(Finished { ended, differs }) => finished_status(errors, ended, differs, failed),
         Err(fault) => engine_status(errors, Err(fault)),
     }
+}
+
+/// The status of a run that came to its report. Where a word isn't the one that the script tells, one line
+/// says so.
+pub fn finished_status<E: Write>(
+    errors: &mut E,
+    ended: End,
+    differs: Option<Difference>,
+    failed: bool,
+) -> u8
+    ensures { result ≡ status_of_end (failed || is_some differs) ended }
+{
+    if let Some(difference) = differs {
+        tell_difference(errors, difference);
+        return STOPPED;
+    }
+    match ended {
+        End::All if !failed => DONE,
+        _ => STOPPED,
+    }
+}
+
+// Names the line of the script, the address, and both words.
+fn tell_difference<E: Write>(errors: &mut E, difference: Difference) {
+    let Difference {
+        line,
+        addr,
+        expected,
+        found,
+    } = difference;
+    let _ = match found {
+        Answer::Value(word) => writeln!(
+            errors,
+            "swd: script line {line}: {addr:08x} has {word:08x}, not {expected:08x}"
+        ),
+        Answer::Written | Answer::BusFault => writeln!(
+            errors,
+            "swd: script line {line}: {addr:08x} gave a bus fault, not {expected:08x}"
+        ),
+    };
 }

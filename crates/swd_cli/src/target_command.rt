@@ -180,6 +180,6 @@ fn target_status<E: Write>(errors: &mut E, fault: TargetFault) -> u8
 {
     match fault {
         TargetFault::Texts(fault) => engine_status(errors, Err(fault)),
-        TargetFault::Accesses => tell(errors, "a target's script has no accesses"),
+        TargetFault::Accesses => tell(errors, "a target's script has no accesses and no next"),
     }
 }

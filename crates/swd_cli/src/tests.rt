@@ -17,6 +17,7 @@ use swd_trace::ListFault;
 
 mod remote;
 mod target;
+mod verified;
 
 const DPIDR_READ: &[u8] = b"10100101 1 100 11101110001010000000010111010100 0 1";
 

@@ -40,9 +40,9 @@ WORD is 8 hexadecimal digits, N a decimal number.
 
 FILE may be - for standard input; a file of that name is ./-
 
-Status: 0 all done; 1 a run that ended before all was done, or that --strict
-fails; 2 a fault of words, texts, files or memory, which takes a line on
-standard error.
+Status: 0 all done; 1 a run that ended before all was done, that --strict
+fails, or that read another word than it was to verify; 2 a fault of words,
+texts, files or memory, which takes a line on standard error.
 
 Example, a read of the debug port's identification register:
   echo '10100101 1 100 11101110001010000000010111010100 0 1' | swd decode
@@ -63,22 +63,25 @@ The trace may be neither the script, nor the plan, nor standard output.
 With --remote the target is behind the standard streams: a server of OpenOCD's
 remote_bitbang characters for serial wire, as swd target is one. The report goes
 to the file that --report names, which may be /dev/stderr. SCRIPT is a file,
-there is no plan, no trace and no resuming, and the script's memory means
-nothing.
+there is no plan and no trace, and the script's memory means nothing.
 
 A script has one command a line; # begins a comment. BASE, ADDR and VALUE are 1
 to 8 hexadecimal digits, addresses multiples of 4; WORDS, N and COUNT are 1 to
-10 decimal digits. A script has at most 65536 accesses.
+10 decimal digits.
   memory BASE WORDS  the first command: the target's memory, 1 to 65536 words
                      from BASE on, all zero, none past ffffffff
-  room N             once, before the first access: the target does N transfers,
-                     0 to 65536, and answers each later one with a bus error.
-                     Without it N is 65536
+  room N             once, before the first access or next: the target does N
+                     transfers, 0 to 65536, and answers each later one with a
+                     bus error. Without it N is 65536
   w ADDR VALUE       writes a word
   r ADDR             reads a word
   rn ADDR COUNT      reads COUNT words, at least 1, each by an access of its own
   block ADDR COUNT   reads them as one block, at one request a word; no other
-                     access may stand in the script
+                     access may stand in its call
+  verify ADDR VALUE  reads a word, which has to be VALUE
+  next               begins a further call over the same target. A call has at
+                     most 65536 accesses; it begins with the opening, and only
+                     where the call before it ended all
 
 A plan has one mark a line, for the first request, the second and so on. After
 its last line nothing happens to a request.
@@ -88,14 +91,14 @@ its last line nothing happens to a request.
   deaf     the target does not see the request
   mute P   bit P, 0 to 2, of the acknowledgement arrives changed
 
-The report has one line an answer, in the script's order:
+The report has for each call one line an answer, in the script's order:
   r ADDR WORD        the word that was read
   w ADDR written     the write took place, once
   r ADDR busfault    no word is there, or the target's room is used up; the
   w ADDR busfault    same of a write. Nothing took place
   resume K begun B   no acknowledgement was seen after K answers; with --resume
-                     the run went on. What was begun may have been done twice
-and then one line of how the run ended, after K answers. Of the accesses behind
+                     the call went on. What was begun may have been done twice
+and then one line of how the call ended, after K answers. Of the accesses behind
 these, B were begun and may have taken place:
   end all K              all accesses were answered
   end lost K begun B     no acknowledgement was seen
@@ -105,9 +108,11 @@ these, B were begun and may have taken place:
 
 A trace has what went over the line, one item a line: swd decode lists it.
 
-Status: 0 where the run ended all, 1 where it ended otherwise, 2 at a fault. A
-bus fault is an answer: without --strict it counts as done, with it the status
-is 1. A fault is told on standard error with its line, counted from 1:
+Status: 0 where each call ended all, 1 where one ended otherwise, 2 at a fault.
+A bus fault is an answer: without --strict it counts as done, with it the status
+is 1. It is 1, too, where a word to verify was another or a bus fault: a line on
+standard error names the first one, with its line in the script, and both words.
+A fault is told there with its line, counted from 1:
   word            an unknown command or mark, or one that may not stand there
   number          the digits are no number of 32 bits
   range           a number is out of its range
@@ -229,7 +234,7 @@ fn resume_arg<'a>(alloc: Global) -> Arg<'a>
         .value_name("N")
         .value_parser(value_parser!(u32).range(0..=1000))
         .default_value("0")
-        .help("How often a lost run is resumed, 0 to 1000")
+        .help("How often a lost call is resumed, 0 to 1000")
 }
 
 pub(crate) fn with_arg<'a>(command: Command<'a>, arg: Arg<'a>) -> Result<Command<'a>, AllocError>
@@ -448,8 +453,8 @@ fn matched_line(alloc: Global, matches: &ArgMatches<'_>) -> Result<RunLine, Line
 fn why_unmatched(run: &RunLine) -> Option<&'static str> {
     if run.remote != run.report.is_some() {
         Some("--remote and --report FILE go together")
-    } else if run.remote && (run.plan.is_some() || run.trace.is_some() || run.resumes > 0) {
-        Some("with --remote there is no --plan, no --trace and no --resume")
+    } else if run.remote && (run.plan.is_some() || run.trace.is_some()) {
+        Some("with --remote there is no --plan and no --trace")
     } else {
         None
     }

@@ -36,7 +36,10 @@ pub(crate) fn run_all<W: Wire, A: Allocator + Copy>(
     ensures ended { IfSome result (λ session. session.ended ≡ ended_of (map done_of session.runs.items)) }
     ensures plan { W.plan wire.new ≡ W.plan wire.old }
 {
-    let mut runs = Vec::new(alloc);
+    // Before the first run, so that none that was made is lost for want of memory.
+    let Ok(mut runs) = Vec::with_capacity(alloc, batches.len()) else {
+        return None;
+    };
     for batch in batches {
         let resumed = run_on(alloc, wire, batch, tries, resumes)?;
         let ended = resumed.report.ended;

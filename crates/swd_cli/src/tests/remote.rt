@@ -40,7 +40,7 @@ fn a_lost_acknowledgement_is_no_fault_of_the_line(rt: HostRuntime) {
 
 #[test]
 fn what_does_not_go_with_it_is_refused(rt: HostRuntime) {
-    let rows: [&[&str]; 6] = [
+    let rows: [&[&str]; 5] = [
         &["swd", "run", "script", "--remote"],
         &["swd", "run", "script", "--report", "traced"],
         &[
@@ -48,9 +48,6 @@ fn what_does_not_go_with_it_is_refused(rt: HostRuntime) {
         ],
         &[
             "swd", "run", "script", "--remote", "--report", "traced", "--trace", "traced",
-        ],
-        &[
-            "swd", "run", "script", "--remote", "--report", "traced", "--resume", "1",
         ],
         &["swd", "run", "-", "--remote", "--report", "traced"],
     ];

@@ -44,7 +44,7 @@ fn a_fault_of_a_target_takes_one_line(rt: HostRuntime) {
         (
             &["swd", "target", "script"],
             b"",
-            b"swd: a target's script has no accesses\n",
+            b"swd: a target's script has no accesses and no next\n",
         ),
         (&["swd", "target", "-"], b"", b"swd: cannot open -\n"),
         (

@@ -106,7 +106,7 @@ impl Stages {
 #[test]
 fn a_run_where_memory_ends(rt: HostRuntime) -> Result<(), Fail> {
     let mut stages = Stages::new(&rt);
-    for size in 1..60usize {
+    for size in 1..80usize {
         let heap = LocalHeap::new(rt.alloc(), size * STEP)?;
         let mut script = SCRIPT;
         let mut plan = PLAN;

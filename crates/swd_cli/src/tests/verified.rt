@@ -1,0 +1,54 @@
+//! Words that a script tells, and scripts of several calls.
+use super::run_on;
+
+#[test]
+fn a_word_that_differs_takes_one_line(rt: HostRuntime) {
+    for (script, errors, status) in [
+        (
+            b"memory 20000000 1\nw 20000000 5\nverify 20000000 5\n".as_slice(),
+            b"".as_slice(),
+            0,
+        ),
+        (
+            b"memory 20000000 1\n# again\nverify 20000000 0\nnext\nverify 20000000 6\nverify 20000000 7\n",
+            b"swd: script line 5: 20000000 has 00000000, not 00000006\n",
+            1,
+        ),
+        (
+            b"memory 20000000 1\nverify 30000000 deadbeef\n",
+            b"swd: script line 2: 30000000 gave a bus fault, not deadbeef\n",
+            1,
+        ),
+    ] {
+        let ran = run_on(rt.alloc(), ["swd", "run", "-"].as_slice(), script);
+        assert_eq!(rt; ran.errors.as_slice(), errors);
+        assert_eq!(rt; ran.status, status);
+        let words = ["swd", "run", "-", "--trace", "traced", "--strict"];
+        let ran = run_on(rt.alloc(), words.as_slice(), script);
+        assert_eq!(rt; ran.errors.as_slice(), errors);
+        assert_eq!(rt; ran.status, status);
+    }
+}
+
+#[test]
+fn calls_report_one_after_the_other(rt: HostRuntime) {
+    let script =
+        b"memory 20000000 2\nw 20000000 deadbeef\nnext\nblock 20000000 2\nnext\nr 20000004\n".as_slice();
+    let ran = run_on(rt.alloc(), ["swd", "run", "-"].as_slice(), script);
+    assert!(rt; ran.errors.is_empty());
+    assert_eq!(rt; ran.status, 0);
+    assert_eq!(rt;
+        ran.output.as_slice(),
+        b"w 20000000 written\nend all 1\nr 20000000 deadbeef\nr 20000004 00000000\nend all 2\n\
+        r 20000004 00000000\nend all 1\n"
+            .as_slice()
+    );
+    // The first call is lost, and there is no other.
+    let ran = run_on(
+        rt.alloc(),
+        ["swd", "run", "-", "--plan", "cut"].as_slice(),
+        script,
+    );
+    assert_eq!(rt; ran.status, 1);
+    assert!(rt; ran.output.as_slice().starts_with(b"end lost "));
+}
