@@ -3,8 +3,10 @@ use Rattle.std.specs.Prelude.{◌≢◌, ℕ, List, Some, codes}
 use Rattle.swd_cli.specs.declared.files.Identity.{Identity}
 use Rattle.swd_cli.specs.declared.trace.Sources.{Sources}
 
--- the trace's file is neither the script's nor the plan's, and has a name: `-` would be standard output
+-- the trace's file is neither the script's, nor the plan's, nor another that is written, and has a name: `-` would be
+-- standard output
 pub record IsBeside (trace : Identity) (name : List ℕ) (read : Sources) : Type 0 where
   pub named : name ≢ codes "-"
   pub script : read.script ≢ Some trace
   pub plan : read.plan ≢ Some trace
+  pub written : read.written ≢ Some trace

@@ -121,11 +121,11 @@ fn perform<R: Read, F: Files, O: Write, E: Write>(
         Line::One(_) => one_status(errors, one_text(input, &mut output.writer)),
         Line::Decode(_) => engine_status(errors, decode_text(input, &mut output.writer)),
         Line::Encode(_) => engine_status(errors, encode_text(alloc, input, &mut output.writer)),
-        // Standard input is the target's.
-        Line::Run(run) if run.remote => cannot_open(errors, "-"),
+        Line::Run(run) if run.remote => {
+            tell(errors, "SCRIPT is a file: standard input is the target's")
+        }
         Line::Run(run) => perform_run(alloc, run, input, source, files, output, errors),
-        // Standard input is the debugger's.
-        Line::Target(_) => cannot_open(errors, "-"),
+        Line::Target(_) => tell(errors, "SCRIPT is a file: standard input is the debugger's"),
     }
 }
 
@@ -147,6 +147,7 @@ fn perform_run<S: Read, F: Files, O: Write, E: Write>(
         let read = Sources {
             script: source,
             plan: None,
+            written: None,
         };
         return perform_under(
             alloc,
@@ -164,6 +165,7 @@ fn perform_run<S: Read, F: Files, O: Write, E: Write>(
             let read = Sources {
                 script: source,
                 plan: Some(opened.identity),
+                written: None,
             };
             perform_under(
                 alloc,

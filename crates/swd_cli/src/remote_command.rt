@@ -2,8 +2,8 @@
 ghost use Rattle.std.specs.Prelude.{◌≡◌, ◌⊎◌, ℕ, List, Option, []};
 ghost use Rattle.std.specs.FinMap.{empty};
 ghost use Rattle.swd_port.specs.Port.{made};
-ghost use Rattle.swd_run.specs.RemoteRuns.{RunsRemote};
-ghost use Rattle.swd_cli.specs.Remotes.{IsReached, PerformsRemote};
+ghost use Rattle.swd_run.specs.RemoteRuns.{RunsRecorded, RunsRemote};
+ghost use Rattle.swd_cli.specs.Remotes.{IsReached, PerformsAt, PerformsRemote};
 
 use crate::command::RunLine;
 use crate::files::{Files, Identity};
@@ -14,7 +14,7 @@ use std::alloc::Global;
 use std::io::{Read, Write};
 use swd_port::Story;
 use swd_remote::{Fault, Remote};
-use swd_run::{Reached, run_remote};
+use swd_run::{Reached, run_remote, run_remote_traced};
 use swd_text::EngineFault;
 
 /// Any story of the other end: what is proved of a run is proved of each.
@@ -43,19 +43,66 @@ pub fn perform_remote<P: Story, S: Read, I: Read, F: Files, O: Write, E: Write>(
     let read = Sources {
         script: source,
         plan: None,
+        written: None,
     };
     match open_trace(files, name.as_str(), read) {
         Ok(opened) => {
+            let beside = Sources {
+                written: Some(opened.identity),
+                ..read
+            };
             let mut report = Watch::new(opened.file);
             report.look(run.strict);
             let remote = Remote::new(input, output);
-            let answer = run_remote::<P, _, _, _, _, _>(
+            run_at::<P, _, _, _, _, _, _>(
+                alloc,
+                run,
+                script,
+                remote,
+                beside,
+                files,
+                &mut report,
+                errors,
+            )
+        }
+        Err(_) => cannot_open(errors, name.as_str()),
+    }
+}
+
+// Opens the file of the trace, where one is named, and runs the script.
+fn run_at<P: Story, S: Read, I: Read + Drop, O: Write + Drop, F: Files, M: Write, E: Write>(
+    alloc: Global,
+    run: &RunLine,
+    script: &mut S,
+    remote: Remote<I, O>,
+    beside: Sources,
+    files: &F,
+    report: &mut Watch<M>,
+    errors: &mut E,
+) -> u8
+    ensures { PerformsAt P.at run.now.trace run.now result (S.remaining script.old) }
+{
+    let Some(name) = &run.trace else {
+        let answer = run_remote::<P, _, _, _, _, _>(
+            alloc,
+            script,
+            remote,
+            run.tries,
+            run.resumes,
+            report,
+        );
+        return reached_status(errors, answer, run.strict, report.has_found());
+    };
+    match open_trace(files, name.as_str(), beside) {
+        Ok(mut trace) => {
+            let answer = run_remote_traced::<P, _, _, _, _, _, _>(
                 alloc,
                 script,
                 remote,
                 run.tries,
                 run.resumes,
-                &mut report,
+                report,
+                &mut trace.file,
             );
             reached_status(errors, answer, run.strict, report.has_found())
         }

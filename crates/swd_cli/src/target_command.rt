@@ -33,6 +33,7 @@ pub fn perform_target<S: Read, I: Read, F: Files, O: Write, E: Write, A: Allocat
         let read = Sources {
             script: source,
             plan: None,
+            written: None,
         };
         return serve_under(
             alloc,
@@ -51,6 +52,7 @@ pub fn perform_target<S: Read, I: Read, F: Files, O: Write, E: Write, A: Allocat
             let read = Sources {
                 script: source,
                 plan: Some(opened.identity),
+                written: None,
             };
             let plan = &mut opened.file;
             serve_under(
@@ -79,7 +81,11 @@ fn serve_under<S: Read, P: Read, I: Read, F: Files, O: Write, E: Write, A: Alloc
     let Ok(log) = open_record(files, &target.log, read) else {
         return cannot_open_record(errors, &target.log);
     };
-    let Ok(trace) = open_record(files, &target.trace, read) else {
+    let beside = Sources {
+        written: log.as_ref().map(|log| log.identity),
+        ..read
+    };
+    let Ok(trace) = open_record(files, &target.trace, beside) else {
         return cannot_open_record(errors, &target.trace);
     };
     let kept = match &trace {
@@ -102,12 +108,12 @@ fn open_record<F: Files>(
     files: &F,
     name: &Option<String>,
     read: Sources,
-) -> Result<Option<F::Made>, ()> {
+) -> Result<Option<Opened<F::Made>>, ()> {
     let Some(name) = name else {
         return Ok(None);
     };
     match open_trace(files, name.as_str(), read) {
-        Ok(Opened { file, identity: _ }) => Ok(Some(file)),
+        Ok(opened) => Ok(Some(opened)),
         Err(_) => Err(()),
     }
 }
@@ -123,17 +129,17 @@ fn cannot_open_record<E: Write>(errors: &mut E, name: &Option<String>) -> u8
 
 // Writes the log and the trace, and says whether both stand whole.
 fn write_records<M: Write + Drop, A: Allocator>(
-    log: Option<M>,
-    trace: Option<M>,
+    log: Option<Opened<M>>,
+    trace: Option<Opened<M>>,
     target: &MarkedClocked<A>,
     kept: &Trace<A>,
 ) -> bool {
     let logged = match log {
-        Some(mut log) => write_log(&mut log, target).is_ok(),
+        Some(mut log) => write_log(&mut log.file, target).is_ok(),
         None => true,
     };
     let traced = match trace {
-        Some(mut trace) => write_trace(&mut trace, kept),
+        Some(mut trace) => write_trace(&mut trace.file, kept),
         None => true,
     };
     logged && traced

@@ -6,17 +6,19 @@ use crate::files::{Files, Identity, Opened};
 use std::io;
 use std::io::ErrorKind;
 
-/// The files that a run reads.
+/// The files of a run beside the one that is opened.
 #[derive(Clone, Copy)]
 pub struct Sources {
     /// The script's. `None` where it is standard input.
     pub script: Option<Identity>,
     /// The plan's, where one is named.
     pub plan: Option<Identity>,
+    /// That of another file that is written, where one is open: the report's, or the log's.
+    pub written: Option<Identity>,
 }
 
 /// Opens the file that a trace is written to, and cuts off what it holds once it is known to be neither the
-/// script, nor the plan, nor standard output.
+/// script, nor the plan, nor another file that is written, nor standard output.
 ///
 /// # Errors
 ///
@@ -35,7 +37,10 @@ pub fn open_trace<F: Files>(files: &F, name: &str, read: Sources) -> io::Result<
     let output = files.standard_output()?;
     let trace = files.open_to_write(name)?;
     let identity = Some(trace.identity);
-    if identity == script || identity == read.plan || identity == output {
+    if identity == script || identity == read.plan {
+        return Err(io::Error::from(ErrorKind::InvalidInput));
+    }
+    if identity == read.written || identity == output {
         return Err(io::Error::from(ErrorKind::InvalidInput));
     }
     files.cut_off(&trace.file)?;

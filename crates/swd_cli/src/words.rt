@@ -58,12 +58,13 @@ const RUN_ABOUT: &str = "Runs a script's accesses over a simulated target, each 
 
 const RUN_AFTER: &str = "\
 SCRIPT may be - for standard input. The plan and the trace are files: - is none.
-The trace may be neither the script, nor the plan, nor standard output.
+The trace may be neither the script, nor the plan, nor the report, nor standard
+output.
 
 With --remote the target is behind the standard streams: a server of OpenOCD's
 remote_bitbang characters for serial wire, as swd target is one. The report goes
 to the file that --report names, which may be /dev/stderr. SCRIPT is a file,
-there is no plan and no trace, and the script's memory means nothing.
+there is no plan, and the script's memory means nothing.
 
 A script has one command a line; # begins a comment. BASE, ADDR and VALUE are 1
 to 8 hexadecimal digits, addresses multiples of 4; WORDS, N and COUNT are 1 to
@@ -453,8 +454,8 @@ fn matched_line(alloc: Global, matches: &ArgMatches<'_>) -> Result<RunLine, Line
 fn why_unmatched(run: &RunLine) -> Option<&'static str> {
     if run.remote != run.report.is_some() {
         Some("--remote and --report FILE go together")
-    } else if run.remote && (run.plan.is_some() || run.trace.is_some()) {
-        Some("with --remote there is no --plan and no --trace")
+    } else if run.remote && run.plan.is_some() {
+        Some("with --remote there is no --plan")
     } else {
         None
     }

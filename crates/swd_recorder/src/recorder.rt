@@ -39,7 +39,7 @@ pub struct Recorder<W: Wire, A: Allocator = Global> {
 }
 
 impl<W: Wire, A: Allocator> Recorder<W, A> {
-    ghost use Rattle.swd_recorder.specs.Recorders.{kept_by, port_by, plan_by};
+    ghost use Rattle.swd_recorder.specs.Recorders.{kept_by, port_by, plan_by, wire_under};
 
     /// A recorder over this wire, with no item yet and a number of requests of its own.
     pub fn new(alloc: A, wire: W) -> Recorder<W, A>
@@ -47,6 +47,7 @@ impl<W: Wire, A: Allocator> Recorder<W, A> {
         ensures port { port_by result ≡ with_asked 0 (W.port wire) }
         ensures plan { plan_by result ≡ W.plan wire }
         ensures kept { kept_by result ≡ nothing_kept }
+        ensures wire { wire_under result ≡ wire }
     {
         Recorder {
             wire,

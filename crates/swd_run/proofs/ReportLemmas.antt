@@ -109,6 +109,11 @@ pairs_rest text (x ∷ xs) (y ∷ ys) (suc i) =
 
 module _ {A : Type 0} (start end : Option (List ℕ)) (batches kept_batches : List (Batch A)) (runs kept_runs : List (Resumed A))
     (same_batches : batches ≡ kept_batches) (same_runs : runs ≡ kept_runs) where
+  pub kept_text : session_text (map listed batches) (map done_of runs) ≡ session_text (map listed kept_batches) (map done_of kept_runs)
+  kept_text =
+      ap (λ list. session_text (map listed list) (map done_of runs)) same_batches
+      ∙ ap (λ ran. session_text (map listed kept_batches) (map done_of ran)) same_runs
+
   -- what went out is the text of those that are kept
   pub appended : Appends start end (session_text (map listed batches) (map done_of runs))
       → Appends start end (session_text (map listed kept_batches) (map done_of kept_runs))

@@ -1,5 +1,5 @@
 -- What a run over a simulated target says in terms of its plan.
-use Rattle.std.proofs.Common.{◌≡◌, ℕ, ◌+◌, ◌%◌, ◌≤◌, ◌∙◌, List, length, Option, Some, None, Result, Ok, refl, sym, ap}
+use Rattle.std.proofs.Common.{◌≡◌, ℕ, ◌+◌, ◌%◌, ◌≤◌, ◌∙◌, List, length, Option, Some, None, Result, Ok, Err, Bool, inl, inr, refl, sym, ap}
 use Rattle.std.proofs.Common.{subst, arith}
 use Rattle.std.specs.Prelude.{◌↔◌, IfOk, IfSome, is_some, if◌then◌else◌}
 use Rattle.swd_trace.specs.declared.item.Item.{Item}
@@ -18,9 +18,12 @@ use Rattle.swd_port.specs.PlainMemory.{PlainMemory, reads}
 use Rattle.swd_script.specs.Laws.{IsBlock}
 use Rattle.swd_host.specs.Reports.{Closes, EndsAt, Fits, IsAtRest, RunFits, RunsWithin, Told}
 use Rattle.swd_script.specs.Scripts.{Listed, Meaning}
-use Rattle.swd_run.specs.Running.{IsExcused, RunsAs, RunsScript, AreRead, Ran, most_begun}
-use Rattle.swd_run.specs.Sessions.{Done}
-use Rattle.swd_run.specs.Tracing.{AreItems, IsTraceOf, IsOfTrace, IsRecorded}
+use Rattle.swd_run.specs.Running.{IsExcused, RunsAs, RunsScript, AreRead, Ran, most_begun, report_of}
+use Rattle.swd_run.specs.Sessions.{Done, requests_of}
+use Rattle.swd_text.specs.declared.fault.EngineFault.{EngineFault}
+use Rattle.swd_text.specs.declared.fault.EngineFault.TheVariants.{Script, Plan, Text, List as Listing, Read, Write}
+use Rattle.swd_text.specs.declared.fault.EngineFault.TheVariants.{Memory, TraceCut}
+use Rattle.swd_run.specs.Tracing.{AreItems, IsTraceOf, IsOfTrace, IsRecorded, RunsTraced, WritesBoth}
 
 pub excused : (ended : End) (tries : ℕ) (marks : List Mark) (s t : Port) →
     t.tally.disturbed ≤ disturbed_among marks → t.tally.lost ≤ lost_among marks → EndsAt ended tries s t → IsExcused ended tries marks
@@ -123,3 +126,19 @@ of_trace requests ended port items recorded read most = record {
 abbrev pub ran_as : (tries resumes : ℕ) (script plan : Option (List ℕ)) (m : Meaning) (marks : List Mark) (runs : List Done)
     → AreRead script plan m marks → RunsScript tries resumes m marks runs → Ran tries resumes script plan
 ran_as tries resumes script plan m marks runs read are = record { meaning = m; marks = marks; read = read; runs = runs; are = are }
+
+-- where the report or its trace was not written whole, or the trace was cut off
+pub traced_stops : (tries resumes : ℕ) (script plan : Option (List ℕ)) (fault : EngineFault) (cut : Bool) (ran : Ran tries resumes script plan)
+    (items : List Item) (old new before after : Option (List ℕ)) → IsOfTrace (requests_of ran.runs) items
+    → WritesBoth cut (Err fault) (report_of ran) items old new before after
+    → RunsTraced tries resumes (Err fault) script plan old new before after
+traced_stops tries resumes script plan (Write written) cut ran items old new before after of (inl short) = (ran, inl short)
+traced_stops tries resumes script plan (Write written) cut ran items old new before after of (inr short) =
+    (ran, inr (short.0, items, of, short.1))
+traced_stops tries resumes script plan TraceCut cut ran items old new before after of both = (ran, both.1, items, of, both.2)
+traced_stops tries resumes script plan (Script fault) cut ran items old new before after of both = absurd both
+traced_stops tries resumes script plan (Plan fault) cut ran items old new before after of both = absurd both
+traced_stops tries resumes script plan Read cut ran items old new before after of both = absurd both
+traced_stops tries resumes script plan Memory cut ran items old new before after of both = absurd both
+traced_stops tries resumes script plan (Text fault) cut ran items old new before after of both = absurd both
+traced_stops tries resumes script plan (Listing fault) cut ran items old new before after of both = absurd both

@@ -64,24 +64,18 @@ module _ {W : Type 0} (port : W → Port) (plan : W → List Mark) (lawful : W �
       due_after port plan lawful (most_begun batch) batch.accesses tries t run.stops run.told u goes.went
       ∙ ap due_at all
 
-  -- over a target at rest, whose marks are among those of a plan
-  module _ (marks : List Mark) (rest : IsAtRest (port s)) (planned : plan s ≡ marks)
-      (marked : (w : W) → plan w ≡ marks
-      → ((port w).tally.disturbed ≤ disturbed_among marks) × ((port w).tally.lost ≤ lost_among marks)) where
-    pub record Facts (batches : List Listed) (runs : List Done) (t : W) : Type 0 where
+  -- from a target at rest
+  module _ (rest : IsAtRest (port s)) where
+    pub record Ends (runs : List Done) (t : W) : Type 0 where
       pub law : lawful s
-      pub same : plan t ≡ marks
-      pub session : Session tries resumes marks (port s).target.memory batches runs (port t).target.memory
       pub at_rest : ended_of runs ≡ All → IsAtRest (port t)
       pub counted : (port t).tally.asked ≡ (port s).tally.asked + requests_of runs
       pub ending : (pending (port t).link.due ≡ 0) × (((port t).link.due ≡ DueLost) ↔ (ended_of runs ≡ Lost))
 
-    pub facts : (batches : List Listed) (runs : List Done) (t : W)
-        → Runs port plan lawful most_begun tries resumes s batches runs t → lawful t → Facts batches runs t
-    facts batches runs t none law = record {
+    pub ends : (batches : List Listed) (runs : List Done) (t : W)
+        → Runs port plan lawful most_begun tries resumes s batches runs t → lawful t → Ends runs t
+    ends batches runs t none law = record {
       law = law;
-      same = planned;
-      session = no_run;
       at_rest = λ all. rest;
       counted = omega arith;
       ending = (ap pending rest.due, (λ lost. absurd (apart (port s).link.due rest.due lost), λ lost. absurd cc));
@@ -89,26 +83,46 @@ module _ {W : Type 0} (port : W → Port) (plan : W → List Mark) (lawful : W �
       where
         apart : (due : Due) → due ≡ Nothing → due ≡ DueLost → ⊥
         apart due e d = cc
-    facts batches runs t (then {batches = before} {runs = earlier} {t = u} {u = v} {batch = batch} {run = run} runs_before all goes) law =
-        let back : lawful u = law_before port plan lawful (most_begun batch) batch.accesses tries u run.stops run.told v goes.went law in
-        let h : Facts before earlier u = facts before earlier u runs_before back in
-        let r : IsAtRest (port u) = h.at_rest all in
+    ends batches runs t (then {batches = before} {runs = earlier} {t = u} {u = v} {batch = batch} {run = run} runs_before all goes) law =
         let n : ℕ = most_begun batch in
+        let back : lawful u = law_before port plan lawful n batch.accesses tries u run.stops run.told v goes.went law in
+        let h : Ends earlier u = ends before earlier u runs_before back in
+        let r : IsAtRest (port u) = h.at_rest all in
         let last : ended_of (earlier ++ run ∷ []) ≡ run.told.ended = ended_last earlier run in
-        let kept : plan v ≡ marks = plan_kept port plan lawful n batch.accesses tries u run.stops run.told v goes.went ∙ h.same in
         let many = asked port plan lawful n batch.accesses tries u r run.stops run.told v goes.went law in
-        let ends = ending port plan lawful n batch.accesses tries u r run.stops run.told v goes.went law in
+        let ending_is = ending port plan lawful n batch.accesses tries u r run.stops run.told v goes.went law in
         let before_counted = h.counted in
         let sum = requests_last earlier run in
         record {
           law = h.law;
-          same = kept;
-          session = then_run h.session all
-              (runs_on port plan lawful tries resumes batch marks run u v r law goes h.same marked);
           at_rest = λ e. rests port plan lawful n batch.accesses tries u r run.stops run.told v goes.went law (sym last ∙ e);
           counted = omega (arith, many, before_counted, sum);
-          ending = subst (λ x. (pending (port v).link.due ≡ 0) × (((port v).link.due ≡ DueLost) ↔ (x ≡ Lost))) (sym last) ends;
+          ending = subst (λ x. (pending (port v).link.due ≡ 0) × (((port v).link.due ≡ DueLost) ↔ (x ≡ Lost))) (sym last) ending_is;
         }
+
+    pub recorded : (batches : List Listed) (runs : List Done) (t : W) → (port s).tally.asked ≡ 0
+        → Runs port plan lawful most_begun tries resumes s batches runs t → lawful t → IsRecorded (requests_of runs) (ended_of runs) (port t)
+    recorded batches runs t no_request all law =
+        let h : Ends runs t = ends batches runs t all law in
+        let many = h.counted in
+        record { asked = omega (arith, many, no_request); rests = h.ending.0; lost = h.ending.1 }
+
+    -- whose marks are among those of a plan
+    module _ (marks : List Mark) (planned : plan s ≡ marks)
+        (marked : (w : W) → plan w ≡ marks
+        → ((port w).tally.disturbed ≤ disturbed_among marks) × ((port w).tally.lost ≤ lost_among marks)) where
+      pub sessions : (batches : List Listed) (runs : List Done) (t : W)
+          → Runs port plan lawful most_begun tries resumes s batches runs t → lawful t
+          → (plan t ≡ marks) × Session tries resumes marks (port s).target.memory batches runs (port t).target.memory
+      sessions batches runs t none law = (planned, no_run)
+      sessions batches runs t (then {batches = before} {runs = earlier} {t = u} {u = v} {batch = batch} {run = run} runs_before all goes) law =
+          let n : ℕ = most_begun batch in
+          let back : lawful u = law_before port plan lawful n batch.accesses tries u run.stops run.told v goes.went law in
+          let (same, session) = sessions before earlier u runs_before back in
+          let r : IsAtRest (port u) = (ends before earlier u runs_before back).at_rest all in (
+            plan_kept port plan lawful n batch.accesses tries u run.stops run.told v goes.went ∙ same,
+            then_run session all (runs_on port plan lawful tries resumes batch marks run u v r law goes same marked),
+          )
 
 -- ---- batches and runs as they are kept
 
@@ -150,20 +164,15 @@ module _ {W : Type 0} (port : W → Port) (plan : W → List Mark) (lawful : W �
   script_runs =
       let rest : IsAtRest (port s) = made_rests (memory_of script) (port s) is_made in
       let batches : List Listed = take (length runs) script.batches in
-      let h : Facts port plan lawful tries resumes s marks rest planned marked batches runs t =
-      facts port plan lawful tries resumes s marks rest planned marked batches runs t all.runs_are law in
+      let (same, session) = sessions port plan lawful tries resumes s rest marks planned marked batches runs t all.runs_are law in
       record {
         memory = (port t).target.memory;
-        session = subst (λ m. Session tries resumes marks m batches runs (port t).target.memory) (ap (λ x. x.target.memory) is_made) h.session;
+        session = subst (λ m. Session tries resumes marks m batches runs (port t).target.memory) (ap (λ x. x.target.memory) is_made) session;
         whole = all.whole;
       }
 
   -- what they leave on a wire that was recorded from its start
   pub script_recorded : IsRecorded (requests_of runs) (ended_of runs) (port t)
   script_recorded =
-      let rest : IsAtRest (port s) = made_rests (memory_of script) (port s) is_made in
-      let h : Facts port plan lawful tries resumes s marks rest planned marked (take (length runs) script.batches) runs t =
-      facts port plan lawful tries resumes s marks rest planned marked (take (length runs) script.batches) runs t all.runs_are law in
-      let many = h.counted in
-      let none : (port s).tally.asked ≡ 0 = ap (λ x. x.tally.asked) is_made in
-      record { asked = omega (arith, many, none); rests = h.ending.0; lost = h.ending.1 }
+      recorded port plan lawful tries resumes s (made_rests (memory_of script) (port s) is_made) (take (length runs) script.batches) runs t
+      (ap (λ x. x.tally.asked) is_made) all.runs_are law

@@ -15,7 +15,7 @@ mod tracing;
 mod verified;
 
 pub use going_on::Stop;
-pub use remote::{Reached, run_remote};
+pub use remote::{Reached, run_remote, run_remote_traced};
 pub use report::{ReportLine, answer_line, last_line, resume_line};
 pub use running::{Finished, run_text};
 pub use serving::{TargetFault, read_target};

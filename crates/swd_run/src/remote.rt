@@ -1,16 +1,18 @@
 //! A script, run at a target behind OpenOCD's remote_bitbang characters.
 ghost use Rattle.std.specs.Prelude.{◌≡◌};
 ghost use Rattle.swd_script.specs.Readers.{meaning};
-ghost use Rattle.swd_run.specs.RemoteRuns.{RunsRemote};
+ghost use Rattle.swd_run.specs.RemoteRuns.{RunsRecorded, RunsRemote};
 
 use crate::report::write_report;
 use crate::session::run_all;
 use crate::texts::script_fault;
+use crate::tracing::write_both;
 use crate::verified::{Difference, first_difference};
 use std::alloc::Allocator;
 use std::io::{Read, Write};
 use swd_host::End;
 use swd_port::{Outside, Story};
+use swd_recorder::Recorder;
 use swd_remote::{Fault, ProbeTransport, Remote};
 use swd_script::read_script;
 use swd_text::EngineFault;
@@ -76,6 +78,58 @@ pub fn run_remote<
             fault,
         }),
         Err(written) => Err(EngineFault::Write { written }),
+    }
+}
+
+/// `run_remote`, and the trace of what went over the wire, written behind the report, in the form of
+/// `run_traced`.
+///
+/// # Errors
+///
+/// Those of `run_remote`. `Write` also where the trace's writer failed, or took no bytes: the report then stands
+/// whole, and exactly the first `written` bytes of the trace went out. `TraceCut` where memory was refused for an
+/// item: the report stands whole, and the trace of the items before it.
+pub fn run_remote_traced<
+    P: Story,
+    S: Read,
+    R: Read + Drop,
+    W: Write + Drop,
+    O: Write,
+    T: Write,
+    A: Allocator + Copy,
+>(
+    alloc: A,
+    script: &mut S,
+    remote: Remote<R, W>,
+    tries: u32,
+    resumes: u32,
+    report: &mut O,
+    trace: &mut T,
+) -> Result<Reached, EngineFault>
+    ensures { RunsRecorded P.at tries resumes result (S.remaining script.old) (O.contents report.old)
+        (O.contents report.new) (T.contents trace.old) (T.contents trace.new) }
+{
+    let script = match read_script(alloc, script) {
+        Ok(script) => script,
+        Err(unread) => return Err(script_fault(unread)),
+    };
+    let wire: Outside<ProbeTransport<Remote<R, W>>, P> = Outside::new(ProbeTransport::new(remote));
+    let mut recorder = Recorder::new(alloc, wire);
+    let batches = script.batches.as_slice();
+    let Some(session) = run_all(alloc, &mut recorder, batches, tries, resumes) else {
+        return Err(EngineFault::Memory);
+    };
+    let runs = session.runs.as_slice();
+    let cut = recorder.is_cut();
+    let written = write_both(report, trace, batches, runs, recorder.items(), cut);
+    let fault = hang_up(recorder.into_wire().into_transport());
+    match written {
+        Ok(()) => Ok(Reached {
+            ended: session.ended,
+            differs: first_difference(batches, runs),
+            fault,
+        }),
+        Err(fault) => Err(fault),
     }
 }
 

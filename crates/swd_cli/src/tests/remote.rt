@@ -39,6 +39,33 @@ fn a_lost_acknowledgement_is_no_fault_of_the_line(rt: HostRuntime) {
 }
 
 #[test]
+fn its_trace_goes_to_a_file_of_its_own(rt: HostRuntime) {
+    let words = [
+        "swd", "run", "script", "--remote", "--report", "traced", "--trace", "items", "--resume",
+        "1",
+    ];
+    let ran = run_on(rt.alloc(), words.as_slice(), b"111".as_slice());
+    assert_eq!(rt;
+        ran.errors.as_slice(),
+        b"swd: the other end went away\n".as_slice()
+    );
+    assert_eq!(rt; ran.status, 1);
+    assert_eq!(rt; ran.cuts, 2);
+    assert!(rt; ran.traced > b"resume 0 begun 0\n".len() + LOST.len());
+    // The report's file is none for the trace.
+    for trace in ["traced", "script", "output", "-", "locked"] {
+        let words = [
+            "swd", "run", "script", "--remote", "--report", "traced", "--trace", trace,
+        ];
+        let ran = run_on(rt.alloc(), words.as_slice(), b"111".as_slice());
+        assert_eq!(rt; ran.status, 2);
+        assert!(rt; ran.errors.starts_with(b"swd: cannot open "));
+        assert!(rt; ran.output.is_empty());
+        assert_eq!(rt; ran.cuts, 1);
+    }
+}
+
+#[test]
 fn what_does_not_go_with_it_is_refused(rt: HostRuntime) {
     let rows: [&[&str]; 5] = [
         &["swd", "run", "script", "--remote"],
@@ -47,7 +74,7 @@ fn what_does_not_go_with_it_is_refused(rt: HostRuntime) {
             "swd", "run", "script", "--remote", "--report", "traced", "--plan", "quiet",
         ],
         &[
-            "swd", "run", "script", "--remote", "--report", "traced", "--trace", "traced",
+            "swd", "run", "script", "--remote", "--report", "locked", "--trace", "traced",
         ],
         &["swd", "run", "-", "--remote", "--report", "traced"],
     ];

@@ -40,13 +40,24 @@ fn log_and_trace_are_written(rt: HostRuntime) {
 
 #[test]
 fn a_fault_of_a_target_takes_one_line(rt: HostRuntime) {
-    let rows: [(&[&str], &[u8], &[u8]); 6] = [
+    let rows: [(&[&str], &[u8], &[u8]); 7] = [
         (
             &["swd", "target", "script"],
             b"",
             b"swd: a target's script has no accesses and no next\n",
         ),
-        (&["swd", "target", "-"], b"", b"swd: cannot open -\n"),
+        (
+            &["swd", "target", "-"],
+            b"",
+            b"swd: SCRIPT is a file: standard input is the debugger's\n",
+        ),
+        (
+            &[
+                "swd", "target", "memory", "--log", "traced", "--trace", "traced",
+            ],
+            b"",
+            b"swd: cannot open traced\n",
+        ),
         (
             &["swd", "target", "memory", "--log", "locked"],
             b"",

@@ -4,7 +4,9 @@ ghost use Rattle.std.specs.Prelude.{[]};
 ghost use Rattle.std.specs.FinMap.{empty};
 ghost use Rattle.swd_port.specs.Port.{made};
 
-use crate::{Difference, Reached, run_remote};
+use super::ended;
+use crate::{Difference, Reached, run_remote, run_remote_traced, run_traced};
+use swd_fakes::ShortWriter;
 use swd_host::End;
 use swd_port::{Answer, Story};
 use swd_remote::{Fault, Remote};
@@ -72,6 +74,80 @@ fn a_script_sends_what_was_recorded(rt: HostRuntime) {
     assert_eq!(rt; answer, Ok(reached));
     assert_eq!(rt; report.as_slice(), REPORT);
     assert_eq!(rt; sent.as_slice(), CHARACTERS);
+}
+
+// The trace is that of a run over the simulated target, which shows the same words.
+#[test]
+fn a_remote_run_is_traced(rt: HostRuntime) {
+    let mut sent = Vec::new(rt.alloc());
+    let mut report = Vec::new(rt.alloc());
+    let mut trace = Vec::new(rt.alloc());
+    let mut script = SCRIPT;
+    let remote = Remote::new(LEVELS, &mut sent);
+    let answer = run_remote_traced::<Untold, _, _, _, _, _, _>(
+        rt.alloc(),
+        &mut script,
+        remote,
+        8,
+        0,
+        &mut report,
+        &mut trace,
+    );
+    let reached = Reached {
+        ended: End::All,
+        differs: None,
+        fault: None,
+    };
+    assert_eq!(rt; answer, Ok(reached));
+    assert_eq!(rt; report.as_slice(), REPORT);
+    assert_eq!(rt; sent.as_slice(), CHARACTERS);
+    let mut script = SCRIPT;
+    let mut plan = b"".as_slice();
+    let mut told = Vec::new(rt.alloc());
+    let mut simulated = Vec::new(rt.alloc());
+    let answer = run_traced(
+        rt.alloc(),
+        &mut script,
+        &mut plan,
+        8,
+        0,
+        &mut told,
+        &mut simulated,
+    );
+    assert_eq!(rt; answer, ended(End::All));
+    assert_eq!(rt; trace.as_slice(), simulated.as_slice());
+}
+
+// Where the report or the trace can't be written the other end is told all the same that the host is done.
+#[test]
+fn a_failed_write_ends_the_session(rt: HostRuntime) {
+    for (report_room, trace_room) in [(3usize, 100usize), (REPORT.len(), 100), (REPORT.len(), 0)] {
+        let mut sent = Vec::new(rt.alloc());
+        let mut report = ShortWriter::new(rt.alloc(), report_room, true);
+        let mut trace = ShortWriter::new(rt.alloc(), trace_room, false);
+        let mut script = SCRIPT;
+        let remote = Remote::new(LEVELS, &mut sent);
+        let answer = run_remote_traced::<Untold, _, _, _, _, _, _>(
+            rt.alloc(),
+            &mut script,
+            remote,
+            8,
+            0,
+            &mut report,
+            &mut trace,
+        );
+        let whole = report_room == REPORT.len();
+        let written = if whole { trace_room } else { report_room };
+        assert_eq!(rt;
+            answer,
+            Err(EngineFault::Write {
+                written: written as u64
+            })
+        );
+        assert_eq!(rt; report.taken(), &REPORT[..report_room]);
+        assert_eq!(rt; trace.taken().len(), if whole { trace_room } else { 0 });
+        assert_eq!(rt; sent.as_slice(), CHARACTERS);
+    }
 }
 
 // The same list as two calls, of which the second opens anew: it isn't what was recorded, so that nothing comes back.

@@ -8,7 +8,7 @@ use Rattle.swd_script.specs.Readers.{listed, meaning}
 use Rattle.swd_script.proofs.TextLaws.{is_runnable}
 use Rattle.swd_run.specs.Running.{most_begun}
 use Rattle.swd_run.specs.Sessions.{RunsAll, done_of}
-use Rattle.swd_run.proofs.RemoteLemmas.{ran_remote}
+use Rattle.swd_run.proofs.RemoteLemmas.{ran_over}
 use Rattle.swd_run.proofs.ReportLemmas.{appended, first_of, stopped}
 use Rattle.swd_run.proofs.remote.run_remote.Goals as goal
 
@@ -26,8 +26,8 @@ returns-in-Ok-write_report g c =
     let runs = map done_of kept in
     let start = g.O.Write.contents c.args.report.now in
     let end = g.O.Write.contents c.write_report.new.writer in (
-      ran_remote (λ wire. wire.noted.calls) g.P.Story.at c.args.tries c.args.resumes (g.S.Read.remaining c.args.script.now) read.0 (meaning script) runs
-          c.new-wire.result c.run_all.new.wire read.1 read.2 c.new-wire.ensures
+      ran_over (λ wire. wire.noted.calls) (port_at g.P.Story.at) (FitsStory g.P.Story.at) [] c.args.tries c.args.resumes (g.S.Read.remaining c.args.script.now)
+          read.0 (meaning script) runs c.new-wire.result c.run_all.new.wire read.1 read.2 c.new-wire.ensures
           (subst (λ batches. RunsAll (λ wire. port_at g.P.Story.at wire.noted.calls) (λ wire. []) (λ wire. FitsStory g.P.Story.at wire.noted.calls) most_begun c.args.tries c.args.resumes (map listed batches) c.new-wire.result runs c.run_all.new.wire)
           c.as_slice-batches.ensures.value c.in-Some.ensures.runs),
       (
@@ -47,8 +47,8 @@ returns g c =
     let runs = map done_of kept in
     let start = g.O.Write.contents c.args.report.now in
     let end = g.O.Write.contents c.write_report.new.writer in (
-      ran_remote (λ wire. wire.noted.calls) g.P.Story.at c.args.tries c.args.resumes (g.S.Read.remaining c.args.script.now) read.0 (meaning script) runs
-          c.new-wire.result c.run_all.new.wire read.1 read.2 c.new-wire.ensures
+      ran_over (λ wire. wire.noted.calls) (port_at g.P.Story.at) (FitsStory g.P.Story.at) [] c.args.tries c.args.resumes (g.S.Read.remaining c.args.script.now)
+          read.0 (meaning script) runs c.new-wire.result c.run_all.new.wire read.1 read.2 c.new-wire.ensures
           (subst (λ batches. RunsAll (λ wire. port_at g.P.Story.at wire.noted.calls) (λ wire. []) (λ wire. FitsStory g.P.Story.at wire.noted.calls) most_begun c.args.tries c.args.resumes (map listed batches) c.new-wire.result runs c.run_all.new.wire)
           c.as_slice-batches.ensures.value c.in-Some.ensures.runs),
       stopped start end c.as_slice-batches.result.now script.batches.items c.as_slice-runs.result.now c.in-Some.session.runs.items
