@@ -1,6 +1,6 @@
 -- Stretches of clocks as the characters of OpenOCD's remote_bitbang protocol for serial wire (OpenOCD's manual,
 -- "remote_bitbang"), and the levels that come back. Where in a clock the host looks is this project's choice.
-use Rattle.std.specs.Prelude.{ℕ, ◌+◌, Bool, true, false, List, [], ◌∷◌, ◌++◌, map, replicate}
+use Rattle.std.specs.Prelude.{ℕ, Bool, true, false, List, [], ◌∷◌, ◌++◌, map, replicate}
 use Rattle.swd_bits.specs.Bits.{low_bits}
 use Rattle.swd_remote.specs.declared.probe.Stretch.{Stretch}
 use Rattle.swd_remote.specs.declared.probe.Stretch.TheVariants.{Drive, Hold, Release, Sample}

@@ -1,13 +1,13 @@
 -- What the calls of a remote end do to its reader and its writer.
-use Rattle.std.specs.Prelude.{ℕ, ◌≡◌, ◌≢◌, ◌+◌, ◌<◌, ◌≤◌, ◌^◌, nat_le, Bool, true, false, List, [], ◌∷◌, ◌++◌, length}
-use Rattle.std.specs.Prelude.{Option, Some, None, Result, Ok, Err, slice_index, IsErr, IfErr}
+use Rattle.std.specs.Prelude.{ℕ, ◌≡◌, ◌≢◌, ◌+◌, ◌<◌, ◌^◌, nat_le, Bool, true, false, List, [], ◌∷◌, ◌++◌, length}
+use Rattle.std.specs.Prelude.{Option, Some, None, Result, Ok, Err, slice_index, IsErr}
 use Rattle.std.specs.Io.KnownBytes.{Appends, Consumes, IsAtEnd}
 use Rattle.swd_port.specs.declared.outside.Gone.{Gone}
 use Rattle.swd_remote.specs.declared.probe.Stretch.{Stretch}
 use Rattle.swd_remote.specs.declared.remote.Fault.{Fault}
 use Rattle.swd_remote.specs.declared.remote.Fault.TheVariants.{Ended, NoLevel, Read, Write, TooMany}
 use Rattle.swd_remote.specs.declared.remote.Remote.{Remote}
-use Rattle.swd_remote.specs.Characters.{characters, is_driven, levels, level_character, looks}
+use Rattle.swd_remote.specs.Characters.{characters, is_driven, levels, looks}
 use Rattle.swd_remote.specs.Ways.{IsOnItsWay, Lengthens, Delivers, has_broken}
 
 -- this byte is among those that came back, and is no level

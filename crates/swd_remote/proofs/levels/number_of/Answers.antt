@@ -1,5 +1,4 @@
-use Rattle.std.proofs.Common.{◌≡◌, ◌+◌, ◌-◌, ◌*◌, ◌^◌, ◌<◌, [], length, drop, refl, sym, ap, ◌∙◌, subst, lit<}
-use Rattle.swd_bits.specs.Bits.{bit, low_bits}
+use Rattle.std.proofs.Common.{◌≡◌, ◌+◌, ◌-◌, ◌*◌, ◌^◌, ◌<◌, length, drop, sym, subst, lit<}
 use Rattle.swd_remote.specs.Characters.{levels}
 use Rattle.swd_remote.proofs.LevelLemmas.{next_level, next_bound, no_levels, from_bit}
 use Rattle.swd_remote.proofs.levels.number_of.Goals as goal

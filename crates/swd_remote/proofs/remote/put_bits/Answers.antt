@@ -1,4 +1,4 @@
-use Rattle.std.proofs.Common.{◌≡◌, ◌+◌, ◌-◌, ◌/◌, ◌%◌, List, ℕ, ◌++◌, ◌∙◌, ap, sym, append_assoc, subst}
+use Rattle.std.proofs.Common.{◌%◌, List, ℕ, ◌++◌, ◌∙◌, ap, sym, append_assoc, subst}
 use Rattle.std.specs.Prelude.{◌==◌}
 use Rattle.swd_remote.specs.Characters.{driven_clock}
 use Rattle.swd_remote.specs.Ways.{Lengthens}

@@ -1,4 +1,4 @@
-use Rattle.std.proofs.Common.{◌≡◌, ℕ, ◌<◌, List, [], ◌++◌, length, take, subst}
+use Rattle.std.proofs.Common.{ℕ, ◌<◌, List, [], length, take, subst}
 use Rattle.std.specs.Io.KnownBytes.{Appends}
 use Rattle.swd_remote.proofs.WayLemmas.{gone_out, cut_short, broken_more, to_carries, of_carries}
 use Rattle.swd_remote.proofs.outgoing.Outgoing.flush.Goals as goal
