@@ -1,3 +1,4 @@
 pub mod WayLemmas
 pub mod LevelLemmas
 pub mod ClockLemmas
+pub mod RunLemmas

@@ -3,3 +3,4 @@ pub mod Characters
 pub mod Ways
 pub mod Remotes
 pub mod ClockedProbes
+pub mod Runs

@@ -3,6 +3,7 @@
 #![tactic(auto)]
 
 mod clocked_probe;
+pub mod laws;
 mod levels;
 mod outgoing;
 mod probe;

@@ -1,0 +1,8 @@
+use Rattle.swd_remote.proofs.RunLemmas.{run_exactly, quit_exactly}
+use Rattle.swd_remote.proofs.laws.runs_exactly.Goals as goal
+
+pub returns-clause-runs : goal.returns-clause-runs
+returns-clause-runs g c = run_exactly g.R.Read.remaining g.W.Write.contents
+
+pub returns-clause-quits : goal.returns-clause-quits
+returns-clause-quits g c = quit_exactly g.R.Read.remaining g.W.Write.contents
