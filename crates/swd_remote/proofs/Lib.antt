@@ -2,3 +2,4 @@ pub mod WayLemmas
 pub mod LevelLemmas
 pub mod ClockLemmas
 pub mod RunLemmas
+pub mod KeptLemmas

@@ -17,7 +17,7 @@ use Rattle.swd_remote.specs.Ways.{IsOnItsWay, Lengthens, Delivers}
 use Rattle.swd_remote.proofs.WayLemmas.{no_longer, longer_twice}
 use Rattle.swd_remote.specs.Runs.{Made, Led, Asked, Took, Gave, Passed, owes_after, stretches, all_stretches, kept_by, with_clocks, text_of, levels_of, all_levels, QueuesTo, CallsAs, IsMade, AreMade, Exact, Ends, ExactUpTo, QuitsExactly}
 
-some_none : {A : Type 0} {x : A} → Some x ≡ None → ⊥
+pub some_none : {A : Type 0} {x : A} → Some x ≡ None → ⊥
 some_none e = grind arith
 
 -- whether the host drives after stretches, and how many levels they ask for

@@ -4,3 +4,4 @@ pub mod Ways
 pub mod Remotes
 pub mod ClockedProbes
 pub mod Runs
+pub mod Kept

@@ -3,6 +3,7 @@
 #![tactic(auto)]
 
 mod clocked_probe;
+mod kept;
 pub mod laws;
 mod levels;
 mod outgoing;
@@ -11,6 +12,7 @@ mod probe_transport;
 mod remote;
 
 pub use clocked_probe::ClockedProbe;
+pub use kept::{Beginning, Kept, Line};
 pub use probe::{Probe, Stretch};
 pub use probe_transport::ProbeTransport;
 pub use remote::{Fault, Remote};

@@ -1,0 +1,92 @@
+//! A transport over remote_bitbang characters whose calls are kept, so that a whole run can be told of.
+ghost use Rattle.std.specs.Prelude.{◌≡◌, ℕ, List, Option, None};
+ghost use Rattle.swd_remote.specs.Kept.{IsTold, HangsUp};
+
+use crate::probe_transport::ProbeTransport;
+use crate::remote::{Fault, Remote};
+use std::io::{Read, Write};
+use std::marker::{Brand, PhantomData};
+use swd_port::{Gone, Transport};
+
+/// What a line begins with: what its writer holds, and what its reader has. It is for contracts alone; a caller
+/// passes [`Brand`], and its proof says what these are.
+pub trait Beginning {
+    ghost sent: { Option (List ℕ) };
+
+    ghost left: { Option (List ℕ) };
+}
+
+impl Beginning for Brand {
+    ghost sent = { None };
+
+    ghost left = { None };
+}
+
+/// A transport over remote_bitbang characters. Its bytes are those of its calls, since it was made: whoever
+/// has one knows that, also where a run over it says nothing of it.
+#[derive(Drop)]
+pub struct Kept<R: Read, W: Write, B: Beginning> {
+    transport: ProbeTransport<Remote<R, W>>,
+    beginning: PhantomData<B>,
+    ghost told: { ∥ IsTold R.remaining W.contents B.sent B.left transport ∥₁ },
+}
+
+/// A line that nobody uses any more.
+#[derive(Drop)]
+pub struct Line<R, W> {
+    pub reader: R,
+    pub writer: W,
+    /// Why the other end is gone, where it is.
+    pub fault: Option<Fault>,
+}
+
+impl<R: Read, W: Write, B: Beginning> Kept<R, W, B> {
+    /// A transport to which nothing was sent yet.
+    pub fn new(reader: R, writer: W) -> Kept<R, W, B>
+        requires sent { B.sent ≡ W.contents writer }
+        requires left { B.left ≡ R.remaining reader }
+    {
+        Kept {
+            transport: ProbeTransport::new(Remote::new(reader, writer)),
+            beginning: PhantomData,
+        }
+    }
+
+    /// Says that the host is done, and hands back the line.
+    pub fn hang_up(self) -> Line<R, W>
+        ensures { ∥ HangsUp R.remaining W.contents B.sent B.left result ∥₁ }
+    {
+        let Kept { transport, .. } = self;
+        let mut remote = transport.into_probe();
+        let _ = remote.quit();
+        let fault = remote.fault();
+        let (reader, writer) = remote.into_parts();
+        Line {
+            reader,
+            writer,
+            fault,
+        }
+    }
+}
+
+impl<R: Read, W: Write, B: Beginning> Transport for Kept<R, W, B> {
+    fn lead(&mut self, ones: u32, switch: bool, zeros: u32) -> Result<(), Gone> {
+        self.transport.lead(ones, switch, zeros)
+    }
+
+    fn ask(&mut self, request: u8) -> Result<u8, Gone> {
+        self.transport.ask(request)
+    }
+
+    fn take(&mut self) -> Result<u64, Gone> {
+        self.transport.take()
+    }
+
+    fn give(&mut self, bits: u64) -> Result<(), Gone> {
+        self.transport.give(bits)
+    }
+
+    fn pass(&mut self) -> Result<(), Gone> {
+        self.transport.pass()
+    }
+}
