@@ -1,6 +1,7 @@
 mod CountSteps
 mod NotedSteps
 mod Telling
+mod Wents
 pub mod MapLemmas
 pub mod RegisterLemmas
 pub mod PhaseLemmas

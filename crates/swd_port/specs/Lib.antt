@@ -9,6 +9,7 @@ pub mod Asking
 pub mod Moving
 pub mod Leading
 pub mod Stories
+pub mod Transports
 pub mod Moves
 pub mod Outcomes
 pub mod Transfers

@@ -24,7 +24,7 @@ pub use csw::Csw;
 pub use ctrl_stat::CtrlStat;
 pub use mark::Mark;
 pub use noted::Noted;
-pub use outside::{Gone, Outside, Story, Transport};
+pub use outside::{Gone, Loose, Outside, Story, Tie, Tied, Transport};
 pub use register::Register;
 pub use select::Select;
 pub use state::{Drw, Line, PowerUp, Reply, Reset};
