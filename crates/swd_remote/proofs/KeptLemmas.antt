@@ -1,13 +1,15 @@
 -- Laws of a line from its beginning to its end.
 use Rattle.std.proofs.Common.{◌≡◌, ℕ, true, false, List, [], ◌∷◌, ◌++◌, Option, Some, None, Result, Ok, Err, refl, sym, ap, ◌∙◌, subst}
+use Rattle.std.proofs.Math.Logic.{∥∥₁_map}
 use Rattle.std.specs.Io.KnownBytes.{Appends, Consumes}
 use Rattle.swd_port.specs.declared.outside.Gone.{Gone}
+use Rattle.swd_port.specs.Transports.{Made}
 use Rattle.swd_remote.specs.declared.kept.Line.{Line}
 use Rattle.swd_remote.specs.declared.remote.Fault.{Fault}
 use Rattle.swd_remote.specs.declared.remote.Remote.{Remote}
 use Rattle.swd_remote.specs.declared.probe_transport.ProbeTransport.{ProbeTransport}
 use Rattle.swd_remote.specs.Remotes.{QuitsAt}
-use Rattle.swd_remote.specs.Runs.{Made, IsMade, AreMade, text_of, all_levels}
+use Rattle.swd_remote.specs.Runs.{IsMade, AreMade, text_of, all_levels}
 use Rattle.swd_remote.specs.Kept.{IsFresh, IsTold, WentWell, HangsUp}
 use Rattle.swd_remote.proofs.RunLemmas.{some_none, run_exactly, quit_exactly}
 
@@ -18,15 +20,14 @@ made_more remaining contents [] call s m t h one = (t, subst (λ r. IsMade remai
 made_more remaining contents (first ∷ calls) call s m t h one = (h.0, h.1, made_more remaining contents calls call h.0 m t h.2 one)
 
 -- one call more
-pub told_more : {R W : Type 0} (remaining : R → Option (List ℕ)) (contents : W → Option (List ℕ)) (sent left : Option (List ℕ)) (call : Made)
-    (s t : ProbeTransport (Remote R W)) → IsTold remaining contents sent left s → IsMade remaining contents call s t
-    → IsTold remaining contents sent left t
-told_more remaining contents sent left call s t h one = record {
+pub told_more : {R W : Type 0} (remaining : R → Option (List ℕ)) (contents : W → Option (List ℕ)) (sent left : Option (List ℕ))
+    (calls : List Made) (call : Made) (s t : ProbeTransport (Remote R W)) → IsMade remaining contents call s t
+    → ∥ IsTold remaining contents sent left calls s ∥₁ → ∥ IsTold remaining contents sent left (calls ++ call ∷ []) t ∥₁
+told_more remaining contents sent left calls call s t one h = ∥∥₁_map h (λ h. record {
   start = h.start;
   fresh = h.fresh;
-  calls = h.calls ++ call ∷ [];
-  made = made_more remaining contents h.calls call h.start s t h.made one;
-}
+  made = made_more remaining contents calls call h.start s t h.made one;
+})
 
 -- where it is well at the end, it was so before, and Q went out
 quit_well : {R W : Type 0} (contents : W → Option (List ℕ)) (o : Option Fault) (done : Result (Unit {0}) Gone) (s t : Remote R W)
@@ -53,24 +54,23 @@ went_well remaining contents sent left line calls start last end done fresh made
     }
 
 pub hung_up : {R W : Type 0} (remaining : R → Option (List ℕ)) (contents : W → Option (List ℕ)) (sent left : Option (List ℕ))
-    (line : Line R W) (last : ProbeTransport (Remote R W)) (first end : Remote R W) (done : Result (Unit {0}) Gone)
-    → IsTold remaining contents sent left last → first ≡ last.probe → QuitsAt first.fault contents done first end
+    (calls : List Made) (line : Line R W) (last : ProbeTransport (Remote R W)) (first end : Remote R W) (done : Result (Unit {0}) Gone)
+    → IsTold remaining contents sent left calls last → first ≡ last.probe → QuitsAt first.fault contents done first end
     → line.reader ≡ end.reader → line.writer ≡ end.outgoing.writer → line.fault ≡ end.fault
-    → HangsUp remaining contents sent left line
-hung_up {R} {W} remaining contents sent left line last first end done h e q r w f =
+    → HangsUp remaining contents sent left calls line
+hung_up {R} {W} remaining contents sent left calls line last first end done h e q r w f =
     let q' = subst (λ (p : Remote R W). QuitsAt p.fault contents done p end) e q in
     record {
       start = h.start;
       fresh = h.fresh;
-      calls = h.calls;
       last = last;
       made = h.made;
-      exact = run_exactly remaining contents h.calls h.start last h.made h.fresh.well h.fresh.asked;
+      exact = run_exactly remaining contents calls h.start last h.made h.fresh.well h.fresh.asked;
       done = done;
       end = end;
       quits = q';
       reader = r;
       writer = w;
       fault = f;
-      well = λ well. went_well remaining contents sent left line h.calls h.start last end done h.fresh h.made q' r w (sym f ∙ well);
+      well = λ well. went_well remaining contents sent left line calls h.start last end done h.fresh h.made q' r w (sym f ∙ well);
     }

@@ -3,3 +3,4 @@ pub mod LevelLemmas
 pub mod ClockLemmas
 pub mod RunLemmas
 pub mod KeptLemmas
+pub mod WholeLemmas

@@ -5,6 +5,7 @@ use Rattle.std.specs.Io.KnownBytes.{Appends, Consumes}
 use Rattle.std.proofs.lemmas.Result.{IfOk-from_err}
 use Rattle.std.proofs.KnownBytes.{Consumes-trans, Consumes-nil}
 use Rattle.swd_port.specs.declared.outside.Gone.{Gone}
+use Rattle.swd_port.specs.Transports.{Made, Lead, Ask, Take, Give, Pass}
 use Rattle.swd_remote.specs.declared.probe.Stretch.{Stretch}
 use Rattle.swd_remote.specs.declared.remote.Fault.{Fault}
 use Rattle.swd_remote.specs.declared.remote.Remote.{Remote}
@@ -15,7 +16,7 @@ use Rattle.swd_remote.specs.Packets.{asked, taken, turnaround, given, led, has_c
 use Rattle.swd_remote.specs.Remotes.{QueuesAt, QueuesWithin, Queued, ExchangesAt, Answered, FailsAs, QuitsAt}
 use Rattle.swd_remote.specs.Ways.{IsOnItsWay, Lengthens, Delivers}
 use Rattle.swd_remote.proofs.WayLemmas.{no_longer, longer_twice}
-use Rattle.swd_remote.specs.Runs.{Made, Led, Asked, Took, Gave, Passed, owes_after, stretches, all_stretches, kept_by, with_clocks, text_of, levels_of, all_levels, QueuesTo, CallsAs, IsMade, AreMade, Exact, Ends, ExactUpTo, QuitsExactly}
+use Rattle.swd_remote.specs.Runs.{owes_after, stretches, all_stretches, kept_by, with_clocks, text_of, levels_of, all_levels, QueuesTo, CallsAs, IsMade, AreMade, Exact, Ends, ExactUpTo, QuitsExactly}
 
 pub some_none : {A : Type 0} {x : A} → Some x ≡ None → ⊥
 some_none e = grind arith
@@ -82,16 +83,16 @@ well_exchange remaining contents result s t x w = well_at s.fault s t refl (λ f
 
 gone_call : {R W : Type 0} (remaining : R → Option (List ℕ)) (contents : W → Option (List ℕ)) (owes : Bool) (call : Made) (f : Fault)
     (s t : Remote R W) → s.fault ≡ Some f → CallsAs remaining contents owes call s t → t ≡ s
-gone_call remaining contents owes (Led ones switch zeros) f s t e h = gone_queues contents (led owes ones switch zeros) f s t e h
-gone_call {R} {W} remaining contents owes (Asked request told) f s t e h =
+gone_call remaining contents owes (Lead ones switch zeros told) f s t e h = gone_queues contents (led owes ones switch zeros) f s t e h
+gone_call {R} {W} remaining contents owes (Ask request told) f s t e h =
     let same = gone_queues contents (asked request) f s h.queued e h.queues in
     gone_exchange remaining contents h.seen f h.queued t (ap (λ (r : Remote R W). r.fault) same ∙ e) h.exchanges ∙ same
-gone_call {R} {W} remaining contents owes (Took told) f s t e h =
+gone_call {R} {W} remaining contents owes (Take told) f s t e h =
     let one = gone_queues contents taken f s h.queued e h.queues in
     let two = gone_exchange remaining contents told f h.queued h.exchanged (ap (λ (r : Remote R W). r.fault) one ∙ e) h.exchanges ∙ one in
     gone_queues contents turnaround f h.exchanged t (ap (λ (r : Remote R W). r.fault) two ∙ e) h.turns ∙ two
-gone_call remaining contents owes (Gave bits) f s t e h = gone_queues contents (given bits) f s t e h
-gone_call remaining contents owes Passed f s t e h = gone_queues contents turnaround f s t e h
+gone_call remaining contents owes (Give bits told) f s t e h = gone_queues contents (given bits) f s t e h
+gone_call remaining contents owes (Pass told) f s t e h = gone_queues contents turnaround f s t e h
 
 gone_calls : {R W : Type 0} (remaining : R → Option (List ℕ)) (contents : W → Option (List ℕ)) (calls : List Made) (f : Fault)
     (s t : ProbeTransport (Remote R W)) → s.probe.fault ≡ Some f → AreMade remaining contents calls s t → t.probe ≡ s.probe
@@ -194,14 +195,14 @@ led_quiet owes ones switch zeros = clocks_quiet (led owes ones switch zeros) ref
 
 step : {R W : Type 0} (remaining : R → Option (List ℕ)) (contents : W → Option (List ℕ)) (owes : Bool) (call : Made) (s t : Remote R W)
     → CallsAs remaining contents owes call s t → s.fault ≡ None → s.asked ≡ 0 → t.fault ≡ None → Steps remaining contents owes call s t
-step remaining contents owes (Led ones switch zeros) s t h e z w =
-    quiet remaining contents owes (Led ones switch zeros) s t refl (led_quiet owes ones switch zeros) z
+step remaining contents owes (Lead ones switch zeros told) s t h e z w =
+    quiet remaining contents owes (Lead ones switch zeros told) s t refl (led_quiet owes ones switch zeros) z
     (all_queued contents (led owes ones switch zeros) s t h e w)
-step remaining contents owes (Gave bits) s t h e z w =
-    quiet remaining contents owes (Gave bits) s t refl refl z (all_queued contents (given bits) s t h e w)
-step remaining contents owes Passed s t h e z w =
-    quiet remaining contents owes Passed s t refl refl z (all_queued contents turnaround s t h e w)
-step {R} {W} remaining contents owes (Asked request told) s t h e z w =
+step remaining contents owes (Give bits told) s t h e z w =
+    quiet remaining contents owes (Give bits told) s t refl refl z (all_queued contents (given bits) s t h e w)
+step remaining contents owes (Pass told) s t h e z w =
+    quiet remaining contents owes (Pass told) s t refl refl z (all_queued contents turnaround s t h e w)
+step {R} {W} remaining contents owes (Ask request told) s t h e z w =
     let well = well_exchange remaining contents h.seen h.queued t h.exchanges w in
     let a = all_queued contents (asked request) s h.queued h.queues e well in
     let x = answered remaining contents h.seen h.queued t h.exchanges well w in
@@ -210,12 +211,12 @@ step {R} {W} remaining contents owes (Asked request told) s t h e z w =
     let is = told_asked told x.0 got.1 (subst (λ r. IsToldOf 8 r told) x.1 h.tells) in
     record {
       out = delivered contents _ s.outgoing h.queued.outgoing t.outgoing a.out x.2.out;
-      reads = subst (λ r. Consumes (remaining s.reader) (remaining t.reader) (levels_of (Asked request r))) (sym is)
+      reads = subst (λ r. Consumes (remaining s.reader) (remaining t.reader) (levels_of (Ask request r))) (sym is)
           (subst (λ r. Consumes (remaining r) (remaining t.reader) (levels 3 x.0)) a.reader got.0);
       drives = x.2.drives ∙ a.drives;
       asked = x.2.asked;
     }
-step {R} {W} remaining contents owes (Took told) s t h e z w =
+step {R} {W} remaining contents owes (Take told) s t h e z w =
     let after = well_queues contents turnaround h.exchanged t h.turns w in
     let well = well_exchange remaining contents told h.queued h.exchanged h.exchanges after in
     let a = all_queued contents taken s h.queued h.queues e well in
@@ -231,7 +232,7 @@ step {R} {W} remaining contents owes (Took told) s t h e z w =
     record {
       out = subst (λ l. Lengthens contents l s.outgoing t.outgoing) (sym (characters_append s.drives (with_clocks taken) (with_clocks turnaround)))
           (longer_twice contents _ _ s.outgoing h.exchanged.outgoing t.outgoing sent turned);
-      reads = subst (λ r. Consumes (remaining s.reader) (remaining t.reader) (levels_of (Took r))) (sym x.1)
+      reads = subst (λ r. Consumes (remaining s.reader) (remaining t.reader) (levels_of (Take r))) (sym x.1)
           (subst (λ r. Consumes (remaining s.reader) (remaining r) (levels 33 x.0)) (sym b.reader)
           (subst (λ r. Consumes (remaining r) (remaining h.exchanged.reader) (levels 33 x.0)) a.reader got.0));
       drives = b.drives ∙ ap (λ d. driven_after d (with_clocks turnaround)) drove;

@@ -2,11 +2,12 @@
 use Rattle.std.specs.Prelude.{ℕ, ◌≡◌, true, false, List, [], ◌∷◌, ◌++◌, Option, None, Result}
 use Rattle.std.specs.Io.KnownBytes.{Appends, Consumes}
 use Rattle.swd_port.specs.declared.outside.Gone.{Gone}
+use Rattle.swd_port.specs.Transports.{Made}
 use Rattle.swd_remote.specs.declared.kept.Line.{Line}
 use Rattle.swd_remote.specs.declared.remote.Remote.{Remote}
 use Rattle.swd_remote.specs.declared.probe_transport.ProbeTransport.{ProbeTransport}
 use Rattle.swd_remote.specs.Remotes.{QuitsAt}
-use Rattle.swd_remote.specs.Runs.{Made, AreMade, ExactUpTo, text_of, all_levels}
+use Rattle.swd_remote.specs.Runs.{AreMade, ExactUpTo, text_of, all_levels}
 use Rattle.swd_remote.specs.Ways.{IsOnItsWay}
 
 -- nothing was sent yet: the writer holds what it did at first, and the reader has what it had; the host drives SWDIO
@@ -19,12 +20,11 @@ pub record IsFresh {R W : Type 0} (remaining : R → Option (List ℕ)) (content
   pub writer : IsOnItsWay contents sent start.probe.outgoing []
   pub reader : remaining start.probe.reader ≡ left
 
--- calls were made since the beginning, and nothing else was done to it
+-- these calls were made since the beginning, the first one first, and nothing else was done to it
 pub record IsTold {R W : Type 0} (remaining : R → Option (List ℕ)) (contents : W → Option (List ℕ)) (sent left : Option (List ℕ))
-    (t : ProbeTransport (Remote R W)) : Type 0 where
+    (calls : List Made) (t : ProbeTransport (Remote R W)) : Type 0 where
   pub start : ProbeTransport (Remote R W)
   pub fresh : IsFresh remaining contents sent left start
-  pub calls : List Made
   pub made : AreMade remaining contents calls start t
 
 -- Of a line that is well at its end: exactly the characters of the calls went out, and Q, and exactly the levels that they told of
@@ -36,10 +36,9 @@ pub record WentWell {R W : Type 0} (remaining : R → Option (List ℕ)) (conten
 
 -- These calls were made up to the end of a line. Up to the first fault they are exact; where there was none, all of them, and Q.
 pub record HangsUp {R W : Type 0} (remaining : R → Option (List ℕ)) (contents : W → Option (List ℕ)) (sent left : Option (List ℕ))
-    (line : Line R W) : Type 0 where
+    (calls : List Made) (line : Line R W) : Type 0 where
   pub start : ProbeTransport (Remote R W)
   pub fresh : IsFresh remaining contents sent left start
-  pub calls : List Made
   pub last : ProbeTransport (Remote R W)
   pub made : AreMade remaining contents calls start last
   pub exact : ExactUpTo remaining contents last.probe.fault calls start last

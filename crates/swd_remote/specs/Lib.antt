@@ -5,3 +5,4 @@ pub mod Remotes
 pub mod ClockedProbes
 pub mod Runs
 pub mod Kept
+pub mod WholeRuns

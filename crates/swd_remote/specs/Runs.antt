@@ -2,6 +2,7 @@
 use Rattle.std.specs.Prelude.{ℕ, ◌≡◌, Bool, true, false, List, [], ◌∷◌, ◌++◌, Option, Some, None, Result, Ok}
 use Rattle.std.specs.Io.KnownBytes.{Appends, Consumes}
 use Rattle.swd_port.specs.declared.outside.Gone.{Gone}
+use Rattle.swd_port.specs.Transports.{Made, Lead, Ask, Take, Give, Pass}
 use Rattle.swd_remote.specs.declared.probe.Stretch.{Stretch}
 use Rattle.swd_remote.specs.declared.remote.Fault.{Fault}
 use Rattle.swd_remote.specs.declared.remote.Remote.{Remote}
@@ -11,26 +12,18 @@ use Rattle.swd_remote.specs.Packets.{asked, taken, turnaround, given, led, has_c
 use Rattle.swd_remote.specs.Remotes.{QueuesAt, ExchangesAt, QuitsAt}
 use Rattle.swd_remote.specs.Ways.{IsOnItsWay, Lengthens}
 
--- a call of a wire, with what its caller was told
-pub data Made : Type 0 where
-  Led : (ones : ℕ) (switch : Bool) (zeros : ℕ) → Made
-  Asked : (request : ℕ) (told : Result ℕ Gone) → Made
-  Took : (told : Result ℕ Gone) → Made
-  Gave : (bits : ℕ) → Made
-  Passed : Made
-
 -- whether a data phase may be open after it
 abbrev pub owes_after : Made → Bool
-owes_after (Asked request told) = true
+owes_after (Ask request told) = true
 owes_after call = false
 
 -- the stretches of a call, after which a data phase was open or not
 abbrev pub stretches : Bool → Made → List Stretch
-stretches owes (Led ones switch zeros) = led owes ones switch zeros
-stretches owes (Asked request told) = asked request
-stretches owes (Took told) = taken ++ turnaround
-stretches owes (Gave bits) = given bits
-stretches owes Passed = turnaround
+stretches owes (Lead ones switch zeros told) = led owes ones switch zeros
+stretches owes (Ask request told) = asked request
+stretches owes (Take told) = taken ++ turnaround
+stretches owes (Give bits told) = given bits
+stretches owes (Pass told) = turnaround
 
 abbrev pub all_stretches : Bool → List Made → List Stretch
 all_stretches owes [] = []
@@ -51,8 +44,8 @@ text_of drives owes calls = all_characters drives (with_clocks (all_stretches ow
 
 -- the levels that came back for a call: those of its answer
 abbrev pub levels_of : Made → List ℕ
-levels_of (Asked request (Ok seen)) = levels 3 seen
-levels_of (Took (Ok bits)) = levels 33 bits
+levels_of (Ask request (Ok seen)) = levels 3 seen
+levels_of (Take (Ok bits)) = levels 33 bits
 levels_of call = []
 
 abbrev pub all_levels : List Made → List ℕ
@@ -70,12 +63,12 @@ ExchangesWith remaining contents result s t = ExchangesAt s.fault remaining cont
 -- what a call does to it, by the contract of the call
 abbrev pub CallsAs : {R W : Type 0} → (R → Option (List ℕ)) → (W → Option (List ℕ)) → Bool → Made
     → Remote R W → Remote R W → Type 0
-CallsAs remaining contents owes (Led ones switch zeros) s t = Queues (QueuesTo contents) (led owes ones switch zeros) s t
-CallsAs remaining contents owes (Asked request told) s t =
+CallsAs remaining contents owes (Lead ones switch zeros told) s t = Queues (QueuesTo contents) (led owes ones switch zeros) s t
+CallsAs remaining contents owes (Ask request told) s t =
     Asks (QueuesTo contents) (ExchangesWith remaining contents) request told s t
-CallsAs remaining contents owes (Took told) s t = Takes (QueuesTo contents) (ExchangesWith remaining contents) told s t
-CallsAs remaining contents owes (Gave bits) s t = Queues (QueuesTo contents) (given bits) s t
-CallsAs remaining contents owes Passed s t = Queues (QueuesTo contents) turnaround s t
+CallsAs remaining contents owes (Take told) s t = Takes (QueuesTo contents) (ExchangesWith remaining contents) told s t
+CallsAs remaining contents owes (Give bits told) s t = Queues (QueuesTo contents) (given bits) s t
+CallsAs remaining contents owes (Pass told) s t = Queues (QueuesTo contents) turnaround s t
 
 -- a call was made
 abbrev pub IsMade : {R W : Type 0} → (R → Option (List ℕ)) → (W → Option (List ℕ)) → Made

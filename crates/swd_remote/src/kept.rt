@@ -1,6 +1,6 @@
-//! A transport over remote_bitbang characters whose calls are kept, so that a whole run can be told of.
-ghost use Rattle.std.specs.Prelude.{◌≡◌, ℕ, List, Option, None};
-ghost use Rattle.swd_remote.specs.Kept.{IsTold, HangsUp};
+//! A transport over remote_bitbang characters that tells of its calls, so that a whole run can be told of.
+ghost use Rattle.std.specs.Prelude.{◌≡◌, ℕ, List, [], Option, None};
+ghost use Rattle.swd_port.specs.Transports.{Made};
 
 use crate::probe_transport::ProbeTransport;
 use crate::remote::{Fault, Remote};
@@ -22,13 +22,12 @@ impl Beginning for Brand {
     ghost left = { None };
 }
 
-/// A transport over remote_bitbang characters. Its bytes are those of its calls, since it was made: whoever
-/// has one knows that, also where a run over it says nothing of it.
+/// A transport over remote_bitbang characters that tells of its calls: what went over the line since the
+/// beginning is exactly theirs.
 #[derive(Drop)]
 pub struct Kept<R: Read, W: Write, B: Beginning> {
-    transport: ProbeTransport<Remote<R, W>>,
+    pub transport: ProbeTransport<Remote<R, W>>,
     beginning: PhantomData<B>,
-    ghost told: { ∥ IsTold R.remaining W.contents B.sent B.left transport ∥₁ },
 }
 
 /// A line that nobody uses any more.
@@ -41,10 +40,13 @@ pub struct Line<R, W> {
 }
 
 impl<R: Read, W: Write, B: Beginning> Kept<R, W, B> {
+    ghost use Rattle.swd_remote.specs.Kept.{IsTold, HangsUp};
+
     /// A transport to which nothing was sent yet.
     pub fn new(reader: R, writer: W) -> Kept<R, W, B>
         requires sent { B.sent ≡ W.contents writer }
         requires left { B.left ≡ R.remaining reader }
+        ensures { ∥ IsTold R.remaining W.contents B.sent B.left [] result.transport ∥₁ }
     {
         Kept {
             transport: ProbeTransport::new(Remote::new(reader, writer)),
@@ -54,7 +56,8 @@ impl<R: Read, W: Write, B: Beginning> Kept<R, W, B> {
 
     /// Says that the host is done, and hands back the line.
     pub fn hang_up(self) -> Line<R, W>
-        ensures { ∥ HangsUp R.remaining W.contents B.sent B.left result ∥₁ }
+        ensures { (calls : List Made) → ∥ IsTold R.remaining W.contents B.sent B.left calls self.transport ∥₁
+            → ∥ HangsUp R.remaining W.contents B.sent B.left calls result ∥₁ }
     {
         let Kept { transport, .. } = self;
         let mut remote = transport.into_probe();
@@ -70,6 +73,10 @@ impl<R: Read, W: Write, B: Beginning> Kept<R, W, B> {
 }
 
 impl<R: Read, W: Write, B: Beginning> Transport for Kept<R, W, B> {
+    ghost use Rattle.swd_remote.specs.Kept.{IsTold};
+
+    ghost tells = { λ calls kept. ∥ IsTold R.remaining W.contents B.sent B.left calls kept.transport ∥₁ };
+
     fn lead(&mut self, ones: u32, switch: bool, zeros: u32) -> Result<(), Gone> {
         self.transport.lead(ones, switch, zeros)
     }

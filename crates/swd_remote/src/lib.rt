@@ -10,12 +10,14 @@ mod outgoing;
 mod probe;
 mod probe_transport;
 mod remote;
+mod whole_run;
 
 pub use clocked_probe::ClockedProbe;
 pub use kept::{Beginning, Kept, Line};
 pub use probe::{Probe, Stretch};
 pub use probe_transport::ProbeTransport;
 pub use remote::{Fault, Remote};
+pub use whole_run::run_over_line;
 
 #[cfg(test)]
 mod tests;

@@ -5,7 +5,7 @@ ghost use Rattle.swd_port.specs.Port.{made};
 ghost use Rattle.std.specs.FinMap.{empty};
 ghost use Rattle.swd_target.specs.Marks.{IsPlan};
 
-use crate::{ClockedProbe, Fault, Probe, ProbeTransport, Remote};
+use crate::{ClockedProbe, Fault, Line, Probe, ProbeTransport, Remote, run_over_line};
 use std::alloc::Global;
 use std::cell::RefCell;
 use std::io;
@@ -291,6 +291,13 @@ pub(super) fn over(alloc: Global, end: End, task: &Task) -> Result<(Report, Opti
         return Err(Fail::from("quit and the fault disagree"));
     }
     Ok((report, remote.fault()))
+}
+
+/// The report of a whole line, and why the other end is gone, where it is.
+pub(super) fn whole(alloc: Global, end: End, task: &Task) -> Result<(Report, Option<Fault>), Fail> {
+    let (ran, line) = run_over_line::<Untold, _, _, _>(alloc, end, end, task.accesses, 8);
+    let Line { fault, .. } = line;
+    Ok((ran?, fault))
 }
 
 /// The transfers of a server's target.

@@ -1,6 +1,7 @@
 //! The same reports over characters and over single clocks as over a simulated wire.
+use crate::Fault;
 use crate::tests::line::{
-    BASE, Cut, End, Task, clocked, over, plain, server_of, simulated, transfers,
+    BASE, Cut, End, Task, clocked, over, plain, server_of, simulated, transfers, whole,
 };
 use std::alloc::Global;
 use std::process::Abort;
@@ -143,5 +144,22 @@ fn characters_are_sent_where_an_answer_is_needed(rt: HostRuntime) -> Result<(), 
     assert_eq!(rt; flushes(alloc, &block(&[], 5))?, four.saturating_add(2));
     // The opening has nine requests, and five of them read; then what waits is sent at the end.
     assert_eq!(rt; flushes(alloc, &plain(&[]))?, 9 + 5 + 1);
+    Ok(())
+}
+
+#[test]
+fn a_whole_line_comes_to_the_same_report(rt: HostRuntime) -> Result<(), Fail> {
+    let alloc = rt.alloc();
+    let task = plain(&[WRITE, READ, FAR]);
+    let (wanted, log) = simulated(alloc, &task)?;
+    let server = server_of(alloc, &task, Cut::Never, 7)?;
+    let (report, fault) = whole(alloc, End { server: &server }, &task)?;
+    assert_eq!(rt; fault, None);
+    same(&rt, 0, &report, &wanted);
+    assert!(rt; transfers(alloc, server)? == log);
+    let server = server_of(alloc, &task, Cut::Ends(20), 7)?;
+    let (report, fault) = whole(alloc, End { server: &server }, &task)?;
+    assert_eq!(rt; fault, Some(Fault::Ended));
+    assert_eq!(rt; report.ended, swd_host::End::Lost);
     Ok(())
 }

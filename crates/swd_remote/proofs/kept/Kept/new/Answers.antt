@@ -5,25 +5,22 @@ use Rattle.swd_remote.specs.declared.remote.Remote.{Remote}
 use Rattle.swd_remote.specs.Ways.{IsOnItsWay}
 use Rattle.swd_remote.proofs.kept.Kept.new.Goals as goal
 
-pub invariant_of-result : goal.invariant_of-result
-invariant_of-result g c =
+pub returns : goal.returns
+returns g c =
     let probe = c.new-2.ensures.probe in
     let contents = g.W.Write.contents in
     let way = c.new.ensures.out (contents c.args.writer) [] (Appends-nil (contents c.args.writer)) in
-    record {
-      told = merely (record {
-        start = c.new-2.result;
-        fresh = record {
-          well = ap (λ (r : Remote g.row.R.Denot g.row.W.Denot). r.fault) probe ∙ c.new.ensures.fault;
-          asked = ap (λ (r : Remote g.row.R.Denot g.row.W.Denot). r.asked) probe ∙ c.new.ensures.asked;
-          drives = ap (λ (r : Remote g.row.R.Denot g.row.W.Denot). r.drives) probe ∙ c.new.ensures.drives;
-          owes = c.new-2.ensures.owes;
-          writer = subst (λ o. IsOnItsWay contents o c.new-2.result.probe.outgoing []) (sym c.requires.sent)
-              (subst (λ (r : Remote g.row.R.Denot g.row.W.Denot). IsOnItsWay contents (contents c.args.writer) r.outgoing []) (sym probe) way);
-          reader = ap (λ (r : Remote g.row.R.Denot g.row.W.Denot). g.R.Read.remaining r.reader) probe
-              ∙ ap g.R.Read.remaining c.new.ensures.reader ∙ sym c.requires.left;
-        };
-        calls = [];
-        made = refl;
-      });
-    }
+    merely (record {
+      start = c.new-2.result;
+      fresh = record {
+        well = ap (λ (r : Remote g.row.R.Denot g.row.W.Denot). r.fault) probe ∙ c.new.ensures.fault;
+        asked = ap (λ (r : Remote g.row.R.Denot g.row.W.Denot). r.asked) probe ∙ c.new.ensures.asked;
+        drives = ap (λ (r : Remote g.row.R.Denot g.row.W.Denot). r.drives) probe ∙ c.new.ensures.drives;
+        owes = c.new-2.ensures.owes;
+        writer = subst (λ o. IsOnItsWay contents o c.new-2.result.probe.outgoing []) (sym c.requires.sent)
+            (subst (λ (r : Remote g.row.R.Denot g.row.W.Denot). IsOnItsWay contents (contents c.args.writer) r.outgoing []) (sym probe) way);
+        reader = ap (λ (r : Remote g.row.R.Denot g.row.W.Denot). g.R.Read.remaining r.reader) probe
+            ∙ ap g.R.Read.remaining c.new.ensures.reader ∙ sym c.requires.left;
+      };
+      made = refl;
+    })

@@ -1,8 +1,10 @@
-use Rattle.std.proofs.Math.Logic.{∥∥₁_map}
-use Rattle.swd_remote.specs.Runs.{Asked}
+use Rattle.swd_port.specs.Transports.{Ask}
 use Rattle.swd_remote.proofs.KeptLemmas.{told_more}
 use Rattle.swd_remote.proofs.kept.KeptTransport.ask.Goals as goal
 
-pub invariant_of-self : goal.invariant_of-self
-invariant_of-self g c =
-    record { told = ∥∥₁_map c.args.self.now.told (λ h. told_more _ _ _ _ (Asked c.args.request c.ask.result) _ c.ask.new.self h (c.ask.ensures.asks, c.ask.ensures.owes)) }
+pub returns : goal.returns
+returns g c = record {
+  told = λ made h.
+      told_more g.R.Read.remaining g.W.Write.contents g.B.Beginning.sent g.B.Beginning.left made (Ask c.args.request c.ask.result) c.args.self.now.transport c.ask.new.self
+      (c.ask.ensures.asks, c.ask.ensures.owes) h;
+}

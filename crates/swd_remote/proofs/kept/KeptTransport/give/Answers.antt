@@ -1,8 +1,10 @@
-use Rattle.std.proofs.Math.Logic.{∥∥₁_map}
-use Rattle.swd_remote.specs.Runs.{Gave}
+use Rattle.swd_port.specs.Transports.{Give}
 use Rattle.swd_remote.proofs.KeptLemmas.{told_more}
 use Rattle.swd_remote.proofs.kept.KeptTransport.give.Goals as goal
 
-pub invariant_of-self : goal.invariant_of-self
-invariant_of-self g c =
-    record { told = ∥∥₁_map c.args.self.now.told (λ h. told_more _ _ _ _ (Gave c.args.bits) _ c.give.new.self h (c.give.ensures.queues, c.give.ensures.owes)) }
+pub returns : goal.returns
+returns g c = record {
+  told = λ made h.
+      told_more g.R.Read.remaining g.W.Write.contents g.B.Beginning.sent g.B.Beginning.left made (Give c.args.bits c.give.result) c.args.self.now.transport c.give.new.self
+      (c.give.ensures.queues, c.give.ensures.owes) h;
+}

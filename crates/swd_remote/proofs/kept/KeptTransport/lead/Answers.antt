@@ -1,8 +1,10 @@
-use Rattle.std.proofs.Math.Logic.{∥∥₁_map}
-use Rattle.swd_remote.specs.Runs.{Led}
+use Rattle.swd_port.specs.Transports.{Lead}
 use Rattle.swd_remote.proofs.KeptLemmas.{told_more}
 use Rattle.swd_remote.proofs.kept.KeptTransport.lead.Goals as goal
 
-pub invariant_of-self : goal.invariant_of-self
-invariant_of-self g c =
-    record { told = ∥∥₁_map c.args.self.now.told (λ h. told_more _ _ _ _ (Led c.args.ones c.args.switch c.args.zeros) _ c.lead.new.self h (c.lead.ensures.queues, c.lead.ensures.owes)) }
+pub returns : goal.returns
+returns g c = record {
+  told = λ made h.
+      told_more g.R.Read.remaining g.W.Write.contents g.B.Beginning.sent g.B.Beginning.left made (Lead c.args.ones c.args.switch c.args.zeros c.lead.result) c.args.self.now.transport c.lead.new.self
+      (c.lead.ensures.queues, c.lead.ensures.owes) h;
+}

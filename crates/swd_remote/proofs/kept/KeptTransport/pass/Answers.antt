@@ -1,8 +1,10 @@
-use Rattle.std.proofs.Math.Logic.{∥∥₁_map}
-use Rattle.swd_remote.specs.Runs.{Passed}
+use Rattle.swd_port.specs.Transports.{Pass}
 use Rattle.swd_remote.proofs.KeptLemmas.{told_more}
 use Rattle.swd_remote.proofs.kept.KeptTransport.pass.Goals as goal
 
-pub invariant_of-self : goal.invariant_of-self
-invariant_of-self g c =
-    record { told = ∥∥₁_map c.args.self.now.told (λ h. told_more _ _ _ _ (Passed) _ c.pass.new.self h (c.pass.ensures.queues, c.pass.ensures.owes)) }
+pub returns : goal.returns
+returns g c = record {
+  told = λ made h.
+      told_more g.R.Read.remaining g.W.Write.contents g.B.Beginning.sent g.B.Beginning.left made (Pass c.pass.result) c.args.self.now.transport c.pass.new.self
+      (c.pass.ensures.queues, c.pass.ensures.owes) h;
+}

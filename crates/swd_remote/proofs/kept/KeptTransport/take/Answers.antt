@@ -1,8 +1,10 @@
-use Rattle.std.proofs.Math.Logic.{∥∥₁_map}
-use Rattle.swd_remote.specs.Runs.{Took}
+use Rattle.swd_port.specs.Transports.{Take}
 use Rattle.swd_remote.proofs.KeptLemmas.{told_more}
 use Rattle.swd_remote.proofs.kept.KeptTransport.take.Goals as goal
 
-pub invariant_of-self : goal.invariant_of-self
-invariant_of-self g c =
-    record { told = ∥∥₁_map c.args.self.now.told (λ h. told_more _ _ _ _ (Took c.take.result) _ c.take.new.self h (c.take.ensures.takes, c.take.ensures.owes)) }
+pub returns : goal.returns
+returns g c = record {
+  told = λ made h.
+      told_more g.R.Read.remaining g.W.Write.contents g.B.Beginning.sent g.B.Beginning.left made (Take c.take.result) c.args.self.now.transport c.take.new.self
+      (c.take.ensures.takes, c.take.ensures.owes) h;
+}

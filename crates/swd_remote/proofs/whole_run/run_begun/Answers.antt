@@ -1,0 +1,19 @@
+use Rattle.std.proofs.Common.{refl}
+use Rattle.std.proofs.Math.Logic.{∥∥₁_map, ∥∥₁_elim, ∥∥₁_prop}
+use Rattle.swd_remote.proofs.WholeLemmas.{fresh_fits}
+use Rattle.swd_remote.proofs.whole_run.run_begun.Goals as goal
+
+pub returns : goal.returns
+returns g c =
+    ∥∥₁_elim (c.into_transport.ensures refl) ∥∥₁_prop (λ went.
+    ∥∥₁_map (c.hang_up.ensures went.made went.told) (λ hangs. record {
+      calls = c.run-ran.new.wire.noted.calls;
+      closes = c.run-ran.ensures.closes;
+      fits = fresh_fits c.run-ran.result c.args.accesses.now c.args.tries g.S.Story.at c.begun-wire.result.noted.calls
+          c.run-ran.new.wire.noted.calls c.begun-wire.ensures c.run-ran.ensures.fits;
+      made = went.made;
+      gone = c.run-ran.new.wire.gone;
+      fetched = went.fetched;
+      of = went.of;
+      hangs = hangs;
+    }))

@@ -1,0 +1,26 @@
+-- A run over a line of remote_bitbang characters: its report, and what went over the line.
+use Rattle.std.specs.Prelude.{ℕ, Bool, List, [], Option, Result, IfOk}
+use Rattle.swd_port.specs.declared.access.Access.{Access}
+use Rattle.swd_port.specs.declared.call.Call.{Call}
+use Rattle.swd_port.specs.Port.{Port}
+use Rattle.swd_port.specs.Stories.{due_by, port_at, FitsStory}
+use Rattle.swd_port.specs.Transports.{Made, AreMadeOf}
+use Rattle.swd_host.specs.declared.outcome.Refused.{Refused}
+use Rattle.swd_host.specs.declared.outcome.Report.{Report}
+use Rattle.swd_host.specs.Reports.{Closes, RunsOver, told_of}
+use Rattle.swd_remote.specs.declared.kept.Line.{Line}
+use Rattle.swd_remote.specs.Kept.{HangsUp}
+
+-- These were the calls of the wire, the last one first; of these the report tells. And these are the calls that they made of the
+-- transport, the first one first: their characters went out, and their levels were read.
+pub record RanOver {A R W : Type 0} (story : ℕ → Port) (accesses : List Access) (tries : ℕ) (remaining : R → Option (List ℕ))
+    (contents : W → Option (List ℕ)) (sent left : Option (List ℕ)) (result : Result (Report A) Refused) (line : Line R W) : Type 0 where
+  pub calls : List Call
+  pub closes : IfOk result (λ report. Closes 0 1 accesses tries (told_of report) (due_by calls))
+  pub fits : IfOk result (λ report. FitsStory story calls
+      → RunsOver accesses tries (told_of report) (port_at story []) (port_at story calls))
+  pub made : List Made
+  pub gone : Bool
+  pub fetched : ℕ
+  pub of : AreMadeOf calls made gone fetched
+  pub hangs : HangsUp remaining contents sent left made line

@@ -1,0 +1,45 @@
+//! A run over a line of remote_bitbang characters, with all that went over it.
+ghost use Rattle.std.specs.Prelude.{◌≡◌};
+ghost use Rattle.swd_remote.specs.WholeRuns.{RanOver};
+
+use crate::kept::{Beginning, Kept, Line};
+use std::alloc::Allocator;
+use std::io::{Read, Write};
+use std::marker::Brand;
+use swd_host::{Refused, Report, run};
+use swd_port::{Access, Outside, Story, Tied};
+
+/// Does the accesses in order, each once, over a line of remote_bitbang characters, and says that the host is
+/// done.
+///
+/// Whatever comes back it ends; and of every story that the replies fit the report tells the truth. The bytes
+/// that went out are exactly the characters of the calls that the report is of, and as many were read as levels
+/// were asked for, up to the first fault.
+pub fn run_over_line<S: Story, R: Read, W: Write, A: Allocator>(
+    alloc: A,
+    reader: R,
+    writer: W,
+    accesses: &[Access],
+    tries: u32,
+) -> (Result<Report<A>, Refused>, Line<R, W>)
+    ensures { ∥ RanOver S.at accesses.now tries R.remaining W.contents (W.contents writer) (R.remaining reader)
+        result.0 result.1 ∥₁ }
+{
+    run_begun::<S, Brand, R, W, A>(alloc, reader, writer, accesses, tries)
+}
+
+fn run_begun<S: Story, B: Beginning, R: Read, W: Write, A: Allocator>(
+    alloc: A,
+    reader: R,
+    writer: W,
+    accesses: &[Access],
+    tries: u32,
+) -> (Result<Report<A>, Refused>, Line<R, W>)
+    requires sent { B.sent ≡ W.contents writer }
+    requires left { B.left ≡ R.remaining reader }
+    ensures { ∥ RanOver S.at accesses.now tries R.remaining W.contents B.sent B.left result.0 result.1 ∥₁ }
+{
+    let mut wire: Outside<Kept<R, W, B>, S, Tied> = Outside::begun(Kept::new(reader, writer));
+    let ran = run(alloc, &mut wire, accesses, tries);
+    (ran, wire.into_transport().hang_up())
+}
