@@ -83,7 +83,7 @@ well_exchange remaining contents result s t x w = well_at s.fault s t refl (λ f
 
 gone_call : {R W : Type 0} (remaining : R → Option (List ℕ)) (contents : W → Option (List ℕ)) (owes : Bool) (call : Made) (f : Fault)
     (s t : Remote R W) → s.fault ≡ Some f → CallsAs remaining contents owes call s t → t ≡ s
-gone_call remaining contents owes (Lead ones switch zeros told) f s t e h = gone_queues contents (led owes ones switch zeros) f s t e h
+gone_call remaining contents owes (Lead ones switch zeros told) f s t e h = gone_queues contents (led owes ones switch zeros) f s t e h.0
 gone_call {R} {W} remaining contents owes (Ask request told) f s t e h =
     let same = gone_queues contents (asked request) f s h.queued e h.queues in
     gone_exchange remaining contents h.seen f h.queued t (ap (λ (r : Remote R W). r.fault) same ∙ e) h.exchanges ∙ same
@@ -91,8 +91,8 @@ gone_call {R} {W} remaining contents owes (Take told) f s t e h =
     let one = gone_queues contents taken f s h.queued e h.queues in
     let two = gone_exchange remaining contents told f h.queued h.exchanged (ap (λ (r : Remote R W). r.fault) one ∙ e) h.exchanges ∙ one in
     gone_queues contents turnaround f h.exchanged t (ap (λ (r : Remote R W). r.fault) two ∙ e) h.turns ∙ two
-gone_call remaining contents owes (Give bits told) f s t e h = gone_queues contents (given bits) f s t e h
-gone_call remaining contents owes (Pass told) f s t e h = gone_queues contents turnaround f s t e h
+gone_call remaining contents owes (Give bits told) f s t e h = gone_queues contents (given bits) f s t e h.0
+gone_call remaining contents owes (Pass told) f s t e h = gone_queues contents turnaround f s t e h.0
 
 gone_calls : {R W : Type 0} (remaining : R → Option (List ℕ)) (contents : W → Option (List ℕ)) (calls : List Made) (f : Fault)
     (s t : ProbeTransport (Remote R W)) → s.probe.fault ≡ Some f → AreMade remaining contents calls s t → t.probe ≡ s.probe
@@ -197,11 +197,11 @@ step : {R W : Type 0} (remaining : R → Option (List ℕ)) (contents : W → Op
     → CallsAs remaining contents owes call s t → s.fault ≡ None → s.asked ≡ 0 → t.fault ≡ None → Steps remaining contents owes call s t
 step remaining contents owes (Lead ones switch zeros told) s t h e z w =
     quiet remaining contents owes (Lead ones switch zeros told) s t refl (led_quiet owes ones switch zeros) z
-    (all_queued contents (led owes ones switch zeros) s t h e w)
+    (all_queued contents (led owes ones switch zeros) s t h.0 e w)
 step remaining contents owes (Give bits told) s t h e z w =
-    quiet remaining contents owes (Give bits told) s t refl refl z (all_queued contents (given bits) s t h e w)
+    quiet remaining contents owes (Give bits told) s t refl refl z (all_queued contents (given bits) s t h.0 e w)
 step remaining contents owes (Pass told) s t h e z w =
-    quiet remaining contents owes (Pass told) s t refl refl z (all_queued contents turnaround s t h e w)
+    quiet remaining contents owes (Pass told) s t refl refl z (all_queued contents turnaround s t h.0 e w)
 step {R} {W} remaining contents owes (Ask request told) s t h e z w =
     let well = well_exchange remaining contents h.seen h.queued t h.exchanges w in
     let a = all_queued contents (asked request) s h.queued h.queues e well in

@@ -1,5 +1,5 @@
 -- The calls of a wire over remote_bitbang characters, one after the other: what goes out and what comes back for all of them.
-use Rattle.std.specs.Prelude.{ℕ, ◌≡◌, Bool, true, false, List, [], ◌∷◌, ◌++◌, Option, Some, None, Result, Ok}
+use Rattle.std.specs.Prelude.{ℕ, ◌≡◌, Bool, true, false, List, [], ◌∷◌, ◌++◌, Option, Some, None, Result, Ok, IsOk}
 use Rattle.std.specs.Io.KnownBytes.{Appends, Consumes}
 use Rattle.swd_port.specs.declared.outside.Gone.{Gone}
 use Rattle.swd_port.specs.Transports.{Made, Lead, Ask, Take, Give, Pass}
@@ -63,12 +63,13 @@ ExchangesWith remaining contents result s t = ExchangesAt s.fault remaining cont
 -- what a call does to it, by the contract of the call
 abbrev pub CallsAs : {R W : Type 0} → (R → Option (List ℕ)) → (W → Option (List ℕ)) → Bool → Made
     → Remote R W → Remote R W → Type 0
-CallsAs remaining contents owes (Lead ones switch zeros told) s t = Queues (QueuesTo contents) (led owes ones switch zeros) s t
+CallsAs remaining contents owes (Lead ones switch zeros told) s t =
+    Queues (QueuesTo contents) (led owes ones switch zeros) s t × IsOk told
 CallsAs remaining contents owes (Ask request told) s t =
     Asks (QueuesTo contents) (ExchangesWith remaining contents) request told s t
 CallsAs remaining contents owes (Take told) s t = Takes (QueuesTo contents) (ExchangesWith remaining contents) told s t
-CallsAs remaining contents owes (Give bits told) s t = Queues (QueuesTo contents) (given bits) s t
-CallsAs remaining contents owes (Pass told) s t = Queues (QueuesTo contents) turnaround s t
+CallsAs remaining contents owes (Give bits told) s t = Queues (QueuesTo contents) (given bits) s t × IsOk told
+CallsAs remaining contents owes (Pass told) s t = Queues (QueuesTo contents) turnaround s t × IsOk told
 
 -- a call was made
 abbrev pub IsMade : {R W : Type 0} → (R → Option (List ℕ)) → (W → Option (List ℕ)) → Made
