@@ -48,8 +48,9 @@ impl<R: Read, W: Write, B: Beginning> Kept<R, W, B> {
         requires left { B.left ≡ R.remaining reader }
         ensures { ∥ IsTold R.remaining W.contents B.sent B.left [] result.transport ∥₁ }
     {
+        let transport = ProbeTransport::new(Remote::new(reader, writer));
         Kept {
-            transport: ProbeTransport::new(Remote::new(reader, writer)),
+            transport,
             beginning: PhantomData,
         }
     }
