@@ -5,3 +5,5 @@ mod Spelling
 pub mod Marks
 pub mod Whole
 pub mod Contends
+pub mod FieldsLemmas
+pub mod ElsewhereLemmas

@@ -1,7 +1,7 @@
 -- Cycles one after the other: what a request, its reply and its data leave on the line.
 use Rattle.std.proofs.Common.{◌≡◌, ◌≢◌, ℕ, zero, suc, ◌+◌, ◌-◌, ◌/◌, ◌%◌, ◌<◌, ◌≤◌, ◌^◌, Bool, true, false, not, List, [], ◌∷◌, ◌++◌, length, map, replicate, Option, Some, None, refl, sym, ap, subst, ◌∙◌, arith, inl, inr}
 use Rattle.std.specs.Prelude.{◌==◌, unwrap_or, ◌⊎◌, if◌then◌else◌}
-use Rattle.swd_bits.specs.Bits.{low_bits, number, odd, bit}
+use Rattle.swd_bits.specs.Bits.{low_bits, number, odd}
 use Rattle.swd_bits.specs.Wire.{request, addr_bits}
 use Rattle.swd_bits.specs.Transactions.{phase_with, Spells, IsEnd, ending}
 use Rattle.swd_bits.specs.declared.request.Request.{Request}
@@ -23,12 +23,12 @@ use Rattle.swd_port.specs.Phases.{undriven}
 use Rattle.swd_target.specs.declared.target.Target.{Target}
 use Rattle.swd_target.specs.Requests.{Answers}
 use Rattle.swd_clocked.specs.declared.frame.Frame.{Frame}
-use Rattle.swd_clocked.specs.declared.frame.Frame.TheVariants.{Asks, Lost, High, Switches, Replies, Drives, Awaits, Passes}
+use Rattle.swd_clocked.specs.declared.frame.Frame.TheVariants.{Asks, Lost, High, Replies, Drives, Awaits, Passes}
 use Rattle.swd_clocked.specs.declared.clocked.Clocked.{Clocked}
 use Rattle.swd_clocked.specs.Frames.{idle, shifted, frame_of, frame_replied, reply_bit, IsRising, rise, risen}
 use Rattle.swd_clocked.specs.Cycles.{Moved, Cycles, ByteCame, Requested}
 use Rattle.swd_clocked.specs.Clocks.{Clocks, Rises, state_of}
-use Rattle.swd_clocked.specs.Spelled.{Runs, leaves, drives_behind, EndsAs, frame_behind, SpellsOne, SpellsRequest, RequestsSpell, AreOnes, WasReset, OnesReset}
+use Rattle.swd_clocked.specs.Spelled.{Runs, leaves, drives_behind, EndsAs, frame_behind, SpellsOne, RequestsSpell, AreOnes, OnesReset}
 use Rattle.swd_clocked.proofs.Calls.{kind, kind_after, kind_seen}
 use Rattle.swd_clocked.proofs.Frames.{one_rises, rises_on, rises_none, one_frame, risen_high}
 

@@ -1,8 +1,11 @@
 -- What contracts see of a clocked target. All of it is this project's choice.
 use Rattle.std.specs.Prelude.{ℕ, ◌≡◌, Bool, true, Option, unwrap_or}
+use Rattle.swd_port.specs.PlainMemory.{PlainMemory}
 use Rattle.swd_port.specs.Port.{Target as State}
 use Rattle.swd_port.specs.Completion.{completion_of}
+use Rattle.swd_target.specs.declared.quirks.Quirks.{Quirks}
 use Rattle.swd_target.specs.Simulations.{Simulation, stepped}
+use Rattle.swd_target.specs.Elsewhere as elsewhere
 use Rattle.swd_target.specs.Targets as target
 use Rattle.swd_clocked.specs.declared.frame.Frame.{Frame}
 use Rattle.swd_clocked.specs.declared.clocked.Clocked.{Clocked}
@@ -15,6 +18,18 @@ state_of c = target.state_of c.target
 
 abbrev pub simulation_of : {A : Type 0} → Clocked A → Simulation
 simulation_of c = target.simulation c.target
+
+-- how it chooses
+abbrev pub quirks_of : {A : Type 0} → Clocked A → Quirks
+quirks_of c = c.target.quirks
+
+-- the memory behind its access port
+abbrev pub memory_of : {A : Type 0} → Clocked A → PlainMemory
+memory_of c = c.target.memory
+
+-- the same over another memory
+abbrev pub over : {A : Type 0} → PlainMemory → Clocked A → Clocked A
+over m c = record c { target = elsewhere.over m c.target }
 
 -- what it is doing
 abbrev pub frame_in : {A : Type 0} → Clocked A → Frame

@@ -1,6 +1,7 @@
 pub mod Frames
 pub mod Cycles
 pub mod Clocks
+pub mod Fields
 pub mod Rests
 pub mod Damage
 pub mod Marked

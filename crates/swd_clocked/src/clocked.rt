@@ -42,7 +42,7 @@ pub struct Clocked<A: Allocator = Global> {
 }
 
 impl<A: Allocator> Clocked<A> {
-    ghost use Rattle.swd_clocked.specs.Clocks.{state_of, simulation_of, frame_in, is_held, cycles_of, contended_of};
+    ghost use Rattle.swd_clocked.specs.Clocks.{state_of, simulation_of, frame_in, is_held, cycles_of, contended_of, quirks_of};
     ghost use Rattle.swd_clocked.specs.Clocks.{Clocks, Holds, Settles};
     ghost use Rattle.swd_clocked.specs.Cycles.{Moved, Requested, ByteCame, AsksBit, LostBit, HeardBit, DataCame};
     ghost use Rattle.swd_clocked.specs.Cycles.{Cycles, AwaitsBit, DrivesBit, RepliesBit, SwitchesBit};
@@ -72,6 +72,7 @@ impl<A: Allocator> Clocked<A> {
         ensures holds { Holds wait self.old self.new }
         ensures cycles { cycles_of self.new ≡ cycles_of self.old }
         ensures contended { contended_of self.new ≡ contended_of self.old }
+        ensures quirks { quirks_of self.new ≡ quirks_of self.old }
     {
         self.waits = wait;
     }
@@ -82,6 +83,7 @@ impl<A: Allocator> Clocked<A> {
         ensures settles { Settles self.old self.new }
         ensures cycles { cycles_of self.new ≡ cycles_of self.old }
         ensures contended { contended_of self.new ≡ contended_of self.old }
+        ensures quirks { quirks_of self.new ≡ quirks_of self.old }
     {
         self.target.complete();
     }
@@ -106,6 +108,7 @@ impl<A: Allocator> Clocked<A> {
         ensures clocks { Clocks drive result self.old self.new }
         ensures cycles { cycles_of self.new ≡ counted 1 (cycles_of self.old) }
         ensures contended { contended_of self.new ≡ contended_of self.old + contends (frame_in self.old) (is_some drive) }
+        ensures quirks { quirks_of self.new ≡ quirks_of self.old }
     {
         self.clock(drive.unwrap_or(true), drive.is_some())
     }
@@ -116,6 +119,7 @@ impl<A: Allocator> Clocked<A> {
         ensures clocks { Cycles self.old.frame bit result self.old.target self.old.waits self.new }
         ensures cycles { cycles_of self.new ≡ counted 1 (cycles_of self.old) }
         ensures contended { contended_of self.new ≡ contended_of self.old + contends (frame_in self.old) driven }
+        ensures quirks { quirks_of self.new ≡ quirks_of self.old }
     {
         self.cycles = self.cycles.saturating_add(1);
         self.frame.note(&mut self.contended, driven);
@@ -167,6 +171,7 @@ impl<A: Allocator> Clocked<A> {
         ensures asks { AsksBit bits count bit self.old.target self.old.waits self.new }
         ensures cycles { self.new.cycles ≡ self.old.cycles }
         ensures contended { contended_of self.new ≡ contended_of self.old }
+        ensures quirks { quirks_of self.new ≡ quirks_of self.old }
     {
         if count == 0 && !bit {
             self.frame = Frame::IDLE;
@@ -185,6 +190,7 @@ impl<A: Allocator> Clocked<A> {
         ensures came { ByteCame bits self.old.target self.old.waits self.new }
         ensures cycles { self.new.cycles ≡ self.old.cycles }
         ensures contended { contended_of self.new ≡ contended_of self.old }
+        ensures quirks { quirks_of self.new ≡ quirks_of self.old }
     {
         match Request::of(bits) {
             Some(request) => self.request(request),
@@ -196,6 +202,7 @@ impl<A: Allocator> Clocked<A> {
         ensures requested { Requested request self.old.target self.old.waits self.new }
         ensures cycles { self.new.cycles ≡ self.old.cycles }
         ensures contended { contended_of self.new ≡ contended_of self.old }
+        ensures quirks { quirks_of self.new ≡ quirks_of self.old }
     {
         let (reply, phase) = self.target.request(self.waits, request);
         self.frame = Frame::replied(reply, phase);
@@ -206,6 +213,7 @@ impl<A: Allocator> Clocked<A> {
         ensures hears { LostBit ones bit self.old.target self.old.waits self.new }
         ensures cycles { self.new.cycles ≡ self.old.cycles }
         ensures contended { contended_of self.new ≡ contended_of self.old }
+        ensures quirks { quirks_of self.new ≡ quirks_of self.old }
     {
         if !bit {
             self.frame = Frame::Lost(0);
@@ -222,6 +230,7 @@ impl<A: Allocator> Clocked<A> {
         ensures switches { SwitchesBit place bit self.old.target self.old.waits self.new }
         ensures cycles { self.new.cycles ≡ self.old.cycles }
         ensures contended { contended_of self.new ≡ contended_of self.old }
+        ensures quirks { quirks_of self.new ≡ quirks_of self.old }
     {
         if bit == (SWITCH >> place & 1 == 1) {
             self.frame = if place == 15 {
@@ -240,6 +249,7 @@ impl<A: Allocator> Clocked<A> {
         ensures hears { HeardBit (unswitched place) bit self.old.target self.old.waits self.new }
         ensures cycles { self.new.cycles ≡ self.old.cycles }
         ensures contended { contended_of self.new ≡ contended_of self.old }
+        ensures quirks { quirks_of self.new ≡ quirks_of self.old }
     {
         match place {
             1 => self.ask_bit(255, 0, bit),
@@ -266,6 +276,7 @@ impl<A: Allocator> Clocked<A> {
         ensures replies { RepliesBit reply line place bit result self.old.target self.old.waits self.new }
         ensures cycles { self.new.cycles ≡ self.old.cycles }
         ensures contended { contended_of self.new ≡ contended_of self.old }
+        ensures quirks { quirks_of self.new ≡ quirks_of self.old }
     {
         self.frame = if place == 3 {
             Frame::after_reply(line)
@@ -285,6 +296,7 @@ impl<A: Allocator> Clocked<A> {
         ensures drives { DrivesBit bits left bit result self.old.target self.old.waits self.new }
         ensures cycles { self.new.cycles ≡ self.old.cycles }
         ensures contended { contended_of self.new ≡ contended_of self.old }
+        ensures quirks { quirks_of self.new ≡ quirks_of self.old }
     {
         if left == 0 {
             self.frame = Frame::IDLE;
@@ -300,6 +312,7 @@ impl<A: Allocator> Clocked<A> {
         ensures awaits { AwaitsBit register bits place bit self.old.target self.old.waits self.new }
         ensures cycles { self.new.cycles ≡ self.old.cycles }
         ensures contended { contended_of self.new ≡ contended_of self.old }
+        ensures quirks { quirks_of self.new ≡ quirks_of self.old }
     {
         if place == 0 {
             self.frame = Frame::Awaits(register, bits, 1);
@@ -319,6 +332,7 @@ impl<A: Allocator> Clocked<A> {
         ensures came { DataCame register bits self.old.target self.old.waits self.new }
         ensures cycles { self.new.cycles ≡ self.old.cycles }
         ensures contended { contended_of self.new ≡ contended_of self.old }
+        ensures quirks { quirks_of self.new ≡ quirks_of self.old }
     {
         self.frame = Frame::IDLE;
         self.target.arrive(register, bits);

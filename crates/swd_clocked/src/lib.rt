@@ -4,6 +4,7 @@
 
 mod clocked;
 mod clocked_bench;
+mod fields;
 mod frame;
 pub mod laws;
 mod marked;
@@ -11,6 +12,7 @@ mod phases;
 
 pub use clocked::Clocked;
 pub use clocked_bench::ClockedBench;
+pub use fields::{ClockedFields, FrameFields, LineFields};
 pub use marked::MarkedClocked;
 
 #[cfg(test)]

@@ -5,3 +5,5 @@ pub mod TargetLemmas
 pub mod AskLemmas
 pub mod ReplyLemmas
 pub mod FlagLemmas
+pub mod FieldsLemmas
+pub mod ElsewhereLemmas

@@ -53,7 +53,7 @@ pub settled_after : {A : Type 0} (r : Register) (reply : Reply) (c : Choice) (s 
 settled_after r reply c s u e = subst (λ (p : Option Drw). IsSettled reply r p) (sym (ap (λ (s : State). s.pending) e)) (settled_none r reply)
 
 -- with nothing pending no completion changes anything
-at_rest : {A : Type 0} (t : Target A) → t.pending ≡ None → transferred (simulation t) ≡ simulation t
+pub at_rest : {A : Type 0} (t : Target A) → t.pending ≡ None → transferred (simulation t) ≡ simulation t
 at_rest t e = grind arith
 
 unchanged : (b : Bool) (s t : Simulation) → t ≡ s → s ≡ (if b then t else s)

@@ -1,5 +1,5 @@
 -- A stretch of words as a map from addresses.
-use Rattle.std.proofs.Common.{◌≡◌, ℕ, zero, suc, ◌+◌, ◌*◌, ◌<◌, true, false, List, [], ◌∷◌, ◌++◌, length, get_or, refl, inl, inr, ◌⊎◌, sym, ap, ◌∙◌, arith}
+use Rattle.std.proofs.Common.{◌≡◌, ℕ, zero, suc, ◌+◌, ◌*◌, ◌<◌, ◌&&◌, Bool, true, false, Option, List, [], ◌∷◌, ◌++◌, length, get_or, refl, inl, inr, ◌⊎◌, sym, ap, ◌∙◌, arith}
 use Rattle.std.proofs.Math.ListN.{set}
 use Rattle.std.proofs.lemmas.Bool.{cases_eq}
 use Rattle.std.specs.Prelude.{Some, None, nat_lt}
@@ -12,7 +12,7 @@ use Rattle.swd_port.specs.declared.access.Access.{Access}
 use Rattle.swd_port.specs.declared.access.Access.TheVariants.{Read, Write}
 use Rattle.swd_port.specs.declared.access.Answer.TheVariants.{Value, Written, BusFault}
 use Rattle.swd_port.specs.PlainMemory.{PlainMemory, succeeds_at, address, plain_answer, plain_after}
-use Rattle.swd_target.specs.MemoryWords.{words_from}
+use Rattle.swd_target.specs.MemoryWords.{words_from, words_of, window, window_after}
 
 -- the word at a place, and none outside
 pub get-words_from : (base : ℕ) (ws : List ℕ) (i q d : ℕ) → i < length ws → base + 4 * i ≡ q → get (words_from base ws) q ≡ Some (get_or ws i d)
@@ -79,3 +79,45 @@ after-write at word m words log e f g =
 -- where there is a word, the room of the log decides
 pub succeeds-there : (at word : ℕ) (m : PlainMemory) → get m.words at ≡ Some word → nat_lt (length m.log) m.room ≡ succeeds_at at m
 succeeds-there at word m e = rw e
+
+-- the word of a window, and none beside it
+pub get-window : (at : ℕ) (word : Option ℕ) (q : ℕ) → q ≡ at → get (words_from at (words_of word)) q ≡ word
+get-window at None q e = get-empty nat_cmp q
+get-window at (Some w) q e = get_same _ at w q e
+
+pub get-beside : (at : ℕ) (word : Option ℕ) (q : ℕ) → (q ≡ at → ⊥) → get (words_from at (words_of word)) q ≡ None
+get-beside at None q n = get-empty nat_cmp q
+get-beside at (Some w) q n = get_other _ at w q n ∙ get-empty nat_cmp q
+
+full : (b : Bool) → (b && false) ≡ true → ⊥
+full true e = cc
+full false e = cc
+
+-- a write there that succeeds
+pub window-write : (at : ℕ) (word : Option ℕ) (made : Option Transfer) (q w : ℕ) → succeeds_at q (window_after at word made) ≡ true
+    → window_after at (Some w) (Some (record { read = false; addr = q; word = w })) ≡ plain_after (Write q w) (window_after at word made)
+window-write at None made q w h =
+    let fails : succeeds_at q (window_after at None made) ≡ false = succeeds-outside q (window_after at None made) (get-empty nat_cmp q) in
+    cc
+window-write at (Some old) (Some t) q w h = absurd (full _ h)
+window-write at (Some old) None q w h = elim (cases_eq q at) [
+  | inl e ↦
+      after-write q w (window at (Some old)) (words_from at (w ∷ [])) (record { read = false; addr = q; word = w } ∷ []) h (sym (insert_twice (words_from (at + 4) []) at old w) ∙ ap (λ k. insert (words_from at (old ∷ [])) k w) (sym e)) refl
+  | inr n ↦
+      let fails : succeeds_at q (window at (Some old)) ≡ false = succeeds-outside q (window at (Some old)) (get-beside at (Some old) q n) in
+      cc
+]
+
+-- the one transfer of a window
+pub window-ready : (at w : ℕ) → succeeds_at at (window at (Some w)) ≡ true
+window-ready at w = succeeds-inside at w (window at (Some w)) (get-window at (Some w) at refl) (omega arith)
+
+pub window-read : (at w : ℕ) → Value w ≡ plain_answer (Read at) (window at (Some w))
+window-read at w = answer-read at w (window at (Some w)) (window-ready at w) (get-window at (Some w) at refl)
+
+pub window-written : (at v w : ℕ) → Written ≡ plain_answer (Write at w) (window at (Some v))
+window-written at v w = answer-write at w (window at (Some v)) (window-ready at v)
+
+pub window-failed : (a : Access) → BusFault ≡ plain_answer a (window (address a) None)
+window-failed a =
+    answer-failed a (window (address a) None) (succeeds-outside (address a) (window (address a) None) (get-window (address a) None (address a) refl))

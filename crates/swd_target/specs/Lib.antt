@@ -1,9 +1,12 @@
 pub mod MemoryWords
+pub mod Kept
 pub mod Marks
 pub mod Plans
 pub mod Contents
 pub mod Flips
 pub mod Simulations
 pub mod Targets
+pub mod Fields
+pub mod Elsewhere
 pub mod Requests
 pub mod Benches

@@ -1,10 +1,11 @@
 -- What a simulated target does at a request and at the data of a write. All of it is this project's choice.
-use Rattle.std.specs.Prelude.{ℕ, ◌≡◌, ◌⊎◌, Bool, false}
+use Rattle.std.specs.Prelude.{ℕ, ◌≡◌, ◌⊎◌, Bool, true, false}
 use Rattle.swd_bits.specs.declared.request.Request.{Request}
 use Rattle.swd_port.specs.declared.mark.Mark.{Mark}
 use Rattle.swd_port.specs.declared.state.Line.{Line}
 use Rattle.swd_port.specs.declared.state.Reply.{Reply}
 use Rattle.swd_port.specs.Port.{Port, Link, Tally, Target as State}
+use Rattle.swd_port.specs.PlainMemory.{PlainMemory}
 use Rattle.swd_port.specs.Choices.{Choice, IsChoice, IsMark, is_deaf, is_wait}
 use Rattle.swd_port.specs.Answers.{seen_at}
 use Rattle.swd_port.specs.Completion.{Completes, completion_of}
@@ -13,6 +14,7 @@ use Rattle.swd_port.specs.Moving.{Arrival, after_bits}
 use Rattle.swd_target.specs.declared.target.Target.{Target}
 use Rattle.swd_target.specs.Simulations.{asked, reply_to, phase_to, link_after, is_done, arrived}
 use Rattle.swd_target.specs.Targets.{state_of, simulation}
+use Rattle.swd_target.specs.Elsewhere.{IsReady, IsUntouched, over}
 use Rattle.swd_target.specs.Flips.{line_under}
 
 -- the state of the port machine, from that of its target
@@ -38,15 +40,25 @@ pub record AnswersUnder {A : Type 0} (mark : Mark) (q : Request) (s : Target A) 
   pub phases : phase ≡ phase_to mark q (simulation s)
   pub exact : simulation t ≡ asked mark q (simulation s)
 
--- a request that the target sees, where WAIT is asked for or not: the same under each mark that asks for no more
+-- a request that the target sees, under each mark that asks for WAIT or doesn't
+abbrev pub AnswersEach : {A : Type 0} → Bool → Request → Target A → Reply → Line → Target A → Type 0
+AnswersEach waits q s reply phase t = (mark : Mark) → IsMark mark → is_deaf mark ≡ false → is_wait mark ≡ waits
+    → AnswersUnder mark q s reply (line_under mark phase) t
+
+-- A request that the target sees, where WAIT is asked for or not: the same under each mark that asks for no more. Where
+-- no transfer took effect, it is the same over every memory in which the pending one would succeed.
 pub record Answers {A : Type 0} (waits : Bool) (q : Request) (s : Target A) (reply : Reply) (phase : Line)
     (t : Target A) : Type 0 where
-  pub under : (mark : Mark) → IsMark mark → is_deaf mark ≡ false → is_wait mark ≡ waits
-      → AnswersUnder mark q s reply (line_under mark phase) t
+  pub under : AnswersEach waits q s reply phase t
+  pub elsewhere : (m : PlainMemory) → IsUntouched s t → IsReady m s
+      → AnswersEach waits q (over m s) reply phase (over m t)
 
 -- The data of a write: a step of the port machine, and exactly the step that the quirks choose. Nothing takes effect with
--- it where the write isn't done.
+-- it where the write isn't done. Where transfers take effect late, it is the same over every memory.
 pub record DataComes {A : Type 0} (a : Arrival) (s t : Target A) : Type 0 where
   pub later : Transfers (after_bits a (state_of s)) (state_of t)
   pub undone : is_done a ≡ false → state_of t ≡ after_bits a (state_of s)
   pub exact : simulation t ≡ arrived a (simulation s)
+  pub elsewhere : (m : PlainMemory) → s.quirks.late ≡ true
+      → (state_of (over m t) ≡ after_bits a (state_of (over m s)))
+      × (simulation (over m t) ≡ arrived a (simulation (over m s)))

@@ -4,6 +4,7 @@
 mod acknowledgement;
 mod bench;
 mod content;
+mod fields;
 pub mod laws;
 mod memory;
 mod phase;
@@ -13,8 +14,11 @@ mod quirks;
 mod register;
 mod request;
 mod target;
+mod window;
+mod words;
 
 pub use bench::Bench;
+pub use fields::{ContentFields, PendingFields, TargetFields};
 pub use memory::{MakeFault, Memory};
 pub use quirks::Quirks;
 pub use swd_port::{Mark, Transfer};

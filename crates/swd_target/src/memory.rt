@@ -1,10 +1,12 @@
 //! The memory behind a simulated access port.
-ghost use Rattle.std.specs.Prelude.{◌≡◌, ◌≢◌, ◌↔◌, ◌+◌, ◌*◌, ◌<◌, ◌≤◌, ◌%◌, ◌^◌, ℕ, MatchOption};
+ghost use Rattle.std.specs.Prelude.{◌≡◌, ◌≢◌, ◌↔◌, ◌+◌, ◌*◌, ◌<◌, ◌%◌, ◌^◌};
 ghost use Rattle.std.specs.Prelude.{IfOk, IsErrOf};
 ghost use Rattle.std.specs.FinMap.{get};
 ghost use Rattle.swd_port.specs.PlainMemory.{succeeds_at, plain_answer, plain_after};
-ghost use Rattle.swd_target.specs.MemoryWords.{zero_memory};
+ghost use Rattle.swd_target.specs.MemoryWords.{zero_memory, window};
 
+use crate::window::Window;
+use crate::words::Words;
 use std::alloc::{Allocator, Global};
 use std::marker::Model;
 use swd_port::{Access, Answer, Transfer};
@@ -22,56 +24,35 @@ pub enum MakeFault {
     Empty,
 }
 
+// Where the words are.
+#[derive(Drop)]
+pub(crate) enum Kept<A: Allocator> {
+    // Here.
+    Here(Words<A>),
+    // Elsewhere, but for one.
+    Elsewhere(Window),
+}
+
 /// Words at addresses, and a log of the transfers that took place, the oldest first. Contracts see
 /// both as a `PlainMemory`.
 #[derive(Drop)]
 pub struct Memory<A: Allocator = Global> {
-    base: u32,
-    words: Vec<u32, A>,
-    log: Vec<Transfer, A>,
-    room: u32,
+    kept: Kept<A>,
 }
 
 impl<A: Allocator> Model for Memory<A> {
-    ghost use Rattle.std.specs.Prelude.{◌≡◌, ◌+◌, ◌*◌, ◌≤◌, ◌%◌, ◌^◌, vec_len};
-    ghost use Rattle.std.specs.Vec.{vec_capacity};
     ghost use Rattle.std.specs.Coded.{codes, coded_ℕ};
     ghost use Rattle.std.specs.FinMap as map;
     ghost use Rattle.std.specs.Ordering.{nat_cmp};
     ghost use Rattle.swd_port.specs.contracts.access.Transfer as transfer;
     ghost use Rattle.swd_port.specs.PlainMemory.{PlainMemory};
-    ghost use Rattle.swd_target.specs.MemoryWords.{words_from};
+    ghost use Rattle.swd_target.specs.Kept.{memory_in};
 
     ghost Value = { PlainMemory };
 
     ghost coded = { Prim.hlevel (codes, map.code {R = nat_cmp} coded_ℕ coded_ℕ, transfer.the_row.coded) };
 
-    ghost view = { λ m. record { words = words_from m.base m.words.items; log = m.log.items; room = m.room } };
-
-    ghost invariant = { λ m. record {
-      aligned : m.base % 4 ≡ 0;
-      end : m.base + 4 * vec_len m.words ≤ 2 ^ 32;
-      logged : vec_len m.log ≤ m.room;
-      room : m.room ≤ vec_capacity m.log;
-    } };
-}
-
-// The place of the word at an address, where there is one.
-fn place(base: u32, words: usize, addr: u32) -> Option<usize>
-    requires { base + 4 * words ≤ 2 ^ 32 }
-    ensures { MatchOption result
-        ((i : ℕ) → i < words → base + 4 * i ≡ addr → ⊥)
-        (λ i. (i < words) × (base + 4 * i ≡ addr)) }
-{
-    if addr < base {
-        return None;
-    }
-    let ahead = addr - base;
-    if ahead % 4 != 0 {
-        return None;
-    }
-    let place = (ahead / 4) as usize;
-    if place < words { Some(place) } else { None }
+    ghost view = { λ m. memory_in m.kept };
 }
 
 impl<A: Allocator + Copy> Memory<A> {
@@ -83,39 +64,34 @@ impl<A: Allocator + Copy> Memory<A> {
         ensures empty { IsErrOf result MakeFault.Empty ↔ ((base % 4 ≡ 0) × (words ≡ 0)) }
         ensures range { IsErrOf result MakeFault.Range ↔ ((base % 4 ≡ 0) × (words ≢ 0) × (2 ^ 32 < base + 4 * words)) }
     {
-        if base % 4 != 0 {
-            return Err(MakeFault::Base);
+        match Words::new(alloc, base, words, room) {
+            Ok(words) => Ok(Memory {
+                kept: Kept::Here(words),
+            }),
+            Err(fault) => Err(fault),
         }
-        if words == 0 {
-            return Err(MakeFault::Empty);
-        }
-        if u64::from(base) + 4 * u64::from(words) > 1 << 32 {
-            return Err(MakeFault::Range);
-        }
-        let Ok(zeros) = vec![in alloc; 0; words as usize] else {
-            return Err(MakeFault::Memory);
-        };
-        let Ok(log) = Vec::with_capacity(alloc, room as usize) else {
-            return Err(MakeFault::Memory);
-        };
-        Ok(Memory {
-            base,
-            words: zeros,
-            log,
-            room,
-        })
     }
 }
 
 impl<A: Allocator> Memory<A> {
+    /// One word at an address in place of a memory that stands elsewhere, or none, with an empty log
+    /// that has room for one transfer. It takes no memory.
+    pub fn window(addr: u32, word: Option<u32>) -> Memory<A>
+        ensures { result ≡ window addr word }
+    {
+        Memory {
+            kept: Kept::Elsewhere(Window::new(addr, word)),
+        }
+    }
+
     /// The word at an address, in bytes. `None` where there is none, as at an address that isn't a
     /// multiple of 4. It is no transfer.
     pub fn word(&self, addr: u32) -> Option<u32>
         ensures { result ≡ get self.now.words addr }
     {
-        match place(self.base, self.words.len(), addr) {
-            Some(i) => Some(self.words[i]),
-            None => None,
+        match &self.kept {
+            Kept::Here(words) => words.word(addr),
+            Kept::Elsewhere(window) => window.word(addr),
         }
     }
 
@@ -123,16 +99,19 @@ impl<A: Allocator> Memory<A> {
     pub fn log(&self) -> &[Transfer]
         ensures { result.now ≡ self.now.log }
     {
-        &self.log
+        match &self.kept {
+            Kept::Here(words) => words.log(),
+            Kept::Elsewhere(window) => window.log(),
+        }
     }
 
     // A transfer at this address would succeed.
     pub(crate) fn is_ready(&self, addr: u32) -> bool
         ensures { result ≡ succeeds_at addr self.now }
     {
-        match place(self.base, self.words.len(), addr) {
-            Some(_) => self.log.len() < self.room as usize,
-            None => false,
+        match &self.kept {
+            Kept::Here(words) => words.is_ready(addr),
+            Kept::Elsewhere(window) => window.is_ready(addr),
         }
     }
 
@@ -141,49 +120,9 @@ impl<A: Allocator> Memory<A> {
         ensures answer { result ≡ plain_answer access self.old }
         ensures after { self.new ≡ plain_after access self.old }
     {
-        match access {
-            Access::Read(addr) => self.read(addr),
-            Access::Write(addr, word) => self.write(addr, word),
+        match &mut self.kept {
+            Kept::Here(words) => words.transfer(access),
+            Kept::Elsewhere(window) => window.transfer(access),
         }
-    }
-
-    fn read(&mut self, addr: u32) -> Answer
-        ensures answer { result ≡ plain_answer (Access.Read addr) self.old }
-        ensures after { self.new ≡ plain_after (Access.Read addr) self.old }
-    {
-        let Some(i) = place(self.base, self.words.len(), addr) else {
-            return Answer::BusFault;
-        };
-        if self.log.len() >= self.room as usize {
-            return Answer::BusFault;
-        }
-        let word = self.words[i];
-        let transfer = Transfer {
-            read: true,
-            addr,
-            word,
-        };
-        self.log.push(transfer).unwrap();
-        Answer::Value(word)
-    }
-
-    fn write(&mut self, addr: u32, word: u32) -> Answer
-        ensures answer { result ≡ plain_answer (Access.Write addr word) self.old }
-        ensures after { self.new ≡ plain_after (Access.Write addr word) self.old }
-    {
-        let Some(i) = place(self.base, self.words.len(), addr) else {
-            return Answer::BusFault;
-        };
-        if self.log.len() >= self.room as usize {
-            return Answer::BusFault;
-        }
-        let transfer = Transfer {
-            read: false,
-            addr,
-            word,
-        };
-        self.log.push(transfer).unwrap();
-        self.words[i] = word;
-        Answer::Written
     }
 }

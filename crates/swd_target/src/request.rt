@@ -1,5 +1,5 @@
 //! A request at a simulated target, and the data of a write: the port that each bench stands on.
-ghost use Rattle.std.specs.Prelude.{◌≡◌, ◌<◌, ◌^◌};
+ghost use Rattle.std.specs.Prelude.{◌≡◌, ◌<◌, ◌^◌, true};
 ghost use Rattle.swd_port.specs.Phases.{word_in};
 ghost use Rattle.swd_port.specs.Choices.{IsMark};
 ghost use Rattle.swd_port.specs.Asking.{IsWordRead, value_in};
@@ -22,6 +22,7 @@ impl<A: Allocator> Target<A> {
     /// read of CTRL/STAT, which never gets it, finds power late that wasn't seen to be there before.
     pub fn request(&mut self, waits: bool, request: Request) -> (Reply, Line)
         ensures answers { Answers waits request self.old result.0 result.1 self.new }
+        ensures quirks { (simulation self.new).quirks ≡ (simulation self.old).quirks }
         ensures driven { bits_driven result.1 < 2 ^ 33 }
     {
         let register = register_named(self.select, request);
@@ -36,6 +37,7 @@ impl<A: Allocator> Target<A> {
     fn accept_after(&mut self, reply: Reply)
         ensures effect { Transfers (state_of self.old) (state_of self.new) }
         ensures exact { simulation self.new ≡ accepted_after reply (simulation self.old) }
+        ensures late { self.old.quirks.late ≡ true → self.new ≡ self.old }
     {
         if let Reply::Okay = reply {
             self.accept();
@@ -72,7 +74,8 @@ impl<A: Allocator> Target<A> {
     /// The 33 bits of a write reach the target, and their parity says whether it is done.
     pub fn arrive(&mut self, register: Register, bits: u64)
         requires { bits < 2 ^ 33 }
-        ensures { DataComes (arrival_of register (word_in bits)) self.old self.new }
+        ensures comes { DataComes (arrival_of register (word_in bits)) self.old self.new }
+        ensures quirks { (simulation self.new).quirks ≡ (simulation self.old).quirks }
     {
         match phase_word(bits) {
             Some(word) => {

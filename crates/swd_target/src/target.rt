@@ -54,6 +54,7 @@ impl<A: Allocator> Target<A> {
     ghost use Rattle.swd_target.specs.Targets.{state_of, simulation, stand_in, answer_at, reply_when, settled_when};
     ghost use Rattle.swd_target.specs.Targets.{Steps, incremented, flags_cleared, power_set, line_reset};
     ghost use Rattle.swd_target.specs.Requests.{Transfers};
+    ghost use Rattle.swd_target.specs.Elsewhere.{IsReady, Stays};
 
     /// A target that had no line reset yet, with this memory behind its access port. DPIDR gives
     /// 2ba01477.
@@ -195,6 +196,8 @@ impl<A: Allocator> Target<A> {
         ensures settled { IsSettled result register self.new.pending }
         ensures select { self.new.select ≡ self.old.select }
         ensures exact { simulation self.new ≡ settled_when waits register ap (simulation self.old) }
+        ensures untouched { IsReady self.old.memory self.old → self.new.memory.log ≡ self.old.memory.log
+            → Stays self.old self.new }
     {
         // Mostly nothing is pending, and to find out whether it has to settle costs as much as the reply.
         if self.pending.is_some() {
@@ -210,6 +213,8 @@ impl<A: Allocator> Target<A> {
             register self.new.pending }
         ensures select { self.new.select ≡ self.old.select }
         ensures exact { simulation self.new ≡ settled_when waits register ap (simulation self.old) }
+        ensures untouched { IsReady self.old.memory self.old → self.new.memory.log ≡ self.old.memory.log
+            → Stays self.old self.new }
     {
         if self.settles_before(waits, register, ap) {
             self.complete();
@@ -416,6 +421,7 @@ impl<A: Allocator> Target<A> {
     pub(crate) fn accept(&mut self)
         ensures effect { Transfers (state_of self.old) (state_of self.new) }
         ensures exact { simulation self.new ≡ accepted (simulation self.old) }
+        ensures late { self.old.quirks.late ≡ true → self.new ≡ self.old }
     {
         if !self.quirks.late {
             self.complete();

@@ -3,9 +3,10 @@ use crate::memory::{MakeFault, Memory};
 use crate::quirks::Quirks;
 use crate::target::Target;
 use linked_list_allocator::LocalHeap;
+use std::alloc::Global;
 use std::test::Fail;
 use swd_bits::data_bits;
-use swd_port::Register;
+use swd_port::{Access, Answer, Register, Transfer};
 
 #[test]
 fn a_memory_is_made_or_refused_in_order(rt: HostRuntime) {
@@ -120,4 +121,83 @@ fn numbers_are_refused_before_memory(rt: HostRuntime) -> Result<(), Fail> {
         assert_eq!(rt; Memory::new(&heap, base, words, 16).err(), Some(fault));
     }
     Ok(())
+}
+
+// Elsewhere there is one word, and room for one transfer.
+#[test]
+fn a_window_makes_one_transfer(rt: HostRuntime) {
+    let mut window = Memory::<Global>::window(0x2000_0004, Some(7));
+    for (addr, word) in [
+        (0x2000_0004, Some(7)),
+        (0x2000_0000, None),
+        (0x2000_0008, None),
+    ] {
+        assert_eq!(rt; window.word(addr), word);
+    }
+    assert_eq!(rt;
+        window.transfer(Access::Read(0x2000_0000)),
+        Answer::BusFault
+    );
+    assert!(rt; window.log().is_empty());
+    assert!(rt; window.is_ready(0x2000_0004));
+    assert_eq!(rt;
+        window.transfer(Access::Write(0x2000_0004, 9)),
+        Answer::Written
+    );
+    assert_eq!(rt; window.word(0x2000_0004), Some(9));
+    let done = Transfer {
+        read: false,
+        addr: 0x2000_0004,
+        word: 9,
+    };
+    assert_eq!(rt; window.log(), [done].as_slice());
+    assert!(rt; !window.is_ready(0x2000_0004));
+    assert_eq!(rt;
+        window.transfer(Access::Read(0x2000_0004)),
+        Answer::BusFault
+    );
+
+    let mut window = Memory::<Global>::window(0x2000_0004, Some(7));
+    assert_eq!(rt;
+        window.transfer(Access::Read(0x2000_0004)),
+        Answer::Value(7)
+    );
+    assert_eq!(rt; window.log().len(), 1);
+
+    let mut none = Memory::<Global>::window(0x2000_0004, None);
+    assert!(rt; !none.is_ready(0x2000_0004));
+    assert_eq!(rt;
+        none.transfer(Access::Write(0x2000_0004, 9)),
+        Answer::BusFault
+    );
+}
+
+// The numbers of a target give it back, over any memory, and zeros are those of none.
+#[test]
+fn a_target_is_given_back_by_its_numbers(rt: HostRuntime) {
+    let quirks = Quirks {
+        wrap: true,
+        late: true,
+        filler: 0xa5a5_a5a5,
+    };
+    let mut target = Target::new(Memory::<Global>::window(0, None), quirks);
+    let fresh = target.fields();
+    target.line_reset(false);
+    target.arrive(Register::CtrlStatWrite, data_bits(0x5000_0000));
+    target.arrive(Register::SelectWrite, data_bits(0xab00_00cd));
+    target.arrive(Register::CswWrite, data_bits(0x2300_0012));
+    target.arrive(Register::TarWrite, data_bits(0x2000_0004));
+    target.arrive(Register::DrwWrite, data_bits(0x1234_5678));
+    let fields = target.fields();
+    assert!(rt; fields != fresh);
+    let mut again = fields.target(Memory::<Global>::window(0x2000_0004, Some(0)));
+    assert_eq!(rt; again.fields(), fields);
+    again.complete();
+    let memory = again.memory();
+    assert_eq!(rt; memory.word(0x2000_0004), Some(0x1234_5678));
+    assert_eq!(rt; again.fields().tar.word, 0x2000_0008);
+
+    let mut none = fresh;
+    none.reset = 0;
+    assert!(rt; none.target(Memory::<Global>::window(0, None)).fields() != none);
 }

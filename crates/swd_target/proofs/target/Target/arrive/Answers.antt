@@ -1,13 +1,16 @@
-use Rattle.std.proofs.Common.{ℕ, Option, inl, sym, ap, subst, ◌∙◌}
+use Rattle.std.proofs.Common.{◌≡◌, ℕ, Option, inl, sym, ap, subst, ◌∙◌}
 use Rattle.swd_port.specs.Port.{Target as State}
 use Rattle.swd_port.specs.Moving.{Arrives, Damaged, arrival_of}
-use Rattle.swd_target.specs.Simulations.{accepted}
-use Rattle.swd_target.specs.Targets.{state_of}
+use Rattle.swd_target.specs.Simulations.{Simulation, accepted}
+use Rattle.swd_target.specs.declared.target.Target.{Target}
+use Rattle.swd_target.specs.Elsewhere.{over}
+use Rattle.swd_target.specs.Targets.{state_of, simulation}
 use Rattle.swd_target.specs.Requests.{Transfers, DataComes}
+use Rattle.swd_target.proofs.ElsewhereLemmas.{arrives_late, placed, quirks_accepted}
 use Rattle.swd_target.proofs.target.Target.arrive.Goals as goal
 
-pub returns-in-Some : goal.returns-in-Some
-returns-in-Some g c =
+pub returns-in-Some-clause-comes : goal.returns-in-Some-clause-comes
+returns-in-Some-clause-comes g c =
     let s = c.args.self.now in
     let t = c.accept.new.self in
     let word = c.in-Some.word in
@@ -16,13 +19,29 @@ returns-in-Some g c =
       later = subst (λ (x : State). Transfers x (state_of t)) c.write.ensures.state c.accept.ensures.effect;
       undone = λ e. absurd cc;
       exact = c.accept.ensures.exact ∙ ap accepted c.write.ensures.exact;
+      elsewhere = λ m late.
+          let kept : c.write.new.self.quirks.late ≡ s.quirks.late = ap (λ (x : Simulation). x.quirks.late) c.write.ensures.exact in
+          let last : t ≡ c.write.new.self = c.accept.ensures.late (kept ∙ late) in (
+            ap (λ (x : Target _). state_of (over m x)) last ∙ ap (λ (x : State). record x { memory = m }) c.write.ensures.state,
+            ap (λ (x : Target _). simulation (over m x)) last ∙ (ap (placed m) c.write.ensures.exact ∙ sym (arrives_late (Arrives c.args.register word) (simulation (over m s)) late)),
+          );
     } in
     subst (λ (o : Option ℕ). DataComes (arrival_of c.args.register o) s t) (sym found) comes
 
-pub returns-in-None : goal.returns-in-None
-returns-in-None g c =
+pub returns-in-None-clause-comes : goal.returns-in-None-clause-comes
+returns-in-None-clause-comes g c =
     let s = c.args.self.now in
     let t = c.refuse_write.new.self in
     let found = sym c.phase_word.ensures ∙ c.in-None.is in
-    let comes : DataComes Damaged s t = record { later = inl c.refuse_write.ensures.state; undone = λ e. c.refuse_write.ensures.state; exact = c.refuse_write.ensures.exact } in
+    let comes : DataComes Damaged s t = record {
+      later = inl c.refuse_write.ensures.state;
+      undone = λ e. c.refuse_write.ensures.state;
+      exact = c.refuse_write.ensures.exact;
+      elsewhere = λ m late. (ap (λ (x : State). record x { memory = m }) c.refuse_write.ensures.state, ap (placed m) c.refuse_write.ensures.exact);
+    } in
     subst (λ (o : Option ℕ). DataComes (arrival_of c.args.register o) s t) (sym found) comes
+
+pub returns-in-Some-clause-quirks : goal.returns-in-Some-clause-quirks
+returns-in-Some-clause-quirks g c =
+    ap (λ (x : Simulation). x.quirks) c.accept.ensures.exact
+    ∙ (quirks_accepted (simulation c.write.new.self) ∙ ap (λ (x : Simulation). x.quirks) c.write.ensures.exact)

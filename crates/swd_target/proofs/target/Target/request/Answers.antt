@@ -1,7 +1,12 @@
-use Rattle.std.proofs.Common.{◌≡◌, sym, ap, ◌∙◌}
+use Rattle.std.proofs.Common.{◌≡◌, sym, ap, subst, ◌∙◌}
 use Rattle.swd_port.specs.declared.select.Select.{Select}
 use Rattle.swd_port.specs.Port.{register}
+use Rattle.swd_target.specs.declared.target.Target.{Target}
+use Rattle.swd_target.specs.Elsewhere.{over}
+use Rattle.swd_target.specs.Flips.{line_under}
+use Rattle.swd_target.specs.Requests.{AnswersUnder}
 use Rattle.swd_target.proofs.AskLemmas.{answers_under}
+use Rattle.swd_target.proofs.ElsewhereLemmas.{answers_over, late_after, log_before, quirks_after}
 use Rattle.swd_target.proofs.target.Target.request.Goals as goal
 
 pub returns-clause-answers : goal.returns-clause-answers
@@ -15,4 +20,18 @@ returns-clause-answers g c =
       under = λ mark legal deaf wait. answers_under mark c.args.waits q c.args.self.now c.reply-reply.new.self c.apply.new.self c.accept_after.new.self r c.reply-reply.result c.phase-phase.result
           legal deaf wait (sym c.register_named-register.ensures) same before.settles before.exact before.reply before.settled c.phase-phase.ensures.word c.phase-phase.ensures.phase c.phase-phase.ensures.exact
           after.state after.exact c.accept_after.ensures.effect c.accept_after.ensures.exact;
+      elsewhere = λ m untouched ready mark legal deaf wait.
+          let s = c.args.self.now in
+          let late = late_after c.args.waits c.reply-reply.result r q.ap s c.reply-reply.new.self c.apply.new.self untouched.late before.exact after.exact in
+          let last : c.accept_after.new.self ≡ c.apply.new.self = c.accept_after.ensures.late late in
+          let log = log_before c.args.waits c.reply-reply.result r q.ap s c.reply-reply.new.self c.apply.new.self c.accept_after.new.self after.state last untouched.log in
+          subst (λ (t : Target _). AnswersUnder mark q (over m s) c.reply-reply.result (line_under mark c.phase-phase.result) (over m t)) (sym last)
+          (answers_over m mark c.args.waits q s c.reply-reply.new.self c.apply.new.self r c.reply-reply.result c.phase-phase.result
+          legal deaf wait (sym c.register_named-register.ensures) same (before.untouched untouched.ready log) ready untouched.late before.reply before.settled
+          c.phase-phase.ensures.word c.phase-phase.ensures.phase c.phase-phase.ensures.exact after.state after.exact);
     }
+
+pub returns-clause-quirks : goal.returns-clause-quirks
+returns-clause-quirks g c =
+    quirks_after c.args.waits c.reply-reply.result c.register_named-register.result c.args.request.ap c.args.self.now c.reply-reply.new.self c.apply.new.self c.accept_after.new.self
+    c.reply-reply.ensures.exact c.apply.ensures.exact c.accept_after.ensures.exact

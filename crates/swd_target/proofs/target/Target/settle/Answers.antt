@@ -3,6 +3,7 @@ use Rattle.swd_port.specs.declared.register.Register.TheVariants.{DrwRead}
 use Rattle.swd_target.specs.Simulations.{transferred}
 use Rattle.swd_target.specs.Targets.{state_of, simulation, choice_for, answer_at, settled_when}
 use Rattle.swd_target.proofs.TargetLemmas.{is_choice, owed, settled_unless, settled_after}
+use Rattle.swd_target.proofs.ElsewhereLemmas.{stays}
 use Rattle.swd_target.proofs.target.Target.settle.Goals as goal
 
 pub returns-then-settles_before-clause-settles : goal.returns-then-settles_before-clause-settles
@@ -33,3 +34,6 @@ returns-else-settles_before-clause-exact g c =
     let t = c.args.self.now in
     let Q = λ (b : Bool). (if b then transferred (simulation t) else simulation t) ≡ settled_when c.args.waits c.args.register c.args.ap (simulation t) in
     subst Q (owed c.args.waits c.args.register c.args.ap t ∙ sym c.settles_before.ensures ∙ c.if-settles_before.false) refl
+
+pub returns-then-settles_before-clause-untouched : goal.returns-then-settles_before-clause-untouched
+returns-then-settles_before-clause-untouched g c = λ ready same. stays c.args.self.now c.complete.new.self c.complete.ensures ready same

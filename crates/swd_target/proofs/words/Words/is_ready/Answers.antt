@@ -2,7 +2,7 @@ use Rattle.std.proofs.Common.{◌≡◌, length, sym, subst, ap, ◌∙◌, arit
 use Rattle.std.specs.Prelude.{nat_lt}
 use Rattle.swd_port.specs.PlainMemory.{PlainMemory, succeeds_at}
 use Rattle.swd_target.proofs.WordLemmas.{get-words_from, get-outside, succeeds-outside, succeeds-there}
-use Rattle.swd_target.proofs.memory.Memory.is_ready.Goals as goal
+use Rattle.swd_target.proofs.words.Words.is_ready.Goals as goal
 
 pub returns-in-Some : goal.returns-in-Some
 returns-in-Some g c =

@@ -2,7 +2,7 @@ use Rattle.std.proofs.Common.{◌≡◌, sym, subst, ap, ◌∙◌, arith, Some,
 use Rattle.std.specs.FinMap.{get}
 use Rattle.swd_port.specs.PlainMemory.{PlainMemory}
 use Rattle.swd_target.proofs.WordLemmas.{get-words_from, get-outside}
-use Rattle.swd_target.proofs.memory.Memory.word.Goals as goal
+use Rattle.swd_target.proofs.words.Words.word.Goals as goal
 
 pub returns-in-Some : goal.returns-in-Some
 returns-in-Some g c =

@@ -3,7 +3,7 @@ use Rattle.swd_port.specs.declared.access.Access.TheVariants.{Write}
 use Rattle.swd_port.specs.declared.access.Answer.TheVariants.{Written, BusFault}
 use Rattle.swd_port.specs.PlainMemory.{PlainMemory, plain_answer, plain_after}
 use Rattle.swd_target.proofs.WordLemmas.{get-words_from, get-outside, succeeds-outside, succeeds-inside, answer-failed, after-failed, answer-write, after-write, words_from-set}
-use Rattle.swd_target.proofs.memory.Memory.write.Goals as goal
+use Rattle.swd_target.proofs.words.Words.write.Goals as goal
 
 pub returns-in_default-clause-answer : goal.returns-in_default-clause-answer
 returns-in_default-clause-answer g c =

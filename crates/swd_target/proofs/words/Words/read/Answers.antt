@@ -5,7 +5,7 @@ use Rattle.swd_port.specs.declared.access.Answer.TheVariants.{Value, BusFault}
 use Rattle.swd_port.specs.PlainMemory.{PlainMemory, plain_answer, plain_after}
 use Rattle.swd_target.specs.MemoryWords.{words_from}
 use Rattle.swd_target.proofs.WordLemmas.{get-words_from, get-outside, succeeds-outside, succeeds-inside, answer-failed, after-failed, answer-read, after-read}
-use Rattle.swd_target.proofs.memory.Memory.read.Goals as goal
+use Rattle.swd_target.proofs.words.Words.read.Goals as goal
 
 pub returns-in_default-clause-answer : goal.returns-in_default-clause-answer
 returns-in_default-clause-answer g c =

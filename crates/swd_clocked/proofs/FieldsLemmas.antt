@@ -1,0 +1,65 @@
+-- The numbers of a clocked target are read as they are.
+use Rattle.std.proofs.Math.Nat.{mod-eq_of_lt}
+use Rattle.std.proofs.Common.{◌≡◌, ◌<◌, ◌^◌, Some, None, refl}
+use Rattle.swd_port.specs.declared.register.Register.{Register}
+use Rattle.swd_port.specs.declared.register.Register.TheVariants.{DpidrRead, AbortWrite, CtrlStatRead}
+use Rattle.swd_port.specs.declared.register.Register.TheVariants.{CtrlStatWrite, SelectWrite, ResendRead}
+use Rattle.swd_port.specs.declared.register.Register.TheVariants.{RdbuffRead, DpZeroRead, DpIgnoredWrite, CswRead}
+use Rattle.swd_port.specs.declared.register.Register.TheVariants.{CswWrite, TarRead, TarWrite, DrwRead, DrwWrite}
+use Rattle.swd_port.specs.declared.register.Register.TheVariants.{ApZeroRead, ApIgnoredWrite}
+use Rattle.swd_port.specs.declared.state.Line.{Line}
+use Rattle.swd_port.specs.declared.state.Line.TheVariants as lines
+use Rattle.swd_port.specs.declared.state.Reply.{Reply}
+use Rattle.swd_port.specs.declared.state.Reply.TheVariants.{Okay, Waits, Faults, Silent}
+use Rattle.swd_port.specs.Moving.{bits_driven}
+use Rattle.swd_target.proofs.FieldsLemmas.{flag_read, target_read}
+use Rattle.swd_clocked.specs.declared.clocked.Clocked.{Clocked}
+use Rattle.swd_clocked.specs.declared.frame.Frame.{Frame}
+use Rattle.swd_clocked.specs.declared.frame.Frame.TheVariants.{Asks, Lost, High, Switches, Replies, Drives, Awaits, Passes}
+use Rattle.swd_clocked.specs.Fields.{fields_of, frame_fields, line_fields, register_number, reply_number}
+use Rattle.swd_clocked.specs.Fields.{read_clocked, read_frame, read_line, read_register, read_reply}
+use Rattle.swd_clocked.specs.Frames.{frame_bits, frame_limit, frame_place}
+
+register_read : (r : Register) → read_register (register_number r) ≡ register_number r
+register_read DpidrRead = refl
+register_read AbortWrite = refl
+register_read CtrlStatRead = refl
+register_read CtrlStatWrite = refl
+register_read SelectWrite = refl
+register_read ResendRead = refl
+register_read RdbuffRead = refl
+register_read DpZeroRead = refl
+register_read DpIgnoredWrite = refl
+register_read CswRead = refl
+register_read CswWrite = refl
+register_read TarRead = refl
+register_read TarWrite = refl
+register_read DrwRead = refl
+register_read DrwWrite = refl
+register_read ApZeroRead = refl
+register_read ApIgnoredWrite = refl
+
+reply_read : (r : Reply) → read_reply (reply_number r) ≡ reply_number r
+reply_read Okay = refl
+reply_read Waits = refl
+reply_read Faults = refl
+reply_read Silent = refl
+
+line_read : (l : Line) → bits_driven l < 2 ^ 33 → read_line (line_fields l) ≡ line_fields l
+line_read lines.Idle h = refl
+line_read (lines.Drives bits) h = rw (mod-eq_of_lt h) refl
+line_read (lines.Awaits r None) h = rw (register_read r) refl
+line_read (lines.Awaits r (Some place)) h = rw (register_read r) refl
+
+frame_read : (f : Frame) → frame_bits f < 2 ^ 33 → frame_place f < frame_limit f → read_frame (frame_fields f) ≡ frame_fields f
+frame_read (Asks byte count) h p = rw (mod-eq_of_lt p) refl
+frame_read (Lost ones) h p = rw (mod-eq_of_lt p) refl
+frame_read High h p = refl
+frame_read (Switches place) h p = rw (mod-eq_of_lt p) refl
+frame_read (Replies reply line place) h p = rw (mod-eq_of_lt p, line_read line h, reply_read reply) refl
+frame_read (Drives bits left) h p = rw (mod-eq_of_lt p, mod-eq_of_lt h) refl
+frame_read (Awaits r bits place) h p = rw (mod-eq_of_lt p, mod-eq_of_lt h, register_read r) refl
+frame_read Passes h p = refl
+
+pub clocked_read : {A : Type 0} (c : Clocked A) → read_clocked (fields_of c) ≡ fields_of c
+clocked_read c = rw (frame_read c.frame c.bits c.place, target_read c.target, flag_read c.waits) refl

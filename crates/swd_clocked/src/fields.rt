@@ -1,0 +1,290 @@
+//! A clocked target as numbers, for callers that keep it in memory of their own, such as programs in C.
+ghost use Rattle.std.specs.Prelude.{◌≡◌, ◌<◌, ◌^◌, IfSome, IsSome};
+ghost use Rattle.swd_port.specs.Moving.{bits_driven};
+ghost use Rattle.swd_clocked.specs.declared.clocked.Clocked.{Clocked as ClockedType};
+ghost use Rattle.swd_clocked.specs.Clocks.{memory_of};
+ghost use Rattle.swd_clocked.specs.Fields.{fields_of, frame_fields, line_fields, line_with, plain_frame};
+ghost use Rattle.swd_clocked.specs.Fields.{register_number, reply_number};
+ghost use Rattle.swd_clocked.specs.Fields.{read_clocked, read_frame, read_line, read_register, read_reply};
+ghost use Rattle.swd_clocked.specs.Frames.{frame_bits, frame_limit, frame_place};
+
+use crate::clocked::Clocked;
+use crate::frame::Frame;
+use std::alloc::Allocator;
+use swd_port::{Count, Line, Register, Reply};
+use swd_target::{Memory, TargetFields};
+
+/// The numbers of a clocked target, but for its memory: `Clocked::fields` gives them, and `clocked` gives a target
+/// over them back. They are laid out as C does it, and any numbers may stand in them: `clocked` gives none where
+/// they are those of no target, as zeros are.
+///
+/// `cycles` is how many cycles went by. What the others mean is this crate's own.
+#[repr(C)]
+#[derive(Clone, Copy, Debug, PartialEq, Eq)]
+pub struct ClockedFields {
+    pub cycles: u64,
+    pub frame: FrameFields,
+    pub target: TargetFields,
+    pub waits: u8,
+}
+
+/// The numbers of what a clocked target is doing.
+#[repr(C)]
+#[derive(Clone, Copy, Debug, PartialEq, Eq)]
+pub struct FrameFields {
+    pub line: LineFields,
+    pub kind: u8,
+    pub place: u8,
+    pub byte: u8,
+    pub reply: u8,
+}
+
+/// The numbers of a data phase.
+#[repr(C)]
+#[derive(Clone, Copy, Debug, PartialEq, Eq)]
+pub struct LineFields {
+    pub bits: u64,
+    pub kind: u8,
+    pub register: u8,
+    pub flips: u8,
+    pub flip: u8,
+}
+
+fn number_of_register(register: Register) -> u8
+    ensures { result ≡ register_number register }
+{
+    match register {
+        Register::DpidrRead => 1,
+        Register::AbortWrite => 2,
+        Register::CtrlStatRead => 3,
+        Register::CtrlStatWrite => 4,
+        Register::SelectWrite => 5,
+        Register::ResendRead => 6,
+        Register::RdbuffRead => 7,
+        Register::DpZeroRead => 8,
+        Register::DpIgnoredWrite => 9,
+        Register::CswRead => 10,
+        Register::CswWrite => 11,
+        Register::TarRead => 12,
+        Register::TarWrite => 13,
+        Register::DrwRead => 14,
+        Register::DrwWrite => 15,
+        Register::ApZeroRead => 16,
+        Register::ApIgnoredWrite => 17,
+    }
+}
+
+// Here and below, what is read from numbers that nothing has doesn't matter: `ClockedFields::clocked` finds that
+// the target has other numbers.
+fn register_with(number: u8) -> Register
+    ensures { register_number result ≡ read_register number }
+{
+    match number {
+        1 => Register::DpidrRead,
+        2 => Register::AbortWrite,
+        3 => Register::CtrlStatRead,
+        4 => Register::CtrlStatWrite,
+        5 => Register::SelectWrite,
+        6 => Register::ResendRead,
+        7 => Register::RdbuffRead,
+        8 => Register::DpZeroRead,
+        9 => Register::DpIgnoredWrite,
+        10 => Register::CswRead,
+        11 => Register::CswWrite,
+        12 => Register::TarRead,
+        13 => Register::TarWrite,
+        14 => Register::DrwRead,
+        15 => Register::DrwWrite,
+        16 => Register::ApZeroRead,
+        _ => Register::ApIgnoredWrite,
+    }
+}
+
+fn number_of_reply(reply: Reply) -> u8
+    ensures { result ≡ reply_number reply }
+{
+    match reply {
+        Reply::Okay => 1,
+        Reply::Waits => 2,
+        Reply::Faults => 3,
+        Reply::Silent => 4,
+    }
+}
+
+fn reply_with(number: u8) -> Reply
+    ensures { reply_number result ≡ read_reply number }
+{
+    match number {
+        1 => Reply::Okay,
+        2 => Reply::Waits,
+        3 => Reply::Faults,
+        _ => Reply::Silent,
+    }
+}
+
+// No data phase, but these bits and this register.
+fn line_with(bits: u64, register: u8) -> LineFields
+    ensures { result ≡ line_with 0 bits register 0 0 }
+{
+    LineFields {
+        bits,
+        kind: 0,
+        register,
+        flips: 0,
+        flip: 0,
+    }
+}
+
+impl LineFields {
+    fn of(line: Line) -> LineFields
+        ensures { result ≡ line_fields line }
+    {
+        let none = line_with(0, 0);
+        match line {
+            Line::Idle => LineFields { kind: 1, ..none },
+            Line::Drives(bits) => LineFields {
+                kind: 2,
+                bits,
+                ..none
+            },
+            Line::Awaits(register, flip) => LineFields {
+                bits: 0,
+                kind: 3,
+                register: number_of_register(register),
+                flips: u8::from(flip.is_some()),
+                flip: flip.unwrap_or(0),
+            },
+        }
+    }
+
+    fn line(self) -> Line
+        ensures line { line_fields result ≡ read_line self }
+        ensures driven { bits_driven result < 2 ^ 33 }
+    {
+        match self.kind {
+            1 => Line::Idle,
+            2 => Line::Drives(self.bits % (1 << 33)),
+            _ => {
+                let flip = if self.flips == 1 {
+                    Some(self.flip)
+                } else {
+                    None
+                };
+                Line::Awaits(register_with(self.register), flip)
+            }
+        }
+    }
+}
+
+impl FrameFields {
+    // A frame of this kind, with this count.
+    fn plain(kind: u8, place: u8) -> FrameFields
+        ensures { result ≡ plain_frame kind place }
+    {
+        FrameFields {
+            line: line_with(0, 0),
+            kind,
+            place,
+            byte: 0,
+            reply: 0,
+        }
+    }
+
+    fn of(frame: Frame) -> FrameFields
+        ensures { result ≡ frame_fields frame }
+    {
+        match frame {
+            Frame::Asks(byte, count) => FrameFields {
+                byte,
+                ..FrameFields::plain(1, count)
+            },
+            Frame::Lost(ones) => FrameFields::plain(2, ones),
+            Frame::High => FrameFields::plain(3, 0),
+            Frame::Switches(place) => FrameFields::plain(4, place),
+            Frame::Replies(reply, line, place) => FrameFields {
+                line: LineFields::of(line),
+                reply: number_of_reply(reply),
+                ..FrameFields::plain(5, place)
+            },
+            Frame::Drives(bits, left) => FrameFields {
+                line: line_with(bits, 0),
+                ..FrameFields::plain(6, left)
+            },
+            Frame::Awaits(register, bits, place) => FrameFields {
+                line: line_with(bits, number_of_register(register)),
+                ..FrameFields::plain(7, place)
+            },
+            Frame::Passes => FrameFields::plain(8, 0),
+        }
+    }
+
+    fn frame(self) -> Frame
+        ensures frame { frame_fields result ≡ read_frame self }
+        ensures bits { frame_bits result < 2 ^ 33 }
+        ensures place { frame_place result < frame_limit result }
+    {
+        match self.kind {
+            1 => Frame::Asks(self.byte, self.place % 8),
+            2 => Frame::Lost(self.place % 50),
+            3 => Frame::High,
+            4 => Frame::Switches(self.place % 16),
+            5 => Frame::Replies(reply_with(self.reply), self.line.line(), self.place % 4),
+            6 => Frame::Drives(self.line.bits % (1 << 33), self.place % 34),
+            7 => {
+                let register = register_with(self.line.register);
+                Frame::Awaits(register, self.line.bits % (1 << 33), self.place % 34)
+            }
+            _ => Frame::Passes,
+        }
+    }
+}
+
+// The same number, of which a caller knows that it is one of 64 bits.
+fn as_many(cycles: u64) -> u64
+    ensures same { result ≡ cycles }
+    ensures range { result < 2 ^ 64 }
+{
+    cycles
+}
+
+impl ClockedFields {
+    /// The clocked target with these numbers over a memory, where there is one.
+    pub fn clocked<A: Allocator>(&self, memory: Memory<A>) -> Option<Clocked<A>>
+        ensures found { (c : ClockedType A) → fields_of c ≡ self.now → IsSome result }
+        ensures same { IfSome result (λ c. (fields_of c ≡ self.now) × (memory_of c ≡ memory)) }
+    {
+        let clocked = self.read(memory);
+        if clocked.fields() == *self {
+            Some(clocked)
+        } else {
+            None
+        }
+    }
+
+    fn read<A: Allocator>(&self, memory: Memory<A>) -> Clocked<A>
+        ensures numbers { fields_of result ≡ read_clocked self.now }
+        ensures memory { memory_of result ≡ memory }
+    {
+        Clocked {
+            target: self.target.target(memory),
+            frame: self.frame.frame(),
+            waits: self.waits == 1,
+            cycles: as_many(self.cycles),
+            contended: Count::new(),
+        }
+    }
+}
+
+impl<A: Allocator> Clocked<A> {
+    /// The numbers of the target, but for its memory.
+    pub fn fields(&self) -> ClockedFields
+        ensures { result ≡ fields_of self.now }
+    {
+        ClockedFields {
+            cycles: self.cycles,
+            frame: FrameFields::of(self.frame),
+            target: self.target.fields(),
+            waits: u8::from(self.waits),
+        }
+    }
+}

@@ -1,0 +1,210 @@
+//! A target as numbers, for callers that keep it in memory of their own, such as programs in C.
+ghost use Rattle.std.specs.Prelude.{◌≡◌, ◌==◌};
+ghost use Rattle.swd_target.specs.Fields.{content_fields, pending_fields, power_number, reset_number};
+ghost use Rattle.swd_target.specs.Fields.{read_content, read_pending, read_power, read_reset, read_target};
+ghost use Rattle.swd_target.specs.Fields.{fields_of};
+
+use crate::content::Content;
+use crate::memory::Memory;
+use crate::quirks::Quirks;
+use crate::target::Target;
+use std::alloc::Allocator;
+use swd_port::{Drw, PowerUp, Reset, Select};
+
+/// The numbers of a target, but for its memory: `Target::fields` gives them, and `target` makes a target of
+/// them. They are laid out as C does it. Zeros are those of no target.
+///
+/// What they mean is this crate's own.
+#[repr(C)]
+#[derive(Clone, Copy, Debug, PartialEq, Eq)]
+pub struct TargetFields {
+    pub tar: ContentFields,
+    pub buffer: ContentFields,
+    pub last_returned: ContentFields,
+    pub pending: PendingFields,
+    pub filler: u32,
+    pub wrap: u8,
+    pub late: u8,
+    pub reset: u8,
+    pub sticky_error: u8,
+    pub write_error: u8,
+    pub read_ok: u8,
+    pub debug_power: u8,
+    pub system_power: u8,
+    pub power_up: u8,
+    pub apsel: u8,
+    pub apbanksel: u8,
+    pub dpbanksel: u8,
+    pub increments: u8,
+    pub csw_upper: u8,
+}
+
+/// The numbers of what a register contains.
+#[repr(C)]
+#[derive(Clone, Copy, Debug, PartialEq, Eq)]
+pub struct ContentFields {
+    pub word: u32,
+    pub known: u8,
+}
+
+/// The numbers of a transfer that was accepted and has not taken effect yet: of `kind` 0 there is none, of 1 it
+/// is a read, and of 2 a write of `word`, which else is 0.
+#[repr(C)]
+#[derive(Clone, Copy, Debug, PartialEq, Eq)]
+pub struct PendingFields {
+    pub word: u32,
+    pub kind: u8,
+}
+
+impl ContentFields {
+    fn of(content: Content) -> ContentFields
+        ensures { result ≡ content_fields content }
+    {
+        ContentFields {
+            word: content.word,
+            known: u8::from(content.known),
+        }
+    }
+
+    fn content(self) -> Content
+        ensures { content_fields result ≡ read_content self }
+    {
+        Content {
+            word: self.word,
+            known: self.known == 1,
+        }
+    }
+}
+
+impl PendingFields {
+    fn of(pending: Option<Drw>) -> PendingFields
+        ensures { result ≡ pending_fields pending }
+    {
+        match pending {
+            None => PendingFields { word: 0, kind: 0 },
+            Some(Drw::Reads) => PendingFields { word: 0, kind: 1 },
+            Some(Drw::Writes(word)) => PendingFields { word, kind: 2 },
+        }
+    }
+
+    fn pending(self) -> Option<Drw>
+        ensures { pending_fields result ≡ read_pending self }
+    {
+        match self.kind {
+            1 => Some(Drw::Reads),
+            2 => Some(Drw::Writes(self.word)),
+            _ => None,
+        }
+    }
+}
+
+fn number_of_reset(reset: Reset) -> u8
+    ensures { result ≡ reset_number reset }
+{
+    match reset {
+        Reset::Unreset => 1,
+        Reset::Fresh => 2,
+        Reset::Live => 3,
+    }
+}
+
+fn reset_with(number: u8) -> Reset
+    ensures { reset_number result ≡ read_reset number }
+{
+    match number {
+        1 => Reset::Unreset,
+        2 => Reset::Fresh,
+        _ => Reset::Live,
+    }
+}
+
+fn number_of_power(power_up: PowerUp) -> u8
+    ensures { result ≡ power_number power_up }
+{
+    match power_up {
+        PowerUp::Unseen => 1,
+        PowerUp::Late => 2,
+        PowerUp::Seen => 3,
+    }
+}
+
+fn power_with(number: u8) -> PowerUp
+    ensures { power_number result ≡ read_power number }
+{
+    match number {
+        1 => PowerUp::Unseen,
+        2 => PowerUp::Late,
+        _ => PowerUp::Seen,
+    }
+}
+
+impl TargetFields {
+    /// A target with these numbers and this memory. A number that no target has is read as another one, so whoever
+    /// wants to refuse it compares the numbers of what came.
+    pub fn target<A: Allocator>(&self, memory: Memory<A>) -> Target<A>
+        ensures numbers { fields_of result ≡ read_target self.now }
+        ensures memory { result.memory ≡ memory }
+    {
+        Target {
+            quirks: self.quirks(),
+            reset: reset_with(self.reset),
+            sticky_error: self.sticky_error == 1,
+            write_error: self.write_error == 1,
+            read_ok: self.read_ok == 1,
+            debug_power: self.debug_power == 1,
+            system_power: self.system_power == 1,
+            power_up: power_with(self.power_up),
+            select: Select {
+                apsel: self.apsel,
+                apbanksel: self.apbanksel,
+                dpbanksel: self.dpbanksel,
+            },
+            increments: self.increments == 1,
+            csw_upper: self.csw_upper,
+            tar: self.tar.content(),
+            buffer: self.buffer.content(),
+            last_returned: self.last_returned.content(),
+            pending: self.pending.pending(),
+            memory,
+        }
+    }
+
+    fn quirks(&self) -> Quirks
+        ensures { result ≡ record { wrap = self.now.wrap == 1; late = self.now.late == 1; filler = self.now.filler } }
+    {
+        Quirks {
+            wrap: self.wrap == 1,
+            late: self.late == 1,
+            filler: self.filler,
+        }
+    }
+}
+
+impl<A: Allocator> Target<A> {
+    /// The numbers of the target, but for its memory.
+    pub fn fields(&self) -> TargetFields
+        ensures { result ≡ fields_of self.now }
+    {
+        TargetFields {
+            tar: ContentFields::of(self.tar),
+            buffer: ContentFields::of(self.buffer),
+            last_returned: ContentFields::of(self.last_returned),
+            pending: PendingFields::of(self.pending),
+            filler: self.quirks.filler,
+            wrap: u8::from(self.quirks.wrap),
+            late: u8::from(self.quirks.late),
+            reset: number_of_reset(self.reset),
+            sticky_error: u8::from(self.sticky_error),
+            write_error: u8::from(self.write_error),
+            read_ok: u8::from(self.read_ok),
+            debug_power: u8::from(self.debug_power),
+            system_power: u8::from(self.system_power),
+            power_up: number_of_power(self.power_up),
+            apsel: self.select.apsel,
+            apbanksel: self.select.apbanksel,
+            dpbanksel: self.select.dpbanksel,
+            increments: u8::from(self.increments),
+            csw_upper: self.csw_upper,
+        }
+    }
+}

@@ -1,0 +1,177 @@
+//! Words that a memory has itself, and its log.
+ghost use Rattle.std.specs.Prelude.{◌≡◌, ◌≢◌, ◌↔◌, ◌+◌, ◌*◌, ◌<◌, ◌≤◌, ◌%◌, ◌^◌, ℕ, MatchOption};
+ghost use Rattle.std.specs.Prelude.{IfOk, IsErrOf};
+ghost use Rattle.std.specs.FinMap.{get};
+ghost use Rattle.swd_port.specs.PlainMemory.{succeeds_at, plain_answer, plain_after};
+ghost use Rattle.swd_target.specs.MemoryWords.{zero_memory};
+
+use crate::memory::MakeFault;
+use std::alloc::Allocator;
+use std::marker::Model;
+use swd_port::{Access, Answer, Transfer};
+
+/// Words at addresses, and a log of the transfers that took place, the oldest first. Contracts see
+/// both as a `PlainMemory`.
+#[derive(Drop)]
+pub(crate) struct Words<A: Allocator> {
+    base: u32,
+    words: Vec<u32, A>,
+    log: Vec<Transfer, A>,
+    room: u32,
+}
+
+impl<A: Allocator> Model for Words<A> {
+    ghost use Rattle.std.specs.Prelude.{◌≡◌, ◌+◌, ◌*◌, ◌≤◌, ◌%◌, ◌^◌, vec_len};
+    ghost use Rattle.std.specs.Vec.{vec_capacity};
+    ghost use Rattle.std.specs.Coded.{codes, coded_ℕ};
+    ghost use Rattle.std.specs.FinMap as map;
+    ghost use Rattle.std.specs.Ordering.{nat_cmp};
+    ghost use Rattle.swd_port.specs.contracts.access.Transfer as transfer;
+    ghost use Rattle.swd_port.specs.PlainMemory.{PlainMemory};
+    ghost use Rattle.swd_target.specs.MemoryWords.{words_from};
+
+    ghost Value = { PlainMemory };
+
+    ghost coded = { Prim.hlevel (codes, map.code {R = nat_cmp} coded_ℕ coded_ℕ, transfer.the_row.coded) };
+
+    ghost view = { λ m. record { words = words_from m.base m.words.items; log = m.log.items; room = m.room } };
+
+    ghost invariant = { λ m. record {
+      aligned : m.base % 4 ≡ 0;
+      end : m.base + 4 * vec_len m.words ≤ 2 ^ 32;
+      logged : vec_len m.log ≤ m.room;
+      room : m.room ≤ vec_capacity m.log;
+    } };
+}
+
+// The place of the word at an address, where there is one.
+fn place(base: u32, words: usize, addr: u32) -> Option<usize>
+    requires { base + 4 * words ≤ 2 ^ 32 }
+    ensures { MatchOption result
+        ((i : ℕ) → i < words → base + 4 * i ≡ addr → ⊥)
+        (λ i. (i < words) × (base + 4 * i ≡ addr)) }
+{
+    if addr < base {
+        return None;
+    }
+    let ahead = addr - base;
+    if ahead % 4 != 0 {
+        return None;
+    }
+    let place = (ahead / 4) as usize;
+    if place < words { Some(place) } else { None }
+}
+
+impl<A: Allocator + Copy> Words<A> {
+    /// Makes a memory of `words` zero words from the address `base`, with an empty log that has
+    /// room for `room` transfers. All that it ever needs is taken here.
+    pub(crate) fn new(alloc: A, base: u32, words: u32, room: u32) -> Result<Words<A>, MakeFault>
+        ensures made { IfOk result (λ memory. memory ≡ zero_memory base words room) }
+        ensures base { IsErrOf result MakeFault.Base ↔ (base % 4 ≢ 0) }
+        ensures empty { IsErrOf result MakeFault.Empty ↔ ((base % 4 ≡ 0) × (words ≡ 0)) }
+        ensures range { IsErrOf result MakeFault.Range ↔ ((base % 4 ≡ 0) × (words ≢ 0) × (2 ^ 32 < base + 4 * words)) }
+    {
+        if base % 4 != 0 {
+            return Err(MakeFault::Base);
+        }
+        if words == 0 {
+            return Err(MakeFault::Empty);
+        }
+        if u64::from(base) + 4 * u64::from(words) > 1 << 32 {
+            return Err(MakeFault::Range);
+        }
+        let Ok(zeros) = vec![in alloc; 0; words as usize] else {
+            return Err(MakeFault::Memory);
+        };
+        let Ok(log) = Vec::with_capacity(alloc, room as usize) else {
+            return Err(MakeFault::Memory);
+        };
+        Ok(Words {
+            base,
+            words: zeros,
+            log,
+            room,
+        })
+    }
+}
+
+impl<A: Allocator> Words<A> {
+    /// The word at an address, in bytes. `None` where there is none, as at an address that isn't a
+    /// multiple of 4. It is no transfer.
+    pub(crate) fn word(&self, addr: u32) -> Option<u32>
+        ensures { result ≡ get self.now.words addr }
+    {
+        match place(self.base, self.words.len(), addr) {
+            Some(i) => Some(self.words[i]),
+            None => None,
+        }
+    }
+
+    /// The transfers that took place, the oldest first.
+    pub(crate) fn log(&self) -> &[Transfer]
+        ensures { result.now ≡ self.now.log }
+    {
+        &self.log
+    }
+
+    // A transfer at this address would succeed.
+    pub(crate) fn is_ready(&self, addr: u32) -> bool
+        ensures { result ≡ succeeds_at addr self.now }
+    {
+        match place(self.base, self.words.len(), addr) {
+            Some(_) => self.log.len() < self.room as usize,
+            None => false,
+        }
+    }
+
+    // One transfer, as the access port makes it.
+    pub(crate) fn transfer(&mut self, access: Access) -> Answer
+        ensures answer { result ≡ plain_answer access self.old }
+        ensures after { self.new ≡ plain_after access self.old }
+    {
+        match access {
+            Access::Read(addr) => self.read(addr),
+            Access::Write(addr, word) => self.write(addr, word),
+        }
+    }
+
+    fn read(&mut self, addr: u32) -> Answer
+        ensures answer { result ≡ plain_answer (Access.Read addr) self.old }
+        ensures after { self.new ≡ plain_after (Access.Read addr) self.old }
+    {
+        let Some(i) = place(self.base, self.words.len(), addr) else {
+            return Answer::BusFault;
+        };
+        if self.log.len() >= self.room as usize {
+            return Answer::BusFault;
+        }
+        let word = self.words[i];
+        let transfer = Transfer {
+            read: true,
+            addr,
+            word,
+        };
+        self.log.push(transfer).unwrap();
+        Answer::Value(word)
+    }
+
+    fn write(&mut self, addr: u32, word: u32) -> Answer
+        ensures answer { result ≡ plain_answer (Access.Write addr word) self.old }
+        ensures after { self.new ≡ plain_after (Access.Write addr word) self.old }
+    {
+        let Some(i) = place(self.base, self.words.len(), addr) else {
+            return Answer::BusFault;
+        };
+        if self.log.len() >= self.room as usize {
+            return Answer::BusFault;
+        }
+        let transfer = Transfer {
+            read: false,
+            addr,
+            word,
+        };
+        self.log.push(transfer).unwrap();
+        self.words[i] = word;
+        Answer::Written
+    }
+}
