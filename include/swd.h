@@ -1,5 +1,5 @@
 /*
- * swd.h - a Serial Wire Debug host and a decoder of its traces, for C99 and C++.
+ * swd.h - a Serial Wire Debug host, a simulated target and a decoder of traces, for C99 and C++.
  *
  * The functions are those of the crate swd_c, which is proved; docs/C.md says how the archive libswd_c.a is
  * built, what of the proof holds here, and what a caller owes.
@@ -160,6 +160,99 @@ struct swd_cue swd_engine_next(struct swd_engine *engine, uint64_t reply);
  */
 bool swd_engine_start(struct swd_engine *engine, const struct swd_access *accesses, size_t count, size_t index);
 
+/* ---------------------------------------------------------------------------------------- the target ---- */
+
+/*
+ * A simulated target: a debug port with a MEM-AP for words, clock by clock. It has no memory: its transfers are
+ * the caller's, on whatever bus, and it takes none of them back. What is in it is the library's, but for `cycles`.
+ * Zeros are no target.
+ */
+struct swd_target {
+	uint64_t cycles; /* how many cycles went by; may be read */
+	struct {
+		struct {
+			uint64_t bits;
+			uint8_t kind, reg, flips, flip;
+		} line;
+		uint8_t kind, place, byte, reply;
+	} frame;
+	struct {
+		struct swd_content {
+			uint32_t word;
+			uint8_t known;
+		} tar, buffer, last_returned;
+		struct {
+			uint32_t word;
+			uint8_t kind;
+		} pending;
+		uint32_t filler;
+		uint8_t wrap, late, reset, sticky_error, write_error, read_ok, debug_power, system_power, power_up;
+		uint8_t apsel, apbanksel, dpbanksel, increments, csw_upper;
+	} target;
+	uint8_t waits;
+};
+
+/*
+ * A transfer on the target's bus. What a kind doesn't name is 0.
+ */
+struct swd_transfer {
+	uint32_t addr; /* as the host wrote it: it may be no multiple of 4 */
+	uint32_t word; /* of SWD_WRITE: what is written */
+	uint8_t kind;
+};
+
+enum {
+	SWD_NONE = 0,
+	SWD_READ = 1,
+	SWD_WRITE = 2
+};
+
+/* The host leaves the line alone in a cycle. */
+#define SWD_RELEASED 2
+
+/* In place of a bit: the transfer that is pending has to be made before this cycle. */
+#define SWD_WANTS 2
+
+/*
+ * Makes a target that had no line reset yet; DPIDR gives 2ba01477. `wraps` is whether TAR wraps at the end of a
+ * kilobyte, or goes on; `filler` is what a read gives whose value is unknown.
+ */
+void swd_target_new(struct swd_target *target, uint8_t wraps, uint32_t filler);
+
+/*
+ * One clock: `drive` is the host's bit, or SWD_RELEASED. Gives the bit on the line: the target's where it drives,
+ * else the host's, and 1 where nobody drives.
+ *
+ * An accepted read or write of DRW leaves a transfer pending, which swd_target_wants tells from then on. It may be
+ * made at any time up to the next OK or FAULT; a cycle that can't do without gives SWD_WANTS, and is to be
+ * tried again after swd_target_settle. So make a transfer as soon as it is wanted, or once SWD_WANTS is given; or,
+ * where the bus takes its time, hold the target until it is made.
+ *
+ * SWD_REFUSED: *target is no target, or `drive` is above 2.
+ */
+uint8_t swd_target_cycle(struct swd_target *target, uint8_t drive);
+
+/*
+ * The transfer that is pending, or SWD_NONE. Of a struct that is no target it means nothing.
+ */
+struct swd_transfer swd_target_wants(const struct swd_target *target);
+
+/*
+ * Tells what came of the transfer that is pending: SWD_VALUE with the word, SWD_WRITTEN, or SWD_BUS_FAULT. The
+ * target goes on as over a memory that answered so.
+ *
+ * Gives false: *target is no target; nothing is pending; or that isn't what comes of a read or of a write.
+ */
+bool swd_target_settle(struct swd_target *target, uint8_t kind, uint32_t word);
+
+/*
+ * Makes the target busy, or ends that: while it is, a request that may get WAIT gets it in place of OK, and a read of
+ * CTRL/STAT finds power late that wasn't seen to be there before.
+ *
+ * Gives false: *target is no target.
+ */
+bool swd_target_hold(struct swd_target *target, uint8_t wait);
+
 /* --------------------------------------------------------------------------------------- the decoder ---- */
 
 /*
@@ -242,7 +335,9 @@ struct swd_layout {
 	struct swd_access access;
 	struct swd_decoder decoder;
 	struct swd_item item;
-	uint64_t engine_size, cue_size, access_size, decoder_size, item_size, layout_size;
+	struct swd_target target;
+	struct swd_transfer transfer;
+	uint64_t engine_size, cue_size, access_size, decoder_size, item_size, target_size, transfer_size, layout_size;
 };
 
 void swd_layout(struct swd_layout *layout);

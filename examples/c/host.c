@@ -1,16 +1,16 @@
 /*
- * A host over a target in the same process, which goes clock by clock: it writes words and verifies them,
- * though one of the data phases arrives changed.
+ * A host over the library's target in the same process, clock by clock: it writes words and verifies them, though
+ * the bus behind the target takes its time, and one of the data phases arrives changed.
  */
 #include <stdio.h>
+#include "board.h"
 #include "line.h"
-#include "model.h"
 
-static struct model target;
+static struct board board;
 
 int line_clock(int drive)
 {
-	return model_clock(&target, drive);
+	return board_clock(&board, drive);
 }
 
 int main(void)
@@ -19,17 +19,18 @@ int main(void)
 	                                  0x2100481f, 0x60013101, 0xe7fce7fe, 0x40020000 };
 	size_t count = sizeof image / sizeof *image, i;
 	struct swd_engine engine;
-	model_new(&target);
-	/* Four words of the opening and TAR arrive, and then the data of the third write doesn't. */
-	target.spoils = 8;
+	board_new(&board);
+	board.takes = 20;
+	/* One bit of the data of a write. */
+	board.spoils = 800;
 	swd_engine_new(&engine, 8);
-	if (!line_program(&engine, MODEL_BASE, image, count))
+	if (!line_program(&engine, BOARD_BASE, image, count))
 		return 1;
 	for (i = 0; i < count; i++) {
-		if (target.words[i] != image[i])
+		if (board.words[i] != image[i])
 			return 1;
 	}
-	printf("%u words written and verified, %lu requests, %lu cycles\n", (unsigned)count,
-	       (unsigned long)engine.requests, (unsigned long)target.cycles);
+	printf("%u words written and verified, %lu transfers, %lu requests, %lu cycles\n", (unsigned)count,
+	       board.transfers, (unsigned long)engine.requests, (unsigned long)board.target.cycles);
 	return 0;
 }

@@ -4,8 +4,8 @@
  */
 #include <stdio.h>
 #include <string.h>
+#include "board.h"
 #include "line.h"
-#include "model.h"
 
 static int faults;
 
@@ -81,19 +81,58 @@ static void check_fields(void)
 	CHECK(item.request, 45);
 	CHECK(item.ack, 46);
 	CHECK(item.parity_ok, 47);
+	CHECK(target.cycles, 48);
+	CHECK(target.frame.line.bits, 49);
+	CHECK(target.frame.line.kind, 50);
+	CHECK(target.frame.line.reg, 51);
+	CHECK(target.frame.line.flips, 52);
+	CHECK(target.frame.line.flip, 53);
+	CHECK(target.frame.kind, 54);
+	CHECK(target.frame.place, 55);
+	CHECK(target.frame.byte, 56);
+	CHECK(target.frame.reply, 57);
+	CHECK(target.target.tar.word, 58);
+	CHECK(target.target.tar.known, 59);
+	CHECK(target.target.buffer.word, 60);
+	CHECK(target.target.buffer.known, 61);
+	CHECK(target.target.last_returned.word, 62);
+	CHECK(target.target.last_returned.known, 63);
+	CHECK(target.target.pending.word, 64);
+	CHECK(target.target.pending.kind, 65);
+	CHECK(target.target.filler, 66);
+	CHECK(target.target.wrap, 67);
+	CHECK(target.target.late, 68);
+	CHECK(target.target.reset, 69);
+	CHECK(target.target.sticky_error, 70);
+	CHECK(target.target.write_error, 71);
+	CHECK(target.target.read_ok, 72);
+	CHECK(target.target.debug_power, 73);
+	CHECK(target.target.system_power, 74);
+	CHECK(target.target.power_up, 75);
+	CHECK(target.target.apsel, 76);
+	CHECK(target.target.apbanksel, 77);
+	CHECK(target.target.dpbanksel, 78);
+	CHECK(target.target.increments, 79);
+	CHECK(target.target.csw_upper, 80);
+	CHECK(target.waits, 81);
+	CHECK(transfer.addr, 82);
+	CHECK(transfer.word, 83);
+	CHECK(transfer.kind, 84);
 	same("struct swd_engine", sizeof(struct swd_engine), layout.engine_size);
 	same("struct swd_cue", sizeof(struct swd_cue), layout.cue_size);
 	same("struct swd_access", sizeof(struct swd_access), layout.access_size);
 	same("struct swd_decoder", sizeof(struct swd_decoder), layout.decoder_size);
 	same("struct swd_item", sizeof(struct swd_item), layout.item_size);
+	same("struct swd_target", sizeof(struct swd_target), layout.target_size);
+	same("struct swd_transfer", sizeof(struct swd_transfer), layout.transfer_size);
 	same("struct swd_layout", sizeof(struct swd_layout), layout.layout_size);
 }
 
-static struct model target;
+static struct board board;
 
 int line_clock(int drive)
 {
-	return model_clock(&target, drive);
+	return board_clock(&board, drive);
 }
 
 /* An engine once its lead was sent. */
@@ -134,19 +173,59 @@ static void check_cues(void)
 
 static void check_outcomes(void)
 {
-	static const struct swd_access accesses[3] = { { MODEL_BASE, 1, 1 },
-	                                               { MODEL_BASE, 0, 0 },
+	static const struct swd_access accesses[3] = { { BOARD_BASE, 1, 1 },
+	                                               { BOARD_BASE, 0, 0 },
 	                                               { 0x30000000, 0, 0 } };
 	static const uint8_t kinds[3] = { SWD_WRITTEN, SWD_VALUE, SWD_BUS_FAULT };
 	struct swd_engine engine;
 	size_t i;
-	model_new(&target);
+	board_new(&board);
 	swd_engine_new(&engine, 8);
 	same("SWD_OPENED", line_drive(&engine).outcome.kind, SWD_OPENED);
 	for (i = 0; i < 3; i++) {
 		same("start", swd_engine_start(&engine, accesses, 3, i), 1);
 		same("outcome", line_drive(&engine).outcome.kind, kinds[i]);
 	}
+}
+
+/* Sends bits to the board's target, the first in time least significant. */
+static void send(uint64_t bits, unsigned count)
+{
+	for (; count > 0; count--, bits >>= 1)
+		board_clock(&board, (int)(bits & 1));
+}
+
+/* A write of the access port: its request and its data. */
+static void write_port(uint8_t request, uint32_t word)
+{
+	unsigned odd = 0, i;
+	for (i = 0; i < 32; i++)
+		odd ^= word >> i & 1;
+	send(request, 8);
+	send(0x1f, 5);
+	send(word | (uint64_t)odd << 32, 33);
+}
+
+static void check_target(void)
+{
+	struct swd_target *target = &board.target;
+	struct swd_transfer wanted;
+	/* TAR and DRW, and then RDBUFF's request, but for its last bit. */
+	write_port(0x8b, BOARD_BASE);
+	write_port(0xbb, 7);
+	wanted = swd_target_wants(target);
+	same("SWD_WRITE", wanted.kind, SWD_WRITE);
+	same("address", wanted.addr, BOARD_BASE);
+	same("word", wanted.word, 7);
+	send(0xbd, 7);
+	same("SWD_WANTS", swd_target_cycle(target, 1), SWD_WANTS);
+	same("refused settle", swd_target_settle(target, SWD_VALUE, 7), false);
+	same("SWD_WRITTEN", swd_target_settle(target, SWD_WRITTEN, 0), true);
+	same("SWD_NONE", swd_target_wants(target).kind, SWD_NONE);
+	same("bit", swd_target_cycle(target, 1), 1);
+	same("SWD_RELEASED", swd_target_cycle(target, SWD_RELEASED), 1);
+	same("OK", swd_target_cycle(target, SWD_RELEASED), 1);
+	same("SWD_REFUSED", swd_target_cycle(target, 3), SWD_REFUSED);
 }
 
 /* The one item that so many bits are, where they end a trace. */
@@ -203,6 +282,7 @@ int main(void)
 	check_fields();
 	check_cues();
 	check_outcomes();
+	check_target();
 	check_items();
 	if (!faults)
 		printf("swd.h is that of the archive\n");

@@ -1,12 +1,12 @@
 /*
  * A host over two functions of pins, ready to be filled in: `set` puts SWCLK and SWDIO to levels, or lets go
- * of SWDIO, and `get` gives the level of SWDIO. Here they drive the model of a target.
+ * of SWDIO, and `get` gives the level of SWDIO. Here they drive a board.
  */
 #include <stdio.h>
+#include "board.h"
 #include "line.h"
-#include "model.h"
 
-static struct model target;
+static struct board board;
 
 /* What the pins are at. */
 static struct {
@@ -22,9 +22,9 @@ static int level = 1;
  */
 static void set(int clock, int data, int drives)
 {
-	/* The model's cycle is the falling edge: a target changes its level there, and both look before the rising one. */
+	/* The board's cycle is the falling edge: a target changes its level there, and both look before the rising one. */
 	if (pins.clock && !clock)
-		level = model_clock(&target, drives ? data : RELEASED);
+		level = board_clock(&board, drives ? data : RELEASED);
 	pins.clock = clock;
 	pins.data = data;
 	pins.drives = drives;
@@ -51,9 +51,9 @@ int main(void)
 {
 	static const uint32_t words[] = { 0xdeadbeef, 0x00000001, 0xffffffff };
 	struct swd_engine engine;
-	model_new(&target);
+	board_new(&board);
 	swd_engine_new(&engine, 8);
-	if (!line_program(&engine, MODEL_BASE + 0x20, words, 3))
+	if (!line_program(&engine, BOARD_BASE + 0x20, words, 3))
 		return 1;
 	printf("3 words written and verified over pins, %lu requests\n", (unsigned long)engine.requests);
 	return 0;

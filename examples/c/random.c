@@ -156,12 +156,66 @@ static void try_decoder(void)
 	}
 }
 
+static struct swd_target make_target(void)
+{
+	struct swd_target target;
+	memset(&target, 0, sizeof target);
+	if (any() % 4)
+		swd_target_new(&target, (uint8_t)any(), (uint32_t)any());
+	else
+		fill(&target, sizeof target);
+	return target;
+}
+
+/* A bit of a line reset, of idle, or any. */
+static uint8_t drive(unsigned kind)
+{
+	return kind == 0 ? 1 : kind == 1 ? 0 : (uint8_t)(any() % 4);
+}
+
+static void settle(struct swd_target *target)
+{
+	struct swd_target before = *target;
+	struct swd_transfer wanted = swd_target_wants(target);
+	uint8_t kind = wanted.kind == SWD_READ ? (uint8_t)SWD_VALUE : (uint8_t)SWD_WRITTEN;
+	if (any() % 4 == 0)
+		kind = any() % 2 ? (uint8_t)SWD_BUS_FAULT : (uint8_t)any();
+	count(!swd_target_settle(target, kind, (uint32_t)any()), &before, target, sizeof *target);
+}
+
+static void try_target(void)
+{
+	/* DPIDR's request, and DRW's both ways. */
+	static const uint8_t requests[3] = { 0xa5, 0x9f, 0xbb };
+	struct swd_target target = make_target(), before;
+	unsigned kind = (unsigned)(any() % 3), i;
+	for (i = 0; i < 400; i++) {
+		uint8_t line, bit = drive(kind);
+		if (i > 60 && i % 50 < 8)
+			bit = requests[i / 50 % 3] >> i % 50 & 1;
+		before = target;
+		line = swd_target_cycle(&target, bit);
+		count(line >= SWD_WANTS, &before, &target, sizeof target);
+		if (line > SWD_WANTS && line != SWD_REFUSED)
+			fail("no bit");
+		if (line == SWD_WANTS || any() % 16 == 0)
+			settle(&target);
+		if (any() % 64 == 0) {
+			before = target;
+			count(!swd_target_hold(&target, (uint8_t)any()), &before, &target, sizeof target);
+		}
+		if (any() % 128 == 0)
+			spoil(&target, sizeof target);
+	}
+}
+
 int main(int argc, char **argv)
 {
 	unsigned long most = argc > 1 ? strtoul(argv[1], NULL, 10) : 10000000;
 	while (calls < most) {
 		try_engine();
 		try_decoder();
+		try_target();
 	}
 	printf("%lu calls, %lu gave nothing\n", calls, refused);
 	return 0;

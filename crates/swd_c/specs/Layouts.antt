@@ -1,10 +1,14 @@
 -- The structs that cross to C, with a number of its own in each field, in the order of the fields.
-use Rattle.std.specs.Prelude.{ℕ, ◌*◌}
+use Rattle.std.specs.Prelude.{ℕ, ◌+◌, ◌*◌}
 use Rattle.swd_host.specs.declared.fields.EngineFields.{EngineFields}
 use Rattle.swd_trace.specs.declared.decoder.fields.DecoderFields.{DecoderFields}
+use Rattle.swd_clocked.specs.declared.fields.ClockedFields.{ClockedFields}
+use Rattle.swd_clocked.specs.declared.fields.FrameFields.{FrameFields}
+use Rattle.swd_target.specs.declared.fields.ContentFields.{ContentFields}
 use Rattle.swd_c.specs.declared.cue.SwdCue.{SwdCue}
 use Rattle.swd_c.specs.declared.engine.SwdAccess.{SwdAccess}
 use Rattle.swd_c.specs.declared.item.SwdItem.{SwdItem}
+use Rattle.swd_c.specs.declared.target.SwdTransfer.{SwdTransfer}
 
 -- a number that is the same in each byte of four and of eight
 abbrev pub word : ℕ → ℕ
@@ -90,4 +94,61 @@ item_numbered = record {
   request = 45;
   ack = 46;
   parity_ok = 47;
+}
+
+-- the numbers from this one on
+abbrev pub content_numbered : ℕ → ContentFields
+content_numbered first = record { word = word first; known = first + 1 }
+
+abbrev pub frame_numbered : FrameFields
+frame_numbered = record {
+  line = record {
+    bits = double 49;
+    kind = 50;
+    register = 51;
+    flips = 52;
+    flip = 53;
+  };
+  kind = 54;
+  place = 55;
+  byte = 56;
+  reply = 57;
+}
+
+abbrev pub target_numbered : ClockedFields
+target_numbered = record {
+  cycles = double 48;
+  frame = frame_numbered;
+  target = record {
+    tar = content_numbered 58;
+    buffer = content_numbered 60;
+    last_returned = content_numbered 62;
+    pending = record {
+      word = word 64;
+      kind = 65;
+    };
+    filler = word 66;
+    wrap = 67;
+    late = 68;
+    reset = 69;
+    sticky_error = 70;
+    write_error = 71;
+    read_ok = 72;
+    debug_power = 73;
+    system_power = 74;
+    power_up = 75;
+    apsel = 76;
+    apbanksel = 77;
+    dpbanksel = 78;
+    increments = 79;
+    csw_upper = 80;
+  };
+  waits = 81;
+}
+
+abbrev pub transfer_numbered : SwdTransfer
+transfer_numbered = record {
+  addr = word 82;
+  word = word 83;
+  kind = 84;
 }

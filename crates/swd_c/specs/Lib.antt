@@ -2,4 +2,5 @@ pub mod Cues
 pub mod Engines
 pub mod Items
 pub mod Decoders
+pub mod Targets
 pub mod Layouts

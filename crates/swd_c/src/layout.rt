@@ -1,13 +1,17 @@
 //! What a header in C is checked by.
 ghost use Rattle.std.specs.Prelude.{◌≡◌, ◌<◌, ◌^◌};
-ghost use Rattle.swd_c.specs.Layouts.{access_numbered, cue_numbered, decoder_numbered, double, engine_numbered};
-ghost use Rattle.swd_c.specs.Layouts.{item_numbered, word};
+ghost use Rattle.swd_c.specs.Layouts.{access_numbered, content_numbered, cue_numbered, decoder_numbered, double};
+ghost use Rattle.swd_c.specs.Layouts.{engine_numbered, frame_numbered};
+ghost use Rattle.swd_c.specs.Layouts.{item_numbered, target_numbered, transfer_numbered, word};
 
 use crate::cue::SwdCue;
 use crate::engine::SwdAccess;
 use crate::item::SwdItem;
+use crate::target::SwdTransfer;
 use std::mem::size_of;
+use swd_clocked::{ClockedFields, FrameFields, LineFields};
 use swd_host::{EngineFields, JobFields, OutcomeFields, StateFields, TarFields, TaskFields};
+use swd_target::{ContentFields, PendingFields, TargetFields};
 use swd_trace::DecoderFields;
 
 /// The structs that cross to C, and their sizes in bytes.
@@ -19,11 +23,15 @@ pub struct SwdLayout {
     pub access: SwdAccess,
     pub decoder: DecoderFields,
     pub item: SwdItem,
+    pub target: ClockedFields,
+    pub transfer: SwdTransfer,
     pub engine_size: u64,
     pub cue_size: u64,
     pub access_size: u64,
     pub decoder_size: u64,
     pub item_size: u64,
+    pub target_size: u64,
+    pub transfer_size: u64,
     pub layout_size: u64,
 }
 
@@ -136,6 +144,78 @@ fn item_numbered() -> SwdItem
     }
 }
 
+fn content_numbered(first: u32) -> ContentFields
+    requires { first < 2 ^ 7 }
+    ensures { result ≡ content_numbered first }
+{
+    ContentFields {
+        word: word(first),
+        known: (first + 1) as u8,
+    }
+}
+
+fn frame_numbered() -> FrameFields
+    ensures { result ≡ frame_numbered }
+{
+    FrameFields {
+        line: LineFields {
+            bits: double(49),
+            kind: 50,
+            register: 51,
+            flips: 52,
+            flip: 53,
+        },
+        kind: 54,
+        place: 55,
+        byte: 56,
+        reply: 57,
+    }
+}
+
+fn target_numbered() -> ClockedFields
+    ensures { result ≡ target_numbered }
+{
+    ClockedFields {
+        cycles: double(48),
+        frame: frame_numbered(),
+        target: TargetFields {
+            tar: content_numbered(58),
+            buffer: content_numbered(60),
+            last_returned: content_numbered(62),
+            pending: PendingFields {
+                word: word(64),
+                kind: 65,
+            },
+            filler: word(66),
+            wrap: 67,
+            late: 68,
+            reset: 69,
+            sticky_error: 70,
+            write_error: 71,
+            read_ok: 72,
+            debug_power: 73,
+            system_power: 74,
+            power_up: 75,
+            apsel: 76,
+            apbanksel: 77,
+            dpbanksel: 78,
+            increments: 79,
+            csw_upper: 80,
+        },
+        waits: 81,
+    }
+}
+
+fn transfer_numbered() -> SwdTransfer
+    ensures { result ≡ transfer_numbered }
+{
+    SwdTransfer {
+        addr: word(82),
+        word: word(83),
+        kind: 84,
+    }
+}
+
 /// Puts a number of its own into each field, by which a header is checked, and the sizes.
 #[unsafe(no_mangle)]
 pub extern "C" fn swd_layout(layout: &mut SwdLayout)
@@ -144,6 +224,8 @@ pub extern "C" fn swd_layout(layout: &mut SwdLayout)
     ensures access { layout.new.access ≡ access_numbered }
     ensures decoder { layout.new.decoder ≡ decoder_numbered }
     ensures item { layout.new.item ≡ item_numbered }
+    ensures target { layout.new.target ≡ target_numbered }
+    ensures transfer { layout.new.transfer ≡ transfer_numbered }
 {
     *layout = SwdLayout {
         engine: engine_numbered(),
@@ -151,11 +233,15 @@ pub extern "C" fn swd_layout(layout: &mut SwdLayout)
         access: access_numbered(),
         decoder: decoder_numbered(),
         item: item_numbered(),
+        target: target_numbered(),
+        transfer: transfer_numbered(),
         engine_size: size_of::<EngineFields>() as u64,
         cue_size: size_of::<SwdCue>() as u64,
         access_size: size_of::<SwdAccess>() as u64,
         decoder_size: size_of::<DecoderFields>() as u64,
         item_size: size_of::<SwdItem>() as u64,
+        target_size: size_of::<ClockedFields>() as u64,
+        transfer_size: size_of::<SwdTransfer>() as u64,
         layout_size: size_of::<SwdLayout>() as u64,
     };
 }

@@ -10,6 +10,8 @@ mod decoder;
 mod engine;
 mod item;
 mod layout;
+mod nowhere;
+mod target;
 
 pub use cue::SwdCue;
 pub use decoder::{swd_decoder_due, swd_decoder_last, swd_decoder_new, swd_decoder_take};
@@ -19,6 +21,11 @@ pub use engine::{
 };
 pub use item::SwdItem;
 pub use layout::{SwdLayout, swd_layout};
+pub use nowhere::Nowhere;
+pub use target::{
+    SwdTransfer, swd_target_cycle, swd_target_hold, swd_target_new, swd_target_settle,
+    swd_target_wants,
+};
 
 #[cfg(test)]
 mod tests;

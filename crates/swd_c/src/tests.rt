@@ -4,3 +4,4 @@ mod driver;
 mod items;
 mod refusals;
 mod rows;
+mod target;

@@ -1,0 +1,74 @@
+use Rattle.std.proofs.Common.{◌≡◌, ◌==◌, Bool, true, false, Option, List, [], ◌∷◌, length, ap, refl, sym, subst, ◌∙◌, arith}
+use Rattle.swd_bits.specs.Bits.{bit}
+use Rattle.swd_port.specs.PlainMemory.{PlainMemory}
+use Rattle.swd_port.specs.declared.access.Transfer.{Transfer}
+use Rattle.swd_target.specs.Elsewhere.{IsUntouched}
+use Rattle.swd_target.specs.declared.quirks.Quirks.{Quirks}
+use Rattle.swd_clocked.specs.Clocks.{Clocks, memory_of, over}
+use Rattle.swd_clocked.proofs.ElsewhereLemmas.{clocks_over}
+use Rattle.swd_c.specs.Targets.{Numbers, drive_told, ready}
+use Rattle.swd_c.proofs.Targets.{numbers_over, ready_here, ready_there}
+use Rattle.swd_c.proofs.target.swd_target_cycle.Goals as goal
+
+nothing : (xs : List Transfer) → (length xs == 0) ≡ true → xs ≡ []
+nothing [] e = refl
+nothing (x ∷ xs) e = grind arith
+
+bit_back : (b : Bool) → (bit b == 1) ≡ b
+bit_back true = refl
+bit_back false = refl
+
+pub returns-then-not-is_empty-clause-wants : goal.returns-then-not-is_empty-clause-wants
+returns-then-not-is_empty-clause-wants c = λ yes.
+    let before = c.in-Some.now in
+    let after = c.cycle-line.new.self in
+    let line = c.cycle-line.result in
+    let clocks : Clocks (drive_told c.args.drive) line before after =
+    subst (λ (d : Option Bool). Clocks d line before after) c.driven.ensures c.cycle-line.ensures.clocks in (
+      before,
+      c.in-Some.ensures.same.0,
+      c.in-Some.ensures.same.1 ∙ c.window.ensures,
+      (
+        after,
+        line,
+        clocks,
+        λ none.
+            let empty : c.log.result.now ≡ [] = c.log.ensures ∙ (ap (λ (m : PlainMemory). m.log) c.memory.ensures ∙ none) in
+            let is : c.is_empty.result ≡ true = c.is_empty.ensures ∙ ap (λ (xs : List Transfer). length xs == 0) empty in
+            let not_is : c.is_empty.result ≡ false = c.if-not-is_empty.true in
+            cc,
+      ),
+    )
+
+pub returns-clause-clocks : goal.returns-clause-clocks
+returns-clause-clocks c = λ yes m there.
+    let before = c.in-Some.now in
+    let after = c.cycle-line.new.self in
+    let line = c.cycle-line.result in
+    let old = c.args.target.now in
+    let had = c.in-Some.ensures.same.0 in
+    let here : memory_of before ≡ ready old = c.in-Some.ensures.same.1 ∙ c.window.ensures in
+    let clocks : Clocks (drive_told c.args.drive) line before after =
+    subst (λ (d : Option Bool). Clocks d line before after) c.driven.ensures c.cycle-line.ensures.clocks in
+    let empty : (after.target.memory).log ≡ [] = ap (λ (m : PlainMemory). m.log) (sym c.memory.ensures) ∙ (sym c.log.ensures ∙ nothing c.log.result.now (sym c.is_empty.ensures ∙ c.if-not-is_empty.false)) in
+    let untouched : IsUntouched before.target after.target = record {
+      late = had.late;
+      ready = ready_here old before had here;
+      log = empty ∙ sym (ap (λ (m : PlainMemory). m.log) here);
+    } in
+    let has : Numbers c.fields.result after = record { has = sym c.fields.ensures; late = ap (λ (q : Quirks). q.late) c.cycle-line.ensures.quirks ∙ had.late } in
+    let told : (c.from.result == 1) ≡ line = ap (λ n. n == 1) c.from.ensures ∙ bit_back line in (
+      over m before,
+      numbers_over m old before had,
+      refl,
+      (
+        over m after,
+        numbers_over m c.fields.result after has,
+        refl,
+        record {
+          clocks = subst (λ (b : Bool). Clocks (drive_told c.args.drive) b (over m before) (over m after)) (sym told)
+              (clocks_over m (drive_told c.args.drive) line before after untouched (ready_there old before m had there) clocks);
+          cycles = c.cycle-line.ensures.cycles;
+        },
+      ),
+    )

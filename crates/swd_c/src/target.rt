@@ -1,0 +1,174 @@
+//! The clocked target in the caller's memory. It makes no transfer itself: the caller does, on a bus of its own.
+ghost use Rattle.std.specs.Prelude.{◌≡◌, ◌≢◌, ◌<◌, ◌≤◌, ◌==◌, true, false, IsTrue, IfSome, IsSome, MatchOption};
+ghost use Rattle.swd_port.specs.PlainMemory.{PlainMemory, plain_after};
+ghost use Rattle.swd_port.specs.declared.access.Access.{Access as AccessType};
+ghost use Rattle.swd_clocked.specs.declared.clocked.Clocked.{Clocked as ClockedType};
+ghost use Rattle.swd_clocked.specs.Clocks.{memory_of};
+ghost use Rattle.swd_c.specs.declared.nowhere.Nowhere.{Nowhere as NowhereType};
+ghost use Rattle.swd_c.specs.Targets.{Answered, CameOf, Cycled, HasNoTarget, HasTarget, Held, IsMade, IsReadyFor};
+ghost use Rattle.swd_c.specs.Targets.{Numbers, Settled, Transfers, drive_told, flag_told, ready, transfer_told, wanted};
+
+use crate::nowhere::Nowhere;
+use swd_clocked::{Clocked, ClockedFields};
+use swd_target::{Memory, PendingFields, Quirks};
+
+/// A transfer that a target wants, by `kind`: 0 none, 1 a read of the word at an address, 2 a write of a word there.
+/// What a kind doesn't name is 0.
+#[repr(C)]
+#[derive(Clone, Copy, Debug, PartialEq, Eq)]
+pub struct SwdTransfer {
+    /// The address, in bytes.
+    pub addr: u32,
+    /// The word that is written.
+    pub word: u32,
+    /// The kind.
+    pub kind: u8,
+}
+
+// The cycle wasn't made: the transfer that is pending has to take effect before.
+const WANTS: u8 = 2;
+
+const REFUSED: u8 = 255;
+
+// The target with these numbers, over a memory.
+fn target_over(fields: &ClockedFields, memory: Memory<Nowhere>) -> Option<Clocked<Nowhere>>
+    ensures found { (c : ClockedType NowhereType) → Numbers fields.now c → IsSome result }
+    ensures same { IfSome result (λ c. Numbers fields.now c × (memory_of c ≡ memory)) }
+{
+    if fields.target.late != 1 {
+        return None;
+    }
+    fields.clocked(memory)
+}
+
+/// Makes a target that had no line reset yet. DPIDR gives 2ba01477. `wraps` says whether TAR wraps at the end of a
+/// kilobyte, and `filler` is what a read gives whose value is unknown.
+#[unsafe(no_mangle)]
+pub extern "C" fn swd_target_new(target: &mut ClockedFields, wraps: u8, filler: u32)
+    ensures new { (m : PlainMemory) → HasTarget m target.new (IsMade (flag_told wraps) filler m) }
+{
+    let quirks = Quirks {
+        wrap: wraps != 0,
+        late: true,
+        filler,
+    };
+    *target = Clocked::<Nowhere>::new(Memory::window(0, None), quirks).fields();
+}
+
+/// While it is set, the target is busy: each request that may get WAIT gets it in place of OK. Tells whether the
+/// fields are those of a target; else they stay as they were.
+#[unsafe(no_mangle)]
+pub extern "C" fn swd_target_hold(target: &mut ClockedFields, wait: u8) -> bool
+    ensures holds { IsTrue result → (m : PlainMemory)
+        → HasTarget m target.old (λ c. HasTarget m target.new (Held (flag_told wait) c)) }
+    ensures found { (c : ClockedType NowhereType) → Numbers target.old c → result ≡ true }
+    ensures refused { HasNoTarget target.old → result ≡ false }
+    ensures same { result ≡ false → target.new ≡ target.old }
+{
+    let Some(mut now) = target_over(target, Memory::window(0, None)) else {
+        return false;
+    };
+    now.hold(wait != 0);
+    *target = now.fields();
+    true
+}
+
+/// The transfer that was accepted and has not taken effect yet.
+#[unsafe(no_mangle)]
+pub extern "C" fn swd_target_wants(target: &ClockedFields) -> SwdTransfer
+    ensures { result ≡ transfer_told (wanted target.now) }
+{
+    let addr = target.target.tar.word;
+    let pending = target.target.pending;
+    match pending.kind {
+        1 => SwdTransfer {
+            addr,
+            word: 0,
+            kind: 1,
+        },
+        2 => SwdTransfer {
+            addr,
+            word: pending.word,
+            kind: 2,
+        },
+        _ => SwdTransfer {
+            addr: 0,
+            word: 0,
+            kind: 0,
+        },
+    }
+}
+
+// A memory whose answer to the pending transfer this is: of `kind` 2 the word was read, of 3 it was written, of 4 there
+// was a bus error.
+fn answering(pending: PendingFields, addr: u32, kind: u8, word: u32) -> Option<Memory<Nowhere>>
+    ensures { MatchOption result
+        ((a : AccessType) (m : PlainMemory) → CameOf pending addr kind word a m → ⊥)
+        (λ m. (a : AccessType) × CameOf pending addr kind word a m) }
+{
+    match (pending.kind, kind) {
+        (1, 2) => Some(Memory::window(addr, Some(word))),
+        (2, 3) => Some(Memory::window(addr, Some(0))),
+        (1, 4) => Some(Memory::window(addr, None)),
+        (2, 4) => Some(Memory::window(addr, None)),
+        _ => None,
+    }
+}
+
+/// Tells what came of the transfer that is pending, by the kinds of outcomes: of `kind` 2 `word` was read, of 3 it was
+/// written, of 4 there was a bus error. It takes effect in the target. Tells whether it did: not where the fields
+/// are those of no target, nothing is pending, or this can't come of it; then they stay as they were.
+#[unsafe(no_mangle)]
+pub extern "C" fn swd_target_settle(target: &mut ClockedFields, kind: u8, word: u32) -> bool
+    ensures settles { IsTrue result → (a : AccessType) (m : PlainMemory) → Answered target.old kind word a m
+        → HasTarget m target.old (λ c. HasTarget (plain_after a m) target.new (Settled c)) }
+    ensures found { (c : ClockedType NowhereType) (a : AccessType) (m : PlainMemory)
+        → Numbers target.old c → Answered target.old kind word a m → result ≡ true }
+    ensures refused { ((c : ClockedType NowhereType) (a : AccessType) (m : PlainMemory)
+        → Numbers target.old c → Answered target.old kind word a m → ⊥) → result ≡ false }
+    ensures same { result ≡ false → target.new ≡ target.old }
+{
+    let Some(memory) = answering(target.target.pending, target.target.tar.word, kind, word) else {
+        return false;
+    };
+    let Some(mut now) = target_over(target, memory) else {
+        return false;
+    };
+    now.settle();
+    *target = now.fields();
+    true
+}
+
+// What the host drives: a bit, or nothing.
+fn driven(drive: u8) -> Option<bool>
+    ensures { result ≡ drive_told drive }
+{
+    if drive == 2 { None } else { Some(drive == 1) }
+}
+
+/// One clock: `drive` is the bit that the host drives, or 2 where it leaves the line alone. Gives the bit on the line. It
+/// gives 2 where the transfer that is pending has to take effect before, and 255 where the fields are those of no
+/// target or `drive` is above 2; then they stay as they were.
+#[unsafe(no_mangle)]
+pub extern "C" fn swd_target_cycle(target: &mut ClockedFields, drive: u8) -> u8
+    ensures clocks { result < 2 → (m : PlainMemory) → IsReadyFor target.old m
+        → HasTarget m target.old (λ c. HasTarget m target.new (Cycled (drive_told drive) (result == 1) c)) }
+    ensures wants { result ≡ 2 → HasTarget (ready target.old) target.old (Transfers (drive_told drive)) }
+    ensures found { (c : ClockedType NowhereType) → Numbers target.old c → drive < 3 → result < 3 }
+    ensures refused { HasNoTarget target.old → result ≡ 255 }
+    ensures driven { 2 < drive → result ≡ 255 }
+    ensures same { 2 ≤ result → target.new ≡ target.old }
+{
+    if drive > 2 {
+        return REFUSED;
+    }
+    let Some(mut now) = target_over(target, Memory::window(target.target.tar.word, Some(0))) else {
+        return REFUSED;
+    };
+    let line = now.cycle(driven(drive));
+    if !now.memory().log().is_empty() {
+        return WANTS;
+    }
+    *target = now.fields();
+    u8::from(line)
+}
