@@ -37,6 +37,14 @@ access_numbered (Some (Writes word)) at = refl
 pub wanted_is : (fields : ClockedFields) (c : Clocked Nowhere) → Numbers fields c → wanted fields ≡ access_of c.target.pending c.target.tar.word
 wanted_is fields c n = ap wanted (sym n.has) ∙ access_numbered c.target.pending c.target.tar.word
 
+-- where its numbers tell none, none is pending
+none_of : (p : Option Drw) (at : ℕ) → access_of p at ≡ None → p ≡ None
+none_of None at e = refl
+none_of (Some drw) at e = cc
+
+pub none_pending : (fields : ClockedFields) (c : Clocked Nowhere) → Numbers fields c → wanted fields ≡ None → c.target.pending ≡ None
+none_pending fields c n e = none_of c.target.pending c.target.tar.word (sym (wanted_is fields c n) ∙ e)
+
 tar_is : (fields : ClockedFields) (c : Clocked Nowhere) → Numbers fields c → c.target.tar.word ≡ fields.target.tar.word
 tar_is fields c n = ap (λ (f : ClockedFields). f.target.tar.word) n.has
 

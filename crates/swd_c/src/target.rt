@@ -151,8 +151,9 @@ fn driven(drive: u8) -> Option<bool>
 /// target or `drive` is above 2; then they stay as they were.
 #[unsafe(no_mangle)]
 pub extern "C" fn swd_target_cycle(target: &mut ClockedFields, drive: u8) -> u8
-    ensures clocks { result < 2 → (m : PlainMemory) → IsReadyFor target.old m
+    ensures clocks { result < 2 → (m : PlainMemory) → (target.old.waits ≡ 1 → IsReadyFor target.old m)
         → HasTarget m target.old (λ c. HasTarget m target.new (Cycled (drive_told drive) (result == 1) c)) }
+    ensures pending { result ≡ 2 → wanted target.old ≢ None }
     ensures wants { result ≡ 2 → HasTarget (ready target.old) target.old (Transfers (drive_told drive)) }
     ensures found { (c : ClockedType NowhereType) → Numbers target.old c → drive < 3 → result < 3 }
     ensures refused { HasNoTarget target.old → result ≡ 255 }

@@ -10,7 +10,7 @@ use Rattle.swd_port.specs.Completion.{memory_after}
 use Rattle.swd_port.specs.Moving.{Arrival}
 use Rattle.swd_target.specs.declared.target.Target.{Target}
 use Rattle.swd_target.specs.Requests.{Answers, DataComes}
-use Rattle.swd_target.specs.Elsewhere.{IsReady, IsUntouched}
+use Rattle.swd_target.specs.Elsewhere.{IsReadyIf, IsUntouched}
 use Rattle.swd_target.specs.Elsewhere as target
 use Rattle.swd_target.proofs.ElsewhereLemmas.{IsAlike, completes_over, placed}
 use Rattle.swd_clocked.specs.declared.clocked.Clocked.{Clocked}
@@ -25,20 +25,20 @@ moved : {A : Type 0} (m : PlainMemory) (f : Frame) (s : Target A) (w : Bool) (t 
 moved m f s w t x = record { frame = x.frame; target = ap (target.over m) x.target; waits = x.waits }
 
 answered : {A : Type 0} (m : PlainMemory) (w : Bool) (q : Request) (s : Target A) (reply : Reply) (phase : Line) (t : Target A)
-    → IsUntouched s t → IsReady m s → Answers w q s reply phase t → Answers w q (target.over m s) reply phase (target.over m t)
+    → IsUntouched s t → IsReadyIf w m s → Answers w q s reply phase t → Answers w q (target.over m s) reply phase (target.over m t)
 answered m w q s reply phase t u ready x = record { under = x.elsewhere m u ready; elsewhere = λ n v there. x.elsewhere n u there }
 
-requested : {A : Type 0} (m : PlainMemory) (q : Request) (s : Target A) (w : Bool) (t : Clocked A) → IsUntouched s t.target → IsReady m s
+requested : {A : Type 0} (m : PlainMemory) (q : Request) (s : Target A) (w : Bool) (t : Clocked A) → IsUntouched s t.target → IsReadyIf w m s
     → Requested q s w t → Requested q (target.over m s) w (over m t)
 requested m q s w t u ready x =
     record { reply = x.reply; phase = x.phase; answers = answered m w q s x.reply x.phase t.target u ready x.answers; frame = x.frame; waits = x.waits }
 
-byte : {A : Type 0} (m : PlainMemory) (n : ℕ) (s : Target A) (w : Bool) (t : Clocked A) → IsUntouched s t.target → IsReady m s
+byte : {A : Type 0} (m : PlainMemory) (n : ℕ) (s : Target A) (w : Bool) (t : Clocked A) → IsUntouched s t.target → IsReadyIf w m s
     → ByteCame n s w t → ByteCame n (target.over m s) w (over m t)
 byte m n s w t u ready x =
     record { whole = λ q e. requested m q s w t u ready (x.whole q e); broken = λ none. moved m _ s w t (x.broken none) }
 
-asks : {A : Type 0} (m : PlainMemory) (bits count : ℕ) (b : Bool) (s : Target A) (w : Bool) (t : Clocked A) → IsUntouched s t.target → IsReady m s
+asks : {A : Type 0} (m : PlainMemory) (bits count : ℕ) (b : Bool) (s : Target A) (w : Bool) (t : Clocked A) → IsUntouched s t.target → IsReadyIf w m s
     → AsksBit bits count b s w t → AsksBit bits count b (target.over m s) w (over m t)
 asks m bits count b s w t u ready x = record {
   quiet = λ e f. moved m _ s w t (x.quiet e f);
@@ -61,13 +61,13 @@ lost m ones b s w t x = record {
   whole = λ e f. reset m s w t (x.whole e f);
 }
 
-heard : {A : Type 0} (m : PlainMemory) (f : Frame) (b : Bool) (s : Target A) (w : Bool) (t : Clocked A) → IsUntouched s t.target → IsReady m s
+heard : {A : Type 0} (m : PlainMemory) (f : Frame) (b : Bool) (s : Target A) (w : Bool) (t : Clocked A) → IsUntouched s t.target → IsReadyIf w m s
     → HeardBit f b s w t → HeardBit f b (target.over m s) w (over m t)
 heard m (Asks bits count) b s w t u ready x = asks m bits count b s w t u ready x
 heard m (Lost ones) b s w t u ready x = lost m ones b s w t x
 heard m f b s w t u ready x = tt
 
-switches : {A : Type 0} (m : PlainMemory) (place : ℕ) (b : Bool) (s : Target A) (w : Bool) (t : Clocked A) → IsUntouched s t.target → IsReady m s
+switches : {A : Type 0} (m : PlainMemory) (place : ℕ) (b : Bool) (s : Target A) (w : Bool) (t : Clocked A) → IsUntouched s t.target → IsReadyIf w m s
     → SwitchesBit place b s w t → SwitchesBit place b (target.over m s) w (over m t)
 switches m place b s w t u ready x = record {
   fits = λ e. moved m _ s w t (x.fits e);
@@ -103,7 +103,7 @@ awaits m r bits place b s w t late x = record {
   whole = λ e. data_came m r _ s w t late (x.whole e);
 }
 
-cycles : {A : Type 0} (m : PlainMemory) (f : Frame) (b answer : Bool) (s : Target A) (w : Bool) (t : Clocked A) → IsUntouched s t.target → IsReady m s
+cycles : {A : Type 0} (m : PlainMemory) (f : Frame) (b answer : Bool) (s : Target A) (w : Bool) (t : Clocked A) → IsUntouched s t.target → IsReadyIf w m s
     → Cycles f b answer s w t → Cycles f b answer (target.over m s) w (over m t)
 cycles m (Asks bits count) b answer s w t u ready x = (x.0, asks m bits count b s w t u ready x.1)
 cycles m (Lost ones) b answer s w t u ready x = (x.0, lost m ones b s w t x.1)
@@ -114,7 +114,7 @@ cycles m (Drives bits left) b answer s w t u ready x = drives m bits left b answ
 cycles m (Awaits r bits place) b answer s w t u ready x = (x.0, awaits m r bits place b s w t u.late x.1)
 cycles m Passes b answer s w t u ready x = (x.0, moved m _ s w t x.1)
 
-pub clocks_over : {A : Type 0} (m : PlainMemory) (drive : Option Bool) (answer : Bool) (s t : Clocked A) → IsUntouched s.target t.target → IsReady m s.target
+pub clocks_over : {A : Type 0} (m : PlainMemory) (drive : Option Bool) (answer : Bool) (s t : Clocked A) → IsUntouched s.target t.target → IsReadyIf s.waits m s.target
     → Clocks drive answer s t → Clocks drive answer (over m s) (over m t)
 clocks_over m drive answer s t u ready x = cycles m s.frame (unwrap_or drive true) answer s.target s.waits t u ready x
 

@@ -1,5 +1,5 @@
 //! A simulated target, clock by clock.
-ghost use Rattle.std.specs.Prelude.{◌≡◌, ◌<◌, ◌^◌, ◌+◌, is_some, false};
+ghost use Rattle.std.specs.Prelude.{◌≡◌, ◌<◌, ◌^◌, ◌+◌, is_some, true, false};
 ghost use Rattle.swd_port.specs.Port.{made_target};
 ghost use Rattle.swd_target.specs.Simulations.{made_with};
 ghost use Rattle.swd_clocked.specs.Frames.{frame_bits, frame_place, frame_limit, idle, counted, contends, reply_bit, unswitched};
@@ -42,7 +42,8 @@ pub struct Clocked<A: Allocator = Global> {
 }
 
 impl<A: Allocator> Clocked<A> {
-    ghost use Rattle.swd_clocked.specs.Clocks.{state_of, simulation_of, frame_in, is_held, cycles_of, contended_of, quirks_of};
+    ghost use Rattle.swd_clocked.specs.Clocks.{state_of, simulation_of, frame_in, is_held, cycles_of, contended_of};
+    ghost use Rattle.swd_clocked.specs.Clocks.{memory_of, quirks_of};
     ghost use Rattle.swd_clocked.specs.Clocks.{Clocks, Holds, Settles};
     ghost use Rattle.swd_clocked.specs.Cycles.{Moved, Requested, ByteCame, AsksBit, LostBit, HeardBit, DataCame};
     ghost use Rattle.swd_clocked.specs.Cycles.{Cycles, AwaitsBit, DrivesBit, RepliesBit, SwitchesBit};
@@ -109,6 +110,8 @@ impl<A: Allocator> Clocked<A> {
         ensures cycles { cycles_of self.new ≡ counted 1 (cycles_of self.old) }
         ensures contended { contended_of self.new ≡ contended_of self.old + contends (frame_in self.old) (is_some drive) }
         ensures quirks { quirks_of self.new ≡ quirks_of self.old }
+        ensures quiet { (quirks_of self.old).late ≡ true → (state_of self.old).pending ≡ None
+            → memory_of self.new ≡ memory_of self.old }
     {
         self.clock(drive.unwrap_or(true), drive.is_some())
     }
@@ -120,6 +123,8 @@ impl<A: Allocator> Clocked<A> {
         ensures cycles { cycles_of self.new ≡ counted 1 (cycles_of self.old) }
         ensures contended { contended_of self.new ≡ contended_of self.old + contends (frame_in self.old) driven }
         ensures quirks { quirks_of self.new ≡ quirks_of self.old }
+        ensures quiet { (quirks_of self.old).late ≡ true → (state_of self.old).pending ≡ None
+            → memory_of self.new ≡ memory_of self.old }
     {
         self.cycles = self.cycles.saturating_add(1);
         self.frame.note(&mut self.contended, driven);
@@ -172,6 +177,8 @@ impl<A: Allocator> Clocked<A> {
         ensures cycles { self.new.cycles ≡ self.old.cycles }
         ensures contended { contended_of self.new ≡ contended_of self.old }
         ensures quirks { quirks_of self.new ≡ quirks_of self.old }
+        ensures quiet { (quirks_of self.old).late ≡ true → (state_of self.old).pending ≡ None
+            → memory_of self.new ≡ memory_of self.old }
     {
         if count == 0 && !bit {
             self.frame = Frame::IDLE;
@@ -191,6 +198,8 @@ impl<A: Allocator> Clocked<A> {
         ensures cycles { self.new.cycles ≡ self.old.cycles }
         ensures contended { contended_of self.new ≡ contended_of self.old }
         ensures quirks { quirks_of self.new ≡ quirks_of self.old }
+        ensures quiet { (quirks_of self.old).late ≡ true → (state_of self.old).pending ≡ None
+            → memory_of self.new ≡ memory_of self.old }
     {
         match Request::of(bits) {
             Some(request) => self.request(request),
@@ -203,6 +212,8 @@ impl<A: Allocator> Clocked<A> {
         ensures cycles { self.new.cycles ≡ self.old.cycles }
         ensures contended { contended_of self.new ≡ contended_of self.old }
         ensures quirks { quirks_of self.new ≡ quirks_of self.old }
+        ensures quiet { (quirks_of self.old).late ≡ true → (state_of self.old).pending ≡ None
+            → memory_of self.new ≡ memory_of self.old }
     {
         let (reply, phase) = self.target.request(self.waits, request);
         self.frame = Frame::replied(reply, phase);
@@ -214,6 +225,8 @@ impl<A: Allocator> Clocked<A> {
         ensures cycles { self.new.cycles ≡ self.old.cycles }
         ensures contended { contended_of self.new ≡ contended_of self.old }
         ensures quirks { quirks_of self.new ≡ quirks_of self.old }
+        ensures quiet { (quirks_of self.old).late ≡ true → (state_of self.old).pending ≡ None
+            → memory_of self.new ≡ memory_of self.old }
     {
         if !bit {
             self.frame = Frame::Lost(0);
@@ -231,6 +244,8 @@ impl<A: Allocator> Clocked<A> {
         ensures cycles { self.new.cycles ≡ self.old.cycles }
         ensures contended { contended_of self.new ≡ contended_of self.old }
         ensures quirks { quirks_of self.new ≡ quirks_of self.old }
+        ensures quiet { (quirks_of self.old).late ≡ true → (state_of self.old).pending ≡ None
+            → memory_of self.new ≡ memory_of self.old }
     {
         if bit == (SWITCH >> place & 1 == 1) {
             self.frame = if place == 15 {
@@ -250,6 +265,8 @@ impl<A: Allocator> Clocked<A> {
         ensures cycles { self.new.cycles ≡ self.old.cycles }
         ensures contended { contended_of self.new ≡ contended_of self.old }
         ensures quirks { quirks_of self.new ≡ quirks_of self.old }
+        ensures quiet { (quirks_of self.old).late ≡ true → (state_of self.old).pending ≡ None
+            → memory_of self.new ≡ memory_of self.old }
     {
         match place {
             1 => self.ask_bit(255, 0, bit),
@@ -277,6 +294,8 @@ impl<A: Allocator> Clocked<A> {
         ensures cycles { self.new.cycles ≡ self.old.cycles }
         ensures contended { contended_of self.new ≡ contended_of self.old }
         ensures quirks { quirks_of self.new ≡ quirks_of self.old }
+        ensures quiet { (quirks_of self.old).late ≡ true → (state_of self.old).pending ≡ None
+            → memory_of self.new ≡ memory_of self.old }
     {
         self.frame = if place == 3 {
             Frame::after_reply(line)
@@ -297,6 +316,8 @@ impl<A: Allocator> Clocked<A> {
         ensures cycles { self.new.cycles ≡ self.old.cycles }
         ensures contended { contended_of self.new ≡ contended_of self.old }
         ensures quirks { quirks_of self.new ≡ quirks_of self.old }
+        ensures quiet { (quirks_of self.old).late ≡ true → (state_of self.old).pending ≡ None
+            → memory_of self.new ≡ memory_of self.old }
     {
         if left == 0 {
             self.frame = Frame::IDLE;
@@ -313,6 +334,8 @@ impl<A: Allocator> Clocked<A> {
         ensures cycles { self.new.cycles ≡ self.old.cycles }
         ensures contended { contended_of self.new ≡ contended_of self.old }
         ensures quirks { quirks_of self.new ≡ quirks_of self.old }
+        ensures quiet { (quirks_of self.old).late ≡ true → (state_of self.old).pending ≡ None
+            → memory_of self.new ≡ memory_of self.old }
     {
         if place == 0 {
             self.frame = Frame::Awaits(register, bits, 1);
@@ -333,6 +356,8 @@ impl<A: Allocator> Clocked<A> {
         ensures cycles { self.new.cycles ≡ self.old.cycles }
         ensures contended { contended_of self.new ≡ contended_of self.old }
         ensures quirks { quirks_of self.new ≡ quirks_of self.old }
+        ensures quiet { (quirks_of self.old).late ≡ true → (state_of self.old).pending ≡ None
+            → memory_of self.new ≡ memory_of self.old }
     {
         self.frame = Frame::IDLE;
         self.target.arrive(register, bits);

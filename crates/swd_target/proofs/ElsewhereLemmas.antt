@@ -29,7 +29,7 @@ use Rattle.swd_target.specs.Flips.{line_under}
 use Rattle.swd_target.specs.Simulations.{Simulation, accepted, accepted_after, arrived, choice_in, filled, is_owed, stepped, transferred}
 use Rattle.swd_target.specs.Targets.{Steps, answer_at, choice_for, is_settling, reply_when, settled_when, simulation, stand_in, state_of}
 use Rattle.swd_target.specs.Requests.{AnswersUnder}
-use Rattle.swd_target.specs.Elsewhere.{IsReady, Stays, over}
+use Rattle.swd_target.specs.Elsewhere.{IsReady, IsReadyIf, Stays, over}
 use Rattle.swd_target.proofs.AskLemmas.{answers_under}
 use Rattle.swd_target.proofs.TargetLemmas.{at_rest, owed, settled_at_rest}
 
@@ -88,12 +88,20 @@ decided : {A : Type 0} (waits : Bool) (r : Register) (ap_ : Bool) (t : Target A)
     → IsSettled (reply_when waits r (answer_at r ap_ (state_of t))) r t.pending → t.pending ≡ None
 decided waits r ap_ t e h = decided_by _ waits r t.reset t.sticky_error t.write_error (is_unpowered ap_ (has_power (state_of t))) t.pending refl e h
 
+-- whether it would fail tells where WAIT is asked for alone
+settling_alike : (waits : Bool) (r : Register) (a : Reply) (failing : Bool) → (waits ≡ true → failing ≡ false) → is_settling waits r a failing ≡ is_settling waits r a false
+settling_alike true r a failing h = ap (is_settling true r a) (h refl)
+settling_alike false r Okay failing h = refl
+settling_alike false r Waits failing h = refl
+settling_alike false r Faults failing h = refl
+settling_alike false r Silent failing h = refl
+
 -- so nothing settles over another memory either
-settles_over : {A : Type 0} (waits : Bool) (r : Register) (ap_ : Bool) (t : Target A) → IsReady t.memory t
+settles_over : {A : Type 0} (waits : Bool) (r : Register) (ap_ : Bool) (t : Target A) → IsReadyIf waits t.memory t
     → IsSettled (reply_when waits r (answer_at r ap_ (state_of t))) r t.pending → simulation t ≡ settled_when waits r ap_ (simulation t)
 settles_over waits r ap_ t ready settled =
     let a = answer_at r ap_ (state_of t) in
-    let owes : is_owed r (reply_when waits r (answer_at r ap_ (transferred (simulation t)).state)) ≡ is_settling waits r a false = owed waits r ap_ t ∙ ap (λ b. is_settling waits r a b) ready in
+    let owes : is_owed r (reply_when waits r (answer_at r ap_ (transferred (simulation t)).state)) ≡ is_settling waits r a false = owed waits r ap_ t ∙ settling_alike waits r a (fails t.pending t.tar.word t.memory) ready in
     elim (true_or_false (is_settling waits r a false)) [
       | inl e ↦ settled_at_rest waits r ap_ t (decided waits r ap_ t e settled)
       | inr e ↦ ap (λ b. if b then transferred (simulation t) else simulation t) (sym (owes ∙ e))
@@ -118,7 +126,7 @@ exact_over m waits Faults r ap_ s = refl
 exact_over m waits Silent r ap_ s = refl
 
 -- nor does it change the quirks
-memory_kept : (waits : Bool) (reply : Reply) (r : Register) (ap_ : Bool) (x : State) → (target_after waits reply r ap_ x).memory ≡ x.memory
+pub memory_kept : (waits : Bool) (reply : Reply) (r : Register) (ap_ : Bool) (x : State) → (target_after waits reply r ap_ x).memory ≡ x.memory
 memory_kept waits Okay r ap_ x = refl
 memory_kept waits Waits r ap_ x = refl
 memory_kept waits Faults r ap_ x = refl
@@ -178,7 +186,7 @@ exact_placed m s t e = ap (placed m) e
 -- a request over another memory, from the parts that it has over its own
 pub answers_over : {A : Type 0} (m : PlainMemory) (mark : Mark) (waits : Bool) (q : Request) (s a b : Target A) (r : Register) (reply : Reply) (phase : Line)
     → IsMark mark → is_deaf mark ≡ false → is_wait mark ≡ waits → register s.select q ≡ r → register a.select q ≡ r
-    → Stays s a → IsReady m s → s.quirks.late ≡ true
+    → Stays s a → IsReadyIf waits m s → s.quirks.late ≡ true
     → reply ≡ reply_when waits r (answer_at r q.ap (state_of a)) → IsSettled reply r a.pending
     → IsWordRead reply q.read (value_in waits r (stand_in r a) (state_of a))
     → phase ≡ line_after reply (phase_after q.read r None (value_in waits r (stand_in r a) (state_of a))) Idle

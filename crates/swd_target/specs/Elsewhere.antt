@@ -1,5 +1,5 @@
 -- A target over another memory than its own. All of it is this project's choice.
-use Rattle.std.specs.Prelude.{◌≡◌, true, false}
+use Rattle.std.specs.Prelude.{◌≡◌, Bool, true, false}
 use Rattle.swd_port.specs.PlainMemory.{PlainMemory}
 use Rattle.swd_port.specs.Completion.{fails}
 use Rattle.swd_target.specs.declared.target.Target.{Target}
@@ -12,6 +12,10 @@ over m t = record t { memory = m }
 -- the pending transfer, if any, would succeed at a memory
 abbrev pub IsReady : {A : Type 0} → PlainMemory → Target A → Type 0
 IsReady m t = fails t.pending t.tar.word m ≡ false
+
+-- the same where WAIT is asked for, and so is answered before anyone knows
+abbrev pub IsReadyIf : {A : Type 0} → Bool → PlainMemory → Target A → Type 0
+IsReadyIf waits m t = waits ≡ true → IsReady m t
 
 -- Transfers take effect late, and none did: the log is the same, though the pending one would have succeeded.
 pub record IsUntouched {A : Type 0} (s t : Target A) : Type 0 where

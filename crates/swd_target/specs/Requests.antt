@@ -14,7 +14,7 @@ use Rattle.swd_port.specs.Moving.{Arrival, after_bits}
 use Rattle.swd_target.specs.declared.target.Target.{Target}
 use Rattle.swd_target.specs.Simulations.{asked, reply_to, phase_to, link_after, is_done, arrived}
 use Rattle.swd_target.specs.Targets.{state_of, simulation}
-use Rattle.swd_target.specs.Elsewhere.{IsReady, IsUntouched, over}
+use Rattle.swd_target.specs.Elsewhere.{IsReadyIf, IsUntouched, over}
 use Rattle.swd_target.specs.Flips.{line_under}
 
 -- the state of the port machine, from that of its target
@@ -46,11 +46,12 @@ AnswersEach waits q s reply phase t = (mark : Mark) → IsMark mark → is_deaf 
     → AnswersUnder mark q s reply (line_under mark phase) t
 
 -- A request that the target sees, where WAIT is asked for or not: the same under each mark that asks for no more. Where
--- no transfer took effect, it is the same over every memory in which the pending one would succeed.
+-- no transfer took effect, it is the same over every memory, where WAIT is asked for over every one in which the
+-- pending transfer would succeed.
 pub record Answers {A : Type 0} (waits : Bool) (q : Request) (s : Target A) (reply : Reply) (phase : Line)
     (t : Target A) : Type 0 where
   pub under : AnswersEach waits q s reply phase t
-  pub elsewhere : (m : PlainMemory) → IsUntouched s t → IsReady m s
+  pub elsewhere : (m : PlainMemory) → IsUntouched s t → IsReadyIf waits m s
       → AnswersEach waits q (over m s) reply phase (over m t)
 
 -- The data of a write: a step of the port machine, and exactly the step that the quirks choose. Nothing takes effect with

@@ -23,6 +23,8 @@ impl<A: Allocator> Target<A> {
     pub fn request(&mut self, waits: bool, request: Request) -> (Reply, Line)
         ensures answers { Answers waits request self.old result.0 result.1 self.new }
         ensures quirks { (simulation self.new).quirks ≡ (simulation self.old).quirks }
+        ensures quiet { (simulation self.old).quirks.late ≡ true → (state_of self.old).pending ≡ None
+            → (state_of self.new).memory ≡ (state_of self.old).memory }
         ensures driven { bits_driven result.1 < 2 ^ 33 }
     {
         let register = register_named(self.select, request);
@@ -76,6 +78,7 @@ impl<A: Allocator> Target<A> {
         requires { bits < 2 ^ 33 }
         ensures comes { DataComes (arrival_of register (word_in bits)) self.old self.new }
         ensures quirks { (simulation self.new).quirks ≡ (simulation self.old).quirks }
+        ensures quiet { (simulation self.old).quirks.late ≡ true → (state_of self.new).memory ≡ (state_of self.old).memory }
     {
         match phase_word(bits) {
             Some(word) => {

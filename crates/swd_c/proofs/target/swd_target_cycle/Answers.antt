@@ -4,10 +4,11 @@ use Rattle.swd_port.specs.PlainMemory.{PlainMemory}
 use Rattle.swd_port.specs.declared.access.Transfer.{Transfer}
 use Rattle.swd_target.specs.Elsewhere.{IsUntouched}
 use Rattle.swd_target.specs.declared.quirks.Quirks.{Quirks}
+use Rattle.swd_clocked.specs.declared.fields.ClockedFields.{ClockedFields}
 use Rattle.swd_clocked.specs.Clocks.{Clocks, memory_of, over}
 use Rattle.swd_clocked.proofs.ElsewhereLemmas.{clocks_over}
 use Rattle.swd_c.specs.Targets.{Numbers, drive_told, ready}
-use Rattle.swd_c.proofs.Targets.{numbers_over, ready_here, ready_there}
+use Rattle.swd_c.proofs.Targets.{none_pending, numbers_over, ready_here, ready_there}
 use Rattle.swd_c.proofs.target.swd_target_cycle.Goals as goal
 
 nothing : (xs : List Transfer) → (length xs == 0) ≡ true → xs ≡ []
@@ -67,8 +68,20 @@ returns-clause-clocks c = λ yes m there.
         refl,
         record {
           clocks = subst (λ (b : Bool). Clocks (drive_told c.args.drive) b (over m before) (over m after)) (sym told)
-              (clocks_over m (drive_told c.args.drive) line before after untouched (ready_there old before m had there) clocks);
+              (clocks_over m (drive_told c.args.drive) line before after untouched (λ held. ready_there old before m had (there (ap (λ (f : ClockedFields). f.waits) (sym had.has) ∙ ap bit held))) clocks);
           cycles = c.cycle-line.ensures.cycles;
         },
       ),
     )
+
+pub returns-then-not-is_empty-clause-pending : goal.returns-then-not-is_empty-clause-pending
+returns-then-not-is_empty-clause-pending c = λ yes none.
+    let before = c.in-Some.now in
+    let old = c.args.target.now in
+    let had = c.in-Some.ensures.same.0 in
+    let here : memory_of before ≡ ready old = c.in-Some.ensures.same.1 ∙ c.window.ensures in
+    let still = c.cycle-line.ensures.quiet had.late (none_pending old before had none) in
+    let empty : c.log.result.now ≡ [] = c.log.ensures ∙ ap (λ (m : PlainMemory). m.log) (c.memory.ensures ∙ (still ∙ here)) in
+    let is : c.is_empty.result ≡ true = c.is_empty.ensures ∙ ap (λ (xs : List Transfer). length xs == 0) empty in
+    let not_is : c.is_empty.result ≡ false = c.if-not-is_empty.true in
+    cc

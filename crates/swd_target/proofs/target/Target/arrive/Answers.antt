@@ -45,3 +45,8 @@ pub returns-in-Some-clause-quirks : goal.returns-in-Some-clause-quirks
 returns-in-Some-clause-quirks g c =
     ap (λ (x : Simulation). x.quirks) c.accept.ensures.exact
     ∙ (quirks_accepted (simulation c.write.new.self) ∙ ap (λ (x : Simulation). x.quirks) c.write.ensures.exact)
+
+pub returns-in-Some-clause-quiet : goal.returns-in-Some-clause-quiet
+returns-in-Some-clause-quiet g c = λ late.
+    let kept = ap (λ (x : Simulation). x.quirks.late) c.write.ensures.exact in
+    ap (λ (x : Target _). x.memory) (c.accept.ensures.late (kept ∙ late)) ∙ ap (λ (x : State). x.memory) c.write.ensures.state

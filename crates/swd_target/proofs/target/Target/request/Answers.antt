@@ -6,7 +6,11 @@ use Rattle.swd_target.specs.Elsewhere.{over}
 use Rattle.swd_target.specs.Flips.{line_under}
 use Rattle.swd_target.specs.Requests.{AnswersUnder}
 use Rattle.swd_target.proofs.AskLemmas.{answers_under}
-use Rattle.swd_target.proofs.ElsewhereLemmas.{answers_over, late_after, log_before, quirks_after}
+use Rattle.swd_target.proofs.ElsewhereLemmas.{answers_over, late_after, log_before, memory_kept, quirks_after}
+use Rattle.swd_target.proofs.TargetLemmas.{settled_at_rest}
+use Rattle.swd_port.specs.Port.{Target as State}
+use Rattle.swd_target.specs.Simulations.{Simulation}
+use Rattle.swd_target.specs.Targets.{state_of}
 use Rattle.swd_target.proofs.target.Target.request.Goals as goal
 
 pub returns-clause-answers : goal.returns-clause-answers
@@ -35,3 +39,16 @@ pub returns-clause-quirks : goal.returns-clause-quirks
 returns-clause-quirks g c =
     quirks_after c.args.waits c.reply-reply.result c.register_named-register.result c.args.request.ap c.args.self.now c.reply-reply.new.self c.apply.new.self c.accept_after.new.self
     c.reply-reply.ensures.exact c.apply.ensures.exact c.accept_after.ensures.exact
+
+pub returns-clause-quiet : goal.returns-clause-quiet
+returns-clause-quiet g c = λ late none.
+    let s = c.args.self.now in
+    let a = c.reply-reply.new.self in
+    let after = c.apply.new.self in
+    let r = c.register_named-register.result in
+    let q = c.args.request in
+    let exact = c.reply-reply.ensures.exact in
+    let kept : a.memory ≡ s.memory = ap (λ (x : Simulation). x.state.memory) (exact ∙ sym (settled_at_rest c.args.waits r q.ap s none)) in
+    let next : after.memory ≡ a.memory = ap (λ (x : State). x.memory) c.apply.ensures.state ∙ memory_kept c.args.waits c.reply-reply.result r q.ap (state_of a) in
+    let last = c.accept_after.ensures.late (late_after c.args.waits c.reply-reply.result r q.ap s a after late exact c.apply.ensures.exact) in
+    ap (λ (x : Target _). x.memory) last ∙ (next ∙ kept)
