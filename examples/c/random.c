@@ -167,11 +167,7 @@ static struct swd_target make_target(void)
 	return target;
 }
 
-/* A bit of a line reset, of idle, or any. */
-static uint8_t drive(unsigned kind)
-{
-	return kind == 0 ? 1 : kind == 1 ? 0 : (uint8_t)(any() % 4);
-}
+static unsigned long wants;
 
 static void settle(struct swd_target *target)
 {
@@ -183,28 +179,72 @@ static void settle(struct swd_target *target)
 	count(!swd_target_settle(target, kind, (uint32_t)any()), &before, target, sizeof *target);
 }
 
+static void hold(struct swd_target *target)
+{
+	struct swd_target before = *target;
+	count(!swd_target_hold(target, (uint8_t)(any() % 2)), &before, target, sizeof *target);
+}
+
+static void clock_target(struct swd_target *target, uint8_t drive)
+{
+	struct swd_target before = *target;
+	uint8_t line = swd_target_cycle(target, drive);
+	count(line >= SWD_WANTS, &before, target, sizeof *target);
+	if (line > SWD_WANTS && line != SWD_REFUSED)
+		fail("no bit");
+	if (line == SWD_WANTS) {
+		wants++;
+		if (swd_target_wants(target).kind == SWD_NONE)
+			fail("nothing is wanted");
+		settle(target);
+	}
+}
+
+static void send(struct swd_target *target, uint64_t bits, unsigned count)
+{
+	for (; count > 0; count--, bits >>= 1)
+		clock_target(target, (uint8_t)(bits & 1));
+}
+
+static void leave(struct swd_target *target, unsigned count)
+{
+	for (; count > 0; count--)
+		clock_target(target, SWD_RELEASED);
+}
+
+/* A request and its data, whatever is answered; the parity of a write is wrong now and then. */
+static void transact(struct swd_target *target, uint8_t request, uint32_t word)
+{
+	uint64_t odd = any() % 16 == 0, bits = word;
+	for (; bits; bits &= bits - 1)
+		odd ^= 1;
+	send(target, request, 8);
+	if (SWD_REQUEST_READ(request)) {
+		leave(target, 38);
+	} else {
+		leave(target, 5);
+		send(target, word | odd << 32, 33);
+	}
+}
+
 static void try_target(void)
 {
-	/* DPIDR's request, and DRW's both ways. */
-	static const uint8_t requests[3] = { 0xa5, 0x9f, 0xbb };
-	struct swd_target target = make_target(), before;
-	unsigned kind = (unsigned)(any() % 3), i;
-	for (i = 0; i < 400; i++) {
-		uint8_t line, bit = drive(kind);
-		if (i > 60 && i % 50 < 8)
-			bit = requests[i / 50 % 3] >> i % 50 & 1;
-		before = target;
-		line = swd_target_cycle(&target, bit);
-		count(line >= SWD_WANTS, &before, &target, sizeof target);
-		if (line > SWD_WANTS && line != SWD_REFUSED)
-			fail("no bit");
-		if (line == SWD_WANTS || any() % 16 == 0)
+	/* DPIDR, ABORT, CTRL/STAT both ways, RDBUFF, CSW, TAR, and DRW both ways. */
+	static const uint8_t requests[] = { 0xa5, 0x81, 0x8d, 0xa9, 0xbd, 0xa3, 0x8b, 0x9f, 0xbb, 0x9f, 0xbb };
+	struct swd_target target = make_target();
+	int i;
+	send(&target, ((uint64_t)1 << 56) - 1, 58);
+	transact(&target, 0xa5, 0);
+	transact(&target, 0xa9, 0x50000000);
+	for (i = 0; i < 12; i++) {
+		transact(&target, requests[any() % sizeof requests], i < 6 ? 0x50000000 : (uint32_t)any());
+		if (any() % 4 == 0)
 			settle(&target);
-		if (any() % 64 == 0) {
-			before = target;
-			count(!swd_target_hold(&target, (uint8_t)any()), &before, &target, sizeof target);
-		}
-		if (any() % 128 == 0)
+		if (any() % 8 == 0)
+			hold(&target);
+		if (any() % 16 == 0)
+			clock_target(&target, (uint8_t)any());
+		if (any() % 16 == 0)
 			spoil(&target, sizeof target);
 	}
 }
@@ -217,6 +257,6 @@ int main(int argc, char **argv)
 		try_decoder();
 		try_target();
 	}
-	printf("%lu calls, %lu gave nothing\n", calls, refused);
+	printf("%lu calls, %lu gave nothing, %lu times a target wanted a transfer first\n", calls, refused, wants);
 	return 0;
 }
