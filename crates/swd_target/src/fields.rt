@@ -3,6 +3,7 @@ ghost use Rattle.std.specs.Prelude.{◌≡◌, ◌==◌};
 ghost use Rattle.swd_target.specs.Fields.{content_fields, pending_fields, power_number, reset_number};
 ghost use Rattle.swd_target.specs.Fields.{read_content, read_pending, read_power, read_reset, read_target};
 ghost use Rattle.swd_target.specs.Fields.{fields_of};
+ghost use Rattle.swd_target.specs.Targets.{state_of};
 
 use crate::content::Content;
 use crate::memory::Memory;
@@ -143,7 +144,7 @@ impl TargetFields {
     /// wants to refuse it compares the numbers of what came.
     pub fn target<A: Allocator>(&self, memory: Memory<A>) -> Target<A>
         ensures numbers { fields_of result ≡ read_target self.now }
-        ensures memory { result.memory ≡ memory }
+        ensures memory { (state_of result).memory ≡ memory }
     {
         Target {
             quirks: self.quirks(),
