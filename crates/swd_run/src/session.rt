@@ -36,7 +36,7 @@ pub(crate) fn run_all<W: Wire, A: Allocator + Copy>(
     ensures ended { IfSome result (λ session. session.ended ≡ ended_of (map done_of session.runs.items)) }
     ensures plan { W.plan wire.new ≡ W.plan wire.old }
 {
-    // Before the first run, so that none that was made is lost for want of memory.
+    // Before the first run, so that none that was made is lost where memory is refused.
     let Ok(mut runs) = Vec::with_capacity(alloc, batches.len()) else {
         return None;
     };
