@@ -1,21 +1,16 @@
 -- Laws of a text that is read line by line.
-use Rattle.std.proofs.Common.{refl, ◌≡◌, ◌≢◌, ℕ, suc, ◌+◌, ◌-◌, ◌^◌, ◌<◌, take, drop, get_or, drop-cons, take-append-drop, List, [], ◌∷◌, ◌++◌, length, append_assoc, sym, ap, ◌∙◌, subst, arith, add-one, Option, Some, None, Result, Ok, Err}
+use Rattle.std.proofs.Common.{◌≡◌, ◌≢◌, ℕ, suc, ◌+◌, ◌-◌, ◌^◌, ◌<◌, take, drop, get_or, drop-cons, take-append-drop, List, [], ◌∷◌, ◌++◌, length, append_assoc, sym, ap, ◌∙◌, subst, arith, Option, Result, Ok, Err}
 use Rattle.std.specs.Prelude.{min, IsOk}
 use Rattle.std.proofs.lemmas.List.{append-nil, length-append}
-use Rattle.std.proofs.Math.Seq.{take-suc}
 use Rattle.arrayvec.specs.ArrayVec.{ArrayVec}
-use Rattle.swd_port.specs.declared.mark.Mark.{Mark}
 use Rattle.swd_script.specs.declared.fault.LineFault.{LineFault}
 use Rattle.swd_script.specs.declared.fault.LineFault.TheVariants.{Word, Number, Range, NoMemoryLine, Memory}
 use Rattle.swd_script.specs.declared.fault.ScriptFault.{ScriptFault}
 use Rattle.swd_script.specs.declared.lines.Lines.{Lines}
 use Rattle.swd_script.specs.Faults.{line_number, after_lines, then_lines, fault_at}
 use Rattle.swd_script.specs.Lines.{lines, line_words}
-use Rattle.swd_script.specs.Readers.{EndsLine, IsEndFault, IsFaultOf, IsFed, IsLast, IsPlanFault, IsScriptFault, RunsOut, Splits}
-use Rattle.swd_script.specs.Plans.{plan_line, plan_of}
-use Rattle.swd_script.specs.Scripts.{nothing_said, script_line, script_meaning, script_of, whole_script, Sayings}
-use Rattle.swd_script.specs.declared.fault.ScriptFault.TheVariants.{Word as WordAt, Number as NumberAt, Range as RangeAt}
-use Rattle.swd_script.specs.declared.fault.ScriptFault.TheVariants.{NoMemoryLine as NoMemoryLineAt, Memory as MemoryAt}
+use Rattle.swd_script.specs.Readers.{EndsLine, IsFaultOf, IsFed, IsLast, IsTextFault}
+use Rattle.swd_script.specs.Readers.{RunsOut, Splits}
 use Rattle.swd_script.specs.Scans.{without_return, Holds, IsScanned}
 use Rattle.swd_script.proofs.LineLemmas.{lines_fed, lines_last, unbroken_more}
 
@@ -91,10 +86,13 @@ after_first take start next front rest e =
 
 -- a line without a fault
 pub after_line : {S : Type 0} (take : ℕ → S → Option (List (List ℕ)) → Result S LineFault) (start mid next : S)
-    (ended : List (List ℕ)) (line : List ℕ) → after_lines take start 0 ended ≡ Ok mid
-    → take (line_number (length ended)) mid (line_words line) ≡ Ok next → after_lines take start 0 (ended ++ line ∷ []) ≡ Ok next
-after_line take start mid next ended line e f =
-    after_first take start mid ended (line ∷ []) e ∙ ap (then_lines (length ended) (λ s. after_lines take s (suc (length ended)) [])) f
+    (ended : List (List ℕ)) (line : List ℕ) (number : ℕ) → number ≡ line_number (length ended)
+    → after_lines take start 0 ended ≡ Ok mid → take number mid (line_words line) ≡ Ok next
+    → after_lines take start 0 (ended ++ line ∷ []) ≡ Ok next
+after_line take start mid next ended line number n e f =
+    after_first take start mid ended (line ∷ []) e
+    ∙ ap (then_lines (length ended) (λ s. after_lines take s (suc (length ended)) []))
+    (ap (λ k. take k mid (line_words line)) (sym n) ∙ f)
 
 -- a line at fault, whatever follows
 pub after_fault : {S : Type 0} (take : ℕ → S → Option (List (List ℕ)) → Result S LineFault) (start mid : S)
@@ -124,61 +122,29 @@ runs_out {S} take start mid text ended line number l n e f = record {
     fine_step (Ok next) h = h
     fine_step (Err fault) h = absurd cc
 
-number_at : (take_result : Result Sayings ScriptFault) (fault : LineFault) (number told : ℕ) → number ≡ told → take_result ≡ Err (fault_at fault told) → whole_script take_result ≡ Err (fault_at fault number)
-number_at take_result fault number told e f = ap whole_script f ∙ ap (λ n. Err (fault_at fault n)) (sym e)
+-- a line at fault makes the text at fault
+pub text_fault : {S M : Type 0} (meaning_of : List ℕ → Result M ScriptFault)
+    (take : ℕ → S → Option (List (List ℕ)) → Result S LineFault) (start mid : S)
+    → ((text : List ℕ) (fault : ScriptFault) → after_lines take start 0 (lines text) ≡ Err fault → meaning_of text ≡ Err fault)
+    → (text : List ℕ) (ended : List (List ℕ)) (line : List ℕ) (number : ℕ) (fault : LineFault) → EndsLine text ended line
+    → number ≡ line_number (length ended) → after_lines take start 0 ended ≡ Ok mid
+    → IsFaultOf fault (take number mid (line_words line)) → IsTextFault meaning_of take start (fault_at fault number) text
+text_fault {S} meaning_of take start mid m text ended line number fault l n e f = at fault f
+  where
+    told : (fault : LineFault) → take number mid (line_words line) ≡ Err fault → meaning_of text ≡ Err (fault_at fault number)
+    told fault f =
+        m text (fault_at fault number)
+        (ap (after_lines take start 0) l.law
+        ∙ after_fault take start mid ended l.rest line fault e (ap (λ k. take k mid (line_words line)) (sym n) ∙ f)
+        ∙ ap (λ k. Err (fault_at fault k)) (sym n))
 
-script_err : (said : Sayings) (text : List ℕ) (ended : List (List ℕ)) (line : List ℕ) (number : ℕ) (fault : LineFault)
-    → EndsLine text ended line → number ≡ line_number (length ended) → after_lines script_line nothing_said 0 ended ≡ Ok said
-    → script_line number said (line_words line) ≡ Err fault → script_of text ≡ Err (fault_at fault number)
-script_err said text ended line number fault l n e f =
-    number_at (after_lines script_line nothing_said 0 (lines text)) fault number (line_number (length ended)) n
-    (ap (after_lines script_line nothing_said 0) l.law
-    ∙ after_fault script_line nothing_said said ended l.rest line fault e (ap (λ k. script_line k said (line_words line)) (sym n) ∙ f))
-
-pub script_fault : (said : Sayings) (text : List ℕ) (ended : List (List ℕ)) (line : List ℕ) (number : ℕ) (fault : LineFault)
-    → EndsLine text ended line → number ≡ line_number (length ended) → after_lines script_line nothing_said 0 ended ≡ Ok said
-    → IsFaultOf fault (script_line number said (line_words line)) → IsScriptFault (fault_at fault number) text
-script_fault said text ended line number Word l n e f = script_err said text ended line number Word l n e f
-script_fault said text ended line number Number l n e f = script_err said text ended line number Number l n e f
-script_fault said text ended line number Range l n e f = script_err said text ended line number Range l n e f
-script_fault said text ended line number NoMemoryLine l n e f = script_err said text ended line number NoMemoryLine l n e f
-script_fault said text ended line number Memory l n e f =
-    runs_out script_line nothing_said said text ended line number l n e
-    (subst (λ k. IsOk (script_line k said (line_words line))) n f)
-
--- a line of a script without a fault
-pub script_after : (old new : Sayings) (ended : List (List ℕ)) (line : List ℕ) (number : ℕ) → number ≡ line_number (length ended)
-    → after_lines script_line nothing_said 0 ended ≡ Ok old → script_line number old (line_words line) ≡ Ok new
-    → after_lines script_line nothing_said 0 (ended ++ line ∷ []) ≡ Ok new
-script_after old new ended line number n e f =
-    after_line script_line nothing_said old new ended line e (ap (λ k. script_line k old (line_words line)) (sym n) ∙ f)
-
-plan_err : (marks : List Mark) (text : List ℕ) (ended : List (List ℕ)) (line : List ℕ) (number : ℕ) (fault : LineFault) →
-    EndsLine text ended line → number ≡ line_number (length ended) → after_lines (λ number. plan_line) [] 0 ended ≡ Ok marks → plan_line marks (line_words line) ≡ Err fault →
-    plan_of text ≡ Err (fault_at fault number)
-plan_err marks text ended line number fault l n e f =
-    ap (after_lines (λ number. plan_line) [] 0) l.law ∙ after_fault (λ number. plan_line) [] marks ended l.rest line fault e f ∙ ap (λ n. Err (fault_at fault n)) (sym n)
-
-pub plan_fault : (marks : List Mark) (text : List ℕ) (ended : List (List ℕ)) (line : List ℕ) (number : ℕ) (fault : LineFault) →
-    EndsLine text ended line → number ≡ line_number (length ended) → after_lines (λ number. plan_line) [] 0 ended ≡ Ok marks → IsFaultOf fault (plan_line marks (line_words line)) →
-    IsPlanFault (fault_at fault number) text
-plan_fault marks text ended line number Word l n e f = plan_err marks text ended line number Word l n e f
-plan_fault marks text ended line number Number l n e f = plan_err marks text ended line number Number l n e f
-plan_fault marks text ended line number Range l n e f = plan_err marks text ended line number Range l n e f
-plan_fault marks text ended line number NoMemoryLine l n e f = plan_err marks text ended line number NoMemoryLine l n e f
-plan_fault marks text ended line number Memory l n e f = runs_out (λ number. plan_line) [] marks text ended line number l n e f
-
--- the line that a line feed ends, or the text
-pub fed_line : (seen more : List ℕ) (ended : List (List ℕ)) (scanned : Option (ArrayVec (ArrayVec ℕ))) (state : Lines) (fed : IsFed seen ended scanned state) → EndsLine (seen ++ 10 ∷ more) ended fed.line
-fed_line seen more ended scanned state fed = record { rest = lines more; law = fed.law more }
-
-pub last_line : (text : List ℕ) (ended : List (List ℕ)) (scanned : Option (ArrayVec (ArrayVec ℕ))) (last : IsLast text ended scanned) → EndsLine text ended last.line
-last_line text ended scanned last = record { rest = []; law = last.law }
-
--- one byte more of a piece
-pub next_of : (seen piece : List ℕ) (i : ℕ) → i < length piece → (seen ++ take i piece) ++ get_or piece i 0 ∷ [] ≡ seen ++ take (i + 1) piece
-next_of seen piece i h =
-    append_assoc seen (take i piece) (get_or piece i 0 ∷ []) ∙ ap (λ x. seen ++ x) (sym (take-suc piece i 0 h) ∙ ap (λ n. take n piece) (sym (add-one i)))
+    at : (fault : LineFault) → IsFaultOf fault (take number mid (line_words line))
+        → IsTextFault meaning_of take start (fault_at fault number) text
+    at Word f = told Word f
+    at Number f = told Number f
+    at Range f = told Range f
+    at NoMemoryLine f = told NoMemoryLine f
+    at Memory f = runs_out take start mid text ended line number l n e (subst (λ k. IsOk (take k mid (line_words line))) n f)
 
 -- the piece about a byte
 pub parted : (seen piece more : List ℕ) (i : ℕ) → i < length piece → (seen ++ take i piece) ++ (get_or piece i 0 ∷ (drop (suc i) piece ++ more)) ≡ (seen ++ piece) ++ more
@@ -186,26 +152,3 @@ parted seen piece more i h =
     append_assoc seen (take i piece) (get_or piece i 0 ∷ (drop (suc i) piece ++ more))
     ∙ ap (λ x. seen ++ x) (ap (λ x. take i piece ++ (x ++ more)) (sym (drop-cons piece i 0 h)) ∙ sym (append_assoc (take i piece) (drop i piece) more) ∙ ap (λ x. x ++ more) (take-append-drop i piece))
     ∙ sym (append_assoc seen piece more)
-
--- what a whole script says, or that `memory` is missing
-pub whole_said : (text : List ℕ) (ended : List (List ℕ)) (line : List ℕ) (old new : Sayings) (number : ℕ)
-    → lines text ≡ ended ++ line ∷ [] → number ≡ line_number (length ended)
-    → after_lines script_line nothing_said 0 ended ≡ Ok old → script_line number old (line_words line) ≡ Ok new
-    → script_of text ≡ script_meaning new.memory new
-whole_said text ended line old new number l n e f =
-    ap (λ x. whole_script (after_lines script_line nothing_said 0 x)) l
-    ∙ ap whole_script (script_after old new ended line number n e f)
-
--- and where memory was refused once all lines were read
-pub meaning_fault : (text : List ℕ) (ended : List (List ℕ)) (line : List ℕ) (old new : Sayings) (number : ℕ) (fault : ScriptFault)
-    → EndsLine text ended line → lines text ≡ ended ++ line ∷ [] → number ≡ line_number (length ended)
-    → after_lines script_line nothing_said 0 ended ≡ Ok old → script_line number old (line_words line) ≡ Ok new
-    → IsEndFault fault number (script_meaning new.memory new) → IsScriptFault fault text
-meaning_fault text ended line old new number (WordAt at) ends l n e f h = whole_said text ended line old new number l n e f ∙ h
-meaning_fault text ended line old new number (NumberAt at) ends l n e f h = whole_said text ended line old new number l n e f ∙ h
-meaning_fault text ended line old new number (RangeAt at) ends l n e f h = whole_said text ended line old new number l n e f ∙ h
-meaning_fault text ended line old new number (NoMemoryLineAt at) ends l n e f h =
-    whole_said text ended line old new number l n e f ∙ h
-meaning_fault text ended line old new number (MemoryAt at) ends l n e f h =
-    runs_out script_line nothing_said old text ended line at ends (h.0 ∙ n) e
-    (subst IsOk (sym (ap (λ k. script_line k old (line_words line)) (sym n) ∙ f)) refl)

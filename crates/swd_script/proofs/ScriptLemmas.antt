@@ -1,20 +1,19 @@
 -- Laws of the lines of a script.
-use Rattle.std.proofs.Common.{◌≡◌, ℕ, suc, zero, ◌+◌, ◌*◌, ◌<◌, ◌≤◌, Bool, true, false, List, [], ◌∷◌, ◌++◌, length, take, refl, sym, ap, ◌∙◌, arith, Option, Some, None, Result, Ok, Err}
+use Rattle.std.proofs.Common.{◌≡◌, ℕ, suc, zero, ◌<◌, ◌≤◌, Bool, true, false, List, [], ◌∷◌, length, take, refl, sym, ap, ◌∙◌, arith, Option, Some, None, Result, Ok, Err}
 use Rattle.std.specs.Prelude.{if◌then◌else◌, ◌&&◌, nat_le, nat_eq, codes}
 use Rattle.std.specs.Option.{option_and_then}
 use Rattle.std.specs.Str.{bytes_eq}
 use Rattle.std.proofs.lemmas.Bool.Decides.{nat_tests}
 use Rattle.std.proofs.lemmas.List.{take_all, length-take-le}
-use Rattle.swd_port.specs.declared.access.Access.TheVariants.{Read}
 use Rattle.swd_script.specs.declared.command.Command.{Command}
 use Rattle.swd_script.specs.declared.command.Command.TheVariants.{Memory, Room, Read as ReadCommand, Write as WriteCommand, ReadMany, Block, Verify, Next}
 use Rattle.swd_script.specs.Numerals.{decimal_of, hex_of, number_from, numeral, word_sized}
 use Rattle.swd_script.specs.Plans.{bare_mark, mark_of, marked, place_below, placed_mark, plan_line, with_mark}
-use Rattle.swd_script.specs.Scripts.{after_command, bare_command, command_of, long_command, script_line, short_command, Sayings}
+use Rattle.swd_script.specs.Scripts.{after_command, command_of, long_command, script_line, short_command, Sayings}
 use Rattle.arrayvec.specs.ArrayVec.{ArrayVec}
 use Rattle.swd_script.specs.Lines.{line_words}
-use Rattle.swd_script.specs.Scans.{HasWords}
-use Rattle.swd_script.specs.Words.{first_words, texts}
+use Rattle.swd_script.specs.Scans.{IsScanned}
+use Rattle.swd_script.specs.Words.{texts_of, first_words}
 use Rattle.swd_port.specs.declared.mark.Mark.{Mark}
 use Rattle.swd_port.specs.declared.mark.Mark.TheVariants.{Clean, Wait, Flip, Deaf, Mute}
 use Rattle.swd_script.specs.declared.fault.LineFault.{LineFault}
@@ -139,10 +138,14 @@ plan_cut marks [] = refl
 plan_cut marks (name ∷ arguments) = ap (with_mark marks) (mark_cut (name ∷ arguments))
 
 -- what the first words of a line say is what the line says
-pub script_words : (number : ℕ) (said : Sayings) (line : List ℕ) (kept : List (ArrayVec ℕ)) → HasWords line kept
-    → script_line number said (Some (texts kept)) ≡ script_line number said (line_words line)
-script_words number said line kept h =
+pub script_words : (number : ℕ) (said : Sayings) (line : List ℕ) (words : Option (ArrayVec (ArrayVec ℕ))) → IsScanned line words
+    → script_line number said (texts_of words) ≡ script_line number said (line_words line)
+script_words number said line None h = ap (script_line number said) (sym h)
+script_words number said line (Some kept) h =
     ap (λ x. script_line number said (Some x)) h.first ∙ script_cut number said h.all ∙ ap (script_line number said) (sym h.are)
 
-pub plan_words : (marks : List Mark) (line : List ℕ) (kept : List (ArrayVec ℕ)) → HasWords line kept → plan_line marks (Some (texts kept)) ≡ plan_line marks (line_words line)
-plan_words marks line kept h = ap (λ x. plan_line marks (Some x)) h.first ∙ plan_cut marks h.all ∙ ap (plan_line marks) (sym h.are)
+pub plan_words : (marks : List Mark) (line : List ℕ) (words : Option (ArrayVec (ArrayVec ℕ))) → IsScanned line words
+    → plan_line marks (texts_of words) ≡ plan_line marks (line_words line)
+plan_words marks line None h = ap (plan_line marks) (sym h)
+plan_words marks line (Some kept) h =
+    ap (λ x. plan_line marks (Some x)) h.first ∙ plan_cut marks h.all ∙ ap (plan_line marks) (sym h.are)

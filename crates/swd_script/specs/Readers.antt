@@ -1,17 +1,17 @@
 -- What the readers of scripts and plans have read.
-use Rattle.std.specs.Prelude.{◌≡◌, ◌≢◌, ℕ, List, [], ◌∷◌, ◌++◌, length, map, Option, Result, Ok, Err, IsOk}
+use Rattle.std.specs.Prelude.{◌≡◌, ◌≢◌, ℕ, List, [], ◌∷◌, ◌++◌, length, map, Option, Result, Ok, Err, IsOk, Vec}
 use Rattle.arrayvec.specs.ArrayVec.{ArrayVec}
+use Rattle.swd_port.specs.declared.mark.Mark.{Mark}
 use Rattle.swd_script.specs.declared.batch.Batch.{Batch}
 use Rattle.swd_script.specs.declared.draft.Draft.{Draft}
 use Rattle.swd_script.specs.declared.fault.LineFault.{LineFault}
 use Rattle.swd_script.specs.declared.fault.LineFault.TheVariants.{Word, Number, Range, NoMemoryLine, Memory}
 use Rattle.swd_script.specs.declared.fault.ScriptFault.{ScriptFault}
 use Rattle.swd_script.specs.declared.fault.ScriptFault.TheVariants.{Word as WordAt, Number as NumberAt, Range as RangeAt, NoMemoryLine as NoMemoryLineAt, Memory as MemoryAt}
+use Rattle.swd_script.specs.declared.line_reader.LineReader.{LineReader}
 use Rattle.swd_script.specs.declared.lines.Lines.{Lines}
 use Rattle.swd_script.specs.declared.script.Script.{Script}
-use Rattle.swd_script.specs.declared.script.ScriptReader.{ScriptReader}
-use Rattle.swd_script.specs.declared.plan.PlanReader.{PlanReader}
-use Rattle.swd_script.specs.Faults.{line_number, after_lines}
+use Rattle.swd_script.specs.Faults.{line_number, after_lines, fault_at}
 use Rattle.swd_script.specs.Lines.{lines}
 use Rattle.swd_script.specs.Plans.{plan_line, plan_of}
 use Rattle.swd_script.specs.Scans.{Holds, IsScanned}
@@ -49,6 +49,42 @@ pub record IsLast (text : List ℕ) (ended : List (List ℕ))
   pub line : List ℕ
   pub scan : IsScanned line scanned
   pub law : lines text ≡ ended ++ line ∷ []
+
+-- the last line of a text has this number
+pub record HasLast (text : List ℕ) (number : ℕ) : Type 0 where
+  pub ended : List (List ℕ)
+  pub line : List ℕ
+  pub law : lines text ≡ ended ++ line ∷ []
+  pub number_is : number ≡ line_number (length ended)
+
+-- the line with this number, which has these first words, leads from one state to another; `took` says which lines led
+-- to a state
+abbrev pub LineLeads : {S : Type 0} → (List (List ℕ) → S → Type 0) → ℕ → Option (ArrayVec (ArrayVec ℕ)) → S → S → Type 0
+LineLeads took number words old new =
+    (ended : List (List ℕ)) (line : List ℕ) → number ≡ line_number (length ended) → IsScanned line words
+    → took ended old → took (ended ++ line ∷ []) new
+
+-- the line with this number, which has these first words, has this fault; `refuses` says which fault a text has
+abbrev pub LineStops : {S : Type 0} → (List (List ℕ) → S → Type 0) → (ScriptFault → List ℕ → Type 0) → ℕ →
+    Option (ArrayVec (ArrayVec ℕ)) → S → LineFault → Type 0
+LineStops took refuses number words old fault =
+    (text : List ℕ) (ended : List (List ℕ)) (line : List ℕ) → EndsLine text ended line
+    → number ≡ line_number (length ended) → IsScanned line words → took ended old → refuses (fault_at fault number) text
+
+-- the reader has read these bytes, and met no fault
+pub record ReadsLines {S : Type 0} (took : List (List ℕ) → S → Type 0) (reader : LineReader S) (seen : List ℕ) : Type 0 where
+  pub ended : List (List ℕ)
+  pub splits : Splits seen ended reader.lines
+  pub so_far : took ended reader.sink
+
+-- these are the bytes that were taken
+abbrev pub HasReadLines : {S : Type 0} → (List (List ℕ) → S → Type 0) → Unit {0} → LineReader S × Unit {0} → List ℕ → Type 0
+HasReadLines took u state seen = ReadsLines took state.0 seen
+
+-- whatever follows, the text has this fault
+abbrev pub RefusesLines : {S : Type 0} → (ScriptFault → List ℕ → Type 0) → Unit {0} → LineReader S × Unit {0} →
+    ScriptFault → List ℕ → Type 0
+RefusesLines refuses u state fault text = (more : List ℕ) → refuses fault (text ++ more)
 
 -- the accesses of a call
 abbrev pub listed : {A : Type 0} → Batch A → Listed
@@ -89,17 +125,13 @@ pub record RunsOut {S : Type 0} (take : ℕ → S → Option (List (List ℕ)) �
   pub fine : IsOk (after_lines take start 0 (ended ++ line ∷ []))
   pub number_is : number ≡ line_number (length ended)
 
--- the reader has read these bytes, and met no fault
-pub record ReadsScript {A : Type 0} (reader : ScriptReader A) (seen : List ℕ) : Type 0 where
-  pub ended : List (List ℕ)
-  pub splits : Splits seen ended reader.lines
-  pub so_far : after_lines script_line nothing_said 0 ended ≡ Ok (said reader.draft)
+-- these lines of a script were added
+abbrev pub TookScript : {A : Type 0} → List (List ℕ) → Draft A → Type 0
+TookScript ended draft = after_lines script_line nothing_said 0 ended ≡ Ok (said draft)
 
--- the reader has read these bytes, and met no fault
-pub record ReadsPlan {A : Type 0} (reader : PlanReader A) (seen : List ℕ) : Type 0 where
-  pub ended : List (List ℕ)
-  pub splits : Splits seen ended reader.lines
-  pub so_far : after_lines (λ number. plan_line) [] 0 ended ≡ Ok reader.marks.items
+-- these lines of a plan were added
+abbrev pub TookPlan : {A : Type 0} → List (List ℕ) → Vec Mark A → Type 0
+TookPlan ended marks = after_lines (λ number. plan_line) [] 0 ended ≡ Ok marks.items
 
 -- what a script that was read says
 abbrev pub meaning : {A : Type 0} → Script A → Meaning
@@ -110,32 +142,19 @@ meaning script = record {
   batches = map listed script.batches.items;
 }
 
+-- the first fault of a text, or memory was refused
+abbrev pub IsTextFault : {S M : Type 0} → (List ℕ → Result M ScriptFault) →
+    (ℕ → S → Option (List (List ℕ)) → Result S LineFault) → S → ScriptFault → List ℕ → Type 0
+IsTextFault meaning_of take start (WordAt number) text = meaning_of text ≡ Err (WordAt number)
+IsTextFault meaning_of take start (NumberAt number) text = meaning_of text ≡ Err (NumberAt number)
+IsTextFault meaning_of take start (RangeAt number) text = meaning_of text ≡ Err (RangeAt number)
+IsTextFault meaning_of take start (NoMemoryLineAt number) text = meaning_of text ≡ Err (NoMemoryLineAt number)
+IsTextFault meaning_of take start (MemoryAt number) text = RunsOut take start text number
+
 -- the first fault of a script, or memory was refused
 abbrev pub IsScriptFault : ScriptFault → List ℕ → Type 0
-IsScriptFault (WordAt number) text = script_of text ≡ Err (WordAt number)
-IsScriptFault (NumberAt number) text = script_of text ≡ Err (NumberAt number)
-IsScriptFault (RangeAt number) text = script_of text ≡ Err (RangeAt number)
-IsScriptFault (NoMemoryLineAt number) text = script_of text ≡ Err (NoMemoryLineAt number)
-IsScriptFault (MemoryAt number) text = RunsOut script_line nothing_said text number
+IsScriptFault fault text = IsTextFault script_of script_line nothing_said fault text
 
 -- the first fault of a plan, or memory was refused
 abbrev pub IsPlanFault : ScriptFault → List ℕ → Type 0
-IsPlanFault (WordAt number) text = plan_of text ≡ Err (WordAt number)
-IsPlanFault (NumberAt number) text = plan_of text ≡ Err (NumberAt number)
-IsPlanFault (RangeAt number) text = plan_of text ≡ Err (RangeAt number)
-IsPlanFault (NoMemoryLineAt number) text = plan_of text ≡ Err (NoMemoryLineAt number)
-IsPlanFault (MemoryAt number) text = RunsOut (λ number. plan_line) [] text number
-
--- these are the bytes that were taken
-abbrev pub HasReadScript : {A : Type 0} → Unit {0} → ScriptReader A × Unit {0} → List ℕ → Type 0
-HasReadScript u state seen = ReadsScript state.0 seen
-
-abbrev pub HasReadPlan : {A : Type 0} → Unit {0} → PlanReader A × Unit {0} → List ℕ → Type 0
-HasReadPlan u state seen = ReadsPlan state.0 seen
-
--- whatever follows, the text has this fault
-abbrev pub RefusesScript : {A : Type 0} → Unit {0} → ScriptReader A × Unit {0} → ScriptFault → List ℕ → Type 0
-RefusesScript u state fault text = (more : List ℕ) → IsScriptFault fault (text ++ more)
-
-abbrev pub RefusesPlan : {A : Type 0} → Unit {0} → PlanReader A × Unit {0} → ScriptFault → List ℕ → Type 0
-RefusesPlan u state fault text = (more : List ℕ) → IsPlanFault fault (text ++ more)
+IsPlanFault fault text = IsTextFault plan_of (λ number. plan_line) [] fault text

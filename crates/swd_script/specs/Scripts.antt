@@ -1,5 +1,5 @@
 -- What a script means, or its first fault.
-use Rattle.std.specs.Prelude.{ℕ, suc, zero, Bool, true, false, ◌+◌, ◌*◌, ◌%◌, ◌^◌, ◌==◌, nat_le, ◌&&◌, ◌||◌, is_some}
+use Rattle.std.specs.Prelude.{ℕ, Bool, true, false, ◌+◌, ◌*◌, ◌%◌, ◌^◌, ◌==◌, nat_le, ◌&&◌, ◌||◌, is_some}
 use Rattle.std.specs.Prelude.{is_none, unwrap_or, List, [], ◌∷◌, ◌++◌, length, codes, Option, Some, None, Result, Ok}
 use Rattle.std.specs.Prelude.{Err, if◌then◌else◌}
 use Rattle.std.specs.Str.{bytes_eq}

@@ -1,5 +1,5 @@
 -- What is kept of the words of a line.
-use Rattle.std.specs.Prelude.{◌≡◌, ℕ, false, List, [], ◌∷◌, ◌++◌, map, take}
+use Rattle.std.specs.Prelude.{◌≡◌, ℕ, false, List, [], ◌∷◌, ◌++◌, map, take, Option, Some, None}
 use Rattle.arrayvec.specs.ArrayVec.{ArrayVec}
 use Rattle.swd_script.specs.declared.words.Words.{Words}
 use Rattle.swd_script.specs.Lines.{is_blank, words}
@@ -7,6 +7,11 @@ use Rattle.swd_script.specs.Lines.{is_blank, words}
 -- the bytes of the words that are kept
 abbrev pub texts : List (ArrayVec ℕ) → List (List ℕ)
 texts kept = map (λ word. word.items) kept
+
+-- those of a line; none where it is spoiled
+abbrev pub texts_of : Option (ArrayVec (ArrayVec ℕ)) → Option (List (List ℕ))
+texts_of None = None
+texts_of (Some kept) = Some (texts kept.items)
 
 -- what is kept of some words: the first 11 bytes of the first four
 abbrev pub first_words : List (List ℕ) → List (List ℕ)

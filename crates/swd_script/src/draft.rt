@@ -1,13 +1,13 @@
 //! What the lines of a script say so far.
 ghost use Rattle.std.specs.Prelude.{◌≡◌, ◌+◌, ◌∷◌, [], length, nat_le, ok_or};
-ghost use Rattle.std.specs.Prelude.{Some, Ok, Err, OnOk, IfErr, IfOk};
+ghost use Rattle.std.specs.Prelude.{Ok, Err, OnOk, IfErr, IfOk};
 ghost use Rattle.swd_script.specs.Scripts.{are_words};
 
 use crate::batch::{Batch, Expected};
 use crate::command::{Command, command_of};
 use crate::fault::{LineFault, ScriptFault};
 use crate::script::Script;
-use crate::words::Word;
+use crate::words::FirstWords;
 use std::alloc::Allocator;
 use std::mem;
 use swd_port::Access;
@@ -24,7 +24,7 @@ pub(crate) struct Extent {
 
 /// What the lines of a script say so far.
 #[derive(Drop)]
-pub(crate) struct Draft<A: Allocator> {
+pub struct Draft<A: Allocator> {
     alloc: A,
     pub(crate) memory: Option<Extent>,
     pub(crate) room: Option<u32>,
@@ -41,7 +41,7 @@ impl<A: Allocator + Copy> Draft<A> {
     ghost use Rattle.swd_script.specs.Scripts.{script_line, script_meaning, with_accesses, with_memory, with_next, with_room};
     ghost use Rattle.swd_script.specs.Scripts.{with_verified};
     ghost use Rattle.swd_script.specs.Readers.{IsEndFault, IsFaultOf, meaning, said};
-    ghost use Rattle.swd_script.specs.Words.{texts};
+    ghost use Rattle.swd_script.specs.Words.{texts_of};
 
     /// Nothing is said yet.
     pub(crate) fn new(alloc: A) -> Draft<A>
@@ -56,17 +56,19 @@ impl<A: Allocator + Copy> Draft<A> {
         }
     }
 
-    /// Takes the line with this number, by its first words. After an `Err` nothing is known of what is
-    /// kept.
-    pub(crate) fn line(&mut self, number: u64, words: &[Word]) -> Result<(), LineFault>
-        ensures ok { OnOk result (script_line number (said self.old) (Some (texts words.now)) ≡ Ok (said self.new)) }
-        ensures err { IfErr result (λ fault.
-            IsFaultOf fault (script_line number (said self.old) (Some (texts words.now)))) }
+    /// Takes the line with this number, by its first words; `None` where a byte has spoiled it. After an
+    /// `Err` nothing is known of what is kept.
+    pub(crate) fn line(&mut self, number: u64, words: Option<FirstWords>) -> Result<(), LineFault>
+        ensures ok { OnOk result (script_line number (said self.old) (texts_of words) ≡ Ok (said self.new)) }
+        ensures err { IfErr result (λ fault. IsFaultOf fault (script_line number (said self.old) (texts_of words))) }
     {
+        let Some(words) = words else {
+            return Err(LineFault::Word);
+        };
         if words.is_empty() {
             return Ok(());
         }
-        let Some(command) = command_of(words) else {
+        let Some(command) = command_of(words.as_slice()) else {
             return Err(LineFault::Word);
         };
         if let Some(fault) = self.misplaced(command) {

@@ -31,7 +31,7 @@ pub enum ScriptFault {
 
 /// What is wrong with a line.
 #[derive(Clone, Copy, Debug, PartialEq, Eq)]
-pub(crate) enum LineFault {
+pub enum LineFault {
     Word,
     Number,
     Range,

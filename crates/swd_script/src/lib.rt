@@ -6,6 +6,7 @@ mod command;
 mod draft;
 mod fault;
 pub mod laws;
+mod line_reader;
 mod line_scan;
 mod lines;
 mod numeral;
@@ -15,6 +16,7 @@ mod words;
 
 pub use batch::{Batch, Expected};
 pub use fault::ScriptFault;
+pub use line_reader::LineReader;
 pub use plan::{PlanReader, read_plan};
 pub use script::{Script, ScriptReader, read_script};
 

@@ -1,115 +1,52 @@
 //! Plans: what happens to each request.
-ghost use Rattle.std.specs.Prelude.{◌≡◌, ◌++◌, ◌∷◌, [], ℕ, List, Some, Ok, OnOk, IfErr, IfOk, IfSome};
+ghost use Rattle.std.specs.Prelude.{◌≡◌, [], ℕ, List, Ok, OnOk, IfErr, IfOk, IfSome};
 ghost use Rattle.swd_io.specs.Pieces.{IsText, IsUnread};
 ghost use Rattle.swd_script.specs.Numerals.{decimal_of as decimal_in};
 ghost use Rattle.swd_script.specs.Plans.{bare_mark, mark_of, place_below, placed_mark, plan_line, plan_of};
 ghost use Rattle.swd_script.specs.Readers.{IsFaultOf, IsPlanFault};
-ghost use Rattle.swd_script.specs.Words.{texts};
+ghost use Rattle.swd_script.specs.Words.{texts_of, texts};
 
 use crate::fault::{LineFault, ScriptFault};
-use crate::lines::Lines;
+use crate::line_reader::{LineReader, LineSink, read_lines};
 use crate::numeral::decimal_of;
-use crate::words::Word;
+use crate::words::{FirstWords, Word};
 use std::alloc::Allocator;
 use std::io::Read;
-use swd_io::{Consumer, Unread, read_pieces};
+use swd_io::Unread;
 use swd_port::Mark;
 
-/// Reads a plan, which comes in pieces (`Consumer::take`). At the first fault of the text it stops,
-/// whatever follows the piece.
-///
-/// However long a line is, the reader holds a few bytes of it, beside the marks of the lines before.
-#[derive(Drop)]
-pub struct PlanReader<A: Allocator> {
-    lines: Lines,
-    marks: Vec<Mark, A>,
-}
+/// Reads a plan, which comes in pieces (`Consumer::take`); its marks are those of the whole text.
+pub type PlanReader<A> = LineReader<Vec<Mark, A>>;
 
-impl<A: Allocator> PlanReader<A> {
-    ghost use Rattle.swd_script.specs.Readers.{ReadsPlan};
+impl<A: Allocator> LineReader<Vec<Mark, A>> {
+    ghost use Rattle.swd_script.specs.Readers.{ReadsLines, TookPlan};
 
     /// A reader that has read nothing.
     pub fn new(alloc: A) -> PlanReader<A>
-        ensures { ReadsPlan result [] }
+        ensures { ReadsLines TookPlan result [] }
     {
-        PlanReader {
-            lines: Lines::new(),
-            marks: Vec::new(alloc),
-        }
-    }
-
-    // Takes a byte. After an `Err` nothing is known of what is kept.
-    fn byte(&mut self, byte: u8) -> Result<(), ScriptFault>
-        ensures ok { OnOk result ((seen : List ℕ) → ReadsPlan self.old seen
-            → ReadsPlan self.new (seen ++ byte ∷ [])) }
-        ensures err { IfErr result (λ fault. (seen more : List ℕ) → ReadsPlan self.old seen
-            → IsPlanFault fault (seen ++ byte ∷ more)) }
-    {
-        if byte != b'\n' {
-            self.lines.byte(byte);
-            return Ok(());
-        }
-        let line = self.lines.number;
-        let Some(words) = self.lines.feed() else {
-            return Err(ScriptFault::Word { line });
-        };
-        match add_mark(&mut self.marks, words.as_slice()) {
-            Ok(()) => Ok(()),
-            Err(fault) => Err(fault.at(line)),
-        }
-    }
-
-    /// The marks of the whole text, which ends here.
-    ///
-    /// # Errors
-    ///
-    /// The first fault of the text. `Memory` where the list of marks could not grow.
-    pub fn finish(self) -> Result<Vec<Mark, A>, ScriptFault>
-        ensures ok { IfOk result (λ marks. (seen : List ℕ) → ReadsPlan self seen
-            → plan_of seen ≡ Ok marks.items) }
-        ensures err { IfErr result (λ fault. (seen : List ℕ) → ReadsPlan self seen
-            → IsPlanFault fault seen) }
-    {
-        let PlanReader { lines, mut marks } = self;
-        let line = lines.number;
-        let Some(words) = lines.finish() else {
-            return Err(ScriptFault::Word { line });
-        };
-        match add_mark(&mut marks, words.as_slice()) {
-            Ok(()) => Ok(marks),
-            Err(fault) => Err(fault.at(line)),
-        }
+        LineReader::over(Vec::new(alloc))
     }
 }
 
-impl<A: Allocator> Consumer<()> for PlanReader<A> {
-    ghost use Rattle.swd_io.specs.Pieces.{LeadsOn, LeadsToEnd};
-    ghost use Rattle.swd_io.proofs.PieceLemmas.{leads_nowhere, leads_further, leads_to_later_end};
-    ghost use Rattle.swd_script.specs.Readers.{HasReadPlan, RefusesPlan};
+impl<A: Allocator> LineSink for Vec<Mark, A> {
+    ghost use Rattle.swd_script.specs.Readers.{TookPlan};
 
-    type Fault = ScriptFault;
+    type Whole = Vec<Mark, A>;
 
-    ghost can_take = { λ _. Unit {0} };
+    ghost took = { TookPlan };
 
-    ghost takes = { LeadsOn HasReadPlan };
+    ghost says = { λ text marks. plan_of text ≡ Ok marks.items };
 
-    ghost stops = { LeadsToEnd HasReadPlan RefusesPlan };
+    ghost refuses = { IsPlanFault };
 
-    // Takes the next piece of the text. After an `Err` nothing is known of what is kept.
-    fn take(&mut self, _writer: &mut (), piece: &[u8]) -> Result<(), ScriptFault> {
-        for byte in piece {
-            if let Err(fault) = self.byte(*byte) {
-                return Err(fault);
-            }
-        }
-        Ok(())
+    fn add_line(&mut self, _number: u64, words: Option<FirstWords>) -> Result<(), LineFault> {
+        add_mark(self, words)
     }
 
-    ghost takes_nothing = { leads_nowhere HasReadPlan };
-
-    ghost takes_on = { leads_further HasReadPlan };
-
-    ghost stops_later = { leads_to_later_end HasReadPlan RefusesPlan };
+    fn whole(self, _last: u64) -> Result<Vec<Mark, A>, ScriptFault> {
+        Ok(self)
+    }
 }
 
 /// The plan that a reader gives, which is read to its end or up to the first fault. Nothing is tried
@@ -127,25 +64,25 @@ pub fn read_plan<R: Read, A: Allocator>(
         (text : List ℕ) × IsText (R.remaining reader.old) text × (plan_of text ≡ Ok marks.items)) }
     ensures err { IfErr result (λ unread. IfSome (R.remaining reader.old) (IsUnread IsPlanFault unread)) }
 {
-    let mut plan = PlanReader::new(alloc);
-    match read_pieces(reader, &mut (), &mut plan) {
-        Ok(()) => match plan.finish() {
-            Ok(marks) => Ok(marks),
-            Err(fault) => Err(Unread::Consumer(fault)),
-        },
-        Err(unread) => Err(unread),
-    }
+    read_lines(Vec::new(alloc), reader)
 }
 
-// Adds the mark of a line, by its first words. A line without words has none.
-fn add_mark<A: Allocator>(marks: &mut Vec<Mark, A>, words: &[Word]) -> Result<(), LineFault>
-    ensures ok { OnOk result (plan_line marks.old.items (Some (texts words.now)) ≡ Ok marks.new.items) }
-    ensures err { IfErr result (λ fault. IsFaultOf fault (plan_line marks.old.items (Some (texts words.now)))) }
+// Adds the mark of a line, by its first words; `None` where a byte has spoiled it. A line without words
+// has none.
+fn add_mark<A: Allocator>(
+    marks: &mut Vec<Mark, A>,
+    words: Option<FirstWords>,
+) -> Result<(), LineFault>
+    ensures ok { OnOk result (plan_line marks.old.items (texts_of words) ≡ Ok marks.new.items) }
+    ensures err { IfErr result (λ fault. IsFaultOf fault (plan_line marks.old.items (texts_of words))) }
 {
+    let Some(words) = words else {
+        return Err(LineFault::Word);
+    };
     if words.is_empty() {
         return Ok(());
     }
-    match marks.push(mark_of(words)?) {
+    match marks.push(mark_of(words.as_slice())?) {
         Ok(()) => Ok(()),
         Err(_) => Err(LineFault::Memory),
     }

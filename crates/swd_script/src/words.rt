@@ -15,7 +15,7 @@ const MOST: usize = 4;
 pub(crate) type Word = ArrayVec<u8, LONGEST>;
 
 /// The first words of a line. A line whose further words are left out means nothing.
-pub(crate) type FirstWords = ArrayVec<Word, MOST>;
+pub type FirstWords = ArrayVec<Word, MOST>;
 
 /// The first words of the line so far, and the word that has begun.
 #[derive(Drop)]

@@ -1,0 +1,26 @@
+use Rattle.std.proofs.Common.{[], sym, ◌∙◌, subst}
+use Rattle.std.proofs.lemmas.Result.{on_ok_weaker, IfErr-weaker}
+use Rattle.swd_script.specs.Plans.{plan_line, plan_of}
+use Rattle.swd_script.specs.Readers.{IsFaultOf, IsPlanFault, LineStops, TookPlan}
+use Rattle.swd_script.specs.Words.{texts_of}
+use Rattle.swd_script.proofs.ReadLemmas.{after_line, text_fault}
+use Rattle.swd_script.proofs.ScriptLemmas.{plan_words}
+use Rattle.swd_script.proofs.plan.VecMarkLineSink.add_line.Goals as goal
+
+pub returns-clause-ok : goal.returns-clause-ok
+returns-clause-ok g c =
+    let old = c.args.self.now.items in
+    on_ok_weaker c.add_mark.result
+    (λ e ended line n h t. after_line (λ number. plan_line) [] old c.add_mark.new.marks.items ended line c.args._number n t
+    (sym (plan_words old line c.args.words h) ∙ e))
+    c.add_mark.ensures.ok
+
+pub returns-clause-err : goal.returns-clause-err
+returns-clause-err g c =
+    let old = c.args.self.now.items in
+    IfErr-weaker c.add_mark.result (λ fault. IsFaultOf fault (plan_line old (texts_of c.args.words)))
+    (LineStops TookPlan IsPlanFault c.args._number c.args.words c.args.self.now)
+    (λ fault e text ended line l n h t.
+    text_fault plan_of (λ number. plan_line) [] old (λ text at e. e) text ended line c.args._number fault l n t
+    (subst (IsFaultOf fault) (plan_words old line c.args.words h) e))
+    c.add_mark.ensures.err
