@@ -57,14 +57,14 @@ pub record HasLast (text : List ℕ) (number : ℕ) : Type 0 where
   pub law : lines text ≡ ended ++ line ∷ []
   pub number_is : number ≡ line_number (length ended)
 
--- the line with this number, which has these first words, leads from one state to another; `took` says which lines led
--- to a state
+-- the line with this number, which has these first words or is spoiled, leads from one state to another; `took` says
+-- which lines led to a state
 abbrev pub LineLeads : {S : Type 0} → (List (List ℕ) → S → Type 0) → ℕ → Option (ArrayVec (ArrayVec ℕ)) → S → S → Type 0
 LineLeads took number words old new =
     (ended : List (List ℕ)) (line : List ℕ) → number ≡ line_number (length ended) → IsScanned line words
     → took ended old → took (ended ++ line ∷ []) new
 
--- the line with this number, which has these first words, has this fault; `refuses` says which fault a text has
+-- the line with this number, which has these first words or is spoiled, has this fault; `refuses` says which a text has
 abbrev pub LineStops : {S : Type 0} → (List (List ℕ) → S → Type 0) → (ScriptFault → List ℕ → Type 0) → ℕ →
     Option (ArrayVec (ArrayVec ℕ)) → S → LineFault → Type 0
 LineStops took refuses number words old fault =

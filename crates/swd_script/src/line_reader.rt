@@ -45,8 +45,8 @@ pub trait LineSink: Drop {
 /// However long a line is, the reader holds a few bytes of it, beside what the lines before it said.
 #[derive(Drop)]
 pub struct LineReader<S> {
-    pub(crate) lines: Lines,
-    pub(crate) sink: S,
+    lines: Lines,
+    sink: S,
 }
 
 impl<S: LineSink> LineReader<S> {
