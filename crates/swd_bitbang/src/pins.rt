@@ -34,7 +34,7 @@ pub enum Sign {
 /// pins.take(b'e'); // low, a one
 /// pins.take(b'g'); // high: one cycle with a one went by
 /// ```
-#[derive(Drop)]
+#[derive(Debug, Drop)]
 pub struct Pins<A: Allocator = Global> {
     target: MarkedClocked<A>,
     clock: bool,

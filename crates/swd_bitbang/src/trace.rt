@@ -6,7 +6,7 @@ use std::alloc::{Allocator, Global};
 
 /// What went over a line, as a trace text: a character `0` or `1` for each clock, as the host sees it.
 /// Where memory is refused it is cut off, and nothing else changes.
-#[derive(Drop)]
+#[derive(Debug, Drop)]
 pub struct Trace<A: Allocator = Global> {
     bits: Vec<u8, A>,
     wanted: bool,

@@ -4,6 +4,8 @@ ghost use Rattle.swd_bits.specs.Bits.{low_bits};
 ghost use Rattle.swd_bits.specs.Wire.{ack};
 ghost use Rattle.swd_bits.specs.declared.ack.Ack.{Ack};
 
+use std::fmt;
+
 /// An acknowledgement (IHI 0031, B4, "Acknowledge response").
 #[derive(Clone, Copy, Debug, PartialEq, Eq)]
 pub enum Ack {
@@ -31,5 +33,16 @@ impl Ack {
             4 => Some(Ack::Fault),
             _ => None,
         }
+    }
+}
+
+/// As the standard names it: `OK`, `WAIT` or `FAULT`.
+impl fmt::Display for Ack {
+    fn fmt<W: fmt::Write>(&self, f: &mut fmt::Formatter<W>) -> fmt::Result {
+        f.write_str(match self {
+            Ack::Ok => "OK",
+            Ack::Wait => "WAIT",
+            Ack::Fault => "FAULT",
+        })
     }
 }

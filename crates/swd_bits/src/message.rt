@@ -3,7 +3,10 @@ ghost use Rattle.std.specs.Prelude.{Some};
 ghost use Rattle.swd_bits.specs.Messages.{message as message_of};
 
 use crate::one::OneFault;
+use std::error::Error;
 use std::fmt;
+
+impl Error for OneFault {}
 
 impl fmt::Display for OneFault {
     ghost output = { λ fault. Some (message_of fault) };

@@ -178,3 +178,11 @@ fn faults_have_their_messages(rt: HostRuntime) -> Result<(), Fail> {
     }
     Ok(())
 }
+
+#[test]
+fn acknowledgements_have_their_names(rt: HostRuntime) -> Result<(), Fail> {
+    for (ack, name) in [(Ack::Ok, "OK"), (Ack::Wait, "WAIT"), (Ack::Fault, "FAULT")] {
+        assert_eq!(rt; format!(in rt.alloc(); "{ack}")?.as_str(), name);
+    }
+    Ok(())
+}

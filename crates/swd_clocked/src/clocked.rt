@@ -28,7 +28,7 @@ pub(crate) const SWITCH: u16 = 0xe79e;
 /// target.cycle(Some(false));
 /// // then DPIDR's request, bit by bit, and the acknowledgement with None
 /// ```
-#[derive(Drop)]
+#[derive(Debug, Drop)]
 pub struct Clocked<A: Allocator = Global> {
     pub(crate) target: Target<A>,
     pub(crate) frame: Frame,

@@ -33,7 +33,7 @@ use swd_target::{Memory, Quirks};
 /// bench.ask(Register::DpidrRead.request()); // 1: OK, and a data phase is due
 /// bench.cycles(); // 142
 /// ```
-#[derive(Drop)]
+#[derive(Debug, Drop)]
 pub struct ClockedBench<A: Allocator = Global> {
     marked: Box<MarkedClocked<A>, A>,
     due: Due,

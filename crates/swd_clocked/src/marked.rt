@@ -35,7 +35,7 @@ const UNSEEN: u8 = 4;
 /// target.cycle(Some(false));
 /// // then DPIDR's request, bit by bit, and the acknowledgement with None
 /// ```
-#[derive(Drop)]
+#[derive(Debug, Drop)]
 pub struct MarkedClocked<A: Allocator = Global> {
     pub(crate) clocked: Clocked<A>,
     pub(crate) plan: Plan<A>,

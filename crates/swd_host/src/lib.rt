@@ -24,3 +24,6 @@ pub use outcome::{End, Outcome, Refused, Report};
 pub use outside::run_outside;
 pub use resuming::resume;
 pub use running::run;
+
+#[cfg(test)]
+mod tests;

@@ -4,9 +4,11 @@ ghost use Rattle.std.specs.Io.KnownBytes.{Appends};
 
 use std::io;
 use std::io::Write;
+use thiserror::Error;
 
 /// A text that did not go out whole.
-#[derive(Debug, Drop)]
+#[derive(Debug, Drop, Error)]
+#[error("only the first {sent} bytes went out: {error}")]
 pub struct Unsent {
     /// How many of its bytes went out: the first ones.
     pub sent: usize,

@@ -2,7 +2,9 @@
 ghost use Rattle.std.specs.Prelude.{◌≡◌, ℕ, List, [], ◌++◌, OnOk, IfErr};
 ghost use Rattle.swd_io.specs.Pieces.{Reads, fault_or};
 
+use std::fmt::Display;
 use std::io::Read;
+use thiserror::Error;
 
 /// What takes a text, one piece after another, and may write to a `W` as it does; `()` where it
 /// writes nothing. It reads nothing itself, so how the text is cut into pieces makes no difference to
@@ -37,11 +39,14 @@ pub trait Consumer<W> {
 }
 
 /// Why a text was not read to its end.
-#[derive(Clone, Copy, Debug, PartialEq, Eq, Drop)]
+#[derive(Clone, Copy, Debug, PartialEq, Eq, Drop, Error)]
+#[error_bound(F: Display)]
 pub enum Unread<F> {
     /// The reader failed, or did not end within 2^64 - 1 reads.
+    #[error("read failed")]
     Reader,
     /// What took the text stopped.
+    #[error("{0}")]
     Consumer(F),
 }
 

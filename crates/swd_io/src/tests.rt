@@ -1,5 +1,5 @@
 //! A text read and sent, with ends that fail once and then go on.
-use crate::{Consumer, Unread, read_pieces, send};
+use crate::{Consumer, Unread, Unsent, read_pieces, send};
 use std::io;
 use std::test::Fail;
 use swd_fakes::{FailingReader, OneByteReader, OneByteWriter, ShortWriter};
@@ -98,5 +98,24 @@ fn a_million_bytes_go_one_by_one(rt: HostRuntime) -> Result<(), Fail> {
     let mut writer = OneByteWriter::new(rt.alloc());
     assert!(rt; send(&mut writer, &text).is_ok());
     assert!(rt; writer.taken == text);
+    Ok(())
+}
+
+#[test]
+fn faults_say_what_failed(rt: HostRuntime) -> Result<(), Fail> {
+    let unread: [Unread<usize>; 2] = [Unread::Reader, Unread::Consumer(7)];
+    for (fault, words) in unread.iter().zip(["read failed", "7"].iter()) {
+        assert_eq!(rt; format!(in rt.alloc(); "{fault}")?.as_str(), *words);
+    }
+    let unsent = Unsent {
+        sent: 3,
+        error: io::Error::from(io::ErrorKind::WriteZero),
+    };
+    let words = format!(in rt.alloc(); "{unsent}")?;
+    assert!(rt;
+        words
+            .as_str()
+            .starts_with("only the first 3 bytes went out: ")
+    );
     Ok(())
 }

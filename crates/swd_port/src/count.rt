@@ -2,6 +2,7 @@
 ghost use Rattle.std.specs.Prelude.{◌≡◌, ◌+◌, ℕ};
 ghost use base.Fml.{ftrue};
 
+use std::fmt;
 use std::marker::{Model, PhantomData};
 use std::mem::size_of;
 
@@ -33,4 +34,10 @@ impl Count {
     pub fn tick(&mut self)
         ensures { self.new.ticks ≡ self.old.ticks + 1 }
     {}
+}
+
+impl fmt::Debug for Count {
+    fn fmt<W: fmt::Write>(&self, f: &mut fmt::Formatter<W>) -> fmt::Result {
+        f.write_str("Count")
+    }
 }

@@ -2,6 +2,8 @@
 ghost use Rattle.std.specs.Prelude.{◌≡◌, ◌↔◌, IsTrue};
 ghost use Rattle.swd_port.specs.Choices.{IsMark, loses};
 
+use std::fmt;
+
 /// What happens to a request.
 #[derive(Clone, Copy, Debug, PartialEq, Eq)]
 pub enum Mark {
@@ -37,5 +39,18 @@ impl Mark {
         ensures { IsTrue result ↔ (loses self.now ≡ 1) }
     {
         matches!(self, Mark::Deaf | Mark::Mute(_))
+    }
+}
+
+/// As a line of a plan: `.`, `wait`, `flip 32`, `deaf` or `mute 2`.
+impl fmt::Display for Mark {
+    fn fmt<W: fmt::Write>(&self, f: &mut fmt::Formatter<W>) -> fmt::Result {
+        match self {
+            Mark::Clean => f.write_str("."),
+            Mark::Wait => f.write_str("wait"),
+            Mark::Flip(place) => write!(f, "flip {place}"),
+            Mark::Deaf => f.write_str("deaf"),
+            Mark::Mute(place) => write!(f, "mute {place}"),
+        }
     }
 }

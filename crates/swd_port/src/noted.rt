@@ -4,6 +4,7 @@ ghost use Rattle.swd_port.specs.declared.call.Call.{Call as Noticed};
 ghost use base.Fml.{ftrue};
 
 use crate::call::Call;
+use std::fmt;
 use std::marker::Model;
 
 /// The calls of a wire so far, the last one first, as `calls`: a program never reads them. It takes
@@ -30,5 +31,11 @@ impl Noted {
         ensures { result.calls ≡ _call.now ∷ self.now.calls }
     {
         Noted {}
+    }
+}
+
+impl fmt::Debug for Noted {
+    fn fmt<W: fmt::Write>(&self, f: &mut fmt::Formatter<W>) -> fmt::Result {
+        f.write_str("Noted")
     }
 }

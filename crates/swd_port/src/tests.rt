@@ -6,6 +6,7 @@ ghost use Rattle.swd_port.specs.Port.{made_target, made};
 
 use super::*;
 use bitflags::Flags;
+use std::test::Fail;
 use swd_bits::{Request, word_of};
 
 // A wire with nothing at its other end, where every bit reads 1. It keeps the law: no request is
@@ -302,4 +303,36 @@ fn nothing_is_sent_once_the_other_end_went_away(rt: HostRuntime) {
     assert_eq!(rt; three_requests(&mut wire), 1);
     assert!(rt; !wire.is_gone());
     assert_eq!(rt; wire.into_transport().calls, 6);
+}
+
+#[test]
+fn accesses_and_marks_are_lines_of_a_script_and_a_plan(rt: HostRuntime) -> Result<(), Fail> {
+    for (access, line) in [
+        (Access::Read(0x2000_0000), "r 20000000"),
+        (Access::Write(0x10, 0xdead_beef), "w 00000010 deadbeef"),
+    ] {
+        assert_eq!(rt; format!(in rt.alloc(); "{access}")?.as_str(), line);
+    }
+    for (mark, line) in [
+        (Mark::Clean, "."),
+        (Mark::Wait, "wait"),
+        (Mark::Flip(32), "flip 32"),
+        (Mark::Deaf, "deaf"),
+        (Mark::Mute(2), "mute 2"),
+    ] {
+        assert_eq!(rt; format!(in rt.alloc(); "{mark}")?.as_str(), line);
+    }
+    Ok(())
+}
+
+#[test]
+fn answers_have_the_words_of_a_report(rt: HostRuntime) -> Result<(), Fail> {
+    for (answer, words) in [
+        (Answer::Value(0x0000_00ff), "000000ff"),
+        (Answer::Written, "written"),
+        (Answer::BusFault, "busfault"),
+    ] {
+        assert_eq!(rt; format!(in rt.alloc(); "{answer}")?.as_str(), words);
+    }
+    Ok(())
 }

@@ -7,7 +7,7 @@ use std::alloc::Allocator;
 use swd_port::Access;
 
 /// The accesses of one call, which is one of several over the same target.
-#[derive(Drop)]
+#[derive(Debug, Drop)]
 pub struct Batch<A: Allocator> {
     /// At most 65,536 accesses, each at a multiple of 4.
     pub accesses: Vec<Access, A>,

@@ -14,7 +14,7 @@ use std::io::Read;
 use swd_io::Unread;
 
 /// What a script says.
-#[derive(Drop)]
+#[derive(Debug, Drop)]
 pub struct Script<A: Allocator> {
     /// The address of the memory's first word, a multiple of 4.
     pub base: u32,

@@ -35,7 +35,7 @@ use swd_port::{Due, Line, Mark, Wire};
 /// bench.ask(Register::DpidrRead.request()); // 1: OK, and a data phase is due
 /// word_of(bench.take()); // Some(0x2ba0_1477)
 /// ```
-#[derive(Drop)]
+#[derive(Debug, Drop)]
 pub struct Bench<A: Allocator = Global> {
     target: Target<A>,
     due: Due,

@@ -10,22 +10,27 @@ use crate::words::Words;
 use std::alloc::{Allocator, Global};
 use std::marker::Model;
 use swd_port::{Access, Answer, Transfer};
+use thiserror::Error;
 
 /// Why no memory was made.
-#[derive(Clone, Copy, Debug, PartialEq, Eq)]
+#[derive(Clone, Copy, Debug, PartialEq, Eq, Error)]
 pub enum MakeFault {
     /// There was no room for the words or for the log.
+    #[error("out of memory for the words or the log")]
     Memory,
     /// The first address isn't a multiple of 4.
+    #[error("the first address is no multiple of 4")]
     Base,
     /// The words go beyond 2^32.
+    #[error("the words go past 2^32")]
     Range,
     /// There are no words.
+    #[error("no words")]
     Empty,
 }
 
 // Where the words are.
-#[derive(Drop)]
+#[derive(Debug, Drop)]
 pub(crate) enum Kept<A: Allocator> {
     // Here.
     Here(Words<A>),
@@ -35,7 +40,7 @@ pub(crate) enum Kept<A: Allocator> {
 
 /// Words at addresses, and a log of the transfers that took place, the oldest first. Contracts see
 /// both as a `PlainMemory`.
-#[derive(Drop)]
+#[derive(Debug, Drop)]
 pub struct Memory<A: Allocator = Global> {
     kept: Kept<A>,
 }

@@ -9,7 +9,7 @@ use swd_port::{Count, Mark};
 
 /// The marks of a simulated wire's requests, in their order. After the last one nothing happens to a
 /// request.
-#[derive(Drop)]
+#[derive(Debug, Drop)]
 pub struct Plan<A: Allocator = Global> {
     marks: Vec<Mark, A>,
     next: usize,

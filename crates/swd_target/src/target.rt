@@ -30,7 +30,7 @@ const IDENTIFICATION: u32 = 0x2ba0_1477;
 /// A debug port and its access port, behind whatever stands at the wire. The choices that the
 /// standard leaves to a target are its quirks, and the word that a register keeps where the port
 /// machine calls it unknown.
-#[derive(Drop)]
+#[derive(Debug, Drop)]
 pub struct Target<A: Allocator = Global> {
     pub(crate) quirks: Quirks,
     pub(crate) reset: Reset,

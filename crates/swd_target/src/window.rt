@@ -9,7 +9,7 @@ use swd_port::{Access, Answer, Transfer};
 
 /// The word at one address, or none, and the one transfer that took place there, or none yet.
 /// Contracts see it as a `PlainMemory`.
-#[derive(Drop)]
+#[derive(Debug, Drop)]
 pub(crate) struct Window {
     addr: u32,
     word: Option<u32>,

@@ -12,7 +12,7 @@ use swd_port::{Access, Answer, Transfer};
 
 /// Words at addresses, and a log of the transfers that took place, the oldest first. Contracts see
 /// both as a `PlainMemory`.
-#[derive(Drop)]
+#[derive(Debug, Drop)]
 pub(crate) struct Words<A: Allocator> {
     base: u32,
     words: Vec<u32, A>,

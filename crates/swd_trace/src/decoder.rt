@@ -30,7 +30,7 @@ use swd_bits::{MOVED_BITS, Tx, TxBits, TxEnd};
 /// let cut = TxBits { len: 1, bits: 1 }; // a transaction has begun
 /// assert_eq!(rt; decoder.finish().as_slice(), [Item::Cut(cut)].as_slice());
 /// ```
-#[derive(Drop)]
+#[derive(Debug, Drop)]
 pub struct Decoder {
     mode: Mode,
     // equal bits at the front of what is held: that many, all of them ones or zeros

@@ -201,3 +201,16 @@ fn a_target_is_given_back_by_its_numbers(rt: HostRuntime) {
     none.reset = 0;
     assert!(rt; none.target(Memory::<Global>::window(0, None)).fields() != none);
 }
+
+#[test]
+fn faults_say_why_there_is_no_memory(rt: HostRuntime) -> Result<(), Fail> {
+    for (fault, words) in [
+        (MakeFault::Memory, "out of memory for the words or the log"),
+        (MakeFault::Base, "the first address is no multiple of 4"),
+        (MakeFault::Range, "the words go past 2^32"),
+        (MakeFault::Empty, "no words"),
+    ] {
+        assert_eq!(rt; format!(in rt.alloc(); "{fault}")?.as_str(), words);
+    }
+    Ok(())
+}
