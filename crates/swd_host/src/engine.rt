@@ -1,6 +1,8 @@
 //! The engine: what has to be sent next, from what was seen so far. It sends nothing itself.
 ghost use Rattle.std.specs.Prelude.{◌≡◌, ◌+◌, ◌<◌, ◌≤◌, ◌*◌, ◌^◌, ◌||◌, ℕ, true, false, None};
+ghost use Rattle.swd_port.specs.declared.wire.Due.TheVariants.{Nothing};
 ghost use Rattle.swd_port.specs.Phases.{word_in};
+ghost use Rattle.swd_port.specs.Port.{Port};
 ghost use Rattle.swd_host.specs.Events.{Meets, MeetsRead, MeetsSent};
 ghost use Rattle.swd_host.specs.Early.{HearsEarly, ReadsEarly, SendsEarly};
 ghost use Rattle.swd_host.specs.Engines.{lead_cue, cue_of, finished_of, is_ahead, begun_of, is_ask, is_take, is_send};
@@ -8,7 +10,7 @@ ghost use Rattle.swd_host.specs.Engines.{may_start, one_more, requests_of, tries
 ghost use Rattle.swd_host.specs.Tasks.{task_for};
 ghost use Rattle.swd_host.specs.Progress.{open_requests};
 ghost use Rattle.swd_host.specs.Turns.{IsNew, Starts, Sees, Lands, first_state, lands_from};
-ghost use Rattle.swd_host.specs.Tracks.{HasRead, HasSent, Hears, Keeps, state_seen};
+ghost use Rattle.swd_host.specs.Tracks.{DueFits, HasRead, HasSent, Hears, Keeps, state_seen};
 
 use crate::outcome::{End, Outcome};
 use crate::phase::{phase_of, word_in_phase};
@@ -119,6 +121,7 @@ impl Engine {
     pub fn new(tries: u32) -> Engine
         ensures new { IsNew Bursts.Writes false tries result }
         ensures open { open_requests result ≤ 9 + 5 * (tries + 1) }
+        ensures fits { (s : Port) → s.link.due ≡ Nothing → DueFits result s }
     {
         Engine {
             state: State::Leading,
@@ -140,6 +143,7 @@ impl Engine {
     pub fn blocks(tries: u32) -> Engine
         ensures new { IsNew Bursts.Reads false tries result }
         ensures open { open_requests result ≤ 9 + 5 * (tries + 1) }
+        ensures fits { (s : Port) → s.link.due ≡ Nothing → DueFits result s }
     {
         let mut engine = Engine::new(tries);
         engine.bursts = Bursts::Reads;
@@ -156,6 +160,7 @@ impl Engine {
     pub fn again(tries: u32) -> Engine
         ensures again { IsNew Bursts.Writes true tries result }
         ensures open { open_requests result ≤ 9 + 5 * (tries + 2) }
+        ensures fits { (s : Port) → DueFits result s }
     {
         let mut engine = Engine::new(tries);
         engine.stray = true;

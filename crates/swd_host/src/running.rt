@@ -4,8 +4,8 @@ ghost use Rattle.std.specs.Prelude.{◌+◌, length, []};
 ghost use Rattle.std.specs.Vec.{vec_capacity};
 ghost use Rattle.swd_port.specs.declared.wire.Due.TheVariants.{Nothing};
 ghost use Rattle.swd_host.specs.Plain.{AreAccesses, HasRanges, is_aligned};
-ghost use Rattle.swd_host.specs.Engines.{finished_of, is_ahead, is_resting, may_start};
-ghost use Rattle.swd_host.specs.Progress.{calls_left};
+ghost use Rattle.swd_host.specs.Engines.{finished_of, is_ahead, is_resting, may_start, requests_of};
+ghost use Rattle.swd_host.specs.Progress.{calls_left, open_requests};
 ghost use Rattle.swd_host.specs.Tasks.{access_of, most_of};
 ghost use Rattle.swd_host.specs.Tracks.{DueFits};
 ghost use Rattle.swd_host.specs.Turns.{Works, WorksFrom, Goes, GoesFrom, GoesOn, IsNew, Starts, answered_as, opened_as};
@@ -19,6 +19,37 @@ use std::alloc::Allocator;
 use swd_port::{Access, Answer, Wire};
 
 const MOST: usize = 65_536;
+
+impl Engine {
+    /// Makes the one call of a wire that the engine asks for, and tells it what came of that. Where it rests, none
+    /// is made. What is due on the wire is what the engine expects, as it is from a new engine over a wire on which
+    /// nothing is due, after each turn, and after each `start`.
+    ///
+    /// So an outcome is driven to, over a wire of one's own:
+    ///
+    /// ```text
+    /// loop {
+    ///     match engine.finished() {
+    ///         Some(outcome) => return outcome,
+    ///         None => engine.turn(wire),
+    ///     }
+    /// }
+    /// ```
+    pub fn turn<W: Wire>(&mut self, wire: &mut W)
+        requires { DueFits self.old (W.port wire.old) }
+        ensures due { DueFits self.new (W.port wire.new) }
+        ensures rests { is_resting self.old ≡ true → (self.new ≡ self.old) × (wire.new ≡ wire.old) }
+        ensures falls { is_resting self.old ≡ false → calls_left self.new < calls_left self.old }
+        ensures spends { requests_of self.new + open_requests self.new ≤ requests_of self.old + open_requests self.old }
+        ensures goes { W.lawful wire.new → W.lawful wire.old
+            × Goes self.old (W.port wire.old) self.new (W.port wire.new) }
+        ensures plan { W.plan wire.new ≡ W.plan wire.old }
+    {
+        if self.finished().is_none() {
+            turn(wire, self);
+        }
+    }
+}
 
 // One call of the wire, as the engine asks for it.
 fn turn<W: Wire>(wire: &mut W, engine: &mut Engine)
@@ -179,7 +210,7 @@ pub(crate) fn perform<W: Wire, A: Allocator>(
             Err(end) => return end,
         }
     }
-    wire.lead(0, false, 8);
+    wire.idle(8);
     End::All
 }
 

@@ -36,7 +36,7 @@ pub enum Due {
 /// fn identification<W: Wire>(wire: &mut W) -> Option<u32>
 ///     requires { (W.port wire.old).link.due ≡ Nothing }
 /// {
-///     wire.lead(56, false, 8);
+///     wire.line_reset();
 ///     match wire.ask(Register::DpidrRead.request()) {
 ///         1 => word_of(wire.take()),
 ///         2 | 4 => {
@@ -71,6 +71,27 @@ pub trait Wire {
         ensures due { (port self.new).link.due ≡ Nothing }
         ensures step { lawful self.new → lawful self.old × Leads (port self.old) ones (port self.new) }
         ensures plan { plan self.new ≡ plan self.old };
+
+    /// A line reset: 56 ones and two zeros. The target then waits for its identification to be read, and no register
+    /// has changed (IHI 0031, B4, "Connection and line reset sequence").
+    final fn line_reset(&mut self)
+        requires { (port self.old).link.due ≡ Nothing }
+        ensures due { (port self.new).link.due ≡ Nothing }
+        ensures step { lawful self.new → lawful self.old × Leads (port self.old) 56 (port self.new) }
+        ensures plan { plan self.new ≡ plan self.old }
+    {
+        self.lead(56, false, 2)
+    }
+
+    /// So many idle cycles. A transfer that is pending goes on in them (IHI 0031, B4, "Idle cycles").
+    final fn idle(&mut self, cycles: u32)
+        requires { (port self.old).link.due ≡ Nothing }
+        ensures due { (port self.new).link.due ≡ Nothing }
+        ensures step { lawful self.new → lawful self.old × Leads (port self.old) 0 (port self.new) }
+        ensures plan { plan self.new ≡ plan self.old }
+    {
+        self.lead(0, false, cycles)
+    }
 
     /// Sends the eight bits of a request, and after a turnaround sees three bits: 1 is OK, 2 WAIT,
     /// 4 FAULT, and every other number is no acknowledgement.

@@ -81,16 +81,16 @@ pub returns-clause-performs : goal.returns-clause-performs
 returns-clause-performs g c =
     all_performs c.loop-index.index c.args.accesses.now c.args.engine.now c.loop-index.engine
     c.loop-index.invariant.added.part (g.W.Wire.port c.loop-index.wire) _ c.loop-index.invariant.stays (omega arith)
-    c.lead.ensures.due c.args.answers.now.items c.loop-index.answers.items c.loop-index.invariant.added.whole
+    c.idle.ensures.due c.args.answers.now.items c.loop-index.answers.items c.loop-index.invariant.added.whole
 
 pub returns-clause-does : goal.returns-clause-does
 returns-clause-does g c = λ lawful.
-    let late = c.lead.ensures.step lawful in
+    let late = c.idle.ensures.step lawful in
     let soon = c.loop-index.invariant.stands late.0 in (
       soon.0,
       all_does c.loop-index.index c.args.accesses.now c.args.engine.now c.loop-index.engine
           c.loop-index.invariant.added.part (g.W.Wire.port c.args.wire.now) (g.W.Wire.port c.loop-index.wire)
           c.requires.opened
           (omega arith) soon.1 c.args.answers.now.items c.loop-index.answers.items
-          (g.W.Wire.port c.lead.new.self) c.loop-index.invariant.added.whole late.1,
+          (g.W.Wire.port c.idle.new.self) c.loop-index.invariant.added.whole late.1,
     )

@@ -1,0 +1,5 @@
+use Rattle.swd_host.proofs.Going.{goes_refl}
+use Rattle.swd_host.proofs.engine.Engine.turn.Goals as goal
+
+pub returns-else-is_none-clause-goes : goal.returns-else-is_none-clause-goes
+returns-else-is_none-clause-goes g c = λ lawful. (lawful, goes_refl _ _)
