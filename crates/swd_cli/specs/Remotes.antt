@@ -1,34 +1,48 @@
 -- The status of a run at a target elsewhere.
-use Rattle.std.specs.Prelude.{◌≡◌, ◌⊎◌, ℕ, Bool, true, false, List, Option, Some, None, Result, Ok, Err}
+use Rattle.std.specs.Prelude.{◌≡◌, ◌⊎◌, ℕ, Bool, false, List, Option, Some, None, Result, Ok}
+use Rattle.swd_port.specs.declared.call.Call.{Call}
 use Rattle.swd_port.specs.Port.{Port}
 use Rattle.swd_text.specs.declared.fault.EngineFault.{EngineFault}
+use Rattle.swd_remote.specs.declared.kept.Line.{Line}
 use Rattle.swd_remote.specs.declared.remote.Fault.{Fault}
-use Rattle.swd_run.specs.declared.remote.Reached.{Reached}
+use Rattle.swd_remote.specs.WholeRuns.{GoesOver, IsUnused}
+use Rattle.swd_run.specs.declared.closing.Finished.{Finished}
 use Rattle.swd_run.specs.RemoteRuns.{RunsRecorded, RunsRemote}
 use Rattle.swd_cli.specs.declared.command.RunLine.{RunLine}
-use Rattle.swd_cli.specs.Statuses.{IsStatusOf}
+use Rattle.swd_cli.specs.Statuses.{status_of_run}
 
 -- where the other end went away, the status is 1; else it is that of the run
-abbrev pub IsReachedAs : Option Fault → Bool → Reached → ℕ → Type 0
-IsReachedAs (Some fault) strict reached status = status ≡ 1
-IsReachedAs None strict reached status =
-    IsStatusOf strict (Ok (record { ended = reached.ended; differs = reached.differs })) status
+abbrev pub status_at : Bool → Option Fault → Result Finished EngineFault → ℕ
+status_at failed (Some fault) (Ok finished) = 1
+status_at failed gone answer = status_of_run failed answer
 
-abbrev pub IsReached : Bool → Result Reached EngineFault → ℕ → Type 0
-IsReached strict (Ok reached) status = IsReachedAs reached.fault strict reached status
-IsReached strict (Err fault) status = status ≡ 2
+-- only a strict run may fail its script
+pub record IsStatusAt (strict : Bool) (answer : Result Finished EngineFault) (gone : Option Fault) (status : ℕ) : Type 0 where
+  pub failed : Bool
+  pub only_strict : strict ≡ false → failed ≡ false
+  pub is : status ≡ status_at failed gone answer
 
--- The script is run, and its report and, where one is named, its trace go to files of which nothing else is known; or such a
--- file can't be opened.
-abbrev pub PerformsAt : {S : Type 0} → (ℕ → Port) → Option S → RunLine → ℕ → Option (List ℕ) → Type 0
-PerformsAt story None run status script =
-    (answer : Result Reached EngineFault) × (before : Option (List ℕ)) × (after : Option (List ℕ))
-    × RunsRemote story run.tries run.resumes answer script before after × IsReached run.strict answer status
-PerformsAt story (Some trace) run status script =
-    (status ≡ 2) ⊎ ((answer : Result Reached EngineFault) × (before : Option (List ℕ)) × (after : Option (List ℕ))
+-- what went over the line whose end this is, by the calls of the wire
+abbrev pub WentOver : {R W : Type 0} → (R → Option (List ℕ)) → (W → Option (List ℕ)) → Option (List ℕ) → Option (List ℕ) → Line R W
+    → List Call → Type 0
+WentOver remaining contents sent left line calls = ∥ GoesOver remaining contents sent left line calls ∥₁
+
+-- The script is run over a line, and its report and, where one is named, its trace go to files of which nothing else is known; or
+-- such a file can't be opened. That the line is over the standard streams, tests show.
+abbrev pub PerformsAt : {S R W : Type 0} → (ℕ → Port) → Option S → RunLine → ℕ → (R → Option (List ℕ)) → (W → Option (List ℕ))
+    → Option (List ℕ) → Option (List ℕ) → Option (List ℕ) → Type 0
+PerformsAt {S} {R} {W} story None run status remaining contents sent left script =
+    (answer : Result Finished EngineFault) × (line : Line R W) × (before : Option (List ℕ)) × (after : Option (List ℕ))
+    × RunsRemote story run.tries run.resumes (WentOver remaining contents sent left line) (IsUnused remaining contents sent left line)
+    answer script before after × IsStatusAt run.strict answer line.fault status
+PerformsAt {S} {R} {W} story (Some trace) run status remaining contents sent left script =
+    (status ≡ 2) ⊎ ((answer : Result Finished EngineFault) × (line : Line R W) × (before : Option (List ℕ)) × (after : Option (List ℕ))
     × (untraced : Option (List ℕ)) × (traced : Option (List ℕ))
-    × RunsRecorded story run.tries run.resumes answer script before after untraced traced × IsReached run.strict answer status)
+    × RunsRecorded story run.tries run.resumes (WentOver remaining contents sent left line) (IsUnused remaining contents sent left line)
+    answer script before after untraced traced × IsStatusAt run.strict answer line.fault status)
 
 -- so it is where a file of the report is named that can be opened
-abbrev pub PerformsRemote : (ℕ → Port) → RunLine → ℕ → Option (List ℕ) → Type 0
-PerformsRemote story run status script = (status ≡ 2) ⊎ PerformsAt story run.trace run status script
+abbrev pub PerformsRemote : {R W : Type 0} → (ℕ → Port) → RunLine → ℕ → (R → Option (List ℕ)) → (W → Option (List ℕ))
+    → Option (List ℕ) → Option (List ℕ) → Option (List ℕ) → Type 0
+PerformsRemote story run status remaining contents sent left script =
+    (status ≡ 2) ⊎ PerformsAt story run.trace run status remaining contents sent left script

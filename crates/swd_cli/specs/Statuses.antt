@@ -10,7 +10,7 @@ use Rattle.swd_cli.specs.declared.command.Line.TheVariants.{One, Decode, Encode,
 use Rattle.swd_cli.specs.declared.command.RunLine.{RunLine}
 use Rattle.swd_host.specs.declared.outcome.End.{End}
 use Rattle.swd_host.specs.declared.outcome.End.TheVariants.{All, Lost, TriesOut, WrongId, Confused}
-use Rattle.swd_run.specs.declared.running.Finished.{Finished}
+use Rattle.swd_run.specs.declared.closing.Finished.{Finished}
 use Rattle.swd_run.specs.Running.{RunsText}
 use Rattle.swd_run.specs.Tracing.{RunsTraced}
 use Rattle.std.specs.Io.KnownBytes.{Appends}

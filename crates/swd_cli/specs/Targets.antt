@@ -1,7 +1,7 @@
 -- What `swd target` does on the standard streams.
 use Rattle.std.specs.Prelude.{ℕ, ◌≡◌, ◌⊎◌, List, Option}
 use Rattle.swd_bitbang.specs.declared.serving.Served.{Served}
-use Rattle.swd_bitbang.specs.declared.serving.Served.TheVariants.{Quit, Ended, Bad, Read, Write}
+use Rattle.swd_bitbang.specs.declared.serving.Served.TheVariants.{Quit, Ended}
 use Rattle.swd_bitbang.specs.declared.trace.Trace.{Trace}
 use Rattle.swd_bitbang.specs.declared.pins.Pins.{Pins}
 use Rattle.swd_bitbang.specs.Sessions.{Serves}

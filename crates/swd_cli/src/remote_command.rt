@@ -1,20 +1,19 @@
 //! A run at a target that is elsewhere, on the standard streams.
-ghost use Rattle.std.specs.Prelude.{◌≡◌, ◌⊎◌, ℕ, List, Option, []};
+ghost use Rattle.std.specs.Prelude.{◌≡◌, []};
 ghost use Rattle.std.specs.FinMap.{empty};
 ghost use Rattle.swd_port.specs.Port.{made};
-ghost use Rattle.swd_run.specs.RemoteRuns.{RunsRecorded, RunsRemote};
-ghost use Rattle.swd_cli.specs.Remotes.{IsReached, PerformsAt, PerformsRemote};
+ghost use Rattle.swd_cli.specs.Remotes.{IsStatusAt, PerformsAt, PerformsRemote};
 
 use crate::command::RunLine;
 use crate::files::{Files, Identity};
-use crate::report::{STOPPED, cannot_open, engine_status, finished_status, tell};
+use crate::report::{STOPPED, cannot_open, run_status, tell};
 use crate::trace::{Sources, open_trace};
 use crate::watch::Watch;
 use std::alloc::Global;
 use std::io::{Read, Write};
 use swd_port::Story;
-use swd_remote::{Fault, Remote};
-use swd_run::{Reached, run_remote, run_remote_traced};
+use swd_remote::Fault;
+use swd_run::{Finished, run_remote, run_remote_traced};
 use swd_text::EngineFault;
 
 /// Any story of the other end: what is proved of a run is proved of each.
@@ -25,17 +24,18 @@ impl Story for Untold {
 }
 
 /// Opens the file of the report, and runs the script at the target behind these streams.
-pub fn perform_remote<P: Story, S: Read, I: Read, F: Files, O: Write, E: Write>(
+pub fn perform_remote<P: Story, S: Read, I: Read + Drop, F: Files, O: Write + Drop, E: Write>(
     alloc: Global,
     run: &RunLine,
     script: &mut S,
     source: Option<Identity>,
-    input: &mut I,
+    input: I,
     files: &F,
-    output: &mut O,
+    output: O,
     errors: &mut E,
 ) -> u8
-    ensures { PerformsRemote P.at run.now result (S.remaining script.old) }
+    ensures { PerformsRemote P.at run.now result I.remaining O.contents (O.contents output) (I.remaining input)
+        (S.remaining script.old) }
 {
     let Some(name) = &run.report else {
         return tell(errors, "--remote and --report FILE go together");
@@ -53,12 +53,12 @@ pub fn perform_remote<P: Story, S: Read, I: Read, F: Files, O: Write, E: Write>(
             };
             let mut report = Watch::new(opened.file);
             report.look(run.strict);
-            let remote = Remote::new(input, output);
             run_at::<P, _, _, _, _, _, _>(
                 alloc,
                 run,
                 script,
-                remote,
+                input,
+                output,
                 beside,
                 files,
                 &mut report,
@@ -74,61 +74,62 @@ fn run_at<P: Story, S: Read, I: Read + Drop, O: Write + Drop, F: Files, M: Write
     alloc: Global,
     run: &RunLine,
     script: &mut S,
-    remote: Remote<I, O>,
+    input: I,
+    output: O,
     beside: Sources,
     files: &F,
     report: &mut Watch<M>,
     errors: &mut E,
 ) -> u8
-    ensures { PerformsAt P.at run.now.trace run.now result (S.remaining script.old) }
+    ensures { PerformsAt P.at run.now.trace run.now result I.remaining O.contents (O.contents output)
+        (I.remaining input) (S.remaining script.old) }
 {
     let Some(name) = &run.trace else {
-        let answer = run_remote::<P, _, _, _, _, _>(
+        let (answer, line) = run_remote::<P, _, _, _, _, _>(
             alloc,
             script,
-            remote,
+            input,
+            output,
             run.tries,
             run.resumes,
             report,
         );
-        return reached_status(errors, answer, run.strict, report.has_found());
+        return reached_status(errors, answer, line.fault, run.strict, report.has_found());
     };
     match open_trace(files, name.as_str(), beside) {
         Ok(mut trace) => {
-            let answer = run_remote_traced::<P, _, _, _, _, _, _>(
+            let (answer, line) = run_remote_traced::<P, _, _, _, _, _, _>(
                 alloc,
                 script,
-                remote,
+                input,
+                output,
                 run.tries,
                 run.resumes,
                 report,
                 &mut trace.file,
             );
-            reached_status(errors, answer, run.strict, report.has_found())
+            reached_status(errors, answer, line.fault, run.strict, report.has_found())
         }
         Err(_) => cannot_open(errors, name.as_str()),
     }
 }
 
-// The status of a run at a target elsewhere, which is gone or not.
+// The status of a run over a line whose other end is gone or not. A strict one fails its script where a bus fault
+// was found.
 fn reached_status<E: Write>(
     errors: &mut E,
-    answer: Result<Reached, EngineFault>,
+    answer: Result<Finished, EngineFault>,
+    gone: Option<Fault>,
     strict: bool,
     found: bool,
 ) -> u8
-    ensures { IsReached strict answer result }
+    ensures { IsStatusAt strict answer gone result }
 {
-    match answer {
-        Ok(reached) => {
-            let failed = strict && found;
-            let status = finished_status(errors, reached.ended, reached.differs, failed);
-            match reached.fault {
-                Some(fault) => gone_status(errors, fault),
-                None => status,
-            }
-        }
-        Err(fault) => engine_status(errors, Err(fault)),
+    let reached = answer.is_ok();
+    let status = run_status(errors, answer, strict && found);
+    match gone {
+        Some(fault) if reached => gone_status(errors, fault),
+        _ => status,
     }
 }
 

@@ -82,6 +82,7 @@ impl<W: Wire, A: Allocator> Recorder<W, A> {
 
     /// The wire under it.
     pub fn into_wire(self) -> W
+        ensures wire { wire_under self ≡ result }
         ensures port { port_by self ≡ with_asked (port_by self).tally.asked (W.port result) }
         ensures plan { plan_by self ≡ W.plan result }
     {

@@ -39,6 +39,21 @@ pub struct Line<R, W> {
     pub fault: Option<Fault>,
 }
 
+impl<R, W> Line<R, W> {
+    /// A line over which nothing went.
+    pub fn unused(reader: R, writer: W) -> Line<R, W>
+        ensures reader { result.reader ≡ reader }
+        ensures writer { result.writer ≡ writer }
+        ensures fault { result.fault ≡ None }
+    {
+        Line {
+            reader,
+            writer,
+            fault: None,
+        }
+    }
+}
+
 impl<R: Read, W: Write, B: Beginning> Kept<R, W, B> {
     ghost use Rattle.swd_remote.specs.Kept.{IsTold, HangsUp};
 

@@ -1,19 +1,11 @@
 -- Laws of the text of a report.
 use Rattle.std.proofs.lemmas.List.{append-nil, drop_all, drop_min, drop-take, length-take, take_all, take_min}
 use Rattle.std.proofs.Math.Seq.{drop-cons}
-use Rattle.std.proofs.Common.{◌≡◌, ℕ, zero, suc, ◌+◌, ◌-◌, ◌<◌, ◌≤◌, List, [], ◌∷◌, ◌++◌, length, map, take, drop, get_or, min, refl, sym, ap, ap₂, ◌∙◌, append_assoc, arith, add-one, subst, Option}
-use Rattle.std.specs.Io.KnownBytes.{Appends}
-use Rattle.swd_io.specs.Blocks.{Stopped}
+use Rattle.std.proofs.Common.{◌≡◌, ℕ, zero, suc, ◌+◌, ◌-◌, ◌<◌, ◌≤◌, List, [], ◌∷◌, ◌++◌, length, map, take, drop, get_or, min, refl, sym, ap, ap₂, ◌∙◌, append_assoc, arith, add-one}
 use Rattle.swd_port.specs.declared.access.Access.{Access}
 use Rattle.swd_port.specs.declared.access.Answer.{Answer}
 use Rattle.swd_run.specs.declared.going_on.Stop.{Stop}
-use Rattle.swd_script.specs.declared.batch.Batch.{Batch}
-use Rattle.swd_script.specs.Readers.{listed}
-use Rattle.swd_run.specs.declared.going_on.Resumed.{Resumed}
-use Rattle.swd_run.specs.declared.verified.Difference.{Difference}
-use Rattle.swd_run.specs.Reports.{answer_lines, lines_between, lines_from, pair_texts, resume_line, session_text}
-use Rattle.swd_run.specs.Sessions.{done_of}
-use Rattle.swd_run.specs.Verified.{first_difference}
+use Rattle.swd_run.specs.Reports.{answer_lines, lines_between, lines_from, pair_texts, resume_line}
 
 -- one text more
 pub pairs_more : {X Y : Type 0} (text : X → Y → List ℕ) (xs : List X) (ys : List Y) (i : ℕ) (d : X) (e : Y)
@@ -87,8 +79,6 @@ pub lines_end : (accesses : List Access) (answers : List Answer) (stops : List S
 lines_end accesses answers stops i from text whole high e =
     ap (λ l. text ++ lines_from from l accesses answers) (sym (drop_all i stops high)) ∙ e
 
--- ---- the batches and runs that are kept
-
 -- a text up to some pairs, and the rest
 pub pairs_rest : {X Y : Type 0} (text : X → Y → List ℕ) (xs : List X) (ys : List Y) (i : ℕ)
     → pair_texts text (take i xs) (take i ys) ++ pair_texts text (drop i xs) (drop i ys) ≡ pair_texts text xs ys
@@ -106,31 +96,3 @@ pairs_rest text (x ∷ xs) (y ∷ ys) zero = refl
 pairs_rest text (x ∷ xs) (y ∷ ys) (suc i) =
     append_assoc (text x y) (pair_texts text (take i xs) (take i ys)) (pair_texts text (drop i xs) (drop i ys))
     ∙ ap (λ t. text x y ++ t) (pairs_rest text xs ys i)
-
-module _ {A : Type 0} (start end : Option (List ℕ)) (batches kept_batches : List (Batch A)) (runs kept_runs : List (Resumed A))
-    (same_batches : batches ≡ kept_batches) (same_runs : runs ≡ kept_runs) where
-  pub kept_text : session_text (map listed batches) (map done_of runs) ≡ session_text (map listed kept_batches) (map done_of kept_runs)
-  kept_text =
-      ap (λ list. session_text (map listed list) (map done_of runs)) same_batches
-      ∙ ap (λ ran. session_text (map listed kept_batches) (map done_of ran)) same_runs
-
-  -- what went out is the text of those that are kept
-  pub appended : Appends start end (session_text (map listed batches) (map done_of runs))
-      → Appends start end (session_text (map listed kept_batches) (map done_of kept_runs))
-  appended h =
-      subst (λ ran. Appends start end (session_text (map listed kept_batches) (map done_of ran))) same_runs
-      (subst (λ list. Appends start end (session_text (map listed list) (map done_of runs))) same_batches h)
-
-  pub stopped : (written : ℕ) → Stopped written start end (session_text (map listed batches) (map done_of runs))
-      → Stopped written start end (session_text (map listed kept_batches) (map done_of kept_runs))
-  stopped written h =
-      subst (λ ran. Stopped written start end (session_text (map listed kept_batches) (map done_of ran))) same_runs
-      (subst (λ list. Stopped written start end (session_text (map listed list) (map done_of runs))) same_batches h)
-
--- and the first difference is theirs
-pub first_of : {A : Type 0} (found : Option Difference) (batches kept_batches : List (Batch A)) (runs kept_runs : List (Resumed A))
-    → batches ≡ kept_batches → runs ≡ kept_runs → found ≡ first_difference (map listed batches) (map done_of runs)
-    → found ≡ first_difference (map listed kept_batches) (map done_of kept_runs)
-first_of found batches kept_batches runs kept_runs same_batches same_runs h =
-    h ∙ ap (λ list. first_difference (map listed list) (map done_of runs)) same_batches
-    ∙ ap (λ ran. first_difference (map listed kept_batches) (map done_of ran)) same_runs

@@ -1,6 +1,6 @@
 -- Runs of a script, one after the other.
 use Rattle.std.proofs.Common.{◌≡◌, ℕ, zero, suc, ◌+◌, ◌<◌, ◌≤◌, ◌∙◌, List, [], ◌∷◌, ◌++◌, length, take, map, get_or, refl, sym, ap, subst}
-use Rattle.std.proofs.Common.{arith, append_assoc, add-one}
+use Rattle.std.proofs.Common.{arith, add-one}
 use Rattle.std.specs.Prelude.{◌↔◌, All as Each}
 use Rattle.std.proofs.lemmas.List.{length-append}
 use Rattle.std.proofs.Math.Seq.{take-suc}
@@ -10,7 +10,6 @@ use Rattle.swd_port.specs.declared.wire.Due.TheVariants.{Nothing, Lost as DueLos
 use Rattle.swd_port.specs.Choices.{disturbed_among, lost_among}
 use Rattle.swd_port.specs.Port.{Port, made}
 use Rattle.swd_recorder.specs.Steps.{pending}
-use Rattle.swd_host.specs.declared.outcome.End.{End}
 use Rattle.swd_host.specs.declared.outcome.End.TheVariants.{All, Lost}
 use Rattle.swd_host.specs.Reports.{IsAtRest, due_at}
 use Rattle.swd_script.specs.Scripts.{Listed, Meaning}

@@ -19,7 +19,7 @@ use Rattle.swd_host.specs.Reports.{Told, Closes, EndsAt, due_at, Fits, IsAtRest,
 use Rattle.swd_host.specs.Again.{Again, AgainThen, Continues, GoesAgain, Grows, HasRoom, IsAfter, ResumeFits, added_in, repeated}
 use Rattle.swd_script.specs.Scripts.{Listed}
 use Rattle.swd_run.specs.declared.going_on.Stop.{Stop}
-use Rattle.swd_run.specs.GoingOn.{Went, ran, resumed, stop_of, requests_before, in_all, IsCall, AreCalls, answered_first, begun_first, ToldAgain, TellOf}
+use Rattle.swd_run.specs.GoingOn.{Went, ran, resumed, stop_of, requests_before, IsCall, AreCalls, answered_first, begun_first, ToldAgain, TellOf}
 use Rattle.swd_run.specs.Running.{IsExcused, RunsOn, most_begun}
 use Rattle.swd_run.specs.Sessions.{Done, GoesOn}
 use Rattle.swd_run.proofs.RunLemmas.{ends_at, excused, run_as}

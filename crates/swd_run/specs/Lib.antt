@@ -1,3 +1,4 @@
+pub mod Closing
 pub mod GoingOn
 pub mod Sessions
 pub mod Reports

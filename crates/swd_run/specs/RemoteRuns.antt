@@ -15,11 +15,11 @@ use Rattle.swd_script.specs.Readers.{IsScriptFault}
 use Rattle.swd_text.specs.declared.fault.EngineFault.{EngineFault}
 use Rattle.swd_text.specs.declared.fault.EngineFault.TheVariants.{Script, Plan, Text, List as Listing, Read, Write}
 use Rattle.swd_text.specs.declared.fault.EngineFault.TheVariants.{Memory, TraceCut}
-use Rattle.swd_run.specs.declared.remote.Reached.{Reached}
+use Rattle.swd_run.specs.declared.closing.Finished.{Finished}
+use Rattle.swd_run.specs.Closing.{IsFinished}
 use Rattle.swd_run.specs.Reports.{session_text}
 use Rattle.swd_run.specs.Sessions.{Done, RunsAll, ended_of, requests_of}
 use Rattle.swd_run.specs.Tracing.{AreItems, IsOfTrace, IsTraceOf}
-use Rattle.swd_run.specs.Verified.{first_difference}
 use Rattle.swd_run.specs.Running.{IsScript, most_begun}
 
 -- The runs of the script that the reader has, over a wire to an end of which nothing is proved, from a start of that wire.
@@ -53,12 +53,6 @@ abbrev pub report_of : {W : Type 0} {port : W → Port} {lawful : W → Type 0} 
     {script : Option (List ℕ)} → RanOver port lawful start tries resumes script → List ℕ
 report_of ran = session_text ran.meaning.batches ran.runs
 
--- how it ended, and the first read that gave another word than the script tells
-abbrev pub IsReached : {W : Type 0} {port : W → Port} {lawful : W → Type 0} {start : W} {tries resumes : ℕ}
-    {script : Option (List ℕ)} → RanOver port lawful start tries resumes script → Reached → Type 0
-IsReached ran reached =
-    (reached.ended ≡ ended_of ran.runs) × (reached.differs ≡ first_difference ran.meaning.batches ran.runs)
-
 -- Its trace: items that their own bits are read as. Where what came back is lawful, and the other end was at rest, it is the
 -- whole trace of the runs.
 pub record IsTraceOver {W : Type 0} {port : W → Port} {lawful : W → Type 0} {start : W} {tries resumes : ℕ}
@@ -72,39 +66,44 @@ pub record IsOfTraceOver {W : Type 0} {port : W → Port} {lawful : W → Type 0
   pub read : AreItems items
   pub part : lawful ran.end → IsAtRest (port start) → IsOfTrace (requests_of ran.runs) items
 
--- What an answer says of the script's text, where its bytes are known, and of what the report's writer holds before
--- and after.
-abbrev pub RunsRemote : (ℕ → Port) → ℕ → ℕ → Result Reached EngineFault → Option (List ℕ) → Option (List ℕ) → Option (List ℕ) → Type 0
-RunsRemote story tries resumes (Ok reached) script old new =
-    (ran : RanRemote story tries resumes script) × IsReached ran reached × Appends old new (report_of ran)
-RunsRemote story tries resumes (Err (Write written)) script old new =
-    (ran : RanRemote story tries resumes script) × Stopped written old new (report_of ran)
-RunsRemote story tries resumes (Err (Script fault)) script old new = IfSome script (IsScriptFault fault) × Appends old new []
-RunsRemote story tries resumes (Err Read) script old new = Appends old new []
-RunsRemote story tries resumes (Err Memory) script old new = IsScript script × Appends old new []
-RunsRemote story tries resumes (Err (Plan fault)) script old new = ⊥
-RunsRemote story tries resumes (Err (Text fault)) script old new = ⊥
-RunsRemote story tries resumes (Err (Listing fault)) script old new = ⊥
-RunsRemote story tries resumes (Err TraceCut) script old new = ⊥
+-- What an answer says of the script's text, where its bytes are known, and of what the report's writer holds before and after.
+-- `Over` is what holds of the line and the calls of the run, the last one first; `unused` of a line over which nothing went.
+abbrev pub RunsRemote : (ℕ → Port) → ℕ → ℕ → (List Call → Type 0) → Type 0 → Result Finished EngineFault → Option (List ℕ)
+    → Option (List ℕ) → Option (List ℕ) → Type 0
+RunsRemote story tries resumes Over unused (Ok finished) script old new =
+    (ran : RanRemote story tries resumes script) × IsFinished ran.meaning.batches ran.runs finished × Appends old new (report_of ran)
+    × Over ran.end
+RunsRemote story tries resumes Over unused (Err (Write written)) script old new =
+    (ran : RanRemote story tries resumes script) × Stopped written old new (report_of ran) × Over ran.end
+RunsRemote story tries resumes Over unused (Err (Script fault)) script old new =
+    IfSome script (IsScriptFault fault) × Appends old new [] × unused
+RunsRemote story tries resumes Over unused (Err Read) script old new = Appends old new [] × unused
+RunsRemote story tries resumes Over unused (Err Memory) script old new =
+    IsScript script × Appends old new [] × (calls : List Call) × Over calls
+RunsRemote story tries resumes Over unused (Err (Plan fault)) script old new = ⊥
+RunsRemote story tries resumes Over unused (Err (Text fault)) script old new = ⊥
+RunsRemote story tries resumes Over unused (Err (Listing fault)) script old new = ⊥
+RunsRemote story tries resumes Over unused (Err TraceCut) script old new = ⊥
 
 -- And where the wire was recorded, of what the trace's writer holds. The report is written first.
-abbrev pub RunsRecorded : (ℕ → Port) → ℕ → ℕ → Result Reached EngineFault → Option (List ℕ) → Option (List ℕ) → Option (List ℕ)
-    → Option (List ℕ) → Option (List ℕ) → Type 0
-RunsRecorded story tries resumes (Ok reached) script old new before after =
-    (ran : RanRecorded story tries resumes script) × IsReached ran reached × Appends old new (report_of ran)
-    × (items : List Item) × IsTraceOver ran items × Appends before after (trace_text items)
-RunsRecorded story tries resumes (Err TraceCut) script old new before after =
-    (ran : RanRecorded story tries resumes script) × Appends old new (report_of ran)
+abbrev pub RunsRecorded : (ℕ → Port) → ℕ → ℕ → (List Call → Type 0) → Type 0 → Result Finished EngineFault → Option (List ℕ)
+    → Option (List ℕ) → Option (List ℕ) → Option (List ℕ) → Option (List ℕ) → Type 0
+RunsRecorded story tries resumes Over unused (Ok finished) script old new before after =
+    (ran : RanRecorded story tries resumes script) × IsFinished ran.meaning.batches ran.runs finished × Appends old new (report_of ran)
+    × Over ran.end.1 × (items : List Item) × IsTraceOver ran items × Appends before after (trace_text items)
+RunsRecorded story tries resumes Over unused (Err TraceCut) script old new before after =
+    (ran : RanRecorded story tries resumes script) × Appends old new (report_of ran) × Over ran.end.1
     × (items : List Item) × IsOfTraceOver ran items × Appends before after (trace_text items)
-RunsRecorded story tries resumes (Err (Write written)) script old new before after =
-    (ran : RanRecorded story tries resumes script) × ((Stopped written old new (report_of ran) × Appends before after [])
-    ⊎ (Appends old new (report_of ran) × (items : List Item) × IsOfTraceOver ran items
-    × Stopped written before after (trace_text items)))
-RunsRecorded story tries resumes (Err (Script fault)) script old new before after =
-    IfSome script (IsScriptFault fault) × Appends old new [] × Appends before after []
-RunsRecorded story tries resumes (Err Read) script old new before after = Appends old new [] × Appends before after []
-RunsRecorded story tries resumes (Err Memory) script old new before after =
-    IsScript script × Appends old new [] × Appends before after []
-RunsRecorded story tries resumes (Err (Plan fault)) script old new before after = ⊥
-RunsRecorded story tries resumes (Err (Text fault)) script old new before after = ⊥
-RunsRecorded story tries resumes (Err (Listing fault)) script old new before after = ⊥
+RunsRecorded story tries resumes Over unused (Err (Write written)) script old new before after =
+    (ran : RanRecorded story tries resumes script) × Over ran.end.1
+    × ((Stopped written old new (report_of ran) × Appends before after [])
+    ⊎ (Appends old new (report_of ran) × (items : List Item) × IsOfTraceOver ran items × Stopped written before after (trace_text items)))
+RunsRecorded story tries resumes Over unused (Err (Script fault)) script old new before after =
+    IfSome script (IsScriptFault fault) × Appends old new [] × Appends before after [] × unused
+RunsRecorded story tries resumes Over unused (Err Read) script old new before after =
+    Appends old new [] × Appends before after [] × unused
+RunsRecorded story tries resumes Over unused (Err Memory) script old new before after =
+    IsScript script × Appends old new [] × Appends before after [] × (calls : List Call) × Over calls
+RunsRecorded story tries resumes Over unused (Err (Plan fault)) script old new before after = ⊥
+RunsRecorded story tries resumes Over unused (Err (Text fault)) script old new before after = ⊥
+RunsRecorded story tries resumes Over unused (Err (Listing fault)) script old new before after = ⊥

@@ -21,11 +21,11 @@ use Rattle.swd_text.specs.declared.fault.EngineFault.{EngineFault}
 use Rattle.swd_text.specs.declared.fault.EngineFault.TheVariants.{Script, Plan, Text, List as Listing, Read, Write}
 use Rattle.swd_text.specs.declared.fault.EngineFault.TheVariants.{Memory, TraceCut}
 use Rattle.swd_run.specs.declared.going_on.Stop.{Stop}
-use Rattle.swd_run.specs.declared.running.Finished.{Finished}
+use Rattle.swd_run.specs.declared.closing.Finished.{Finished}
+use Rattle.swd_run.specs.Closing.{IsFinished}
 use Rattle.swd_run.specs.GoingOn.{TellOf, in_all}
 use Rattle.swd_run.specs.Sessions.{Done, ended_of}
 use Rattle.swd_run.specs.Reports.{session_text}
-use Rattle.swd_run.specs.Verified.{first_difference}
 
 -- the memory of a script, before its run
 abbrev pub memory_of : Meaning → PlainMemory
@@ -107,11 +107,6 @@ pub record Ran (tries resumes : ℕ) (script plan : Option (List ℕ)) : Type 0 
 abbrev pub report_of : {tries resumes : ℕ} {script plan : Option (List ℕ)} → Ran tries resumes script plan → List ℕ
 report_of ran = session_text ran.meaning.batches ran.runs
 
--- how it ended, and the first read that gave another word than the script tells
-abbrev pub IsFinished : {tries resumes : ℕ} {script plan : Option (List ℕ)} → Ran tries resumes script plan → Finished → Type 0
-IsFinished ran finished =
-    (finished.ended ≡ ended_of ran.runs) × (finished.differs ≡ first_difference ran.meaning.batches ran.runs)
-
 -- the text, where it is known, is a script, or a plan
 abbrev pub IsScript : Option (List ℕ) → Type 0
 IsScript known = IfSome known (λ text. IsOk (script_of text))
@@ -134,7 +129,7 @@ AreUnread TraceCut script plan = ⊥
 abbrev pub RunsText : ℕ → ℕ → Result Finished EngineFault → Option (List ℕ) → Option (List ℕ) → Option (List ℕ)
     → Option (List ℕ) → Type 0
 RunsText tries resumes (Ok finished) script plan old new =
-    (ran : Ran tries resumes script plan) × IsFinished ran finished × Appends old new (report_of ran)
+    (ran : Ran tries resumes script plan) × IsFinished ran.meaning.batches ran.runs finished × Appends old new (report_of ran)
 RunsText tries resumes (Err (Write written)) script plan old new =
     (ran : Ran tries resumes script plan) × Stopped written old new (report_of ran)
 RunsText tries resumes (Err (Script fault)) script plan old new = AreUnread (Script fault) script plan × Appends old new []

@@ -1,5 +1,5 @@
 -- What an answer to a run with its trace says: the report as without it, and the trace of what went over the wire.
-use Rattle.std.specs.Prelude.{◌≡◌, ℕ, ◌≤◌, ◌↔◌, ◌⊎◌, Bool, true, false, List, [], Option, Result, Ok, Err}
+use Rattle.std.specs.Prelude.{◌≡◌, ℕ, ◌≤◌, ◌↔◌, ◌⊎◌, List, [], Option, Result, Ok, Err}
 use Rattle.std.specs.Io.KnownBytes.{Appends}
 use Rattle.swd_io.specs.Blocks.{Stopped}
 use Rattle.swd_trace.specs.declared.item.Item.{Item}
@@ -13,9 +13,10 @@ use Rattle.swd_host.specs.declared.outcome.End.TheVariants.{Lost}
 use Rattle.swd_text.specs.declared.fault.EngineFault.{EngineFault}
 use Rattle.swd_text.specs.declared.fault.EngineFault.TheVariants.{Script, Plan, Text, List as Listing, Read, Write}
 use Rattle.swd_text.specs.declared.fault.EngineFault.TheVariants.{Memory, TraceCut}
-use Rattle.swd_run.specs.declared.running.Finished.{Finished}
+use Rattle.swd_run.specs.declared.closing.Finished.{Finished}
+use Rattle.swd_run.specs.Closing.{IsFinished}
 use Rattle.swd_run.specs.Sessions.{ended_of, requests_of}
-use Rattle.swd_run.specs.Running.{Ran, IsFinished, report_of, IsScript, IsPlan, AreUnread}
+use Rattle.swd_run.specs.Running.{Ran, report_of, IsScript, IsPlan, AreUnread}
 
 -- items that their own bits are read as
 abbrev pub AreItems : List Item → Type 0
@@ -40,28 +41,12 @@ pub record IsRecorded (requests : ℕ) (ended : End) (port : Port) : Type 0 wher
   pub rests : pending port.link.due ≡ 0
   pub lost : (port.link.due ≡ DueLost) ↔ (ended ≡ Lost)
 
--- what was written of a report, and then of the trace of these items, of which the last ones were cut off or not
-abbrev pub WritesBoth : Bool → Result (Unit {0}) EngineFault → List ℕ → List Item → Option (List ℕ) → Option (List ℕ)
-    → Option (List ℕ) → Option (List ℕ) → Type 0
-WritesBoth cut (Ok u) text items old new before after =
-    (cut ≡ false) × Appends old new text × Appends before after (trace_text items)
-WritesBoth cut (Err TraceCut) text items old new before after =
-    (cut ≡ true) × Appends old new text × Appends before after (trace_text items)
-WritesBoth cut (Err (Write written)) text items old new before after =
-    (Stopped written old new text × Appends before after []) ⊎ (Appends old new text × Stopped written before after (trace_text items))
-WritesBoth cut (Err (Script fault)) text items old new before after = ⊥
-WritesBoth cut (Err (Plan fault)) text items old new before after = ⊥
-WritesBoth cut (Err Read) text items old new before after = ⊥
-WritesBoth cut (Err Memory) text items old new before after = ⊥
-WritesBoth cut (Err (Text fault)) text items old new before after = ⊥
-WritesBoth cut (Err (Listing fault)) text items old new before after = ⊥
-
 -- What an answer says of the readers' texts, where their bytes are known, of what the report's writer holds before and
 -- after, and of what the trace's holds. The report is written first. The trace is that of all runs.
 abbrev pub RunsTraced : ℕ → ℕ → Result Finished EngineFault → Option (List ℕ) → Option (List ℕ) → Option (List ℕ)
     → Option (List ℕ) → Option (List ℕ) → Option (List ℕ) → Type 0
 RunsTraced tries resumes (Ok finished) script plan old new before after =
-    (ran : Ran tries resumes script plan) × IsFinished ran finished × Appends old new (report_of ran)
+    (ran : Ran tries resumes script plan) × IsFinished ran.meaning.batches ran.runs finished × Appends old new (report_of ran)
     × (items : List Item) × IsTraceOf (requests_of ran.runs) (ended_of ran.runs) items × Appends before after (trace_text items)
 RunsTraced tries resumes (Err TraceCut) script plan old new before after =
     (ran : Ran tries resumes script plan) × Appends old new (report_of ran)

@@ -3,6 +3,7 @@
 //! first word that isn't the script's, and the trace of what went over the wire.
 #![tactic(auto)]
 
+mod closing;
 mod going_on;
 mod remote;
 mod report;
@@ -14,10 +15,11 @@ mod texts;
 mod tracing;
 mod verified;
 
+pub use closing::Finished;
 pub use going_on::Stop;
-pub use remote::{Reached, run_remote, run_remote_traced};
+pub use remote::{run_remote, run_remote_traced};
 pub use report::{ReportLine, answer_line, last_line, resume_line};
-pub use running::{Finished, run_text};
+pub use running::run_text;
 pub use serving::{TargetFault, read_target};
 pub use target_log::write_log;
 pub use tracing::run_traced;

@@ -1,87 +1,83 @@
 //! A script, run at a target behind OpenOCD's remote_bitbang characters.
 ghost use Rattle.std.specs.Prelude.{◌≡◌};
-ghost use Rattle.swd_script.specs.Readers.{meaning};
+ghost use Rattle.swd_remote.specs.WholeRuns.{GoesOver, IsUnused};
 ghost use Rattle.swd_run.specs.RemoteRuns.{RunsRecorded, RunsRemote};
 
-use crate::report::write_report;
+use crate::closing::{Finished, write_both, write_session};
 use crate::session::run_all;
 use crate::texts::script_fault;
-use crate::tracing::write_both;
-use crate::verified::{Difference, first_difference};
 use std::alloc::Allocator;
 use std::io::{Read, Write};
-use swd_host::End;
-use swd_port::{Outside, Story};
+use std::marker::Brand;
+use swd_port::{Outside, Story, Tied};
 use swd_recorder::Recorder;
-use swd_remote::{Fault, ProbeTransport, Remote};
+use swd_remote::{Beginning, Kept, Line};
 use swd_script::read_script;
 use swd_text::EngineFault;
 
-/// How a run at a remote end came out.
-#[derive(Clone, Copy, Debug, PartialEq, Eq)]
-pub struct Reached {
-    /// How the last of its calls ended. Where the other end went away it is lost.
-    pub ended: End,
-    /// The first read that gave another word than the script tells.
-    pub differs: Option<Difference>,
-    /// Why the other end is gone, where it is.
-    pub fault: Option<Fault>,
-}
-
 /// Reads a script, runs its calls one after the other at the target behind a server of remote_bitbang
 /// characters, as long as each is done whole, says that the host is done, and writes their reports. Each call
-/// is resumed at most `resumes` times. The script's memory and room mean nothing there.
+/// is resumed at most `resumes` times. The script's memory and room mean nothing there. The line is handed back,
+/// and tells why the other end is gone, where it is.
 ///
 /// Whatever comes back, the run ends; and of every story of a port machine that the replies fit the report
-/// tells the truth. Characters are sent where an answer is needed, and exactly as many bytes are read as
-/// levels were asked for. Nothing is sent after the other end went away, and the report has what is sure.
+/// tells the truth. The bytes that went out are exactly the characters of the calls that the report is of, and
+/// as many are read as levels were asked for, up to the first fault; each is sent where an answer is needed.
+/// Nothing is sent after the other end went away, and the report has what is sure.
 ///
 /// # Errors
 ///
-/// `Script` for the first fault of the script, `Read` where its reader failed. `Memory` where memory was
-/// refused for the accesses, or for the answers, before the first bit. `Write` where the report's writer
-/// failed, or took no bytes, after exactly its first `written` bytes went out.
-pub fn run_remote<
-    P: Story,
-    S: Read,
-    R: Read + Drop,
-    W: Write + Drop,
-    O: Write,
-    A: Allocator + Copy,
->(
+/// `Script` for the first fault of the script, `Read` where its reader failed: the line wasn't used then.
+/// `Memory` where memory was refused for the accesses, or for the answers, also where a call was to be resumed.
+/// `Write` where the report's writer failed, or took no bytes, after exactly its first `written` bytes went out.
+pub fn run_remote<P: Story, S: Read, R: Read, W: Write, O: Write, A: Allocator + Copy>(
     alloc: A,
     script: &mut S,
-    remote: Remote<R, W>,
+    reader: R,
+    writer: W,
     tries: u32,
     resumes: u32,
     report: &mut O,
-) -> Result<Reached, EngineFault>
-    ensures { RunsRemote P.at tries resumes result (S.remaining script.old) (O.contents report.old) (O.contents report.new) }
+) -> (Result<Finished, EngineFault>, Line<R, W>)
+    ensures { RunsRemote P.at tries resumes
+        (λ calls. ∥ GoesOver R.remaining W.contents (W.contents writer) (R.remaining reader) result.1 calls ∥₁)
+        (IsUnused R.remaining W.contents (W.contents writer) (R.remaining reader) result.1)
+        result.0 (S.remaining script.old) (O.contents report.old) (O.contents report.new) }
+{
+    run_begun::<P, Brand, S, R, W, O, A>(alloc, script, reader, writer, tries, resumes, report)
+}
+
+fn run_begun<P: Story, B: Beginning, S: Read, R: Read, W: Write, O: Write, A: Allocator + Copy>(
+    alloc: A,
+    script: &mut S,
+    reader: R,
+    writer: W,
+    tries: u32,
+    resumes: u32,
+    report: &mut O,
+) -> (Result<Finished, EngineFault>, Line<R, W>)
+    requires sent { B.sent ≡ W.contents writer }
+    requires left { B.left ≡ R.remaining reader }
+    ensures { RunsRemote P.at tries resumes
+        (λ calls. ∥ GoesOver R.remaining W.contents B.sent B.left result.1 calls ∥₁)
+        (IsUnused R.remaining W.contents B.sent B.left result.1)
+        result.0 (S.remaining script.old) (O.contents report.old) (O.contents report.new) }
 {
     let script = match read_script(alloc, script) {
         Ok(script) => script,
-        Err(unread) => return Err(script_fault(unread)),
+        Err(unread) => return (Err(script_fault(unread)), Line::unused(reader, writer)),
     };
-    let mut wire: Outside<ProbeTransport<Remote<R, W>>, P> = Outside::new(ProbeTransport::new(
-        remote,
-    ));
+    let mut wire: Outside<Kept<R, W, B>, P, Tied> = Outside::begun(Kept::new(reader, writer));
     let batches = script.batches.as_slice();
-    let Some(session) = run_all(alloc, &mut wire, batches, tries, resumes) else {
-        return Err(EngineFault::Memory);
+    let session = run_all(alloc, &mut wire, batches, tries, resumes);
+    let line = wire.into_transport().hang_up();
+    let Some(session) = session else {
+        return (Err(EngineFault::Memory), line);
     };
-    let fault = hang_up(wire.into_transport());
-    let runs = session.runs.as_slice();
-    match write_report(report, batches, runs) {
-        Ok(()) => Ok(Reached {
-            ended: session.ended,
-            differs: first_difference(batches, runs),
-            fault,
-        }),
-        Err(written) => Err(EngineFault::Write { written }),
-    }
+    (write_session(report, batches, &session), line)
 }
 
-/// `run_remote`, and the trace of what went over the wire, written behind the report, in the form of
+/// `run_remote`, and the trace of what went over the wire, written after the report, in the form of
 /// `run_traced`.
 ///
 /// # Errors
@@ -92,52 +88,72 @@ pub fn run_remote<
 pub fn run_remote_traced<
     P: Story,
     S: Read,
-    R: Read + Drop,
-    W: Write + Drop,
+    R: Read,
+    W: Write,
     O: Write,
     T: Write,
     A: Allocator + Copy,
 >(
     alloc: A,
     script: &mut S,
-    remote: Remote<R, W>,
+    reader: R,
+    writer: W,
     tries: u32,
     resumes: u32,
     report: &mut O,
     trace: &mut T,
-) -> Result<Reached, EngineFault>
-    ensures { RunsRecorded P.at tries resumes result (S.remaining script.old) (O.contents report.old)
-        (O.contents report.new) (T.contents trace.old) (T.contents trace.new) }
+) -> (Result<Finished, EngineFault>, Line<R, W>)
+    ensures { RunsRecorded P.at tries resumes
+        (λ calls. ∥ GoesOver R.remaining W.contents (W.contents writer) (R.remaining reader) result.1 calls ∥₁)
+        (IsUnused R.remaining W.contents (W.contents writer) (R.remaining reader) result.1)
+        result.0 (S.remaining script.old) (O.contents report.old) (O.contents report.new)
+        (T.contents trace.old) (T.contents trace.new) }
+{
+    record_begun::<P, Brand, S, R, W, O, T, A>(
+        alloc, script, reader, writer, tries, resumes, report, trace,
+    )
+}
+
+fn record_begun<
+    P: Story,
+    B: Beginning,
+    S: Read,
+    R: Read,
+    W: Write,
+    O: Write,
+    T: Write,
+    A: Allocator + Copy,
+>(
+    alloc: A,
+    script: &mut S,
+    reader: R,
+    writer: W,
+    tries: u32,
+    resumes: u32,
+    report: &mut O,
+    trace: &mut T,
+) -> (Result<Finished, EngineFault>, Line<R, W>)
+    requires sent { B.sent ≡ W.contents writer }
+    requires left { B.left ≡ R.remaining reader }
+    ensures { RunsRecorded P.at tries resumes
+        (λ calls. ∥ GoesOver R.remaining W.contents B.sent B.left result.1 calls ∥₁)
+        (IsUnused R.remaining W.contents B.sent B.left result.1)
+        result.0 (S.remaining script.old) (O.contents report.old) (O.contents report.new)
+        (T.contents trace.old) (T.contents trace.new) }
 {
     let script = match read_script(alloc, script) {
         Ok(script) => script,
-        Err(unread) => return Err(script_fault(unread)),
+        Err(unread) => return (Err(script_fault(unread)), Line::unused(reader, writer)),
     };
-    let wire: Outside<ProbeTransport<Remote<R, W>>, P> = Outside::new(ProbeTransport::new(remote));
+    let wire: Outside<Kept<R, W, B>, P, Tied> = Outside::begun(Kept::new(reader, writer));
     let mut recorder = Recorder::new(alloc, wire);
     let batches = script.batches.as_slice();
-    let Some(session) = run_all(alloc, &mut recorder, batches, tries, resumes) else {
-        return Err(EngineFault::Memory);
+    let session = run_all(alloc, &mut recorder, batches, tries, resumes);
+    let Some(session) = session else {
+        let line = recorder.into_wire().into_transport().hang_up();
+        return (Err(EngineFault::Memory), line);
     };
-    let runs = session.runs.as_slice();
     let cut = recorder.is_cut();
-    let written = write_both(report, trace, batches, runs, recorder.items(), cut);
-    let fault = hang_up(recorder.into_wire().into_transport());
-    match written {
-        Ok(()) => Ok(Reached {
-            ended: session.ended,
-            differs: first_difference(batches, runs),
-            fault,
-        }),
-        Err(fault) => Err(fault),
-    }
-}
-
-// Says that the host is done, and why the other end is gone, where it is.
-fn hang_up<R: Read + Drop, W: Write + Drop>(
-    transport: ProbeTransport<Remote<R, W>>,
-) -> Option<Fault> {
-    let mut remote = transport.into_probe();
-    let _ = remote.quit();
-    remote.fault()
+    let answer = write_both(report, trace, batches, &session, recorder.items(), cut);
+    (answer, recorder.into_wire().into_transport().hang_up())
 }

@@ -2,7 +2,6 @@
 ghost use Rattle.std.specs.Prelude.{◌≡◌, ℕ, ◌+◌, ◌≤◌, List, ◌++◌, Option, take, drop, map};
 ghost use Rattle.std.specs.Fmt.{decimal};
 ghost use Rattle.arrayvec.specs.ArrayString.{array_string_len};
-ghost use Rattle.swd_bits.specs.Listing.{hex8};
 ghost use Rattle.swd_host.specs.Reports.{told_of};
 ghost use Rattle.swd_io.specs.Blocks.{Sends, Writes};
 ghost use Rattle.swd_script.specs.Readers.{listed};

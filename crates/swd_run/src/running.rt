@@ -11,27 +11,17 @@ ghost use Rattle.swd_target.specs.Benches.{port_of, plan_of};
 ghost use Rattle.swd_run.specs.Sessions.{done_of, ended_of};
 ghost use Rattle.swd_run.specs.Running.{RunsScript, RunsText, memory_of, most_begun};
 
-use crate::report::write_report;
+use crate::closing::{Finished, write_session};
 use crate::session::{Session, run_all};
 use crate::texts::{Texts, read_texts};
-use crate::verified::{Difference, first_difference};
 use std::alloc::Allocator;
 use std::io::{Read, Write};
-use swd_host::{End, Refused, Report, run, run_block};
+use swd_host::{Refused, Report, run, run_block};
 use swd_port::{Mark, Wire};
 use swd_script::{Batch, Script};
 use swd_target::laws::marks_used;
 use swd_target::{Bench, MakeFault, Memory, Quirks};
 use swd_text::EngineFault;
-
-/// How a script's run came out.
-#[derive(Clone, Copy, Debug, PartialEq, Eq)]
-pub struct Finished {
-    /// How the last of its calls ended.
-    pub ended: End,
-    /// The first read that gave another word than the script tells.
-    pub differs: Option<Difference>,
-}
 
 // What the standard leaves to a target.
 pub(crate) const QUIRKS: Quirks = Quirks {
@@ -154,13 +144,5 @@ pub fn run_text<S: Read, P: Read, W: Write, A: Allocator + Copy>(
     let Some(session) = run_script(alloc, &script, plan, tries, resumes) else {
         return Err(EngineFault::Memory);
     };
-    let batches = script.batches.as_slice();
-    let runs = session.runs.as_slice();
-    match write_report(writer, batches, runs) {
-        Ok(()) => Ok(Finished {
-            ended: session.ended,
-            differs: first_difference(batches, runs),
-        }),
-        Err(written) => Err(EngineFault::Write { written }),
-    }
+    write_session(writer, script.batches.as_slice(), &session)
 }

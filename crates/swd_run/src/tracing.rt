@@ -1,30 +1,25 @@
 //! A run with the trace of what went over the wire.
 ghost use Rattle.std.specs.Prelude.{◌≡◌, map, IfSome};
-ghost use Rattle.swd_script.specs.Readers.{listed, meaning};
+ghost use Rattle.swd_script.specs.Readers.{meaning};
 ghost use Rattle.swd_script.specs.Laws.{IsRunnable};
 ghost use Rattle.swd_target.specs.Marks.{IsPlan};
 ghost use Rattle.swd_recorder.specs.Recorders.{port_by};
 ghost use Rattle.swd_run.specs.Sessions.{done_of, ended_of, requests_of};
 ghost use Rattle.swd_run.specs.Running.{RunsScript};
-ghost use Rattle.swd_run.specs.Reports.{session_text};
-ghost use Rattle.swd_run.specs.Tracing.{RunsTraced, IsRecorded, WritesBoth};
-ghost use Rattle.swd_trace.specs.Listed.{AreLegal};
+ghost use Rattle.swd_run.specs.Tracing.{RunsTraced, IsRecorded};
 
-use crate::going_on::Resumed;
-use crate::report::write_report;
-use crate::running::{Finished, target_of};
+use crate::closing::{Finished, write_both};
+use crate::running::target_of;
 use crate::session::{Session, run_all};
 use crate::texts::{Texts, read_texts};
-use crate::verified::first_difference;
 use std::alloc::Allocator;
 use std::io::{Read, Write};
 use swd_port::{Mark, Wire};
 use swd_recorder::Recorder;
-use swd_script::{Batch, Script};
+use swd_script::Script;
 use swd_target::Bench;
 use swd_target::laws::marks_used;
-use swd_text::{EngineFault, write_items};
-use swd_trace::Item;
+use swd_text::EngineFault;
 
 /// The runs of a script and what went over their wire.
 #[derive(Drop)]
@@ -98,50 +93,9 @@ pub fn run_traced<S: Read, P: Read, W: Write, T: Write, A: Allocator + Copy>(
         return Err(EngineFault::Memory);
     };
     let Recorded { session, recorder } = recorded;
-    let batches = script.batches.as_slice();
-    let runs = session.runs.as_slice();
     let cut = recorder.is_cut();
-    match write_both(writer, trace, batches, runs, recorder.items(), cut) {
-        Ok(()) => Ok(Finished {
-            ended: session.ended,
-            differs: first_difference(batches, runs),
-        }),
-        Err(fault) => Err(fault),
-    }
-}
-
-/// Writes the reports of runs of these batches, and then the trace of these items, of which the last ones were
-/// cut off or not.
-///
-/// # Errors
-///
-/// `Write` where the report's writer failed, or the trace's, once the report stands whole. `TraceCut` where
-/// items were cut off, once both are written.
-pub(crate) fn write_both<O: Write, T: Write, A: Allocator>(
-    report: &mut O,
-    trace: &mut T,
-    batches: &[Batch<A>],
-    runs: &[Resumed<A>],
-    items: &[Item],
-    cut: bool,
-) -> Result<(), EngineFault>
-    requires { AreLegal items.now }
-    ensures { WritesBoth cut result (session_text (map listed batches.now) (map done_of runs.now)) items.now
-        (O.contents report.old) (O.contents report.new) (T.contents trace.old) (T.contents trace.new) }
-{
-    match write_report(report, batches, runs) {
-        Ok(()) => {}
-        Err(written) => return Err(EngineFault::Write { written }),
-    }
-    match write_items(trace, items) {
-        Ok(()) => {}
-        Err(written) => return Err(EngineFault::Write { written }),
-    }
-    if cut {
-        Err(EngineFault::TraceCut)
-    } else {
-        Ok(())
-    }
+    let batches = script.batches.as_slice();
+    write_both(writer, trace, batches, &session, recorder.items(), cut)
 }
 
 #[cfg(test)]

@@ -5,11 +5,11 @@ ghost use Rattle.std.specs.FinMap.{empty};
 ghost use Rattle.swd_port.specs.Port.{made};
 
 use super::ended;
-use crate::{Difference, Reached, run_remote, run_remote_traced, run_traced};
+use crate::{Difference, Finished, run_remote, run_remote_traced, run_traced};
 use swd_fakes::ShortWriter;
 use swd_host::End;
 use swd_port::{Answer, Story};
-use swd_remote::{Fault, Remote};
+use swd_remote::Fault;
 use swd_text::EngineFault;
 
 // Any story.
@@ -57,21 +57,21 @@ fn a_script_sends_what_was_recorded(rt: HostRuntime) {
     let mut sent = Vec::new(rt.alloc());
     let mut report = Vec::new(rt.alloc());
     let mut script = SCRIPT;
-    let remote = Remote::new(LEVELS, &mut sent);
-    let answer = run_remote::<Untold, _, _, _, _, _>(
+    let (answer, line) = run_remote::<Untold, _, _, _, _, _>(
         rt.alloc(),
         &mut script,
-        remote,
+        LEVELS,
+        &mut sent,
         8,
         0,
         &mut report,
     );
-    let reached = Reached {
+    let finished = Finished {
         ended: End::All,
         differs: None,
-        fault: None,
     };
-    assert_eq!(rt; answer, Ok(reached));
+    assert_eq!(rt; answer, Ok(finished));
+    assert_eq!(rt; line.fault, None);
     assert_eq!(rt; report.as_slice(), REPORT);
     assert_eq!(rt; sent.as_slice(), CHARACTERS);
 }
@@ -83,22 +83,22 @@ fn a_remote_run_is_traced(rt: HostRuntime) {
     let mut report = Vec::new(rt.alloc());
     let mut trace = Vec::new(rt.alloc());
     let mut script = SCRIPT;
-    let remote = Remote::new(LEVELS, &mut sent);
-    let answer = run_remote_traced::<Untold, _, _, _, _, _, _>(
+    let (answer, line) = run_remote_traced::<Untold, _, _, _, _, _, _>(
         rt.alloc(),
         &mut script,
-        remote,
+        LEVELS,
+        &mut sent,
         8,
         0,
         &mut report,
         &mut trace,
     );
-    let reached = Reached {
+    let finished = Finished {
         ended: End::All,
         differs: None,
-        fault: None,
     };
-    assert_eq!(rt; answer, Ok(reached));
+    assert_eq!(rt; answer, Ok(finished));
+    assert_eq!(rt; line.fault, None);
     assert_eq!(rt; report.as_slice(), REPORT);
     assert_eq!(rt; sent.as_slice(), CHARACTERS);
     let mut script = SCRIPT;
@@ -126,11 +126,11 @@ fn a_failed_write_ends_the_session(rt: HostRuntime) {
         let mut report = ShortWriter::new(rt.alloc(), report_room, true);
         let mut trace = ShortWriter::new(rt.alloc(), trace_room, false);
         let mut script = SCRIPT;
-        let remote = Remote::new(LEVELS, &mut sent);
-        let answer = run_remote_traced::<Untold, _, _, _, _, _, _>(
+        let (answer, _) = run_remote_traced::<Untold, _, _, _, _, _, _>(
             rt.alloc(),
             &mut script,
-            remote,
+            LEVELS,
+            &mut sent,
             8,
             0,
             &mut report,
@@ -157,11 +157,11 @@ fn a_call_that_is_lost_is_the_last_one(rt: HostRuntime) {
     let mut report = Vec::new(rt.alloc());
     let mut script =
         b"memory 20000000 16\nw 20000000 deadbeef\nverify 20000000 5\nnext\nr 20000000\nnext\nr 20000000\n".as_slice();
-    let remote = Remote::new(LEVELS, &mut sent);
-    let answer = run_remote::<Untold, _, _, _, _, _>(
+    let (answer, line) = run_remote::<Untold, _, _, _, _, _>(
         rt.alloc(),
         &mut script,
-        remote,
+        LEVELS,
+        &mut sent,
         8,
         0,
         &mut report,
@@ -172,12 +172,12 @@ fn a_call_that_is_lost_is_the_last_one(rt: HostRuntime) {
         expected: 5,
         found: Answer::Value(0xdead_beef),
     };
-    let reached = Reached {
+    let finished = Finished {
         ended: End::Lost,
         differs: Some(differs),
-        fault: Some(Fault::Ended),
     };
-    assert_eq!(rt; answer, Ok(reached));
+    assert_eq!(rt; answer, Ok(finished));
+    assert_eq!(rt; line.fault, Some(Fault::Ended));
     assert_eq!(rt;
         report.as_slice(),
         b"w 20000000 written\nr 20000000 deadbeef\nend all 2\nend lost 0 begun 0\n".as_slice()
@@ -198,21 +198,21 @@ fn a_target_that_goes_away_is_told(rt: HostRuntime) {
         let mut sent = Vec::new(rt.alloc());
         let mut report = Vec::new(rt.alloc());
         let mut script = SCRIPT;
-        let remote = Remote::new(levels, &mut sent);
-        let answer = run_remote::<Untold, _, _, _, _, _>(
+        let (answer, line) = run_remote::<Untold, _, _, _, _, _>(
             rt.alloc(),
             &mut script,
-            remote,
+            levels,
+            &mut sent,
             8,
             0,
             &mut report,
         );
-        let reached = Reached {
+        let finished = Finished {
             ended: End::Lost,
             differs: None,
-            fault: Some(Fault::Ended),
         };
-        assert_eq!(rt; answer, Ok(reached));
+        assert_eq!(rt; answer, Ok(finished));
+        assert_eq!(rt; line.fault, Some(Fault::Ended));
         assert_eq!(rt; report.as_slice(), text);
         assert!(rt; CHARACTERS.starts_with(sent.as_slice()));
     }
@@ -223,15 +223,16 @@ fn a_script_at_fault_sends_nothing(rt: HostRuntime) {
     let mut sent = Vec::new(rt.alloc());
     let mut report = Vec::new(rt.alloc());
     let mut script = b"w 20000000 deadbeef\n".as_slice();
-    let remote = Remote::new(LEVELS, &mut sent);
-    let answer = run_remote::<Untold, _, _, _, _, _>(
+    let (answer, line) = run_remote::<Untold, _, _, _, _, _>(
         rt.alloc(),
         &mut script,
-        remote,
+        LEVELS,
+        &mut sent,
         8,
         0,
         &mut report,
     );
     assert!(rt; matches!(&answer, Err(EngineFault::Script(_))));
+    assert_eq!(rt; line.fault, None);
     assert!(rt; sent.as_slice().is_empty() && report.as_slice().is_empty());
 }

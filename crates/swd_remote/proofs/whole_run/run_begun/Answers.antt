@@ -11,9 +11,11 @@ returns g c =
       closes = c.run-ran.ensures.closes;
       fits = fresh_fits c.run-ran.result c.args.accesses.now c.args.tries g.S.Story.at c.begun-wire.result.noted.calls
           c.run-ran.new.wire.noted.calls c.begun-wire.ensures c.run-ran.ensures.fits;
-      made = went.made;
-      gone = c.run-ran.new.wire.gone;
-      fetched = went.fetched;
-      of = went.of;
-      hangs = hangs;
+      over = record {
+        made = went.made;
+        gone = c.run-ran.new.wire.gone;
+        fetched = went.fetched;
+        of = went.of;
+        hangs = hangs;
+      };
     }))

@@ -1,4 +1,4 @@
-use Rattle.std.proofs.Common.{◌≡◌, ◌∙◌, ◌+◌, ◌≤◌, List, [], ◌∷◌, ◌++◌, length, sym, ap, subst, arith}
+use Rattle.std.proofs.Common.{◌≡◌, ◌∙◌, ◌+◌, List, [], ◌∷◌, ◌++◌, length, sym, ap, subst}
 use Rattle.std.proofs.lemmas.List.{length-append}
 use Rattle.swd_host.specs.Reports.{told_of}
 use Rattle.swd_script.specs.Readers.{listed}

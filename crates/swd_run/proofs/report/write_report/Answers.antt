@@ -1,5 +1,5 @@
 use Rattle.std.proofs.lemmas.List.{length-append}
-use Rattle.std.proofs.Common.{◌≡◌, ℕ, ◌+◌, List, [], ◌∷◌, ◌++◌, length, map, take, drop, get_or, refl, sym, ap, ◌∙◌, subst}
+use Rattle.std.proofs.Common.{◌≡◌, ℕ, ◌+◌, List, [], ◌∷◌, ◌++◌, length, take, drop, get_or, refl, sym, ap, ◌∙◌, subst}
 use Rattle.std.proofs.KnownBytes.{Appends-nil}
 use Rattle.std.proofs.lemmas.Slice.Zip.{zip_turn, zip_end}
 use Rattle.std.specs.Io.KnownBytes.{Appends}
@@ -11,7 +11,7 @@ use Rattle.swd_host.specs.Reports.{told_of}
 use Rattle.swd_script.specs.Readers.{listed}
 use Rattle.swd_script.specs.declared.batch.Batch.{Batch}
 use Rattle.swd_run.specs.declared.going_on.Resumed.{Resumed}
-use Rattle.swd_run.specs.Reports.{pair_texts, report_text, run_report, session_text, HasWritten, WritesOn}
+use Rattle.swd_run.specs.Reports.{pair_texts, report_text, run_report, HasWritten, WritesOn}
 use Rattle.swd_run.specs.Sessions.{done_of}
 use Rattle.swd_run.proofs.ReportLemmas.{pairs_map, pairs_more, pairs_rest, pairs_whole}
 use Rattle.swd_run.proofs.report.write_report.Goals as goal

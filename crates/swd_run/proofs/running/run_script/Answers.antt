@@ -1,4 +1,4 @@
-use Rattle.std.proofs.Common.{◌≡◌, ◌≤◌, ◌∙◌, List, map, sym, ap, subst}
+use Rattle.std.proofs.Common.{◌≤◌, List, map, sym, ap, subst}
 use Rattle.std.specs.Prelude.{All as Each}
 use Rattle.swd_port.specs.declared.mark.Mark.{Mark}
 use Rattle.swd_port.specs.Choices.{disturbed_among, lost_among}

@@ -1,5 +1,4 @@
-use Rattle.std.proofs.Common.{◌≡◌, Bool, true, false, List, [], ◌∷◌, length, map, refl, sym, ap, ◌∙◌, subst, arith}
-use Rattle.std.proofs.lemmas.Bool.Decides.{nat_tests}
+use Rattle.std.proofs.Common.{◌≡◌, Bool, true, false, map, sym, ap, ◌∙◌, subst}
 use Rattle.swd_port.specs.Port.{made_target}
 use Rattle.swd_port.specs.PlainMemory.{PlainMemory}
 use Rattle.swd_clocked.specs.declared.marked.MarkedClocked.{MarkedClocked}

@@ -1,4 +1,4 @@
-use Rattle.std.proofs.Common.{◌≡◌, ◌∙◌, ◌+◌, get_or, drop, sym, ap}
+use Rattle.std.proofs.Common.{◌∙◌, ◌+◌, drop, sym, ap}
 use Rattle.swd_run.specs.Verified.{difference_in, or_else}
 use Rattle.swd_run.proofs.VerifiedLemmas.{found_first, found_later, no_read_left, reads_left}
 use Rattle.swd_run.proofs.verified.difference_in.Goals as goal
