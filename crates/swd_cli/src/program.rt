@@ -8,7 +8,7 @@ use crate::files::{Files, Identity};
 use crate::remote_command::{Untold, perform_remote};
 use crate::report::{DONE, FAULT, cannot_open, engine_status, one_status, run_status, tell};
 use crate::target_command::perform_target;
-use crate::trace::{Sources, open_trace};
+use crate::trace::{Sources, open_plan, open_trace};
 use crate::watch::Watch;
 use crate::words::line;
 use clap::Error;
@@ -160,7 +160,7 @@ fn perform_run<S: Read, F: Files, O: Write, E: Write>(
             errors,
         );
     };
-    match files.open(name.as_str()) {
+    match open_plan(files, name.as_str(), source) {
         Ok(mut opened) => {
             let read = Sources {
                 script: source,

@@ -5,7 +5,7 @@ ghost use Rattle.swd_cli.specs.Targets.{IsServedStatus, ServesHost};
 use crate::command::TargetLine;
 use crate::files::{Files, Identity, Opened};
 use crate::report::{DONE, FAULT, cannot_open, engine_status, tell};
-use crate::trace::{Sources, open_trace};
+use crate::trace::{Sources, open_plan, open_trace};
 use std::alloc::Allocator;
 use std::io::{Read, Write};
 use swd_bitbang::{Served, Trace, serve};
@@ -47,7 +47,8 @@ pub fn perform_target<S: Read, I: Read, F: Files, O: Write, E: Write, A: Allocat
             errors,
         );
     };
-    match files.open(name.as_str()) {
+    // Standard input is the debugger's.
+    match open_plan(files, name.as_str(), None) {
         Ok(mut opened) => {
             let read = Sources {
                 script: source,

@@ -1,5 +1,5 @@
-//! The file of a trace, which may be none of the others.
-ghost use Rattle.std.specs.Prelude.{IfOk};
+//! The files of a plan and of a trace, which may be none of the others.
+ghost use Rattle.std.specs.Prelude.{◌≢◌, IfOk, Some};
 ghost use Rattle.swd_cli.specs.Traces.{IsBeside};
 
 use crate::files::{Files, Identity, Opened};
@@ -45,4 +45,28 @@ pub fn open_trace<F: Files>(files: &F, name: &str, read: Sources) -> io::Result<
     }
     files.cut_off(&trace.file)?;
     Ok(trace)
+}
+
+/// Opens the file of a plan, once it is known not to be this other file that is read, or standard input where that is
+/// `None`: where both are one stream, what one reader takes is missing to the other.
+///
+/// # Errors
+///
+/// Where it is that file, under whatever name, or may be, and where it can't be opened.
+pub fn open_plan<F: Files>(
+    files: &F,
+    name: &str,
+    other: Option<Identity>,
+) -> io::Result<Opened<F::File>>
+    ensures { IfOk result (λ plan. other ≢ Some plan.identity) }
+{
+    let plan = files.open(name)?;
+    let other = match other {
+        Some(other) => Some(other),
+        None => files.standard_input()?,
+    };
+    if other == Some(plan.identity) {
+        return Err(io::Error::from(ErrorKind::InvalidInput));
+    }
+    Ok(plan)
 }

@@ -58,8 +58,8 @@ const RUN_ABOUT: &str = "Runs a script's accesses over a simulated target, each 
 
 const RUN_AFTER: &str = "\
 SCRIPT may be - for standard input. The plan and the trace are files: - is none.
-The trace may be neither the script, nor the plan, nor the report, nor standard
-output.
+The plan may not be the script, and the trace neither of them, nor the report,
+nor standard output.
 
 With --remote the target is behind the standard streams: a server of OpenOCD's
 remote_bitbang characters for serial wire, as swd target is one. The report goes
