@@ -14,7 +14,7 @@ use Rattle.swd_cli.specs.Statuses.{status_of_run}
 -- where the other end went away, the status is 1; else it is that of the run
 abbrev pub status_at : Bool → Option Fault → Result Finished EngineFault → ℕ
 status_at failed (Some fault) (Ok finished) = 1
-status_at failed gone answer = status_of_run failed answer
+status_at failed _ answer = status_of_run failed answer
 
 -- only a strict run may fail its script
 pub record IsStatusAt (strict : Bool) (answer : Result Finished EngineFault) (gone : Option Fault) (status : ℕ) : Type 0 where
