@@ -15,6 +15,7 @@ use swd_script::ScriptFault;
 use swd_text::{EngineFault, TextFault};
 use swd_trace::ListFault;
 
+mod plan;
 mod remote;
 mod target;
 mod verified;
@@ -276,31 +277,6 @@ fn a_trace_is_none_of_the_other_files(rt: HostRuntime) {
         assert_eq!(rt; ran.traced == 0, refused);
         assert_eq!(rt; ran.errors.starts_with(b"swd: cannot open "), refused);
     }
-}
-
-// A plan that is read from where the script is would be empty, and the run as if nothing happened to its requests.
-#[test]
-fn a_plan_is_another_file_than_the_script(rt: HostRuntime) {
-    for (script, plan, refused) in [
-        ("-", "input", true),
-        ("script", "script-again", true),
-        ("script", "input", false),
-        ("-", "quiet", false),
-    ] {
-        let words = ["swd", "run", script, "--plan", plan];
-        let ran = run_on(rt.alloc(), words.as_slice(), SCRIPT);
-        assert_eq!(rt; ran.status, if refused { 2 } else { 0 });
-        assert_eq!(rt; ran.output.is_empty(), refused);
-        assert_eq!(rt; ran.errors.starts_with(b"swd: cannot open "), refused);
-    }
-    // Standard input is the debugger's.
-    let words = ["swd", "target", "memory", "--plan", "input"];
-    let ran = run_on(rt.alloc(), words.as_slice(), b"Q".as_slice());
-    assert_eq!(rt; ran.status, 2);
-    assert_eq!(rt;
-        ran.errors.as_slice(),
-        b"swd: cannot open input\n".as_slice()
-    );
 }
 
 // Files whose standard output is open, and can't be told from another.
