@@ -23,7 +23,8 @@ use Rattle.swd_host.specs.declared.request.Place.TheVariants.{Identify, Wipe, In
 use Rattle.swd_host.specs.declared.request.Place.TheVariants.{Configure, Recall, Configured, Aim, Transfer, Confirm}
 use Rattle.swd_host.specs.declared.request.Place.TheVariants.{Behind}
 use Rattle.swd_host.specs.declared.request.Job.TheVariants.{At, Resend}
-use Rattle.swd_host.specs.Requests.{request_of, is_exempt_place, confirmed_by, written_by}
+use Rattle.swd_host.specs.Requests.{request_for, register_at, drw_register, confirming_register}
+use Rattle.swd_host.specs.Requests.{is_exempt_place, confirmed_by, written_by}
 use Rattle.swd_host.specs.Tracks.{Hand, Counted, csw_word_read, Reachable, Calm, Up, Has}
 use Rattle.swd_port.specs.Registers.{no_select}
 use Rattle.swd_host.specs.Tracks.{is_wipe, Sure, Hurt, Spoilt, by_damage}
@@ -96,7 +97,7 @@ spoilt_calm p b k s h = written_calm h.back b k s (back_written p h.back k.task 
 
 -- AN ACCESS PORT'S REQUESTS HAVE POWER
 hurt_power : (p : Place) (n b : ℕ) (k : Hand) (s : Port) → Hurt p n b k s
-    → (request_of (At p) k.task).ap ≡ true → has_power s.target ≡ true
+    → (request_for (At p) k.task).ap ≡ true → has_power s.target ≡ true
 hurt_power Recall n b k s h e =
     let is : h.back ≡ Configure = (let c = h.confirms in cc) in
     let has : Has Configure b k s.target = subst (λ x. Has x b k s.target) is h.has in has_debug s.target has.debug has.seen
@@ -118,45 +119,21 @@ hurt_power Aim n b k s h e = absurd (let c = h.confirms in cc)
 hurt_power Behind n b k s h e = absurd (let c = h.confirms in cc)
 
 -- REGISTERS
-abbrev pub drw_register : Task → Register
-drw_register (Read at) = DrwRead
-drw_register (BurstRead at) = DrwRead
-drw_register (Write at word) = DrwWrite
-drw_register (BurstWrite at word) = DrwWrite
-
-abbrev pub confirming_register : Task → Register
-confirming_register (BurstRead at) = DrwRead
-confirming_register (BurstWrite at word) = DrwWrite
-confirming_register a = RdbuffRead
-
-abbrev pub register_at : Place → Task → Register
-register_at Identify a = DpidrRead
-register_at Wipe a = AbortWrite
-register_at Inspect a = CtrlStatRead
-register_at Select a = SelectWrite
-register_at Power a = CtrlStatWrite
-register_at Powered a = CtrlStatRead
-register_at Configure a = CswWrite
-register_at Recall a = CswRead
-register_at Configured a = RdbuffRead
-register_at Aim a = TarWrite
-register_at Transfer a = drw_register a
-register_at Confirm a = confirming_register a
-register_at Behind a = ResendRead
-
-drw_there : (a : Task) → register no_select (request_of (At Transfer) a) ≡ drw_register a
+drw_there : (a : Task) → register no_select (request_for (At Transfer) a) ≡ drw_register a
 drw_there (Read at) = refl
 drw_there (BurstRead at) = refl
 drw_there (Write at word) = refl
 drw_there (BurstWrite at word) = refl
 
-confirming_there : (a : Task) → register no_select (request_of (At Confirm) a) ≡ confirming_register a
+confirming_there : (a : Task) → register no_select (request_for (At Confirm) a) ≡ confirming_register a
 confirming_there (Read at) = refl
 confirming_there (BurstRead at) = refl
 confirming_there (Write at word) = refl
 confirming_there (BurstWrite at word) = refl
 
-there : (p : Place) (a : Task) → register no_select (request_of (At p) a) ≡ register_at p a
+there : (p : Place) (a : Task) → register no_select (request_for (At p) a) ≡ register_at p a
+there Transfer a = drw_there a
+there Confirm a = confirming_there a
 there Identify a = refl
 there Wipe a = refl
 there Inspect a = refl
@@ -167,13 +144,11 @@ there Configure a = refl
 there Recall a = refl
 there Configured a = refl
 there Aim a = refl
-there Transfer a = drw_there a
-there Confirm a = confirming_there a
 there Behind a = refl
 
 pub register_there : (p : Place) (a : Task) (s : Port) → s.target.select ≡ no_select
-    → register s.target.select (request_of (At p) a) ≡ register_at p a
-register_there p a s e = ap (λ x. register x (request_of (At p) a)) e ∙ there p a
+    → register s.target.select (request_for (At p) a) ≡ register_at p a
+register_there p a s e = ap (λ x. register x (request_for (At p) a)) e ∙ there p a
 
 not_exempt_drw : (a : Task) → is_exempt (drw_register a) ≡ false
 not_exempt_drw (Read at) = refl
@@ -222,10 +197,10 @@ frame_refl s = record {
 
 pub hurt_asked : (p : Place) (n : ℕ) (base : Counted) (b c : ℕ) (k : Hand) (v : ℕ) (s t : Port)
     → is_exempt_place p ≡ false → b ≤ c → base.lost ≤ s.tally.lost → Hurt p n b k s
-    → Asks s (request_of (At p) k.task) v t → Came (At p) n base c k v t
+    → Asks s (request_for (At p) k.task) v t → Came (At p) n base c k v t
 hurt_asked p n base b c k v s t plain g l h asks =
     let calm : Calm k.memory s.target = hurt_calm p n b k s h in
-    flagged_asked (At p) (register_at p k.task) n base b c k v s t (request_of (At p) k.task)
+    flagged_asked (At p) (register_at p k.task) n base b c k v s t (request_for (At p) k.task)
     (register_there p k.task s calm.select) (not_exempt p k.task plain) calm.live calm.pending h.flag
     (hurt_power p n b k s h) l g (has_within h.back b k s h.has) (omega (arith, h.paid)) asks
     (λ f e more. record {
@@ -266,11 +241,11 @@ up_accepts m r read flip s t p a h = record {
 
 -- SURE WRITES
 module _ (p : Place) (n : ℕ) (base : Counted) (b c : ℕ) (k : Hand) (v : ℕ) (s t : Port) where
-  pub write_asked : (r : Register) → register_at p k.task ≡ r → (request_of (At p) k.task).read ≡ false
+  pub write_asked : (r : Register) → register_at p k.task ≡ r → (request_for (At p) k.task).read ≡ false
       → is_exempt r ≡ false → is_posted r ≡ false → is_exempt_place p ≡ false → is_wipe p ≡ false → r ≢ DrwRead
-      → b ≤ c → Calm k.memory s.target → ((request_of (At p) k.task).ap ≡ true
+      → b ≤ c → Calm k.memory s.target → ((request_for (At p) k.task).ap ≡ true
       → has_power s.target ≡ true) → base.lost ≤ s.tally.lost
-      → Sure p n b k s → Asks s (request_of (At p) k.task) v t
+      → Sure p n b k s → Asks s (request_for (At p) k.task) v t
       → (Writes r n (λ x. Sure p x c k t) t → During (At p) n c k t) → Came (At p) n base c k v t
   write_asked r reg writes ex posted plain wipe nodrw g calm power l h asks go =
       let sure : (n' : ℕ) → Frame s t → Same s t → n' + s.tally.disturbed ≤ n + t.tally.disturbed → Sure p n' c k t =
@@ -279,7 +254,7 @@ module _ (p : Place) (n : ℕ) (base : Counted) (b c : ℕ) (k : Hand) (v : ℕ)
         flag = λ w. e.write ∙ h.flag w;
         paid = omega (arith, h.paid);
       }) in
-      free_asked (At p) r n base b c k v s t (request_of (At p) k.task)
+      free_asked (At p) r n base b c k v s t (request_for (At p) k.task)
       (register_there p k.task s calm.select ∙ reg) ex nodrw calm.live calm.pending
       (h.flag wipe) calm.sticky power l g (has_within p b k s h.has) h.paid asks
       (λ flip sp a more.
@@ -297,16 +272,16 @@ identify_lost b k s t h w = lost_within DpidrRead true b b k s t (omega arith) (
 
 -- ABORT is written, whatever the flags
 pub wipe_asked : (n : ℕ) (base : Counted) (b : ℕ) (k : Hand) (v : ℕ) (s t : Port) → base.lost ≤ s.tally.lost
-    → Sure Wipe n b k s → Asks s (request_of (At Wipe) k.task) v t → Came (At Wipe) n base b k v t
+    → Sure Wipe n b k s → Asks s (request_for (At Wipe) k.task) v t → Came (At Wipe) n base b k v t
 wipe_asked n base b k v s t l h asks =
     abort_asked (At Wipe) n base b k v s t (λ c. Sure Wipe c b k t) h.has.select h.has.live h.has.pending l (inl h) asks
     (λ n' f e more. sure_framed n n' b k s t f e more Wipe h) (λ w. w)
 
 -- DPIDR is read
 pub identify_asked : (n : ℕ) (base : Counted) (b : ℕ) (k : Hand) (v : ℕ) (s t : Port) → base.lost ≤ s.tally.lost
-    → Sure Identify n b k s → Asks s (request_of (At Identify) k.task) v t → Came (At Identify) n base b k v t
+    → Sure Identify n b k s → Asks s (request_for (At Identify) k.task) v t → Came (At Identify) n base b k v t
 identify_asked n base b k v s t l h asks =
-    elim (identification_read_at_rest (request_of (At Identify) k.task) v s t
+    elim (identification_read_at_rest (request_for (At Identify) k.task) v s t
     (register_there Identify k.task s h.has.select) h.has.reset h.has.pending asks) [
       | okay a ↦
           (let x : Accepts DpidrRead true a.flip s t = a.accepts in
@@ -344,10 +319,10 @@ recalled n b k s t flip h a more = record {
 }
 
 pub recall_asked : (n : ℕ) (base : Counted) (b : ℕ) (k : Hand) (v : ℕ) (s t : Port) → base.lost ≤ s.tally.lost
-    → Sure Recall n b k s → Asks s (request_of (At Recall) k.task) v t → Came (At Recall) n base b k v t
+    → Sure Recall n b k s → Asks s (request_for (At Recall) k.task) v t → Came (At Recall) n base b k v t
 recall_asked n base b k v s t l h asks =
     let calm : Calm k.memory s.target = h.has.up.calm in
-    free_asked (At Recall) CswRead n base b b k v s t (request_of (At Recall) k.task)
+    free_asked (At Recall) CswRead n base b b k v s t (request_for (At Recall) k.task)
     (register_there Recall k.task s calm.select) refl (λ e. absurd (cc)) calm.live calm.pending
     (h.flag refl) calm.sticky (λ e. has_debug s.target h.has.up.debug h.has.up.seen) l (omega arith) (has_within Recall b k s h.has) h.paid asks
     (λ flip sp a more. recalled n b k s t flip h a more)
@@ -365,10 +340,10 @@ configured_word n n' b k s t flip more h a = record {
 }
 
 pub configured_asked : (n : ℕ) (base : Counted) (b : ℕ) (k : Hand) (v : ℕ) (s t : Port) → base.lost ≤ s.tally.lost
-    → Sure Configured n b k s → Asks s (request_of (At Configured) k.task) v t → Came (At Configured) n base b k v t
+    → Sure Configured n b k s → Asks s (request_for (At Configured) k.task) v t → Came (At Configured) n base b k v t
 configured_asked n base b k v s t l h asks =
     let calm : Calm k.memory s.target = h.has.up.calm in
-    free_asked (At Configured) RdbuffRead n base b b k v s t (request_of (At Configured) k.task)
+    free_asked (At Configured) RdbuffRead n base b b k v s t (request_for (At Configured) k.task)
     (register_there Configured k.task s calm.select) refl (λ e. absurd (cc)) calm.live calm.pending
     (h.flag refl) calm.sticky (λ e. absurd (cc)) l (omega arith) (has_within Configured b k s h.has) h.paid asks
     (λ flip sp a more. (
@@ -383,11 +358,11 @@ configured_asked n base b k v s t l h asks =
 
 -- RESEND, where no transfer is under way
 pub resend_rested : (p : Place) (word n : ℕ) (base : Counted) (b : ℕ) (k : Hand) (v : ℕ) (m : PlainMemory) (s t : Port)
-    → base.lost ≤ s.tally.lost → Calm m s.target → Resent p word n b k s → Asks s (request_of (Resend p) k.task) v t
+    → base.lost ≤ s.tally.lost → Calm m s.target → Resent p word n b k s → Asks s (request_for (Resend p) k.task) v t
     → Came (Resend p) n base b k v t
 resend_rested p word n base b k v m s t l calm r asks =
-    free_asked (Resend p) ResendRead n base b b k v s t (request_of (Resend p) k.task)
-    (ap (λ x. register x (request_of (Resend p) k.task)) calm.select) refl
+    free_asked (Resend p) ResendRead n base b b k v s t (request_for (Resend p) k.task)
+    (ap (λ x. register x (request_for (Resend p) k.task)) calm.select) refl
     (λ e. absurd (cc)) calm.live calm.pending r.flag calm.sticky (λ e. absurd (cc)) l (omega arith)
     (before_within (Resend p) n b k s (word, r)) r.paid asks
     (λ flip sp a more.

@@ -24,7 +24,7 @@ use Rattle.swd_host.specs.declared.request.Place.TheVariants.{Configure, Recall,
 use Rattle.swd_host.specs.declared.request.Place.TheVariants.{Behind}
 use Rattle.swd_host.specs.declared.request.Job.TheVariants.{At, Resend}
 use Rattle.swd_host.specs.Tasks.{access_of, is_block}
-use Rattle.swd_host.specs.Requests.{request_of}
+use Rattle.swd_host.specs.Requests.{request_for, confirming_register}
 use Rattle.swd_host.specs.Tracks.{Hand, Counted, Under, Sure, Returned, Resent, Confirms, Reads}
 use Rattle.swd_port.specs.Registers.{no_select}
 use Rattle.swd_host.specs.Tracks.{whole, changed, by_error, next_error, FaultedAt, Within, memory_once_done, next_hand}
@@ -32,7 +32,7 @@ use Rattle.swd_host.specs.Tracks.{DoneBy, ahead_of, IsTask}
 use Rattle.swd_host.proofs.Frames.{Frame, Same, frame_waits, same_waits, frame_accepts, same_accepts, resent_framed}
 use Rattle.swd_host.proofs.Frames.{within_next, within_sent, within_done, seen_accepts}
 use Rattle.swd_host.proofs.Asked.{Came, reads_from}
-use Rattle.swd_host.proofs.Asks.{resend_rested, confirming_register}
+use Rattle.swd_host.proofs.Asks.{resend_rested}
 use Rattle.swd_host.proofs.Transfers.{under_stays, confirming_came, confirm_came}
 
 -- WHAT STAYS WHILE A TRANSFER TAKES EFFECT
@@ -143,24 +143,24 @@ module _ (at n c : ℕ) (k : Hand) (x y : Port) (flip : Option ℕ) (task : k.ta
 
 pub next_asked : (at n : ℕ) (base : Counted) (b c : ℕ) (k : Hand) (v : ℕ) (s t : Port) → k.task ≡ BurstRead at
     → IsTask (BurstRead at) → 2 ≤ c → base.lost ≤ s.tally.lost → Sure Confirm n b k s
-    → Asks s (request_of (At Confirm) k.task) v t → Came (At Confirm) n base c k v t
+    → Asks s (request_for (At Confirm) k.task) v t → Came (At Confirm) n base c k v t
 next_asked at n base b c k v s t task ok two l h asks =
     confirm_came n base b c k v s t (omega arith) l h asks
     (λ x y last u flag paid d a. subst (λ z. Confirms z n c k t) (sym task)
     (let ac : Accepts DrwRead true a.flip x y =
-    subst (λ z. Accepts (confirming_register z) (request_of (At Confirm) z).read a.flip x y) task a.accepts in
+    subst (λ z. Accepts (confirming_register z) (request_for (At Confirm) z).read a.flip x y) task a.accepts in
     let read = next_given at n c k x y a.flip task ok two u d ac flag paid a.heard.disturbed_least a.spares in
     (read.0, reads_stay Confirm read.0 n c k y t last read.1)))
     (λ x y last d u ac. next_within at n c k x y None task ok two u d
-    (subst (λ z. Accepts (confirming_register z) (request_of (At Confirm) z).read None x y) task ac))
+    (subst (λ z. Accepts (confirming_register z) (request_for (At Confirm) z).read None x y) task ac))
 
 -- RESEND, WHILE THE NEXT READ IS UNDER WAY
 passing_asked : (word n : ℕ) (base : Counted) (b : ℕ) (k : Hand) (v : ℕ) (s t : Port) → base.lost ≤ s.tally.lost
-    → DoneBy NextSent b k s.target → Resent Confirm word n b k s → Asks s (request_of (Resend Confirm) k.task) v t
+    → DoneBy NextSent b k s.target → Resent Confirm word n b k s → Asks s (request_for (Resend Confirm) k.task) v t
     → Came (Resend Confirm) n base b k v t
 passing_asked word n base b k v s t l h r asks =
     let h2 : Hand = next_hand k.task (memory_once_done k) in
-    let q : Request = request_of (Resend Confirm) k.task in
+    let q : Request = request_for (Resend Confirm) k.task in
     let u : Under 1 h2 s.target = h.1.1 in
     let (x, y, first, came, last) = confirming_request (access_of h2.task) h2.memory ResendRead q v s t u.sent
     (ap (λ z. register z q) u.select) refl u.live r.flag (λ e. absurd (cc)) asks in
@@ -208,7 +208,7 @@ passing_asked word n base b k v s t l h r asks =
 
 done_resend_asked : (ahead : Ahead) (word n : ℕ) (base : Counted) (b : ℕ) (k : Hand) (v : ℕ) (s t : Port)
     → base.lost ≤ s.tally.lost → DoneBy ahead b k s.target → Resent Confirm word n b k s
-    → Asks s (request_of (Resend Confirm) k.task) v t → Came (Resend Confirm) n base b k v t
+    → Asks s (request_for (Resend Confirm) k.task) v t → Came (Resend Confirm) n base b k v t
 done_resend_asked Unsent word n base b k v s t l h r asks =
     resend_rested Confirm word n base b k v _ s t l h.up.calm r asks
 done_resend_asked NextSent word n base b k v s t l h r asks = passing_asked word n base b k v s t l h r asks
@@ -216,7 +216,7 @@ done_resend_asked NextFailed word n base b k v s t l h r asks =
     resend_rested Confirm word n base b k v _ s t l h.1.1.calm r asks
 
 pub resend_asked : (p : Place) (word n : ℕ) (base : Counted) (b : ℕ) (k : Hand) (v : ℕ) (s t : Port)
-    → base.lost ≤ s.tally.lost → Resent p word n b k s → Asks s (request_of (Resend p) k.task) v t
+    → base.lost ≤ s.tally.lost → Resent p word n b k s → Asks s (request_for (Resend p) k.task) v t
     → Came (Resend p) n base b k v t
 resend_asked Configured word n base b k v s t l h asks =
     resend_rested Configured word n base b k v _ s t l h.returned.0.calm h asks

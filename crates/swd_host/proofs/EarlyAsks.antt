@@ -26,7 +26,7 @@ use Rattle.swd_host.specs.declared.request.Job.{Job}
 use Rattle.swd_host.specs.declared.request.Job.TheVariants.{At, Resend, Status, LastStatus, Clear, Check}
 use Rattle.swd_host.specs.declared.task.Task.{Task}
 use Rattle.swd_host.specs.Flags.{flags_in}
-use Rattle.swd_host.specs.Requests.{request_of}
+use Rattle.swd_host.specs.Requests.{request_for}
 use Rattle.swd_host.specs.Tracks.{Counted, Reads, Writes}
 use Rattle.swd_port.specs.Registers.{no_select}
 use Rattle.swd_host.specs.Early.{ComesFrom, Glimpsed, Shows, Anywhere, Resettled, Woken, Wiped, clean, hurt, Inspected}
@@ -164,28 +164,28 @@ no_drw r e = λ d. absurd (let f : is_exempt DrwRead ≡ true = subst (λ z. is_
 module _ (n : ℕ) (base : Counted) (stray : Bool) (start : Port) (v : ℕ) (s t : Port) (k : Task)
     (l : base.lost ≤ s.tally.lost) where
   reached : (job : Job) → s.target.select ≡ no_select
-      → register s.target.select (request_of job k) ≡ register no_select (request_of job k)
-  reached job e = ap (λ z. register z (request_of job k)) e
+      → register s.target.select (request_for job k) ≡ register no_select (request_for job k)
+  reached job e = ap (λ z. register z (request_for job k)) e
 
-  ask_wipe : Woken n stray start s → Asks s (request_of (At Wipe) k) v t → EarlySaw (At Wipe) v n base stray start t
+  ask_wipe : Woken n stray start s → Asks s (request_for (At Wipe) k) v t → EarlySaw (At Wipe) v n base stray start t
   ask_wipe h asks =
-      exempt_early (At Wipe) n base stray start v s t (request_of (At Wipe) k) AbortWrite
+      exempt_early (At Wipe) n base stray start v s t (request_for (At Wipe) k) AbortWrite
       (reached (At Wipe) h.any.select) refl (no_drw AbortWrite refl) h l asks
       (λ y z flip first sp a more last.
       abort_awaits (At Wipe) n stray start s y z t flip h.live first sp more last h a)
 
-  ask_clear : (owed : Flags) → Clearing owed n stray start s → Asks s (request_of (Clear Select owed) k) v t
+  ask_clear : (owed : Flags) → Clearing owed n stray start s → Asks s (request_for (Clear Select owed) k) v t
       → EarlySaw (Clear Select owed) v n base stray start t
   ask_clear owed h asks =
-      exempt_early (Clear Select owed) n base stray start v s t (request_of (Clear Select owed) k) AbortWrite
+      exempt_early (Clear Select owed) n base stray start v s t (request_for (Clear Select owed) k) AbortWrite
       (reached (Clear Select owed) h.woken.any.select) refl (no_drw AbortWrite refl) h.woken l asks
       (λ y z flip first sp a more last.
       abort_awaits (Clear Select owed) n stray start s y z t flip h.woken.live first sp more last h a)
 
-  ask_status : Met n stray start s → Asks s (request_of (Status Select) k) v t
+  ask_status : Met n stray start s → Asks s (request_for (Status Select) k) v t
       → EarlySaw (Status Select) v n base stray start t
   ask_status h asks =
-      exempt_early (Status Select) n base stray start v s t (request_of (Status Select) k) CtrlStatRead
+      exempt_early (Status Select) n base stray start v s t (request_for (Status Select) k) CtrlStatRead
       (reached (Status Select) h.woken.any.select) refl (no_drw CtrlStatRead refl) h.woken l asks
       (λ y z flip first sp a more last. (
         status_in a.busy y.target,
@@ -193,11 +193,11 @@ module _ (n : ℕ) (base : Counted) (stray : Bool) (start : Port) (v : ℕ) (s t
         status_reads (Status Select) n stray start s y z t flip h.woken.live first sp more last h a,
       ))
 
-  ask_inspect : Wiped n stray start s → Asks s (request_of (At Inspect) k) v t
+  ask_inspect : Wiped n stray start s → Asks s (request_for (At Inspect) k) v t
       → EarlySaw (At Inspect) v n base stray start t
   ask_inspect h asks =
       let w : Woken n stray start s = wiped_woken n stray start s h in
-      exempt_early (At Inspect) n base stray start v s t (request_of (At Inspect) k) CtrlStatRead
+      exempt_early (At Inspect) n base stray start v s t (request_for (At Inspect) k) CtrlStatRead
       (reached (At Inspect) w.any.select) refl (no_drw CtrlStatRead refl) w l asks
       (λ y z flip first sp a more last. (
         status_in a.busy y.target,
@@ -205,12 +205,12 @@ module _ (n : ℕ) (base : Counted) (stray : Bool) (start : Port) (v : ℕ) (s t
         status_reads (At Inspect) n stray start s y z t flip w.live first sp more last h a,
       ))
 
-  ask_check : (owed : Flags) → Cleared owed n stray start s → Asks s (request_of (Check Select owed) k) v t
+  ask_check : (owed : Flags) → Cleared owed n stray start s → Asks s (request_for (Check Select owed) k) v t
       → EarlySaw (Check Select owed) v n base stray start t
   ask_check owed h asks =
       let w : Woken n stray start s = cleared_woken owed n stray start s h in
       let job : Job = Check Select owed in
-      exempt_early job n base stray start v s t (request_of job k) CtrlStatRead (reached job w.any.select) refl
+      exempt_early job n base stray start v s t (request_for job k) CtrlStatRead (reached job w.any.select) refl
       (no_drw CtrlStatRead refl) w l asks
       (λ y z flip first sp a more last. (
         status_in a.busy y.target,
@@ -237,10 +237,10 @@ module _ (n : ℕ) (base : Counted) (stray : Bool) (start : Port) (v : ℕ) (s t
         live = a.live;
       })
 
-  ask_identify : Resettled n stray start s → Asks s (request_of (At Identify) k) v t
+  ask_identify : Resettled n stray start s → Asks s (request_for (At Identify) k) v t
       → EarlySaw (At Identify) v n base stray start t
   ask_identify h asks =
-      let q : Request = request_of (At Identify) k in
+      let q : Request = request_for (At Identify) k in
       let (y, z, first, came, last) = identification_read q v s t (reached (At Identify) h.any.select) h.reset asks in
       let j : Kept z t = kept_by z t last in
       elim came [
@@ -293,10 +293,10 @@ module _ (n : ℕ) (base : Counted) (stray : Bool) (start : Port) (v : ℕ) (s t
             (λ d. settled (n + 1) (omega (arith, there.woken.any.paid, d)));
       }
 
-  ask_select : Inspected n stray start s → Asks s (request_of (At Select) k) v t
+  ask_select : Inspected n stray start s → Asks s (request_for (At Select) k) v t
       → EarlySaw (At Select) v n base stray start t
   ask_select h asks =
-      let q : Request = request_of (At Select) k in
+      let q : Request = request_for (At Select) k in
       let (y, z, first, came, last) = free_request SelectWrite q v s t (reached (At Select) h.woken.any.select) refl
       h.woken.live h.flag (λ e. absurd (cc)) asks in
       let there : Inspected n stray start y = early_stays (At Select) n stray start s y first h in
@@ -340,7 +340,7 @@ module _ (n : ℕ) (base : Counted) (stray : Bool) (start : Port) (v : ℕ) (s t
       ]
 
   -- EVERY REQUEST
-  pub ask_early : (job : Job) → EarlyBefore job n stray start s → Asks s (request_of job k) v t
+  pub ask_early : (job : Job) → EarlyBefore job n stray start s → Asks s (request_for job k) v t
       → EarlySaw job v n base stray start t
   ask_early (At Identify) h asks = ask_identify h asks
   ask_early (At Wipe) h asks = ask_wipe h asks

@@ -18,7 +18,7 @@ use Rattle.swd_host.specs.declared.request.Place.TheVariants.{Configure, Recall,
 use Rattle.swd_host.specs.declared.request.Place.TheVariants.{Behind}
 use Rattle.swd_host.specs.declared.request.Job.{Job}
 use Rattle.swd_host.specs.declared.request.Job.TheVariants.{At, Resend, Status, LastStatus, Clear, Check}
-use Rattle.swd_host.specs.Requests.{request_of, begins, begins_next}
+use Rattle.swd_host.specs.Requests.{request_for, begins, begins_next}
 use Rattle.std.proofs.Math.Nat.{le-max_left, le-max_right, max-zero}
 use Rattle.swd_host.specs.Tracks.{Hand, Saw, saw_okay, saw_wait, saw_fault, saw_none, Counted}
 use Rattle.swd_port.specs.Registers.{no_select}
@@ -81,7 +81,7 @@ some_more b h = omega (arith, le-max_left b 0)
 
 -- the request that confirms, by the access in hand
 confirm_sent : (task : Task) (n : ℕ) (base : Counted) (b : ℕ) (k : Hand) (v : ℕ) (s t : Port) → k.task ≡ task
-    → IsTask task → base.lost ≤ s.tally.lost → Sure Confirm n b k s → Asks s (request_of (At Confirm) k.task) v t
+    → IsTask task → base.lost ≤ s.tally.lost → Sure Confirm n b k s → Asks s (request_for (At Confirm) k.task) v t
     → Came (At Confirm) n base (max b (begins_next task)) k v t
 confirm_sent (BurstRead at) n base b k v s t e ok l h asks =
     next_asked at n base b (max b 2) k v s t e ok (le-max_right b 2) l h asks
@@ -108,7 +108,7 @@ module _ (n : ℕ) (base : Counted) (b : ℕ) (k : Hand) (v : ℕ) (s t : Port) 
       let r = powered_rest n b k s h in power_asked n base b k v s t r.select r.live r.pending l h asks
 
   -- a request that begins no access
-  plain_asked : (p : Place) → Sure p n b k s → Asks s (request_of (At p) k.task) v t
+  plain_asked : (p : Place) → Sure p n b k s → Asks s (request_for (At p) k.task) v t
       → begins (At p) k.task ≡ 0 → is_confirm p ≡ false → Came (At p) n base b k v t
   plain_asked Identify h asks none other = identify_asked n base b k v s t l h asks
   plain_asked Wipe h asks none other = wipe_asked n base b k v s t l h asks
@@ -129,7 +129,7 @@ module _ (n : ℕ) (base : Counted) (b : ℕ) (k : Hand) (v : ℕ) (s t : Port) 
   plain_asked Confirm h asks none other = absurd (cc)
   plain_asked Behind h asks none other = absurd h.has
 
-  sure_asked : (p : Place) → Sure p n b k s → Asks s (request_of (At p) k.task) v t
+  sure_asked : (p : Place) → Sure p n b k s → Asks s (request_for (At p) k.task) v t
       → Came (At p) n base (max b (begins (At p) k.task)) k v t
   sure_asked Transfer h asks =
       drw_asked k.task n base b (max b 1) k v s t refl (le-max_left b 1) (le-max_right b 1) l h asks
@@ -146,7 +146,7 @@ module _ (n : ℕ) (base : Counted) (b : ℕ) (k : Hand) (v : ℕ) (s t : Port) 
   sure_asked Aim h asks = came_same (At Aim) n base b k v t (plain_asked Aim h asks refl refl)
   sure_asked Behind h asks = absurd h.has
 
-  place_hurt : (p : Place) → Hurt p n b k s → Asks s (request_of (At p) k.task) v t
+  place_hurt : (p : Place) → Hurt p n b k s → Asks s (request_for (At p) k.task) v t
       → Came (At p) n base (max b (begins (At p) k.task)) k v t
   place_hurt Inspect h asks = came_same (At Inspect) n base b k v t
       (says_asked (At Inspect) (inspect_rest n b k s (inr h)) (inr h) asks (λ x. x))
@@ -165,7 +165,7 @@ module _ (n : ℕ) (base : Counted) (b : ℕ) (k : Hand) (v : ℕ) (s t : Port) 
   place_hurt Aim h asks = absurd (let c = h.confirms in cc)
   place_hurt Behind h asks = absurd (let c = h.confirms in cc)
 
-  pub job_asked : (job : Job) → Before job n b k s → Asks s (request_of job k.task) v t
+  pub job_asked : (job : Job) → Before job n b k s → Asks s (request_for job k.task) v t
       → Came job n base (max b (begins job k.task)) k v t
   job_asked (At p) (inl h) asks = sure_asked p h asks
   job_asked (At p) (inr h) asks = place_hurt p h asks
@@ -217,8 +217,8 @@ came_saw job n base b k v t select (came_lost none w l d) = saw_none none.not_ok
     (record { within = w; more = l; paid = d; select = select })
 
 pub ask_saw : (job : Job) (n : ℕ) (base : Counted) (b : ℕ) (k : Hand) (v : ℕ) (s t : Port)
-    → base.lost ≤ s.tally.lost → IsTask k.task → Before job n b k s → Asks s (request_of job k.task) v t
+    → base.lost ≤ s.tally.lost → IsTask k.task → Before job n b k s → Asks s (request_for job k.task) v t
     → Saw job v n base (max b (begins job k.task)) k t
 ask_saw job n base b k v s t l ok h asks =
-    came_saw job n base (max b (begins job k.task)) k v t ((request_counted (request_of job k.task) v s t asks).select
+    came_saw job n base (max b (begins job k.task)) k v t ((request_counted (request_for job k.task) v s t asks).select
     ∙ before_select job n b k s h) (job_asked n base b k v s t l ok job h asks)

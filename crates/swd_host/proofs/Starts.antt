@@ -29,7 +29,7 @@ use Rattle.swd_host.specs.declared.engine.Engine.{Engine}
 use Rattle.swd_host.specs.Addresses.{is_known, continues}
 use Rattle.swd_host.specs.Plain.{IsAccess}
 use Rattle.swd_host.specs.Tasks.{access_of, is_read, is_burst, is_burst_write, is_block, task_for, most_begun, most_of}
-use Rattle.swd_host.specs.Requests.{confirming_request}
+use Rattle.swd_host.specs.Requests.{request_for}
 use Rattle.swd_host.specs.Engines.{is_ahead_at, is_ahead_in, is_ahead, finished_at, finished_of, may_start}
 use Rattle.swd_host.specs.Progress.{left_in, stray_left, least_in, open_requests, is_state_of}
 use Rattle.swd_host.specs.Tracks.{Hand, Counted, Up, Sure, Writes, whole, changed, IsReady, Transfers, Tracks, Follows}
@@ -445,9 +445,15 @@ module _ (a : Access) (following : Option Access) (e g : Engine) (starts : Start
   start_access = ap (is_state_of false) starts.state ∙ first_access (is_ahead e) e.ahead g.aims
 
 -- WHAT IS DUE
+drw_reads : (task : Task) → (request_for (At Transfer) task).read ≡ is_read task
+drw_reads (Read at) = refl
+drw_reads (BurstRead at) = refl
+drw_reads (Write at word) = refl
+drw_reads (BurstWrite at word) = refl
+
 first_due : (ahead : Bool) (further : Ahead) (aims stray : Bool) (task : Task) (due : Due)
     → due ≡ (if ahead then due_of (is_read task) else Nothing) → DueAt (first_state ahead further aims) stray task due
-first_due true further aims stray task due h = h
+first_due true further aims stray task due h = h ∙ ap due_of (sym (drw_reads task))
 first_due false NextSent aims stray task due h = h
 first_due false NextFailed aims stray task due h = h
 first_due false Unsent true stray task due h = h
@@ -467,7 +473,7 @@ rest_due (Resting Opened) stray task due may calm h = h
 rest_due (Resting (Answered answer)) stray task due may calm h = h
 rest_due (Resting (Stopped end)) stray task due may calm h = absurd (cc)
 
-burst_due : (task : Task) (due : Due) → is_burst_write task ≡ true → due ≡ due_of (confirming_request task).read
+burst_due : (task : Task) (due : Due) → is_burst_write task ≡ true → due ≡ due_of (request_for (At Confirm) task).read
     → due ≡ due_of false
 burst_due (Read at) due burst h = absurd (cc)
 burst_due (BurstRead at) due burst h = absurd (cc)

@@ -3,14 +3,13 @@ use Rattle.std.proofs.Common.{◌≡◌, ◌+◌, ◌≤◌, ℕ, Bool, true, fa
 use Rattle.std.proofs.Common.{arith, ◌∙◌}
 use Rattle.std.specs.Prelude.{Option, Some, None, ◌⊎◌}
 use Rattle.swd_bits.specs.declared.request.Request.{Request}
-use Rattle.swd_bits.specs.declared.request.Reg4.TheVariants.{RC}
 use Rattle.swd_port.specs.declared.access.Access.TheVariants.{Read as AccessRead}
 use Rattle.swd_host.specs.declared.task.Task.{Task}
 use Rattle.swd_host.specs.declared.task.Task.TheVariants.{Read, BurstRead, Write, BurstWrite}
-use Rattle.swd_host.specs.Tasks.{access_of, is_read, is_block}
+use Rattle.swd_host.specs.Tasks.{access_of, is_block}
 use Rattle.swd_port.specs.declared.access.Answer.TheVariants.{Value}
 use Rattle.swd_port.specs.PlainMemory.{plain_answer, answer_of, address, word_at}
-use Rattle.swd_port.specs.Port.{Port, register}
+use Rattle.swd_port.specs.Port.{Port, register, request_of}
 use Rattle.swd_port.specs.declared.register.Register.{Register}
 use Rattle.swd_port.specs.declared.register.Register.TheVariants.{RdbuffRead}
 use Rattle.swd_port.specs.declared.register.Register.TheVariants.{DrwRead, DrwWrite}
@@ -28,7 +27,7 @@ use Rattle.swd_port.proofs.CompletionLaws.{none_done, kept as kept_by, sent_stay
 use Rattle.swd_host.specs.declared.request.Place.TheVariants.{Transfer, Confirm}
 use Rattle.swd_host.specs.declared.request.Job.{Job}
 use Rattle.swd_host.specs.declared.request.Job.TheVariants.{At}
-use Rattle.swd_host.specs.Requests.{request_of}
+use Rattle.swd_host.specs.Requests.{request_for, drw_register, confirming_register}
 use Rattle.swd_host.specs.Tracks.{Hand, Counted, Up, IsAimed}
 use Rattle.swd_port.specs.Registers.{no_select}
 use Rattle.swd_host.specs.Tracks.{Under, Sure, Broken, Refused}
@@ -40,7 +39,7 @@ use Rattle.swd_host.proofs.Frames.{has_framed, seen_accepts, has_debug}
 use Rattle.swd_host.proofs.Frames.{within_carried, within_stays, within_sent, within_idle}
 use Rattle.swd_host.proofs.Frames.{within_done}
 use Rattle.swd_host.proofs.Asked.{Came, came_okay, came_wait, came_fault, came_lost, reads_from, writes_from}
-use Rattle.swd_host.proofs.Asks.{register_there, drw_register, confirming_register, not_exempt, write_asked}
+use Rattle.swd_host.proofs.Asks.{register_there, not_exempt, write_asked}
 
 -- A READ OF DRW
 pub under_stays : (b : ℕ) (k : Hand) (s t : Port) → Completes s t → Under b k s.target → Under b k t.target
@@ -85,9 +84,6 @@ read_under b k at flip s y some e h a = record {
   sent = read_sent k at flip s y e h a;
 }
 
-abbrev pub drw_read : Request
-drw_read = record { ap = true; read = true; addr = RC }
-
 pub under_sure : (n n' b : ℕ) (k : Hand) (s y t : Port) → Under b k y.target → Completes y t
     → y.target.write_error ≡ false → n' ≤ y.tally.disturbed → Sure Confirm n' b k t
 under_sure n n' b k s y t h c flag paid =
@@ -97,9 +93,6 @@ under_sure n n' b k s y t h c flag paid =
       flag = λ w. kp.write_error ∙ flag;
       paid = subst (λ d. n' ≤ d.disturbed) (sym kp.tally) paid;
     }
-
-drw_register_there : (s : Port) → s.target.select ≡ no_select → register s.target.select drw_read ≡ DrwRead
-drw_register_there s e = ap (λ x. register x drw_read) e
 
 lost_read : (b c : ℕ) (k : Hand) (at : ℕ) (s y t : Port) → 1 ≤ c → access_of k.task ≡ AccessRead at
     → IsAimed k s.target → Completes y t → Stays s y ⊎ Accepts DrwRead true None s y → Within c k t.target
@@ -112,11 +105,11 @@ lost_read b c k at s y t some e h last (inr a) =
 
 drw_read_asked : (n : ℕ) (base : Counted) (b c : ℕ) (k : Hand) (at v : ℕ) (s t : Port) → b ≤ c → 1 ≤ c
     → access_of k.task ≡ AccessRead at → (Sure Confirm n c k t → Transfers k.task n c k t)
-    → base.lost ≤ s.tally.lost → Sure Transfer n b k s → Asks s drw_read v t → Came (At Transfer) n base c k v t
+    → base.lost ≤ s.tally.lost → Sure Transfer n b k s → Asks s (request_of DrwRead) v t → Came (At Transfer) n base c k v t
 drw_read_asked n base b c k at v s t grows some e sent l h asks =
     let up : Up k.memory s.target = h.has.up in
-    let (y, came, last) = free_request_at_rest DrwRead drw_read v s t
-    (drw_register_there s up.calm.select) refl up.calm.live up.calm.pending (h.flag refl) up.calm.sticky
+    let (y, came, last) = free_request_at_rest DrwRead (request_of DrwRead) v s t
+    (ap (λ x. register x (request_of DrwRead)) up.calm.select) refl up.calm.live up.calm.pending (h.flag refl) up.calm.sticky
     (λ x. has_debug s.target up.debug up.seen) asks in
     elim came [
       | okay a ↦
@@ -147,28 +140,28 @@ drw_read_asked n base b c k at v s t grows some e sent l h asks =
 
 -- A WRITE OF DRW
 drw_write_asked : (n : ℕ) (base : Counted) (b c : ℕ) (k : Hand) (v : ℕ) (s t : Port) → b ≤ c
-    → drw_register k.task ≡ DrwWrite → is_read k.task ≡ false → base.lost ≤ s.tally.lost → Sure Transfer n b k s
-    → Asks s (request_of (At Transfer) k.task) v t
+    → drw_register k.task ≡ DrwWrite → base.lost ≤ s.tally.lost → Sure Transfer n b k s
+    → Asks s (request_for (At Transfer) k.task) v t
     → (Writes DrwWrite n (λ x. Sure Transfer x c k t) t → Transfers k.task n c k t)
     → Came (At Transfer) n base c k v t
-drw_write_asked n base b c k v s t grows r w l h asks go =
-    write_asked Transfer n base b c k v s t DrwWrite r w refl refl refl refl (λ x. absurd (cc))
+drw_write_asked n base b c k v s t grows r l h asks go =
+    write_asked Transfer n base b c k v s t DrwWrite r (ap (λ z. (request_of z).read) r) refl refl refl refl (λ x. absurd (cc))
     grows h.has.up.calm (λ x. has_debug s.target h.has.up.debug h.has.up.seen) l h asks go
 
 pub drw_asked : (task : Task) (n : ℕ) (base : Counted) (b c : ℕ) (k : Hand) (v : ℕ) (s t : Port) → k.task ≡ task
-    → b ≤ c → 1 ≤ c → base.lost ≤ s.tally.lost → Sure Transfer n b k s → Asks s (request_of (At Transfer) k.task) v t
+    → b ≤ c → 1 ≤ c → base.lost ≤ s.tally.lost → Sure Transfer n b k s → Asks s (request_for (At Transfer) k.task) v t
     → Came (At Transfer) n base c k v t
 drw_asked (Read at) n base b c k v s t e grows some l h asks =
     drw_read_asked n base b c k at v s t grows some (ap access_of e) (λ x. subst (λ a. Transfers a n c k t) (sym e) x)
-    l h (subst (λ a. Asks s (request_of (At Transfer) a) v t) e asks)
+    l h (subst (λ a. Asks s (request_for (At Transfer) a) v t) e asks)
 drw_asked (BurstRead at) n base b c k v s t e grows some l h asks =
     drw_read_asked n base b c k at v s t grows some (ap access_of e) (λ x. subst (λ a. Transfers a n c k t) (sym e) x)
-    l h (subst (λ a. Asks s (request_of (At Transfer) a) v t) e asks)
+    l h (subst (λ a. Asks s (request_for (At Transfer) a) v t) e asks)
 drw_asked (Write at word) n base b c k v s t e grows some l h asks =
-    drw_write_asked n base b c k v s t grows (ap drw_register e) (ap is_read e) l h asks
+    drw_write_asked n base b c k v s t grows (ap drw_register e) l h asks
     (λ w. subst (λ a. Transfers a n c k t) (sym e) (some, w))
 drw_asked (BurstWrite at word) n base b c k v s t e grows some l h asks =
-    drw_write_asked n base b c k v s t grows (ap drw_register e) (ap is_read e) l h asks
+    drw_write_asked n base b c k v s t grows (ap drw_register e) l h asks
     (λ w. subst (λ a. Transfers a n c k t) (sym e) (some, w))
 
 -- THE REQUEST THAT CONFIRMS: RDBUFF, OR DRW FOR THE NEXT ACCESS OF A BURST; IN A BLOCK RESEND TOO
@@ -211,7 +204,7 @@ done_there b k r read flip x y p h d a = record {
 confirms_at : (task : Task) (n b : ℕ) (k : Hand) (x y : Port) (flip : Option ℕ) → k.task ≡ task
     → is_block task ≡ false → Under b k x.target
     → x.target.write_error ≡ false → n ≤ x.tally.disturbed → x.tally.disturbed ≤ y.tally.disturbed → Spares flip x y
-    → Succeeded (access_of k.task) k.memory x.target → Accepts (confirming_register task) (request_of
+    → Succeeded (access_of k.task) k.memory x.target → Accepts (confirming_register task) (request_for
     (At Confirm) task).read flip x y → Confirms task n b k y
 confirms_at (BurstRead at) n b k x y flip e single h flag paid more sp d ac = absurd (cc)
 confirms_at (Read at) n b k x y flip e single h flag paid more sp d ac =
@@ -361,17 +354,17 @@ within_more b c k s grows h = within_carried b c k s s grows refl refl refl h
 
 -- the request that confirms; c accesses are begun by it
 module _ (n : ℕ) (base : Counted) (b c : ℕ) (k : Hand) (v : ℕ) (s t : Port) (some : 1 ≤ c) where
-  pub confirm_came : base.lost ≤ s.tally.lost → Sure Confirm n b k s → Asks s (request_of (At Confirm) k.task) v t
+  pub confirm_came : base.lost ≤ s.tally.lost → Sure Confirm n b k s → Asks s (request_for (At Confirm) k.task) v t
       → ((x y : Port) → Completes y t → Under c k x.target → x.target.write_error ≡ false → n ≤ x.tally.disturbed
       → Succeeded (access_of k.task) k.memory x.target
-      → SeesOkay (confirming_register k.task) (request_of (At Confirm) k.task).read v x y → During (At Confirm) n c k t)
+      → SeesOkay (confirming_register k.task) (request_for (At Confirm) k.task).read v x y → During (At Confirm) n c k t)
       → ((x y : Port) → Completes y t → Succeeded (access_of k.task) k.memory x.target → Under c k x.target
-      → Accepts (confirming_register k.task) (request_of (At Confirm) k.task).read None x y → Within c k y.target)
+      → Accepts (confirming_register k.task) (request_for (At Confirm) k.task).read None x y → Within c k y.target)
       → Came (At Confirm) n base c k v t
   confirm_came l h asks good gone =
       let u : Under b k s.target = h.has in
       let r : Register = confirming_register k.task in
-      let q : Request = request_of (At Confirm) k.task in
+      let q : Request = request_for (At Confirm) k.task in
       let (x, y, first, came, last) = confirming_request (access_of k.task) k.memory r q v s t u.sent
       (register_there Confirm k.task s u.select) (not_exempt Confirm k.task refl) u.live (h.flag refl)
       (λ e. has_debug s.target u.debug u.seen) asks in
@@ -394,10 +387,10 @@ module _ (n : ℕ) (base : Counted) (b c : ℕ) (k : Hand) (v : ℕ) (s t : Port
 
 pub confirm_asked : (n : ℕ) (base : Counted) (b c : ℕ) (k : Hand) (v : ℕ) (s t : Port) → 1 ≤ c
     → is_block k.task ≡ false → base.lost ≤ s.tally.lost
-    → Sure Confirm n b k s → Asks s (request_of (At Confirm) k.task) v t → Came (At Confirm) n base c k v t
+    → Sure Confirm n b k s → Asks s (request_for (At Confirm) k.task) v t → Came (At Confirm) n base c k v t
 confirm_asked n base b c k v s t some single l h asks =
     let r : Register = confirming_register k.task in
-    let q : Request = request_of (At Confirm) k.task in
+    let q : Request = request_for (At Confirm) k.task in
     confirm_came n base b c k v s t some l h asks
     (λ x y last ux flag paid d a. (let ac : Accepts r q.read a.flip x y = a.accepts in
     subst (λ z. During (At Confirm) n c k z) (sym

@@ -31,7 +31,7 @@ use Rattle.swd_host.specs.declared.engine.Phase.TheVariants.{Ask, Data, Waited, 
 use Rattle.swd_host.specs.declared.engine.State.{State}
 use Rattle.swd_host.specs.declared.engine.State.TheVariants.{Leading, Doing, Resting}
 use Rattle.swd_host.specs.declared.engine.Engine.{Engine}
-use Rattle.swd_host.specs.Requests.{request_of, word_for, confirmed_by, is_confirm, is_behind, begins, begins_next}
+use Rattle.swd_host.specs.Requests.{request_for, word_for, confirmed_by, is_confirm, is_behind, begins, begins_next}
 use Rattle.swd_host.specs.Tasks.{most_begun}
 use Rattle.swd_host.specs.Progress.{left_again, left_cleared, least_for}
 use Rattle.swd_host.specs.Tracks.{BusErrorOf, own_error, next_error}
@@ -97,7 +97,7 @@ ask_cue false (Some word) q e = absurd (cc)
 pub record IsAsking (x : State) (task : Task) (q : Request) : Type 0 where
   pub job : Job
   pub at : x ≡ Doing job Ask
-  pub is : q ≡ request_of job task
+  pub is : q ≡ request_for job task
 
 pub asking : (x : State) (stray : Bool) (task : Task) (q : Request) → cue_at x stray task ≡ CueAsk q
     → IsAsking x task q
@@ -105,7 +105,7 @@ asking (Doing job Ask) stray task q e = record {
   job = job;
   at = refl;
   is =
-      (let same : q ≡ request_of job task = cc in same);
+      (let same : q ≡ request_for job task = cc in same);
 }
 asking (Doing job Data) stray task q e = absurd (ask_cue (is_ahead_at job Data task) (word_for job task) q e)
 asking Leading stray task q e = absurd (cc)
@@ -277,7 +277,7 @@ ask_goes e f on s t q v cue asks left sent sees tracks hears =
     let open_here : left_in e.state ≡ left_for a.job = ap left_in a.at in
     let part_of : (opening : Bool) → is_state_of opening e.state ≡ true
     → is_job_of opening a.job ≡ true = λ opening h. sym (ap (is_state_of opening) a.at) ∙ h in
-    let asked : Asks s (request_of a.job e.task) v t = subst (λ r. Asks s r v t) a.is asks in
+    let asked : Asks s (request_for a.job e.task) v t = subst (λ r. Asks s r v t) a.is asks in
     let follows : (base : Counted) (m : PlainMemory) → Follows base m e s → Follows base m f t = λ base m h. (
     let before : Before a.job (base.disturbed + e.events) e.begun (hand_of e m) s =
     tracked base m e s (Doing a.job Ask) a.at h.tracks in
@@ -340,8 +340,8 @@ read_due false = refl
 pub due_seen : (job : Job) (stray : Bool) (task : Task) (one two four : Bool) →
     DueAt (if one then Doing job Data else if two then Doing job Waited else if four then Doing job Faulted else
     Resting (Stopped Lost)) stray task
-    (if one then (if (request_of job task).read then Take else Give) else if two || four then Pass else DueLost)
-due_seen job stray task true two four = read_due (request_of job task).read
+    (if one then (if (request_for job task).read then Take else Give) else if two || four then Pass else DueLost)
+due_seen job stray task true two four = read_due (request_for job task).read
 due_seen job stray task false true four = refl
 due_seen job stray task false false true = refl
 due_seen job stray task false false false = refl
@@ -350,7 +350,7 @@ pub ask_due : (e f : Engine) (s t : Port) (q : Request) (v : ℕ) → cue_of e �
     → DueFits f t
 ask_due e f s t q v cue asks sees =
     let a : IsAsking e.state e.task q = asking e.state e.stray e.task q cue in
-    let due : t.link.due ≡ due_after (request_of a.job e.task).read v =
+    let due : t.link.due ≡ due_after (request_for a.job e.task).read v =
     due_after_request q v s t asks ∙ ap (λ r. due_after r.read v) a.is in
     let state : f.state ≡ state_seen a.job v = sees.state ∙ ap (λ j. state_seen j v) (ap job_in a.at) in
     subst (λ i. DueAt f.state f.stray i t.link.due) (sym sees.task)

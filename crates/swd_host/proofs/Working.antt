@@ -7,7 +7,7 @@ use Rattle.swd_port.specs.Answers.{due_after}
 use Rattle.swd_host.specs.declared.request.Job.{Job}
 use Rattle.swd_host.specs.declared.engine.Cue.TheVariants.{Ask as CueAsk}
 use Rattle.swd_host.specs.declared.engine.Engine.{Engine}
-use Rattle.swd_host.specs.Requests.{request_of, begins}
+use Rattle.swd_host.specs.Requests.{request_for, begins}
 use Rattle.swd_host.specs.Tasks.{most_begun}
 use Rattle.swd_host.specs.Engines.{cue_of, is_resting, one_more, job_in}
 use Rattle.swd_host.specs.Progress.{open_requests, is_job_of, is_state_of}
@@ -107,7 +107,7 @@ pub ask_due_framed : (e f : Engine) (t : Port) (q : Request) (v : ℕ) → cue_o
     → t.link.due ≡ due_after q.read v → Sees v e f → DueFits f t
 ask_due_framed e f t q v cue framed sees =
     let a : IsAsking e.state e.task q = asking e.state e.stray e.task q cue in
-    let due : t.link.due ≡ due_after (request_of a.job e.task).read v = framed ∙ ap (λ r. due_after r.read v) a.is in
+    let due : t.link.due ≡ due_after (request_for a.job e.task).read v = framed ∙ ap (λ r. due_after r.read v) a.is in
     let state : f.state ≡ state_seen a.job v = sees.state ∙ ap (λ j. state_seen j v) (ap job_in a.at) in
     subst (λ i. DueAt f.state f.stray i t.link.due) (sym sees.task)
     (subst (λ i. DueAt i f.stray e.task t.link.due) (sym state)

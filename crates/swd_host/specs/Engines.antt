@@ -17,7 +17,7 @@ use Rattle.swd_host.specs.declared.engine.State.{State}
 use Rattle.swd_host.specs.declared.engine.State.TheVariants.{Leading, Doing, Resting}
 use Rattle.swd_host.specs.declared.engine.Engine.{Engine}
 use Rattle.swd_host.specs.Tasks.{is_burst_write}
-use Rattle.swd_host.specs.Requests.{request_of, word_for}
+use Rattle.swd_host.specs.Requests.{request_for, word_for}
 
 -- the access in hand is answered by the OK to the next one's DRW write, whose data is due
 abbrev pub is_ahead_at : Job → Phase → Task → Bool
@@ -47,7 +47,7 @@ lead_cue inside = Lead (if inside then 100 else 56) (not inside) 2
 
 abbrev pub cue_at : State → Bool → Task → Cue
 cue_at Leading stray task = lead_cue stray
-cue_at (Doing job Ask) stray task = CueAsk (request_of job task)
+cue_at (Doing job Ask) stray task = CueAsk (request_for job task)
 cue_at (Doing job Data) stray task = data_cue (is_ahead_at job Data task) (word_for job task)
 cue_at (Doing job Waited) stray task = Pass
 cue_at (Doing job Faulted) stray task = Pass

@@ -1,7 +1,8 @@
 -- The sticky flags of CTRL/STAT, and the words that clear them: IHI 0031, B2, "CTRL/STAT, Control/Status register"
 -- and "ABORT, AP Abort register".
-use Rattle.std.specs.Prelude.{ℕ, ◌+◌, ◌/◌, ◌%◌, ◌==◌, ◌&&◌, Bool, false, if◌then◌else◌}
+use Rattle.std.specs.Prelude.{ℕ, ◌+◌, ◌==◌, ◌&&◌, Bool, false, if◌then◌else◌}
 use Rattle.swd_port.specs.Laws.WordsRead.{holds}
+use Rattle.swd_port.specs.Registers.{csw_of}
 use Rattle.swd_host.specs.declared.flags.Flags.{Flags}
 
 -- the flags in a word of CTRL/STAT
@@ -22,4 +23,4 @@ is_powered word = holds 0x2000_0000 word && holds 0x8000_0000 word
 -- CSW as it was asked for: words, AddrInc single, and an enabled device (IHI 0031, MEM-AP, "CSW, Control/Status Word
 -- register")
 abbrev pub is_configured : ℕ → Bool
-is_configured word = (word % 8 == 2) && (word / 16 % 4 == 1) && (word / 64 % 2 == 1)
+is_configured word = let csw = csw_of word in (csw.size == 2) && (csw.addr_inc == 1) && csw.device_en

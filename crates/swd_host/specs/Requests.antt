@@ -1,9 +1,12 @@
 -- The requests that a host sends: the opening, an access, and what is sent where something went wrong.
 use Rattle.std.specs.Prelude.{ℕ, Bool, true, false, not, if◌then◌else◌, Option, Some, None, is_some}
-use Rattle.swd_bits.specs.declared.request.Reg4.{Reg4}
-use Rattle.swd_bits.specs.declared.request.Reg4.TheVariants.{R0, R4, R8, RC}
 use Rattle.swd_bits.specs.declared.request.Request.{Request}
 use Rattle.swd_port.specs.PlainMemory.{address}
+use Rattle.swd_port.specs.Port.{request_of}
+use Rattle.swd_port.specs.declared.register.Register.{Register}
+use Rattle.swd_port.specs.declared.register.Register.TheVariants.{DpidrRead, AbortWrite, CtrlStatRead, CtrlStatWrite}
+use Rattle.swd_port.specs.declared.register.Register.TheVariants.{SelectWrite, ResendRead, RdbuffRead, CswRead, CswWrite}
+use Rattle.swd_port.specs.declared.register.Register.TheVariants.{TarWrite, DrwRead, DrwWrite}
 use Rattle.swd_host.specs.declared.task.Task.{Task}
 use Rattle.swd_host.specs.declared.task.Task.TheVariants.{Read, BurstRead, Write, BurstWrite}
 use Rattle.swd_host.specs.declared.request.Place.{Place}
@@ -15,37 +18,45 @@ use Rattle.swd_host.specs.declared.request.Job.TheVariants.{At, Resend, Status, 
 use Rattle.swd_host.specs.Tasks.{access_of, is_read}
 use Rattle.swd_host.specs.Flags.{clear_word}
 
-abbrev pub debug_port : Bool → Reg4 → Request
-debug_port read addr = record { ap = false; read = read; addr = addr }
-
-abbrev pub access_port : Bool → Reg4 → Request
-access_port read addr = record { ap = true; read = read; addr = addr }
+-- DRW, in the direction of the access
+abbrev pub drw_register : Task → Register
+drw_register (Read at) = DrwRead
+drw_register (BurstRead at) = DrwRead
+drw_register (Write at word) = DrwWrite
+drw_register (BurstWrite at word) = DrwWrite
 
 -- what confirms an access: RDBUFF's OK, or in a burst the OK to the next access's DRW request
-abbrev pub confirming_request : Task → Request
-confirming_request (BurstRead at) = access_port true RC
-confirming_request (BurstWrite at word) = access_port false RC
-confirming_request task = debug_port true RC
+abbrev pub confirming_register : Task → Register
+confirming_register (BurstRead at) = DrwRead
+confirming_register (BurstWrite at word) = DrwWrite
+confirming_register task = RdbuffRead
 
-abbrev pub request_of : Job → Task → Request
-request_of (At Identify) task = debug_port true R0
-request_of (At Wipe) task = debug_port false R0
-request_of (At Inspect) task = debug_port true R4
-request_of (At Select) task = debug_port false R8
-request_of (At Power) task = debug_port false R4
-request_of (At Powered) task = debug_port true R4
-request_of (At Configure) task = access_port false R0
-request_of (At Recall) task = access_port true R0
-request_of (At Configured) task = debug_port true RC
-request_of (At Aim) task = access_port false R4
-request_of (At Transfer) task = access_port (is_read task) RC
-request_of (At Confirm) task = confirming_request task
-request_of (At Behind) task = debug_port true R8
-request_of (Resend p) task = debug_port true R8
-request_of (Status p) task = debug_port true R4
-request_of LastStatus task = debug_port true R4
-request_of (Clear p owed) task = debug_port false R0
-request_of (Check p owed) task = debug_port true R4
+-- the register of each place, SELECT being 0
+abbrev pub register_at : Place → Task → Register
+register_at Identify task = DpidrRead
+register_at Wipe task = AbortWrite
+register_at Inspect task = CtrlStatRead
+register_at Select task = SelectWrite
+register_at Power task = CtrlStatWrite
+register_at Powered task = CtrlStatRead
+register_at Configure task = CswWrite
+register_at Recall task = CswRead
+register_at Configured task = RdbuffRead
+register_at Aim task = TarWrite
+register_at Transfer task = drw_register task
+register_at Confirm task = confirming_register task
+register_at Behind task = ResendRead
+
+abbrev pub register_for : Job → Task → Register
+register_for (At p) task = register_at p task
+register_for (Resend p) task = ResendRead
+register_for (Status p) task = CtrlStatRead
+register_for LastStatus task = CtrlStatRead
+register_for (Clear p owed) task = AbortWrite
+register_for (Check p owed) task = CtrlStatRead
+
+abbrev pub request_for : Job → Task → Request
+request_for job task = request_of (register_for job task)
 
 -- the word of an access that is a write
 abbrev pub word_of_task : Task → Option ℕ

@@ -44,7 +44,7 @@ use Rattle.swd_host.specs.Plain.{IsAccess}
 use Rattle.swd_host.specs.Tasks.{access_of, is_block}
 use Rattle.swd_host.specs.Engines.{job_in}
 use Rattle.swd_host.specs.Flags.{is_powered}
-use Rattle.swd_host.specs.Requests.{request_of, next_place, confirmed_by, is_exempt, is_exempt_place, is_confirm}
+use Rattle.swd_host.specs.Requests.{request_for, next_place, confirmed_by, is_exempt, is_exempt_place, is_confirm}
 use Rattle.swd_host.specs.Requests.{is_behind}
 use Rattle.swd_host.specs.Requests.{begins}
 
@@ -491,7 +491,7 @@ due_of false = Give
 abbrev pub DueAt : State → Bool → Task → Due → Type 0
 DueAt Leading stray task due = stray ≡ false → due ≡ Nothing
 DueAt (Doing job Ask) stray task due = due ≡ Nothing
-DueAt (Doing job Data) stray task due = due ≡ due_of (request_of job task).read
+DueAt (Doing job Data) stray task due = due ≡ due_of (request_for job task).read
 DueAt (Doing job Waited) stray task due = due ≡ Pass
 DueAt (Doing job Faulted) stray task due = due ≡ Pass
 DueAt (Resting (Stopped Lost)) stray task due = due ≡ DueLost

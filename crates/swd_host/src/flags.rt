@@ -3,7 +3,7 @@ ghost use Rattle.std.specs.Prelude.{◌≡◌};
 ghost use Rattle.swd_host.specs.Flags.{flags_in, clear_word, is_powered, is_configured};
 
 use bitflags::Flags as _;
-use swd_port::{Abort, CtrlStat};
+use swd_port::{Abort, Csw, CtrlStat};
 
 /// The sticky flags that a host meets.
 #[derive(Clone, Copy, Debug, PartialEq, Eq)]
@@ -56,5 +56,6 @@ pub(crate) fn is_powered(word: u32) -> bool
 pub(crate) fn is_configured(word: u32) -> bool
     ensures { result ≡ is_configured word }
 {
-    word % 8 == 2 && word / 16 % 4 == 1 && word / 64 % 2 == 1
+    let csw = Csw::of(word);
+    csw.size == 2 && csw.addr_inc == 1 && csw.device_en
 }

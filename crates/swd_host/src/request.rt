@@ -1,12 +1,13 @@
 //! The requests that a host sends: the opening, an access, and what is sent where something went
 //! wrong.
 ghost use Rattle.std.specs.Prelude.{◌≡◌};
-ghost use Rattle.swd_host.specs.Requests.{request_of, word_for, next_place, confirmed_by, again_at, is_exempt};
-ghost use Rattle.swd_host.specs.Requests.{begins, debug_port};
+ghost use Rattle.swd_host.specs.Requests.{register_at, register_for, request_for, word_for, next_place, confirmed_by};
+ghost use Rattle.swd_host.specs.Requests.{again_at, is_exempt, begins};
 
 use crate::flags::Flags;
 use crate::task::Task;
-use swd_bits::{Reg4, Request};
+use swd_bits::Request;
+use swd_port::Register;
 
 /// A place in the two sequences of a host: the opening, and an access.
 #[derive(Clone, Copy, Debug, PartialEq, Eq)]
@@ -56,39 +57,31 @@ pub(crate) enum Job {
     Check(Place, Flags),
 }
 
-const fn debug_port(read: bool, addr: Reg4) -> Request
-    ensures { result ≡ debug_port read addr }
-{
-    Request {
-        ap: false,
-        read,
-        addr,
-    }
-}
-
 impl Place {
-    fn request(self, task: Task) -> Request
-        ensures { result ≡ request_of (Job.At self) task }
+    // The register that the request here names, SELECT being 0.
+    fn register(self, task: Task) -> Register
+        ensures { result ≡ register_at self task }
     {
-        let (ap, read, addr) = match self {
-            Place::Identify => (false, true, Reg4::R0),
-            Place::Wipe => (false, false, Reg4::R0),
-            Place::Inspect | Place::Powered => (false, true, Reg4::R4),
-            Place::Select => (false, false, Reg4::R8),
-            Place::Power => (false, false, Reg4::R4),
-            Place::Configure => (true, false, Reg4::R0),
-            Place::Recall => (true, true, Reg4::R0),
-            Place::Configured => (false, true, Reg4::RC),
-            Place::Aim => (true, false, Reg4::R4),
-            Place::Transfer => (true, task.is_read(), Reg4::RC),
-            Place::Confirm => match task {
-                Task::BurstRead(_) => (true, true, Reg4::RC),
-                Task::BurstWrite(_, _) => (true, false, Reg4::RC),
-                _ => (false, true, Reg4::RC),
-            },
-            Place::Behind => (false, true, Reg4::R8),
-        };
-        Request { ap, read, addr }
+        match self {
+            Place::Identify => Register::DpidrRead,
+            Place::Wipe => Register::AbortWrite,
+            Place::Inspect | Place::Powered => Register::CtrlStatRead,
+            Place::Select => Register::SelectWrite,
+            Place::Power => Register::CtrlStatWrite,
+            Place::Configure => Register::CswWrite,
+            Place::Recall => Register::CswRead,
+            Place::Configured => Register::RdbuffRead,
+            Place::Aim => Register::TarWrite,
+            Place::Transfer => task.drw(),
+            Place::Confirm => {
+                if task.is_burst() {
+                    task.drw()
+                } else {
+                    Register::RdbuffRead
+                }
+            }
+            Place::Behind => Register::ResendRead,
+        }
     }
 
     // The word that is written here.
@@ -160,16 +153,23 @@ impl Place {
 }
 
 impl Job {
-    // The request, by the access in hand.
-    pub(crate) fn request(self, task: Task) -> Request
-        ensures { result ≡ request_of self task }
+    // The register that it names, by the access in hand.
+    fn register(self, task: Task) -> Register
+        ensures { result ≡ register_for self task }
     {
         match self {
-            Job::At(place) => place.request(task),
-            Job::Resend(_) => debug_port(true, Reg4::R8),
-            Job::Clear(_, _) => debug_port(false, Reg4::R0),
-            Job::Status(_) | Job::LastStatus | Job::Check(_, _) => debug_port(true, Reg4::R4),
+            Job::At(place) => place.register(task),
+            Job::Resend(_) => Register::ResendRead,
+            Job::Clear(_, _) => Register::AbortWrite,
+            Job::Status(_) | Job::LastStatus | Job::Check(_, _) => Register::CtrlStatRead,
         }
+    }
+
+    // The request, by the access in hand.
+    pub(crate) fn request(self, task: Task) -> Request
+        ensures { result ≡ request_for self task }
+    {
+        self.register(task).request()
     }
 
     // The word that is written, where it is a write.

@@ -2,8 +2,9 @@
 ghost use Rattle.std.specs.Prelude.{◌≡◌};
 ghost use Rattle.swd_port.specs.PlainMemory.{address};
 ghost use Rattle.swd_host.specs.Addresses.{next_address, continues};
+ghost use Rattle.swd_host.specs.Requests.{drw_register};
 
-use swd_port::Access;
+use swd_port::{Access, Register};
 
 /// The accesses at addresses that follow each other that an engine does in bursts: there the DRW request
 /// of the next access confirms the one before.
@@ -60,6 +61,17 @@ impl Task {
         ensures { result ≡ is_read self }
     {
         matches!(&self, Task::Read(_) | Task::BurstRead(_))
+    }
+
+    // DRW, in the direction of the access.
+    pub(crate) fn drw(self) -> Register
+        ensures { result ≡ drw_register self }
+    {
+        if self.is_read() {
+            Register::DrwRead
+        } else {
+            Register::DrwWrite
+        }
     }
 
     // The DRW request of the next access confirms it.
