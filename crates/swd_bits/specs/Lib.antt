@@ -1,6 +1,7 @@
 pub mod Bits
 pub mod BitLists
 pub mod Wire
+pub mod Phases
 pub mod Transactions
 pub mod Listing
 pub mod TraceText

@@ -29,6 +29,12 @@ ack Ok = true ∷ false ∷ false ∷ []
 ack Wait = false ∷ true ∷ false ∷ []
 ack Fault = false ∷ false ∷ true ∷ []
 
+-- the same three bits as a number, the first bit least significant
+abbrev pub ack_number : Ack → ℕ
+ack_number Ok = 1
+ack_number Wait = 2
+ack_number Fault = 4
+
 -- the word's bits, and its parity
 unfoldable pub phase : ℕ → List Bool
 phase word = low_bits 32 word ++ odd (low_bits 32 word) ∷ []

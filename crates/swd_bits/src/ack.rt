@@ -1,7 +1,7 @@
 //! Acknowledgements: the three bits by which a target answers a request.
 ghost use Rattle.std.specs.Prelude.{◌≡◌, ◌≢◌, ◌<◌, IfSome, IfNone};
 ghost use Rattle.swd_bits.specs.Bits.{low_bits};
-ghost use Rattle.swd_bits.specs.Wire.{ack};
+ghost use Rattle.swd_bits.specs.Wire.{ack, ack_number};
 ghost use Rattle.swd_bits.specs.declared.ack.Ack.{Ack};
 
 use std::fmt;
@@ -32,6 +32,19 @@ impl Ack {
             2 => Some(Ack::Wait),
             4 => Some(Ack::Fault),
             _ => None,
+        }
+    }
+
+    /// Its three bits as a number, the first bit in time least significant: OK is 1, WAIT is 2, FAULT is 4.
+    #[inline(always)]
+    pub fn bits(self) -> u8
+        ensures number { result ≡ ack_number self }
+        ensures bits { low_bits 3 result ≡ ack self }
+    {
+        match self {
+            Ack::Ok => 1,
+            Ack::Wait => 2,
+            Ack::Fault => 4,
         }
     }
 }

@@ -12,6 +12,7 @@ mod message;
 mod one;
 mod request;
 mod scan;
+mod switch;
 mod tx;
 mod tx_bits;
 
@@ -21,6 +22,7 @@ pub use line::{LONGEST_TX_LINE, TxLine, push_word};
 pub use one::{OneFault, one_text};
 pub use request::{Reg4, Request};
 pub use scan::{Scan, Sign};
+pub use switch::{SWITCH, SWITCH_BITS};
 pub use tx::{
     MOVED_BITS, REFUSED_BITS, Tx, TxEnd, UNACKNOWLEDGED_BITS, transactions_are_told_apart,
 };

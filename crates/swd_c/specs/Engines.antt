@@ -1,7 +1,7 @@
 -- What the calls of an engine leave in the caller's memory.
 use Rattle.std.specs.Prelude.{ℕ, ◌≡◌, ◌+◌, ◌*◌, ◌^◌, ◌≤◌, ◌==◌, Bool, true, false, if◌then◌else◌, nat_lt}
 use Rattle.std.specs.Prelude.{Option, Some, None, List, slice_get, option_map}
-use Rattle.swd_port.specs.Phases.{word_in}
+use Rattle.swd_bits.specs.Phases.{word_in}
 use Rattle.swd_port.specs.declared.access.Access.{Access}
 use Rattle.swd_port.specs.declared.access.Access.TheVariants.{Read, Write}
 use Rattle.swd_host.specs.declared.engine.Cue.{Cue}

@@ -7,7 +7,7 @@ use Rattle.swd_port.specs.declared.register.Register.{Register}
 use Rattle.swd_port.specs.Port.{Target as State}
 use Rattle.swd_port.specs.Phases.{undriven}
 use Rattle.swd_port.specs.Moving.{arrival_of}
-use Rattle.swd_port.proofs.PhaseLemmas.{word_ones}
+use Rattle.swd_bits.proofs.PhaseLemmas.{word_ones}
 use Rattle.swd_target.specs.declared.target.Target.{Target}
 use Rattle.swd_target.specs.Targets.{state_of, simulation}
 use Rattle.swd_target.specs.Simulations.{Simulation, stepped}

@@ -6,7 +6,7 @@ use Rattle.swd_bits.specs.declared.request.Request.{Request}
 use Rattle.swd_port.specs.declared.register.Register.{Register}
 use Rattle.swd_port.specs.declared.state.Line.{Line}
 use Rattle.swd_port.specs.declared.state.Reply.{Reply}
-use Rattle.swd_port.specs.Phases.{word_in}
+use Rattle.swd_bits.specs.Phases.{word_in}
 use Rattle.swd_port.specs.Moving.{arrival_of}
 use Rattle.swd_target.specs.declared.target.Target.{Target}
 use Rattle.swd_target.specs.Targets.{Steps, line_reset}

@@ -6,13 +6,10 @@ ghost use Rattle.swd_clocked.specs.Frames.{frame_bits, frame_place, frame_limit,
 
 use crate::frame::Frame;
 use std::alloc::{Allocator, Global};
-use swd_bits::Request;
+use swd_bits::{Request, SWITCH};
 use swd_port::{Count, Line, Register, Reply};
 use swd_target::port::Target;
 use swd_target::{Memory, Quirks};
-
-// The sixteen bits of the switch from JTAG, the first in time least significant.
-pub(crate) const SWITCH: u16 = 0xe79e;
 
 /// A simulated target at the end of a wire, clock by clock: the same target as that of
 /// `swd_target::Bench`, without marks.

@@ -17,7 +17,6 @@ use crate::marked::MarkedClocked;
 use std::alloc::{Allocator, Global};
 use swd_bits::Request;
 use swd_port::{Due, Mark, Wire};
-use swd_target::port::due_after_seen;
 use swd_target::{Memory, Quirks};
 
 /// A `MarkedClocked` at the end of a wire: it drives each call of `Wire` by cycles alone, as any host
@@ -179,7 +178,7 @@ impl<A: Allocator> Wire for ClockedBench<A> {
         ensures cycles { cycles_of self.new ≡ counted 12 (cycles_of self.old) }
     {
         let seen = self.marked.ask_request(request);
-        self.due = due_after_seen(request.read, seen);
+        self.due = Due::after(request.read, seen);
         seen
     }
 

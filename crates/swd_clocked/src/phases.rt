@@ -4,11 +4,10 @@ ghost use Rattle.swd_port.specs.Phases.{undriven};
 ghost use Rattle.swd_port.specs.Choices.{flip_of};
 ghost use Rattle.swd_port.specs.Phases.{flipped};
 
-use crate::clocked::SWITCH;
 use crate::frame::Frame;
 use crate::marked::MarkedClocked;
 use std::alloc::Allocator;
-use swd_bits::Request;
+use swd_bits::{Request, SWITCH, SWITCH_BITS};
 
 impl<A: Allocator> MarkedClocked<A> {
     ghost use Rattle.swd_clocked.specs.Frames.{idle, frame_bits, frame_register, counted, reset_cycles};
@@ -168,7 +167,7 @@ impl<A: Allocator> MarkedClocked<A> {
         ensures cycles { cycles_of self.new ≡ counted 16 (cycles_of self.old) }
         ensures contended { contended_of self.new ≡ contended_of self.old }
     {
-        for place in 0..16u8 {
+        for place in 0..SWITCH_BITS {
             let _ = self.cycle(Some(SWITCH >> place & 1 == 1));
         }
     }

@@ -1,9 +1,8 @@
 -- The checks of a block of reads.
 use Rattle.std.proofs.Common.{◌≡◌, ◌≢◌, ◌+◌, ◌*◌, ◌%◌, ◌^◌, ◌<◌, ◌≤◌, ◌==◌, ℕ, zero, suc, false, refl, sym, arith}
-use Rattle.std.proofs.Common.{subst, ap, ◌∙◌, ◌++◌, ◌∷◌, [], length}
-use Rattle.swd_port.specs.declared.access.Access.TheVariants.{Read}
+use Rattle.std.proofs.Common.{subst, length}
 use Rattle.swd_port.specs.PlainMemory.{reads}
-use Rattle.swd_port.proofs.ReadLists.{length_reads, reads_more}
+use Rattle.swd_port.proofs.ReadLists.{length_reads}
 use Rattle.swd_host.specs.declared.outcome.Refused.TheVariants.{TooMany, Unaligned}
 use Rattle.swd_host.specs.Plain.{AreAccesses}
 use Rattle.swd_host.specs.Reports.{RefusedAs}
@@ -18,11 +17,6 @@ are_reads addr (suc count) aligned range =
 
 pub no_reads : (addr count : ℕ) → count ≡ 0 → AreAccesses (reads addr count)
 no_reads addr count none = subst (λ n. AreAccesses (reads addr n)) (sym none) tt
-
--- one read more
-pub reads_next : (addr count : ℕ) → reads addr (count + 1) ≡ reads addr count ++ Read (addr + 4 * count) ∷ []
-reads_next addr count =
-    let next : count + 1 ≡ suc count = omega arith in ap (reads addr) next ∙ reads_more addr count
 
 pub may_read : (addr count : ℕ) → (count ≤ 65536) × AreAccesses (reads addr count)
     → (length (reads addr count) ≤ 65536) × AreAccesses (reads addr count)

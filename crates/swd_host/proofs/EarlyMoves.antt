@@ -6,7 +6,7 @@ use Rattle.swd_port.specs.Port.{Port}
 use Rattle.swd_port.specs.declared.register.Register.TheVariants.{AbortWrite}
 use Rattle.swd_port.specs.declared.state.Reset.{Reset}
 use Rattle.swd_port.specs.declared.state.Reset.TheVariants.{Unreset, Fresh, Live}
-use Rattle.swd_port.specs.Phases.{phase_number, word_in}
+use Rattle.swd_bits.specs.Phases.{phase_number, word_in}
 use Rattle.swd_port.specs.Moving.{Takes, Gives, Passes}
 use Rattle.swd_port.specs.Leading.{Leads}
 use Rattle.swd_port.specs.Moves.{Gave, Spoiled}

@@ -9,18 +9,18 @@ use Rattle.swd_host.specs.declared.task.Task.{Task}
 use Rattle.swd_host.specs.declared.task.Task.TheVariants.{Read, BurstRead, Write, BurstWrite}
 use Rattle.swd_host.specs.Tasks.{access_of}
 use Rattle.swd_port.specs.PlainMemory.{address}
-use Rattle.swd_port.specs.Phases.{phase_number}
+use Rattle.swd_bits.specs.Phases.{phase_number}
 use Rattle.swd_port.specs.Port.{Port, Target}
 use Rattle.swd_port.specs.declared.register.Register.{Register}
 use Rattle.swd_port.specs.declared.register.Register.TheVariants.{AbortWrite, CtrlStatWrite, SelectWrite, CswWrite}
 use Rattle.swd_port.specs.declared.register.Register.TheVariants.{TarWrite, DrwWrite}
 use Rattle.swd_port.specs.Moving.{Gives}
-use Rattle.swd_port.specs.Phases.{IsPhaseOf}
+use Rattle.swd_bits.specs.Phases.{IsPhaseOf}
 use Rattle.swd_port.specs.Moves.{Given, Gave, Spoiled, whole as given_whole}
 use Rattle.swd_port.specs.Moves.{damaged as given_damaged}
 use Rattle.swd_port.specs.Transfers.{Aimed, Sent}
 use Rattle.swd_port.specs.Laws.WordsRead.{Clears}
-use Rattle.swd_port.proofs.PhaseLemmas.{bits_phase}
+use Rattle.swd_bits.proofs.PhaseLemmas.{bits_phase}
 use Rattle.swd_port.proofs.MovingLaws.{data_given_exact, data_given_at_rest}
 use Rattle.swd_port.proofs.StatusLaws.{flags_cleared}
 use Rattle.swd_port.proofs.CompletionLaws.{none_done, kept as kept_by, write_begins}

@@ -4,7 +4,7 @@ use Rattle.std.proofs.Common.{arith, ◌∙◌}
 use Rattle.std.specs.Prelude.{Option, Some, None}
 use Rattle.swd_host.specs.declared.task.Task.{Task}
 use Rattle.swd_host.specs.declared.task.Task.TheVariants.{Read, BurstRead, Write, BurstWrite}
-use Rattle.swd_port.specs.Phases.{word_in}
+use Rattle.swd_bits.specs.Phases.{word_in}
 use Rattle.swd_port.specs.Port.{Port}
 use Rattle.swd_port.specs.declared.state.Reset.{Reset}
 use Rattle.swd_port.specs.declared.state.Reset.TheVariants.{Unreset, Live}

@@ -7,7 +7,7 @@ use Rattle.swd_bits.specs.declared.request.Request.{Request}
 use Rattle.swd_port.specs.declared.wire.Due.TheVariants.{Take, Give, Pass, Lost as DueLost}
 use Rattle.swd_port.specs.PlainMemory.{PlainMemory}
 use Rattle.swd_port.specs.Port.{Port}
-use Rattle.swd_port.specs.Phases.{phase_number, word_in}
+use Rattle.swd_bits.specs.Phases.{phase_number, word_in}
 use Rattle.swd_port.specs.Answers.{due_after}
 use Rattle.swd_port.specs.Asking.{Asks}
 use Rattle.swd_port.specs.Moving.{Takes, Gives, Passes}

@@ -2,7 +2,7 @@
 use Rattle.std.specs.Prelude.{not, ℕ, ◌+◌, ◌^◌, ◌<◌, ◌==◌, Bool, true, false, if◌then◌else◌, Option, Some, None}
 use Rattle.std.specs.Prelude.{is_some}
 use Rattle.swd_port.specs.declared.access.Answer.TheVariants.{Written}
-use Rattle.swd_port.specs.Phases.{phase_number}
+use Rattle.swd_bits.specs.Phases.{phase_number}
 use Rattle.swd_host.specs.declared.task.Task.{Task}
 use Rattle.swd_host.specs.declared.outcome.Outcome.{Outcome}
 use Rattle.swd_host.specs.declared.outcome.Outcome.TheVariants.{Opened, Answered}

@@ -10,7 +10,8 @@ use Rattle.swd_port.specs.declared.wire.Due.{Due}
 use Rattle.swd_port.specs.declared.wire.Due.TheVariants.{Nothing, Take, Give, Pass, Lost as DueLost}
 use Rattle.swd_port.specs.PlainMemory.{PlainMemory, address, plain_answer, plain_after}
 use Rattle.swd_port.specs.Registers.{no_select}
-use Rattle.swd_port.specs.Phases.{phase_number, flipped}
+use Rattle.swd_bits.specs.Phases.{phase_number}
+use Rattle.swd_port.specs.Phases.{flipped}
 use Rattle.swd_port.specs.Port.{Port, Target}
 use Rattle.swd_port.specs.declared.register.Register.{Register}
 use Rattle.swd_port.specs.declared.register.Register.TheVariants.{AbortWrite, CtrlStatWrite}

@@ -9,7 +9,7 @@ use crate::engine::Engine;
 use crate::outcome::{Refused, Report};
 use crate::running::conduct;
 use std::alloc::{AllocError, Allocator};
-use swd_port::{Access, Wire};
+use swd_port::{Access, MOST_ACCESSES, Wire, push_reads};
 
 /// Reads `count` words at `addr`, `addr + 4` and so on, each once, over a target at rest: as
 /// `run` reads them, but each word comes with the request for the next one, so that a word takes one
@@ -57,7 +57,7 @@ fn refusal(addr: u32, count: u32) -> Option<Refused>
     ensures none { IfNone result ((count ≤ 65536) × AreAccesses (reads addr count)) }
     ensures refused { IfSome result (RefusedAs (reads addr count)) }
 {
-    if count > 65_536 {
+    if count > MOST_ACCESSES {
         return Some(Refused::TooMany);
     }
     if count == 0 {
@@ -76,8 +76,6 @@ fn reads_of<A: Allocator>(alloc: A, addr: u32, count: u32) -> Result<Vec<Access,
     ensures { IfOk result (λ accesses. accesses.items ≡ reads addr count) }
 {
     let mut accesses = Vec::with_capacity(alloc, count as usize)?;
-    for index in 0..count {
-        accesses.push(Access::Read(addr + 4 * index)).unwrap();
-    }
+    push_reads(&mut accesses, addr, count)?;
     Ok(accesses)
 }

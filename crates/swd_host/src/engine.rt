@@ -1,7 +1,7 @@
 //! The engine: what has to be sent next, from what was seen so far. It sends nothing itself.
 ghost use Rattle.std.specs.Prelude.{◌≡◌, ◌+◌, ◌<◌, ◌≤◌, ◌*◌, ◌^◌, ◌||◌, ℕ, true, false, None};
 ghost use Rattle.swd_port.specs.declared.wire.Due.TheVariants.{Nothing};
-ghost use Rattle.swd_port.specs.Phases.{word_in};
+ghost use Rattle.swd_bits.specs.Phases.{word_in};
 ghost use Rattle.swd_port.specs.Port.{Port};
 ghost use Rattle.swd_host.specs.Events.{Meets, MeetsRead, MeetsSent};
 ghost use Rattle.swd_host.specs.Early.{HearsEarly, ReadsEarly, SendsEarly};
@@ -13,10 +13,9 @@ ghost use Rattle.swd_host.specs.Turns.{IsNew, Starts, Sees, Lands, first_state, 
 ghost use Rattle.swd_host.specs.Tracks.{DueFits, HasRead, HasSent, Hears, Keeps, state_seen};
 
 use crate::outcome::{End, Outcome};
-use crate::phase::{phase_of, word_in_phase};
 use crate::request::{Job, Place};
 use crate::task::{Bursts, Task, address_of};
-use swd_bits::{Ack, Request};
+use swd_bits::{Ack, Request, data_bits, word_of};
 use swd_port::{Access, Answer};
 
 /// What has to be sent next.
@@ -243,7 +242,7 @@ impl Engine {
             return Cue::Rest;
         }
         match job.word(self.task) {
-            Some(word) => Cue::Give(phase_of(word)),
+            Some(word) => Cue::Give(data_bits(word)),
             None => Cue::Take,
         }
     }
@@ -327,7 +326,7 @@ impl Engine {
         let State::Doing(job, _) = self.state else {
             unreachable!()
         };
-        match word_in_phase(bits) {
+        match word_of(bits) {
             Some(word) => self.told(job, word),
             None => self.garbled(job),
         }

@@ -10,7 +10,6 @@ mod flags;
 pub mod laws;
 mod outcome;
 mod outside;
-mod phase;
 mod request;
 mod resuming;
 mod running;

@@ -16,9 +16,7 @@ ghost use Rattle.swd_host.specs.Standing.{Does, HasOpened, Performs, told_by};
 use crate::engine::{Cue, Engine};
 use crate::outcome::{End, Outcome, Refused, Report};
 use std::alloc::Allocator;
-use swd_port::{Access, Answer, Wire};
-
-const MOST: usize = 65_536;
+use swd_port::{Access, Answer, MOST_ACCESSES, Wire};
 
 impl Engine {
     /// Makes the one call of a wire that the engine asks for, and tells it what came of that. Where it rests, none
@@ -123,7 +121,7 @@ fn refusal(accesses: &[Access]) -> Option<Refused>
     ensures none { IfNone result ((length accesses.now ≤ 65536) × AreAccesses accesses.now) }
     ensures refused { IfSome result (RefusedAs accesses.now) }
 {
-    if accesses.len() > MOST {
+    if accesses.len() > MOST_ACCESSES as usize {
         return Some(Refused::TooMany);
     }
     for (index, access) in accesses.iter().enumerate() {

@@ -4,7 +4,6 @@ mod Telling
 mod Wents
 pub mod MapLemmas
 pub mod RegisterLemmas
-pub mod PhaseLemmas
 pub mod PhaseBits
 pub mod AnswerLaws
 mod WorkedRuns

@@ -2,7 +2,8 @@
 use Rattle.std.proofs.Common.{◌≡◌, ◌≢◌, ◌<◌, ◌^◌, ℕ, false, refl, sym, ap, subst, inl, inr, arith, ◌∙◌}
 use Rattle.std.specs.Prelude.{Option, Some, None, ◌==◌}
 use Rattle.swd_bits.specs.Bits.{low_bits}
-use Rattle.swd_port.specs.Phases.{phase_number, word_in, flipped}
+use Rattle.swd_bits.specs.Phases.{phase_number, word_in}
+use Rattle.swd_port.specs.Phases.{flipped}
 use Rattle.swd_port.specs.Port.{Port, idle_link, Register, DrwWrite, Idle, Awaits, Drw, made}
 use Rattle.swd_port.specs.Choices.{Choice}
 use Rattle.swd_port.specs.Completion.{Completes, completed}
@@ -11,7 +12,7 @@ use Rattle.swd_port.specs.Leading.{Leads}
 use Rattle.swd_port.specs.Moves.{reset_target, Around, Kept, Passed, Got, Gave, Spoiled, Given, whole, damaged}
 use Rattle.swd_port.specs.Laws.DataPhases.{DataTaken, TakeMovesNothing, TakeMovesNothingAtRest, DataGiven, DataGivenAtRest, DataGivenExact, TurnaroundPassed, TurnaroundPassedAtRest}
 use Rattle.swd_port.specs.Laws.LineResets.{LineReset, IdleCycles, IdleCyclesAtRest, FirstLineReset}
-use Rattle.swd_port.proofs.PhaseLemmas.{word_phase, word_flip, bits_phase, phase_told, word_told}
+use Rattle.swd_bits.proofs.PhaseLemmas.{word_phase, word_flip, bits_phase, phase_told, word_told}
 use Rattle.swd_port.proofs.CompletionLaws.{kept, none_done, same}
 
 -- the 33 bits of a value, as they are got

@@ -7,8 +7,9 @@ use Rattle.std.proofs.lemmas.Nat.{xor_mod, xor_shr}
 use Rattle.std.proofs.Math.Nat.{pow-suc}
 use Rattle.swd_bits.specs.Bits.{low_bits}
 use Rattle.swd_bits.specs.Wire.{phase}
-use Rattle.swd_port.specs.Phases.{word_in, flipped, flip_at, undriven}
-use Rattle.swd_port.proofs.PhaseLemmas.{bits_phase, phase_is, word_missing, word_flip, word_phase, word_told, phase_told, word_ones}
+use Rattle.swd_bits.specs.Phases.{word_in}
+use Rattle.swd_port.specs.Phases.{flipped, flip_at, undriven}
+use Rattle.swd_bits.proofs.PhaseLemmas.{bits_phase, phase_is, word_missing, word_flip, word_phase, word_told, phase_told, word_ones}
 
 first_flips : (r : ℕ) → r < 2 → (bit_xor r 1 == 1) ≡ not (r == 1)
 first_flips zero h = refl

@@ -3,7 +3,8 @@ use Rattle.std.proofs.Common.{◌≡◌, ◌<◌, ◌^◌, ℕ, Bool, true, fals
 use Rattle.std.specs.Prelude.{Option, Some, ◌&&◌, not, if◌then◌else◌, unwrap_or}
 use Rattle.swd_bits.specs.Bits.{bit}
 use Rattle.swd_port.specs.Registers.{bit_of, ctrl_stat_read}
-use Rattle.swd_port.specs.Phases.{phase_number, flipped}
+use Rattle.swd_bits.specs.Phases.{phase_number}
+use Rattle.swd_port.specs.Phases.{flipped}
 use Rattle.swd_port.specs.Port.{Target, Register, Drives, Drw}
 use Rattle.swd_port.specs.Asking.{is_posted, value_read, value_in, status_in, buffer_once_read, pending_once_read, after_okay}
 use Rattle.swd_port.specs.Answers.{is_exempt}

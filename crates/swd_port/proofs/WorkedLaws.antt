@@ -7,7 +7,7 @@ use Rattle.swd_bits.specs.declared.request.Reg4.{Reg4}
 use Rattle.swd_bits.specs.declared.request.Reg4.TheVariants.{R0, R4, RC}
 use Rattle.swd_port.specs.declared.access.Access.TheVariants.{Write}
 use Rattle.swd_port.specs.PlainMemory.{PlainMemory, succeeds_at}
-use Rattle.swd_port.specs.Phases.{phase_number}
+use Rattle.swd_bits.specs.Phases.{phase_number}
 use Rattle.swd_port.specs.Port.{Port, Live, DrwWrite, made_target, made, register}
 use Rattle.swd_port.specs.Choices.{Mark, Clean, Wait, Flip, Deaf, Mute, IsMark, is_wait, Choice, IsChoice}
 use Rattle.swd_port.specs.Answers.{Okay, seen_at}
@@ -17,7 +17,7 @@ use Rattle.swd_port.specs.Moving.{Gives, Arrives, Damaged, after_arrival}
 use Rattle.swd_port.specs.Leading.{Leads, after_lead}
 use Rattle.swd_port.specs.Transfers.{Sent, owed, Aimed}
 use Rattle.swd_port.specs.Laws.Accesses.{Ready}
-use Rattle.swd_port.proofs.PhaseLemmas.{word_phase, word_flip}
+use Rattle.swd_bits.proofs.PhaseLemmas.{word_phase, word_flip}
 use Rattle.swd_port.proofs.AnswerLaws.{sees_seen_at, deaf_silent}
 
 abbrev pub choice : Choice

@@ -5,7 +5,7 @@ use Rattle.swd_bits.specs.declared.request.Reg4.{Reg4}
 use Rattle.swd_bits.specs.declared.request.Reg4.TheVariants.{R0, R4, R8, RC}
 use Rattle.swd_port.specs.declared.wire.Due.TheVariants.{Lost}
 use Rattle.swd_port.specs.PlainMemory.{PlainMemory, succeeds_at}
-use Rattle.swd_port.specs.Phases.{phase_number}
+use Rattle.swd_bits.specs.Phases.{phase_number}
 use Rattle.swd_port.specs.Port.{Port, CtrlStatRead, Drives, made, register}
 use Rattle.swd_port.specs.Choices.{Clean, Wait, Choice}
 use Rattle.swd_port.specs.Answers.{seen_at}

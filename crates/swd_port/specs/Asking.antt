@@ -5,7 +5,8 @@ use Rattle.std.specs.Prelude.{ℕ, ◌≡◌, ◌<◌, ◌^◌, ◌+◌, ◌||�
 use Rattle.std.specs.Prelude.{unwrap_or}
 use Rattle.swd_bits.specs.declared.request.Request.{Request}
 use Rattle.swd_port.specs.Registers.{ctrl_stat_read, csw_read}
-use Rattle.swd_port.specs.Phases.{phase_number, flipped}
+use Rattle.swd_bits.specs.Phases.{phase_number}
+use Rattle.swd_port.specs.Phases.{flipped}
 use Rattle.swd_port.specs.Port.{Port, Target, Tally, Register, DpidrRead, CtrlStatRead, ResendRead, RdbuffRead}
 use Rattle.swd_port.specs.Port.{DpZeroRead, CswRead, CswWrite, TarRead, TarWrite, DrwRead, DrwWrite, ApZeroRead}
 use Rattle.swd_port.specs.Port.{ApIgnoredWrite, Live, PowerUp, Late, Seen, Line, Drives, Awaits, Drw}

@@ -2,7 +2,7 @@
 -- of it follows from the definitions of the steps, which say where each rule comes from.
 use Rattle.std.specs.Prelude.{ℕ, ◌≡◌, ◌⊎◌, ◌||◌, true, Option, Some, None}
 use Rattle.swd_port.specs.declared.wire.Due.TheVariants.{Nothing}
-use Rattle.swd_port.specs.Phases.{word_in, IsPhaseOf, IsNoPhase}
+use Rattle.swd_bits.specs.Phases.{word_in, IsPhaseOf, IsNoPhase}
 use Rattle.swd_port.specs.Port.{Port, Target, idle_link, Register, Fresh}
 use Rattle.swd_port.specs.Completion.{Completes}
 use Rattle.swd_port.specs.Moving.{Arrives, after_bits}

@@ -6,7 +6,8 @@ use Rattle.std.specs.Prelude.{ℕ, ◌≡◌, ◌||◌, ◌&&◌, ◌==◌, not,
 use Rattle.swd_port.specs.declared.wire.Due.TheVariants.{Nothing}
 use Rattle.swd_port.specs.declared.select.Select.{Select}
 use Rattle.swd_port.specs.Registers.{bit_of, select_of, csw_of}
-use Rattle.swd_port.specs.Phases.{word_in, flipped, undriven}
+use Rattle.swd_bits.specs.Phases.{word_in}
+use Rattle.swd_port.specs.Phases.{flipped, undriven}
 use Rattle.swd_port.specs.Port.{Port, Target, idle_link, Register, AbortWrite, CtrlStatWrite, SelectWrite, CswWrite}
 use Rattle.swd_port.specs.Port.{TarWrite, DrwWrite, ApIgnoredWrite, PowerUp, Unseen, Line, Drives, Awaits, Drw}
 use Rattle.swd_port.specs.Port.{Writes}

@@ -1,5 +1,12 @@
 //! Accesses of a plain memory, their answers, and the transfers in its log.
+ghost use Rattle.std.specs.Prelude.{◌≡◌, ◌+◌, ◌*◌, ◌≤◌, ◌^◌, ◌++◌, OnOk};
+ghost use Rattle.swd_port.specs.PlainMemory.{reads};
+
+use std::alloc::{AllocError, Allocator};
 use std::fmt;
+
+/// The most accesses of one call of a host.
+pub const MOST_ACCESSES: u32 = 65_536;
 
 /// One access of the memory behind the access port: a word, at an address that is a multiple of 4.
 #[derive(Clone, Copy, Debug, PartialEq, Eq)]
@@ -51,4 +58,20 @@ impl fmt::Display for Answer {
             Answer::BusFault => f.write_str("busfault"),
         }
     }
+}
+
+/// Adds to a list the reads of a block: of `count` words, the first at `addr`, each of the others 4 bytes further.
+/// Where memory is refused, some of them may have been added.
+pub fn push_reads<A: Allocator>(
+    list: &mut Vec<Access, A>,
+    addr: u32,
+    count: u32,
+) -> Result<(), AllocError>
+    requires { addr + 4 * count ≤ 2 ^ 32 }
+    ensures { OnOk result (list.new.items ≡ list.old.items ++ reads addr count) }
+{
+    for index in 0..count {
+        list.push(Access::Read(addr + 4 * index))?;
+    }
+    Ok(())
 }

@@ -17,7 +17,7 @@ mod state;
 mod wire;
 
 pub use abort::Abort;
-pub use access::{Access, Answer, Transfer};
+pub use access::{Access, Answer, MOST_ACCESSES, Transfer, push_reads};
 pub use call::Call;
 pub use count::Count;
 pub use csw::Csw;

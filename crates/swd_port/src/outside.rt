@@ -1,6 +1,5 @@
 //! A wire to an end of which nothing is proved.
 ghost use Rattle.std.specs.Prelude.{◌≡◌, ◌<◌, ◌^◌, ◌++◌, ◌∷◌, ℕ, Bool, List, [], true, false};
-ghost use Rattle.swd_port.specs.Answers.{due_after};
 ghost use Rattle.swd_port.specs.Port.{Port};
 ghost use Rattle.swd_port.specs.Stories.{due_by, port_at, FitsStory};
 ghost use Rattle.swd_port.specs.Transports.{Made, Goes, Fetches, Went, WentOver, seen_of, is_lost, fetched_of};
@@ -10,7 +9,7 @@ use crate::call::Call;
 use crate::noted::Noted;
 use crate::wire::{Due, Wire};
 use std::marker::PhantomData;
-use swd_bits::Request;
+use swd_bits::{Ack, Request};
 
 /// A story of the other end: the state of a port machine before any call, and after each. It is for
 /// contracts alone, and what is proved under it is proved of every story.
@@ -112,7 +111,7 @@ impl<T: Transport, S: Story, K: Tie> Wire for Outside<T, S, K> {
         self.fetched = fetched_of(reply, self.fetched);
         self.gone = is_lost(reply);
         self.noted = self.noted.and(&Call::Asked(request, seen));
-        self.due = due_once_seen(request.read, seen);
+        self.due = Due::after(request.read, seen);
         seen
     }
 
@@ -133,18 +132,6 @@ impl<T: Transport, S: Story, K: Tie> Wire for Outside<T, S, K> {
         self.gone = pass_on(&mut self.transport, self.gone);
         self.noted = self.noted.and(&Call::Passed);
         self.due = Due::Nothing;
-    }
-}
-
-// What has to come next, once three bits were seen.
-fn due_once_seen(read: bool, seen: u8) -> Due
-    ensures { result ≡ due_after read seen }
-{
-    match seen {
-        1 if read => Due::Take,
-        1 => Due::Give,
-        2 | 4 => Due::Pass,
-        _ => Due::Lost,
     }
 }
 
@@ -183,7 +170,7 @@ fn seen_of(reply: Reply) -> u8
 {
     match reply {
         Reply::Seen(seen) => seen,
-        Reply::Fetched(_) => 1,
+        Reply::Fetched(_) => Ack::Ok.bits(),
         Reply::Lost => 7,
     }
 }

@@ -25,6 +25,20 @@ pub enum Due {
     Lost,
 }
 
+impl Due {
+    /// What has to come next, once these three bits were seen in answer to a request for a read or a write.
+    pub fn after(read: bool, seen: u8) -> Due
+        ensures { result ≡ due_after read seen }
+    {
+        match seen {
+            1 if read => Due::Take,
+            1 => Due::Give,
+            2 | 4 => Due::Pass,
+            _ => Due::Lost,
+        }
+    }
+}
+
 /// One end of a serial wire, for the host that drives it (IHI 0031, B4). Its law: each call is a
 /// step of the port machine at the other end, whose state contracts see as `port`.
 ///

@@ -4,10 +4,8 @@ ghost use Rattle.swd_port.specs.declared.outside.Gone.{Gone as TheGone};
 ghost use Rattle.swd_remote.specs.Packets.{given, turnaround, led, has_clocks, QueuesBy, Queues, Asks, Takes, IsDoneAs};
 
 use crate::probe::{Probe, Stretch};
+use swd_bits::{SWITCH, SWITCH_BITS};
 use swd_port::{Gone, Transport};
-
-// The sixteen bits of the switch from JTAG, the first in time least significant.
-const SWITCH: u64 = 0xe79e;
 
 // So many ones of a line reset are left undriven where a data phase may be open: its turnaround and its 33 bits.
 const OPEN: u32 = 34;
@@ -103,7 +101,7 @@ fn led(owes: bool, ones: u32, switch: bool, zeros: u32) -> [Stretch; 5]
         },
         Stretch::Drive {
             bits: SWITCH,
-            count: if switch { 16 } else { 0 },
+            count: if switch { SWITCH_BITS } else { 0 },
         },
         Stretch::Hold {
             level: true,

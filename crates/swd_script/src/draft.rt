@@ -10,9 +10,9 @@ use crate::script::Script;
 use crate::words::FirstWords;
 use std::alloc::Allocator;
 use std::mem;
-use swd_port::Access;
+use swd_port::{Access, MOST_ACCESSES, push_reads};
 
-// The most words of a memory, the most transfers in its log, and the most accesses of a call.
+// The most words of a memory, and the most transfers in its log.
 const MOST: u32 = 65536;
 
 /// The words of a memory: the address of the first, and how many.
@@ -176,17 +176,10 @@ impl<A: Allocator + Copy> Draft<A> {
         if !are_words(addr, count) || !self.has_room_for(count) {
             return Err(LineFault::Range);
         }
-        for i in 0..count {
-            if self
-                .batch
-                .accesses
-                .push(Access::Read(addr + 4 * i))
-                .is_err()
-            {
-                return Err(LineFault::Memory);
-            }
+        match push_reads(&mut self.batch.accesses, addr, count) {
+            Ok(()) => Ok(()),
+            Err(_) => Err(LineFault::Memory),
         }
-        Ok(())
     }
 
     // Adds a read whose word is told by the line with this number.
@@ -236,7 +229,7 @@ impl<A: Allocator + Copy> Draft<A> {
     fn has_room_for(&self, count: u32) -> bool
         ensures { result ≡ nat_le (length self.now.batch.accesses.items + count) 65536 }
     {
-        self.batch.accesses.len() as u64 + u64::from(count) <= u64::from(MOST)
+        self.batch.accesses.len() as u64 + u64::from(count) <= u64::from(MOST_ACCESSES)
     }
 
     /// What the whole script says, whose last line has this number.

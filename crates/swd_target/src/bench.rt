@@ -11,7 +11,7 @@ ghost use Rattle.swd_target.specs.Flips.{flip_place, awaited_flip};
 ghost use Rattle.swd_target.specs.Simulations.{made_with, transferred, asked, seen_to};
 ghost use Rattle.swd_target.specs.Targets.{IsChosen};
 
-use crate::acknowledgement::{due_after_seen, seen_under};
+use crate::acknowledgement::seen_under;
 use crate::memory::Memory;
 use crate::phase::{bits_on, is_awaiting, line_after_reply};
 use crate::plan::Plan;
@@ -133,7 +133,7 @@ impl<A: Allocator> Wire for Bench<A> {
         let mark = self.plan.use_mark();
         let (reply, phase) = self.target.request_under(mark, request);
         let seen = seen_under(mark, reply);
-        self.due = due_after_seen(request.read, seen);
+        self.due = Due::after(request.read, seen);
         self.line = line_after_reply(reply, phase, self.line);
         seen
     }

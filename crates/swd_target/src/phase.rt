@@ -1,13 +1,13 @@
 //! Data phases: the 33 bits that a target drives or awaits.
 ghost use Rattle.std.specs.Prelude.{◌≡◌, ◌<◌, ◌^◌, None};
-ghost use Rattle.swd_port.specs.Phases.{flipped, phase_number, word_in};
+ghost use Rattle.swd_port.specs.Phases.{flipped};
 ghost use Rattle.swd_port.specs.Choices.{flip_of};
 ghost use Rattle.swd_port.specs.Asking.{phase_after, line_after};
 ghost use Rattle.swd_port.specs.Leading.{is_awaiting};
 ghost use Rattle.swd_port.specs.Moving.{bits_driven};
 ghost use Rattle.swd_target.specs.Flips.{flip_place, awaited_flip, line_flipped};
 
-use swd_bits::{data_bits, word_of};
+use swd_bits::data_bits;
 use swd_port::{Line, Mark, Register, Reply};
 
 /// The bit of the data phase that arrives changed under a mark, counted from 0, the first in time.
@@ -26,7 +26,7 @@ pub(crate) fn phase_of(read: bool, register: Register, value: u32) -> Line
     ensures bits { bits_driven result < 2 ^ 33 }
 {
     if read {
-        Line::Drives(phase_bits(value))
+        Line::Drives(data_bits(value))
     } else {
         Line::Awaits(register, None)
     }
@@ -79,14 +79,6 @@ pub(crate) fn is_awaiting(line: Line) -> bool
     matches!(&line, Line::Awaits(_, _))
 }
 
-// The data phase of a word.
-fn phase_bits(word: u32) -> u64
-    ensures value { result ≡ phase_number word }
-    ensures range { result < 2 ^ 33 }
-{
-    data_bits(word)
-}
-
 /// The 33 bits of a data phase as the other side gets them, one of them changed or none.
 pub fn flip_bit(flip: Option<u8>, bits: u64) -> u64
     requires bits { bits < 2 ^ 33 }
@@ -98,12 +90,4 @@ pub fn flip_bit(flip: Option<u8>, bits: u64) -> u64
         Some(place) => bits ^ 1 << place,
         None => bits,
     }
-}
-
-// The word of a data phase, where its parity is right.
-pub(crate) fn phase_word(bits: u64) -> Option<u32>
-    requires { bits < 2 ^ 33 }
-    ensures { result ≡ word_in bits }
-{
-    word_of(bits)
 }

@@ -1,17 +1,17 @@
 //! A request at a simulated target, and the data of a write: the port that each bench stands on.
 ghost use Rattle.std.specs.Prelude.{◌≡◌, ◌<◌, ◌^◌, true};
-ghost use Rattle.swd_port.specs.Phases.{word_in};
+ghost use Rattle.swd_bits.specs.Phases.{word_in};
 ghost use Rattle.swd_port.specs.Choices.{IsMark};
 ghost use Rattle.swd_port.specs.Asking.{IsWordRead, value_in};
 ghost use Rattle.swd_port.specs.Moving.{arrival, arrival_of, bits_driven};
 ghost use Rattle.swd_target.specs.Flips.{flip_place, awaited_flip};
 ghost use Rattle.swd_target.specs.Simulations.{accepted_after};
 
-use crate::phase::{flip_bit, flip_line, flip_under, phase_of, phase_word};
+use crate::phase::{flip_bit, flip_line, flip_under, phase_of};
 use crate::register::register_named;
 use crate::target::Target;
 use std::alloc::Allocator;
-use swd_bits::Request;
+use swd_bits::{Request, word_of};
 use swd_port::{Line, Mark, Register, Reply};
 
 impl<A: Allocator> Target<A> {
@@ -80,7 +80,7 @@ impl<A: Allocator> Target<A> {
         ensures quirks { (simulation self.new).quirks ≡ (simulation self.old).quirks }
         ensures quiet { (simulation self.old).quirks.late ≡ true → (state_of self.new).memory ≡ (state_of self.old).memory }
     {
-        match phase_word(bits) {
+        match word_of(bits) {
             Some(word) => {
                 self.write(register, word);
                 self.accept();

@@ -6,11 +6,11 @@ mod fields;
 
 use crate::front::Front;
 use crate::grammar::front_of;
-use crate::item::{Item, RESET_ONES, SWITCH, SWITCH_BITS};
+use crate::item::{Item, RESET_ONES};
 use crate::mode::Mode;
 use arrayvec::ArrayVec;
 pub use fields::DecoderFields;
-use swd_bits::{MOVED_BITS, Tx, TxBits, TxEnd};
+use swd_bits::{MOVED_BITS, SWITCH, SWITCH_BITS, Tx, TxBits, TxEnd};
 
 /// Reads a trace: bits go in one or more at a time, and each item comes out as soon as it is
 /// decided, whatever may follow. How the bits are cut into pieces makes no difference.

@@ -48,8 +48,8 @@ fn front_of_request(bits: u64, len: u8) -> Front
         → stands (low_bits len bits ++ more) ≡ after_request q (low_bits (len - 8) (bits / 2 ^ 8) ++ more)) }
     ensures { IsFront result (low_bits len bits) }
 {
-    if len < 12 {
-        return Front::Begun(12);
+    if len < UNACKNOWLEDGED_BITS {
+        return Front::Begun(UNACKNOWLEDGED_BITS);
     }
     let whole = whole_len(bits >> 9 & 7);
     if len < whole {

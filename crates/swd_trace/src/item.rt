@@ -6,12 +6,6 @@ use swd_bits::{Tx, TxBits};
 /// How many ones make a line reset.
 pub(crate) const RESET_ONES: u64 = 50;
 
-/// The sixteen bits 0111100111100111 of a switch, the first bit least significant.
-pub(crate) const SWITCH: u64 = 0xe79e;
-
-/// How many bits a switch has.
-pub(crate) const SWITCH_BITS: u8 = 16;
-
 /// One item of a trace (the division into these items is this project's choice).
 #[derive(Clone, Copy, Debug, PartialEq, Eq)]
 pub enum Item {

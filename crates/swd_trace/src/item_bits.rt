@@ -2,8 +2,8 @@
 ghost use Rattle.std.specs.Prelude.{◌≡◌, ◌+◌, ◌^◌, ◌<◌, ◌≤◌, ◌++◌, ◌∷◌, ◌↔◌, [], Bool, true, false, List, length, IsTrue, IfSome, IfNone};
 
 use crate::decoder::Decoder;
-use crate::item::{Item, SWITCH, SWITCH_BITS};
-use swd_bits::TxBits;
+use crate::item::Item;
+use swd_bits::{SWITCH, SWITCH_BITS, TxBits};
 
 /// Bits of an item: equal bits, and others after them.
 #[derive(Clone, Copy, Debug, PartialEq, Eq)]

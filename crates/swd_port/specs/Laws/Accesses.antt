@@ -3,7 +3,7 @@ use Rattle.std.specs.Prelude.{ℕ, ◌≡◌, ◌<◌, ◌^◌, true, false}
 use Rattle.swd_port.specs.declared.access.Access.TheVariants.{Read, Write}
 use Rattle.swd_port.specs.declared.access.Answer.TheVariants.{Value}
 use Rattle.swd_port.specs.Registers.{no_select}
-use Rattle.swd_port.specs.Phases.{IsPhaseOf}
+use Rattle.swd_bits.specs.Phases.{IsPhaseOf}
 use Rattle.swd_port.specs.PlainMemory.{PlainMemory, word_at, plain_answer, plain_after}
 use Rattle.swd_port.specs.Port.{Port, Target, Live, RdbuffRead, DrwRead, DrwWrite, request_of}
 use Rattle.swd_port.specs.Asking.{Asks, has_power}

@@ -1,6 +1,7 @@
 -- Laws of data phases and turnarounds.
 use Rattle.std.specs.Prelude.{ℕ, ◌≡◌, ◌≢◌, ◌<◌, ◌^◌, Option, None}
-use Rattle.swd_port.specs.Phases.{IsPhaseOf, phase_number, flipped}
+use Rattle.swd_bits.specs.Phases.{IsPhaseOf, phase_number}
+use Rattle.swd_port.specs.Phases.{flipped}
 use Rattle.swd_port.specs.Port.{Port, Register, DrwWrite, Idle, Drives, Awaits}
 use Rattle.swd_port.specs.Completion.{Completes}
 use Rattle.swd_port.specs.Moving.{Takes, Gives, Passes}

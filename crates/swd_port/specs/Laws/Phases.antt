@@ -2,7 +2,8 @@
 use Rattle.std.specs.Prelude.{ℕ, ◌≡◌, ◌<◌, ◌^◌, ◌↔◌, true, Some, None, replicate}
 use Rattle.swd_bits.specs.Bits.{low_bits}
 use Rattle.swd_bits.specs.Wire.{phase}
-use Rattle.swd_port.specs.Phases.{phase_number, word_in, flipped, flip_at, undriven, IsNoPhase}
+use Rattle.swd_bits.specs.Phases.{phase_number, word_in, IsNoPhase}
+use Rattle.swd_port.specs.Phases.{flipped, flip_at, undriven}
 
 -- what is sent for a word is its phase
 abbrev pub PhaseSent : Type 0

@@ -2,7 +2,8 @@
 use Rattle.std.specs.Prelude.{ℕ, ◌≡◌, ◌<◌, ◌^◌, ◌==◌, ◌&&◌, ◌⊎◌, Bool, true, false, Option, Some}
 use Rattle.std.specs.Int.RustNames.{bit_and}
 use Rattle.swd_port.specs.Registers.{bit_of, ctrl_stat_read, ctrl_stat_mask}
-use Rattle.swd_port.specs.Phases.{phase_number, flipped}
+use Rattle.swd_bits.specs.Phases.{phase_number}
+use Rattle.swd_port.specs.Phases.{flipped}
 use Rattle.swd_port.specs.Port.{Port, Target, Register, DpidrRead, AbortWrite, CtrlStatRead, ResendRead, Drives}
 use Rattle.swd_port.specs.Answers.{is_exempt, is_there}
 use Rattle.swd_port.specs.Asking.{is_posted, status_in, power_up_after}

@@ -11,7 +11,7 @@ use crate::listing::fault::ListFault;
 use crate::listing::line::item_of;
 use arrayvec::ArrayVec;
 use std::alloc::Allocator;
-use swd_bits::{Tx, TxEnd};
+use swd_bits::{MOVED_BITS, REFUSED_BITS, SWITCH_BITS, Tx, TxEnd, UNACKNOWLEDGED_BITS};
 
 // Longer than the line of any item.
 const LONGEST: usize = 64;
@@ -117,20 +117,20 @@ fn bit_count(item: &Item) -> u64
 {
     match item {
         Item::Reset(count) | Item::Idle(count) => *count,
-        Item::Switch => 16,
+        Item::Switch => u64::from(SWITCH_BITS),
         Item::Junk(_) => 1,
         Item::Cut(bits) => u64::from(bits.len),
-        Item::Tx(tx) => tx_bit_count(tx),
+        Item::Tx(tx) => u64::from(tx_bit_count(tx)),
     }
 }
 
 // How many bits a transaction has.
-fn tx_bit_count(tx: &Tx) -> u64
+fn tx_bit_count(tx: &Tx) -> u8
     ensures { result ≡ length (spelling tx.now true true) }
 {
     match tx.result {
-        TxEnd::Moved { .. } => 46,
-        TxEnd::Wait | TxEnd::Fault => 13,
-        TxEnd::NoAck(_) => 12,
+        TxEnd::Moved { .. } => MOVED_BITS,
+        TxEnd::Wait | TxEnd::Fault => REFUSED_BITS,
+        TxEnd::NoAck(_) => UNACKNOWLEDGED_BITS,
     }
 }

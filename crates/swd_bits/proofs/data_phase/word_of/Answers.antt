@@ -5,6 +5,8 @@ use Rattle.std.proofs.Math.Nat.{mod-lt}
 use Rattle.swd_bits.specs.Bits.{low_bits, odd}
 use Rattle.swd_bits.specs.Wire.{phase}
 use Rattle.swd_bits.proofs.BitsLemmas.{low_bits-cat, length-low_bits, same_bits}
+use Rattle.swd_bits.specs.Phases.{phase_number, word_in}
+use Rattle.swd_bits.proofs.PhaseLemmas.{word_phase, word_missing}
 use Rattle.swd_bits.proofs.data_phase.word_of.Goals as goal
 
 -- the first bits of a number with a high part
@@ -27,6 +29,18 @@ no_other : (sent made : ℕ) → sent < 2 ^ 33 → made < 2 ^ 33 → low_bits 33
 no_other sent made h k f g word j e =
     let n : bit_and sent (2 ^ 32 - 1) ≡ word = and_mask sent 32 ∙ sym (word_is word sent j e) in
     g (same_bits 33 made sent k h (f ∙ ap phase n ∙ e))
+
+pub returns-then-data_bits-sent-clause-number : goal.returns-then-data_bits-sent-clause-number
+returns-then-data_bits-sent-clause-number c =
+    let small : bit_and c.args.sent (2 ^ 32 - 1) < 2 ^ 32 = rw (and_mask c.args.sent 32) (omega arith) in
+    let same : c.args.sent ≡ phase_number (bit_and c.args.sent (2 ^ 32 - 1)) =
+    sym c.if-data_bits-sent.true ∙ c.data_bits.ensures.number in
+    sym (word_phase (bit_and c.args.sent (2 ^ 32 - 1)) small) ∙ ap word_in (sym same)
+
+pub returns-else-data_bits-sent-clause-number : goal.returns-else-data_bits-sent-clause-number
+returns-else-data_bits-sent-clause-number c =
+    sym (word_missing c.args.sent c.requires
+    (no_other c.args.sent c.data_bits.result c.requires c.data_bits.ensures.bound c.data_bits.ensures.bits c.if-data_bits-sent.false))
 
 pub returns-else-data_bits-sent-clause-none : goal.returns-else-data_bits-sent-clause-none
 returns-else-data_bits-sent-clause-none c =

@@ -2,14 +2,14 @@ use Rattle.std.proofs.Common.{arith}
 use Rattle.swd_host.proofs.Blocked.{are_reads, too_many, first_unaligned}
 use Rattle.swd_host.proofs.block.refusal.Goals as goal
 
-pub returns-then-count-gt65536-clause-refused : goal.returns-then-count-gt65536-clause-refused
-returns-then-count-gt65536-clause-refused c = too_many c.args.addr c.args.count c.if-count-gt65536.true
+pub returns-then-count-gt-MOST_ACCESSES-clause-refused : goal.returns-then-count-gt-MOST_ACCESSES-clause-refused
+returns-then-count-gt-MOST_ACCESSES-clause-refused c = too_many c.args.addr c.args.count c.if-count-gt-MOST_ACCESSES.true
 
 pub returns-then-addr-eq0-clause-none : goal.returns-then-addr-eq0-clause-none
 returns-then-addr-eq0-clause-none c =
-    (omega (arith, c.if-count-gt65536.false), are_reads c.args.addr c.args.count c.if-addr-eq0.true c.requires)
+    (omega (arith, c.if-count-gt-MOST_ACCESSES.false), are_reads c.args.addr c.args.count c.if-addr-eq0.true c.requires)
 
 pub returns-else-addr-eq0-clause-refused : goal.returns-else-addr-eq0-clause-refused
 returns-else-addr-eq0-clause-refused c =
-    first_unaligned c.args.addr c.args.count (omega (arith, c.if-count-gt65536.false)) c.if-count-eq0.false
+    first_unaligned c.args.addr c.args.count (omega (arith, c.if-count-gt-MOST_ACCESSES.false)) c.if-count-eq0.false
     c.if-addr-eq0.false

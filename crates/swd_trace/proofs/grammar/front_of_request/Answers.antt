@@ -5,8 +5,8 @@ use Rattle.swd_trace.specs.Stands.{Whole, len_of}
 use Rattle.swd_trace.proofs.GrammarLemmas.{request_few, length_after, ack_of, len_of_least, len_of_most, begun_by_len, whole_by_len, spelled_front, front_spelled}
 use Rattle.swd_trace.proofs.grammar.front_of_request.Goals as goal
 
-pub returns-then-len-lt12 : goal.returns-then-len-lt12
-returns-then-len-lt12 c =
+pub returns-then-len-lt-UNACKNOWLEDGED_BITS : goal.returns-then-len-lt-UNACKNOWLEDGED_BITS
+returns-then-len-lt-UNACKNOWLEDGED_BITS c =
     let l : length (low_bits c.args.len c.args.bits) ≡ c.args.len = length-low_bits c.args.len c.args.bits in (
       omega arith,
       omega arith,
@@ -23,7 +23,7 @@ returns-then-len-whole c =
       omega arith,
       omega arith,
       λ more s.
-          begun_by_len c.requires.request.0 c.args.len c.args.bits c.requires.request.1 c.if-len-lt12.false more (omega arith),
+          begun_by_len c.requires.request.0 c.args.len c.args.bits c.requires.request.1 c.if-len-lt-UNACKNOWLEDGED_BITS.false more (omega arith),
     )
 
 pub returns-in-Some : goal.returns-in-Some
@@ -35,6 +35,6 @@ returns-in-Some c =
 pub returns-in-None : goal.returns-in-None
 returns-in-None c =
     let w : c.whole_len-whole.result ≡ len_of (ack_of c.args.bits) = c.whole_len-whole.ensures in
-    let r = whole_by_len c.requires.request.0 c.args.len c.args.bits c.requires.request.1 c.if-len-lt12.false (omega arith) in
+    let r = whole_by_len c.requires.request.0 c.args.len c.args.bits c.requires.request.1 c.if-len-lt-UNACKNOWLEDGED_BITS.false (omega arith) in
     absurd (c.in-None.ensures.none r.0
     (front_spelled c.args.len c.args.bits c.whole_len-whole.result r.0 c.if-len-whole.false (omega arith) (r.1 ∙ ap (Whole r.0) (sym w))))

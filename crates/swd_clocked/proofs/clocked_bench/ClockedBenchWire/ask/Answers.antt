@@ -35,7 +35,7 @@ invariant_of-self-clause-resting g c =
     let new = c.ask_request-seen.new.self in
     let q = c.args.request in
     let u = asked_under q c.ask_request-seen.result c.args.self.now.marked.value new (asks c.args.self.now.marked.value _ new q c.ask_request-seen.result c.deref_mut.ensures.value c.ask_request-seen.ensures.asked) in
-    let due = c.due_after_seen-self.ensures ∙ ap (due_after q.read) u.1 in
+    let due = c.after-self.ensures ∙ ap (due_after q.read) u.1 in
     ap (λ (d : Due). rests d new.clocked.frame) due ∙ u.2.resting
 
 pub invariant_of-self-clause-heard : goal.invariant_of-self-clause-heard
@@ -54,7 +54,7 @@ returns-clause-step g c =
     let line = u.2.line ∙ ap (λ (f : Frame). line_after u.0 u.2.phase (line_at f (flip_of was.mark))) (sym idles) in
     let tally = asked.uses.tally in
     asks_lawful new.mark _ _ _ _ (asks_wired new.mark q was.clocked.target new.clocked.target u.0 u.2.phase (link_of old) (tally_of old) _ _ _ _ _ _ u.2.answers
-    u.1 c.due_after_seen-self.ensures line (ap (λ (n : Tally). n.asked) tally) (ap (λ (n : Tally). n.disturbed) tally) (ap (λ (n : Tally). n.lost) tally))
+    u.1 c.after-self.ensures line (ap (λ (n : Tally). n.asked) tally) (ap (λ (n : Tally). n.disturbed) tally) (ap (λ (n : Tally). n.lost) tally))
 
 pub returns-clause-sees : goal.returns-clause-sees
 returns-clause-sees g c =
@@ -88,5 +88,5 @@ returns-clause-link g c =
     let idles = idle_due old.due was.clocked.frame c.requires old.resting in
     let line = u.2.line ∙ ap (λ (f : Frame). line_after u.0 u.2.phase (line_at f (flip_of was.mark))) (sym idles) in
     let s = simulation was.clocked.target in
-    link_seen new.mark q u.0 was.clocked.target new.clocked.target u.2.phase _ _ (link_of old) _ u.2.answers u.1 c.due_after_seen-self.ensures line
+    link_seen new.mark q u.0 was.clocked.target new.clocked.target u.2.phase _ _ (link_of old) _ u.2.answers u.1 c.after-self.ensures line
     ∙ ap (λ (m : Mark). link_after m q (reply_to m q s) (phase_to m q s) (link_of old)) used.uses.is

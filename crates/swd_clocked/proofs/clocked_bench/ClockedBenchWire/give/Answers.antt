@@ -3,7 +3,8 @@ use Rattle.swd_port.specs.declared.wire.Due.TheVariants.{Nothing, Give}
 use Rattle.swd_port.specs.declared.wire.Due.{Due}
 use Rattle.swd_port.specs.declared.state.Line.{Line}
 use Rattle.swd_port.specs.Choices.{flip_of}
-use Rattle.swd_port.specs.Phases.{flipped, word_in}
+use Rattle.swd_bits.specs.Phases.{word_in}
+use Rattle.swd_port.specs.Phases.{flipped}
 use Rattle.swd_port.specs.Moving.{Gives, arrival, arrival_of}
 use Rattle.swd_target.specs.declared.plan.Plan.{Plan}
 use Rattle.swd_target.specs.Plans as plans

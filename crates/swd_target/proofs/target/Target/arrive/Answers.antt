@@ -14,7 +14,7 @@ returns-in-Some-clause-comes g c =
     let s = c.args.self.now in
     let t = c.accept.new.self in
     let word = c.in-Some.word in
-    let found = sym c.phase_word.ensures ∙ c.in-Some.is in
+    let found = sym c.word_of.ensures.number ∙ c.in-Some.is in
     let comes : DataComes (Arrives c.args.register word) s t = record {
       later = subst (λ (x : State). Transfers x (state_of t)) c.write.ensures.state c.accept.ensures.effect;
       undone = λ e. absurd cc;
@@ -32,7 +32,7 @@ pub returns-in-None-clause-comes : goal.returns-in-None-clause-comes
 returns-in-None-clause-comes g c =
     let s = c.args.self.now in
     let t = c.refuse_write.new.self in
-    let found = sym c.phase_word.ensures ∙ c.in-None.is in
+    let found = sym c.word_of.ensures.number ∙ c.in-None.is in
     let comes : DataComes Damaged s t = record {
       later = inl c.refuse_write.ensures.state;
       undone = λ e. c.refuse_write.ensures.state;

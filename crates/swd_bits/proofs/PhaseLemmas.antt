@@ -9,7 +9,7 @@ use Rattle.std.proofs.lemmas.Bool.{eqb-true}
 use Rattle.std.proofs.Math.Nat.{pow-suc}
 use Rattle.swd_bits.specs.Bits.{low_bits}
 use Rattle.swd_bits.specs.Wire.{phase}
-use Rattle.swd_port.specs.Phases.{phase_number, word_in, undriven, IsNoPhase}
+use Rattle.swd_bits.specs.Phases.{phase_number, word_in, IsNoPhase}
 use Rattle.swd_bits.proofs.BitsLemmas.{low_bits-cat, odd-low_bits, same_bits}
 
 xor_first : (r : ℕ) → r < 2 → bit_xor r 1 + r ≡ 1
@@ -66,7 +66,7 @@ ones_all (suc k) =
     omega (arith, ones_step (2 ^ suc k - 1), ap count_ones b, ones_all k, pow_pos k)
 
 -- ones alone tell none
-pub word_ones : word_in undriven ≡ None
+pub word_ones : word_in (2 ^ 33 - 1) ≡ None
 word_ones = let e : count_ones (2 ^ 33 - 1) % 2 ≡ 1 = ap (λ n. n % 2) (ones_all 33) in rw e refl
 
 last_bit : (p : ℕ) → p < 2 → low_bits 1 p ≡ (p == 1) ∷ []
