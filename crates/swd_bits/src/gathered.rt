@@ -3,11 +3,9 @@ ghost use Rattle.std.specs.Prelude.{◌≡◌, ◌≤◌};
 ghost use Rattle.swd_bits.specs.BitLists.{IsSpelled};
 
 use crate::scan::{Scan, Sign};
+use crate::tx::MOVED_BITS;
 use crate::tx_bits::TxBits;
 use swd_io::Consumer;
-
-// The most bits that one transaction has.
-const LONGEST: u8 = 46;
 
 // The bits of a text so far, where they are no more than a transaction has.
 #[derive(Clone, Copy)]
@@ -47,7 +45,7 @@ impl Gathered {
             Sign::Passed => true,
             Sign::Bad => false,
             Sign::Bit(bit) => {
-                if self.held.len < LONGEST {
+                if self.held.len < MOVED_BITS {
                     self.held = self.held.then(TxBits::one(bit));
                 } else {
                     self.long = true;

@@ -33,16 +33,16 @@ returns-in-Passed-clause-good c = λ _ seen g. record {
 pub returns-in-Bad-clause-bad : goal.returns-in-Bad-clause-bad
 returns-in-Bad-clause-bad c = λ _ seen g more. first_bad seen more g.bits c.args.self.now.scan c.args.byte c.in-Bad.ensures.sign g.reads
 
-pub returns-then-self-lt-LONGEST-clause-good : goal.returns-then-self-lt-LONGEST-clause-good
-returns-then-self-lt-LONGEST-clause-good c = λ _ seen g. record {
+pub returns-then-self-lt-MOVED_BITS-clause-good : goal.returns-then-self-lt-MOVED_BITS-clause-good
+returns-then-self-lt-MOVED_BITS-clause-good c = λ _ seen g. record {
   bits = g.bits ++ c.in-Bit.bit ∷ [];
   reads = reads_bit seen g.bits c.args.self.now.scan c.byte.new.self c.in-Bit.bit c.args.byte c.in-Bit.ensures.sign c.in-Bit.ensures.comment g.reads;
-  kept = held_more c.args.self.now.long c.args.self.now.held c.then-self.result g.bits c.in-Bit.bit c.if-self-lt-LONGEST.true (omega arith)
+  kept = held_more c.args.self.now.long c.args.self.now.held c.then-self.result g.bits c.in-Bit.bit c.if-self-lt-MOVED_BITS.true (omega arith)
       (c.then-self.ensures.bits ∙ ap (λ x. bits_of c.args.self.now.held ++ x) c.one.ensures.bits) g.kept;
 }
 
-pub returns-else-self-lt-LONGEST-clause-good : goal.returns-else-self-lt-LONGEST-clause-good
-returns-else-self-lt-LONGEST-clause-good c = λ _ seen g. record {
+pub returns-else-self-lt-MOVED_BITS-clause-good : goal.returns-else-self-lt-MOVED_BITS-clause-good
+returns-else-self-lt-MOVED_BITS-clause-good c = λ _ seen g. record {
   bits = g.bits ++ c.in-Bit.bit ∷ [];
   reads = reads_bit seen g.bits c.args.self.now.scan c.byte.new.self c.in-Bit.bit c.args.byte c.in-Bit.ensures.sign c.in-Bit.ensures.comment g.reads;
   kept = held_long c.args.self.now.long c.args.self.now.held g.bits c.in-Bit.bit (omega arith) g.kept;
