@@ -1,39 +1,19 @@
 -- What comes of a request, by what it meets: a law for each kind, and what it leaves of the host's facts.
-use Rattle.std.proofs.Common.{◌≡◌, ◌≢◌, ◌+◌, ◌≤◌, ◌<◌, ℕ, Bool, true, false, refl, sym, ap, subst, inl, inr}
-use Rattle.std.proofs.Common.{arith, ◌∙◌}
-use Rattle.std.specs.Prelude.{Option, None, ◌⊎◌, ◌&&◌}
-use Rattle.swd_bits.specs.declared.request.Request.{Request}
+use Rattle.swd_host.proofs.Words.{◌≡◌, ◌≢◌, ◌+◌, ◌≤◌, ◌<◌, ℕ, Bool, true, false, refl, sym, ap, inl, inr, arith, ◌∙◌}
+use Rattle.swd_host.proofs.Words.{Option, None, ◌⊎◌, Request, phase_number, Port, register, Register, AbortWrite}
+use Rattle.swd_host.proofs.Words.{CtrlStatRead, DrwRead, Live, is_exempt, Asks, has_power, status_in, Stays, Accepts}
+use Rattle.swd_host.proofs.Words.{Spares, IsNoAcknowledgement, Refuses, okay, wait, fault, lost, OnLine, Job, At}
+use Rattle.swd_host.proofs.Words.{Powered, is_powered, Hand, Counted, Before, During, FaultedAt, Waiting, no_select}
+use Rattle.swd_host.proofs.Words.{HasAsked, SaysPower, Within, Says, Tells, Reads, Writes, whole, changed}
 use Rattle.swd_bits.specs.declared.request.Reg4.TheVariants.{R0, R4}
-use Rattle.swd_bits.specs.Phases.{phase_number}
 use Rattle.swd_port.specs.Phases.{flipped}
-use Rattle.swd_port.specs.Port.{Port, register}
-use Rattle.swd_port.specs.declared.register.Register.{Register}
-use Rattle.swd_port.specs.declared.register.Register.TheVariants.{AbortWrite, CtrlStatRead}
-use Rattle.swd_port.specs.declared.register.Register.TheVariants.{DrwRead}
-use Rattle.swd_port.specs.declared.state.Reset.TheVariants.{Live}
 use Rattle.swd_port.specs.declared.state.Line.TheVariants.{Drives, Awaits}
-use Rattle.swd_port.specs.declared.state.PowerUp.{PowerUp}
-use Rattle.swd_port.specs.declared.state.PowerUp.TheVariants.{Seen}
-use Rattle.swd_port.specs.Answers.{is_exempt, is_there}
-use Rattle.swd_port.specs.Asking.{Asks, has_power, status_in, power_up_after}
-use Rattle.swd_port.specs.Outcomes.{Stays, Accepts, Spares}
-use Rattle.swd_port.specs.Outcomes.{IsNoAcknowledgement, Refuses}
-use Rattle.swd_port.specs.Outcomes.{okay, wait, fault, lost}
-use Rattle.swd_port.specs.Laws.WordsRead.{OnLine, StatusTells}
-use Rattle.swd_port.proofs.RequestLaws.{exempt_request_at_rest, flagged_request_at_rest}
-use Rattle.swd_port.proofs.RequestLaws.{free_request_exact}
+use Rattle.swd_port.specs.Laws.WordsRead.{StatusTells}
+use Rattle.swd_port.proofs.RequestLaws.{exempt_request_at_rest, flagged_request_at_rest, free_request_exact}
 use Rattle.swd_port.proofs.StatusLaws.{status_returned}
-use Rattle.swd_host.specs.declared.request.Job.{Job}
-use Rattle.swd_host.specs.declared.request.Job.TheVariants.{At}
-use Rattle.swd_host.specs.declared.request.Place.TheVariants.{Powered}
-use Rattle.swd_host.specs.Flags.{is_powered}
 use Rattle.swd_host.specs.Requests.{is_exempt as is_exempt_of}
-use Rattle.swd_host.specs.Tracks.{Hand, Counted, Before, During, FaultedAt, Waiting}
-use Rattle.swd_port.specs.Registers.{no_select}
-use Rattle.swd_host.specs.Tracks.{HasAsked, SaysPower, Within, Says, Tells, Reads, Writes, whole, changed}
 use Rattle.swd_host.proofs.Frames.{Frame, Same, frame_waits, same_waits, frame_refuses, same_refuses, frame_accepts}
-use Rattle.swd_host.proofs.Frames.{same_accepts, before_framed, before_within, before_paid, within_carried}
-use Rattle.swd_host.proofs.Frames.{lost_within}
+use Rattle.swd_host.proofs.Frames.{same_accepts, before_framed, before_within, before_paid, within_carried, lost_within}
 
 -- WHAT CAME OF A REQUEST
 pub data Came (job : Job) (n : ℕ) (base : Counted) (b : ℕ) (k : Hand) (v : ℕ) (t : Port) : Type 0 where
@@ -43,10 +23,6 @@ pub data Came (job : Job) (n : ℕ) (base : Counted) (b : ℕ) (k : Hand) (v : �
   came_lost : IsNoAcknowledgement v → Within b k t.target → base.lost < t.tally.lost → n ≤ t.tally.disturbed
       → Came job n base b k v t
 
-came_stays : (job : Job) (n : ℕ) (base : Counted) (b : ℕ) (k : Hand) (v : ℕ) (s t : Port) → t ≡ s
-    → Came job n base b k v s → Came job n base b k v t
-came_stays job n base b k v s t e h = subst (λ x. Came job n base b k v x) (sym e) h
-
 -- LINES
 pub reads_from : (word n : ℕ) (P : ℕ → Type 0) (flip : Option ℕ) (s t : Port) → OnLine word flip t → Spares flip s t
     → P n → (t.tally.disturbed ≡ s.tally.disturbed + 1 → P (n + 1)) → Reads word n P t
@@ -55,6 +31,7 @@ reads_from word n P flip s t on (inl none) p q = whole (on.line ∙ ap
 reads_from word n P flip s t on (inr (place, fits, some, more)) p q =
     changed place (on.line ∙ ap (λ f. Drives (flipped f (phase_number word))) some) on.range (q more)
 
+-- the line after the OK to a write
 pub writes_from : (r : Register) (n : ℕ) (P : ℕ → Type 0) (flip : Option ℕ) (s t : Port) → t.link.line ≡ Awaits r flip
     → Spares flip s t → P n → (t.tally.disturbed ≡ s.tally.disturbed + 1 → P (n + 1)) → Writes r n P t
 writes_from r n P flip s t on (inl none) p q = whole (on ∙ ap (Awaits r) none) p
@@ -101,6 +78,7 @@ free_asked job r n base b c k v s t q reg ex nodrw live rest write sticky power 
           (omega (arith, a.disturbed))
     ]
 
+-- a request that changed nothing, or was refused, leaves the memory among those it may be
 held_within : (r : Register) (access : Bool) (b c : ℕ) (k : Hand) (s t : Port) → b ≤ c
     → Stays s t ⊎ Refuses r access s t → Within b k s.target → Within c k t.target
 held_within r access b c k s t g (inl h) w = within_carried b c k s t g (ap (λ i. i.pending) h.target) (ap
@@ -111,11 +89,9 @@ held_within r access b c k s t g (inr h) w = within_carried b c k s t g (ap (λ 
 -- one that meets WDATAERR, at rest
 pub flagged_asked : (job : Job) (r : Register) (n : ℕ) (base : Counted) (b c : ℕ) (k : Hand) (v : ℕ) (s t : Port)
     (q : Request) → register s.target.select q ≡ r → is_exempt r ≡ false → s.target.reset ≡ Live
-    → s.target.pending ≡ None
-    → s.target.write_error ≡ true → (q.ap ≡ true → has_power s.target ≡ true)
+    → s.target.pending ≡ None → s.target.write_error ≡ true → (q.ap ≡ true → has_power s.target ≡ true)
     → base.lost ≤ s.tally.lost → b ≤ c → Within b k s.target → n ≤ s.tally.disturbed → Asks s q v t
-    → (Frame s t → Same s t → s.tally.disturbed ≤ t.tally.disturbed → FaultedAt job n c k t)
-    → Came job n base c k v t
+    → (Frame s t → Same s t → s.tally.disturbed ≤ t.tally.disturbed → FaultedAt job n c k t) → Came job n base c k v t
 flagged_asked job r n base b c k v s t q reg ex live rest write power l g within paid asks go =
     elim (flagged_request_at_rest r q v s t reg ex live rest (inr write) asks) [
       | fault a ↦ came_fault a.is (go (frame_refuses r q.ap s t a.refuses)
@@ -137,6 +113,7 @@ abort = record { ap = false; read = false; addr = R0 }
 pub status_register : (s : Port) → s.target.select ≡ no_select → register s.target.select status ≡ CtrlStatRead
 status_register s e = ap (λ x. register x status) e
 
+-- the flags that a read of CTRL/STAT tells, and what is still known before the request
 pub says_from : (job : Job) (n b : ℕ) (k : Hand) (s t : Port) (flip : Option ℕ) → s.target.reset ≡ Live
     → Before job n b k s → Spares flip s t → Accepts CtrlStatRead true flip s t
     → s.tally.disturbed ≤ t.tally.disturbed → Says job n b k t
@@ -151,50 +128,12 @@ says_from job n b k s t flip live h sp a more =
           (λ d. before_framed n (n + 1) b k s t f e (omega arith) job h),
     )
 
--- what the word says of the power that was asked for
-found : (busy : Bool) (u : PowerUp) → is_there (power_up_after busy CtrlStatRead u) ≡ true
-    → power_up_after busy CtrlStatRead u ≡ Seen
-found busy u e = grind arith
-
-found_late : (busy : Bool) (u : PowerUp) → is_there (power_up_after busy CtrlStatRead u) ≡ false → busy ≡ true
-found_late busy u e = grind arith
-
-both_there : (a b there : Bool) → (a && there) && (b && there) ≡ true → there ≡ true
-both_there a b there e = grind arith
-
-both_late : (a b there : Bool) → a ≡ true → b ≡ true → (a && there) && (b && there) ≡ false → there ≡ false
-both_late a b there x y e = grind arith
-
 -- whether it is there, for as many events as there were
 module _ (n b : ℕ) (k : Hand) (s t : Port) (flip : Option ℕ) (h : Before (At Powered) n b k s)
     (a : Accepts CtrlStatRead true flip s t) where
-  powers_told : StatusTells a.busy s.target → is_powered (status_in a.busy s.target)
-      ≡ ((s.target.debug_power && is_there (power_up_after a.busy CtrlStatRead s.target.power_up))
-      && (s.target.system_power && is_there (power_up_after a.busy CtrlStatRead s.target.power_up)))
-  powers_told r = rw (r.debug_held, r.system_held) refl
-
-  was_there : StatusTells a.busy s.target → is_powered (status_in a.busy s.target) ≡ true → t.target.power_up ≡ Seen
-  was_there r powered = ap (λ i. i.power_up) a.target
-      ∙ found a.busy s.target.power_up (both_there s.target.debug_power s.target.system_power _ (sym (powers_told r) ∙ powered))
-
-  was_late : (m : ℕ) → m ≤ n ⊎ (flip ≡ None → ⊥) → Before (At Powered) n b k s → StatusTells a.busy s.target
-      → is_powered (status_in a.busy s.target) ≡ false → s.target.write_error ≡ false → m + 1 ≤ t.tally.disturbed
-  was_late m few (inr hurt) r powered clear = absurd (let x = hurt.flag in cc)
-  was_late m few (inl sure) r powered clear =
-      let d = a.disturbed (found_late a.busy s.target.power_up (both_late s.target.debug_power s.target.system_power _
-      sure.has.debug sure.has.system (sym (powers_told r) ∙ powered))) in
-      elim few [
-        | inl less ↦ omega (arith, d.1, sure.paid, less)
-        | inr other ↦ absurd (other d.0)
-      ]
-
-  asked_power : (m : ℕ) → n ≤ m → m ≤ n ⊎ (flip ≡ None → ⊥) → Frame s t → Same s t
-      → Before (At Powered) m b k t → StatusTells a.busy s.target → HasAsked (is_powered (status_in a.busy s.target)) m b k t
-  asked_power m more few f e before r = record {
-    before = before;
-    there = λ powered clear. was_there r powered;
-    late = λ powered clear. was_late m few h r powered (sym e.write ∙ clear);
-  }
+  asked_power : (m : ℕ) → n ≤ m → m ≤ n ⊎ (flip ≡ None → ⊥) → Frame s t → Same s t → Before (At Powered) m b k t
+      → StatusTells a.busy s.target → HasAsked (is_powered (status_in a.busy s.target)) m b k t
+  asked_power m more few f e before r = grind arith
 
 pub power_from : (n b : ℕ) (k : Hand) (s t : Port) (flip : Option ℕ) → s.target.reset ≡ Live
     → Before (At Powered) n b k s → Spares flip s t → Accepts CtrlStatRead true flip s t
@@ -216,14 +155,14 @@ power_from n b k s t flip live h (inr (place, fits, some, one)) a more =
       status_in a.busy s.target,
       tells a.busy s t e r.1,
       changed place (r.0.line ∙ ap (λ x. Drives (flipped x (phase_number (status_in a.busy s.target)))) some) r.0.range
-          (asked_power n b k s t flip h a (n + 1) (omega arith) (inr (λ none. absurd (let x = sym some ∙ none in cc))) f e
+          (asked_power n b k s t flip h a (n + 1) (omega arith) (inr (λ none. absurd (let x = sym some ∙ none in cc))) f
+          e
           (before_framed n (n + 1) b k s t f e (omega (arith, one)) (At Powered) h) r.1),
     )
 
 pub status_asked : (job : Job) (n : ℕ) (base : Counted) (b : ℕ) (k : Hand) (v : ℕ) (s t : Port)
     → s.target.select ≡ no_select → s.target.reset ≡ Live → s.target.pending ≡ None → base.lost ≤ s.tally.lost
-    → Before job n b k s → Asks s status v t
-    → (Says job n b k t → During job n b k t) → Came job n base b k v t
+    → Before job n b k s → Asks s status v t → (Says job n b k t → During job n b k t) → Came job n base b k v t
 status_asked job n base b k v s t select live rest l h asks go =
     exempt_asked job CtrlStatRead n base b k v s t status (status_register s select) refl
     (λ e. absurd (cc)) live rest l h asks

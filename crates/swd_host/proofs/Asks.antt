@@ -1,40 +1,19 @@
 -- Each request that the engine sends keeps what it knows.
-use Rattle.std.proofs.Common.{◌≡◌, ◌≢◌, ◌+◌, ◌%◌, ◌≤◌, ℕ, Bool, true, false, refl, sym, ap, subst, inl}
-use Rattle.std.proofs.Common.{arith, ◌∙◌}
-use Rattle.std.specs.Prelude.{Option, Some, None, ◌⊎◌, if◌then◌else◌}
-use Rattle.swd_host.specs.declared.task.Task.{Task}
-use Rattle.swd_host.specs.declared.task.Task.TheVariants.{Read, BurstRead, Write, BurstWrite}
-use Rattle.swd_port.specs.PlainMemory.{PlainMemory}
-use Rattle.swd_port.specs.Port.{Port, register}
-use Rattle.swd_port.specs.declared.register.Register.{Register}
-use Rattle.swd_port.specs.declared.register.Register.TheVariants.{DpidrRead, AbortWrite, CtrlStatRead, CtrlStatWrite}
-use Rattle.swd_port.specs.declared.register.Register.TheVariants.{ResendRead, SelectWrite, RdbuffRead, CswRead}
-use Rattle.swd_port.specs.declared.register.Register.TheVariants.{CswWrite, TarWrite, DrwRead, DrwWrite}
-use Rattle.swd_port.specs.Registers.{csw_read}
-use Rattle.swd_port.specs.Answers.{is_exempt}
-use Rattle.swd_port.specs.Asking.{Asks, has_power, is_posted, pending_once_read}
-use Rattle.swd_port.specs.Outcomes.{Stays, Accepts, okay}
-use Rattle.swd_port.specs.Outcomes.{lost}
-use Rattle.swd_port.specs.Laws.WordsRead.{OnLine}
+use Rattle.swd_host.proofs.Words.{◌≡◌, ◌≢◌, ◌+◌, ◌%◌, ◌≤◌, ℕ, Bool, true, false, refl, sym, ap, subst, inl, arith, ◌∙◌}
+use Rattle.swd_host.proofs.Words.{Option, Some, None, ◌⊎◌, Task, PlainMemory, Port, register, Register, DpidrRead}
+use Rattle.swd_host.proofs.Words.{ResendRead, RdbuffRead, DrwRead, is_exempt, Asks, has_power, is_posted, Stays}
+use Rattle.swd_host.proofs.Words.{Accepts, okay, lost, OnLine, Place, Identify, Wipe, Select, Power, Configure, Recall}
+use Rattle.swd_host.proofs.Words.{Configured, Aim, Transfer, At, Resend, request_for, confirmed_by, Hand, Counted, Calm}
+use Rattle.swd_host.proofs.Words.{Has, no_select, Sure, Hurt, by_damage, Resent, During, Within, Reads, Writes, Awake}
+use Rattle.swd_port.specs.declared.register.Register.TheVariants.{CswRead}
 use Rattle.swd_port.proofs.RequestLaws.{identification_read_at_rest}
 use Rattle.swd_port.proofs.StatusLaws.{identification_returned, buffer_returned, value_resent}
-use Rattle.swd_host.specs.declared.request.Place.{Place}
-use Rattle.swd_host.specs.declared.request.Place.TheVariants.{Identify, Wipe, Inspect, Select, Power, Powered}
-use Rattle.swd_host.specs.declared.request.Place.TheVariants.{Configure, Recall, Configured, Aim, Transfer, Confirm}
-use Rattle.swd_host.specs.declared.request.Place.TheVariants.{Behind}
-use Rattle.swd_host.specs.declared.request.Job.TheVariants.{At, Resend}
-use Rattle.swd_host.specs.Requests.{request_for, register_at, drw_register, confirming_register}
-use Rattle.swd_host.specs.Requests.{is_exempt_place, confirmed_by, written_by}
-use Rattle.swd_host.specs.Tracks.{Hand, Counted, csw_word_read, Reachable, Calm, Up, Has}
-use Rattle.swd_port.specs.Registers.{no_select}
-use Rattle.swd_host.specs.Tracks.{is_wipe, Sure, Hurt, Spoilt, by_damage}
-use Rattle.swd_host.specs.Tracks.{Resent, During}
-use Rattle.swd_host.specs.Tracks.{Within, Reads, Writes, Awake}
-use Rattle.swd_host.proofs.Frames.{Frame, Same, frame_accepts, same_accepts, has_framed, sure_framed}
-use Rattle.swd_host.proofs.Frames.{resent_framed, before_within, has_within}
-use Rattle.swd_host.proofs.Frames.{within_idle, lost_within, seen_accepts, has_debug}
-use Rattle.swd_host.proofs.Asked.{Came, came_okay, came_lost, reads_from, writes_from}
-use Rattle.swd_host.proofs.Asked.{free_asked, flagged_asked, abort_asked}
+use Rattle.swd_host.specs.Requests.{register_at, is_exempt_place}
+use Rattle.swd_host.specs.Tracks.{csw_word_read, Reachable, is_wipe, Spoilt}
+use Rattle.swd_host.proofs.Frames.{Frame, Same, frame_accepts, same_accepts, has_framed, sure_framed, resent_framed}
+use Rattle.swd_host.proofs.Frames.{before_within, has_within, within_idle, lost_within, has_debug}
+use Rattle.swd_host.proofs.Asked.{Came, came_okay, came_lost, reads_from, writes_from, free_asked, flagged_asked}
+use Rattle.swd_host.proofs.Asked.{abort_asked}
 
 -- THE WRITE BEFORE
 abbrev is_written : Place → Bool
@@ -46,49 +25,17 @@ is_written Aim = true
 is_written Transfer = true
 is_written _ = false
 
+-- a write leaves a target at rest to be confirmed
 written_calm : (p : Place) (b : ℕ) (k : Hand) (s : Port) → is_written p ≡ true → Has p b k s.target
     → Calm k.memory s.target
-written_calm Wipe b k s e h = h
-written_calm Select b k s e h = h
-written_calm Power b k s e h = h
-written_calm Configure b k s e h = h.calm
-written_calm Aim b k s e h = h.up.calm
-written_calm Transfer b k s e h = h.up.calm
-written_calm Identify b k s e h = absurd (cc)
-written_calm Inspect b k s e h = absurd (cc)
-written_calm Powered b k s e h = absurd (cc)
-written_calm Recall b k s e h = absurd (cc)
-written_calm Configured b k s e h = absurd (cc)
-written_calm Confirm b k s e h = absurd (cc)
-written_calm Behind b k s e h = absurd (cc)
+written_calm p b k s e h = grind arith
 
--- what a request confirms
-aim_confirmed : (aims : Bool) (back : Place) → (if aims then Some Aim else None) ≡ Some back → back ≡ Aim
-aim_confirmed true back e = cc
-aim_confirmed false back e = absurd (cc)
-
-transfer_confirmed : (task : Task) (back : Place) → written_by task ≡ Some back → back ≡ Transfer
-transfer_confirmed (Read at) back e = absurd (cc)
-transfer_confirmed (BurstRead at) back e = absurd (cc)
-transfer_confirmed (Write at word) back e = cc
-transfer_confirmed (BurstWrite at word) back e = cc
-
+-- what a request confirms is a write
 back_written : (p back : Place) (task : Task) (aims : Bool) → confirmed_by p task aims ≡ Some back
     → is_written back ≡ true
-back_written Inspect back task aims e = let is : back ≡ Wipe = cc in ap is_written is
-back_written Power back task aims e = let is : back ≡ Select = cc in ap is_written is
-back_written Powered back task aims e = let is : back ≡ Power = cc in ap is_written is
-back_written Recall back task aims e = let is : back ≡ Configure = cc in ap is_written is
-back_written Transfer back task aims e = ap is_written (aim_confirmed aims back e)
-back_written Confirm back task aims e = ap is_written (transfer_confirmed task back e)
-back_written Identify back task aims e = absurd (cc)
-back_written Wipe back task aims e = absurd (cc)
-back_written Select back task aims e = absurd (cc)
-back_written Configure back task aims e = absurd (cc)
-back_written Configured back task aims e = absurd (cc)
-back_written Aim back task aims e = absurd (cc)
-back_written Behind back task aims e = absurd (cc)
+back_written p back task aims e = grind arith
 
+-- after a damaged write the target is at rest
 pub hurt_calm : (p : Place) (n b : ℕ) (k : Hand) (s : Port) → Hurt p n b k s → Calm k.memory s.target
 hurt_calm p n b k s h = written_calm h.back b k s (back_written p h.back k.task k.aims h.confirms) h.has
 
@@ -98,103 +45,22 @@ spoilt_calm p b k s h = written_calm h.back b k s (back_written p h.back k.task 
 -- AN ACCESS PORT'S REQUESTS HAVE POWER
 hurt_power : (p : Place) (n b : ℕ) (k : Hand) (s : Port) → Hurt p n b k s
     → (request_for (At p) k.task).ap ≡ true → has_power s.target ≡ true
-hurt_power Recall n b k s h e =
-    let is : h.back ≡ Configure = (let c = h.confirms in cc) in
-    let has : Has Configure b k s.target = subst (λ x. Has x b k s.target) is h.has in has_debug s.target has.debug has.seen
-hurt_power Transfer n b k s h e =
-    let has : Has Aim b k s.target = subst (λ x. Has x b k s.target)
-    (aim_confirmed k.aims h.back h.confirms) h.has in has_debug s.target has.up.debug has.up.seen
-hurt_power Identify n b k s h e = absurd (cc)
-hurt_power Wipe n b k s h e = absurd (cc)
-hurt_power Inspect n b k s h e = absurd (cc)
-hurt_power Select n b k s h e = absurd (cc)
-hurt_power Power n b k s h e = absurd (cc)
-hurt_power Powered n b k s h e = absurd (cc)
-hurt_power Configured n b k s h e = absurd (cc)
-hurt_power Confirm n b k s h e =
-    let has : Has Transfer b k s.target = subst (λ x. Has x b k s.target)
-    (transfer_confirmed k.task h.back h.confirms) h.has in has_debug s.target has.up.debug has.up.seen
-hurt_power Configure n b k s h e = absurd (let c = h.confirms in cc)
-hurt_power Aim n b k s h e = absurd (let c = h.confirms in cc)
-hurt_power Behind n b k s h e = absurd (let c = h.confirms in cc)
+hurt_power p n b k s h e = grind arith
 
 -- REGISTERS
-drw_there : (a : Task) → register no_select (request_for (At Transfer) a) ≡ drw_register a
-drw_there (Read at) = refl
-drw_there (BurstRead at) = refl
-drw_there (Write at word) = refl
-drw_there (BurstWrite at word) = refl
-
-confirming_there : (a : Task) → register no_select (request_for (At Confirm) a) ≡ confirming_register a
-confirming_there (Read at) = refl
-confirming_there (BurstRead at) = refl
-confirming_there (Write at word) = refl
-confirming_there (BurstWrite at word) = refl
-
 there : (p : Place) (a : Task) → register no_select (request_for (At p) a) ≡ register_at p a
-there Transfer a = drw_there a
-there Confirm a = confirming_there a
-there Identify a = refl
-there Wipe a = refl
-there Inspect a = refl
-there Select a = refl
-there Power a = refl
-there Powered a = refl
-there Configure a = refl
-there Recall a = refl
-there Configured a = refl
-there Aim a = refl
-there Behind a = refl
+there p a = grind arith
 
+-- the register that the request of a place reaches
 pub register_there : (p : Place) (a : Task) (s : Port) → s.target.select ≡ no_select
     → register s.target.select (request_for (At p) a) ≡ register_at p a
 register_there p a s e = ap (λ x. register x (request_for (At p) a)) e ∙ there p a
 
-not_exempt_drw : (a : Task) → is_exempt (drw_register a) ≡ false
-not_exempt_drw (Read at) = refl
-not_exempt_drw (BurstRead at) = refl
-not_exempt_drw (Write at word) = refl
-not_exempt_drw (BurstWrite at word) = refl
-
-not_exempt_confirming : (a : Task) → is_exempt (confirming_register a) ≡ false
-not_exempt_confirming (Read at) = refl
-not_exempt_confirming (BurstRead at) = refl
-not_exempt_confirming (Write at word) = refl
-not_exempt_confirming (BurstWrite at word) = refl
-
+-- a place that may be answered WAIT or FAULT asks for a register that may be
 pub not_exempt : (p : Place) (a : Task) → is_exempt_place p ≡ false → is_exempt (register_at p a) ≡ false
-not_exempt Transfer a e = not_exempt_drw a
-not_exempt Identify a e = absurd (cc)
-not_exempt Wipe a e = absurd (cc)
-not_exempt Inspect a e = absurd (cc)
-not_exempt Powered a e = absurd (cc)
-not_exempt Select a e = refl
-not_exempt Power a e = refl
-not_exempt Configure a e = refl
-not_exempt Recall a e = refl
-not_exempt Configured a e = refl
-not_exempt Aim a e = refl
-not_exempt Confirm a e = not_exempt_confirming a
-not_exempt Behind a e = refl
+not_exempt p a e = grind arith
 
 -- WHAT WAS DAMAGED
-frame_refl : (s : Port) → Frame s s
-frame_refl s = record {
-  reset = refl;
-  select = refl;
-  pending = refl;
-  memory = refl;
-  tar = refl;
-  debug = refl;
-  system = refl;
-  seen = λ e. e;
-  increments = refl;
-  upper = refl;
-  buffer = refl;
-  last_returned = refl;
-  identification = refl;
-}
-
 pub hurt_asked : (p : Place) (n : ℕ) (base : Counted) (b c : ℕ) (k : Hand) (v : ℕ) (s t : Port)
     → is_exempt_place p ≡ false → b ≤ c → base.lost ≤ s.tally.lost → Hurt p n b k s
     → Asks s (request_for (At p) k.task) v t → Came (At p) n base c k v t
@@ -215,37 +81,12 @@ hurt_asked p n base b c k v s t plain g l h asks =
           });
     })
 
--- WHAT AN OK LEAVES
-calm_accepts : (m : PlainMemory) (r : Register) (read : Bool) (flip : Option ℕ) (s t : Port)
-    → pending_once_read r s.target.pending ≡ s.target.pending → Accepts r read flip s t → Calm m s.target
-    → Calm m t.target
-calm_accepts m r read flip s t p a h = record {
-  live = a.live;
-  select = (ap (λ i. i.select) a.target) ∙ h.select;
-  pending = ap (λ i. i.pending) a.target ∙ (p ∙ h.pending);
-  memory = (ap (λ i. i.memory) a.target) ∙ h.memory;
-  sticky = ap (λ i. i.sticky_error) a.target ∙ h.sticky;
-}
-
-up_accepts : (m : PlainMemory) (r : Register) (read : Bool) (flip : Option ℕ) (s t : Port)
-    → pending_once_read r s.target.pending ≡ s.target.pending → Accepts r read flip s t → Up m s.target
-    → Up m t.target
-up_accepts m r read flip s t p a h = record {
-  calm = calm_accepts m r read flip s t p a h.calm;
-  debug =
-      (ap (λ i. i.debug_power) a.target) ∙ h.debug;
-  system = (ap (λ i. i.system_power) a.target) ∙ h.system;
-  seen = seen_accepts a h.seen;
-  increments = (ap (λ i. i.increments) a.target) ∙ h.increments;
-}
-
 -- SURE WRITES
 module _ (p : Place) (n : ℕ) (base : Counted) (b c : ℕ) (k : Hand) (v : ℕ) (s t : Port) where
   pub write_asked : (r : Register) → register_at p k.task ≡ r → (request_for (At p) k.task).read ≡ false
-      → is_exempt r ≡ false → is_posted r ≡ false → is_exempt_place p ≡ false → is_wipe p ≡ false → r ≢ DrwRead
-      → b ≤ c → Calm k.memory s.target → ((request_for (At p) k.task).ap ≡ true
-      → has_power s.target ≡ true) → base.lost ≤ s.tally.lost
-      → Sure p n b k s → Asks s (request_for (At p) k.task) v t
+      → is_exempt r ≡ false → is_posted r ≡ false → is_exempt_place p ≡ false → is_wipe p ≡ false → r ≢ DrwRead → b ≤ c
+      → Calm k.memory s.target → ((request_for (At p) k.task).ap ≡ true → has_power s.target ≡ true)
+      → base.lost ≤ s.tally.lost → Sure p n b k s → Asks s (request_for (At p) k.task) v t
       → (Writes r n (λ x. Sure p x c k t) t → During (At p) n c k t) → Came (At p) n base c k v t
   write_asked r reg writes ex posted plain wipe nodrw g calm power l h asks go =
       let sure : (n' : ℕ) → Frame s t → Same s t → n' + s.tally.disturbed ≤ n + t.tally.disturbed → Sure p n' c k t =
@@ -308,15 +149,7 @@ identify_asked n base b k v s t l h asks =
 -- CSW is read: its word goes to the read buffer
 recalled : (n b : ℕ) (k : Hand) (s t : Port) (flip : Option ℕ) → Sure Recall n b k s
     → Accepts CswRead true flip s t → s.tally.disturbed ≤ t.tally.disturbed → Sure Configured n b k t
-recalled n b k s t flip h a more = record {
-  has = record {
-    up = up_accepts k.memory CswRead true flip s t refl a h.has.up;
-    buffer = ap (λ i. i.buffer) a.target ∙ (ap (λ x. Some (csw_read x s.target.csw_upper)) h.has.up.increments
-        ∙ ap (λ x. Some (csw_read true x)) h.has.upper);
-  };
-  flag = λ w. (ap (λ i. i.write_error) a.target) ∙ h.flag refl;
-  paid = omega (arith, h.paid);
-}
+recalled n b k s t flip h a more = grind arith
 
 pub recall_asked : (n : ℕ) (base : Counted) (b : ℕ) (k : Hand) (v : ℕ) (s t : Port) → base.lost ≤ s.tally.lost
     → Sure Recall n b k s → Asks s (request_for (At Recall) k.task) v t → Came (At Recall) n base b k v t
@@ -324,7 +157,8 @@ recall_asked n base b k v s t l h asks =
     let calm : Calm k.memory s.target = h.has.up.calm in
     free_asked (At Recall) CswRead n base b b k v s t (request_for (At Recall) k.task)
     (register_there Recall k.task s calm.select) refl (λ e. absurd (cc)) calm.live calm.pending
-    (h.flag refl) calm.sticky (λ e. has_debug s.target h.has.up.debug h.has.up.seen) l (omega arith) (has_within Recall b k s h.has) h.paid asks
+    (h.flag refl) calm.sticky (λ e. has_debug s.target h.has.up.debug h.has.up.seen) l (omega arith)
+    (has_within Recall b k s h.has) h.paid asks
     (λ flip sp a more. recalled n b k s t flip h a more)
     refl (λ f e d. inl (sure_framed n (n + 1) b k s t f e (omega arith) Recall h))
 
@@ -332,12 +166,7 @@ recall_asked n base b k v s t l h asks =
 configured_word : (n n' : ℕ) (b : ℕ) (k : Hand) (s t : Port) (flip : Option ℕ)
     → n' + s.tally.disturbed ≤ n + t.tally.disturbed → Sure Configured n b k s → Accepts RdbuffRead true flip s t
     → Resent Configured csw_word_read n' b k t
-configured_word n n' b k s t flip more h a = record {
-  returned = (up_accepts k.memory RdbuffRead true flip s t refl a h.has.up, refl);
-  last = (buffer_returned RdbuffRead flip csw_word_read s t refl h.has.buffer a).1;
-  flag = (ap (λ i. i.write_error) a.target) ∙ h.flag refl;
-  paid = omega (arith, h.paid);
-}
+configured_word n n' b k s t flip more h a = grind arith
 
 pub configured_asked : (n : ℕ) (base : Counted) (b : ℕ) (k : Hand) (v : ℕ) (s t : Port) → base.lost ≤ s.tally.lost
     → Sure Configured n b k s → Asks s (request_for (At Configured) k.task) v t → Came (At Configured) n base b k v t

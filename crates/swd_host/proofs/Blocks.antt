@@ -1,78 +1,24 @@
 -- Blocks of reads: a word is given while the next read is under way.
-use Rattle.std.proofs.Common.{◌≡◌, ◌≢◌, ◌+◌, ◌%◌, ◌^◌, ◌≤◌, ◌<◌, ℕ, true, false, refl, sym, ap, subst}
-use Rattle.std.proofs.Common.{arith, ◌∙◌}
-use Rattle.std.specs.Prelude.{Option, Some, None}
-use Rattle.swd_bits.specs.declared.request.Request.{Request}
-use Rattle.swd_port.specs.declared.access.Access.TheVariants.{Read as AccessRead}
-use Rattle.swd_port.specs.declared.access.Answer.TheVariants.{Value}
-use Rattle.swd_port.specs.PlainMemory.{plain_answer, answer_of, address, word_at}
-use Rattle.swd_port.specs.Port.{Port, register}
-use Rattle.swd_port.specs.declared.register.Register.TheVariants.{DrwRead, ResendRead}
-use Rattle.swd_port.specs.Completion.{Completes}
-use Rattle.swd_port.specs.Asking.{Asks}
-use Rattle.swd_port.specs.Outcomes.{Accepts, Spares}
-use Rattle.swd_port.specs.Transfers.{Succeeded, Aimed, Buffered}
+use Rattle.swd_host.proofs.Words.{◌≡◌, ◌+◌, ◌≤◌, ℕ, true, false, refl, sym, ap, subst, arith, ◌∙◌, Option, Some, None}
+use Rattle.swd_host.proofs.Words.{Request, AccessRead, Value, plain_answer, answer_of, word_at, Port, register, DrwRead}
+use Rattle.swd_host.proofs.Words.{ResendRead, Completes, Asks, Accepts, Spares, Succeeded, Buffered, BurstRead, Ahead}
+use Rattle.swd_host.proofs.Words.{Unsent, NextSent, NextFailed, Place, Configured, Confirm, Behind, At, Resend}
+use Rattle.swd_host.proofs.Words.{access_of, is_block, request_for, confirming_register, Hand, Counted, Under, Sure}
+use Rattle.swd_host.proofs.Words.{Resent, Confirms, Reads, whole, changed, by_error, next_error, FaultedAt, Within}
+use Rattle.swd_host.proofs.Words.{memory_once_done, next_hand, DoneBy, ahead_of, IsTask}
 use Rattle.swd_port.proofs.RequestLaws.{confirming_request}
 use Rattle.swd_port.proofs.StatusLaws.{buffer_returned, value_resent}
-use Rattle.swd_port.proofs.CompletionLaws.{none_done, kept as kept_by, read_begins, aimed_by_transfer}
-use Rattle.swd_host.specs.declared.task.Task.TheVariants.{BurstRead}
-use Rattle.swd_host.specs.declared.engine.Ahead.{Ahead}
-use Rattle.swd_host.specs.declared.engine.Ahead.TheVariants.{Unsent, Sent as NextSent, Failed as NextFailed}
-use Rattle.swd_host.specs.declared.request.Place.{Place}
-use Rattle.swd_host.specs.declared.request.Place.TheVariants.{Identify, Wipe, Inspect, Select, Power, Powered}
-use Rattle.swd_host.specs.declared.request.Place.TheVariants.{Configure, Recall, Configured, Aim, Transfer, Confirm}
-use Rattle.swd_host.specs.declared.request.Place.TheVariants.{Behind}
-use Rattle.swd_host.specs.declared.request.Job.TheVariants.{At, Resend}
-use Rattle.swd_host.specs.Tasks.{access_of, is_block}
-use Rattle.swd_host.specs.Requests.{request_for, confirming_register}
-use Rattle.swd_host.specs.Tracks.{Hand, Counted, Under, Sure, Returned, Resent, Confirms, Reads}
-use Rattle.swd_port.specs.Registers.{no_select}
-use Rattle.swd_host.specs.Tracks.{whole, changed, by_error, next_error, FaultedAt, Within, memory_once_done, next_hand}
-use Rattle.swd_host.specs.Tracks.{DoneBy, ahead_of, IsTask}
+use Rattle.swd_port.proofs.CompletionLaws.{kept as kept_by}
 use Rattle.swd_host.proofs.Frames.{Frame, Same, frame_waits, same_waits, frame_accepts, same_accepts, resent_framed}
-use Rattle.swd_host.proofs.Frames.{within_next, within_sent, within_done, seen_accepts}
+use Rattle.swd_host.proofs.Frames.{within_next, within_sent, within_done}
 use Rattle.swd_host.proofs.Asked.{Came, reads_from}
 use Rattle.swd_host.proofs.Asks.{resend_rested}
 use Rattle.swd_host.proofs.Transfers.{under_stays, confirming_came, confirm_came}
 
 -- WHAT STAYS WHILE A TRANSFER TAKES EFFECT
-rested_stays : (P : Port → Type 0) (s t : Port) → s.target.pending ≡ None → Completes s t → P s → P t
-rested_stays P s t rest done h = subst P (sym (none_done s t rest done)) h
-
-done_stays : (ahead : Ahead) (b : ℕ) (k : Hand) (s t : Port) → Completes s t → DoneBy ahead b k s.target
-    → DoneBy ahead b k t.target
-done_stays Unsent b k s t c h = rested_stays (λ x. DoneBy Unsent b k x.target) s t h.up.calm.pending c h
-done_stays NextSent b k s t c h =
-    (h.0, (h.1.0, under_stays 1 (next_hand k.task (memory_once_done k)) s t c h.1.1))
-done_stays NextFailed b k s t c h = rested_stays (λ x. DoneBy NextFailed b k x.target) s t h.1.1.calm.pending c h
-
-returned_stays : (p : Place) (word b : ℕ) (k : Hand) (s t : Port) → Completes s t → Returned p word b k s.target
-    → Returned p word b k t.target
-returned_stays Configured word b k s t c h =
-    rested_stays (λ x. Returned Configured word b k x.target) s t h.0.calm.pending c h
-returned_stays Confirm word b k s t c h = (done_stays (ahead_of k.task) b k s t c h.0, h.1)
-returned_stays Behind word b k s t c h = (done_stays NextFailed b k s t c h.0, h.1)
-returned_stays Identify word b k s t c h = absurd h
-returned_stays Wipe word b k s t c h = absurd h
-returned_stays Inspect word b k s t c h = absurd h
-returned_stays Select word b k s t c h = absurd h
-returned_stays Power word b k s t c h = absurd h
-returned_stays Powered word b k s t c h = absurd h
-returned_stays Configure word b k s t c h = absurd h
-returned_stays Recall word b k s t c h = absurd h
-returned_stays Aim word b k s t c h = absurd h
-returned_stays Transfer word b k s t c h = absurd h
-
 pub resent_stays : (p : Place) (word n b : ℕ) (k : Hand) (s t : Port) → Completes s t → Resent p word n b k s
     → Resent p word n b k t
-resent_stays p word n b k s t c h =
-    let kp = kept_by s t c in
-    record {
-      returned = returned_stays p word b k s t c h.returned;
-      last = kp.last_returned ∙ h.last;
-      flag = kp.write_error ∙ h.flag;
-      paid = omega (arith, ap (λ i. i.disturbed) kp.tally, h.paid);
-    }
+resent_stays p word n b k s t c h = grind arith
 
 reads_stay : (p : Place) (word n b : ℕ) (k : Hand) (s t : Port) → Completes s t
     → Reads word n (λ c. Resent p word c b k s) s → Reads word n (λ c. Resent p word c b k t) t
@@ -82,9 +28,6 @@ reads_stay p word n b k s t c (changed place line small h) =
     changed place (ap (λ i. i.line) (kept_by s t c).link ∙ line) small (resent_stays p word (n + 1) b k s t c h)
 
 -- THE DRW READ OF THE NEXT ACCESS
-inside_kilobyte : (at : ℕ) → at % 4 ≡ 0 → at % 1024 < 1020 → (at + 4) % 1024 ≢ 0
-inside_kilobyte at aligned below e = omega arith
-
 module _ (at n c : ℕ) (k : Hand) (x y : Port) (flip : Option ℕ) (task : k.task ≡ BurstRead at) (ok : IsTask
     (BurstRead at))
     (two : 2 ≤ c) (u : Under c k x.target) (d : Succeeded (access_of k.task) k.memory x.target)
@@ -92,36 +35,27 @@ module _ (at n c : ℕ) (k : Hand) (x y : Port) (flip : Option ℕ) (task : k.ta
   access_here : access_of k.task ≡ AccessRead at
   access_here = ap access_of task
 
-  next_aimed : Aimed (address (access_of k.task) + 4) (memory_once_done k) x.target
-  next_aimed = aimed_by_transfer (access_of k.task) k.memory x.target d u.increments
-      (ap (λ a. address a % 4) access_here ∙ ok.0.1) (subst (λ a. address a < 2 ^ 32) (sym access_here) ok.0.0)
-      (subst (λ a. (address a + 4) % 1024 ≢ 0) (sym access_here) (inside_kilobyte at ok.0.1 ok.1))
-
+  -- the next read is under way
   next_under : Under 1 (next_hand k.task (memory_once_done k)) y.target
-  next_under = record {
-    live = ac.live;
-    select = ap (λ i. i.select) ac.target ∙ u.select;
-    debug = ap (λ i. i.debug_power) ac.target ∙ u.debug;
-    system = ap (λ i. i.system_power) ac.target ∙ u.system;
-    seen = seen_accepts ac u.seen;
-    increments = ap (λ i. i.increments) ac.target ∙ u.increments;
-    begun = omega arith;
-    sent = read_begins (address (access_of k.task) + 4) (memory_once_done k) flip x y next_aimed ac;
-  }
+  next_under = grind arith
 
   block_here : is_block k.task ≡ true
   block_here = ap is_block task
 
+  -- the access in hand is done, and the next one sent
   next_sent : DoneBy (ahead_of k.task) c k y.target
   next_sent = subst (λ a. DoneBy a c k y.target) (sym (ap ahead_of task)) (two, (block_here, next_under))
 
+  -- the memory is one that both allow
   pub next_within : Within c k y.target
   next_within = within_next c k y two block_here
       (within_sent 1 (next_hand k.task (memory_once_done k)) y (omega arith) next_under.sent)
 
+  -- the word that the access in hand answers
   given : plain_answer (access_of k.task) k.memory ≡ Value (word_at at k.memory)
   given = d.answer ∙ ap (λ a. answer_of a k.memory) access_here
 
+  -- the read buffer has it
   held : x.target.buffer ≡ Some (word_at at k.memory)
   held = subst (λ a. Buffered a k.memory x.target) access_here d.buffered
 
@@ -224,35 +158,4 @@ resend_asked Confirm word n base b k v s t l h asks =
     done_resend_asked (ahead_of k.task) word n base b k v s t l h.returned.0 h asks
 resend_asked Behind word n base b k v s t l h asks =
     resend_rested Behind word n base b k v _ s t l h.returned.0.1.1.calm h asks
-resend_asked Identify word n base b k v s t l h asks = absurd h.returned
-resend_asked Wipe word n base b k v s t l h asks = absurd h.returned
-resend_asked Inspect word n base b k v s t l h asks = absurd h.returned
-resend_asked Select word n base b k v s t l h asks = absurd h.returned
-resend_asked Power word n base b k v s t l h asks = absurd h.returned
-resend_asked Powered word n base b k v s t l h asks = absurd h.returned
-resend_asked Configure word n base b k v s t l h asks = absurd h.returned
-resend_asked Recall word n base b k v s t l h asks = absurd h.returned
-resend_asked Aim word n base b k v s t l h asks = absurd h.returned
-resend_asked Transfer word n base b k v s t l h asks = absurd h.returned
-
--- SELECT
-done_select : (ahead : Ahead) (b : ℕ) (k : Hand) (s : Port) → DoneBy ahead b k s.target → s.target.select ≡ no_select
-done_select Unsent b k s h = h.up.calm.select
-done_select NextSent b k s h = h.1.1.select
-done_select NextFailed b k s h = h.1.1.calm.select
-
-pub returned_select : (p : Place) (word b : ℕ) (k : Hand) (s : Port) → Returned p word b k s.target
-    → s.target.select ≡ no_select
-returned_select Configured word b k s h = h.0.calm.select
-returned_select Confirm word b k s h = done_select (ahead_of k.task) b k s h.0
-returned_select Behind word b k s h = done_select NextFailed b k s h.0
-returned_select Identify word b k s h = absurd h
-returned_select Wipe word b k s h = absurd h
-returned_select Inspect word b k s h = absurd h
-returned_select Select word b k s h = absurd h
-returned_select Power word b k s h = absurd h
-returned_select Powered word b k s h = absurd h
-returned_select Configure word b k s h = absurd h
-returned_select Recall word b k s h = absurd h
-returned_select Aim word b k s h = absurd h
-returned_select Transfer word b k s h = absurd h
+resend_asked _ word n base b k v s t l h asks = absurd h.returned

@@ -1,44 +1,26 @@
 -- Going on after a lost acknowledgement: each request of the opening keeps what is known, until SELECT's OK tells that
 -- nothing is pending any more.
-use Rattle.std.proofs.Common.{◌≡◌, ◌≢◌, ◌+◌, ◌%◌, ◌≤◌, ℕ, Bool, true, false, refl, sym, ap, subst, inl, inr}
-use Rattle.std.proofs.Common.{arith, ◌∙◌}
-use Rattle.std.specs.Prelude.{Option, None, ◌⊎◌}
-use Rattle.swd_bits.specs.declared.request.Request.{Request}
-use Rattle.swd_port.specs.Port.{Port, register}
-use Rattle.swd_port.specs.declared.register.Register.{Register}
-use Rattle.swd_port.specs.declared.register.Register.TheVariants.{DpidrRead, AbortWrite, CtrlStatRead, SelectWrite}
-use Rattle.swd_port.specs.declared.register.Register.TheVariants.{DrwRead}
-use Rattle.swd_port.specs.declared.state.Reset.TheVariants.{Live}
-use Rattle.swd_port.specs.Answers.{is_exempt}
-use Rattle.swd_port.specs.Asking.{Asks, is_posted, status_in}
-use Rattle.swd_port.specs.Completion.{Completes}
+use Rattle.swd_host.proofs.Words.{◌≡◌, ◌≢◌, ◌+◌, ◌%◌, ◌≤◌, ℕ, Bool, true, false, refl, sym, ap, subst, inl, inr, arith}
+use Rattle.swd_host.proofs.Words.{◌∙◌, Option, None, ◌⊎◌, Request, Port, register, Register, DpidrRead, AbortWrite}
+use Rattle.swd_host.proofs.Words.{CtrlStatRead, SelectWrite, DrwRead, Live, is_exempt, Asks, is_posted, status_in}
+use Rattle.swd_host.proofs.Words.{Completes, Stays, Accepts, Spares, okay, wait, fault, lost, OnLine, Flags, Identify}
+use Rattle.swd_host.proofs.Words.{Wipe, Inspect, Select, Job, At, Status, Clear, Check, Task, flags_in, request_for}
+use Rattle.swd_host.proofs.Words.{Counted, Reads, Writes, no_select, ComesFrom, Glimpsed, Shows, Anywhere, Resettled}
+use Rattle.swd_host.proofs.Words.{Woken, Wiped, clean, hurt, Met, Clearing, Cleared, EarlyBefore, Settled, IsOver}
+use Rattle.swd_host.proofs.Words.{EarlyDuring, EarlySaw}
 use Rattle.swd_port.specs.Moves.{Kept}
-use Rattle.swd_port.specs.Outcomes.{Stays, Accepts, Spares, okay, wait, fault, lost}
-use Rattle.swd_port.specs.Laws.WordsRead.{OnLine}
 use Rattle.swd_port.proofs.CompletionLaws.{none_done, kept as kept_by}
 use Rattle.swd_port.proofs.RequestLaws.{exempt_request, identification_read, free_request, lost_request}
 use Rattle.swd_port.proofs.StatusLaws.{status_returned, identification_returned}
-use Rattle.swd_host.specs.declared.flags.Flags.{Flags}
-use Rattle.swd_host.specs.declared.request.Place.TheVariants.{Identify, Wipe, Inspect, Select, Power, Powered}
-use Rattle.swd_host.specs.declared.request.Place.TheVariants.{Configure, Recall, Configured, Aim, Transfer, Confirm}
-use Rattle.swd_host.specs.declared.request.Place.TheVariants.{Behind}
-use Rattle.swd_host.specs.declared.request.Job.{Job}
-use Rattle.swd_host.specs.declared.request.Job.TheVariants.{At, Resend, Status, LastStatus, Clear, Check}
-use Rattle.swd_host.specs.declared.task.Task.{Task}
-use Rattle.swd_host.specs.Flags.{flags_in}
-use Rattle.swd_host.specs.Requests.{request_for}
-use Rattle.swd_host.specs.Tracks.{Counted, Reads, Writes}
-use Rattle.swd_port.specs.Registers.{no_select}
-use Rattle.swd_host.specs.Early.{ComesFrom, Glimpsed, Shows, Anywhere, Resettled, Woken, Wiped, clean, hurt, Inspected}
-use Rattle.swd_host.specs.Early.{Met, Clearing, Cleared, EarlyBefore, Settled, IsOver, EarlyDuring, EarlyLost}
-use Rattle.swd_host.specs.Early.{EarlySaw, early_okay, early_wait, early_fault, early_none}
+use Rattle.swd_host.specs.Early.{Inspected, EarlyLost, early_okay, early_wait, early_fault, early_none}
 use Rattle.swd_host.proofs.Frames.{Frame, Same, frame_same, frame_accepts, same_accepts, frame_waits, same_waits}
 use Rattle.swd_host.proofs.Frames.{frame_refuses, same_refuses}
 use Rattle.swd_host.proofs.Asked.{reads_from, writes_from}
-use Rattle.swd_host.proofs.EarlyFrames.{comes_stays, comes_same, comes_carried, come_at_rest, none_stays, quiet_met, any_stays}
-use Rattle.swd_host.proofs.EarlyFrames.{woken_stays, early_stays, early_carried, wiped_woken, cleared_woken}
+use Rattle.swd_host.proofs.EarlyFrames.{comes_stays, comes_same, comes_carried, come_at_rest, none_stays, quiet_met}
+use Rattle.swd_host.proofs.EarlyFrames.{any_stays, woken_stays, early_stays, early_carried, wiped_woken, cleared_woken}
 use Rattle.swd_host.proofs.EarlyFrames.{cleared_rests}
 
+-- what a phase was spared stays so while nothing more is disturbed
 spares_later : (flip : Option ℕ) (a b t : Port) → t.tally.disturbed ≡ b.tally.disturbed → Spares flip a b
     → Spares flip a t
 spares_later flip a b t e (inl n) = inl n
@@ -47,28 +29,19 @@ spares_later flip a b t e (inr (place, fits, some, more)) = inr (place, fits, so
 -- A REQUEST WITHOUT AN ACKNOWLEDGEMENT, whatever it did
 lost_comes : (r : Register) (read : Bool) (start s t : Port) → r ≢ DrwRead → Stays s t ⊎ Accepts r read None s t
     → ComesFrom start s → ComesFrom start t
-lost_comes r read start s t n h from =
-    let l = lost_request r read s t h in
-    let p : t.target.pending ≡ s.target.pending = elim l.2 [ inl e ↦ e | inr e ↦ absurd (n e) ] in
-    comes_same start s t p l.0.tar l.0.memory from
+lost_comes r read start s t n h from = grind (arith, comes_same, lost_request)
 
+-- SELECT stays where no acknowledgement was seen
 lost_select : (r : Register) (read : Bool) (s t : Port) → Stays s t ⊎ Accepts r read None s t
     → t.target.select ≡ s.target.select
 lost_select r read s t h = (lost_request r read s t h).0.select
 
+-- what is known where no acknowledgement was seen
 early_lost : (n : ℕ) (base : Counted) (start s a b t : Port) → Completes s a → Completes b t
     → s.target.select ≡ no_select → b.target.select ≡ a.target.select → n ≤ s.tally.disturbed
     → base.lost ≤ s.tally.lost → b.tally.disturbed ≡ a.tally.disturbed → b.tally.lost ≡ a.tally.lost + 1
     → ComesFrom start b → EarlyLost n base start t
-early_lost n base start s a b t first last select same paid l d more comes =
-    let k : Kept s a = kept_by s a first in
-    let j : Kept b t = kept_by b t last in
-    record {
-      comes = comes_stays start b t last comes;
-      more = omega (arith, ap (λ i. i.lost) k.tally, ap (λ i. i.lost) j.tally);
-      paid = omega (arith, ap (λ i. i.disturbed) k.tally, ap (λ i. i.disturbed) j.tally);
-      select = j.select ∙ (same ∙ (k.select ∙ select));
-    }
+early_lost n base start s a b t first last select same paid l d more comes = grind arith
 
 -- AN EXEMPT REQUEST
 exempt_early : (job : Job) (n : ℕ) (base : Counted) (stray : Bool) (start : Port) (v : ℕ) (s t : Port) (q : Request)
@@ -92,9 +65,7 @@ across : (job : Job) (n n' : ℕ) (stray : Bool) (start s y z t : Port) (r : Reg
     → n' + y.tally.disturbed ≤ n + z.tally.disturbed → EarlyBefore job n stray start s
     → EarlyBefore job n' stray start t
 across job n n' stray start s y z t r read flip plain live first a last more h =
-    early_stays job n' stray start z t last
-    (early_carried job n n' stray start y z (frame_accepts r read flip y z plain live a)
-    (same_accepts r read flip y z a) more (early_stays job n stray start s y first h))
+    search (arith, early_carried, early_stays, frame_accepts, same_accepts)
 
 module _ (job : Job) (n : ℕ) (stray : Bool) (start s y z t : Port) (flip : Option ℕ) (live : s.target.reset ≡ Live)
     (first : Completes s y) (sp : Spares flip y z) (more : y.tally.disturbed ≤ z.tally.disturbed) (last : Completes z t)
@@ -158,11 +129,13 @@ module _ (job : Job) (n : ℕ) (stray : Bool) (start s y z t : Port) (flip : Opt
         ];
       }
 
+-- an exempt request is none of DRW's
 no_drw : (r : Register) → is_exempt r ≡ true → r ≢ DrwRead
 no_drw r e = λ d. absurd (let f : is_exempt DrwRead ≡ true = subst (λ z. is_exempt z ≡ true) d e in cc)
 
 module _ (n : ℕ) (base : Counted) (stray : Bool) (start : Port) (v : ℕ) (s t : Port) (k : Task)
     (l : base.lost ≤ s.tally.lost) where
+  -- the register that a request reaches, SELECT being 0
   reached : (job : Job) → s.target.select ≡ no_select
       → register s.target.select (request_for job k) ≡ register no_select (request_for job k)
   reached job e = ap (λ z. register z (request_for job k)) e
@@ -220,9 +193,8 @@ module _ (n : ℕ) (base : Counted) (stray : Bool) (start : Port) (v : ℕ) (s t
       ))
 
   -- DPIDR wakes the target, whatever the flags and whatever is pending
-  woken_from : (n' : ℕ) (y z : Port) (flip : Option ℕ) → Completes s y → Accepts DpidrRead true flip y z
-      → Completes z t → n' + y.tally.disturbed ≤ n + z.tally.disturbed → Resettled n stray start s
-      → Woken n' stray start t
+  woken_from : (n' : ℕ) (y z : Port) (flip : Option ℕ) → Completes s y → Accepts DpidrRead true flip y z → Completes z t
+      → n' + y.tally.disturbed ≤ n + z.tally.disturbed → Resettled n stray start s → Woken n' stray start t
   woken_from n' y z flip first a last more h =
       let any : Anywhere n stray start y = any_stays n stray start s y first h.any in
       let pending : z.target.pending ≡ y.target.pending = ap (λ i. i.pending) a.target in
@@ -349,17 +321,4 @@ module _ (n : ℕ) (base : Counted) (stray : Bool) (start : Port) (v : ℕ) (s t
   ask_early (Status Select) h asks = ask_status h asks
   ask_early (Clear Select owed) h asks = ask_clear owed h asks
   ask_early (Check Select owed) h asks = ask_check owed h asks
-  ask_early (At Power) h asks = absurd h
-  ask_early (At Powered) h asks = absurd h
-  ask_early (At Configure) h asks = absurd h
-  ask_early (At Recall) h asks = absurd h
-  ask_early (At Configured) h asks = absurd h
-  ask_early (At Aim) h asks = absurd h
-  ask_early (At Transfer) h asks = absurd h
-  ask_early (At Confirm) h asks = absurd h
-  ask_early (At Behind) h asks = absurd h
-  ask_early LastStatus h asks = absurd h
-  ask_early (Resend p) h asks = absurd h
-  ask_early (Status p) h asks = absurd h
-  ask_early (Clear p owed) h asks = absurd h
-  ask_early (Check p owed) h asks = absurd h
+  ask_early _ h asks = absurd h

@@ -1,37 +1,18 @@
 -- Going on after a lost acknowledgement: each data phase, each turnaround and the line reset keep what is known.
-use Rattle.std.proofs.Common.{◌≡◌, ◌≢◌, ◌+◌, ◌%◌, ◌^◌, ◌<◌, ℕ, Bool, refl, sym, ap, subst, arith}
-use Rattle.std.proofs.Common.{◌∙◌, inl, inr}
-use Rattle.std.specs.Prelude.{Some, None, ◌⊎◌}
-use Rattle.swd_port.specs.Port.{Port}
-use Rattle.swd_port.specs.declared.register.Register.TheVariants.{AbortWrite}
-use Rattle.swd_port.specs.declared.state.Reset.{Reset}
-use Rattle.swd_port.specs.declared.state.Reset.TheVariants.{Unreset, Fresh, Live}
-use Rattle.swd_bits.specs.Phases.{phase_number, word_in}
-use Rattle.swd_port.specs.Moving.{Takes, Gives, Passes}
-use Rattle.swd_port.specs.Leading.{Leads}
-use Rattle.swd_port.specs.Moves.{Gave, Spoiled}
-use Rattle.swd_port.specs.Laws.WordsRead.{Clears}
-use Rattle.swd_port.proofs.CompletionLaws.{none_done, kept as kept_by}
-use Rattle.swd_port.proofs.MovingLaws.{data_taken, take_moves_nothing, turnaround_passed, data_given, line_reset}
+use Rattle.swd_host.proofs.Words.{◌≡◌, ◌≢◌, ◌+◌, ◌^◌, ◌<◌, ℕ, Bool, refl, sym, ap, subst, arith, ◌∙◌, inl, inr, Some}
+use Rattle.swd_host.proofs.Words.{None, ◌⊎◌, Port, AbortWrite, Reset, Unreset, Live, phase_number, word_in, Takes}
+use Rattle.swd_host.proofs.Words.{Gives, Gave, Spoiled, Clears, Flags, Identify, Wipe, Inspect, Select, Job, At, Status}
+use Rattle.swd_host.proofs.Words.{Clear, Check, Task, flags_in, clear_word, word_for, Reads, Writes, whole, changed}
+use Rattle.swd_host.proofs.Words.{Glimpsed, Shows, Woken, Wiped, clean, hurt, Met, Clearing, Cleared, gone, still}
+use Rattle.swd_host.proofs.Words.{EarlyBefore, EarlyDuring, EarlyTaken}
+use Rattle.swd_port.proofs.MovingLaws.{data_taken, take_moves_nothing, data_given}
 use Rattle.swd_port.proofs.StatusLaws.{flags_cleared}
-use Rattle.swd_host.specs.declared.flags.Flags.{Flags}
-use Rattle.swd_host.specs.declared.request.Place.TheVariants.{Identify, Wipe, Inspect, Select, Power, Powered}
-use Rattle.swd_host.specs.declared.request.Place.TheVariants.{Configure, Recall, Configured, Aim, Transfer, Confirm}
-use Rattle.swd_host.specs.declared.request.Place.TheVariants.{Behind}
-use Rattle.swd_host.specs.declared.request.Job.{Job}
-use Rattle.swd_host.specs.declared.request.Job.TheVariants.{At, Resend, Status, LastStatus, Clear, Check}
-use Rattle.swd_host.specs.declared.task.Task.{Task}
-use Rattle.swd_host.specs.Flags.{flags_in, clear_word}
-use Rattle.swd_host.specs.Requests.{word_for}
-use Rattle.swd_host.specs.Tracks.{Reads, Writes, whole, changed}
-use Rattle.swd_host.specs.Early.{Glimpsed, Shows, Anywhere, Resettled, Woken, Wiped, clean, hurt, Met, Clearing}
-use Rattle.swd_host.specs.Early.{Cleared, gone, still, EarlyBefore, EarlyDuring, EarlyWaiting, EarlyFaulted}
-use Rattle.swd_host.specs.Early.{EarlySent, EarlyTaken}
+use Rattle.swd_host.specs.Early.{EarlySent}
 use Rattle.swd_host.proofs.Frames.{Frame, frame_passed, same_passed, frame_abort, frame_spoiled}
 use Rattle.swd_host.proofs.Takes.{got_whole_of, got_changed_of}
 use Rattle.swd_host.proofs.Gives.{spells, whole_given, changed_given, clear_small, sticky_gone, write_gone}
-use Rattle.swd_host.proofs.EarlyFrames.{comes_same, none_stays, awaited_quiet, any_stays, woken_stays, early_stays}
-use Rattle.swd_host.proofs.EarlyFrames.{woken_carried, early_carried, cleared_rests}
+use Rattle.swd_host.proofs.EarlyFrames.{awaited_quiet, woken_stays, early_stays, woken_carried, early_carried}
+use Rattle.swd_host.proofs.EarlyFrames.{cleared_rests}
 
 -- DATA PHASES THAT ARE READ
 not_unreset : (r : Reset) → r ≡ Live → r ≢ Unreset
@@ -46,6 +27,7 @@ module _ (n : ℕ) (stray : Bool) (start : Port) (bits : ℕ) (s t : Port) (rang
         early_carried job c c stray start y t (frame_passed y t p) (same_passed y t p)
         (omega (arith, ap (λ i. i.disturbed) p.tally)) (early_stays job c stray start s y first h)
 
+    -- a word that was read is told whole, or has to come again
     take_early : (job : Job) (word : ℕ) (Q : ℕ → Type 0) → Reads word n Q s
         → (Q n → EarlyTaken job (Some word) n stray start t) → (Q (n + 1) → EarlyTaken job None n stray start t)
         → EarlyTaken job (word_in bits) n stray start t
@@ -56,20 +38,17 @@ module _ (n : ℕ) (stray : Bool) (start : Port) (bits : ℕ) (s t : Port) (rang
         subst (λ w. EarlyTaken job w n stray start t)
         (sym (got_changed_of place word bits (data_taken (Some place) word bits s t line small range takes))) (bad h)
 
+    -- WDATAERR stays over a data phase that is read
     write_passed : t.target.write_error ≡ s.target.write_error
-    write_passed =
-        let (y, first, p, idle) = take_moves_nothing bits s t takes in
-        ap (λ i. i.write_error) p.target ∙ (kept_by s y first).write_error
+    write_passed = grind arith
 
+    -- nothing pending stays so
     none_passed : s.target.pending ≡ None → t.target.pending ≡ None
-    none_passed e =
-        let (y, first, p, idle) = take_moves_nothing bits s t takes in
-        ap (λ i. i.pending) p.target ∙ none_stays s y first e
+    none_passed e = grind arith
 
+    -- STICKYERR stays, where nothing is pending
     sticky_passed : s.target.pending ≡ None → t.target.sticky_error ≡ s.target.sticky_error
-    sticky_passed e =
-        let (y, first, p, idle) = take_moves_nothing bits s t takes in
-        ap (λ i. i.sticky_error) p.target ∙ ap (λ z. z.target.sticky_error) (none_done s y e first)
+    sticky_passed e = grind arith
 
     take_identify : Reads s.target.identification n (λ c. Woken c stray start s) s
         → EarlyTaken (At Identify) (word_in bits) n stray start t
@@ -90,6 +69,7 @@ module _ (n : ℕ) (stray : Bool) (start : Port) (bits : ℕ) (s t : Port) (rang
         ))
         (λ w. read_keeps (At Inspect) (n + 1) w)
 
+    -- what CTRL/STAT said of the flags is still so
     shown : (word : ℕ) → s.target.pending ≡ None → Shows (flags_in word) s.target → Shows (flags_in word) t.target
     shown word none h = record { error = h.error ∙ sym (sticky_passed none); damaged = h.damaged ∙ sym write_passed }
 
@@ -111,23 +91,7 @@ module _ (n : ℕ) (stray : Bool) (start : Port) (bits : ℕ) (s t : Port) (rang
     read_early (At Inspect) task none h = take_inspect h.0 h.1 h.2
     read_early (Status Select) task none h = take_status h.0 h.1 h.2
     read_early (Check Select owed) task none h = take_check owed h.0 h.1 h.2
-    read_early (At Wipe) task none h = absurd (cc)
-    read_early (At Select) task none h = absurd (cc)
-    read_early (Clear Select owed) task none h = absurd (cc)
-    read_early (At Power) task none h = absurd h
-    read_early (At Powered) task none h = absurd h
-    read_early (At Configure) task none h = absurd h
-    read_early (At Recall) task none h = absurd h
-    read_early (At Configured) task none h = absurd h
-    read_early (At Aim) task none h = absurd h
-    read_early (At Transfer) task none h = absurd h
-    read_early (At Confirm) task none h = absurd h
-    read_early (At Behind) task none h = absurd h
-    read_early LastStatus task none h = absurd h
-    read_early (Resend p) task none h = absurd h
-    read_early (Status p) task none h = absurd h
-    read_early (Clear p owed) task none h = absurd h
-    read_early (Check p owed) task none h = absurd h
+    read_early _ task none h = grind arith
 
 -- DATA PHASES THAT ARE WRITTEN
 module _ (n : ℕ) (stray : Bool) (start : Port) (sent : ℕ) (s t : Port) (range : sent < 2 ^ 33) (gives : Gives s sent t)
@@ -181,98 +145,9 @@ module _ (n : ℕ) (stray : Bool) (start : Port) (sent : ℕ) (s t : Port) (rang
     phase_is : (word other : ℕ) → Some other ≡ Some word → sent ≡ phase_number word → sent ≡ phase_number other
     phase_is word other is e = e ∙ ap phase_number (let same : word ≡ other = cc in same)
 
-    pub given_early : (job : Job) (task : Task) (word : ℕ) → word_for job task ≡ Some word
-        → sent ≡ phase_number word → EarlyDuring job n stray start s
-        → (job ≡ At Select) ⊎ EarlySent job n stray start t
+    pub given_early : (job : Job) (task : Task) (word : ℕ) → word_for job task ≡ Some word → sent ≡ phase_number word
+        → EarlyDuring job n stray start s → (job ≡ At Select) ⊎ EarlySent job n stray start t
     given_early (At Wipe) task word is e h = inr (give_wipe (phase_is word 0x1e is e) h)
-    given_early (Clear Select owed) task word is e h =
-        inr (give_clear owed (phase_is word (clear_word owed) is e) h)
+    given_early (Clear Select owed) task word is e h = inr (give_clear owed (phase_is word (clear_word owed) is e) h)
     given_early (At Select) task word is e h = inl refl
-    given_early (At Identify) task word is e h = absurd (cc)
-    given_early (At Inspect) task word is e h = absurd (cc)
-    given_early (Status Select) task word is e h = absurd (cc)
-    given_early (Check Select owed) task word is e h = absurd (cc)
-    given_early (At Power) task word is e h = absurd h
-    given_early (At Powered) task word is e h = absurd h
-    given_early (At Configure) task word is e h = absurd h
-    given_early (At Recall) task word is e h = absurd h
-    given_early (At Configured) task word is e h = absurd h
-    given_early (At Aim) task word is e h = absurd h
-    given_early (At Transfer) task word is e h = absurd h
-    given_early (At Confirm) task word is e h = absurd h
-    given_early (At Behind) task word is e h = absurd h
-    given_early LastStatus task word is e h = absurd h
-    given_early (Resend p) task word is e h = absurd h
-    given_early (Status p) task word is e h = absurd h
-    given_early (Clear p owed) task word is e h = absurd h
-    given_early (Check p owed) task word is e h = absurd h
-
--- TURNAROUNDS AND THE LINE RESET
-before_passed : (job : Job) (n : ℕ) (stray : Bool) (start s t : Port) → Passes s t → EarlyBefore job n stray start s
-    → EarlyBefore job n stray start t
-before_passed job n stray start s t passes h =
-    let (y, first, p, line) = turnaround_passed s t passes in
-    early_carried job n n stray start y t (frame_passed y t p) (same_passed y t p)
-    (omega (arith, ap (λ i. i.disturbed) p.tally)) (early_stays job n stray start s y first h)
-
-pub waiting_early : (job : Job) (n : ℕ) (stray : Bool) (start s t : Port) → Passes s t
-    → EarlyWaiting job n stray start s → EarlyWaiting job n stray start t
-waiting_early (At Select) n x start s t passes h = before_passed (At Select) (n + 1) x start s t passes h
-waiting_early (At Identify) n x start s t passes h = absurd h
-waiting_early (At Wipe) n x start s t passes h = absurd h
-waiting_early (At Inspect) n x start s t passes h = absurd h
-waiting_early (At Power) n x start s t passes h = absurd h
-waiting_early (At Powered) n x start s t passes h = absurd h
-waiting_early (At Configure) n x start s t passes h = absurd h
-waiting_early (At Recall) n x start s t passes h = absurd h
-waiting_early (At Configured) n x start s t passes h = absurd h
-waiting_early (At Aim) n x start s t passes h = absurd h
-waiting_early (At Transfer) n x start s t passes h = absurd h
-waiting_early (At Confirm) n x start s t passes h = absurd h
-waiting_early (At Behind) n x start s t passes h = absurd h
-waiting_early LastStatus n x start s t passes h = absurd h
-waiting_early (Resend p) n x start s t passes h = absurd h
-waiting_early (Status p) n x start s t passes h = absurd h
-waiting_early (Clear p owed) n x start s t passes h = absurd h
-waiting_early (Check p owed) n x start s t passes h = absurd h
-
-pub faulted_early : (job : Job) (n : ℕ) (stray : Bool) (start s t : Port) → Passes s t
-    → EarlyFaulted job n stray start s → EarlyFaulted job n stray start t
-faulted_early (At Select) n x start s t passes h = before_passed (Status Select) n x start s t passes h
-faulted_early (At Identify) n x start s t passes h = absurd h
-faulted_early (At Wipe) n x start s t passes h = absurd h
-faulted_early (At Inspect) n x start s t passes h = absurd h
-faulted_early (At Power) n x start s t passes h = absurd h
-faulted_early (At Powered) n x start s t passes h = absurd h
-faulted_early (At Configure) n x start s t passes h = absurd h
-faulted_early (At Recall) n x start s t passes h = absurd h
-faulted_early (At Configured) n x start s t passes h = absurd h
-faulted_early (At Aim) n x start s t passes h = absurd h
-faulted_early (At Transfer) n x start s t passes h = absurd h
-faulted_early (At Confirm) n x start s t passes h = absurd h
-faulted_early (At Behind) n x start s t passes h = absurd h
-faulted_early LastStatus n x start s t passes h = absurd h
-faulted_early (Resend p) n x start s t passes h = absurd h
-faulted_early (Status p) n x start s t passes h = absurd h
-faulted_early (Clear p owed) n x start s t passes h = absurd h
-faulted_early (Check p owed) n x start s t passes h = absurd h
-
-fresh : (r : Reset) → r ≡ Fresh → r ≢ Unreset
-fresh r is there = absurd (cc)
-
-pub led_early : (n ones : ℕ) (stray : Bool) (start s t : Port) → ones ≢ 0 → Leads s ones t → Anywhere n stray start s
-    → Resettled n stray start t
-led_early n ones stray start s t some leads h =
-    let (y, first, g) = line_reset ones s t some leads in
-    let k : Anywhere n stray start y = any_stays n stray start s y first h in
-    let pending : t.target.pending ≡ y.target.pending = ap (λ i. i.pending) g.target in
-    record {
-      any = record {
-        select = ap (λ i. i.select) g.target ∙ k.select;
-        odd = ap (λ i. i.identification % 2) g.target ∙ k.odd;
-        comes = comes_same start y t pending (ap (λ i. i.tar) g.target) (ap (λ i. i.memory) g.target) k.comes;
-        awaited = elim k.awaited [ inl x ↦ inl x | inr p ↦ inr (pending ∙ p) ];
-        paid = omega (arith, ap (λ i. i.disturbed) g.tally, k.paid);
-      };
-      reset = fresh t.target.reset (ap (λ i. i.reset) g.target);
-    }
+    given_early _ task word is e h = grind arith

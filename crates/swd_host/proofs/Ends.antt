@@ -1,96 +1,32 @@
 -- What an outcome says of the memory.
-use Rattle.std.proofs.Common.{◌≡◌, ◌≢◌, ◌+◌, ◌%◌, ◌^◌, ◌<◌, ◌≤◌, ℕ, Bool, true, false, refl, sym, ap, subst, inl, inr}
-use Rattle.std.proofs.Common.{arith, ◌∙◌}
-use Rattle.std.specs.Prelude.{Some, None, ◌⊎◌, if◌then◌else◌, Result, Ok, Err}
-use Rattle.swd_port.specs.declared.access.Answer.{Answer}
-use Rattle.swd_port.specs.declared.access.Answer.TheVariants.{Written}
-use Rattle.swd_port.specs.declared.register.Register.TheVariants.{DrwWrite}
-use Rattle.swd_port.specs.PlainMemory.{PlainMemory, address, plain_answer, plain_after}
-use Rattle.swd_port.specs.Port.{Port}
-use Rattle.swd_port.specs.Choices.{Choice}
-use Rattle.swd_port.specs.Completion.{completed}
+use Rattle.swd_host.proofs.Words.{◌≡◌, ◌≢◌, ◌+◌, ◌%◌, ◌^◌, ◌<◌, ◌≤◌, ℕ, Bool, true, false, refl, sym, ap, subst, inl}
+use Rattle.swd_host.proofs.Words.{inr, arith, ◌∙◌, Some, ◌⊎◌, if◌then◌else◌, Answer, Written, DrwWrite, PlainMemory}
+use Rattle.swd_host.proofs.Words.{address, plain_answer, plain_after, Port, Choice, completed, End, All, Lost, Outcome}
+use Rattle.swd_host.proofs.Words.{Opened, Answered, Stopped, Task, BurstWrite, Confirm, At, Data, State, Doing, Resting}
+use Rattle.swd_host.proofs.Words.{Engine, access_of, is_burst, is_burst_write, is_ahead_in, is_ahead, begun_of}
+use Rattle.swd_host.proofs.Words.{finished_at, finished_of, is_state_of, Hand, Counted, Writes, whole, changed, Within}
+use Rattle.swd_host.proofs.Words.{Confirmed, Confirms, Tracks, Follows, hand_of, IsTask, DueAt, EndsAt, Poised, Waits}
 use Rattle.swd_port.proofs.CompletionLaws.{becomes_completed}
-use Rattle.swd_host.specs.declared.outcome.End.{End}
-use Rattle.swd_host.specs.declared.outcome.End.TheVariants.{All, Lost, TriesOut, WrongId, Confused}
-use Rattle.swd_host.specs.declared.outcome.Outcome.{Outcome}
-use Rattle.swd_host.specs.declared.outcome.Outcome.TheVariants.{Opened, Answered, Stopped}
-use Rattle.swd_host.specs.declared.task.Task.{Task}
-use Rattle.swd_host.specs.declared.task.Task.TheVariants.{Read, BurstRead, Write, BurstWrite}
-use Rattle.swd_host.specs.declared.request.Place.TheVariants.{Confirm}
-use Rattle.swd_host.specs.declared.request.Job.TheVariants.{At}
-use Rattle.swd_host.specs.declared.engine.Phase.TheVariants.{Data}
-use Rattle.swd_host.specs.declared.engine.State.{State}
-use Rattle.swd_host.specs.declared.engine.State.TheVariants.{Leading, Doing, Resting}
-use Rattle.swd_host.specs.declared.engine.Engine.{Engine}
-use Rattle.swd_host.specs.Tasks.{access_of, is_burst, is_burst_write}
-use Rattle.swd_host.specs.Engines.{is_ahead_at, is_ahead_in, is_ahead, begun_of, finished_at, finished_of}
-use Rattle.swd_host.specs.Progress.{is_state_of}
-use Rattle.swd_host.specs.Tracks.{Hand, Counted, Writes, whole, changed, Within, Finished, Confirmed, Confirms}
-use Rattle.swd_host.specs.Tracks.{StoppedAt, Rests, Tracks, Follows, hand_of, IsTask, DueAt}
-use Rattle.swd_host.specs.Turns.{opened_as}
-use Rattle.swd_host.specs.Reports.{EndsAt}
-use Rattle.swd_host.specs.Standing.{Poised, Waits}
-use Rattle.swd_host.proofs.Starts.{ahead_state, ahead_burst, ahead_write, single_block}
-use Rattle.swd_bits.specs.Bits.{bit}
+use Rattle.swd_host.specs.declared.outcome.End.TheVariants.{TriesOut}
+use Rattle.swd_host.specs.Tracks.{StoppedAt, Rests}
+use Rattle.swd_host.proofs.Starts.{ahead_state, ahead_burst, ahead_write}
 
 -- THE STATE IN WHICH AN OUTCOME CAME
-ahead_or : (ahead : Bool) (outcome : Outcome) → (if ahead then Some (Answered Written) else None) ≡ Some outcome
-    → (ahead ≡ true) × (outcome ≡ Answered Written)
-ahead_or true outcome h = (refl, cc)
-ahead_or false outcome h = absurd (cc)
-
 -- the engine rests at the outcome, or the access is answered by the next one's write
 pub outcome_case : (x : State) (task : Task) (outcome : Outcome) → finished_at x task ≡ Some outcome
     → (x ≡ Resting outcome) ⊎ ((is_ahead_in x task ≡ true) × (outcome ≡ Answered Written))
-outcome_case Leading task outcome h = absurd (cc)
-outcome_case (Doing job phase) task outcome h = inr (ahead_or (is_ahead_at job phase task) outcome h)
-outcome_case (Resting there) task outcome h = inl (let is : there ≡ outcome = cc in ap Resting is)
+outcome_case x task outcome h = grind arith
 
 pub stopped_state : (x : State) (task : Task) (end : End) → finished_at x task ≡ Some (Stopped end)
     → x ≡ Resting (Stopped end)
-stopped_state x task end h =
-    elim (outcome_case x task (Stopped end) h) [
-      | inl is ↦ is
-      | inr ahead ↦ absurd (let never = ahead.1 in cc)
-    ]
+stopped_state x task end h = grind arith
 
 pub not_opened : (x : State) (task : Task) → is_state_of false x ≡ true → finished_at x task ≡ Some Opened → ⊥
-not_opened x task access h =
-    elim (outcome_case x task Opened h) [
-      | inl is ↦ (let never : false ≡ true = sym (ap (is_state_of false) is) ∙ access in cc)
-      | inr ahead ↦ (let never = ahead.1 in cc)
-    ]
-
--- an outcome of the opening
-pub opening_state : (x : State) (task : Task) (outcome : Outcome) → is_state_of true x ≡ true
-    → finished_at x task ≡ Some outcome
-    → x ≡ Resting outcome
-opening_state x task outcome opening h =
-    elim (outcome_case x task outcome h) [
-      | inl is ↦ is
-      | inr ahead ↦
-          (let there : is_state_of true x ≡ false = ap (is_state_of true) (ahead_state x task ahead.0) in
-          absurd (let never : false ≡ true = sym there ∙ opening in cc))
-    ]
-
-opening_rests : (outcome : Outcome) → is_state_of true (Resting outcome) ≡ true
-    → ((end : End) → outcome ≡ Stopped end → ⊥)
-    → outcome ≡ Opened
-opening_rests Opened opening none = refl
-opening_rests (Answered answer) opening none = absurd (cc)
-opening_rests (Stopped end) opening none = absurd (none end refl)
+not_opened x task access h = grind arith
 
 pub opened_state : (x : State) (task : Task) (outcome : Outcome) → is_state_of true x ≡ true
-    → finished_at x task ≡ Some outcome
-    → ((end : End) → outcome ≡ Stopped end → ⊥) → x ≡ Resting Opened
-opened_state x task outcome opening h none =
-    let is : x ≡ Resting outcome = opening_state x task outcome opening h in
-    is ∙ ap Resting (opening_rests outcome (sym (ap (is_state_of true) is) ∙ opening) none)
-
-pub opened_default : (r : Result (Unit {0}) End) (x : State) → x ≡ opened_as r → ((end : End) → r ≡ Err end → ⊥)
-    → x ≡ Resting Opened
-opened_default (Ok u) x is none = is
-opened_default (Err end) x is none = absurd (none end refl)
+    → finished_at x task ≡ Some outcome → ((end : End) → outcome ≡ Stopped end → ⊥) → x ≡ Resting Opened
+opened_state x task outcome opening h none = grind arith
 
 -- what is known where the engine rests
 pub rests_there : (base : Counted) (m : PlainMemory) (f : Engine) (outcome : Outcome) (t : Port)
@@ -106,25 +42,13 @@ pub record Answers (answer : Answer) (base : Counted) (m : PlainMemory) (f : Eng
   pub begun : is_burst f.task ≡ false → f.begun ≡ 0
 
 answered_rests : (base : Counted) (m : PlainMemory) (answer : Answer) (f : Engine) (t : Port)
-    → f.state ≡ Resting (Answered answer)
-    → Follows base m f t → Answers answer base m f t
-answered_rests base m answer f t is h =
-    let n : ℕ = base.disturbed + f.events in
-    let x : Finished answer n f.begun (hand_of f m) t = rests_there base m f (Answered answer) t is h in
-    let k : Hand = hand_of f (plain_after (access_of f.task) m) in
-    record {
-      waits = subst (λ c. Waits c n k t) (sym (ap (λ y. is_ahead_in y f.task) is))
-          (record { up = x.up; known = x.known; flag = x.flag; paid = x.paid });
-      told = x.answered;
-      begun = λ single. x.begun ∙ ap bit (single_block f.task single);
-    }
+    → f.state ≡ Resting (Answered answer) → Follows base m f t → Answers answer base m f t
+answered_rests base m answer f t is h = grind arith
 
 burst_confirms : (task : Task) (n b : ℕ) (k : Hand) (s : Port) → is_burst_write task ≡ true → Confirms task n b k s
     → Writes DrwWrite n (λ c. Confirmed c b k s) s
-burst_confirms (Read at) n b k s burst h = absurd (cc)
-burst_confirms (BurstRead at) n b k s burst h = absurd (cc)
-burst_confirms (Write at word) n b k s burst h = absurd (cc)
 burst_confirms (BurstWrite at word) n b k s burst h = h
+burst_confirms _ n b k s burst h = absurd (cc)
 
 -- the ranges of a burst's address
 record Aligned (at : ℕ) : Type 0 where
@@ -133,21 +57,14 @@ record Aligned (at : ℕ) : Type 0 where
   below : at % 1024 < 1020
 
 burst_aligned : (task : Task) → is_burst_write task ≡ true → IsTask task → Aligned (address (access_of task))
-burst_aligned (Read at) burst h = absurd (cc)
-burst_aligned (BurstRead at) burst h = absurd (cc)
-burst_aligned (Write at word) burst h = absurd (cc)
 burst_aligned (BurstWrite at word) burst h = record { range = h.0.0; aligned = h.0.1; below = h.1 }
+burst_aligned _ burst h = absurd (cc)
 
 confirmed_poised : (n b : ℕ) (k : Hand) (s : Port) → Aligned (address (access_of k.task)) → Confirmed n b k s
     → Poised n (address (access_of k.task) + 4) (plain_after (access_of k.task) k.memory) s
-confirmed_poised n b k s at h = record {
-  up = h.done.up;
-  tar = h.done.advanced h.done.up.increments at.aligned at.range
-      (λ wraps. absurd (let below = at.below in let four = at.aligned in omega arith));
-  flag = h.flag;
-  paid = h.paid;
-}
+confirmed_poised n b k s at h = grind arith
 
+-- the next access's write is due where a burst's write was confirmed
 writes_poised : (n b : ℕ) (k : Hand) (s : Port) → Aligned (address (access_of k.task))
     → Writes DrwWrite n (λ c. Confirmed c b k s) s
     → Writes DrwWrite n (λ c. Poised c (address (access_of k.task) + 4) (plain_after (access_of k.task) k.memory) s) s
@@ -177,12 +94,7 @@ answered_ahead base m f t ahead h =
 
 pub answered_there : (base : Counted) (m : PlainMemory) (answer : Answer) (f : Engine) (t : Port)
     → finished_of f ≡ Some (Answered answer) → Follows base m f t → Answers answer base m f t
-answered_there base m answer f t is h =
-    elim (outcome_case f.state f.task (Answered answer) is) [
-      | inl there ↦ answered_rests base m answer f t there h
-      | inr ahead ↦ (let same : answer ≡ Written = (let e = ahead.1 in cc) in
-          subst (λ y. Answers y base m f t) (sym same) (answered_ahead base m f t ahead.0 h))
-    ]
+answered_there base m answer f t is h = grind (arith, answered_ahead, answered_rests, outcome_case)
 
 -- A STOP
 pub record Stops (end : End) (base : Counted) (tries n : ℕ) (b : ℕ) (k : Hand) (t : Port) : Type 0 where
@@ -193,8 +105,8 @@ pub record Stops (end : End) (base : Counted) (tries n : ℕ) (b : ℕ) (k : Han
       → t.target.identification % 2 ≡ 1 → DueAt (Resting (Stopped end)) stray task t.link.due → EndsAt end tries s t
   pub never : end ≢ All
 
-stops_by : (end : End) (n tries : ℕ) (base : Counted) (b : ℕ) (k : Hand) (t : Port)
-    → StoppedAt end n tries base b k t
+-- what each end says
+stops_by : (end : End) (n tries : ℕ) (base : Counted) (b : ℕ) (k : Hand) (t : Port) → StoppedAt end n tries base b k t
     → Stops end base tries n b k t
 stops_by Lost n tries base b k t h = record {
   within = h.within;
@@ -209,16 +121,12 @@ stops_by TriesOut n tries base b k t h = record {
   ends = λ s stray task fewer less odd due. (due, omega (arith, h.1), record { select = h.2; odd = odd });
   never = λ is. absurd (cc);
 }
-stops_by All n tries base b k t h = absurd h
-stops_by (WrongId word) n tries base b k t h = absurd h
-stops_by Confused n tries base b k t h = absurd h
+stops_by _ n tries base b k t h = absurd h
 
 pub stops_there : (base : Counted) (m : PlainMemory) (f : Engine) (end : End) (t : Port)
     → f.state ≡ Resting (Stopped end)
     → Follows base m f t → Stops end base f.tries (base.disturbed + f.events) f.begun (hand_of f m) t
-stops_there base m f end t is h =
-    stops_by end (base.disturbed + f.events) f.tries base f.begun (hand_of f m) t
-    (rests_there base m f (Stopped end) t is h)
+stops_there base m f end t is h = grind (arith, rests_there, stops_by)
 
 -- the memory once the transfer that was pending took effect
 pub later_memory : (b : ℕ) (k : Hand) (t : Port) (c : Choice) → (w : Within b k t.target)
@@ -232,8 +140,4 @@ begun_there f end is = ap (λ x. if is_ahead_in x f.task then 0 else f.begun) is
 pub stops_only : (end : End) (tries : ℕ) (s t : Port) → EndsAt end tries s t → t.tally.lost ≡ s.tally.lost
     → t.tally.disturbed ≤ s.tally.disturbed + tries → end ≡ All
 stops_only All tries s t h lost disturbed = refl
-stops_only Lost tries s t h lost disturbed = absurd (let more : s.tally.lost < t.tally.lost = h.1 in omega arith)
-stops_only TriesOut tries s t h lost disturbed =
-    absurd (let more : s.tally.disturbed + tries < t.tally.disturbed = h.1 in omega arith)
-stops_only (WrongId word) tries s t h lost disturbed = absurd h
-stops_only Confused tries s t h lost disturbed = absurd h
+stops_only _ tries s t h lost disturbed = grind arith

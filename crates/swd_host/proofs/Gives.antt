@@ -1,48 +1,29 @@
 -- Each data phase that is written keeps what the engine knows.
-use Rattle.std.proofs.Common.{◌≡◌, ◌≢◌, ◌+◌, ◌^◌, ◌≤◌, ◌<◌, ℕ, Bool, true, false, refl, sym, ap}
-use Rattle.std.proofs.Common.{subst, inl, inr, arith, ◌∙◌}
-use Rattle.std.specs.Prelude.{Some, None}
-use Rattle.swd_bits.specs.Bits.{low_bits}
+use Rattle.swd_host.proofs.Words.{◌≡◌, ◌≢◌, ◌+◌, ◌^◌, ◌≤◌, ◌<◌, ℕ, Bool, true, false, refl, sym, ap, subst, inl, inr}
+use Rattle.swd_host.proofs.Words.{arith, ◌∙◌, Some, None, low_bits, AccessWrite, Task, Write, BurstWrite, access_of}
+use Rattle.swd_host.proofs.Words.{address, phase_number, Port, Target, Register, AbortWrite, CtrlStatWrite, SelectWrite}
+use Rattle.swd_host.proofs.Words.{CswWrite, TarWrite, DrwWrite, Gives, Gave, Spoiled, Clears, Flags, Place, Wipe}
+use Rattle.swd_host.proofs.Words.{Inspect, Select, Power, Powered, Configure, Recall, Aim, Transfer, Confirm, Job, At}
+use Rattle.swd_host.proofs.Words.{Clear, Check, clear_word, word_for, word_of_task, confirmed_by, written_by, Hand}
+use Rattle.swd_host.proofs.Words.{IsAimed, Under, Sure, Hurt, Owes, Checks, cleared, kept, Before, During, Transfers}
+use Rattle.swd_host.proofs.Words.{Writes, whole, changed, IsTask}
 use Rattle.swd_bits.specs.Wire.{phase}
-use Rattle.swd_port.specs.declared.access.Access.TheVariants.{Write as AccessWrite}
-use Rattle.swd_host.specs.declared.task.Task.{Task}
-use Rattle.swd_host.specs.declared.task.Task.TheVariants.{Read, BurstRead, Write, BurstWrite}
-use Rattle.swd_host.specs.Tasks.{access_of}
-use Rattle.swd_port.specs.PlainMemory.{address}
-use Rattle.swd_bits.specs.Phases.{phase_number}
-use Rattle.swd_port.specs.Port.{Port, Target}
-use Rattle.swd_port.specs.declared.register.Register.{Register}
-use Rattle.swd_port.specs.declared.register.Register.TheVariants.{AbortWrite, CtrlStatWrite, SelectWrite, CswWrite}
-use Rattle.swd_port.specs.declared.register.Register.TheVariants.{TarWrite, DrwWrite}
-use Rattle.swd_port.specs.Moving.{Gives}
 use Rattle.swd_bits.specs.Phases.{IsPhaseOf}
-use Rattle.swd_port.specs.Moves.{Given, Gave, Spoiled, whole as given_whole}
-use Rattle.swd_port.specs.Moves.{damaged as given_damaged}
-use Rattle.swd_port.specs.Transfers.{Aimed, Sent}
-use Rattle.swd_port.specs.Laws.WordsRead.{Clears}
+use Rattle.swd_port.specs.Moves.{Given, whole as given_whole, damaged as given_damaged}
 use Rattle.swd_bits.proofs.PhaseLemmas.{bits_phase}
 use Rattle.swd_port.proofs.MovingLaws.{data_given_exact, data_given_at_rest}
 use Rattle.swd_port.proofs.StatusLaws.{flags_cleared}
-use Rattle.swd_port.proofs.CompletionLaws.{none_done, kept as kept_by, write_begins}
-use Rattle.swd_host.specs.declared.flags.Flags.{Flags}
-use Rattle.swd_host.specs.declared.request.Place.{Place}
-use Rattle.swd_host.specs.declared.request.Place.TheVariants.{Identify, Wipe, Inspect, Select, Power, Powered}
-use Rattle.swd_host.specs.declared.request.Place.TheVariants.{Configure, Recall, Configured, Aim, Transfer, Confirm}
-use Rattle.swd_host.specs.declared.request.Place.TheVariants.{Behind}
-use Rattle.swd_host.specs.declared.request.Job.{Job}
-use Rattle.swd_host.specs.declared.request.Job.TheVariants.{At, Resend, Status, LastStatus, Clear, Check}
-use Rattle.swd_host.specs.Flags.{clear_word}
-use Rattle.swd_host.specs.Tasks.{access_of}
-use Rattle.swd_host.specs.Requests.{word_for, word_of_task, confirmed_by, written_by}
-use Rattle.swd_host.specs.Tracks.{Hand, IsAimed, Under, Sure, Hurt, Owes, Checks, cleared, kept}
-use Rattle.swd_host.specs.Tracks.{Before, During, Transfers, Writes, whole, changed, WasSent, IsTask}
-use Rattle.swd_host.proofs.Frames.{frame_spoiled, frame_abort, calm_framed, has_framed, facts_framed}
+use Rattle.swd_port.proofs.CompletionLaws.{none_done, kept as kept_by}
+use Rattle.swd_host.specs.Tracks.{WasSent}
+use Rattle.swd_host.proofs.Frames.{frame_spoiled, frame_abort, calm_framed, facts_framed}
 use Rattle.swd_host.proofs.Transfers.{under_stays}
 use Rattle.swd_host.proofs.Sends.{facts_rest}
 
+-- the bits that were sent are those of the word's phase
 pub spells : (word sent : ℕ) → word < 2 ^ 32 → sent ≡ phase_number word → IsPhaseOf word sent
 spells word sent small e = sym (subst (λ x. low_bits 33 x ≡ phase word) (sym e) (bits_phase word small))
 
+-- a phase that arrives whole writes its word
 pub whole_given : (r : Register) (word : ℕ) (s t : Port) → Given r None word s t → Gave r word s t
 whole_given r word s t (given_whole e h) = h
 whole_given r word s t (given_damaged place e h) = absurd (cc)
@@ -53,31 +34,19 @@ changed_given place r word s t (given_damaged other e h) = h
 
 -- the words that the opening writes, and those that clear flags
 pub clear_small : (error damaged : Bool) → clear_word (record { error = error; damaged = damaged }) < 2 ^ 32
-clear_small true true = omega arith
-clear_small true false = omega arith
-clear_small false true = omega arith
-clear_small false false = omega arith
+clear_small error damaged = grind arith
 
 -- the flags that a word clears
 pub sticky_gone : (error damaged : Bool) (x y : Target) → Clears (clear_word
     (record { error = error; damaged = damaged })) x y → x.sticky_error ≡ error → y.sticky_error ≡ false
-sticky_gone true true x y c h = c.sticky_cleared refl
-sticky_gone true false x y c h = c.sticky_cleared refl
-sticky_gone false true x y c h = c.sticky_kept refl ∙ h
-sticky_gone false false x y c h = c.sticky_kept refl ∙ h
+sticky_gone error damaged x y c h = grind arith
 
 pub write_gone : (error damaged : Bool) (x y : Target) → Clears (clear_word
     (record { error = error; damaged = damaged })) x y → x.write_error ≡ damaged → y.write_error ≡ false
-write_gone true true x y c h = c.write_cleared refl
-write_gone true false x y c h = c.write_kept refl ∙ h
-write_gone false true x y c h = c.write_cleared refl
-write_gone false false x y c h = c.write_kept refl ∙ h
+write_gone error damaged x y c h = grind arith
 
 address_small : (task : Task) → IsTask task → address (access_of task) < 2 ^ 32
-address_small (Read at) h = h.0
-address_small (BurstRead at) h = h.0.0
-address_small (Write at word) h = h.0
-address_small (BurstWrite at word) h = h.0.0
+address_small task h = grind arith
 
 module _ (n b : ℕ) (k : Hand) (s t : Port) (sent : ℕ) (range : sent < 2 ^ 33) (gives : Gives s sent t) where
   -- a word that is given at rest, but for DRW's
@@ -94,13 +63,7 @@ module _ (n b : ℕ) (k : Hand) (s t : Port) (sent : ℕ) (range : sent < 2 ^ 33
   -- the next request, after a damaged write
   hurt_next : (p back : Place) → confirmed_by p k.task k.aims ≡ Some back → Spoiled s t → Sure back (n + 1) b k s
       → Hurt p n b k t
-  hurt_next p back is x h = record {
-    back = back;
-    confirms = is;
-    has = has_framed back b b k s t (omega arith) (frame_spoiled s t x) (ap (λ i. i.sticky_error) x.target) h.has;
-    flag = ap (λ i. i.write_error) x.target;
-    paid = omega (arith, ap (λ i. i.disturbed) x.tally, h.paid);
-  }
+  hurt_next p back is x h = grind arith
 
   -- the counts, and WDATAERR, after a write that isn't ABORT's
   paid_on : (r : Register) (word : ℕ) → Gave r word s t → n ≤ s.tally.disturbed → n ≤ t.tally.disturbed
@@ -185,6 +148,7 @@ module _ (n b : ℕ) (k : Hand) (s t : Port) (sent : ℕ) (range : sent < 2 ^ 33
       })))
       (λ h x. inr (hurt_next Recall Configure refl x h))
 
+  -- DRW's request confirms TAR's write
   aims_back : k.aims ≡ true → confirmed_by Transfer k.task k.aims ≡ Some Aim
   aims_back aims = rw aims refl
 
@@ -218,21 +182,7 @@ module _ (n b : ℕ) (k : Hand) (s t : Port) (sent : ℕ) (range : sent < 2 ^ 33
   -- A WRITE OF DRW
   drw_under : (word : ℕ) (y : Port) → access_of k.task ≡ AccessWrite (address (access_of k.task)) word → 1 ≤ b
       → IsAimed k s.target → Gave DrwWrite word s y → Under b k y.target
-  drw_under word y is begun h g =
-      let c = h.up.calm in
-      let aim : Aimed (address (access_of k.task)) k.memory s.target =
-      record { tar = h.tar; memory = c.memory; pending = c.pending; sticky_error = c.sticky } in
-      record {
-        live = ap (λ i. i.reset) g.target ∙ c.live;
-        select = ap (λ i. i.select) g.target ∙ c.select;
-        debug = ap (λ i. i.debug_power) g.target ∙ h.up.debug;
-        system = ap (λ i. i.system_power) g.target ∙ h.up.system;
-        seen = ap (λ i. i.power_up) g.target ∙ h.up.seen;
-        increments = ap (λ i. i.increments) g.target ∙ h.up.increments;
-        begun = begun;
-        sent = subst (λ a. Sent a k.memory y.target) (sym is)
-            (write_begins (address (access_of k.task)) word k.memory s y aim g);
-      }
+  drw_under word y is begun h g = grind arith
 
   drw_gave : (word : ℕ) → word < 2 ^ 32 → access_of k.task ≡ AccessWrite (address (access_of k.task)) word
       → written_by k.task ≡ Some Transfer → sent ≡ phase_number word
@@ -256,8 +206,6 @@ module _ (n b : ℕ) (k : Hand) (s t : Port) (sent : ℕ) (range : sent < 2 ^ 33
 
   transfer_gave : (task : Task) (word : ℕ) → k.task ≡ task → IsTask task → word_of_task task ≡ Some word
       → sent ≡ phase_number word → Transfers task n b k s → Before (At Confirm) n b k t
-  transfer_gave (Read at) word is ok w e h = absurd (cc)
-  transfer_gave (BurstRead at) word is ok w e h = absurd (cc)
   transfer_gave (Write at more) word is ok w e h =
       let same : more ≡ word = cc in
       drw_gave more ok.2 (ap access_of is ∙ ap (λ x. AccessWrite (address (access_of x)) more) (sym is))
@@ -266,6 +214,7 @@ module _ (n b : ℕ) (k : Hand) (s t : Port) (sent : ℕ) (range : sent < 2 ^ 33
       let same : more ≡ word = cc in
       drw_gave more ok.0.2 (ap access_of is ∙ ap (λ x. AccessWrite (address (access_of x)) more) (sym is))
       (ap written_by is) (e ∙ ap phase_number (sym same)) h
+  transfer_gave _ word is ok w e h = absurd (cc)
 
   -- THE CLEARING
   clear_gave : (p : Place) (owed : Flags) → sent ≡ phase_number (clear_word owed)
@@ -298,14 +247,4 @@ module _ (n b : ℕ) (k : Hand) (s t : Port) (sent : ℕ) (range : sent < 2 ^ 33
       (address (access_of k.task)) is e) h
   job_gave (At Transfer) word is e ok h = transfer_gave k.task word refl ok is e h
   job_gave (Clear p owed) word is e ok h = clear_gave p owed (phase_is word (clear_word owed) is e) h
-  job_gave (At Identify) word is e ok h = absurd (cc)
-  job_gave (At Inspect) word is e ok h = absurd (cc)
-  job_gave (At Powered) word is e ok h = absurd (cc)
-  job_gave (At Recall) word is e ok h = absurd (cc)
-  job_gave (At Configured) word is e ok h = absurd (cc)
-  job_gave (At Confirm) word is e ok h = absurd (cc)
-  job_gave (At Behind) word is e ok h = absurd h
-  job_gave (Resend p) word is e ok h = absurd (cc)
-  job_gave (Status p) word is e ok h = absurd (cc)
-  job_gave LastStatus word is e ok h = absurd (cc)
-  job_gave (Check p owed) word is e ok h = absurd (cc)
+  job_gave _ word is e ok h = grind arith

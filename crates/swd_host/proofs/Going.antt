@@ -1,14 +1,8 @@
 -- Calls one after the other.
-use Rattle.std.proofs.Common.{◌≡◌, ◌+◌, ◌-◌, ◌*◌, ◌≤◌, Bool, true, false, refl, sym, ap, subst, arith, ◌∙◌}
-use Rattle.std.specs.Prelude.{is_some, nat_lt}
+use Rattle.swd_host.proofs.Words.{◌≡◌, ◌+◌, ◌-◌, ◌*◌, ◌≤◌, Bool, true, false, refl, sym, ap, subst, arith, ◌∙◌, is_some}
+use Rattle.swd_host.proofs.Words.{nat_lt, most_begun, bit, Port, Engine, is_resting, finished_at, least_in}
+use Rattle.swd_host.proofs.Words.{open_requests, Goes, IsCountable}
 use Rattle.std.proofs.lemmas.Bool.{ltb-true, ltb-false}
-use Rattle.swd_host.specs.Tasks.{most_begun}
-use Rattle.swd_bits.specs.Bits.{bit}
-use Rattle.swd_port.specs.Port.{Port}
-use Rattle.swd_host.specs.declared.engine.Engine.{Engine}
-use Rattle.swd_host.specs.Engines.{is_resting, finished_at}
-use Rattle.swd_host.specs.Progress.{least_in, open_requests}
-use Rattle.swd_host.specs.Turns.{Goes, IsCountable}
 
 pub goes_refl : (e : Engine) (s : Port) → Goes e s e s
 goes_refl e s = record {
@@ -40,6 +34,7 @@ by_cases : (b : Bool) (P : Type 0) → (b ≡ true → P) → (b ≡ false → P
 by_cases true P set clear = set refl
 by_cases false P set clear = clear refl
 
+-- a call, and those after it
 pub goes_then : (e f g : Engine) (s t u : Port) → is_resting f ≡ false → Goes e s f t → Goes f t g u → Goes e s g u
 goes_then e f g s t u on a b =
     let countable : IsCountable e → IsCountable f = λ few. (let l = a.spends in omega arith) in

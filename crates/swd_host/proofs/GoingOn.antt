@@ -1,18 +1,12 @@
 -- What a list that is done from the first access on that isn't answered says of the whole list.
-use Rattle.std.proofs.Common.{◌≡◌, ◌≢◌, ◌+◌, ◌<◌, ◌≤◌, ℕ, Bool, true, false, refl, sym, ap, subst, inl, inr, arith, ◌∙◌}
-use Rattle.std.proofs.Common.{List, [], ◌∷◌, ◌++◌, length, take, zero, suc, get_or, length-append, ◌⊎◌}
-use Rattle.std.specs.Prelude.{drop, ◌==◌, ◌&&◌, not, if◌then◌else◌}
-use Rattle.std.proofs.lemmas.Bool.{eqb-true}
+use Rattle.swd_host.proofs.Words.{◌≡◌, ◌≢◌, ◌+◌, ◌<◌, ◌≤◌, ℕ, Bool, true, false, refl, sym, ap, subst, inl, inr, arith}
+use Rattle.swd_host.proofs.Words.{◌∙◌, List, [], ◌∷◌, ◌++◌, length, take, zero, suc, get_or, length-append, ◌⊎◌, drop}
+use Rattle.swd_host.proofs.Words.{if◌then◌else◌, Access, Answer, PlainMemory, plain_answer, plain_after, All}
+use Rattle.swd_host.proofs.Words.{memory_after, answers_of, Told, Fits, FitsAt, IsAfter, AllBelow, Again, HasRoom}
+use Rattle.swd_host.proofs.Words.{since}
 use Rattle.std.proofs.lemmas.List.{append-nil, append_assoc, length-take-le}
-use Rattle.swd_port.specs.declared.access.Access.{Access}
-use Rattle.swd_port.specs.declared.access.Answer.{Answer}
-use Rattle.swd_port.specs.PlainMemory.{PlainMemory, plain_answer, plain_after}
-use Rattle.swd_host.specs.declared.outcome.End.{End}
-use Rattle.swd_host.specs.declared.outcome.End.TheVariants.{All, Lost, TriesOut, WrongId, Confused}
-use Rattle.swd_host.specs.Plain.{memory_after, answers_of}
-use Rattle.swd_host.specs.Reports.{Told, Fits, FitsAt}
-use Rattle.swd_host.specs.Again.{IsAfter, AllBelow, AgainAt, Again, HasRoom, Grows}
-use Rattle.swd_host.specs.Resuming.{is_all, is_open, since}
+use Rattle.swd_host.specs.Again.{AgainAt, Grows}
+use Rattle.swd_host.specs.Resuming.{is_open}
 use Rattle.swd_host.proofs.Lists.{memory_next, answers_next}
 use Rattle.swd_host.proofs.Repeats.{after_next, after_again, after_none}
 use Rattle.swd_host.proofs.Shadows.{Roomy, answered_next, answered_again}
@@ -25,8 +19,7 @@ answers_length (x ∷ xs) m = let h = answers_length xs (plain_after x m) in ome
 -- so many answers there are
 pub told_length : (k : ℕ) (list : List Access) (m : PlainMemory) (answers : List Answer) → k ≤ length list
     → answers ≡ answers_of (take k list) m → length answers ≡ k
-told_length k list m answers few is =
-    ap length is ∙ (answers_length (take k list) m ∙ length-take-le k list few)
+told_length k list m answers few is = ap length is ∙ (answers_length (take k list) m ∙ length-take-le k list few)
 
 pub drop_length : (k : ℕ) (list : List Access) → k ≤ length list → length (drop k list) + k ≡ length list
 drop_length zero list few = omega arith
@@ -35,11 +28,11 @@ drop_length (suc k) (x ∷ list) few = let h = drop_length k list (omega arith) 
 
 drop_first : (k : ℕ) (list : List Access) (d : Access) → k < length list
     → drop k list ≡ get_or list k d ∷ drop (suc k) list
-drop_first zero [] d few = absurd (omega arith)
 drop_first zero (x ∷ list) d few = refl
-drop_first (suc k) [] d few = absurd (omega arith)
 drop_first (suc k) (x ∷ list) d few = drop_first k list d (omega arith)
+drop_first _ [] d few = absurd (omega arith)
 
+-- the access at n of those from i on
 drop_at : (i n : ℕ) (list : List Access) (d : Access) → get_or (drop i list) n d ≡ get_or list (i + n) d
 drop_at zero n list d = (let e : n ≡ 0 + n = omega arith in ap (λ j. get_or list j d) e)
 drop_at (suc i) n [] d = nothing n (suc i + n) d
@@ -51,17 +44,14 @@ drop_at (suc i) n (x ∷ list) d = drop_at i n list d ∙ (let e : suc (i + n) �
 
 -- one more access was repeated at most
 pub grows_few : (js : List ℕ) (earlier : Told) (more : List ℕ) → Grows js earlier more → length more ≤ length js + 1
-grows_few js earlier more (inl same) = (let e = ap length same in omega (arith, e))
-grows_few js earlier more (inr (begun, same)) =
-    let e = ap length same in
-    let l = length-append js (length earlier.answers ∷ []) in
-    omega (arith, e, l)
+grows_few js earlier more h = search (arith, length-append)
 
 -- THE ACCESSES FROM i ON, over a memory where earlier ones were repeated
 record Walked (js : List ℕ) (i n : ℕ) (list : List Access) (m q : PlainMemory) : Type 0 where
   answers : answers_of (take i list) m ++ answers_of (take n (drop i list)) q ≡ answers_of (take (i + n) list) m
   after : IsAfter js (i + n) list m (memory_after (take n (drop i list)) q)
 
+-- n accesses more are answered as in the plain memory
 walked : (js : List ℕ) (i n : ℕ) (list : List Access) (d : Access) (m q : PlainMemory) → i + n ≤ length list
     → AllBelow i js → Roomy (length js) list m → IsAfter js i list m q → Walked js i n list m q
 walked js i zero list d m q few places room h =
@@ -167,40 +157,18 @@ done_onward js k n list d m q earlier few o =
     }
 
 -- THE ACCESS THAT WAS BEGUN BEFORE
-not_all : (end : End) → end ≢ All → is_all end ≡ false
-not_all All never = absurd (never refl)
-not_all Lost never = refl
-not_all TriesOut never = refl
-not_all (WrongId word) never = refl
-not_all Confused never = refl
-
-never_all : (end : End) → is_all end ≡ false → end ≢ All
-never_all end h is = absurd (let both : false ≡ true = sym h ∙ ap is_all is in cc)
-
 -- it is open still
 record StillOpen (raw earlier : Told) : Type 0 where
   same : length raw.answers ≡ length earlier.answers
   never : raw.ended ≢ All
   begun : earlier.begun ≡ 1
 
-three : (a b c : Bool) → (a && not b && c) ≡ true → (a ≡ true) × (b ≡ false) × (c ≡ true)
-three a b c h = grind arith
-
 still_open : (raw earlier : Told) → is_open raw earlier ≡ true → StillOpen raw earlier
-still_open raw earlier h =
-    let parts = three (length raw.answers == length earlier.answers) (is_all raw.ended) (earlier.begun == 1) h in
-    record {
-      same = eqb-true (length raw.answers) (length earlier.answers) parts.0;
-      never = never_all raw.ended parts.1;
-      begun = eqb-true earlier.begun 1 parts.2;
-    }
+still_open raw earlier h = grind arith
 
 pub open_begun : (raw earlier : Told) → length raw.answers ≡ length earlier.answers → raw.ended ≢ All
     → earlier.begun ≡ 1 → (since raw earlier).begun ≡ 1
-open_begun raw earlier same never begun =
-    let none : is_all raw.ended ≡ false = not_all raw.ended never in
-    let open_then : is_open raw earlier ≡ true = grind arith in
-    ap (λ b. if b then 1 else raw.begun) open_then
+open_begun raw earlier same never begun = grind arith
 
 one_either : (b : Bool) (n : ℕ) → n ≡ 1 → (if b then 1 else n) ≡ 1
 one_either true n one = refl
@@ -222,8 +190,7 @@ pub data Begun (raw earlier : Told) : Type 0 where
 
 begun_either : (raw earlier : Told) (b : Bool) → is_open raw earlier ≡ b → (if b then 1 else raw.begun) ≢ 0
     → Begun raw earlier
-begun_either raw earlier true is some = let h = still_open raw earlier is in by_earlier h.same h.never h.begun
-begun_either raw earlier false is some = by_this some
+begun_either raw earlier b is some = grind (arith, still_open)
 
 pub since_begun : (raw earlier : Told) → (since raw earlier).begun ≢ 0 → Begun raw earlier
 since_begun raw earlier some = begun_either raw earlier (is_open raw earlier) refl some
@@ -273,42 +240,14 @@ module _ (js : List ℕ) (k kk j : ℕ) (list : List Access) (m x now : PlainMem
   -- nothing took effect
   none_memory : kk ≡ 0 → StandsAt js k list m earlier x
       → IsAfter js k list m x ⊎ (((since raw earlier).begun ≡ 1) × IsAfter js (k + 1) list m x)
-  none_memory zero_done (inl h) = inl h
-  none_memory zero_done (inr (begun, h)) =
-      let low : k < length list = (a.begun begun).0 in
-      let never : raw.ended ≢ All = λ all. absurd (let w = whole all in omega (arith, w, zero_done)) in
-      inr (open_begun raw earlier (omega (arith, raw_number, number, zero_done)) never begun, h)
+  none_memory zero_done h = grind (arith, number, open_begun, raw_number, whole)
 
   none_begun : kk ≡ 0 → Begun raw earlier → (k < length list) × (raw.ended ≢ All)
-  none_begun zero_done (by_earlier same never begun) = ((a.begun begun).0, never)
-  none_begun zero_done (by_this some) =
-      let h = fit.begun some in
-      (omega (arith, h.0, long, at_least raw.begun some), h.1)
+  none_begun zero_done h = grind (arith, at_least, long)
 
   none_again : kk ≡ 0 → j ≡ 0 → Ongoing js list m earlier (since raw earlier) now
   none_again zero_done zero_begun =
-      let nothing : take (kk + j) (drop k list) ≡ [] = ap (λ n. take n (drop k list))
-      (let e : kk + j ≡ 0 = omega arith in e) in
-      let same : now ≡ x = left ∙ ap (λ xs. memory_after xs x) nothing in
-      let no_part : part ≡ [] = fit.answers ∙ ap (λ n. answers_of (take n (drop k list)) x) zero_done in
-      record {
-        more = js;
-        grows = inl refl;
-        again = (
-          k,
-          record {
-            reported = a.reported;
-            answers = added ∙ (ap (λ l. earlier.answers ++ l) no_part ∙ (append-nil earlier.answers ∙ a.answers));
-            memory = subst (λ q. IsAfter js k list m q
-                ⊎ (((since raw earlier).begun ≡ 1) × IsAfter js (k + 1) list m q))
-                (sym same) (none_memory zero_done a.memory);
-            few = since_few raw earlier fit.few;
-            begun = λ one. none_begun zero_done
-                (since_begun raw earlier (some_begun (since raw earlier).begun one));
-            all = λ all. (let w = whole all in omega (arith, w, zero_done));
-          },
-        );
-      }
+      grind (arith, append-nil, few, none_begun, none_memory, since_begun, since_few, some_begun, whole)
 
   -- something did
   onward : 1 ≤ kk + j → Onward js k list d m x earlier
@@ -347,8 +286,7 @@ module _ (js : List ℕ) (k kk j : ℕ) (list : List Access) (m x now : PlainMem
       )
 
   some_begun_here : 1 ≤ kk + j → Begun raw earlier → raw.begun ≢ 0
-  some_begun_here some (by_earlier same never begun) = λ none. absurd (omega (arith, raw_number, number, less, none))
-  some_begun_here some (by_this is) = is
+  some_begun_here some h = grind (arith, number, raw_number)
 
   some_again : 1 ≤ kk + j → Ongoing js list m earlier (since raw earlier) now
   some_again some = record {
@@ -373,8 +311,7 @@ module _ (js : List ℕ) (k kk j : ℕ) (list : List Access) (m x now : PlainMem
   }
 
   fit_again : (n : ℕ) → n ≡ kk + j → Ongoing js list m earlier (since raw earlier) now
-  fit_again zero is = none_again (omega arith) (omega arith)
-  fit_again (suc n) is = some_again (omega arith)
+  fit_again n is = grind (arith, none_again, some_again)
 
 pub goes_again : (js : List ℕ) (list : List Access) (d : Access) (m x now : PlainMemory) (earlier raw : Told)
     (part : List Answer) → raw.answers ≡ earlier.answers ++ part → Again js list m earlier x → HasRoom js list m
@@ -390,52 +327,18 @@ goes_again js list d m x now earlier raw part added (k, a) room fits =
 pub same_again : (js : List ℕ) (list : List Access) (m : PlainMemory) (earlier raw : Told) (now : PlainMemory)
     → raw.answers ≡ earlier.answers → raw.begun ≡ 0 → raw.ended ≢ All → Again js list m earlier now
     → Again js list m (since raw earlier) now
-same_again js list m earlier raw now same none never (k, a) = (
-  k,
-  record {
-    reported = a.reported;
-    answers = same ∙ a.answers;
-    memory = elim a.memory [
-      | inl h ↦ inl h
-      | inr h ↦ inr (open_begun raw earlier (ap length same) never h.0, h.1)
-    ];
-    few = since_few raw earlier (omega (arith, none));
-    begun = λ one. elim (since_begun raw earlier (some_begun (since raw earlier).begun one)) [
-      | by_earlier same never begun ↦ ((a.begun begun).0, never)
-      | by_this some ↦ absurd (some none)
-    ];
-    all = λ all. absurd (never all);
-  },
-)
+same_again js list m earlier raw now same none never h = grind arith
 
 -- THE END OF A WHOLE LIST: nothing more comes of it
 pub whole_same : (list : List Access) (x : PlainMemory) (told : Told) (now later : PlainMemory) → told.ended ≡ All
     → Fits 1 list x told now → Fits 1 list x told later → now ≡ later
-whole_same list x told now later all (k, f) (l, g) =
-    let none : told.begun ≡ 0 = unbegun told.begun (λ some. absurd ((f.begun some).1 all)) in
-    let (i, few, is) = f.memory in
-    let (j, less, same) = g.memory in
-    let e = f.all all in
-    let h = g.all all in
-    let count : k + i ≡ l + j = omega (arith, none, e, h, few, less) in
-    is ∙ (ap (λ n. memory_after (take n list) x) count ∙ sym same)
-  where
-    unbegun : (n : ℕ) → (n ≢ 0 → ⊥) → n ≡ 0
-    unbegun zero h = refl
-    unbegun (suc n) h = absurd (h (λ e. absurd (omega arith)))
+whole_same list x told now later all f g = grind arith
 
 -- A RUN over a target that was just made, as one that goes on with no place repeated
 fits_at_again : (k j : ℕ) (list : List Access) (m : PlainMemory) (told : Told) (now : PlainMemory)
     → FitsAt 1 k list m told now → j ≤ told.begun → now ≡ memory_after (take (k + j) list) m
     → IsAfter [] k list m now ⊎ ((told.begun ≡ 1) × IsAfter [] (k + 1) list m now)
-fits_at_again k zero list m told now f less is =
-    let none : k + 0 ≡ k = omega arith in
-    inl (after_none k list m now (is ∙ ap (λ n. memory_after (take n list) m) none))
-fits_at_again k (suc j) list m told now f less is =
-    let few = f.few in
-    let one : told.begun ≡ 1 = omega (arith, few) in
-    let count : k + suc j ≡ k + 1 = omega (arith, few) in
-    inr (one, after_none (k + 1) list m now (is ∙ ap (λ n. memory_after (take n list) m) count))
+fits_at_again k j list m told now f less is = grind (arith, after_none, few)
 
 pub fits_again : (list : List Access) (m : PlainMemory) (told : Told) (now : PlainMemory) → Fits 1 list m told now
     → Again [] list m told now

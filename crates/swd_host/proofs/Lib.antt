@@ -1,3 +1,4 @@
+mod Words
 mod Fitting
 mod Frames
 mod Asked

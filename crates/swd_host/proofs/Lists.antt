@@ -1,16 +1,11 @@
 -- Lists of accesses, one access more at a time.
-use Rattle.std.proofs.Common.{◌≡◌, ◌+◌, ◌<◌, ◌%◌, ℕ, true, refl, sym, ap, subst, arith, ◌∙◌, List, [], ◌∷◌, ◌++◌}
-use Rattle.std.proofs.Common.{length, take, zero, suc, get_or}
-use Rattle.std.specs.Prelude.{Option, Some, None, IfSome}
+use Rattle.swd_host.proofs.Words.{◌≡◌, ◌+◌, ◌<◌, ℕ, true, refl, ap, subst, arith, List, [], ◌∷◌, ◌++◌, length, take}
+use Rattle.swd_host.proofs.Words.{zero, suc, get_or, Option, Some, None, Access, PlainMemory, plain_answer, plain_after}
+use Rattle.swd_host.proofs.Words.{continues, memory_after, answers_of, IsAccess, AreAccesses, Follower, ContinuesAt}
+use Rattle.std.specs.Prelude.{IfSome}
 use Rattle.std.proofs.lemmas.Grind.{take_at_read}
 use Rattle.std.proofs.lemmas.Bool.{eqb-true}
-use Rattle.swd_port.specs.declared.access.Access.{Access}
-use Rattle.swd_port.specs.declared.access.Access.TheVariants.{Read, Write}
-use Rattle.swd_port.specs.PlainMemory.{PlainMemory, plain_answer, plain_after}
-use Rattle.swd_host.specs.Addresses.{continues}
-use Rattle.swd_host.specs.Plain.{memory_after, answers_of, is_aligned, IsAccess, AreAccesses, HasRanges}
-use Rattle.swd_host.specs.Reports.{Follower}
-use Rattle.swd_host.specs.Standing.{ContinuesAt}
+use Rattle.swd_host.specs.Plain.{is_aligned, HasRanges}
 
 -- WHAT THEY LEAVE, AND WHAT THEY ARE ANSWERED
 pub memory_append : (xs ys : List Access) (m : PlainMemory)
@@ -25,14 +20,12 @@ answers_append (x ∷ xs) ys m = ap (λ rest. plain_answer x m ∷ rest) (answer
 
 pub memory_next : (list : List Access) (i : ℕ) (d : Access) (m : PlainMemory) → i < length list
     → memory_after (take (i + 1) list) m ≡ plain_after (get_or list i d) (memory_after (take i list) m)
-memory_next list i d m l =
-    ap (λ xs. memory_after xs m) (take_at_read list i d l).1 ∙ memory_append (take i list) (get_or list i d ∷ []) m
+memory_next list i d m l = grind (arith, memory_append, take_at_read)
 
 pub answers_next : (list : List Access) (i : ℕ) (d : Access) (m : PlainMemory) → i < length list
     → answers_of (take (i + 1) list) m
     ≡ answers_of (take i list) m ++ plain_answer (get_or list i d) (memory_after (take i list) m) ∷ []
-answers_next list i d m l =
-    ap (λ xs. answers_of xs m) (take_at_read list i d l).1 ∙ answers_append (take i list) (get_or list i d ∷ []) m
+answers_next list i d m l = grind (arith, answers_append, take_at_read)
 
 -- THE CHECKS OF A LIST
 pub access_at : (list : List Access) (i : ℕ) (d : Access) → i < length list → AreAccesses list
@@ -42,8 +35,7 @@ access_at (x ∷ list) zero d l h = h.0
 access_at (x ∷ list) (suc i) d l h = access_at list i d (omega arith) h.1
 
 pub is_access : (a : Access) → HasRanges a → is_aligned a ≡ true → IsAccess a
-is_access (Read at) h e = (h, eqb-true (at % 4) 0 e)
-is_access (Write at word) h e = (h.0, eqb-true (at % 4) 0 e, h.1)
+is_access a h e = grind (arith, eqb-true)
 
 are_more : (xs : List Access) (a : Access) → AreAccesses xs → IsAccess a → AreAccesses (xs ++ a ∷ [])
 are_more [] a h i = (i, tt)
@@ -51,8 +43,7 @@ are_more (x ∷ xs) a h i = (h.0, are_more xs a h.1 i)
 
 pub are_next : (list : List Access) (i : ℕ) (d : Access) → i < length list
     → AreAccesses (take i list) → IsAccess (get_or list i d) → AreAccesses (take (i + 1) list)
-are_next list i d l h a =
-    subst AreAccesses (sym (take_at_read list i d l).1) (are_more (take i list) (get_or list i d) h a)
+are_next list i d l h a = grind (arith, are_more, take_at_read)
 
 -- THE ACCESS THAT FOLLOWS
 pub some_follows : (list : List Access) (i : ℕ) (following : Option Access) → IfSome following (Follower i list)
@@ -63,8 +54,4 @@ some_follows list i (Some a) h b e = let same : a ≡ b = cc in subst (Follower 
 pub follower_continues : (list : List Access) (i : ℕ) (a : Access) (following : Option Access)
     → continues a following ≡ true → ((b : Access) → following ≡ Some b → Follower i list b)
     → ContinuesAt list (i + 1) a
-follower_continues list i (Read at) None on next = absurd (cc)
-follower_continues list i (Write at word) None on next = absurd (cc)
-follower_continues list i a (Some b) on next =
-    let f = next b refl in
-    (f.number, λ d. ap (λ x. continues a (Some x)) (f.same d) ∙ on)
+follower_continues list i a following on next = grind arith

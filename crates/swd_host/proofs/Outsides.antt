@@ -1,13 +1,10 @@
 -- What a run over a wire of which no call was made says of a story.
-use Rattle.std.proofs.Common.{◌≡◌, ℕ, List, [], subst}
+use Rattle.swd_host.proofs.Words.{◌≡◌, ℕ, List, [], subst, Access, Port, RunsOver, told_of}
 use Rattle.std.specs.Prelude.{Result, Ok, Err, IfOk}
-use Rattle.swd_port.specs.declared.access.Access.{Access}
 use Rattle.swd_port.specs.declared.call.Call.{Call}
-use Rattle.swd_port.specs.Port.{Port}
 use Rattle.swd_port.specs.Stories.{port_at, FitsStory}
 use Rattle.swd_host.specs.declared.outcome.Refused.{Refused}
 use Rattle.swd_host.specs.declared.outcome.Report.{Report}
-use Rattle.swd_host.specs.Reports.{RunsOver, told_of}
 
 pub fresh_run : {A : Type 0} (result : Result (Report A) Refused) (list : List Access) (tries : ℕ) (story : ℕ → Port)
     (before after : List Call) → before ≡ []

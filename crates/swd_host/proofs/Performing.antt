@@ -1,96 +1,37 @@
 -- From what holds between two accesses to what doing the whole list comes to.
-use Rattle.std.proofs.Common.{◌≡◌, ◌≢◌, ◌+◌, ◌-◌, ◌*◌, ◌%◌, ◌^◌, ◌<◌, ◌≤◌, ℕ, Bool, true, false, refl, sym, ap, subst}
-use Rattle.std.proofs.Common.{inl, inr, arith, ◌∙◌, List, [], ◌∷◌, ◌++◌, length, take, zero, suc, get_or, length-append}
-use Rattle.std.specs.Prelude.{Option, Some, None, if◌then◌else◌, nat_lt, is_some, ◌&&◌, not}
+use Rattle.swd_host.proofs.Words.{◌≡◌, ◌≢◌, ◌+◌, ◌-◌, ◌*◌, ◌%◌, ◌^◌, ◌<◌, ◌≤◌, ℕ, Bool, true, false, refl, sym, ap}
+use Rattle.swd_host.proofs.Words.{subst, inl, inr, arith, ◌∙◌, List, [], ◌∷◌, ◌++◌, length, take, zero, suc, get_or}
+use Rattle.swd_host.proofs.Words.{length-append, Option, Some, None, if◌then◌else◌, ◌&&◌, not, bit, Access, Answer}
+use Rattle.swd_host.proofs.Words.{PlainMemory, plain_answer, plain_after, Port, Leads, Passed, End, All, Answered}
+use Rattle.swd_host.proofs.Words.{Stopped, Resting, Engine, continues, memory_after, answers_of, AreAccesses, Ahead}
+use Rattle.swd_host.proofs.Words.{Task, access_of, is_burst, is_block, task_for, most_begun, most_of, is_ahead}
+use Rattle.swd_host.proofs.Words.{begun_of, finished_of, may_start, least_in, open_requests, Hand, Counted, IsWithin}
+use Rattle.swd_host.proofs.Words.{within_none, within_first, within_both, IsReady, Follows, hand_of, next_read, Up}
+use Rattle.swd_host.proofs.Words.{AheadAt, IsKnownAt, DueAt, DueFits, is_failed, has_failed, Starts, Goes, Fits, EndsAt}
+use Rattle.swd_host.proofs.Words.{Follower, Waits, ContinuesAt, Stands, HasOpened, IsOpen, Does, DoesOver, told_by}
+use Rattle.swd_host.proofs.Words.{Nothing}
 use Rattle.std.proofs.lemmas.Bool.{ltb-true, ltb-false}
-use Rattle.swd_bits.specs.Bits.{bit}
-use Rattle.swd_port.specs.declared.access.Access.{Access}
-use Rattle.swd_port.specs.declared.access.Answer.{Answer}
-use Rattle.swd_port.specs.PlainMemory.{PlainMemory, plain_answer, plain_after}
-use Rattle.swd_port.specs.Port.{Port}
-use Rattle.swd_port.specs.Leading.{Leads}
-use Rattle.swd_port.specs.Moves.{Passed}
 use Rattle.swd_port.proofs.MovingLaws.{idle_cycles_at_rest}
 use Rattle.swd_port.proofs.CompletionLaws.{same}
-use Rattle.swd_host.specs.declared.outcome.End.{End}
-use Rattle.swd_host.specs.declared.outcome.End.TheVariants.{All}
-use Rattle.swd_host.specs.declared.outcome.Outcome.TheVariants.{Answered, Stopped}
-use Rattle.swd_host.specs.declared.request.Place.TheVariants.{Confirm}
-use Rattle.swd_host.specs.declared.request.Job.TheVariants.{At}
-use Rattle.swd_host.specs.declared.engine.Phase.TheVariants.{Data}
-use Rattle.swd_host.specs.declared.engine.State.TheVariants.{Doing, Resting}
-use Rattle.swd_host.specs.declared.engine.Engine.{Engine}
-use Rattle.swd_host.specs.Addresses.{continues}
-use Rattle.swd_host.specs.Plain.{memory_after, answers_of, AreAccesses}
-use Rattle.swd_host.specs.declared.engine.Ahead.{Ahead}
-use Rattle.swd_host.specs.declared.engine.Ahead.TheVariants.{Unsent, Sent, Failed}
-use Rattle.swd_host.specs.declared.task.Task.{Task}
-use Rattle.swd_host.specs.Tasks.{access_of, is_burst, is_block, task_for, most_begun, most_of}
-use Rattle.swd_host.specs.Engines.{is_ahead, is_ahead_in, begun_of, finished_at, finished_of, may_start}
-use Rattle.swd_host.specs.Progress.{least_in, open_requests}
-use Rattle.swd_host.specs.Tracks.{Hand, Counted, IsWithin, within_none, within_first, within_both, IsReady, Follows}
-use Rattle.swd_host.specs.Tracks.{hand_of, next_read, Up, AheadAt, IsKnownAt, DueAt, DueFits}
-use Rattle.swd_host.specs.Turns.{is_failed, has_failed, Starts, Goes}
-use Rattle.swd_host.specs.Reports.{Fits, EndsAt, Follower}
-use Rattle.swd_host.specs.Standing.{Waits, Reached, ContinuesAt, Stands, HasOpened, IsOpen, Does, DoesOver}
-use Rattle.swd_host.specs.Standing.{HasSentFor, anew, on, told_by}
-use Rattle.swd_host.proofs.Fitting.{IsLeft, none_left, fits_by}
-use Rattle.swd_port.specs.declared.wire.Due.TheVariants.{Nothing}
+use Rattle.swd_host.specs.declared.engine.Ahead.TheVariants.{Failed}
+use Rattle.swd_host.specs.Standing.{Reached, HasSentFor, anew, on}
 use Rattle.swd_port.proofs.CallLaws.{others_uncounted, identification_kept}
+use Rattle.swd_host.proofs.Fitting.{IsLeft, none_left, fits_by}
 use Rattle.swd_host.proofs.Lists.{memory_next, answers_next, access_at, follower_continues}
-use Rattle.swd_host.proofs.Starts.{IsFirst, IsAnswered, same_access, ahead_state, calm_by, burst_continues, task_most}
-use Rattle.swd_host.proofs.Starts.{start_follows, start_left, start_least, start_begun, first_start}
-use Rattle.swd_host.proofs.Starts.{answered_start, anew_going, block_burst, next_is}
-use Rattle.swd_host.proofs.Ends.{Answers, Stops, answered_there, stops_there, stopped_state, outcome_case}
-use Rattle.swd_host.proofs.Ends.{later_memory, begun_there}
+use Rattle.swd_host.proofs.Starts.{IsFirst, IsAnswered, same_access, calm_by, burst_continues, task_most, start_follows}
+use Rattle.swd_host.proofs.Starts.{start_left, start_least, start_begun, first_start, answered_start, block_burst}
+use Rattle.swd_host.proofs.Starts.{next_is}
+use Rattle.swd_host.proofs.Ends.{Answers, Stops, answered_there, stops_there, stopped_state, later_memory, begun_there}
 
 -- BEFORE THE FIRST ACCESS
-opened_reached : (list : List Access) (m : PlainMemory) (o : Engine) (s : Port) → HasOpened o → IsOpen m o s
-    → Reached 0 list m o s o [] s
-opened_reached list m o s has is =
-    let calm : is_ahead o ≡ false = ap (λ x. is_ahead_in x o.task) has.at in
-    let known : IsKnownAt Unsent o.tar s.target =
-    λ at some. absurd (let never : None ≡ Some at = sym is.tar ∙ some in cc) in
-    let ready : IsReady s.tally.disturbed (hand_of o m) s = record {
-      up = subst (λ x. AheadAt x o.task m s.target) (sym is.ahead) is.up;
-      known = subst (λ x. IsKnownAt x o.tar s.target) (sym is.ahead) known;
-      flag = is.flag;
-      paid = omega arith;
-    } in
-    record {
-      met = s.tally.disturbed;
-      fewest = omega arith;
-      ready = subst (λ c. Waits c s.tally.disturbed (hand_of o m) s) (sym calm) ready;
-      answered = refl;
-      begun = λ single. has.unbegun;
-      sent = anew (record { tar = is.tar; ahead = is.ahead; plain = has.plain }) (omega arith);
-      most = omega arith;
-    }
-
 pub opened_stands : (list : List Access) (o : Engine) (s : Port) → HasOpened o → s.link.due ≡ Nothing
     → Stands 0 list o s o [] s
-opened_stands list o s has due = record {
-  due = subst (λ x. DueAt x o.stray o.task s.link.due) (sym has.at) due;
-  rests = ap (λ x. may_start (finished_at x o.task)) has.at;
-  chain = λ burst. absurd (let both : true ≡ false = sym burst ∙ has.plain in cc);
-  tried = refl;
-  bursts = refl;
-  number = refl;
-  bounded = omega (arith, has.most);
-  asked = refl;
-  disturbed = omega arith;
-  lost = omega arith;
-  identification = refl;
-  reached = λ m is ok. opened_reached list m o s has is;
-}
+opened_stands list o s has due = grind arith
 
 -- AN ACCESS
 some_of : (a b : ℕ) → a ≡ b → a ≢ 0 → 1 ≤ b
 some_of a zero same none = absurd (none same)
 some_of a (suc b) same none = omega arith
-
-one_most : (task : Task) → 1 ≤ most_begun task
-one_most task = grind arith
 
 two_most : (task : Task) → most_begun task ≤ 2
 two_most task = grind arith
@@ -101,10 +42,8 @@ single_most task single = grind arith
 -- where the next access was a bus error TAR isn't known
 failed_tar : (ahead : Bool) (n : ℕ) (k : Hand) (t : Port) (further : Ahead) → k.ahead ≡ further
     → (not ahead && is_failed further) ≡ true → Waits ahead n k t → k.tar ≡ None
-failed_tar true n k t further is failed h = absurd (cc)
 failed_tar false n k t Failed is failed h = subst (λ x. IsKnownAt x k.tar t.target) is h.known
-failed_tar false n k t Sent is failed h = absurd (cc)
-failed_tar false n k t Unsent is failed h = absurd (cc)
+failed_tar _ n k t _ is failed h = absurd (cc)
 
 abbrev counted_from : ℕ → Port → Counted
 counted_from met t = record { disturbed = met; lost = t.tally.lost }
@@ -115,14 +54,7 @@ by_cases false P set clear = clear refl
 
 answered_least : (f : Engine) (answer : Answer) → finished_of f ≡ Some (Answered answer)
     → least_in f.aims f.state ≡ bit f.aims + 2
-answered_least f answer is =
-    elim (outcome_case f.state f.task (Answered answer) is) [
-      | inl rests ↦ ap (least_in f.aims) rests
-      | inr ahead ↦
-          (let is : f.state ≡ Doing (At Confirm) Data = ahead_state f.state f.task ahead.0 in
-          let least : least_in f.aims f.state ≡ bit f.aims + 1 + 1 = ap (least_in f.aims) is in
-          omega arith)
-    ]
+answered_least f answer is = grind arith
 
 module _ (i : ℕ) (list : List Access) (o e g f : Engine) (answers : List Answer) (s t u : Port) (d : Access)
     (following : Option Access) (opened : HasOpened o) (few : i ≤ 65536) (l : i < length list)
@@ -149,9 +81,11 @@ module _ (i : ℕ) (list : List Access) (o e g f : Engine) (answers : List Answe
   left_here : open_requests g ≤ 5 * o.tries + 6
   left_here = omega (arith, start_left (get_or list i d) following e g starts, stands.tried)
 
+  -- the count of requests stays below 2 ^ 64
   countable : g.requests + open_requests g < 2 ^ 64
   countable = omega (arith, left_here, starts.requests, stands.bounded, opened.tries)
 
+  -- how many requests an access takes at most
   spent : f.requests + 5 * (o.tries - f.events) ≤ e.requests + 5 * o.tries + 6
   spent = omega (arith, goes.spends, left_here, starts.requests, tries_here)
 
@@ -160,9 +94,7 @@ module _ (i : ℕ) (list : List Access) (o e g f : Engine) (answers : List Answe
 
   -- an access that is answered at once
   here_at_once : has_failed e ≡ true → f ≡ g
-  here_at_once failed =
-      let at : IsAnswered g = answered_start (get_or list i d) following e g starts failed in
-      goes.rests (ap (λ x. is_some (finished_at x g.task)) at.state)
+  here_at_once failed = grind arith
 
   answered_on : (answer : Answer) → finished_of f ≡ Some (Answered answer) → has_failed e ≡ false
       → HasSentFor i o e → HasSentFor (i + 1) o f
@@ -188,41 +120,10 @@ module _ (i : ℕ) (list : List Access) (o e g f : Engine) (answers : List Answe
       ))
 
   answered_at_once : has_failed e ≡ true → (g.tar ≡ None) → HasSentFor i o e → HasSentFor (i + 1) o f
-  answered_at_once failed unknown (anew fresh sent) =
-      absurd (let both : true ≡ false = sym failed ∙ anew_going (get_or list i d) following e g starts fresh in cc)
-  answered_at_once failed unknown (on sent) =
-      let same : f ≡ g = here_at_once failed in
-      let at : IsAnswered g = answered_start (get_or list i d) following e g starts failed in
-      anew (record {
-        tar = ap (λ x. x.tar) same ∙ unknown;
-        ahead = ap (λ x. x.ahead) same ∙ starts.ahead;
-        plain = ap (λ x. is_burst x.task) same ∙ at.single;
-      }) (omega (arith, ap (λ x. x.requests) same, starts.requests))
+  answered_at_once failed unknown h = grind arith
 
   begun_on : has_failed e ≡ false → 1 ≤ f.begun → HasSentFor i o e → o.requests + 1 + i + f.begun ≤ f.requests
-  begun_on going some (anew fresh sent) =
-      let first : IsFirst g = first_start (get_or list i d) following e g starts fresh in
-      omega (
-        arith,
-        goes.begun countable (omega (arith, first.begun)),
-        ap bit first.aims,
-        first.least,
-        starts.requests,
-      )
-  begun_on going some (on sent) = by_cases (nat_lt g.begun f.begun) (o.requests + 1 + i + f.begun ≤ f.requests)
-      (λ grew. omega (
-        arith,
-        goes.begun countable (ltb-true g.begun f.begun grew),
-        start_least (get_or list i d) following e g starts going,
-        starts.requests,
-      ))
-      (λ stayed. omega (
-        arith,
-        ltb-false g.begun f.begun stayed,
-        start_begun (get_or list i d) following e g starts,
-        goes.more,
-        starts.requests,
-      ))
+  begun_on going some h = grind (arith, by_cases, countable, first_start, ltb-false, ltb-true, start_begun, start_least)
 
   begun_sent : 1 ≤ f.begun → HasSentFor i o e → o.requests + 1 + i + f.begun ≤ f.requests
   begun_sent some sent = by_cases (has_failed e) (o.requests + 1 + i + f.begun ≤ f.requests)
@@ -232,26 +133,15 @@ module _ (i : ℕ) (list : List Access) (o e g f : Engine) (answers : List Answe
       (λ going. begun_on going some sent)
 
   begun_few : f.begun ≤ most_begun f.task
-  begun_few =
-      let one : 1 ≤ most_begun g.task = one_most g.task in
-      subst (λ x. f.begun ≤ most_begun x) (sym goes.task)
-      (goes.few (omega (arith, start_begun (get_or list i d) following e g starts)))
+  begun_few = grind arith
 
   begun_most : f.begun ≤ most_of o.bursts
-  begun_most =
-      let most : most_begun f.task ≤ most_of e.bursts = subst (λ x. most_begun x ≤ most_of e.bursts)
-      (sym (goes.task ∙ starts.task))
-      (task_most e.bursts (get_or list i d) (if has_failed e then None else following)) in
-      omega (arith, begun_few, ap most_of stands.bursts)
+  begun_most = grind (arith, begun_few, task_most)
 
   -- THE ACCESS THAT FOLLOWS
   follower_here : ((b : Access) → following ≡ Some b → Follower i list b)
       → (b : Access) → (if has_failed e then None else following) ≡ Some b → Follower i list b
-  follower_here next b = by_cases (has_failed e)
-      ((if has_failed e then None else following) ≡ Some b → Follower i list b)
-      (λ failed is. absurd (let never : None ≡ Some b = sym (ap (λ x. if x then None else following) failed)
-      ∙ is in cc))
-      (λ going is. next b (sym (ap (λ x. if x then None else following) going) ∙ is))
+  follower_here next b = grind arith
 
   chain_here : ((b : Access) → following ≡ Some b → Follower i list b) → is_burst f.task ≡ true
       → ContinuesAt list (i + 1) (access_of f.task)
@@ -287,9 +177,7 @@ module _ (i : ℕ) (list : List Access) (o e g f : Engine) (answers : List Answe
 
   -- the list has the accesses that are begun
   list_has : ((b : Access) → following ≡ Some b → Follower i list b) → i + f.begun ≤ length list
-  list_has next = by_cases (is_block f.task) (i + f.begun ≤ length list)
-      (λ block. omega (arith, begun_few, two_most f.task, (chain_here next (block_burst f.task block)).0))
-      (λ single. omega (arith, begun_few, single_most f.task single))
+  list_has next = grind (arith, begun_few, block_burst, by_cases, chain_here, single_most, two_most)
 
   stop_fits : (m now : PlainMemory) (end : End) → end ≢ All → f.state ≡ Resting (Stopped end)
       → ((b : Access) → following ≡ Some b → Follower i list b)
@@ -402,9 +290,7 @@ sent_least i o e (on sent) = omega arith
 -- nothing is ahead of an access that is none of a burst
 single_up : (further : Ahead) (task : Task) (m : PlainMemory) (t : Port) → is_burst task ≡ false
     → AheadAt further task m t.target → Up m t.target
-single_up Unsent task m t single h = h
-single_up Sent task m t single h = absurd (let both : true ≡ false = sym (block_burst task h.0) ∙ single in cc)
-single_up Failed task m t single h = h.1
+single_up further task m t single h = grind arith
 
 module _ (i : ℕ) (list : List Access) (o e : Engine) (answers : List Answer) (s t : Port) (opened : HasOpened o)
     (whole : i ≡ length list) (stands : Stands i list o s e answers t) where
@@ -463,12 +349,4 @@ module _ (i : ℕ) (list : List Access) (o e : Engine) (answers : List Answer) (
 
   pub all_does : (earlier after : List Answer) (u : Port) → after ≡ earlier ++ answers → Leads t 0 u
       → Does list o e earlier after All s u
-  all_does earlier after u added leads = record {
-    answers = answers;
-    added = added;
-    asked = ap (λ x. x.asked + o.requests) (others_uncounted.led 0 t u leads) ∙ stands.asked;
-    disturbed = omega (arith, stands.disturbed, ap (λ x. x.disturbed) (others_uncounted.led 0 t u leads));
-    lost = omega (arith, stands.lost, ap (λ x. x.lost) (others_uncounted.led 0 t u leads));
-    identification = identification_kept.led 0 t u leads ∙ stands.identification;
-    over = λ m is ok. all_over m u leads is ok;
-  }
+  all_does earlier after u added leads = grind (arith, all_over, identification_kept, others_uncounted)

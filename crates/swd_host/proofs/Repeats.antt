@@ -1,13 +1,9 @@
 -- Lists where accesses are repeated, one access more at a time.
-use Rattle.std.proofs.Common.{◌≡◌, ◌+◌, ◌<◌, ℕ, false, refl, sym, ap, subst, arith, ◌∙◌, List, [], ◌∷◌}
-use Rattle.std.proofs.Common.{◌++◌, length, take, get_or, suc}
-use Rattle.std.specs.Prelude.{replicate, ◌==◌, if◌then◌else◌}
+use Rattle.swd_host.proofs.Words.{◌≡◌, ◌+◌, ◌<◌, ℕ, false, refl, sym, ap, subst, arith, ◌∙◌, List, [], ◌∷◌, ◌++◌}
+use Rattle.swd_host.proofs.Words.{length, take, get_or, suc, replicate, ◌==◌, if◌then◌else◌, Access, PlainMemory}
+use Rattle.swd_host.proofs.Words.{plain_after, memory_after, times, repeated, AllBelow, IsAfter}
 use Rattle.std.proofs.lemmas.Grind.{take_at_read}
 use Rattle.std.proofs.lemmas.List.{append-nil, append_assoc, replicate_more, length-take-le}
-use Rattle.swd_port.specs.declared.access.Access.{Access}
-use Rattle.swd_port.specs.PlainMemory.{PlainMemory, plain_after}
-use Rattle.swd_host.specs.Plain.{memory_after}
-use Rattle.swd_host.specs.Again.{times, repeated, AllBelow, IsAfter}
 use Rattle.swd_host.proofs.Lists.{memory_append}
 
 -- THE LIST
@@ -28,13 +24,7 @@ repeated_append js i (x ∷ xs) a =
 pub repeated_next : (js : List ℕ) (list : List Access) (i : ℕ) (d : Access) → i < length list
     → repeated js 0 (take (i + 1) list)
     ≡ repeated js 0 (take i list) ++ get_or list i d ∷ replicate (times i js) (get_or list i d)
-repeated_next js list i d l =
-    let a : Access = get_or list i d in
-    let whole : length (take i list) ≡ i = length-take-le i list (omega arith) in
-    let many : 0 + length (take i list) ≡ i = omega arith in
-    ap (λ xs. repeated js 0 xs) (take_at_read list i d l).1
-    ∙ (repeated_append js 0 (take i list) a
-    ∙ ap (λ n. repeated js 0 (take i list) ++ a ∷ replicate (times n js) a) many)
+repeated_next js list i d l = grind (arith, length-take-le, repeated_append, take_at_read)
 
 pub repeated_none : (i : ℕ) (xs : List Access) → repeated [] i xs ≡ xs
 repeated_none i [] = refl
@@ -111,7 +101,4 @@ after_again js k list d m q l h =
 -- no place is repeated
 pub after_none : (k : ℕ) (list : List Access) (m now : PlainMemory) → now ≡ memory_after (take k list) m
     → IsAfter [] k list m now
-after_none k list m now e = record {
-  places = tt;
-  memory = e ∙ ap (λ xs. memory_after xs m) (sym (repeated_none 0 (take k list)));
-}
+after_none k list m now e = grind (arith, repeated_none)

@@ -1,46 +1,26 @@
 -- From the opening after a lost acknowledgement, and the list done after it, to the new report.
-use Rattle.std.proofs.Common.{◌≡◌, ◌≢◌, ◌+◌, ◌-◌, ◌*◌, ◌%◌, ◌^◌, ◌<◌, ◌≤◌, ℕ, true, refl, sym, ap, subst}
-use Rattle.std.proofs.Common.{inl, inr, arith, ◌∙◌, List, [], ◌∷◌, ◌++◌, length, take, length-append, zero, suc, ◌⊎◌}
-use Rattle.std.specs.Prelude.{drop}
+use Rattle.swd_host.proofs.Words.{◌≡◌, ◌≢◌, ◌+◌, ◌-◌, ◌*◌, ◌%◌, ◌^◌, ◌<◌, ◌≤◌, ℕ, true, refl, sym, ap}
+use Rattle.swd_host.proofs.Words.{subst, inl, inr}
+use Rattle.swd_host.proofs.Words.{arith, ◌∙◌, List, [], ◌∷◌, ◌++◌, length, take, length-append, zero, suc, ◌⊎◌, drop}
+use Rattle.swd_host.proofs.Words.{Access, Answer, PlainMemory, Due, Port, completed, End, All, Lost, Opened, Stopped}
+use Rattle.swd_host.proofs.Words.{Resting, Engine, most_of, AreAccesses, memory_after, begun_of, DueFits, Resumes}
+use Rattle.swd_host.proofs.Words.{IsNew, Goes, Told, Fits, FitsAt, EndsAt, IsKnown, Closes, RunsOver, Does, DoesOver}
+use Rattle.swd_host.proofs.Words.{told_by, Again, HasRoom, since}
 use Rattle.std.proofs.lemmas.List.{take_all}
-use Rattle.swd_port.specs.declared.access.Access.{Access}
 use Rattle.swd_port.specs.declared.access.Access.TheVariants.{Read}
-use Rattle.swd_port.specs.declared.access.Answer.{Answer}
-use Rattle.swd_port.specs.PlainMemory.{PlainMemory}
-use Rattle.swd_port.specs.declared.wire.Due.{Due}
-use Rattle.swd_port.specs.Port.{Port}
-use Rattle.swd_port.specs.Completion.{completed}
-use Rattle.swd_host.specs.declared.outcome.End.{End}
-use Rattle.swd_host.specs.declared.outcome.End.TheVariants.{All, Lost}
-use Rattle.swd_host.specs.declared.outcome.Outcome.TheVariants.{Opened, Stopped}
-use Rattle.swd_host.specs.declared.engine.State.TheVariants.{Resting}
-use Rattle.swd_host.specs.declared.engine.Engine.{Engine}
 use Rattle.swd_host.specs.declared.task.Bursts.TheVariants.{Writes}
-use Rattle.swd_host.specs.Tasks.{most_of}
-use Rattle.swd_host.specs.Plain.{AreAccesses, memory_after}
-use Rattle.swd_host.specs.Engines.{begun_of}
-use Rattle.swd_host.specs.Progress.{left_in}
-use Rattle.swd_host.specs.Tracks.{DueFits}
-use Rattle.swd_host.specs.Early.{Resumes}
-use Rattle.swd_host.specs.Turns.{IsNew, Goes}
-use Rattle.swd_host.specs.Reports.{Told, Fits, FitsAt, EndsAt, IsKnown, Closes, RunFits, RunsOver}
-use Rattle.swd_host.specs.Standing.{Does, DoesOver, told_by}
-use Rattle.swd_host.specs.Again.{Again, AgainThen, HasRoom, LeavesOff, GoesAgain, ResumeFits, Continues}
-use Rattle.swd_host.specs.Again.{added_in}
-use Rattle.swd_host.specs.Resuming.{since}
+use Rattle.swd_host.specs.Again.{AgainThen, LeavesOff, GoesAgain, ResumeFits, Continues, added_in}
 use Rattle.swd_host.proofs.Ends.{begun_there, stops_only}
 use Rattle.swd_host.proofs.Opened.{OpeningEnds, OpenOver, counted_at, new_resumes, opening_ends, opened_over}
 use Rattle.swd_host.proofs.Shadows.{again_words}
 use Rattle.swd_host.proofs.Openings.{ends_since, opening_spends, opening_asked, opening_unbegun, opening_lost}
-use Rattle.swd_host.proofs.GoingOn.{told_length, drop_length, by_earlier, by_this, since_begun, since_one, since_few}
-use Rattle.swd_host.proofs.GoingOn.{grows_few}
+use Rattle.swd_host.proofs.GoingOn.{told_length, drop_length, by_earlier, by_this, since_begun, since_one, grows_few}
 use Rattle.swd_host.proofs.GoingOn.{open_begun, Ongoing, goes_again, same_again, whole_same, fits_again}
 
 -- LISTS
 are_drop : (k : ℕ) (list : List Access) → AreAccesses list → AreAccesses (drop k list)
-are_drop zero list h = h
-are_drop (suc k) [] h = h
 are_drop (suc k) (x ∷ list) h = are_drop k list h.1
+are_drop _ _ h = h
 
 drop_append : (xs ys : List Answer) → drop (length xs) (xs ++ ys) ≡ ys
 drop_append [] ys = refl
@@ -87,8 +67,7 @@ module _ (list : List Access) (tries : ℕ) (earlier : Told) (e f : Engine) (bef
     none = unbegun f end at (opening_unbegun Writes true tries e f s t small new goes)
 
     stop : OpeningEnds end (counted_at s) f.tries (s.tally.disturbed + f.events) s t
-    stop =
-        opening_ends (counted_at s) s f end t at (opening_unbegun Writes true tries e f s t small new goes) due resumes
+    stop = search (arith, counted_at, opening_ends, opening_unbegun, resumes)
 
     stop_ends : EndsAt end tries s t
     stop_ends = subst (λ n. EndsAt end n s t) same_tries (stop.ends s (omega arith) (omega arith) odd)
@@ -118,18 +97,20 @@ module _ (list : List Access) (tries : ℕ) (earlier : Told) (e f : Engine) (bef
     ]
 
     pub resume_stops : ResumeFits list tries earlier (since raw earlier) s t
-    resume_stops = record {
-      again = λ js m then_again room. stop_again js m then_again;
-      ends = stop_ends;
-      stops_only = stops_only end tries s t stop_ends;
-      counted = opening_asked Writes true tries e f s t small new goes;
-      most = stop_most;
-      stays = λ begun same never. open_begun raw earlier (ap length kept) never begun;
-      begun = λ some. elim (since_begun raw earlier some) [
-        | by_earlier same never begun ↦ (open_begun raw earlier same never begun, never, inl (begun, stop_none))
-        | by_this is ↦ absurd (is none)
-      ];
-    }
+    resume_stops = grind (
+      arith,
+      by_earlier,
+      by_this,
+      none,
+      open_begun,
+      opening_asked,
+      since_begun,
+      stop_again,
+      stop_ends,
+      stop_most,
+      stop_none,
+      stops_only,
+    )
 
   -- the list was done
   module _ (end : End) (last : Engine) (after : List Answer) (u : Port) (at : f.state ≡ Resting Opened)
@@ -168,8 +149,7 @@ module _ (list : List Access) (tries : ℕ) (earlier : Told) (e f : Engine) (bef
     total = ap length after_is ∙ length-append earlier.answers does.answers
 
     done_ends : EndsAt end tries s u
-    done_ends = ends_since end tries s t u goes.disturbed goes.lost
-        (subst (λ n. EndsAt end n t u) same_tries done.ends)
+    done_ends = grind (arith, done, ends_since, same_tries)
 
     done_again : (js : List ℕ) (m : PlainMemory) → AgainThen js list m earlier s → HasRoom js list m
         → GoesAgain js list m earlier (since told earlier) u
@@ -215,29 +195,26 @@ module _ (list : List Access) (tries : ℕ) (earlier : Told) (e f : Engine) (bef
     ]
 
     done_most : last.requests ≤ 14 + 6 * length list + 5 * (u.tally.disturbed - s.tally.disturbed)
-    done_most =
-        let left : left_in f.state ≡ 1 = ap left_in at in
-        let spends = opening_spends Writes true tries e f s t small new goes in
-        omega (arith, done.most, spends, left, opened.paid, does.disturbed, long)
+    done_most = grind (arith, done, long, opening_spends)
 
     pub resume_performs : ResumeFits list tries earlier (since told earlier) s u
-    resume_performs = record {
-      again = done_again;
-      ends = done_ends;
-      stops_only = stops_only end tries s u done_ends;
-      counted = omega (arith, does.asked, opening_asked Writes true tries e f s t small new goes);
-      most = done_most;
-      stays = λ begun same never.
-          open_begun told earlier (omega (arith, total, ap length (sym done_added ∙ same))) never begun;
-      begun = done_begun;
-    }
+    resume_performs = grind (
+      arith,
+      done_added,
+      done_again,
+      done_begun,
+      done_ends,
+      done_most,
+      open_begun,
+      opening_asked,
+      stops_only,
+      total,
+    )
 
 -- A RUN over a target at rest leaves all that going on asks for
 pub leaves_off : (list : List Access) (tries : ℕ) (told : Told) (s t : Port) → RunsOver list tries told s t
     → LeavesOff list told s t
-leaves_off list tries told s t runs = λ rest c i.
-    (let r : RunFits 1 list tries s.target.memory told s t = runs rest in
-    fits_again list s.target.memory told (completed c t).target.memory (r.later c))
+leaves_off list tries told s t runs = grind (arith, fits_again)
 
 pub resumed_as : (list : List Access) (tries : ℕ) (earlier x y : Told) (s t : Port) → y ≡ x
     → ResumeFits list tries earlier x s t → ResumeFits list tries earlier y s t
@@ -247,35 +224,16 @@ resumed_as list tries earlier x y s t is h = subst (λ told. ResumeFits list tri
 closes_since : (list : List Access) (tries : ℕ) (raw earlier : Told) (part : List Answer) (due : Due)
     → Closes 5 1 list tries (record raw { answers = part }) due
     → Closes 5 1 list tries (record (since raw earlier) { answers = part }) due
-closes_since list tries raw earlier part due h = record {
-  number = h.number;
-  whole = h.whole;
-  begun = since_few raw earlier h.begun;
-  due = h.due;
-  spends = h.spends;
-}
+closes_since list tries raw earlier part due h = grind arith
 
 pub continues : (list : List Access) (tries : ℕ) (raw earlier report : Told) (part : List Answer) (due : Due)
     → length earlier.answers ≤ length list → report ≡ since raw earlier → raw.answers ≡ earlier.answers ++ part
     → Closes 5 1 (drop (length earlier.answers) list) tries (record raw { answers = part }) due
     → Continues list tries earlier report due
 continues list tries raw earlier report part due reported is added h =
-    let same : added_in earlier (since raw earlier) ≡ part =
-    ap (drop (length earlier.answers)) added ∙ drop_append earlier.answers part in
-    subst (λ x. Continues list tries earlier x due) (sym is) (record {
-      kept = added ∙ ap (λ l. earlier.answers ++ l) (sym same);
-      number = (let long = drop_length (length earlier.answers) list reported in
-          let count = ap length added in
-          let both = length-append earlier.answers part in
-          omega (arith, h.number, long, count, both));
-      closes = subst (λ l. Closes 5 1 (drop (length earlier.answers) list) tries
-          (record (since raw earlier) { answers = l }) due) (sym same)
-          (closes_since (drop (length earlier.answers) list) tries raw earlier part due h);
-    })
+    search (arith, closes_since, drop_append, drop_length, length-append, long, number)
 
 -- the accesses from here on, as a slice
 pub rest_is : (n k : ℕ) (list : List Access) → n ≡ k → k ≤ length list
     → take (length list - n) (drop n list) ≡ drop k list
-rest_is n k list is few =
-    let long = drop_length n list (omega arith) in
-    take_all (length list - n) (drop n list) (omega (arith, long)) ∙ ap (λ j. drop j list) is
+rest_is n k list is few = grind (arith, drop_length, long, take_all)

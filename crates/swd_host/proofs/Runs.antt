@@ -1,32 +1,14 @@
 -- From the opening and the list done after it to the report of a run.
-use Rattle.std.proofs.Common.{◌≡◌, ◌≢◌, ◌+◌, ◌%◌, ◌^◌, ◌<◌, ℕ, false, sym, ap, subst}
-use Rattle.std.proofs.Common.{inl, inr, arith, ◌∙◌, List, [], ◌++◌}
-use Rattle.swd_port.specs.declared.access.Access.{Access}
-use Rattle.swd_port.specs.declared.access.Answer.{Answer}
-use Rattle.swd_port.specs.PlainMemory.{PlainMemory}
-use Rattle.swd_port.specs.Port.{Port}
-use Rattle.swd_port.specs.Completion.{completed, MayBecome}
+use Rattle.swd_host.proofs.Words.{◌≡◌, ◌≢◌, ◌+◌, ◌%◌, ◌^◌, ◌<◌, ℕ, false, sym, ap, subst, inl, inr, arith, ◌∙◌, List}
+use Rattle.swd_host.proofs.Words.{[], ◌++◌, Access, Answer, PlainMemory, Port, completed, MayBecome, End, All, Lost}
+use Rattle.swd_host.proofs.Words.{Opened, Stopped, Resting, Engine, AreAccesses, Bursts, most_of, left_in, DueFits}
+use Rattle.swd_host.proofs.Words.{Resumes, IsNew, Goes, Told, Fits, EndsAt, IsAtRest, RunFits, RunsWithin, IsOpen, Does}
+use Rattle.swd_host.proofs.Words.{told_by}
 use Rattle.swd_port.proofs.CompletionLaws.{may_become_of_none}
-use Rattle.swd_host.specs.declared.outcome.End.{End}
-use Rattle.swd_host.specs.declared.outcome.End.TheVariants.{All, Lost}
-use Rattle.swd_host.specs.declared.outcome.Outcome.TheVariants.{Opened, Stopped}
-use Rattle.swd_host.specs.declared.engine.State.TheVariants.{Resting}
-use Rattle.swd_host.specs.declared.engine.Engine.{Engine}
-use Rattle.swd_host.specs.Plain.{AreAccesses}
-use Rattle.swd_host.specs.declared.task.Bursts.{Bursts}
-use Rattle.swd_host.specs.Tasks.{most_of}
-use Rattle.swd_host.specs.Engines.{begun_of}
-use Rattle.swd_host.specs.Progress.{left_in}
-use Rattle.swd_host.specs.Tracks.{DueFits}
-use Rattle.swd_host.specs.Early.{Resumes}
-use Rattle.swd_host.specs.Turns.{IsNew, Goes}
-use Rattle.swd_host.specs.Reports.{Told, Fits, EndsAt, IsAtRest, RunFits, RunsWithin}
-use Rattle.swd_host.specs.Standing.{IsOpen, Does, told_by}
-use Rattle.swd_host.proofs.Fitting.{fits_by, none_left}
 use Rattle.swd_host.proofs.Openings.{ends_since, opening_spends, opening_asked, opening_unbegun, opening_lost}
 use Rattle.swd_host.proofs.Openings.{opened_sent}
 use Rattle.swd_host.proofs.Opened.{OpeningEnds, OpenOver, counted_at, new_resumes, opening_ends, opened_over}
-use Rattle.swd_host.proofs.Ends.{begun_there, stops_only}
+use Rattle.swd_host.proofs.Ends.{stops_only}
 
 -- WHAT A REPORT SAYS
 pub told_as : (limit : ℕ) (list : List Access) (tries : ℕ) (m : PlainMemory) (x y : Told) (s t : Port) → y ≡ x
@@ -58,11 +40,7 @@ module _ (kind : Bursts) (list : List Access) (tries : ℕ) (e f : Engine) (answ
 
   opening_fits : (now : PlainMemory) (end : End) → end ≢ All → f.state ≡ Resting (Stopped end) → MayBecome s now
       → Fits (most_of kind) list m (told_by answers f end) now
-  opening_fits now end never at may =
-      let is : begun_of f ≡ 0 = begun_there f end at ∙ unbegun in
-      fits_by (most_of kind) 0 list m answers f end now (omega arith) none (omega (arith, is))
-      (λ some. absurd (some is)) (λ all. absurd (never all))
-      (none_left 0 list m (begun_of f) now (only now may))
+  opening_fits now end never at may = grind arith
 
   pub opening_stops : (end : End) → f.state ≡ Resting (Stopped end)
       → RunFits (most_of kind) list tries m (told_by answers f end) s t
@@ -110,13 +88,17 @@ module _ (kind : Bursts) (list : List Access) (tries : ℕ) (e f : Engine) (answ
         counted = omega (arith, does.asked, opening_asked kind false tries e f s t small new goes);
         least = λ whole. omega (arith, over.least whole, opened_sent kind false tries e f s t small new goes at);
         most =
-            omega (arith, over.most, opening_spends kind false tries e f s t small new goes, opened.paid, does.disturbed);
+            omega (
+              arith,
+              over.most,
+              opening_spends kind false tries e f s t small new goes,
+              opened.paid,
+              does.disturbed,
+            );
       })
 
 -- by what the engine was made for
 pub runs_as : (kind : Bursts) (tries : ℕ) (list : List Access) (e : Engine) (told : Told) (s u : Port)
     → IsNew kind false tries e → RunsWithin (most_of e.bursts) list e.tries told s u
     → RunsWithin (most_of kind) list tries told s u
-runs_as kind tries list e told s u new h =
-    subst (λ n. RunsWithin (most_of kind) list n told s u) new.tries
-    (subst (λ x. RunsWithin (most_of x) list e.tries told s u) new.bursts h)
+runs_as kind tries list e told s u new h = grind arith

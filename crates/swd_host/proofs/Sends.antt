@@ -1,43 +1,19 @@
 -- Every request keeps what the engine knows.
-use Rattle.std.proofs.Common.{◌≡◌, ◌≤◌, ℕ, Bool, true, false, refl, sym, ap, subst, inl, inr}
-use Rattle.std.proofs.Common.{arith, ◌∙◌}
-use Rattle.std.specs.Prelude.{None, max}
-use Rattle.swd_host.specs.declared.task.Task.{Task}
-use Rattle.swd_host.specs.declared.task.Task.TheVariants.{Read, BurstRead, Write, BurstWrite}
-use Rattle.swd_port.specs.PlainMemory.{PlainMemory}
-use Rattle.swd_port.specs.Port.{Port}
-use Rattle.swd_port.specs.declared.register.Register.TheVariants.{CtrlStatWrite}
-use Rattle.swd_port.specs.declared.register.Register.TheVariants.{SelectWrite}
-use Rattle.swd_port.specs.declared.register.Register.TheVariants.{CswWrite, TarWrite}
-use Rattle.swd_port.specs.declared.state.Reset.TheVariants.{Live}
-use Rattle.swd_port.specs.Asking.{Asks}
-use Rattle.swd_host.specs.declared.flags.Flags.{Flags}
-use Rattle.swd_host.specs.declared.request.Place.{Place}
-use Rattle.swd_host.specs.declared.request.Place.TheVariants.{Identify, Wipe, Inspect, Select, Power, Powered}
-use Rattle.swd_host.specs.declared.request.Place.TheVariants.{Configure, Recall, Configured, Aim, Transfer, Confirm}
-use Rattle.swd_host.specs.declared.request.Place.TheVariants.{Behind}
-use Rattle.swd_host.specs.declared.request.Job.{Job}
-use Rattle.swd_host.specs.declared.request.Job.TheVariants.{At, Resend, Status, LastStatus, Clear, Check}
-use Rattle.swd_host.specs.Requests.{request_for, begins, begins_next}
+use Rattle.swd_host.proofs.Words.{◌≡◌, ◌≤◌, ℕ, Bool, false, refl, sym, ap, subst, inl, inr, arith, ◌∙◌, None, max, Task}
+use Rattle.swd_host.proofs.Words.{BurstRead, PlainMemory, Port, CtrlStatWrite, SelectWrite, CswWrite, TarWrite, Live}
+use Rattle.swd_host.proofs.Words.{Asks, Flags, Place, Identify, Wipe, Inspect, Select, Power, Powered, Configure}
+use Rattle.swd_host.proofs.Words.{Recall, Configured, Aim, Transfer, Confirm, Behind, Job, At, Resend, Status}
+use Rattle.swd_host.proofs.Words.{LastStatus, Clear, Check, request_for, begins, begins_next, Hand, Saw, Counted}
+use Rattle.swd_host.proofs.Words.{no_select, Calm, Sure, Hurt, Broken, Facts, Refused, Owes, Checks, Before, During}
+use Rattle.swd_host.proofs.Words.{Says, is_block, BusErrorOf, IsTask, is_confirm}
 use Rattle.std.proofs.Math.Nat.{le-max_left, le-max_right, max-zero}
-use Rattle.swd_host.specs.Tracks.{Hand, Saw, saw_okay, saw_wait, saw_fault, saw_none, Counted}
-use Rattle.swd_port.specs.Registers.{no_select}
-use Rattle.swd_host.specs.Tracks.{Calm, Has, Sure, Hurt}
-use Rattle.swd_host.specs.Tracks.{Broken, Facts, Refused, by_damage, by_error, Owes, Checks, cleared, kept}
-use Rattle.swd_host.specs.Tracks.{Before, During}
-use Rattle.swd_host.specs.Tracks.{Says}
-use Rattle.swd_host.proofs.Frames.{owes_framed}
-use Rattle.swd_host.proofs.Asked.{Came, came_okay, came_wait, came_fault, came_lost, status}
-use Rattle.swd_host.proofs.Asked.{status_asked, power_asked, abort_asked}
-use Rattle.swd_host.proofs.Frames.{has_debug}
+use Rattle.swd_port.proofs.CallLaws.{request_counted}
+use Rattle.swd_host.proofs.Frames.{owes_framed, has_debug}
+use Rattle.swd_host.proofs.Asked.{Came, status, status_asked, power_asked, abort_asked}
 use Rattle.swd_host.proofs.Transfers.{drw_asked, confirm_asked}
 use Rattle.swd_host.proofs.Asks.{hurt_calm, spoilt_calm, hurt_asked, write_asked, wipe_asked, identify_asked}
 use Rattle.swd_host.proofs.Asks.{recall_asked, configured_asked}
-use Rattle.swd_host.proofs.Blocks.{next_asked, resend_asked, returned_select}
-use Rattle.swd_host.specs.Tasks.{is_block}
-use Rattle.swd_host.specs.Tracks.{BusErrorOf, own_error, next_error, IsTask, memory_once_done, next_hand}
-use Rattle.swd_port.proofs.CallLaws.{request_counted}
-use Rattle.swd_host.specs.Requests.{is_confirm}
+use Rattle.swd_host.proofs.Blocks.{next_asked, resend_asked}
 
 -- AT REST
 pub record AtRest (s : Port) : Type 0 where
@@ -52,29 +28,22 @@ broken_rest : (p : Place) (b : ℕ) (k : Hand) (s : Port) → Broken p b k s.tar
 broken_rest p b k s h = record { select = h.select; live = h.live; pending = h.pending }
 
 bus_error_rest : (p : Place) (b : ℕ) (k : Hand) (s : Port) → BusErrorOf p b k s.target → AtRest s
-bus_error_rest p b k s (own_error h) = broken_rest p b k s h
-bus_error_rest p b k s (next_error h) =
-    broken_rest Confirm 1 (next_hand k.task (memory_once_done k)) s h.broken
+bus_error_rest p b k s h = grind (arith, broken_rest)
 
 pub facts_rest : (error : Bool) (p : Place) (b : ℕ) (k : Hand) (s : Port) → Facts error p b k s.target → AtRest s
-facts_rest true p b k s h = bus_error_rest p b k s h
-facts_rest false p b k s h = calm_rest k.memory s (spoilt_calm p b k s h)
+facts_rest error p b k s h = grind (arith, bus_error_rest, calm_rest, spoilt_calm)
 
 pub refused_rest : (p : Place) (n b : ℕ) (k : Hand) (s : Port) → Refused p n b k s → AtRest s
-refused_rest p n b k s (by_damage h) = calm_rest k.memory s (hurt_calm p n b k s h)
-refused_rest p n b k s (by_error h i w paid) = bus_error_rest p b k s h
+refused_rest p n b k s h = grind (arith, bus_error_rest, calm_rest, hurt_calm)
 
 pub checks_rest : (p : Place) (owed : Flags) (n b : ℕ) (k : Hand) (s : Port) → Checks p owed n b k s → AtRest s
-checks_rest p owed n b k s (cleared h i w paid) = facts_rest owed.error p b k s h
-checks_rest p owed n b k s (kept h i w paid) = facts_rest owed.error p b k s h
+checks_rest p owed n b k s h = grind (arith, facts_rest)
 
 pub inspect_rest : (n b : ℕ) (k : Hand) (s : Port) → Before (At Inspect) n b k s → AtRest s
-inspect_rest n b k s (inl h) = calm_rest k.memory s h.has
-inspect_rest n b k s (inr h) = calm_rest k.memory s (hurt_calm Inspect n b k s h)
+inspect_rest n b k s h = grind (arith, calm_rest, hurt_calm)
 
 pub powered_rest : (n b : ℕ) (k : Hand) (s : Port) → Before (At Powered) n b k s → AtRest s
-powered_rest n b k s (inl h) = calm_rest k.memory s h.has.calm
-powered_rest n b k s (inr h) = calm_rest k.memory s (hurt_calm Powered n b k s h)
+powered_rest n b k s h = grind (arith, calm_rest, hurt_calm)
 
 some_more : (b : ℕ) → 1 ≤ b → 1 ≤ max b 0
 some_more b h = omega (arith, le-max_left b 0)
@@ -85,13 +54,10 @@ confirm_sent : (task : Task) (n : ℕ) (base : Counted) (b : ℕ) (k : Hand) (v 
     → Came (At Confirm) n base (max b (begins_next task)) k v t
 confirm_sent (BurstRead at) n base b k v s t e ok l h asks =
     next_asked at n base b (max b 2) k v s t e ok (le-max_right b 2) l h asks
-confirm_sent (Read at) n base b k v s t e ok l h asks =
-    confirm_asked n base b (max b 0) k v s t (some_more b h.has.begun) (ap is_block e) l h asks
-confirm_sent (Write at word) n base b k v s t e ok l h asks =
-    confirm_asked n base b (max b 0) k v s t (some_more b h.has.begun) (ap is_block e) l h asks
-confirm_sent (BurstWrite at word) n base b k v s t e ok l h asks =
+confirm_sent _ n base b k v s t e ok l h asks =
     confirm_asked n base b (max b 0) k v s t (some_more b h.has.begun) (ap is_block e) l h asks
 
+-- where no access is begun by it
 came_same : (job : Job) (n : ℕ) (base : Counted) (b : ℕ) (k : Hand) (v : ℕ) (t : Port) → Came job n base b k v t
     → Came job n base (max b 0) k v t
 came_same job n base b k v t h = subst (λ c. Came job n base c k v t) (sym (max-zero b)) h
@@ -124,10 +90,9 @@ module _ (n : ℕ) (base : Counted) (b : ℕ) (k : Hand) (v : ℕ) (s t : Port) 
   plain_asked Recall h asks none other = recall_asked n base b k v s t l h asks
   plain_asked Configured h asks none other = configured_asked n base b k v s t l h asks
   plain_asked Aim h asks none other = write_asked Aim n base b b k v s t TarWrite refl refl refl refl refl refl
-      (λ e. absurd (cc)) (omega arith) h.has.up.calm (λ e. has_debug s.target h.has.up.debug h.has.up.seen) l h asks (λ w. w)
-  plain_asked Transfer h asks none other = absurd (omega arith)
-  plain_asked Confirm h asks none other = absurd (cc)
-  plain_asked Behind h asks none other = absurd h.has
+      (λ e. absurd (cc)) (omega arith) h.has.up.calm (λ e. has_debug s.target h.has.up.debug h.has.up.seen) l h asks
+      (λ w. w)
+  plain_asked _ h asks none other = grind arith
 
   sure_asked : (p : Place) → Sure p n b k s → Asks s (request_for (At p) k.task) v t
       → Came (At p) n base (max b (begins (At p) k.task)) k v t
@@ -146,6 +111,7 @@ module _ (n : ℕ) (base : Counted) (b : ℕ) (k : Hand) (v : ℕ) (s t : Port) 
   sure_asked Aim h asks = came_same (At Aim) n base b k v t (plain_asked Aim h asks refl refl)
   sure_asked Behind h asks = absurd h.has
 
+  -- a request that meets the damage of the write before
   place_hurt : (p : Place) → Hurt p n b k s → Asks s (request_for (At p) k.task) v t
       → Came (At p) n base (max b (begins (At p) k.task)) k v t
   place_hurt Inspect h asks = came_same (At Inspect) n base b k v t
@@ -157,20 +123,13 @@ module _ (n : ℕ) (base : Counted) (b : ℕ) (k : Hand) (v : ℕ) (s t : Port) 
   place_hurt Confirm h asks =
       hurt_asked Confirm n base b (max b (begins_next k.task)) k v s t refl (le-max_left b
       (begins_next k.task)) l h asks
-  place_hurt Identify h asks = absurd (let c = h.confirms in cc)
-  place_hurt Wipe h asks = absurd (let c = h.confirms in cc)
-  place_hurt Select h asks = absurd (let c = h.confirms in cc)
-  place_hurt Configure h asks = absurd (let c = h.confirms in cc)
-  place_hurt Configured h asks = absurd (let c = h.confirms in cc)
-  place_hurt Aim h asks = absurd (let c = h.confirms in cc)
-  place_hurt Behind h asks = absurd (let c = h.confirms in cc)
+  place_hurt _ h asks = absurd (let c = h.confirms in cc)
 
   pub job_asked : (job : Job) → Before job n b k s → Asks s (request_for job k.task) v t
       → Came job n base (max b (begins job k.task)) k v t
   job_asked (At p) (inl h) asks = sure_asked p h asks
   job_asked (At p) (inr h) asks = place_hurt p h asks
-  job_asked (Resend p) h asks =
-      came_same (Resend p) n base b k v t (resend_asked p h.0 n base b k v s t l h.1 asks)
+  job_asked (Resend p) h asks = came_same (Resend p) n base b k v t (resend_asked p h.0 n base b k v s t l h.1 asks)
   job_asked (Status p) h asks =
       came_same (Status p) n base b k v t (says_asked (Status p) (refused_rest p n b k s h) h asks (λ x. x))
   job_asked LastStatus h asks = absurd h
@@ -183,38 +142,14 @@ module _ (n : ℕ) (base : Counted) (b : ℕ) (k : Hand) (v : ℕ) (s t : Port) 
       came_same (Check p owed) n base b k v t
       (says_asked (Check p owed) (checks_rest p owed n b k s h) h asks (λ x. x))
 
-has_select : (p : Place) (b : ℕ) (k : Hand) (s : Port) → Has p b k s.target → s.target.select ≡ no_select
-has_select Identify b k s h = h.select
-has_select Wipe b k s h = h.select
-has_select Inspect b k s h = h.select
-has_select Select b k s h = h.select
-has_select Power b k s h = h.select
-has_select Powered b k s h = h.calm.select
-has_select Configure b k s h = h.calm.select
-has_select Recall b k s h = h.up.calm.select
-has_select Configured b k s h = h.up.calm.select
-has_select Aim b k s h = h.up.calm.select
-has_select Transfer b k s h = h.up.calm.select
-has_select Confirm b k s h = h.select
-has_select Behind b k s h = absurd h
-
+-- SELECT is 0 before each request
 pub before_select : (job : Job) (n b : ℕ) (k : Hand) (s : Port) → Before job n b k s → s.target.select ≡ no_select
-before_select (At p) n b k s (inl h) = has_select p b k s h.has
-before_select (At p) n b k s (inr h) = has_select h.back b k s h.has
-before_select (Resend p) n b k s h = returned_select p h.0 b k s h.1.returned
-before_select (Status p) n b k s h = (refused_rest p n b k s h).select
-before_select LastStatus n b k s h = absurd h
-before_select (Clear p owed) n b k s h = (facts_rest owed.error p b k s h.facts).select
-before_select (Check p owed) n b k s h = (checks_rest p owed n b k s h).select
+before_select job n b k s h = grind arith
 
 -- what an acknowledgement tells the engine
 pub came_saw : (job : Job) (n : ℕ) (base : Counted) (b : ℕ) (k : Hand) (v : ℕ) (t : Port)
     → t.target.select ≡ no_select → Came job n base b k v t → Saw job v n base b k t
-came_saw job n base b k v t select (came_okay is h) = saw_okay is h
-came_saw job n base b k v t select (came_wait is h) = saw_wait is h
-came_saw job n base b k v t select (came_fault is h) = saw_fault is h
-came_saw job n base b k v t select (came_lost none w l d) = saw_none none.not_okay none.not_wait none.not_fault
-    (record { within = w; more = l; paid = d; select = select })
+came_saw job n base b k v t select h = grind arith
 
 pub ask_saw : (job : Job) (n : ℕ) (base : Counted) (b : ℕ) (k : Hand) (v : ℕ) (s t : Port)
     → base.lost ≤ s.tally.lost → IsTask k.task → Before job n b k s → Asks s (request_for job k.task) v t

@@ -1,21 +1,15 @@
 -- Calls one after the other over one target.
-use Rattle.std.proofs.Common.{◌≡◌, ◌+◌, ◌%◌, ℕ, refl, sym, ap, subst, arith, ◌∙◌, List, ◌++◌, length, take}
-use Rattle.std.proofs.Common.{zero, suc}
+use Rattle.swd_host.proofs.Words.{◌≡◌, ◌+◌, ◌%◌, ℕ, refl, sym, ap, subst, arith, ◌∙◌, List, ◌++◌, length, take, Access}
+use Rattle.swd_host.proofs.Words.{Answer, PlainMemory, Port, All, memory_after, answers_of, Told, FitsAt, EndsAt}
+use Rattle.swd_host.proofs.Words.{IsAtRest, RunFits}
 use Rattle.std.proofs.lemmas.List.{take_all}
-use Rattle.swd_port.specs.declared.access.Access.{Access}
-use Rattle.swd_port.specs.declared.access.Answer.{Answer}
-use Rattle.swd_port.specs.PlainMemory.{PlainMemory}
-use Rattle.swd_port.specs.Port.{Port, made}
-use Rattle.swd_host.specs.declared.outcome.End.TheVariants.{All}
-use Rattle.swd_host.specs.Plain.{memory_after, answers_of}
-use Rattle.swd_host.specs.Reports.{Told, FitsAt, EndsAt, IsAtRest, RunFits}
+use Rattle.swd_port.specs.Port.{made}
 use Rattle.swd_host.specs.Sessions.{Session, none, then, IsAsOne, Resumed, first, again, RepeatsFew}
 use Rattle.swd_host.proofs.Lists.{memory_append, answers_append}
 use Rattle.swd_host.proofs.GoingOn.{grows_few}
 
 pub made_rests : (identification : ℕ) (m : PlainMemory) → identification % 2 ≡ 1 → IsAtRest (made identification m)
-made_rests identification m odd =
-    record { due = refl; known = record { select = refl; odd = odd }; settled = refl }
+made_rests identification m odd = record { due = refl; known = record { select = refl; odd = odd }; settled = refl }
 
 -- A CALL THAT ENDED WHOLE
 module _ (limit tries : ℕ) (list : List Access) (told : Told) (s t : Port)
@@ -35,21 +29,17 @@ module _ (limit tries : ℕ) (list : List Access) (told : Told) (s t : Port)
 
   -- no access is begun beside
   unbegun : (b : ℕ) → told.begun ≡ b → b ≡ 0
-  unbegun zero is = refl
-  unbegun (suc b) is = absurd ((whole_fit.begun (λ none. absurd (let e = sym is ∙ none in omega arith))).1 all)
+  unbegun b is = grind (arith, whole_fit)
 
   pub whole_memory : t.target.memory ≡ memory_after list s.target.memory
-  whole_memory =
-      let (j, few, left) = whole_fit.memory in
-      let none = unbegun told.begun refl in
-      let count : runs.now.0 + j ≡ runs.now.0 = omega arith in
-      left ∙ (ap (λ n. memory_after (take n list) s.target.memory) count
-      ∙ ap (λ xs. memory_after xs s.target.memory) whole_list)
+  whole_memory = grind (arith, unbegun, whole_fit, whole_list)
 
+-- a session, as one run over the list of all its accesses
 pub as_one : (s : Port) (list : List Access) (answers : List Answer) (t : Port) → IsAtRest s
     → Session s list answers t → IsAsOne s list answers t
 as_one s list answers t rest none = record { rests = rest; answers_are = refl; memory = refl }
-as_one s list answers t rest (then {done = done} {answers = old} {t = u} {u = v} before limit tries more told runs all) =
+as_one s list answers t rest
+    (then {done = done} {answers = old} {t = u} {u = v} before limit tries more told runs all) =
     let b : IsAsOne s done old u = as_one s done old u rest before in
     let r : RunFits limit more tries u.target.memory told u t = runs b.rests in
     let m : PlainMemory = s.target.memory in

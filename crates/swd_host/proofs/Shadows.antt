@@ -1,23 +1,18 @@
 -- A memory where accesses were repeated has the words of the plain memory, and answers as it does, where the log has
 -- room for the copies.
-use Rattle.std.proofs.Common.{◌≡◌, ◌+◌, ◌<◌, ◌≤◌, ℕ, Bool, true, false, refl, sym, ap, subst, arith, ◌∙◌, List, [], ◌∷◌}
-use Rattle.std.proofs.Common.{length, take, zero, suc, get_or, length-append, inl, inr}
-use Rattle.std.specs.Prelude.{drop, is_some, unwrap_or, replicate, nat_lt, if◌then◌else◌, ◌==◌}
+use Rattle.swd_host.proofs.Words.{◌≡◌, ◌+◌, ◌<◌, ◌≤◌, ℕ, Bool, true, false, refl, sym, ap, subst, arith, ◌∙◌, List, []}
+use Rattle.swd_host.proofs.Words.{◌∷◌, length, take, zero, suc, get_or, length-append, inl, inr, drop, replicate}
+use Rattle.swd_host.proofs.Words.{nat_lt, if◌then◌else◌, ◌==◌, Access, Value, PlainMemory, address, plain_answer}
+use Rattle.swd_host.proofs.Words.{plain_after, answer_of, memory_after, All, Told, times, repeated, IsAfter, Again}
+use Rattle.swd_host.proofs.Words.{HasRoom}
+use Rattle.std.specs.Prelude.{unwrap_or}
 use Rattle.std.proofs.lemmas.Bool.{lt-ltb}
 use Rattle.std.proofs.lemmas.List.{take_all}
 use Rattle.std.specs.Ordering.{nat_cmp}
 use Rattle.std.specs.FinMap.{FinMap, get, contains_key}
-use Rattle.swd_port.specs.declared.access.Access.{Access}
 use Rattle.swd_port.specs.declared.access.Access.TheVariants.{Read, Write}
-use Rattle.swd_port.specs.declared.access.Answer.{Answer}
-use Rattle.swd_port.specs.declared.access.Answer.TheVariants.{Value, BusFault}
-use Rattle.swd_port.specs.PlainMemory.{PlainMemory, address, succeeds_at, words_after, plain_answer, plain_after}
-use Rattle.swd_port.specs.PlainMemory.{answer_of, transfer_of, done}
+use Rattle.swd_port.specs.PlainMemory.{succeeds_at, words_after, transfer_of, done}
 use Rattle.swd_port.proofs.MapLemmas.{get_same, insert_twice}
-use Rattle.swd_host.specs.Plain.{memory_after}
-use Rattle.swd_host.specs.declared.outcome.End.TheVariants.{All}
-use Rattle.swd_host.specs.Reports.{Told}
-use Rattle.swd_host.specs.Again.{times, repeated, IsAfter, Again, HasRoom}
 use Rattle.swd_host.proofs.Lists.{memory_append, memory_next}
 use Rattle.swd_host.proofs.Repeats.{repeated_next}
 
@@ -52,19 +47,7 @@ log_done a p e = ap (λ x. length x.log) (after_true a p e) ∙ done_log a p
 
 shadow_succeeds : (c : ℕ) (a : Access) (p q : PlainMemory) → HasPlace c a p → Shadow c p q
     → succeeds_at (address a) q ≡ succeeds_at (address a) p
-shadow_succeeds c a p q f h =
-    elim (succeeds_at (address a) p) as (λ b. succeeds_at (address a) p ≡ b → succeeds_at (address a) q ≡ b) [
-      | true ↦ λ e.
-          (let there : contains_key p.words (address a) ≡ true = sym (contains_succeeds (address a) p f.now) ∙ e in
-          let more : length (plain_after a p).log ≡ length p.log + 1 = log_done a p e in
-          let fits : length q.log < q.room = omega (arith, h.most, h.room, f.later, more) in
-          contains_succeeds (address a) q fits ∙ (ap (λ w. contains_key w (address a)) h.words ∙ there))
-      | false ↦ λ e.
-          (let none : contains_key p.words (address a) ≡ false = sym (contains_succeeds (address a) p f.now) ∙ e in
-          let same : contains_key q.words (address a) ≡ false =
-          ap (λ w. contains_key w (address a)) h.words ∙ none in
-          rw same refl)
-    ] refl
+shadow_succeeds c a p q f h = grind (arith, contains_succeeds, log_done)
 
 -- WHAT IT IS ANSWERED
 answer_same : (a : Access) (p q : PlainMemory) → q.words ≡ p.words → answer_of a q ≡ answer_of a p
@@ -73,9 +56,7 @@ answer_same (Write at word) p q e = refl
 
 plain_same : (a : Access) (p q : PlainMemory) → succeeds_at (address a) q ≡ succeeds_at (address a) p
     → answer_of a q ≡ answer_of a p → plain_answer a q ≡ plain_answer a p
-plain_same a p q e g =
-    let f : Bool → Answer → Answer = (λ b y. if b then y else BusFault) in
-    ap (λ b. f b (answer_of a q)) e ∙ ap (λ y. f (succeeds_at (address a) p) y) g
+plain_same a p q e g = grind arith
 
 shadow_answer : (c : ℕ) (a : Access) (p q : PlainMemory) → HasPlace c a p → Shadow c p q
     → plain_answer a q ≡ plain_answer a p
@@ -83,15 +64,7 @@ shadow_answer c a p q f h = plain_same a p q (shadow_succeeds c a p q f h) (answ
 
 -- AND WHAT IT LEAVES
 done_shadow : (c : ℕ) (a : Access) (p q : PlainMemory) → Shadow c p q → Shadow c (done a p) (done a q)
-done_shadow c a p q h =
-    let i : length (done a p).log ≡ length p.log + 1 = done_log a p in
-    let j : length (done a q).log ≡ length q.log + 1 = done_log a q in
-    record {
-      words = ap (λ w. words_after a w) h.words;
-      room = h.room;
-      most = omega (arith, h.most, i, j);
-      least = omega (arith, h.least, i, j);
-    }
+done_shadow c a p q h = grind (arith, done_log)
 
 shadow_next : (c : ℕ) (a : Access) (p q : PlainMemory) → HasPlace c a p → Shadow c p q
     → Shadow c (plain_after a p) (plain_after a q)
@@ -107,13 +80,11 @@ shadow_next c a p q f h =
 
 -- ONCE MORE
 words_twice : (a : Access) (w : FinMap nat_cmp ℕ) → words_after a (words_after a w) ≡ words_after a w
-words_twice (Read at) w = refl
-words_twice (Write at word) w = insert_twice w at word word
+words_twice a w = grind (arith, insert_twice)
 
 there_still : (a : Access) (w : FinMap nat_cmp ℕ) → contains_key w (address a) ≡ true
     → contains_key (words_after a w) (address a) ≡ true
-there_still (Read at) w e = e
-there_still (Write at word) w e = ap (λ o. is_some o) (get_same w at word at refl)
+there_still a w e = grind (arith, get_same)
 
 answer_twice : (a : Access) (p q : PlainMemory) → q.words ≡ words_after a p.words → answer_of a q ≡ answer_of a p
 answer_twice (Read at) p q e = ap (λ w. Value (unwrap_or (get w at) 0)) e
@@ -127,26 +98,9 @@ record Twice (c : ℕ) (a : Access) (p q : PlainMemory) : Type 0 where
 twice_done : (c : ℕ) (a : Access) (p q : PlainMemory) → succeeds_at (address a) p ≡ true → HasPlace (c + 1) a p
     → Shadow c (done a p) q → Twice c a p q
 twice_done c a p q e f h =
-    let there : contains_key p.words (address a) ≡ true = sym (contains_succeeds (address a) p f.now) ∙ e in
-    let still : contains_key q.words (address a) ≡ true =
-    ap (λ w. contains_key w (address a)) h.words ∙ there_still a p.words there in
-    let i : length (done a p).log ≡ length p.log + 1 = done_log a p in
-    let j : length (done a q).log ≡ length q.log + 1 = done_log a q in
-    let more : length (plain_after a p).log ≡ length p.log + 1 = log_done a p e in
-    let fits : length q.log < q.room = omega (arith, h.most, h.room, f.later, i, more) in
-    let g : succeeds_at (address a) q ≡ true = contains_succeeds (address a) q fits ∙ still in
-    record {
-      answer = plain_same a p q (g ∙ sym e) (answer_twice a p q h.words);
-      shadow = subst (λ y. Shadow (c + 1) y (plain_after a q)) (sym (after_true a p e))
-          (subst (λ z. Shadow (c + 1) (done a p) z) (sym (after_true a q g))
-          (record {
-            words = ap (λ w. words_after a w) h.words ∙ words_twice a p.words;
-            room = h.room;
-            most = omega (arith, h.most, i, j);
-            least = omega (arith, h.least, i, j);
-          }));
-    }
+    grind (arith, after_true, answer_twice, contains_succeeds, done_log, log_done, plain_same, there_still, words_twice)
 
+-- room for more copies is room for fewer
 place_less : (c : ℕ) (a : Access) (p : PlainMemory) → HasPlace (c + 1) a p → HasPlace c a p
 place_less c a p f = record { now = f.now; later = omega (arith, f.later) }
 
@@ -183,8 +137,7 @@ abbrev below : ℕ → List ℕ → ℕ
 below i [] = 0
 below i (j ∷ js) = (if nat_lt j i then 1 else 0) + below i js
 
-below_one : (i j : ℕ)
-    → (if nat_lt j (i + 1) then 1 else 0) ≡ (if nat_lt j i then 1 else 0) + (if i == j then 1 else 0)
+below_one : (i j : ℕ) → (if nat_lt j (i + 1) then 1 else 0) ≡ (if nat_lt j i then 1 else 0) + (if i == j then 1 else 0)
 below_one i j = grind arith
 
 below_next : (i : ℕ) (js : List ℕ) → below (i + 1) js ≡ below i js + times i js
@@ -192,8 +145,7 @@ below_next i [] = refl
 below_next i (j ∷ js) = let h = below_next i js in let e = below_one i j in omega (arith, h, e)
 
 one_most : (b : Bool) → (if b then 1 else 0) ≤ 1
-one_most true = omega arith
-one_most false = omega arith
+one_most b = grind arith
 
 below_most : (i : ℕ) (js : List ℕ) → below i js ≤ length js
 below_most i [] = omega arith
@@ -209,11 +161,7 @@ below_none (j ∷ js) =
 -- THE ROOM: the log only grows, and the room stays
 grown : (a : Access) (p : PlainMemory) (b : Bool) → succeeds_at (address a) p ≡ b
     → ((plain_after a p).room ≡ p.room) × (length p.log ≤ length (plain_after a p).log)
-grown a p true e =
-    let more = log_done a p e in (ap (λ x. x.room) (after_true a p e), omega (arith, more))
-grown a p false e =
-    let same = ap (λ x. length x.log) (after_false a p e) in
-    (ap (λ x. x.room) (after_false a p e), omega (arith, same))
+grown a p b e = grind (arith, after_false, after_true, log_done)
 
 room_list : (xs : List Access) (p : PlainMemory) → (memory_after xs p).room ≡ p.room
 room_list [] p = refl
@@ -228,9 +176,8 @@ log_list (x ∷ xs) p =
 
 pub split_list : (i : ℕ) (xs : List Access) (p : PlainMemory)
     → memory_after xs p ≡ memory_after (drop i xs) (memory_after (take i xs) p)
-split_list zero xs p = refl
-split_list (suc i) [] p = refl
 split_list (suc i) (x ∷ xs) p = split_list i xs (plain_after x p)
+split_list _ _ p = refl
 
 log_take : (i : ℕ) (xs : List Access) (p : PlainMemory)
     → length (memory_after (take i xs) p).log ≤ length (memory_after xs p).log
@@ -244,14 +191,10 @@ pub record Roomy (c : ℕ) (list : List Access) (m : PlainMemory) : Type 0 where
   pub one : length (memory_after list m).log + 1 ≤ m.room
   pub all : length (memory_after list m).log + c ≤ m.room
 
+-- the room that the log of a whole list has is there before each access
 place_there : (list : List Access) (i c : ℕ) (d : Access) (m : PlainMemory) → i < length list → Roomy c list m
     → HasPlace c (get_or list i d) (memory_after (take i list) m)
-place_there list i c d m l room =
-    let a = log_take i list m in
-    let b = log_take (i + 1) list m in
-    let e = ap (λ x. length x.log) (memory_next list i d m l) in
-    let r = room_list (take i list) m in
-    record { now = omega (arith, a, r, room.one); later = omega (arith, b, e, r, room.all) }
+place_there list i c d m l room = grind (arith, log_take, memory_next, room_list)
 
 roomy_less : (c c' : ℕ) (list : List Access) (m : PlainMemory) → c' ≤ c → Roomy c list m → Roomy c' list m
 roomy_less c c' list m l h = record { one = h.one; all = omega (arith, h.all) }

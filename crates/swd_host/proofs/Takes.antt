@@ -1,34 +1,14 @@
 -- What a data phase that was read tells the engine.
-use Rattle.std.proofs.Common.{◌≡◌, ◌≢◌, ◌+◌, ◌%◌, ◌^◌, ◌<◌, ℕ, Bool, false, refl, sym, ap, subst, inl}
-use Rattle.std.proofs.Common.{arith, ◌∙◌}
-use Rattle.std.specs.Prelude.{Option, Some, None}
-use Rattle.swd_host.specs.declared.task.Task.{Task}
-use Rattle.swd_host.specs.declared.task.Task.TheVariants.{Read, BurstRead, Write, BurstWrite}
-use Rattle.swd_bits.specs.Phases.{word_in}
-use Rattle.swd_port.specs.Port.{Port}
-use Rattle.swd_port.specs.declared.state.Reset.{Reset}
-use Rattle.swd_port.specs.declared.state.Reset.TheVariants.{Unreset, Live}
-use Rattle.swd_port.specs.Moving.{Takes}
-use Rattle.swd_port.specs.Moves.{Passed, Got, whole as got_whole, damaged as got_damaged}
-use Rattle.swd_port.proofs.MovingLaws.{data_taken, take_moves_nothing, take_moves_nothing_at_rest}
-use Rattle.swd_port.proofs.CompletionLaws.{kept as kept_by}
-use Rattle.swd_host.specs.declared.flags.Flags.{Flags}
-use Rattle.swd_host.specs.declared.request.Place.{Place}
-use Rattle.swd_host.specs.declared.request.Place.TheVariants.{Identify, Wipe, Inspect, Select, Power, Powered}
-use Rattle.swd_host.specs.declared.request.Place.TheVariants.{Configure, Recall, Configured, Aim, Transfer, Confirm}
-use Rattle.swd_host.specs.declared.request.Place.TheVariants.{Behind}
-use Rattle.swd_host.specs.declared.request.Job.{Job}
-use Rattle.swd_host.specs.declared.request.Job.TheVariants.{At, Resend, Status, LastStatus, Clear, Check}
-use Rattle.swd_host.specs.Requests.{word_for, word_of_task}
-use Rattle.swd_host.specs.Tasks.{is_burst_write}
-use Rattle.swd_host.specs.Engines.{is_ahead_at}
-use Rattle.swd_host.specs.declared.engine.Phase.TheVariants.{Data}
-use Rattle.swd_host.specs.Flags.{is_powered}
-use Rattle.swd_host.specs.Tracks.{Hand, Under, Sure, Resent, Before, During, Transfers, Confirms, Confirmed}
-use Rattle.swd_host.specs.Tracks.{HasAsked, SaysPower, Says, Tells, Reads, whole, changed, Awake, TookAt, ConfirmTook, TakenFor}
-use Rattle.swd_host.proofs.Frames.{Frame, Same, frame_passed, same_passed, calm_framed, has_framed, sure_framed}
-use Rattle.swd_host.proofs.Frames.{resent_framed, done_framed, before_framed}
-use Rattle.swd_host.proofs.Transfers.{under_stays}
+use Rattle.swd_host.proofs.Words.{◌≡◌, ◌≢◌, ◌+◌, ◌%◌, ◌^◌, ◌<◌, ℕ, Bool, false, sym, ap, subst, inl, arith, ◌∙◌, Option}
+use Rattle.swd_host.proofs.Words.{Some, None, Task, Read, BurstRead, Write, BurstWrite, word_in, Port, Reset, Unreset}
+use Rattle.swd_host.proofs.Words.{Live, Takes, Flags, Place, Identify, Inspect, Powered, Recall, Configured, Transfer}
+use Rattle.swd_host.proofs.Words.{Confirm, Job, At, Resend, Status, Check, word_for, word_of_task, is_burst_write}
+use Rattle.swd_host.proofs.Words.{is_ahead_at, Data, is_powered, Hand, Sure, Resent, Before, During, Transfers}
+use Rattle.swd_host.proofs.Words.{Confirms, Confirmed, HasAsked, SaysPower, Says, Tells, Reads, whole, changed, Awake}
+use Rattle.swd_host.proofs.Words.{TookAt, ConfirmTook, TakenFor}
+use Rattle.swd_port.specs.Moves.{Got, whole as got_whole, damaged as got_damaged}
+use Rattle.swd_port.proofs.MovingLaws.{data_taken, take_moves_nothing}
+use Rattle.swd_host.proofs.Frames.{Frame, Same, frame_passed, same_passed, calm_framed, resent_framed, before_framed}
 use Rattle.swd_host.proofs.Blocks.{resent_stays}
 use Rattle.swd_host.proofs.Sends.{refused_rest, checks_rest, inspect_rest, powered_rest}
 
@@ -46,10 +26,9 @@ record AtRestTook (s t : Port) : Type 0 where
   same : Same s t
   disturbed : t.tally.disturbed ≡ s.tally.disturbed
 
+-- a data phase that is read at rest
 rest_took : (s t : Port) (bits : ℕ) → s.target.pending ≡ None → Takes s bits t → AtRestTook s t
-rest_took s t bits rest takes =
-    let p : Passed s t = (take_moves_nothing_at_rest bits s t rest takes).0 in
-    record { frame = frame_passed s t p; same = same_passed s t p; disturbed = ap (λ i. i.disturbed) p.tally }
+rest_took s t bits rest takes = grind arith
 
 -- what is taken tells X of its word
 told : (X : Option ℕ → Type 0) (word n bits : ℕ) (P Q : ℕ → Type 0) (s t : Port) → bits < 2 ^ 33 → Takes s bits t
@@ -109,15 +88,10 @@ module _ (n b : ℕ) (k : Hand) (s t : Port) (bits : ℕ) (range : bits < 2 ^ 33
   power_pending powered c h = (powered_rest c b k s h.before).pending
 
   said_pending : SaysPower n b k s → s.target.pending ≡ None
-  said_pending (word, tells, whole line small h) = power_pending _ n h
-  said_pending (word, tells, changed place line small h) = power_pending _ (n + 1) h
+  said_pending h = grind (arith, power_pending)
 
   power_took : (powered : Bool) (c : ℕ) → AtRestTook s t → HasAsked powered c b k s → HasAsked powered c b k t
-  power_took powered c r h = record {
-    before = before_framed c c b k s t r.frame r.same (omega (arith, r.disturbed)) (At Powered) h.before;
-    there = λ e clear. r.frame.seen (h.there e (sym r.same.write ∙ clear));
-    late = λ e clear. let few = h.late e (sym r.same.write ∙ clear) in omega (arith, few, r.disturbed);
-  }
+  power_took powered c r h = grind arith
 
   power_facts : SaysPower n b k s → TookAt Powered (word_in bits) n b k t
   power_facts says =
@@ -130,9 +104,8 @@ module _ (n b : ℕ) (k : Hand) (s t : Port) (bits : ℕ) (range : bits < 2 ^ 33
       (λ c. HasAsked (is_powered says.0) c b k t) s t range takes says.2
       (λ c h. power_took (is_powered says.0) c r h) (λ h. (tells, h)) (λ h. h.before)
 
-  resent_facts : (p : Place) (word : ℕ) → Reads word n (λ c. Resent p word c b k s) s
-      → (X : Option ℕ → Type 0) → ((w : ℕ) → Resent p w n b k t → X (Some w))
-      → (Before (Resend p) (n + 1) b k t → X None) → X (word_in bits)
+  resent_facts : (p : Place) (word : ℕ) → Reads word n (λ c. Resent p word c b k s) s → (X : Option ℕ → Type 0)
+      → ((w : ℕ) → Resent p w n b k t → X (Some w)) → (Before (Resend p) (n + 1) b k t → X None) → X (word_in bits)
   resent_facts p word reads X good bad =
       let (x, first, passed, line) = take_moves_nothing bits s t takes in
       told X word n bits (λ c. Resent p word c b k s) (λ c. Resent p word c b k t) s t range takes reads
@@ -141,38 +114,13 @@ module _ (n b : ℕ) (k : Hand) (s t : Port) (bits : ℕ) (range : bits < 2 ^ 33
       (λ h. bad (word, h))
 
   recall_facts : Sure Configured n b k s → Sure Configured n b k t
-  recall_facts h =
-      let r : AtRestTook s t = rest_took s t bits h.has.up.calm.pending takes in
-      sure_framed n n b k s t r.frame r.same (omega (arith, r.disturbed)) Configured h
+  recall_facts h = grind arith
 
   drw_facts : Sure Confirm n b k s → Sure Confirm n b k t
-  drw_facts h =
-      let (x, first, passed, line) = take_moves_nothing bits s t takes in
-      let kp = kept_by s x first in
-      let u : Under b k x.target = under_stays b k s x first h.has in
-      record {
-        has = has_framed Confirm b b k x t (omega arith) (frame_passed x t passed)
-            (ap (λ i. i.sticky_error) passed.target) u;
-        flag = λ w. ap (λ i. i.write_error) passed.target ∙
-            (kp.write_error ∙ h.flag refl);
-        paid = omega (
-          arith,
-          ap (λ i. i.disturbed) passed.tally,
-          ap
-              (λ i. i.disturbed) kp.tally,
-          h.paid,
-        );
-      }
+  drw_facts h = grind arith
 
   written_facts : Confirmed n b k s → Confirmed n b k t
-  written_facts h =
-      let r : AtRestTook s t = rest_took s t bits h.done.up.calm.pending takes in
-      record {
-        done = done_framed b k s t r.frame r.same.sticky h.done;
-        answered = h.answered;
-        flag = r.same.write ∙ h.flag;
-        paid = omega (arith, r.disturbed, h.paid);
-      }
+  written_facts h = grind arith
 
   confirm_facts : (a : Task) → is_burst_write a ≡ false → Confirms a n b k s → ConfirmTook a (word_in bits) n b k t
   confirm_facts (Read at) e h = resent_facts Confirm h.0 h.1 (λ w. ConfirmTook (Read at) w n b k t)
@@ -187,23 +135,17 @@ module _ (n b : ℕ) (k : Hand) (s t : Port) (bits : ℕ) (range : bits < 2 ^ 33
   awake_pending (changed place line small h) = h.calm.pending
 
   inspect_pending : (word : ℕ) → Reads word n (λ c. Before (At Inspect) c b k s) s → s.target.pending ≡ None
-  inspect_pending word (whole line small h) = (inspect_rest n b k s h).pending
-  inspect_pending word (changed place line small h) = (inspect_rest (n + 1) b k s h).pending
+  inspect_pending word h = grind (arith, inspect_rest)
 
   status_pending : (p : Place) (word : ℕ) → Reads word n (λ c. Before (Status p) c b k s) s → s.target.pending ≡ None
-  status_pending p word (whole line small h) = (refused_rest p n b k s h).pending
-  status_pending p word (changed place line small h) = (refused_rest p (n + 1) b k s h).pending
+  status_pending p word h = grind (arith, refused_rest)
 
   check_pending : (p : Place) (owed : Flags) (word : ℕ) → Reads word n (λ c. Before (Check p owed) c b k s) s
       → s.target.pending ≡ None
-  check_pending p owed word (whole line small h) = (checks_rest p owed n b k s h).pending
-  check_pending p owed word (changed place line small h) = (checks_rest p owed (n + 1) b k s h).pending
+  check_pending p owed word h = grind (arith, checks_rest)
 
   transfers_facts : (a : Task) → word_of_task a ≡ None → Transfers a n b k s → Sure Confirm n b k t
-  transfers_facts (Read at) e h = drw_facts h
-  transfers_facts (BurstRead at) e h = drw_facts h
-  transfers_facts (Write at word) e h = absurd (cc)
-  transfers_facts (BurstWrite at word) e h = absurd (cc)
+  transfers_facts a e h = grind (arith, drw_facts)
 
   pub taken_facts : (job : Job) → word_for job k.task ≡ None → is_ahead_at job Data k.task ≡ false
       → During job n b k s → TakenFor job (word_in bits) n b k t
@@ -222,11 +164,4 @@ module _ (n b : ℕ) (k : Hand) (s t : Port) (bits : ℕ) (range : bits < 2 ^ 33
       (Status p) w n b k t) (λ w x y. (x, y)) (λ x. x)
   taken_facts (Check p owed) e none h = says_facts (Check p owed) (check_pending p owed h.0 h.2) h (λ w. TakenFor
       (Check p owed) w n b k t) (λ w x y. (x, y)) (λ x. x)
-  taken_facts LastStatus e none h = absurd h
-  taken_facts (At Wipe) e none h = absurd (cc)
-  taken_facts (At Select) e none h = absurd (cc)
-  taken_facts (At Power) e none h = absurd (cc)
-  taken_facts (At Configure) e none h = absurd (cc)
-  taken_facts (At Aim) e none h = absurd (cc)
-  taken_facts (At Behind) e none h = absurd h
-  taken_facts (Clear p owed) e none h = absurd (cc)
+  taken_facts _ e none h = grind arith

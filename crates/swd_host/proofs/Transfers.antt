@@ -1,98 +1,41 @@
 -- The requests of a transfer: DRW, and the request that confirms it.
-use Rattle.std.proofs.Common.{◌≡◌, ◌+◌, ◌≤◌, ℕ, Bool, true, false, refl, sym, ap, subst, inl, inr}
-use Rattle.std.proofs.Common.{arith, ◌∙◌}
-use Rattle.std.specs.Prelude.{Option, Some, None, ◌⊎◌}
-use Rattle.swd_bits.specs.declared.request.Request.{Request}
-use Rattle.swd_port.specs.declared.access.Access.TheVariants.{Read as AccessRead}
-use Rattle.swd_host.specs.declared.task.Task.{Task}
-use Rattle.swd_host.specs.declared.task.Task.TheVariants.{Read, BurstRead, Write, BurstWrite}
-use Rattle.swd_host.specs.Tasks.{access_of, is_block}
-use Rattle.swd_port.specs.declared.access.Answer.TheVariants.{Value}
-use Rattle.swd_port.specs.PlainMemory.{plain_answer, answer_of, address, word_at}
-use Rattle.swd_port.specs.Port.{Port, register, request_of}
-use Rattle.swd_port.specs.declared.register.Register.{Register}
-use Rattle.swd_port.specs.declared.register.Register.TheVariants.{RdbuffRead}
-use Rattle.swd_port.specs.declared.register.Register.TheVariants.{DrwRead, DrwWrite}
-use Rattle.swd_port.specs.Completion.{Completes}
-use Rattle.swd_port.specs.Asking.{Asks, has_power, pending_once_read}
-use Rattle.swd_port.specs.declared.state.Drw.{Drw}
-use Rattle.swd_port.specs.Outcomes.{Stays, Accepts, Refuses, Spares, SeesOkay, SeesWait}
-use Rattle.swd_port.specs.Outcomes.{okay, wait, lost}
-use Rattle.swd_port.specs.Transfers.{Sent, Succeeded, Failed, Aimed, Buffered}
+use Rattle.swd_host.proofs.Words.{◌≡◌, ◌+◌, ◌≤◌, ℕ, Bool, true, false, refl, sym, ap, subst, inl, inr, arith, ◌∙◌}
+use Rattle.swd_host.proofs.Words.{Option, Some, None, ◌⊎◌, Request, AccessRead, Task, Read, BurstRead, Write}
+use Rattle.swd_host.proofs.Words.{BurstWrite, access_of, is_block, Value, plain_answer, answer_of, word_at, Port}
+use Rattle.swd_host.proofs.Words.{register, Register, RdbuffRead, DrwRead, DrwWrite, Completes, Asks, has_power}
+use Rattle.swd_host.proofs.Words.{pending_once_read, Drw, Stays, Accepts, Refuses, Spares, okay, wait, lost, Sent}
+use Rattle.swd_host.proofs.Words.{Succeeded, Buffered, Transfer, Confirm, Job, At, request_for, drw_register}
+use Rattle.swd_host.proofs.Words.{confirming_register, Hand, Counted, Up, IsAimed, Under, Sure, Broken, Refused}
+use Rattle.swd_host.proofs.Words.{by_error, Done, Resent, During, Transfers, Confirms, Confirmed, FaultedAt, Within}
+use Rattle.swd_host.proofs.Words.{Writes, Waiting, own_error, DoneBy, ahead_of}
+use Rattle.swd_port.specs.Port.{request_of}
+use Rattle.swd_port.specs.Outcomes.{SeesOkay, SeesWait}
+use Rattle.swd_port.specs.Transfers.{Failed}
 use Rattle.swd_port.specs.Laws.Requests.{Confirms as ConfirmsThen, confirms_okay, confirms_wait, confirms_fault}
 use Rattle.swd_port.specs.Laws.Requests.{confirms_lost}
 use Rattle.swd_port.proofs.RequestLaws.{free_request_at_rest, confirming_request, refused_with_power}
 use Rattle.swd_port.proofs.StatusLaws.{buffer_returned}
-use Rattle.swd_port.proofs.CompletionLaws.{none_done, kept as kept_by, sent_stays, read_begins}
-use Rattle.swd_host.specs.declared.request.Place.TheVariants.{Transfer, Confirm}
-use Rattle.swd_host.specs.declared.request.Job.{Job}
-use Rattle.swd_host.specs.declared.request.Job.TheVariants.{At}
-use Rattle.swd_host.specs.Requests.{request_for, drw_register, confirming_register}
-use Rattle.swd_host.specs.Tracks.{Hand, Counted, Up, IsAimed}
-use Rattle.swd_port.specs.Registers.{no_select}
-use Rattle.swd_host.specs.Tracks.{Under, Sure, Broken, Refused}
-use Rattle.swd_host.specs.Tracks.{by_error, Done, Resent, During}
-use Rattle.swd_host.specs.Tracks.{Transfers, Confirms, Confirmed, FaultedAt, Within, Writes}
-use Rattle.swd_host.specs.Tracks.{Waiting, own_error, DoneBy, ahead_of}
-use Rattle.swd_host.proofs.Frames.{Frame, frame_waits, frame_refuses}
-use Rattle.swd_host.proofs.Frames.{has_framed, seen_accepts, has_debug}
-use Rattle.swd_host.proofs.Frames.{within_carried, within_stays, within_sent, within_idle}
-use Rattle.swd_host.proofs.Frames.{within_done}
+use Rattle.swd_port.proofs.CompletionLaws.{none_done, kept as kept_by}
+use Rattle.swd_host.proofs.Frames.{Frame, frame_waits, frame_refuses, has_framed, has_debug, within_carried}
+use Rattle.swd_host.proofs.Frames.{within_stays, within_sent, within_idle, within_done}
 use Rattle.swd_host.proofs.Asked.{Came, came_okay, came_wait, came_fault, came_lost, reads_from, writes_from}
 use Rattle.swd_host.proofs.Asks.{register_there, not_exempt, write_asked}
 
 -- A READ OF DRW
 pub under_stays : (b : ℕ) (k : Hand) (s t : Port) → Completes s t → Under b k s.target → Under b k t.target
-under_stays b k s t c h =
-    let kp = kept_by s t c in
-    record {
-      live = kp.reset ∙ h.live;
-      select = kp.select ∙ h.select;
-      debug = kp.debug_power ∙ h.debug;
-      system = kp.system_power ∙ h.system;
-      seen = kp.power_up ∙ h.seen;
-      increments = kp.increments ∙ h.increments;
-      begun = h.begun;
-      sent = sent_stays _ _ s t c h.sent;
-    }
-
-aimed_there : (k : Hand) (s : Port) → IsAimed k s.target → Aimed (address (access_of k.task)) k.memory s.target
-aimed_there k s h = record {
-  tar = h.tar;
-  memory = h.up.calm.memory;
-  pending = h.up.calm.pending;
-  sticky_error = h.up.calm.sticky;
-}
+under_stays b k s t c h = grind arith
 
 read_sent : (k : Hand) (at : ℕ) (flip : Option ℕ) (s y : Port) → access_of k.task ≡ AccessRead at → IsAimed k s.target
     → Accepts DrwRead true flip s y → Sent (access_of k.task) k.memory y.target
-read_sent k at flip s y e h a =
-    let aim : Aimed at k.memory s.target = subst (λ x. Aimed (address x) k.memory s.target) e
-    (aimed_there k s h) in
-    subst (λ x. Sent x k.memory y.target) (sym e) (read_begins at k.memory flip s y aim a)
+read_sent k at flip s y e h a = grind arith
 
 read_under : (b : ℕ) (k : Hand) (at : ℕ) (flip : Option ℕ) (s y : Port) → 1 ≤ b → access_of k.task ≡ AccessRead at
     → IsAimed k s.target → Accepts DrwRead true flip s y → Under b k y.target
-read_under b k at flip s y some e h a = record {
-  live = a.live;
-  select = ap (λ i. i.select) a.target ∙ h.up.calm.select;
-  debug = ap (λ i. i.debug_power) a.target ∙ h.up.debug;
-  system = ap (λ i. i.system_power) a.target ∙ h.up.system;
-  seen = seen_accepts a h.up.seen;
-  increments = ap (λ i. i.increments) a.target ∙ h.up.increments;
-  begun = some;
-  sent = read_sent k at flip s y e h a;
-}
+read_under b k at flip s y some e h a = grind arith
 
 pub under_sure : (n n' b : ℕ) (k : Hand) (s y t : Port) → Under b k y.target → Completes y t
     → y.target.write_error ≡ false → n' ≤ y.tally.disturbed → Sure Confirm n' b k t
-under_sure n n' b k s y t h c flag paid =
-    let kp = kept_by y t c in
-    record {
-      has = under_stays b k y t c h;
-      flag = λ w. kp.write_error ∙ flag;
-      paid = subst (λ d. n' ≤ d.disturbed) (sym kp.tally) paid;
-    }
+under_sure n n' b k s y t h c flag paid = grind arith
 
 lost_read : (b c : ℕ) (k : Hand) (at : ℕ) (s y t : Port) → 1 ≤ c → access_of k.task ≡ AccessRead at
     → IsAimed k s.target → Completes y t → Stays s y ⊎ Accepts DrwRead true None s y → Within c k t.target
@@ -104,12 +47,13 @@ lost_read b c k at s y t some e h last (inr a) =
     within_stays c k y t last (within_sent c k y some (read_sent k at None s y e h a))
 
 drw_read_asked : (n : ℕ) (base : Counted) (b c : ℕ) (k : Hand) (at v : ℕ) (s t : Port) → b ≤ c → 1 ≤ c
-    → access_of k.task ≡ AccessRead at → (Sure Confirm n c k t → Transfers k.task n c k t)
-    → base.lost ≤ s.tally.lost → Sure Transfer n b k s → Asks s (request_of DrwRead) v t → Came (At Transfer) n base c k v t
+    → access_of k.task ≡ AccessRead at → (Sure Confirm n c k t → Transfers k.task n c k t) → base.lost ≤ s.tally.lost
+    → Sure Transfer n b k s → Asks s (request_of DrwRead) v t → Came (At Transfer) n base c k v t
 drw_read_asked n base b c k at v s t grows some e sent l h asks =
     let up : Up k.memory s.target = h.has.up in
     let (y, came, last) = free_request_at_rest DrwRead (request_of DrwRead) v s t
-    (ap (λ x. register x (request_of DrwRead)) up.calm.select) refl up.calm.live up.calm.pending (h.flag refl) up.calm.sticky
+    (ap (λ x. register x (request_of DrwRead)) up.calm.select) refl up.calm.live up.calm.pending (h.flag refl)
+    up.calm.sticky
     (λ x. has_debug s.target up.debug up.seen) asks in
     elim came [
       | okay a ↦
@@ -142,10 +86,10 @@ drw_read_asked n base b c k at v s t grows some e sent l h asks =
 drw_write_asked : (n : ℕ) (base : Counted) (b c : ℕ) (k : Hand) (v : ℕ) (s t : Port) → b ≤ c
     → drw_register k.task ≡ DrwWrite → base.lost ≤ s.tally.lost → Sure Transfer n b k s
     → Asks s (request_for (At Transfer) k.task) v t
-    → (Writes DrwWrite n (λ x. Sure Transfer x c k t) t → Transfers k.task n c k t)
-    → Came (At Transfer) n base c k v t
+    → (Writes DrwWrite n (λ x. Sure Transfer x c k t) t → Transfers k.task n c k t) → Came (At Transfer) n base c k v t
 drw_write_asked n base b c k v s t grows r l h asks go =
-    write_asked Transfer n base b c k v s t DrwWrite r (ap (λ z. (request_of z).read) r) refl refl refl refl (λ x. absurd (cc))
+    write_asked Transfer n base b c k v s t DrwWrite r (ap (λ z. (request_of z).read) r) refl refl refl refl
+    (λ x. absurd (cc))
     grows h.has.up.calm (λ x. has_debug s.target h.has.up.debug h.has.up.seen) l h asks go
 
 pub drw_asked : (task : Task) (n : ℕ) (base : Counted) (b c : ℕ) (k : Hand) (v : ℕ) (s t : Port) → k.task ≡ task
@@ -157,55 +101,32 @@ drw_asked (Read at) n base b c k v s t e grows some l h asks =
 drw_asked (BurstRead at) n base b c k v s t e grows some l h asks =
     drw_read_asked n base b c k at v s t grows some (ap access_of e) (λ x. subst (λ a. Transfers a n c k t) (sym e) x)
     l h (subst (λ a. Asks s (request_for (At Transfer) a) v t) e asks)
-drw_asked (Write at word) n base b c k v s t e grows some l h asks =
-    drw_write_asked n base b c k v s t grows (ap drw_register e) l h asks
-    (λ w. subst (λ a. Transfers a n c k t) (sym e) (some, w))
-drw_asked (BurstWrite at word) n base b c k v s t e grows some l h asks =
+drw_asked _ n base b c k v s t e grows some l h asks =
     drw_write_asked n base b c k v s t grows (ap drw_register e) l h asks
     (λ w. subst (λ a. Transfers a n c k t) (sym e) (some, w))
 
 -- THE REQUEST THAT CONFIRMS: RDBUFF, OR DRW FOR THE NEXT ACCESS OF A BURST; IN A BLOCK RESEND TOO
 confirming_pending : (task : Task) (pending : Option Drw) → is_block task ≡ false → pending_once_read
     (confirming_register task) pending ≡ pending
-confirming_pending (Read at) pending single = refl
 confirming_pending (BurstRead at) pending single = absurd (cc)
-confirming_pending (Write at word) pending single = refl
-confirming_pending (BurstWrite at word) pending single = refl
+confirming_pending _ pending single = refl
 
+-- outside a block what confirms an access leaves what is pending
 stays_pending : (task : Task) (read : Bool) (flip : Option ℕ) (x y : Port) → is_block task ≡ false
     → Accepts (confirming_register task) read flip x y → y.target.pending ≡ x.target.pending
-stays_pending task read flip x y single a =
-    ap (λ i. i.pending) a.target ∙ confirming_pending task x.target.pending single
+stays_pending task read flip x y single a = grind (arith, confirming_pending)
 
 -- the transfer was done before x, and the request was answered OK from x to y
 done_there : (b : ℕ) (k : Hand) (r : Register) (read : Bool) (flip : Option ℕ) (x y : Port)
     → y.target.pending ≡ x.target.pending → Under b k x.target → Succeeded (access_of k.task) k.memory x.target
     → Accepts r read flip x y → Done b k y.target
-done_there b k r read flip x y p h d a = record {
-  begun = h.begun;
-  up = record {
-    calm = record {
-      live = a.live;
-      select = ap (λ i. i.select) a.target ∙ h.select;
-      pending = p ∙ d.pending;
-      memory = ap (λ i. i.memory) a.target ∙ d.memory;
-      sticky = ap (λ i. i.sticky_error) a.target
-          ∙ d.sticky_error;
-    };
-    debug = ap (λ i. i.debug_power) a.target ∙ h.debug;
-    system = ap (λ i. i.system_power) a.target ∙ h.system;
-    seen = seen_accepts a h.seen;
-    increments = ap (λ i. i.increments) a.target ∙ h.increments;
-  };
-  advanced = λ i q e z. ap (λ i. i.tar) a.target ∙ d.advanced (sym (ap (λ i. i.increments) a.target) ∙ i) q e z;
-}
+done_there b k r read flip x y p h d a = grind arith
 
 -- what its OK tells, by the task
-confirms_at : (task : Task) (n b : ℕ) (k : Hand) (x y : Port) (flip : Option ℕ) → k.task ≡ task
-    → is_block task ≡ false → Under b k x.target
-    → x.target.write_error ≡ false → n ≤ x.tally.disturbed → x.tally.disturbed ≤ y.tally.disturbed → Spares flip x y
-    → Succeeded (access_of k.task) k.memory x.target → Accepts (confirming_register task) (request_for
-    (At Confirm) task).read flip x y → Confirms task n b k y
+confirms_at : (task : Task) (n b : ℕ) (k : Hand) (x y : Port) (flip : Option ℕ) → k.task ≡ task → is_block task ≡ false
+    → Under b k x.target → x.target.write_error ≡ false → n ≤ x.tally.disturbed → x.tally.disturbed ≤ y.tally.disturbed
+    → Spares flip x y → Succeeded (access_of k.task) k.memory x.target → Accepts (confirming_register task)
+    (request_for (At Confirm) task).read flip x y → Confirms task n b k y
 confirms_at (BurstRead at) n b k x y flip e single h flag paid more sp d ac = absurd (cc)
 confirms_at (Read at) n b k x y flip e single h flag paid more sp d ac =
     let done : Done b k y.target = done_there b k RdbuffRead true flip x y (stays_pending
@@ -253,21 +174,7 @@ confirms_at (BurstWrite at word) n b k x y flip e single h flag paid more sp d a
 module _ (r : Register) (q : Request) (h : Hand) (x y : Port) (power : q.ap ≡ true → has_power x.target ≡ true) where
   broken_there : Under 1 h x.target → Failed (access_of h.task) h.memory x.target → Refuses r q.ap x y
       → Broken Confirm 1 h y.target
-  broken_there u d z =
-      let f : Frame x y = frame_refuses r q.ap x y z in
-      record {
-        place = refl;
-        begun = u.begun;
-        live = f.reset ∙ u.live;
-        select = f.select ∙ u.select;
-        debug = f.debug ∙ u.debug;
-        system = f.system ∙ u.system;
-        seen = f.seen u.seen;
-        increments = f.increments ∙ u.increments;
-        pending = f.pending ∙ d.pending;
-        memory = f.memory ∙ d.unchanged;
-        fails = record { after = sym d.memory ∙ d.unchanged; answer = d.answer };
-      }
+  broken_there u d z = grind arith
 
   -- the transfer was a bus error
   pub record Broke (n : ℕ) (t : Port) : Type 0 where
@@ -279,11 +186,9 @@ module _ (r : Register) (q : Request) (h : Hand) (x y : Port) (power : q.ap ≡ 
     pub paid : n ≤ y.tally.disturbed
 
   pub confirming_came : (job : Job) (n : ℕ) (base : Counted) (b : ℕ) (k : Hand) (v : ℕ) (t : Port)
-      → base.lost ≤ x.tally.lost → Under 1 h x.target → x.target.write_error ≡ false
-      → n ≤ x.tally.disturbed → Completes y t
-      → (Succeeded (access_of h.task) h.memory x.target → SeesOkay r q.read v x y → During job n b k t)
-      → (SeesWait r v x y → Sure Confirm (n + 1) 1 h t → Waiting job n b k t)
-      → (Broke n t → FaultedAt job n b k t)
+      → base.lost ≤ x.tally.lost → Under 1 h x.target → x.target.write_error ≡ false → n ≤ x.tally.disturbed
+      → Completes y t → (Succeeded (access_of h.task) h.memory x.target → SeesOkay r q.read v x y → During job n b k t)
+      → (SeesWait r v x y → Sure Confirm (n + 1) 1 h t → Waiting job n b k t) → (Broke n t → FaultedAt job n b k t)
       → (Within 1 h y.target → Within b k y.target)
       → (Succeeded (access_of h.task) h.memory x.target → Accepts r q.read None x y → Within b k y.target)
       → ConfirmsThen (access_of h.task) h.memory r q v x y → Came job n base b k v t
@@ -320,34 +225,14 @@ module _ (r : Register) (q : Request) (h : Hand) (x y : Port) (power : q.ap ≡ 
 
 -- as many accesses more are begun
 under_more : (b c : ℕ) (k : Hand) (s : Port) → 1 ≤ c → Under b k s.target → Under c k s.target
-under_more b c k s some h = record {
-  live = h.live;
-  select = h.select;
-  debug = h.debug;
-  system = h.system;
-  seen = h.seen;
-  increments = h.increments;
-  begun = some;
-  sent = h.sent;
-}
+under_more b c k s some h = grind arith
 
+-- the same with more accesses begun
 pub sure_more : (n b c : ℕ) (k : Hand) (s : Port) → 1 ≤ c → Sure Confirm n b k s → Sure Confirm n c k s
 sure_more n b c k s some h = record { has = under_more b c k s some h.has; flag = h.flag; paid = h.paid }
 
 broken_more : (b c : ℕ) (k : Hand) (s : Port) → 1 ≤ c → Broken Confirm b k s.target → Broken Confirm c k s.target
-broken_more b c k s some h = record {
-  place = h.place;
-  begun = some;
-  live = h.live;
-  select = h.select;
-  debug = h.debug;
-  system = h.system;
-  seen = h.seen;
-  increments = h.increments;
-  pending = h.pending;
-  memory = h.memory;
-  fails = h.fails;
-}
+broken_more b c k s some h = grind arith
 
 within_more : (b c : ℕ) (k : Hand) (s : Port) → b ≤ c → Within b k s.target → Within c k s.target
 within_more b c k s grows h = within_carried b c k s s grows refl refl refl h
@@ -357,7 +242,8 @@ module _ (n : ℕ) (base : Counted) (b c : ℕ) (k : Hand) (v : ℕ) (s t : Port
   pub confirm_came : base.lost ≤ s.tally.lost → Sure Confirm n b k s → Asks s (request_for (At Confirm) k.task) v t
       → ((x y : Port) → Completes y t → Under c k x.target → x.target.write_error ≡ false → n ≤ x.tally.disturbed
       → Succeeded (access_of k.task) k.memory x.target
-      → SeesOkay (confirming_register k.task) (request_for (At Confirm) k.task).read v x y → During (At Confirm) n c k t)
+      → SeesOkay (confirming_register k.task) (request_for (At Confirm) k.task).read v x y
+      → During (At Confirm) n c k t)
       → ((x y : Port) → Completes y t → Succeeded (access_of k.task) k.memory x.target → Under c k x.target
       → Accepts (confirming_register k.task) (request_for (At Confirm) k.task).read None x y → Within c k y.target)
       → Came (At Confirm) n base c k v t

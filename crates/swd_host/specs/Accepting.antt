@@ -19,4 +19,5 @@ has_sent_on e = is_ahead e || not (is_unsent e.ahead)
 
 -- an access may be begun now: where its DRW request was sent already, it is the one that continues the burst
 abbrev pub accepts : Engine → Access → Bool
-accepts e a = may_start (finished_of e) && is_aligned a && (not (has_sent_on e) || continues (access_of e.task) (Some a))
+accepts e a = may_start (finished_of e) && is_aligned a
+    && (not (has_sent_on e) || continues (access_of e.task) (Some a))

@@ -1,6 +1,7 @@
 -- What the report of a run that went on after a lost acknowledgement says of the plain memory: the accesses that were
 -- begun when an acknowledgement was lost may have been done twice.
-use Rattle.std.specs.Prelude.{ℕ, ◌≡◌, ◌≢◌, ◌+◌, ◌-◌, ◌*◌, ◌<◌, ◌≤◌, ◌⊎◌, ◌==◌, List, [], ◌∷◌, ◌++◌, length, take}
+use Rattle.std.specs.Prelude.{ℕ, ◌≡◌, ◌≢◌, ◌+◌, ◌-◌, ◌*◌, ◌<◌, ◌≤◌, ◌⊎◌, ◌==◌, List, [], ◌∷◌}
+use Rattle.std.specs.Prelude.{◌++◌, length, take}
 use Rattle.std.specs.Prelude.{replicate, drop, if◌then◌else◌}
 use Rattle.swd_port.specs.declared.access.Access.{Access}
 use Rattle.swd_port.specs.declared.access.Answer.{Answer}
@@ -69,8 +70,9 @@ Grows js earlier more = (more ≡ js) ⊎ ((earlier.begun ≡ 1) × (more ≡ js
 abbrev pub added_in : Told → Told → List Answer
 added_in earlier told = drop (length earlier.answers) told.answers
 
--- What is true of a report of going on whatever the other end did: new answers come after the earlier ones, and they close
--- as those of a run over the rest of the list. Beside what the opening of a run may take stand five requests more.
+-- What is true of a report of going on whatever the other end did: new answers come after the earlier ones, and they
+-- close as those of a run over the rest of the list. Beside what the opening of a run may take stand five requests
+-- more.
 pub record Continues (list : List Access) (tries : ℕ) (earlier told : Told) (next : Due) : Type 0 where
   pub kept : told.answers ≡ earlier.answers ++ added_in earlier told
   pub number : length told.answers ≤ length list

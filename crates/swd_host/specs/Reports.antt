@@ -65,14 +65,14 @@ abbrev pub due_at : End → Due
 due_at Lost = DueLost
 due_at end = Nothing
 
--- the most requests that an opening and n accesses take, where each meets so many events at most: the opening takes ten,
--- an access six, and an event brings five more
+-- the most requests that an opening and n accesses take, where each meets so many events at most: the opening takes
+-- ten, an access six, and an event brings five more
 abbrev pub most_requests : ℕ → ℕ → ℕ
 most_requests tries n = 10 + 5 * tries + n * (6 + 5 * tries)
 
--- What is true of a report whatever the other end did: it tells of the list alone, all of it where the run is whole, and
--- what comes next on the wire. No access but the one after those that are answered took requests, and no more than its
--- tries allow; spare are those that the opening may take beside.
+-- What is true of a report whatever the other end did: it tells of the list alone, all of it where the run is whole,
+-- and what comes next on the wire. No access but the one after those that are answered took requests, and no more
+-- than its tries allow; spare are those that the opening may take beside.
 pub record Closes (spare limit : ℕ) (list : List Access) (tries : ℕ) (told : Told) (next : Due) : Type 0 where
   pub number : length told.answers ≤ length list
   pub whole : told.ended ≡ All → length told.answers ≡ length list
@@ -87,7 +87,8 @@ pub record IsKnown (s : Target) : Type 0 where
   pub select : s.select ≡ no_select
   pub odd : s.identification % 2 ≡ 1
 
--- A target at rest: a call may begin. No transfer is pending; flags, power, CSW, TAR and all else are whatever they are.
+-- A target at rest: a call may begin. No transfer is pending; flags, power, CSW, TAR and all else are whatever they
+-- are.
 pub record IsAtRest (s : Port) : Type 0 where
   pub due : s.link.due ≡ Nothing
   pub known : IsKnown s.target
@@ -101,17 +102,17 @@ pub record IsPowered (s : Target) : Type 0 where
   pub system : s.system_power ≡ true
   pub seen : s.power_up ≡ Seen
 
--- How a call may end, and what it leaves: a whole list a target at rest, powered and with no flag; a lost acknowledgement
--- or too many events a known one, whose last transfer may be pending. It is never that an identification was wrong, or
--- that the target confused the host.
+-- How a call may end, and what it leaves: a whole list a target at rest, powered and with no flag; a lost
+-- acknowledgement or too many events a known one, whose last transfer may be pending. It is never that an
+-- identification was wrong, or that the target confused the host.
 abbrev pub EndsAt : End → ℕ → Port → Port → Type 0
 EndsAt All tries s t = IsAtRest t × IsPowered t.target
 EndsAt Lost tries s t = (t.link.due ≡ DueLost) × (s.tally.lost < t.tally.lost) × IsKnown t.target
 EndsAt TriesOut tries s t = (t.link.due ≡ Nothing) × (s.tally.disturbed + tries < t.tally.disturbed) × IsKnown t.target
 EndsAt end tries s t = ⊥
 
--- The theorem of a run over a target at rest with this memory: the report fits the memory as it is at the end, and as it
--- will be once a transfer that is still pending took effect; and the run stops early only at a lost acknowledgement
+-- The theorem of a run over a target at rest with this memory: the report fits the memory as it is at the end, and as
+-- it will be once a transfer that is still pending took effect; and the run stops early only at a lost acknowledgement
 -- or past its tries. At most so many accesses are begun that aren't answered.
 pub record RunFits (limit : ℕ) (list : List Access) (tries : ℕ) (m : PlainMemory) (told : Told) (s t : Port)
     : Type 0 where

@@ -5,7 +5,8 @@ use Rattle.swd_port.specs.PlainMemory.{address}
 use Rattle.swd_port.specs.Port.{request_of}
 use Rattle.swd_port.specs.declared.register.Register.{Register}
 use Rattle.swd_port.specs.declared.register.Register.TheVariants.{DpidrRead, AbortWrite, CtrlStatRead, CtrlStatWrite}
-use Rattle.swd_port.specs.declared.register.Register.TheVariants.{SelectWrite, ResendRead, RdbuffRead, CswRead, CswWrite}
+use Rattle.swd_port.specs.declared.register.Register.TheVariants.{SelectWrite, ResendRead, RdbuffRead, CswRead}
+use Rattle.swd_port.specs.declared.register.Register.TheVariants.{CswWrite}
 use Rattle.swd_port.specs.declared.register.Register.TheVariants.{TarWrite, DrwRead, DrwWrite}
 use Rattle.swd_host.specs.declared.task.Task.{Task}
 use Rattle.swd_host.specs.declared.task.Task.TheVariants.{Read, BurstRead, Write, BurstWrite}

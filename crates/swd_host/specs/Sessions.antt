@@ -14,7 +14,8 @@ pub record MadeIsAtRest : Type 0 where
   pub rests : (identification : ℕ) (m : PlainMemory) → identification % 2 ≡ 1 → IsAtRest (made identification m)
   pub memory : (identification : ℕ) (m : PlainMemory) → (made identification m).target.memory ≡ m
 
--- Calls from the port s to the port t, runs and blocks, each of which ended whole: the accesses of all, and all answers.
+-- Calls from the port s to the port t, runs and blocks, each of which ended whole: the accesses of all, and all
+-- answers.
 pub data Session (s : Port) : List Access → List Answer → Port → Type 0 where
   none : Session s [] [] s
   then : {done : List Access} {answers : List Answer} {t u : Port} → Session s done answers t

@@ -1,4 +1,32 @@
 -- What the engine's state says of the port at the other end, and of the memory behind it: the invariant of the host.
+--
+-- THE LETTERS. `s` is the port as it is now, or its target. `k`, the hand, is the access that is being done, what is
+-- known of TAR and of the access after it, and the memory before it. `n` is the disturbances that the port had counted
+-- at the beginning, and the events that the engine met since: each of these was one, so the port counts n at least
+-- (`paid`). `b` is how many of the accesses that aren't answered are begun, so that the memory may show what they do:
+-- none, the one in hand, or in a block of reads the next one too.
+--
+-- A REQUEST takes two facts: `Before` its job, where it may be sent, and `During`, where its OK was seen and its data
+-- phase is due; `Before` the next job comes of that. For an access, where all is well:
+--
+--     job           the request         before it (`Has`)                      the data phase that is due
+--     At Aim        write TAR           IsUnaimed: TAR has to be written       the address
+--     At Transfer   read or write DRW   IsAimed: TAR has the address           a write's word; a read's isn't looked at
+--     At Confirm    read RDBUFF         Under: sent, and may not be done yet   a read's word; a write's isn't looked at
+--     (the end)                         Finished: done, and the answer known
+--
+-- Aim is left out where TAR is known to have the address. In a burst DRW's request for the next access takes RDBUFF's
+-- place; in a block of reads it begins that access before this one is answered, and `AheadAt` says what is known of it.
+--
+-- WHERE SOMETHING WENT WRONG, and what is known in place of `Sure`, that `Has` holds and no write was damaged:
+--
+--     Hurt      the data of the write before was damaged: WDATAERR is set, and this request will meet it
+--     Waiting   WAIT came: what held before the request still does, for an event more
+--     Refused   FAULT came: of damage, or of a bus error of this access or the next; CTRL/STAT is read (Status)
+--     Owes      CTRL/STAT told which flags are set; ABORT is written (Clear)
+--     Checks    ABORT was written, or its data was damaged; CTRL/STAT is read again (Check)
+--     Resent    a word's parity was wrong; RESEND gives the word again (Resend)
+--     Within    the engine stopped: the memory is one that the accesses that are begun allow, now and later
 use Rattle.std.specs.Prelude.{ℕ, ◌≡◌, ◌≢◌, ◌+◌, ◌%◌, ◌^◌, ◌<◌, ◌≤◌, ◌⊎◌, ◌&&◌, ◌==◌, Bool, true}
 use Rattle.std.specs.Prelude.{false, if◌then◌else◌, Option, Some, None, max}
 use Rattle.swd_bits.specs.Bits.{bit}
@@ -316,8 +344,8 @@ pub record Tells (word : ℕ) (s : Target) : Type 0 where
 abbrev pub Says : Job → ℕ → ℕ → Hand → Port → Type 0
 Says job n b k s = (word : ℕ) × Tells word s.target × Reads word n (λ c. Before job c b k s) s
 
--- power was asked for, and CTRL/STAT said whether it is there: where it is late there was a disturbance, which isn't met
--- as an event yet
+-- power was asked for, and CTRL/STAT said whether it is there: where it is late there was a disturbance, which isn't
+-- met as an event yet
 pub record HasAsked (powered : Bool) (n b : ℕ) (k : Hand) (s : Port) : Type 0 where
   pub before : Before (At Powered) n b k s
   pub there : powered ≡ true → s.target.write_error ≡ false → s.target.power_up ≡ Seen

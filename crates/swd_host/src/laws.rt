@@ -1,4 +1,5 @@
-//! Laws of calls one after the other, and of an engine over a wire. A function here does nothing: its contract is the law.
+//! Laws of calls one after the other, and of an engine over a wire. A function here does nothing: its contract is the
+//! law.
 ghost use Rattle.std.specs.Prelude.{◌≡◌, ℕ, List, Option, true};
 ghost use Rattle.swd_port.specs.declared.access.Access.{Access};
 ghost use Rattle.swd_port.specs.declared.access.Answer.{Answer};

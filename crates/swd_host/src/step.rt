@@ -302,7 +302,8 @@ impl Engine {
 
     // CSW was read back. TAR isn't known yet, and no access was sent.
     fn configured(&mut self, right: bool)
-        ensures tracks { (word : ℕ) → right ≡ is_configured word → Comes (Taken Place.Configured word) self.old self.new }
+        ensures tracks { (word : ℕ) → right ≡ is_configured word
+            → Comes (Taken Place.Configured word) self.old self.new }
         ensures lands { LandsFrom (Job.At Place.Configured) Phase.Data self.old self.new }
         ensures meets { Meets false None self.old self.new }
     {

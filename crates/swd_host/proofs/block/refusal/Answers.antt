@@ -1,9 +1,10 @@
-use Rattle.std.proofs.Common.{arith}
+use Rattle.swd_host.proofs.Words.{arith}
 use Rattle.swd_host.proofs.Blocked.{are_reads, too_many, first_unaligned}
 use Rattle.swd_host.proofs.block.refusal.Goals as goal
 
 pub returns-then-count-gt-MOST_ACCESSES-clause-refused : goal.returns-then-count-gt-MOST_ACCESSES-clause-refused
-returns-then-count-gt-MOST_ACCESSES-clause-refused c = too_many c.args.addr c.args.count c.if-count-gt-MOST_ACCESSES.true
+returns-then-count-gt-MOST_ACCESSES-clause-refused c = too_many c.args.addr c.args.count
+    c.if-count-gt-MOST_ACCESSES.true
 
 pub returns-then-addr-eq0-clause-none : goal.returns-then-addr-eq0-clause-none
 returns-then-addr-eq0-clause-none c =

@@ -1,6 +1,4 @@
-use Rattle.std.proofs.Common.{◌≤◌, ◌∙◌, false, length, subst, sym}
-use Rattle.swd_host.specs.Plain.{AreAccesses}
-use Rattle.swd_host.specs.Reports.{Closes, RunsWithin, told_of}
+use Rattle.swd_host.proofs.Words.{◌≤◌, ◌∙◌, false, length, subst, sym, AreAccesses, Closes, RunsWithin, told_of}
 use Rattle.swd_host.proofs.Blocked.{may_read}
 use Rattle.swd_host.proofs.Alone.{closes_as}
 use Rattle.swd_host.proofs.Runs.{runs_as}

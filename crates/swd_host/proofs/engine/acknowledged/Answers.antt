@@ -1,10 +1,8 @@
-use Rattle.std.proofs.Common.{◌≡◌, ◌<◌, ℕ, true, ap, sym, subst}
+use Rattle.swd_host.proofs.Words.{◌≡◌, ◌<◌, ℕ, true, ap, sym, subst, low_bits, IsNoAcknowledgement, state_seen}
 use Rattle.swd_bits.specs.declared.ack.Ack.{Ack}
-use Rattle.swd_bits.specs.Bits.{low_bits, number}
+use Rattle.swd_bits.specs.Bits.{number}
 use Rattle.swd_bits.specs.Wire.{ack}
-use Rattle.swd_port.specs.Outcomes.{IsNoAcknowledgement}
 use Rattle.swd_port.proofs.CallLaws.{acknowledgement_seen, no_acknowledgement_seen}
-use Rattle.swd_host.specs.Tracks.{state_seen}
 use Rattle.swd_host.proofs.engine.acknowledged.Goals as goal
 
 -- what was seen is the number of the acknowledgement that was found

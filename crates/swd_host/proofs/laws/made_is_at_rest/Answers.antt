@@ -1,4 +1,4 @@
-use Rattle.std.proofs.Common.{refl}
+use Rattle.swd_host.proofs.Words.{refl}
 use Rattle.swd_host.proofs.SessionLaws.{made_rests}
 use Rattle.swd_host.proofs.laws.made_is_at_rest.Goals as goal
 

@@ -1,10 +1,7 @@
-use Rattle.std.proofs.Common.{ap, ◌∙◌, ◌++◌, [], subst, sym, length, true}
-use Rattle.std.specs.Prelude.{drop}
+use Rattle.swd_host.proofs.Words.{ap, ◌∙◌, ◌++◌, [], subst, sym, length, true, drop, told_of, since, Does, Performs}
+use Rattle.swd_host.proofs.Words.{told_by}
 use Rattle.std.proofs.lemmas.List.{append-nil}
 use Rattle.swd_host.specs.declared.task.Bursts.TheVariants.{Writes}
-use Rattle.swd_host.specs.Reports.{told_of}
-use Rattle.swd_host.specs.Resuming.{since}
-use Rattle.swd_host.specs.Standing.{Does, Performs, told_by}
 use Rattle.swd_host.proofs.Alone.{opening_closes, list_closes}
 use Rattle.swd_host.proofs.Resumed.{resume_stops, resume_performs, resumed_as, rest_is, continues}
 use Rattle.swd_host.proofs.resuming.resume.Goals as goal

@@ -1,4 +1,4 @@
-use Rattle.std.proofs.Common.{false}
+use Rattle.swd_host.proofs.Words.{false}
 use Rattle.swd_host.proofs.Starts.{start_due, start_access}
 use Rattle.swd_host.proofs.Ends.{not_opened}
 use Rattle.swd_host.proofs.running.access.Goals as goal

@@ -1,5 +1,5 @@
-use Rattle.std.proofs.Common.{rules, ap, false, ◌∙◌, ◌++◌}
-use Rattle.swd_host.specs.Standing.{told_by}
+use Rattle.swd_host.proofs.Words.{ap, false, ◌∙◌, ◌++◌, told_by}
+use Rattle.std.proofs.Common.{rules}
 use Rattle.swd_host.proofs.Alone.{opening_closes, list_closes, closes_told}
 use Rattle.swd_host.proofs.Runs.{opening_stops, list_fits, told_as}
 use Rattle.swd_host.proofs.running.conduct.Goals as goal

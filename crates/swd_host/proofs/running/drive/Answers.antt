@@ -1,5 +1,4 @@
-use Rattle.std.proofs.Common.{sym, ap, refl, ◌∙◌}
-use Rattle.std.specs.Prelude.{is_some}
+use Rattle.swd_host.proofs.Words.{sym, ap, refl, ◌∙◌, is_some}
 use Rattle.swd_host.proofs.Going.{goes_refl, goes_then}
 use Rattle.swd_host.proofs.Working.{works_refl, works_then}
 use Rattle.swd_host.proofs.running.drive.Goals as goal

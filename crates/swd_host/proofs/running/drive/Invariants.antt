@@ -1,7 +1,4 @@
-use Rattle.std.proofs.Common.{◌≡◌}
-use Rattle.swd_host.specs.Progress.{calls_left}
-use Rattle.swd_host.specs.Tracks.{DueFits}
-use Rattle.swd_host.specs.Turns.{Works, Goes}
+use Rattle.swd_host.proofs.Words.{◌≡◌, calls_left, DueFits, Works, Goes}
 use Rattle.swd_host.proofs.running.drive.Given as goal
 
 abbrev pub invariant-loop-outcome : goal.invariant-loop-outcome

@@ -1,5 +1,4 @@
-use Rattle.std.proofs.Common.{true, ap}
-use Rattle.swd_host.specs.Progress.{is_state_of}
+use Rattle.swd_host.proofs.Words.{true, ap, is_state_of}
 use Rattle.swd_host.proofs.Ends.{opened_state, stopped_state}
 use Rattle.swd_host.proofs.running.open.Goals as goal
 

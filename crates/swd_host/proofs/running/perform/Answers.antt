@@ -1,6 +1,6 @@
-use Rattle.std.proofs.Common.{ap, arith, ◌∙◌, ◌++◌, ◌∷◌, [], if◌then◌else◌, is_ok, refl, sym}
+use Rattle.swd_host.proofs.Words.{ap, arith, ◌∙◌, ◌++◌, ◌∷◌, [], if◌then◌else◌, refl, sym, ◌≡◌}
+use Rattle.std.proofs.Common.{is_ok}
 use Rattle.std.proofs.lemmas.List.{append_assoc, append-nil}
-use Rattle.std.proofs.Common.{◌≡◌}
 use Rattle.swd_host.proofs.Lists.{some_follows}
 use Rattle.swd_host.proofs.Ends.{stopped_state}
 use Rattle.swd_host.proofs.Alone.{opened_stays, access_performs, answered_stays, all_performs, stop_never, start_never}
@@ -42,7 +42,8 @@ returns-in-Err-clause-does g c = λ lawful.
           (g.W.Wire.port c.loop-index.wire) (g.W.Wire.port c.access.new.wire) _ _ c.requires.opened
           (omega (arith, c.requires.few)) c.loop-index-test.true soon.1 late.1.1
           late.1.2 c.access.ensures.due c.args.answers.now.items c.loop-index.answers.items c.in-Err.end
-          c.loop-index.invariant.added.whole (some_follows _ _ _ c.following-following.ensures) c.in-Err.ensures.finished,
+          c.loop-index.invariant.added.whole (some_follows _ _ _ c.following-following.ensures)
+          c.in-Err.ensures.finished,
     )
 
 pub loop-index-preserved : goal.loop-index-preserved
@@ -69,7 +70,8 @@ loop-index-preserved g c =
             soon.0,
             answered_stands c.loop-index.index c.args.accesses.now c.args.engine.now c.loop-index.engine late.1.0
                 c.access.new.engine v.added.part (g.W.Wire.port c.args.wire.now) (g.W.Wire.port c.loop-index.wire)
-                (g.W.Wire.port c.access.new.wire) _ _ c.requires.opened (omega (arith, c.requires.few)) c.loop-index-test.true
+                (g.W.Wire.port c.access.new.wire) _ _ c.requires.opened (omega (arith, c.requires.few))
+                c.loop-index-test.true
                 soon.1 late.1.1 late.1.2 c.access.ensures.due c.in-Ok.answer (v.added.part ++ c.in-Ok.answer ∷ []) refl
                 (some_follows _ _ _ c.following-following.ensures) c.in-Ok.ensures.finished,
           ));

@@ -1,7 +1,6 @@
-use Rattle.std.proofs.Common.{◌≡◌, ◌+◌, ◌≤◌, ◌++◌, List, length}
+use Rattle.swd_host.proofs.Words.{◌≡◌, ◌+◌, ◌≤◌, ◌++◌, List, length, Answer, Stands}
 use Rattle.std.specs.Vec.{vec_capacity}
-use Rattle.swd_port.specs.declared.access.Answer.{Answer}
-use Rattle.swd_host.specs.Standing.{Stands, Stays}
+use Rattle.swd_host.specs.Standing.{Stays}
 use Rattle.swd_host.proofs.running.perform.Given as goal
 
 -- these answers were added

@@ -1,6 +1,5 @@
-use Rattle.std.proofs.Common.{sym, subst, arith}
+use Rattle.swd_host.proofs.Words.{sym, subst, arith, AreAccesses}
 use Rattle.std.proofs.lemmas.List.{take_all}
-use Rattle.swd_host.specs.Plain.{AreAccesses}
 use Rattle.swd_host.proofs.Lists.{are_next, is_access}
 use Rattle.swd_host.proofs.running.refusal.Goals as goal
 

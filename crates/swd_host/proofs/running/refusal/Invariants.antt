@@ -1,5 +1,4 @@
-use Rattle.std.proofs.Common.{◌≤◌, take, length}
-use Rattle.swd_host.specs.Plain.{AreAccesses}
+use Rattle.swd_host.proofs.Words.{◌≤◌, take, length, AreAccesses}
 use Rattle.swd_host.proofs.running.refusal.Given as goal
 
 abbrev pub invariant-loop-index : goal.invariant-loop-index

@@ -1,4 +1,4 @@
-use Rattle.std.proofs.Common.{false}
+use Rattle.swd_host.proofs.Words.{false}
 use Rattle.swd_host.proofs.Alone.{closes_as}
 use Rattle.swd_host.proofs.Resumed.{leaves_off}
 use Rattle.swd_host.proofs.Runs.{runs_as}

@@ -1,4 +1,4 @@
-use Rattle.std.proofs.Common.{sym}
+use Rattle.swd_host.proofs.Words.{sym}
 use Rattle.swd_host.proofs.Turning.{ask_goes, take_goes, give_goes, pass_goes, lead_goes, lead_falls}
 use Rattle.swd_host.proofs.Working.{ask_works, ask_due_framed, moves_works}
 use Rattle.swd_host.proofs.running.turn.Goals as goal

@@ -1,4 +1,4 @@
-use Rattle.std.proofs.Common.{arith}
+use Rattle.swd_host.proofs.Words.{arith}
 use Rattle.swd_host.proofs.StepLemmas.{owed_lands, checks_cleared}
 use Rattle.swd_host.proofs.engine.Engine.check.Goals as goal
 

@@ -1,5 +1,4 @@
-use Rattle.std.proofs.Common.{ap}
-use Rattle.swd_host.specs.Requests.{is_behind}
+use Rattle.swd_host.proofs.Words.{ap, is_behind}
 use Rattle.swd_host.proofs.StepLemmas.{own_error_cleared}
 use Rattle.swd_host.proofs.engine.Engine.cleared.Goals as goal
 

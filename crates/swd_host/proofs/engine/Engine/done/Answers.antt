@@ -1,7 +1,4 @@
-use Rattle.std.proofs.Common.{◌≡◌, ◌+◌, ap, subst, ◌∙◌}
-use Rattle.swd_host.specs.declared.engine.Phase.TheVariants.{Waited}
-use Rattle.swd_host.specs.declared.engine.State.TheVariants.{Doing}
-use Rattle.swd_host.specs.Tracks.{Left, hand_of}
+use Rattle.swd_host.proofs.Words.{◌≡◌, ◌+◌, ap, subst, ◌∙◌, Waited, Doing, Left, hand_of}
 use Rattle.swd_host.proofs.engine.Engine.done.Goals as goal
 
 pub returns-in-Waited-clause-tracks : goal.returns-in-Waited-clause-tracks

@@ -1,9 +1,7 @@
-use Rattle.std.proofs.Common.{◌≡◌, ◌+◌, ◌≤◌, arith, subst}
-use Rattle.swd_host.specs.Tracks.{Before, hand_of}
+use Rattle.swd_host.proofs.Words.{◌≡◌, ◌+◌, ◌≤◌, arith, subst, Before, hand_of, Anywhere}
 use Rattle.swd_host.proofs.Frames.{before_within, before_paid}
 use Rattle.swd_host.proofs.Sends.{before_select}
 use Rattle.swd_host.proofs.EarlyFrames.{early_any}
-use Rattle.swd_host.specs.Early.{Anywhere}
 use Rattle.swd_host.proofs.engine.Engine.event.Goals as goal
 
 pub returns-then-self-clause-tracks : goal.returns-then-self-clause-tracks

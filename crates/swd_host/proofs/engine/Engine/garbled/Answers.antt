@@ -1,8 +1,4 @@
-use Rattle.std.proofs.Common.{◌-◌, ◌+◌, sym, subst}
-use Rattle.swd_host.specs.declared.engine.Phase.TheVariants.{Ask, Data}
-use Rattle.swd_host.specs.declared.engine.State.TheVariants.{Doing}
-use Rattle.swd_host.specs.Progress.{left_for, least_for}
-use Rattle.swd_host.specs.Turns.{Lands}
+use Rattle.swd_host.proofs.Words.{◌-◌, ◌+◌, sym, subst, Ask, Data, Doing, left_for, least_for, Lands}
 use Rattle.swd_host.proofs.StepLemmas.{again_lands}
 use Rattle.swd_host.proofs.engine.Engine.garbled.Goals as goal
 

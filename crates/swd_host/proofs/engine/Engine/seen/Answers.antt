@@ -1,7 +1,5 @@
-use Rattle.std.proofs.Common.{◌≡◌, ◌+◌, ap, subst, sym, ◌∙◌, max}
-use Rattle.swd_host.specs.Requests.{begins}
-use Rattle.swd_host.specs.Engines.{job_in}
-use Rattle.swd_host.specs.Tracks.{Saw, Tracks, hand_of, begun_once}
+use Rattle.swd_host.proofs.Words.{◌≡◌, ◌+◌, ap, subst, sym, ◌∙◌, max, begins, job_in, Saw, Tracks, hand_of}
+use Rattle.swd_host.specs.Tracks.{begun_once}
 use Rattle.swd_host.proofs.StepLemmas.{saw_tracks}
 use Rattle.swd_host.proofs.engine.Engine.seen.Goals as goal
 

@@ -1,8 +1,5 @@
-use Rattle.std.proofs.Common.{◌≡◌, ◌+◌, ◌∙◌, Some, ap, sym, subst}
-use Rattle.swd_host.specs.declared.request.Job.TheVariants.{At}
-use Rattle.swd_host.specs.Requests.{is_unread}
-use Rattle.swd_host.specs.Tracks.{TakenFor, hand_of}
-use Rattle.swd_host.specs.Early.{EarlyTold, Shows}
+use Rattle.swd_host.proofs.Words.{◌≡◌, ◌+◌, ◌∙◌, Some, ap, sym, subst, At, is_unread, TakenFor, hand_of, EarlyTold}
+use Rattle.swd_host.proofs.Words.{Shows}
 use Rattle.swd_host.proofs.StepLemmas.{told_check, took_taken}
 use Rattle.swd_host.proofs.engine.Engine.told.Goals as goal
 

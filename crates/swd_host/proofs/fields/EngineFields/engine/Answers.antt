@@ -1,9 +1,8 @@
-use Rattle.std.proofs.Common.{◌≡◌, ◌==◌, ℕ, Some, true, false, ap, sym, ◌∙◌, refl, eq-eqb}
+use Rattle.swd_host.proofs.Words.{◌≡◌, ◌==◌, ℕ, Some, true, false, ap, sym, ◌∙◌, refl, fields_of, engine_at}
+use Rattle.std.proofs.Common.{eq-eqb}
 use Rattle.swd_host.specs.declared.engine.Engine.{Engine as EngineType}
 use Rattle.swd_host.specs.declared.fields.EngineFields.{EngineFields}
 use Rattle.swd_host.specs.contracts.fields.EngineFieldsPartialEq.TheImpl.{ghosts}
-use Rattle.swd_host.specs.Fields.{fields_of}
-use Rattle.swd_host.specs.FieldsRead.{engine_at}
 use Rattle.swd_host.proofs.FieldsLemmas.{engine_back}
 use Rattle.swd_host.proofs.fields.EngineFields.engine.Goals as goal
 
@@ -25,6 +24,7 @@ pub returns-else-eq-clause-found : goal.returns-else-eq-clause-found
 returns-else-eq-clause-found c = λ e h.
     let read : c.read-engine.result ≡ e = read_is c.read-engine.result e c.args.self.now c.read-engine.ensures h in
     let same : c.fields.result ≡ c.args.self.now = c.fields.ensures ∙ (ap fields_of read ∙ h) in
-    let equal : c.eq.result ≡ true = c.eq.ensures ∙ (ap (λ f. ghosts.eq f c.args.self.now) same ∙ equal_to_itself c.args.self.now) in
+    let equal : c.eq.result ≡ true = c.eq.ensures
+    ∙ (ap (λ f. ghosts.eq f c.args.self.now) same ∙ equal_to_itself c.args.self.now) in
     let differs : c.eq.result ≡ false = c.if-eq.false in
     cc
