@@ -1,5 +1,6 @@
 -- Laws of a text that goes out in blocks.
-use Rattle.std.proofs.Common.{◌≡◌, ℕ, ◌+◌, ◌-◌, ◌^◌, ◌<◌, min, Bool, false, List, [], ◌++◌, length, take, Option, sym, ap, ◌∙◌, subst, arith}
+use Rattle.std.proofs.Common.{◌≡◌, ℕ, ◌+◌, ◌-◌, ◌^◌, ◌<◌, min, Bool, false, List, [], ◌++◌, length, take, Option, sym}
+use Rattle.std.proofs.Common.{ap, ◌∙◌, subst, arith}
 use Rattle.std.specs.Io.KnownBytes.{Appends}
 use Rattle.std.proofs.KnownBytes.{Appends-trans}
 use Rattle.std.proofs.lemmas.List.{length-append, append-nil, take-append-le}
@@ -9,9 +10,12 @@ use Rattle.swd_io.specs.Helds.{held_bytes}
 use Rattle.swd_io.specs.declared.block.Block.{Block}
 
 -- what was held went out
-pub gone_out : {W : Type 0} (contents : W → Option (List ℕ)) (start : Option (List ℕ)) (block after : Block W) (all text : List ℕ) →
-    text ≡ held_bytes block.held → Appends (contents block.writer.now) (contents after.writer.now) text → held_bytes after.held ≡ [] →
-    after.written ≡ min (block.written + length text) (2 ^ 64 - 1) → Carries contents start block all → Carries contents start after all
+pub gone_out : {W : Type 0} (contents : W → Option (List ℕ)) (start : Option (List ℕ)) (block after : Block W)
+    (all text : List ℕ) →
+    text ≡ held_bytes block.held → Appends (contents block.writer.now) (contents after.writer.now) text
+    → held_bytes after.held ≡ [] →
+    after.written ≡ min (block.written + length text) (2 ^ 64 - 1) → Carries contents start block all
+    → Carries contents start after all
 gone_out contents start block after all text e a n m h =
     let whole : all ≡ h.sent ++ text = h.whole ∙ ap (λ x. h.sent ++ x) (sym e) in
     let gone : Appends start (contents after.writer.now) (h.sent ++ text) = Appends-trans _ _ _ _ _ h.gone a in
@@ -25,8 +29,10 @@ gone_out contents start block after all text e a n m h =
     }
 
 -- a beginning of what was held went out
-pub cut_short : {W : Type 0} (contents : W → Option (List ℕ)) (start new : Option (List ℕ)) (block : Block W) (all text : List ℕ) (k told : ℕ) →
-    text ≡ held_bytes block.held → k < length text → Appends (contents block.writer.now) new (take k text) → told ≡ min (block.written + k) (2 ^ 64 - 1) →
+pub cut_short : {W : Type 0} (contents : W → Option (List ℕ)) (start new : Option (List ℕ)) (block : Block W)
+    (all text : List ℕ) (k told : ℕ) →
+    text ≡ held_bytes block.held → k < length text → Appends (contents block.writer.now) new (take k text)
+    → told ≡ min (block.written + k) (2 ^ 64 - 1) →
     Carries contents start block all → Stopped told start new all
 cut_short contents start new block all text k told e l a m h =
     let whole : all ≡ h.sent ++ text = h.whole ∙ ap (λ x. h.sent ++ x) (sym e) in
@@ -42,7 +48,8 @@ cut_short contents start new block all text k told e l a m h =
     }
 
 -- a text in which the writer failed may be longer
-pub stopped_more : (told : ℕ) (start now : Option (List ℕ)) (all more : List ℕ) → Stopped told start now all → Stopped told start now (all ++ more)
+pub stopped_more : (told : ℕ) (start now : Option (List ℕ)) (all more : List ℕ) → Stopped told start now all
+    → Stopped told start now (all ++ more)
 stopped_more told start now all more h =
     let len : length (all ++ more) ≡ length all + length more = length-append all more in
     let short = h.short in
@@ -54,10 +61,12 @@ stopped_more told start now all more h =
     }
 
 -- whether the writer failed is told by the flag
-pub to_carries : {W : Type 0} (contents : W → Option (List ℕ)) (flag : Bool) (start : Option (List ℕ)) (block : Block W) (all : List ℕ) →
+pub to_carries : {W : Type 0} (contents : W → Option (List ℕ)) (flag : Bool) (start : Option (List ℕ)) (block : Block W)
+    (all : List ℕ) →
     flag ≡ false → SendsBy flag contents start block all → Carries contents start block all
 to_carries contents flag start block all e h = rw e at h
 
-pub of_carries : {W : Type 0} (contents : W → Option (List ℕ)) (flag : Bool) (start : Option (List ℕ)) (block : Block W) (all : List ℕ) →
+pub of_carries : {W : Type 0} (contents : W → Option (List ℕ)) (flag : Bool) (start : Option (List ℕ)) (block : Block W)
+    (all : List ℕ) →
     flag ≡ false → Carries contents start block all → SendsBy flag contents start block all
 of_carries contents flag start block all e h = rw e h

@@ -1,5 +1,6 @@
 -- Laws of what a consumer has read.
-use Rattle.std.proofs.Common.{◌≡◌, refl, ℕ, List, [], ◌++◌, Option, None, Some, IfSome, Ok, Err, sym, subst, append_assoc, append-nil}
+use Rattle.std.proofs.Common.{◌≡◌, refl, ℕ, List, [], ◌++◌, Option, None, Some, IfSome, Ok, Err, sym, subst}
+use Rattle.std.proofs.Common.{append_assoc, append-nil}
 use Rattle.std.specs.Io.KnownBytes.{Consumes}
 use Rattle.std.proofs.KnownBytes.{Consumes-whole}
 use Rattle.swd_io.specs.Pieces.{Reads, LeadsOn, LeadsToEnd, IsText, IsUnread}
@@ -14,8 +15,10 @@ pub leads_further : {I C : Type 0} (HasRead : I → C → List ℕ → Type 0) (
 leads_further HasRead a b c first next f g = λ i seen h.
     subst (HasRead i c) (append_assoc seen first next) (g i (seen ++ first) (f i seen h))
 
-pub leads_to_later_end : {I C F : Type 0} (HasRead : I → C → List ℕ → Type 0) (Ends : I → C → F → List ℕ → Type 0) (a b c : C) (first next : List ℕ) (fault : F) →
-    LeadsOn HasRead a first b → LeadsToEnd HasRead Ends b next fault c → LeadsToEnd HasRead Ends a (first ++ next) fault c
+pub leads_to_later_end : {I C F : Type 0} (HasRead : I → C → List ℕ → Type 0) (Ends : I → C → F → List ℕ → Type 0)
+    (a b c : C) (first next : List ℕ) (fault : F) →
+    LeadsOn HasRead a first b → LeadsToEnd HasRead Ends b next fault c
+    → LeadsToEnd HasRead Ends a (first ++ next) fault c
 leads_to_later_end HasRead Ends a b c first next fault f g = λ i seen h.
     subst (Ends i c fault) (append_assoc seen first next) (g i (seen ++ first) (f i seen h))
 
@@ -27,18 +30,23 @@ found_in_text (Some x) None text P h f = absurd h
 found_in_text (Some x) (Some rest) text P h f = subst P (sym h) (f rest)
 
 -- what holds of each text that was read to its end, holds of the reader's
-pub text_read : {I C F : Type 0} (HasRead : I → C → List ℕ → Type 0) (stops : C → List ℕ → F → C → Type 0) (i : I) (old new : Option (List ℕ)) (a b : C) (P : List ℕ → Type 0) →
-    HasRead i a [] → ((text : List ℕ) → HasRead i b text → P text) → Reads (LeadsOn HasRead) stops (Ok tt) old new a b → IfSome old P
+pub text_read : {I C F : Type 0} (HasRead : I → C → List ℕ → Type 0) (stops : C → List ℕ → F → C → Type 0) (i : I)
+    (old new : Option (List ℕ)) (a b : C) (P : List ℕ → Type 0) →
+    HasRead i a [] → ((text : List ℕ) → HasRead i b text → P text) → Reads (LeadsOn HasRead) stops (Ok tt) old new a b
+    → IfSome old P
 text_read HasRead stops i old new a b P h f r = Consumes-whole old new r.0 P r.1 r.2 (f r.0 (r.3 i [] h))
 
 -- so some text is the reader's
-pub some_text : {I C F : Type 0} (HasRead : I → C → List ℕ → Type 0) (stops : C → List ℕ → F → C → Type 0) (i : I) (old new : Option (List ℕ)) (a b : C) (P : List ℕ → Type 0) →
-    HasRead i a [] → ((text : List ℕ) → HasRead i b text → P text) → Reads (LeadsOn HasRead) stops (Ok tt) old new a b → (text : List ℕ) × IsText old text × P text
+pub some_text : {I C F : Type 0} (HasRead : I → C → List ℕ → Type 0) (stops : C → List ℕ → F → C → Type 0) (i : I)
+    (old new : Option (List ℕ)) (a b : C) (P : List ℕ → Type 0) →
+    HasRead i a [] → ((text : List ℕ) → HasRead i b text → P text) → Reads (LeadsOn HasRead) stops (Ok tt) old new a b
+    → (text : List ℕ) × IsText old text × P text
 some_text HasRead stops i old new a b P h f r =
     (r.0, Consumes-whole old new r.0 (λ x. x ≡ r.0) r.1 r.2 refl, f r.0 (r.3 i [] h))
 
 -- what a fault says, whatever follows, it says of the reader's text
-pub text_unread : {I C F : Type 0} (HasRead : I → C → List ℕ → Type 0) (Ends : I → C → F → List ℕ → Type 0) (Refuses : F → List ℕ → Type 0) (i : I) (old new : Option (List ℕ)) (a b : C) (unread : Unread F) →
+pub text_unread : {I C F : Type 0} (HasRead : I → C → List ℕ → Type 0) (Ends : I → C → F → List ℕ → Type 0)
+    (Refuses : F → List ℕ → Type 0) (i : I) (old new : Option (List ℕ)) (a b : C) (unread : Unread F) →
     HasRead i a [] → ((fault : F) (text more : List ℕ) → Ends i b fault text → Refuses fault (text ++ more)) →
     Reads (LeadsOn HasRead) (LeadsToEnd HasRead Ends) (Err unread) old new a b → IfSome old (IsUnread Refuses unread)
 text_unread HasRead Ends Refuses i None new a b unread h f r = tt

@@ -1,5 +1,6 @@
 //! A block of text on its way to a writer.
-ghost use Rattle.std.specs.Prelude.{◌≡◌, ℕ, ◌-◌, ◌^◌, ◌≤◌, min, List, Option, ◌++◌, ◌∷◌, [], length, take, false, IfOk, IfErr};
+ghost use Rattle.std.specs.Prelude.{◌≡◌, ℕ, ◌+◌, ◌-◌, ◌^◌, ◌≤◌, min, List, Option, ◌++◌, ◌∷◌, [], length, take, false};
+ghost use Rattle.std.specs.Prelude.{IfOk, IfErr};
 ghost use Rattle.std.specs.Io.KnownBytes.{Appends};
 ghost use Rattle.swd_io.specs.Blocks.{Sends, Stopped, held_len, is_failed};
 
@@ -54,7 +55,8 @@ impl<'a, W: Write> Block<'a, W> {
             → Sends W.contents start self.new all }
         ensures ok { IfOk result (λ told. (start : Option (List ℕ)) (all : List ℕ) → Sends W.contents start self.old all
             → Appends start (W.contents self.new.writer.now) all × (told ≡ min (length all) (2 ^ 64 - 1))) }
-        ensures err { IfErr result (λ told. (start : Option (List ℕ)) (all : List ℕ) → Sends W.contents start self.old all
+        ensures err { IfErr result (λ told. (start : Option (List ℕ)) (all : List ℕ)
+            → Sends W.contents start self.old all
             → Stopped told start (W.contents self.new.writer.now) all) }
     {
         self.send_held();
@@ -125,6 +127,7 @@ impl<'a, W: Write> Block<'a, W> {
             self.held.extend(piece);
         }
     }
+
     /// Adds the first bytes of a piece to the text, and sends what is held where there is no room for the piece. It is
     /// copied whole: a copy of known length takes the least time.
     #[inline(always)]
@@ -138,6 +141,32 @@ impl<'a, W: Write> Block<'a, W> {
         self.make_room();
         if !self.failed {
             self.held.extend_first(piece, count);
+        }
+    }
+
+    /// Adds the first bytes of two pieces and then a third piece to the text, and sends what is held where there is no
+    /// room for the pieces: one look at the room serves all three. Each is copied whole.
+    #[inline(always)]
+    pub fn put_three<const A: usize, const B: usize, const C: usize>(
+        &mut self,
+        first: &[u8; A],
+        first_count: usize,
+        second: &[u8; B],
+        second_count: usize,
+        third: &[u8; C],
+    )
+        requires short { A + B + C ≤ LONGEST }
+        requires first { first_count ≤ A }
+        requires second { second_count ≤ B }
+        ensures writer { self.new.writer.ghost_name ≡ self.old.writer.ghost_name }
+        ensures sends { (start : Option (List ℕ)) (all : List ℕ) → Sends W.contents start self.old all
+            → Sends W.contents start self.new
+            (all ++ (take first_count first.now ++ (take second_count second.now ++ third.now))) }
+    {
+        self.make_room();
+        if !self.failed {
+            self.held
+                .extend_three(first, first_count, second, second_count, third);
         }
     }
 }

@@ -52,7 +52,8 @@ impl Held {
     #[inline(always)]
     pub(crate) fn extend(&mut self, piece: &[u8])
         requires { count_of self.old + length piece.now ≤ SIZE }
-        ensures { held_bytes self.new ≡ held_bytes self.old ++ piece.now }
+        ensures bytes { held_bytes self.new ≡ held_bytes self.old ++ piece.now }
+        ensures count { count_of self.new ≡ count_of self.old + length piece.now }
     {
         let len = self.len;
         self.bytes[len..len + piece.len()].copy_from_slice(piece);
@@ -64,10 +65,32 @@ impl Held {
     pub(crate) fn extend_first<const N: usize>(&mut self, piece: &[u8; N], count: usize)
         requires room { count_of self.old + N ≤ SIZE }
         requires within { count ≤ N }
-        ensures { held_bytes self.new ≡ held_bytes self.old ++ take count piece.now }
+        ensures bytes { held_bytes self.new ≡ held_bytes self.old ++ take count piece.now }
+        ensures count { count_of self.new ≡ count_of self.old + count }
     {
         let len = self.len;
         self.extend(piece);
         self.len = len + count;
+    }
+
+    /// Adds the first bytes of two pieces and then a third, where there is room for all of the pieces.
+    #[inline(always)]
+    pub(crate) fn extend_three<const A: usize, const B: usize, const C: usize>(
+        &mut self,
+        first: &[u8; A],
+        first_count: usize,
+        second: &[u8; B],
+        second_count: usize,
+        third: &[u8; C],
+    )
+        requires room { count_of self.old + (A + B + C) ≤ SIZE }
+        requires first { first_count ≤ A }
+        requires second { second_count ≤ B }
+        ensures { held_bytes self.new
+            ≡ held_bytes self.old ++ (take first_count first.now ++ (take second_count second.now ++ third.now)) }
+    {
+        self.extend_first(first, first_count);
+        self.extend_first(second, second_count);
+        self.extend(third);
     }
 }

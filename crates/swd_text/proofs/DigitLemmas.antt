@@ -1,5 +1,6 @@
 -- Laws of the characters of bits.
-use Rattle.std.proofs.Common.{◌≡◌, ℕ, zero, suc, ◌+◌, ◌*◌, ◌/◌, ◌%◌, ◌≤◌, Bool, true, false, not, cond, List, [], ◌∷◌, ◌++◌, length, take, map, refl, sym, ap, ◌∙◌, subst, append_assoc, arith, inl, inr}
+use Rattle.std.proofs.Common.{◌≡◌, ℕ, zero, suc, ◌+◌, ◌*◌, ◌/◌, ◌%◌, ◌≤◌, Bool, true, false, not, cond, List, [], ◌∷◌}
+use Rattle.std.proofs.Common.{◌++◌, length, take, map, refl, sym, ap, ◌∙◌, subst, append_assoc, arith, inl, inr}
 use Rattle.std.specs.Prelude.{◌==◌}
 use Rattle.std.specs.List.{prefix_len}
 use Rattle.std.specs.Simd.Lanes.{mask_l}
@@ -37,7 +38,8 @@ digit_of byte e = elim (cases_eq byte 49) [
 ]
 
 -- the digits at the front
-pub front : (bytes : List ℕ) (n : ℕ) → n ≤ prefix_len (λ x. not (is_other x)) bytes → take n bytes ≡ map digit (low_bits n (mask_l (map (λ byte. byte == 49) bytes)))
+pub front : (bytes : List ℕ) (n : ℕ) → n ≤ prefix_len (λ x. not (is_other x)) bytes
+    → take n bytes ≡ map digit (low_bits n (mask_l (map (λ byte. byte == 49) bytes)))
 unfolding low_bits
 front bytes zero h = refl
 front [] (suc n) h = absurd (omega arith)
@@ -45,8 +47,10 @@ front (byte ∷ bytes) (suc n) h =
     step (is_other byte) refl h (front bytes n)
   where
     step : (b : Bool) → is_other byte ≡ b → suc n ≤ cond (not b) (1 + prefix_len (λ x. not (is_other x)) bytes) 0 →
-        (n ≤ prefix_len (λ x. not (is_other x)) bytes → take n bytes ≡ map digit (low_bits n (mask_l (map (λ x. x == 49) bytes)))) →
-        byte ∷ take n bytes ≡ map digit (low_bits (suc n) (cond (byte == 49) 1 0 + 2 * mask_l (map (λ x. x == 49) bytes)))
+        (n ≤ prefix_len (λ x. not (is_other x)) bytes
+        → take n bytes ≡ map digit (low_bits n (mask_l (map (λ x. x == 49) bytes)))) →
+        byte ∷ take n bytes ≡ map digit
+        (low_bits (suc n) (cond (byte == 49) 1 0 + 2 * mask_l (map (λ x. x == 49) bytes)))
     step true e h others = absurd (omega arith)
     step false e h others =
         let rest = others (omega arith) in
@@ -54,7 +58,8 @@ front (byte ∷ bytes) (suc n) h =
         ∙ ap (map digit) (sym (next_bit n (byte == 49) (mask_l (map (λ x. x == 49) bytes))))
 
 -- as many as the mask of the others has zeros at its end
-pub front_of : (bytes : List ℕ) → length bytes ≡ 64 → count_trailing_zeros 64 (mask_l (map is_other bytes)) ≤ prefix_len (λ x. not (is_other x)) bytes
+pub front_of : (bytes : List ℕ) → length bytes ≡ 64
+    → count_trailing_zeros 64 (mask_l (map is_other bytes)) ≤ prefix_len (λ x. not (is_other x)) bytes
 front_of bytes h = elim (cases_lt 0 (mask_l (map is_other bytes))) [
   | inl p ↦ omega (arith, trailing_mask_l is_other 64 bytes (omega arith) p)
   | inr q ↦
@@ -63,7 +68,8 @@ front_of bytes h = elim (cases_lt 0 (mask_l (map is_other bytes))) [
 ]
 
 -- a text that is read goes on with digits
-pub reads_digits : (more : List Bool) (seen : List ℕ) (bits : List Bool) → Reads seen bits false → Reads (seen ++ map digit more) (bits ++ more) false
+pub reads_digits : (more : List Bool) (seen : List ℕ) (bits : List Bool) → Reads seen bits false
+    → Reads (seen ++ map digit more) (bits ++ more) false
 reads_digits [] seen bits h = rw (append-nil seen, append-nil bits) h
 reads_digits (b ∷ more) seen bits h =
     rw (← append_assoc seen (digit b ∷ []) (map digit more), ← append_assoc bits (b ∷ []) more)
@@ -74,8 +80,10 @@ reads_digits (b ∷ more) seen bits h =
     one false h = reads_bit seen bits false false false 48 refl refl h
 
 -- so many of them
-pub reads_taken : (seen text : List ℕ) (bits : List Bool) (before after : Bool) (n k v : ℕ) → before ≡ false → after ≡ before → k ≡ n →
-    take n text ≡ map digit (low_bits n v) → Reads seen bits before → Reads (seen ++ take k text) (bits ++ low_bits n v) after
+pub reads_taken : (seen text : List ℕ) (bits : List Bool) (before after : Bool) (n k v : ℕ) → before ≡ false
+    → after ≡ before → k ≡ n →
+    take n text ≡ map digit (low_bits n v) → Reads seen bits before
+    → Reads (seen ++ take k text) (bits ++ low_bits n v) after
 reads_taken seen text bits before after n k v e f same digits h =
     subst (λ c. Reads (seen ++ take k text) (bits ++ low_bits n v) c) (sym (f ∙ e))
     (subst (λ t. Reads (seen ++ t) (bits ++ low_bits n v) false) (sym (ap (λ m. take m text) same ∙ digits))

@@ -1,3 +1,5 @@
 pub mod ListerLemmas
 pub mod DecodingLemmas
 mod DigitLemmas
+mod CommentLemmas
+mod TxLineLemmas

@@ -1,17 +1,22 @@
 -- Laws of a trace text that is listed as it is read.
-use Rattle.std.proofs.Common.{◌≡◌, ℕ, ◌+◌, ◌<◌, ◌^◌, Bool, false, List, [], ◌∷◌, ◌++◌, length, Option, Result, Ok, Err, refl, sym, ap, ◌∙◌, subst, append_assoc, arith, inl}
+use Rattle.std.proofs.Common.{◌≡◌, ℕ, zero, suc, ◌+◌, ◌<◌, ◌^◌, Bool, false, List, [], ◌∷◌, ◌++◌, length, Option}
+use Rattle.std.proofs.Common.{Result, Ok, Err}
+use Rattle.std.proofs.Common.{refl, sym, ap, ◌∙◌, subst, append_assoc, arith, inl}
 use Rattle.std.specs.Prelude.{OnOk, OnErr, IfErr}
 use Rattle.std.proofs.KnownBytes.{Appends-nil}
 use Rattle.std.proofs.lemmas.List.{length-append, append-nil}
 use Rattle.swd_io.specs.Blocks.{Sends}
 use Rattle.swd_io.specs.declared.block.Block.{Block}
 use Rattle.swd_bits.proofs.ScanLemmas.{reads_none}
+use Rattle.swd_bits.specs.Listing.{tx_line}
+use Rattle.swd_bits.specs.declared.tx.Tx.{Tx as Transaction}
 use Rattle.swd_trace.specs.declared.item.Item.{Item}
+use Rattle.swd_trace.specs.declared.item.Item.TheVariants.{Tx, Idle}
 use Rattle.swd_trace.specs.declared.decoder.Decoder.{Decoder}
 use Rattle.swd_trace.specs.Reading.{items_after, reading_of}
 use Rattle.swd_trace.specs.Decided.{IsUndecided}
 use Rattle.swd_trace.specs.Texts.{item_line, listing}
-use Rattle.swd_trace.specs.Held.{rest, fed_of}
+use Rattle.swd_trace.specs.Held.{rest, fed_of, idle_items}
 use Rattle.swd_text.specs.Listers.{Lists, Listed, HasRead}
 use Rattle.swd_text.specs.declared.lister.Lister.{Lister}
 
@@ -25,7 +30,8 @@ none_undecided readings e = λ item h.
 
 -- a lister that has taken nothing
 pub has_read_nothing : {W : Type 0} (contents : W → Option (List ℕ)) (lister : Lister) (writer : W) →
-    ((more : List Bool) → rest lister.decoder more ≡ reading_of more) → fed_of lister.decoder ≡ 0 → lister.scan ≡ false →
+    ((more : List Bool) → rest lister.decoder more ≡ reading_of more) → fed_of lister.decoder ≡ 0 → lister.scan ≡ false
+    →
     lister.place ≡ 0 → lister.written ≡ 0 → HasRead contents (contents writer) (lister, writer) []
 has_read_nothing contents lister writer law fed scan place written = record {
   read = record {
@@ -43,13 +49,16 @@ has_read_nothing contents lister writer law fed scan place written = record {
 }
 
 -- the lines of some items and one more
-pub listing_more : (items : List Item) (item : Item) → listing (items ++ item ∷ []) ≡ listing items ++ (item_line item ++ 10 ∷ [])
+pub listing_more : (items : List Item) (item : Item)
+    → listing (items ++ item ∷ []) ≡ listing items ++ (item_line item ++ 10 ∷ [])
 listing_more [] item = append-nil (item_line item ++ 10 ∷ [])
 listing_more (i ∷ items) item =
-    ap (λ x. (item_line i ++ 10 ∷ []) ++ x) (listing_more items item) ∙ sym (append_assoc (item_line i ++ 10 ∷ []) (listing items) (item_line item ++ 10 ∷ []))
+    ap (λ x. (item_line i ++ 10 ∷ []) ++ x) (listing_more items item)
+    ∙ sym (append_assoc (item_line i ++ 10 ∷ []) (listing items) (item_line item ++ 10 ∷ []))
 
 -- one more item is given, and its line is under way
-pub one_more : {W : Type 0} (contents : W → Option (List ℕ)) (start : Option (List ℕ)) (before after : Decoder) (old new : Block W) (bits : List Bool) (items : List Item) (item : Item) →
+pub one_more : {W : Type 0} (contents : W → Option (List ℕ)) (start : Option (List ℕ)) (before after : Decoder)
+    (old new : Block W) (bits : List Bool) (items : List Item) (item : Item) →
     ((more : List Bool) → rest before more ≡ item ∷ rest after more) → fed_of after ≡ fed_of before →
     ((all : List ℕ) → Sends contents start old all → Sends contents start new (all ++ (item_line item ++ 10 ∷ []))) →
     Lists contents start before old bits items → Lists contents start after new bits (items ++ item ∷ [])
@@ -61,21 +70,25 @@ one_more contents start before after old new bits items item law fed sends h = r
 }
 
 -- more bits are taken
-pub more_bits : {W : Type 0} (contents : W → Option (List ℕ)) (start : Option (List ℕ)) (before after : Decoder) (block : Block W) (bits : List Bool) (items : List Item) (next : List Bool) →
-    ((more : List Bool) → rest after more ≡ rest before (next ++ more)) → fed_of after ≡ fed_of before + length next → fed_of before + length next < 2 ^ 64 →
+pub more_bits : {W : Type 0} (contents : W → Option (List ℕ)) (start : Option (List ℕ)) (before after : Decoder)
+    (block : Block W) (bits : List Bool) (items : List Item) (next : List Bool) →
+    ((more : List Bool) → rest after more ≡ rest before (next ++ more)) → fed_of after ≡ fed_of before + length next
+    → fed_of before + length next < 2 ^ 64 →
     Lists contents start before block bits items → Lists contents start after block (bits ++ next) items
 more_bits contents start before after block bits items next law fed few h =
     let count = h.count in
     let len : length (bits ++ next) ≡ length bits + length next = length-append bits next in
     record {
-      law = λ more. ap (λ x. items ++ x) (law more) ∙ h.law (next ++ more) ∙ ap reading_of (sym (append_assoc bits next more));
+      law = λ more. ap (λ x. items ++ x) (law more) ∙ h.law (next ++ more)
+          ∙ ap reading_of (sym (append_assoc bits next more));
       count = omega arith;
       counted = omega arith;
       sends = h.sends;
     }
 
 -- what was listed, by its bits and items
-pub lists_of : {W : Type 0} (contents : W → Option (List ℕ)) (start : Option (List ℕ)) (decoder : Decoder) (comment : Bool) (block : Block W) (seen : List ℕ) →
+pub lists_of : {W : Type 0} (contents : W → Option (List ℕ)) (start : Option (List ℕ)) (decoder : Decoder)
+    (comment : Bool) (block : Block W) (seen : List ℕ) →
     (h : Listed contents start decoder comment block seen) → Lists contents start decoder block h.read.bits h.read.items
 lists_of contents start decoder comment block seen h = record {
   law = h.read.law;
@@ -90,6 +103,47 @@ on_ok (Ok x) f p q = f p q
 on_ok (Err e) f p q = tt
 
 -- two facts of an Err
-pub on_err : {A E : Type 0} {Q : Type 0} {P R : E → Type 0} (r : Result A E) → ((e : E) → P e → Q → R e) → IfErr r P → OnErr r Q → IfErr r R
+pub on_err : {A E : Type 0} {Q : Type 0} {P R : E → Type 0} (r : Result A E) → ((e : E) → P e → Q → R e) → IfErr r P
+    → OnErr r Q → IfErr r R
 on_err (Ok x) f p q = tt
 on_err (Err e) f p q = f e p q
+
+-- the lines of some items, and of others after them
+pub listing_append : (a b : List Item) → listing (a ++ b) ≡ listing a ++ listing b
+listing_append [] b = refl
+listing_append (i ∷ a) b = ap (λ x. (item_line i ++ 10 ∷ []) ++ x) (listing_append a b)
+    ∙ sym (append_assoc (item_line i ++ 10 ∷ []) (listing a) (listing b))
+
+-- the line of idle cycles
+pub idle_listed : (all : List ℕ) (n : ℕ) → 0 < n
+    → all ++ (item_line (Idle n) ++ 10 ∷ []) ≡ all ++ listing (idle_items n)
+idle_listed all zero h = absurd (omega arith)
+idle_listed all (suc n) h = ap (λ x. all ++ x) (sym (append-nil (item_line (Idle (suc n)) ++ 10 ∷ [])))
+
+pub no_idle_listed : (all : List ℕ) (n : ℕ) → n ≡ 0 → all ≡ all ++ listing (idle_items n)
+no_idle_listed all n e = sym (ap (λ k. all ++ listing (idle_items k)) e ∙ append-nil all)
+
+-- a transaction is found behind idle cycles or none, and their lines are under way
+pub found_more : {W : Type 0} (contents : W → Option (List ℕ)) (start : Option (List ℕ)) (before after : Decoder)
+    (old new : Block W) (bits : List Bool) (items : List Item) (next : List Bool) (n idle : ℕ) (tx : Transaction) →
+    ((more : List Bool) → (items ++ (idle_items idle ++ Tx tx ∷ []))
+    ++ rest after more ≡ reading_of ((bits ++ next) ++ more))
+    → fed_of after ≡ fed_of before + n → length next ≡ n → fed_of before + n < 2 ^ 64 →
+    ((all : List ℕ) → Sends contents start old all
+    → Sends contents start new ((all ++ listing (idle_items idle)) ++ (tx_line tx ++ 10 ∷ []))) →
+    Lists contents start before old bits items →
+    Lists contents start after new (bits ++ next) (items ++ (idle_items idle ++ Tx tx ∷ []))
+found_more contents start before after old new bits items next n idle tx law fed long few sends h =
+    let count = h.count in
+    let len : length (bits ++ next) ≡ length bits + length next = length-append bits next in
+    let lines : listing (items ++ (idle_items idle ++ Tx tx ∷ []))
+    ≡ (listing items ++ listing (idle_items idle)) ++ (tx_line tx ++ 10 ∷ []) =
+    listing_append items (idle_items idle ++ Tx tx ∷ [])
+    ∙ ap (λ x. listing items ++ x) (listing_more (idle_items idle) (Tx tx))
+    ∙ sym (append_assoc (listing items) (listing (idle_items idle)) (tx_line tx ++ 10 ∷ [])) in
+    record {
+      law = law;
+      count = omega arith;
+      counted = omega arith;
+      sends = subst (λ all. Sends contents start new all) (sym lines) (sends (listing items) h.sends);
+    }

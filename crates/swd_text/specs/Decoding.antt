@@ -1,5 +1,6 @@
 -- What is answered to a trace text that is to be listed.
-use Rattle.std.specs.Prelude.{◌≡◌, ℕ, ◌+◌, ◌-◌, ◌^◌, ◌<◌, ◌⊎◌, min, Bool, List, length, take, Option, Some, Result, Ok, Err, IfSome}
+use Rattle.std.specs.Prelude.{◌≡◌, ℕ, ◌+◌, ◌-◌, ◌^◌, ◌<◌, ◌⊎◌, min, Bool, List, length, take, Option, Some, Result, Ok}
+use Rattle.std.specs.Prelude.{Err, IfSome}
 use Rattle.std.specs.Io.KnownBytes.{Appends, Consumes, IsAtEnd}
 use Rattle.swd_io.specs.Blocks.{Stopped}
 use Rattle.swd_bits.specs.TraceText.{bits_of_text}
@@ -11,7 +12,8 @@ use Rattle.swd_trace.specs.Texts.{listing}
 use Rattle.swd_text.specs.declared.fault.TextFault.{TextFault}
 use Rattle.swd_text.specs.declared.fault.TextFault.TheVariants.{BadChar, TooLong}
 use Rattle.swd_text.specs.declared.fault.EngineFault.{EngineFault}
-use Rattle.swd_text.specs.declared.fault.EngineFault.TheVariants.{Script, Plan, Text, List as Listing, Read, Write, Memory, TraceCut}
+use Rattle.swd_text.specs.declared.fault.EngineFault.TheVariants.{Script, Plan, Text, List as Listing, Read, Write}
+use Rattle.swd_text.specs.declared.fault.EngineFault.TheVariants.{Memory, TraceCut}
 
 -- the text has bits, fewer than 2^64, and they decide these items
 pub record DecidedBy (text : List ℕ) (items : List Item) : Type 0 where
@@ -51,12 +53,13 @@ abbrev pub StopsWith : TextFault → List Item → List ℕ → Type 0
 StopsWith (BadChar told) items text = StopsAtBad told items text
 StopsWith TooLong items text = StopsAtLong items text
 
--- the items that are told of what was read of a text: those that it decides, or decides before the byte at which it can't go on
+-- the items that are told of what was read of a text: those that it decides, or decides before the byte at which it
+-- can't go on
 abbrev pub IsDue : List ℕ → List Item → Type 0
 IsDue text items = DecidedBy text items ⊎ ((fault : TextFault) × StopsWith fault items text)
 
--- What an answer says of the reader's text, where its bytes are known, of what the reader has left of it, and of what the
--- writer holds before and after.
+-- What an answer says of the reader's text, where its bytes are known, of what the reader has left of it, and of what
+-- the writer holds before and after.
 abbrev pub Decodes : Result (Unit {0}) EngineFault → Option (List ℕ) → Option (List ℕ) → Option (List ℕ) →
     Option (List ℕ) → Type 0
 Decodes (Ok u) text left old new =

@@ -15,10 +15,11 @@ use Rattle.swd_text.specs.declared.lister.Lister.{Lister}
 use Rattle.swd_text.specs.declared.fault.TextFault.{TextFault}
 use Rattle.swd_text.specs.declared.fault.TextFault.TheVariants.{BadChar, TooLong}
 use Rattle.swd_text.specs.declared.fault.EngineFault.{EngineFault}
-use Rattle.swd_text.specs.declared.fault.EngineFault.TheVariants.{Script, Plan, Text, List as Listing, Read, Write, Memory, TraceCut}
+use Rattle.swd_text.specs.declared.fault.EngineFault.TheVariants.{Script, Plan, Text, List as Listing, Read, Write}
+use Rattle.swd_text.specs.declared.fault.EngineFault.TheVariants.{Memory, TraceCut}
 
--- The items so far and what the decoder holds are the reading of the bits so far, whatever follows, and the items' lines
--- are under way.
+-- The items so far and what the decoder holds are the reading of the bits so far, whatever follows, and the items'
+-- lines are under way.
 pub record Lists {W : Type 0} (contents : W → Option (List ℕ)) (start : Option (List ℕ)) (decoder : Decoder)
     (block : Block W) (bits : List Bool) (items : List Item) : Type 0 where
   pub law : (more : List Bool) → items ++ rest decoder more ≡ reading_of (bits ++ more)
@@ -63,7 +64,8 @@ pub record IsLong (seen : List ℕ) (byte : ℕ) : Type 0 where
 
 -- why no trace text goes on with this byte, which stands at a place
 abbrev pub StopsAt : TextFault → ℕ → List ℕ → ℕ → Type 0
-StopsAt (BadChar told) place seen byte = (told ≡ place) × ((more : List ℕ) → IsFirstBad (seen ++ byte ∷ more) (length seen))
+StopsAt (BadChar told) place seen byte = (told ≡ place)
+    × ((more : List ℕ) → IsFirstBad (seen ++ byte ∷ more) (length seen))
 StopsAt TooLong place seen byte = IsLong seen byte
 
 -- The text can't go on, whatever follows, and what it decides before that is under way.

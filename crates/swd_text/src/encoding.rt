@@ -1,5 +1,5 @@
 //! The engine of `swd encode`: a listing to its trace text.
-ghost use Rattle.std.specs.Prelude.{◌≡◌, ℕ, List, ◌++◌, Option, IfSome};
+ghost use Rattle.std.specs.Prelude.{◌≡◌, ℕ, List, ◌++◌, Option};
 ghost use Rattle.swd_io.specs.Blocks.{Sends, Writes};
 ghost use Rattle.swd_trace.specs.Listed.{IsLegal};
 ghost use Rattle.swd_trace.specs.Listed.{AreLegal};

@@ -1,13 +1,18 @@
 //! A trace text on its way to its listing.
-ghost use Rattle.std.specs.Prelude.{◌≡◌, ℕ, ◌+◌, ◌-◌, ◌^◌, ◌<◌, ◌≤◌, min, List, Bool, false, true, ◌∷◌, ◌++◌, [], length, take, Option, OnOk, OnErr, IfErr};
-ghost use Rattle.std.specs.Io.KnownBytes.{Appends};
+ghost use Rattle.std.specs.Prelude.{◌≡◌, ℕ, ◌+◌, ◌-◌, ◌^◌, ◌<◌, ◌≤◌, min, List, Bool, false, true, ◌∷◌, ◌++◌};
+ghost use Rattle.std.specs.Prelude.{◌≢◌, slice_index, [], length, take, Option, OnOk, OnErr, IfErr};
 ghost use Rattle.swd_io.specs.Blocks.{Sends};
 ghost use Rattle.swd_io.specs.Pieces.{LeadsOn, LeadsToEnd};
 ghost use Rattle.swd_io.proofs.PieceLemmas.{leads_nowhere, leads_further, leads_to_later_end};
 ghost use Rattle.swd_trace.specs.declared.item.Item;
 ghost use Rattle.swd_trace.specs.Reading.{reading_of};
 ghost use Rattle.swd_trace.specs.Texts.{item_line, listing};
-ghost use Rattle.swd_trace.specs.Held.{fed_of, rest, IsSettled};
+ghost use Rattle.swd_bits.specs.Bits.{low_bits};
+ghost use Rattle.swd_bits.specs.BitLists.{bits_of, IsSpelled};
+ghost use Rattle.swd_bits.specs.Listing.{tx_line};
+ghost use Rattle.swd_bits.specs.Transactions.{Spells};
+ghost use Rattle.swd_bits.specs.declared.tx.Tx.{Tx};
+ghost use Rattle.swd_trace.specs.Held.{fed_of, rest, idle_items, IsSettled};
 ghost use Rattle.swd_trace.specs.Decided.{IsUndecided};
 ghost use Rattle.swd_text.specs.Decoding.{Finishes};
 ghost use Rattle.swd_text.specs.Listers.{Lists, GoesOn, Listed, HasRead, StopsAt, StopsIn, Ends};
@@ -17,9 +22,9 @@ use crate::fault::{EngineFault, TextFault};
 use crate::tx_line::put_tx;
 use arrayvec::ArrayString;
 use std::io::Write;
-use swd_bits::{Scan, Sign};
+use swd_bits::{Scan, Sign, TxBits};
 use swd_io::{Block, Consumer};
-use swd_trace::{Decoder, Item, LONGEST_LINE};
+use swd_trace::{Decoder, FoundTx, Item, LONGEST_LINE};
 
 // Room for the longest line and its end.
 const ROOM: usize = LONGEST_LINE + 1;
@@ -61,6 +66,60 @@ fn junk_line(bit: bool) -> &'static [u8; 7]
     if bit { b"junk 1\n" } else { b"junk 0\n" }
 }
 
+// The line of a transaction that was found whole is under way, too, and before it that of idle cycles, where there are any.
+#[inline(always)]
+fn put_found<W: Write>(block: &mut Block<'_, W>, line: &mut ArrayString<ROOM>, found: FoundTx)
+    requires whole { IsSpelled found.tx }
+    requires short { found.tx.len ≤ 46 }
+    requires spells { (tx : Tx) × Spells tx (bits_of found.tx) }
+    ensures sends { (tx : Tx) → Spells tx (bits_of found.tx) → (start : Option (List ℕ)) (all : List ℕ)
+        → Sends W.contents start block.old all
+        → Sends W.contents start block.new ((all ++ listing (idle_items found.idle)) ++ (tx_line tx ++ 10 ∷ [])) }
+    ensures writer { block.new.writer.ghost_name ≡ block.old.writer.ghost_name }
+{
+    put_idle(block, line, found.idle);
+    put_tx(block, found.tx);
+}
+
+// The line of a transaction that was held is under way, too. Most are found whole, so this is kept out of the way of bits that
+// belong to nothing.
+#[inline(never)]
+fn put_held_tx<W: Write>(block: &mut Block<'_, W>, spelled: TxBits)
+    requires whole { IsSpelled spelled }
+    requires short { spelled.len ≤ 46 }
+    requires found { (tx : Tx) × Spells tx (bits_of spelled) }
+    ensures sends { (tx : Tx) → Spells tx (bits_of spelled) → (start : Option (List ℕ)) (all : List ℕ)
+        → Sends W.contents start block.old all → Sends W.contents start block.new (all ++ (tx_line tx ++ 10 ∷ [])) }
+    ensures writer { block.new.writer.ghost_name ≡ block.old.writer.ghost_name }
+{
+    put_tx(block, spelled);
+}
+
+// The line of idle cycles, where there are any, is under way, too.
+#[inline(always)]
+fn put_idle<W: Write>(block: &mut Block<'_, W>, line: &mut ArrayString<ROOM>, count: u64)
+    ensures sends { (start : Option (List ℕ)) (all : List ℕ) → Sends W.contents start block.old all
+        → Sends W.contents start block.new (all ++ listing (idle_items count)) }
+    ensures writer { block.new.writer.ghost_name ≡ block.old.writer.ghost_name }
+{
+    if count == 0 {
+        return;
+    }
+    if count < 10 {
+        block.put(&idle_line(count as u8));
+    } else {
+        put_any_line(block, line, &Item::Idle(count));
+    }
+}
+
+#[inline(always)]
+fn idle_line(count: u8) -> [u8; 7]
+    requires { count < 10 }
+    ensures { result ≡ item_line (Item.Idle count) ++ 10 ∷ [] }
+{
+    [b'i', b'd', b'l', b'e', b' ', b'0' + count, b'\n']
+}
+
 // The line of any item is under way, too.
 #[inline(never)]
 fn put_any_line<W: Write>(block: &mut Block<'_, W>, line: &mut ArrayString<ROOM>, item: &Item)
@@ -72,6 +131,19 @@ fn put_any_line<W: Write>(block: &mut Block<'_, W>, line: &mut ArrayString<ROOM>
     item.push_line(line);
     line.push_str("\n");
     block.put(line.as_str().as_bytes());
+}
+
+// How many bytes of a comment stand before the line feed that ends it, or before the end of the text.
+fn comment_len(text: &[u8]) -> usize
+    ensures within { result ≤ length text.now }
+    ensures before { (k : ℕ) → k < result → slice_index text.now k ≢ 10 }
+{
+    for (index, byte) in text.iter().enumerate() {
+        if *byte == b'\n' {
+            return index;
+        }
+    }
+    text.len()
 }
 
 impl Lister {
@@ -103,7 +175,7 @@ impl Lister {
         ensures writer { block.new.writer.ghost_name ≡ block.old.writer.ghost_name }
     {
         while let Some(spelled) = self.decoder.due_tx() {
-            put_tx(block, spelled);
+            put_held_tx(block, spelled);
         }
     }
 
@@ -174,15 +246,64 @@ impl Lister {
         }
     }
 
+    // Takes one bit or more of the lowest `count`, and says how many: a whole transaction at their front, or what else
+    // stands there.
+    #[inline(always)]
+    fn bits_at_once<W: Write>(&mut self, block: &mut Block<'_, W>, bits: u64, count: u8) -> u8
+        requires settled { IsSettled self.old.decoder }
+        requires some { 0 < count }
+        requires within { count ≤ 64 }
+        requires room { fed_of self.old.decoder + count < 2 ^ 64 }
+        ensures most { result ≤ count }
+        ensures lists { (start : Option (List ℕ)) (before : List Bool) (items : List Item)
+            → Lists W.contents start self.old.decoder block.old before items
+            → (more : List Item) × Lists W.contents start self.new.decoder block.new (before ++ low_bits result bits) more }
+        ensures settled { IsSettled self.new.decoder }
+        ensures scan { self.new.scan ≡ self.old.scan }
+        ensures place { self.new.place ≡ self.old.place }
+        ensures writer { block.new.writer.ghost_name ≡ block.old.writer.ghost_name }
+    {
+        if let Some(found) = self.decoder.take_tx(bits, count) {
+            put_found(block, &mut self.line, found);
+            return found.taken;
+        }
+        self.held_bits(block, bits, count)
+    }
+
+    // The same where they are held first. This is the long way, so it is kept out of the short one.
+    #[inline(never)]
+    fn held_bits<W: Write>(&mut self, block: &mut Block<'_, W>, bits: u64, count: u8) -> u8
+        requires settled { IsSettled self.old.decoder }
+        requires some { 0 < count }
+        requires within { count ≤ 64 }
+        requires room { fed_of self.old.decoder + count < 2 ^ 64 }
+        ensures most { result ≤ count }
+        ensures lists { (start : Option (List ℕ)) (before : List Bool) (items : List Item)
+            → Lists W.contents start self.old.decoder block.old before items
+            → (more : List Item) × Lists W.contents start self.new.decoder block.new (before ++ low_bits result bits) more }
+        ensures settled { IsSettled self.new.decoder }
+        ensures scan { self.new.scan ≡ self.old.scan }
+        ensures place { self.new.place ≡ self.old.place }
+        ensures writer { block.new.writer.ghost_name ≡ block.old.writer.ghost_name }
+    {
+        let taken = self.decoder.take_bits(bits, count);
+        self.put_due(block);
+        taken
+    }
+
     // Whether digits at the front of a text may be taken at once: not where a comment is open, where
-    // the text is short, or where the count of bits may run full. The bytes are then taken one by one.
+    // the text is short or begins with a blank, or where the count of bits may run full. The bytes are then taken one
+    // by one.
     #[inline]
     fn may_take_digits(&self, text: &[u8]) -> bool
         ensures long { result ≡ true → WIDTH ≤ length text.now }
         ensures outside { result ≡ true → self.now.scan ≡ false }
         ensures room { result ≡ true → fed_of self.now.decoder + WIDTH < 2 ^ 64 }
     {
-        text.len() >= WIDTH && !self.scan.in_comment() && self.decoder.fed() <= MOST_FED
+        text.len() >= WIDTH
+            && text[0] >= b'0'
+            && !self.scan.in_comment()
+            && self.decoder.fed() <= MOST_FED
     }
 
     // Takes digits at the front of a text at once, perhaps none, and says how many.
@@ -202,9 +323,25 @@ impl Lister {
         if digits.count == 0 {
             return 0;
         }
-        let taken = self.decoder.take_bits(digits.bits, digits.count);
-        self.put_due(block);
-        usize::from(taken)
+        usize::from(self.bits_at_once(block, digits.bits, digits.count))
+    }
+
+    // Takes bytes at the front of a text at once, perhaps none, and says how many: those of a comment that is open, or
+    // digits.
+    #[inline(always)]
+    fn bytes_at_once<W: Write>(&mut self, block: &mut Block<'_, W>, text: &[u8]) -> usize
+        requires { IsSettled self.old.decoder }
+        ensures settled { IsSettled self.new.decoder }
+        ensures place { self.new.place ≡ self.old.place }
+        ensures writer { block.new.writer.ghost_name ≡ block.old.writer.ghost_name }
+        ensures within { result ≤ length text.now }
+        ensures taken { (start : Option (List ℕ)) (seen : List ℕ) → GoesOn W.contents start self.old block.old seen
+            → GoesOn W.contents start self.new block.new (seen ++ take result text.now) }
+    {
+        if self.scan.in_comment() {
+            return comment_len(text);
+        }
+        self.digits(block, text)
     }
 
     // Takes the bytes of a piece, up to one at which no trace text goes on.
@@ -222,7 +359,7 @@ impl Lister {
     {
         let mut index = 0;
         while index < piece.len() {
-            let taken = self.digits(block, &piece[index..]);
+            let taken = self.bytes_at_once(block, &piece[index..]);
             if taken > 0 {
                 index += taken;
                 continue;

@@ -1,5 +1,7 @@
 -- Laws of the steps on held bits without a run.
-use Rattle.std.proofs.Common.{◌≡◌, ℕ, zero, suc, ◌+◌, ◌-◌, ◌/◌, ◌%◌, ◌^◌, ◌<◌, ◌≤◌, Bool, true, false, List, [], ◌∷◌, ◌++◌, length, drop, replicate, append_assoc, refl, sym, ap, ◌∙◌, subst, arith}
+use Rattle.std.proofs.Common.{◌≡◌, ℕ, zero, suc, ◌+◌, ◌-◌, ◌/◌, ◌%◌, ◌^◌, ◌<◌, ◌≤◌, Bool, true, false, List, []}
+use Rattle.std.proofs.Common.{◌∷◌}
+use Rattle.std.proofs.Common.{◌++◌, length, drop, replicate, append_assoc, refl, sym, ap, ◌∙◌, subst, arith}
 use Rattle.std.specs.Prelude.{◌==◌}
 use Rattle.std.proofs.lemmas.List.{drop_at}
 use lib.Count.{count_trailing_zeros}
@@ -16,18 +18,21 @@ use Rattle.swd_trace.specs.Decided.{IsUndecided}
 use Rattle.swd_trace.specs.Holding.{Holds}
 use Rattle.swd_trace.specs.Held.{IsCut, IsOpenAt}
 use Rattle.swd_trace.proofs.NumberLemmas.{next_bit, parted, Trailing, trailing}
-use Rattle.swd_trace.proofs.ReadingLemmas.{idle_law, junk_law, junk_synced, junk_lost, junk_after_switch, cut_begun, tx_law, ones_end}
+use Rattle.swd_trace.proofs.ReadingLemmas.{idle_law, junk_law, junk_synced, junk_lost, junk_after_switch, cut_begun}
+use Rattle.swd_trace.proofs.ReadingLemmas.{tx_law, ones_end}
 use Rattle.swd_trace.proofs.StandLemmas.{whole_stays, broken_stays, whole_fits}
 use Rattle.swd_trace.proofs.DecidedLemmas.{cut_undecided}
 use Rattle.swd_trace.proofs.HoldingLemmas.{undecided_same}
 
 -- without a run
-pub bits_law : (mode after : Mode) (one : Bool) (run : ℕ) (item : Item) (x y : List Bool) → run ≡ 0 → reading mode x ≡ item ∷ reading after y →
+pub bits_law : (mode after : Mode) (one : Bool) (run : ℕ) (item : Item) (x y : List Bool) → run ≡ 0
+    → reading mode x ≡ item ∷ reading after y →
     reading mode (replicate run one ++ x) ≡ item ∷ reading after (replicate run one ++ y)
 bits_law mode after one run item x y e h =
     ap (λ r. reading mode (replicate r one ++ x)) e ∙ h ∙ ap (λ r. item ∷ reading after (replicate r one ++ y)) (sym e)
 
-pub same_law : (mode after : Mode) (one : Bool) (run : ℕ) (x y : List Bool) → run ≡ 0 → reading mode x ≡ reading after y →
+pub same_law : (mode after : Mode) (one : Bool) (run : ℕ) (x y : List Bool) → run ≡ 0 → reading mode x ≡ reading after y
+    →
     reading mode (replicate run one ++ x) ≡ reading after (replicate run one ++ y)
 same_law mode after one run x y e h =
     ap (λ r. reading mode (replicate r one ++ x)) e ∙ h ∙ ap (λ r. reading after (replicate r one ++ y)) (sym e)
@@ -38,7 +43,8 @@ bits_first len bits more h = ap (λ x. x ++ more) (next_bit len bits h)
 
 -- ---- a bit that belongs to nothing
 
-few_of : (len bits : ℕ) (more : List Bool) → len ≤ 50 → all_ones (low_bits len bits) ≡ false → (ones (low_bits len bits ++ more) < 50) × (all_ones (low_bits len bits ++ more) ≡ false)
+few_of : (len bits : ℕ) (more : List Bool) → len ≤ 50 → all_ones (low_bits len bits) ≡ false
+    → (ones (low_bits len bits ++ more) < 50) × (all_ones (low_bits len bits ++ more) ≡ false)
 few_of len bits more h z =
     let r = ones_end (low_bits len bits) more z in
     let l : length (low_bits len bits) ≡ len = length-low_bits len bits in
@@ -47,60 +53,84 @@ few_of len bits more h z =
     (omega arith, r.1.0)
 
 abbrev pub IsJunkFirst : Mode → ℕ → ℕ → Type 0
-IsJunkFirst mode len bits = (more : List Bool) → reading mode (low_bits len bits ++ more) ≡ Junk (bits % 2 == 1) ∷ reading Lost (low_bits (len - 1) (bits / 2) ++ more)
+IsJunkFirst mode len bits = (more : List Bool)
+    → reading mode (low_bits len bits ++ more) ≡ Junk (bits % 2 == 1) ∷ reading Lost
+    (low_bits (len - 1) (bits / 2) ++ more)
 
-junk_by : (mode : Mode) (len bits : ℕ) (more : List Bool) → 0 < len → first mode (bits % 2 == 1) (low_bits (len - 1) (bits / 2) ++ more) ≡ junk (bits % 2 == 1) →
-    reading mode (low_bits len bits ++ more) ≡ Junk (bits % 2 == 1) ∷ reading Lost (low_bits (len - 1) (bits / 2) ++ more)
-junk_by mode len bits more h e = ap (reading mode) (bits_first len bits more h) ∙ junk_law mode (bits % 2 == 1) (low_bits (len - 1) (bits / 2) ++ more) e
+junk_by : (mode : Mode) (len bits : ℕ) (more : List Bool) → 0 < len
+    → first mode (bits % 2 == 1) (low_bits (len - 1) (bits / 2) ++ more) ≡ junk (bits % 2 == 1) →
+    reading mode (low_bits len bits ++ more) ≡ Junk (bits % 2 == 1) ∷ reading Lost
+    (low_bits (len - 1) (bits / 2) ++ more)
+junk_by mode len bits more h e = ap (reading mode) (bits_first len bits more h)
+    ∙ junk_law mode (bits % 2 == 1) (low_bits (len - 1) (bits / 2) ++ more) e
 
-pub lost_junk : (mode : Mode) (len bits : ℕ) → mode ≡ Lost → 0 < len → len ≤ 50 → all_ones (low_bits len bits) ≡ false → IsJunkFirst mode len bits
+pub lost_junk : (mode : Mode) (len bits : ℕ) → mode ≡ Lost → 0 < len → len ≤ 50 → all_ones (low_bits len bits) ≡ false
+    → IsJunkFirst mode len bits
 lost_junk mode len bits m h k z more =
     let r = few_of len bits more k z in
-    let few : ones ((bits % 2 == 1) ∷ (low_bits (len - 1) (bits / 2) ++ more)) < 50 = subst (λ x. ones x < 50) (bits_first len bits more h) r.0 in
-    ap (λ d. reading d (low_bits len bits ++ more)) m ∙ junk_by Lost len bits more h (junk_lost (bits % 2 == 1) (low_bits (len - 1) (bits / 2) ++ more) few)
+    let few : ones ((bits % 2 == 1) ∷ (low_bits (len - 1) (bits / 2) ++ more)) < 50 = subst (λ x. ones x < 50)
+    (bits_first len bits more h) r.0 in
+    ap (λ d. reading d (low_bits len bits ++ more)) m
+    ∙ junk_by Lost len bits more h (junk_lost (bits % 2 == 1) (low_bits (len - 1) (bits / 2) ++ more) few)
 
-pub switched_junk : (mode : Mode) (len bits : ℕ) → mode ≡ AfterSwitch → 0 < len → len ≤ 50 → all_ones (low_bits len bits) ≡ false → IsJunkFirst mode len bits
+pub switched_junk : (mode : Mode) (len bits : ℕ) → mode ≡ AfterSwitch → 0 < len → len ≤ 50
+    → all_ones (low_bits len bits) ≡ false → IsJunkFirst mode len bits
 switched_junk mode len bits m h k z more =
     let r = few_of len bits more k z in
-    let few : ones ((bits % 2 == 1) ∷ (low_bits (len - 1) (bits / 2) ++ more)) < 50 = subst (λ x. ones x < 50) (bits_first len bits more h) r.0 in
-    let zero : all_ones ((bits % 2 == 1) ∷ (low_bits (len - 1) (bits / 2) ++ more)) ≡ false = subst (λ x. all_ones x ≡ false) (bits_first len bits more h) r.1 in
+    let few : ones ((bits % 2 == 1) ∷ (low_bits (len - 1) (bits / 2) ++ more)) < 50 = subst (λ x. ones x < 50)
+    (bits_first len bits more h) r.0 in
+    let zero : all_ones ((bits % 2 == 1) ∷ (low_bits (len - 1) (bits / 2) ++ more)) ≡ false =
+    subst (λ x. all_ones x ≡ false) (bits_first len bits more h) r.1 in
     ap (λ d. reading d (low_bits len bits ++ more)) m
-    ∙ junk_by AfterSwitch len bits more h (junk_after_switch (bits % 2 == 1) (low_bits (len - 1) (bits / 2) ++ more) zero few)
+    ∙ junk_by AfterSwitch len bits more h
+    (junk_after_switch (bits % 2 == 1) (low_bits (len - 1) (bits / 2) ++ more) zero few)
 
-pub synced_junk : (mode : Mode) (len bits : ℕ) → mode ≡ Synced → 0 < len → len ≤ 50 → all_ones (low_bits len bits) ≡ false → bits % 2 ≡ 1 → stands (low_bits len bits) ≡ Broken →
+pub synced_junk : (mode : Mode) (len bits : ℕ) → mode ≡ Synced → 0 < len → len ≤ 50
+    → all_ones (low_bits len bits) ≡ false → bits % 2 ≡ 1 → stands (low_bits len bits) ≡ Broken →
     IsJunkFirst mode len bits
 synced_junk mode len bits m h k z o s more =
     let r = few_of len bits more k z in
-    let e : low_bits len bits ++ more ≡ true ∷ (low_bits (len - 1) (bits / 2) ++ more) = bits_first len bits more h ∙ ap (λ d. (d == 1) ∷ (low_bits (len - 1) (bits / 2) ++ more)) o in
+    let e : low_bits len bits ++ more ≡ true ∷ (low_bits (len - 1) (bits / 2) ++ more) = bits_first len bits more h
+    ∙ ap (λ d. (d == 1) ∷ (low_bits (len - 1) (bits / 2) ++ more)) o in
     let few : ones (true ∷ (low_bits (len - 1) (bits / 2) ++ more)) < 50 = subst (λ x. ones x < 50) e r.0 in
-    let zero : all_ones (true ∷ (low_bits (len - 1) (bits / 2) ++ more)) ≡ false = subst (λ x. all_ones x ≡ false) e r.1 in
-    let broken : stands (true ∷ (low_bits (len - 1) (bits / 2) ++ more)) ≡ Broken = subst (λ x. stands x ≡ Broken) e (broken_stays (low_bits len bits) more s) in
+    let zero : all_ones (true ∷ (low_bits (len - 1) (bits / 2) ++ more)) ≡ false = subst (λ x. all_ones x ≡ false) e
+    r.1 in
+    let broken : stands (true ∷ (low_bits (len - 1) (bits / 2) ++ more)) ≡ Broken = subst (λ x. stands x ≡ Broken) e
+    (broken_stays (low_bits len bits) more s) in
     let b : (bits % 2 == 1) ≡ true = ap (λ d. d == 1) o in
     ap (λ d. reading d (low_bits len bits ++ more)) m ∙ ap (reading Synced) e
-    ∙ junk_law Synced true (low_bits (len - 1) (bits / 2) ++ more) (junk_synced (low_bits (len - 1) (bits / 2) ++ more) broken zero few)
+    ∙ junk_law Synced true (low_bits (len - 1) (bits / 2) ++ more)
+    (junk_synced (low_bits (len - 1) (bits / 2) ++ more) broken zero few)
     ∙ ap (λ d. Junk d ∷ reading Lost (low_bits (len - 1) (bits / 2) ++ more)) (sym b)
 
 -- ---- idle cycles
 
-pub idle_bits : (mode : Mode) (len bits : ℕ) → mode ≡ Synced → bits % 2 ≡ 0 → len ≤ 64 → 0 < bits → bits < 2 ^ len → (more : List Bool) →
-    reading mode (low_bits len bits ++ more) ≡ Idle (count_trailing_zeros 64 bits) ∷ reading mode (low_bits (len - count_trailing_zeros 64 bits) (bits / 2 ^ count_trailing_zeros 64 bits) ++ more)
+pub idle_bits : (mode : Mode) (len bits : ℕ) → mode ≡ Synced → bits % 2 ≡ 0 → len ≤ 64 → 0 < bits → bits < 2 ^ len
+    → (more : List Bool) →
+    reading mode (low_bits len bits ++ more) ≡ Idle (count_trailing_zeros 64 bits) ∷ reading mode
+    (low_bits (len - count_trailing_zeros 64 bits) (bits / 2 ^ count_trailing_zeros 64 bits) ++ more)
 idle_bits mode len bits m e h p k more =
     let z = count_trailing_zeros 64 bits in
     let r : Trailing len bits z = trailing 64 len bits h p k in
     let some : 0 < z = positive z r.one in
     let within : z < len = r.within in
     let b : low_bits (len - z) (bits / 2 ^ z) ++ more ≡ true ∷ (low_bits (len - z - 1) (bits / 2 ^ z / 2) ++ more) =
-    bits_first (len - z) (bits / 2 ^ z) more (omega arith) ∙ ap (λ d. (d == 1) ∷ (low_bits (len - z - 1) (bits / 2 ^ z / 2) ++ more)) r.one in
+    bits_first (len - z) (bits / 2 ^ z) more (omega arith)
+    ∙ ap (λ d. (d == 1) ∷ (low_bits (len - z - 1) (bits / 2 ^ z / 2) ++ more)) r.one in
     ap (λ d. reading d (low_bits len bits ++ more)) m
-    ∙ ap (λ x. reading Synced (x ++ more)) r.front ∙ ap (reading Synced) (append_assoc (replicate z false) (low_bits (len - z) (bits / 2 ^ z)) more)
-    ∙ ap (λ x. reading Synced (replicate z false ++ x)) b ∙ idle_law z (low_bits (len - z - 1) (bits / 2 ^ z / 2) ++ more) some
-    ∙ ap (λ x. Idle z ∷ reading Synced x) (sym b) ∙ ap (λ d. Idle z ∷ reading d (low_bits (len - z) (bits / 2 ^ z) ++ more)) (sym m)
+    ∙ ap (λ x. reading Synced (x ++ more)) r.front
+    ∙ ap (reading Synced) (append_assoc (replicate z false) (low_bits (len - z) (bits / 2 ^ z)) more)
+    ∙ ap (λ x. reading Synced (replicate z false ++ x)) b
+    ∙ idle_law z (low_bits (len - z - 1) (bits / 2 ^ z / 2) ++ more) some
+    ∙ ap (λ x. Idle z ∷ reading Synced x) (sym b)
+    ∙ ap (λ d. Idle z ∷ reading d (low_bits (len - z) (bits / 2 ^ z) ++ more)) (sym m)
   where
     positive : (z : ℕ) → bits / 2 ^ z % 2 ≡ 1 → 0 < z
     positive zero o = let f : bits / 2 ^ 0 ≡ bits = omega arith in absurd (omega arith)
     positive (suc z) o = omega arith
 
-pub some_zeros : (bits : ℕ) (len : ℕ) → bits % 2 ≡ 0 → len ≤ 64 → 0 < bits → bits < 2 ^ len → (0 < count_trailing_zeros 64 bits) × (count_trailing_zeros 64 bits < len)
+pub some_zeros : (bits : ℕ) (len : ℕ) → bits % 2 ≡ 0 → len ≤ 64 → 0 < bits → bits < 2 ^ len
+    → (0 < count_trailing_zeros 64 bits) × (count_trailing_zeros 64 bits < len)
 some_zeros bits len e h p k =
     let r : Trailing len bits (count_trailing_zeros 64 bits) = trailing 64 len bits h p k in
     (positive (count_trailing_zeros 64 bits) r.one, r.within)
@@ -111,15 +141,19 @@ some_zeros bits len e h p k =
 
 -- ---- a transaction
 
-pub tx_bits : (mode : Mode) (len bits n : ℕ) (tx : Transaction) → mode ≡ Synced → stands (low_bits len bits) ≡ Whole tx n → 12 ≤ n → (more : List Bool) →
-    reading mode (low_bits len bits ++ more) ≡ Tx tx ∷ reading (mode_after tx.result) (low_bits (len - n) (bits / 2 ^ n) ++ more)
+pub tx_bits : (mode : Mode) (len bits n : ℕ) (tx : Transaction) → mode ≡ Synced
+    → stands (low_bits len bits) ≡ Whole tx n → 12 ≤ n → (more : List Bool) →
+    reading mode (low_bits len bits ++ more) ≡ Tx tx ∷ reading (mode_after tx.result)
+    (low_bits (len - n) (bits / 2 ^ n) ++ more)
 tx_bits mode len bits n tx m s h more =
     let fits : n ≤ length (low_bits len bits) = whole_fits (low_bits len bits) tx n s in
     let l : length (low_bits len bits) ≡ len = length-low_bits len bits in
     let others : drop n (low_bits len bits ++ more) ≡ low_bits (len - n) (bits / 2 ^ n) ++ more =
-    ap (λ x. drop n (x ++ more)) (parted n len bits (omega arith)) ∙ ap (drop n) (append_assoc (low_bits n bits) (low_bits (len - n) (bits / 2 ^ n)) more)
+    ap (λ x. drop n (x ++ more)) (parted n len bits (omega arith))
+    ∙ ap (drop n) (append_assoc (low_bits n bits) (low_bits (len - n) (bits / 2 ^ n)) more)
     ∙ drop_at (low_bits n bits) (low_bits (len - n) (bits / 2 ^ n) ++ more) n (length-low_bits n bits) in
-    ap (λ d. reading d (low_bits len bits ++ more)) m ∙ tx_law (low_bits len bits ++ more) tx n (whole_stays (low_bits len bits) more tx n s) (omega arith)
+    ap (λ d. reading d (low_bits len bits ++ more)) m
+    ∙ tx_law (low_bits len bits ++ more) tx n (whole_stays (low_bits len bits) more tx n s) (omega arith)
     ∙ ap (λ x. Tx tx ∷ reading (mode_after tx.result) x) others
 
 pub tx_fits : (len bits n : ℕ) (tx : Transaction) → stands (low_bits len bits) ≡ Whole tx n → n ≤ len
@@ -127,12 +161,15 @@ tx_fits len bits n tx s = subst (λ l. n ≤ l) (length-low_bits len bits) (whol
 
 -- ---- the beginning of a transaction
 
-begun_cut : (len bits : ℕ) (more : List Bool) → 0 < len → bits % 2 ≡ 1 → stands (low_bits len bits ++ more) ≡ Begun → IsCut Synced (low_bits len bits ++ more)
+begun_cut : (len bits : ℕ) (more : List Bool) → 0 < len → bits % 2 ≡ 1 → stands (low_bits len bits ++ more) ≡ Begun
+    → IsCut Synced (low_bits len bits ++ more)
 begun_cut len bits more h o s =
-    let e : low_bits len bits ++ more ≡ true ∷ (low_bits (len - 1) (bits / 2) ++ more) = bits_first len bits more h ∙ ap (λ d. (d == 1) ∷ (low_bits (len - 1) (bits / 2) ++ more)) o in
+    let e : low_bits len bits ++ more ≡ true ∷ (low_bits (len - 1) (bits / 2) ++ more) = bits_first len bits more h
+    ∙ ap (λ d. (d == 1) ∷ (low_bits (len - 1) (bits / 2) ++ more)) o in
     subst (IsCut Synced) (sym e) (cut_begun (low_bits (len - 1) (bits / 2) ++ more) (subst (λ x. stands x ≡ Begun) e s))
 
-pub is_cut_undecided : (mode : Mode) (bits : List Bool) → IsCut mode bits → IsUndecided (λ more. reading mode (bits ++ more))
+pub is_cut_undecided : (mode : Mode) (bits : List Bool) → IsCut mode bits
+    → IsUndecided (λ more. reading mode (bits ++ more))
 is_cut_undecided mode [] h = absurd h
 is_cut_undecided mode (b ∷ bits) h = cut_undecided mode b bits h
 
@@ -141,9 +178,11 @@ append_none [] = refl
 append_none (b ∷ bits) = ap (λ x. b ∷ x) (append_none bits)
 
 abbrev pub StaysBegun : ℕ → ℕ → ℕ → Type 0
-StaysBegun len bits next = (more : List Bool) → length (low_bits len bits) + length more < next → stands (low_bits len bits ++ more) ≡ Begun
+StaysBegun len bits next = (more : List Bool) → length (low_bits len bits) + length more < next
+    → stands (low_bits len bits ++ more) ≡ Begun
 
-pub holds_begun : (mode : Mode) (one : Bool) (run len bits next new fed : ℕ) → Holds mode one run len bits next fed → run ≡ 0 → mode ≡ Synced → 0 < len → bits % 2 ≡ 1 →
+pub holds_begun : (mode : Mode) (one : Bool) (run len bits next new fed : ℕ) → Holds mode one run len bits next fed
+    → run ≡ 0 → mode ≡ Synced → 0 < len → bits % 2 ≡ 1 →
     new ≤ 46 → StaysBegun len bits new → Holds mode one run len bits new fed
 holds_begun mode one run len bits next new fed h e m p o n s = record {
   whole = h.whole;
@@ -155,12 +194,15 @@ holds_begun mode one run len bits next new fed h e m p o n s = record {
   idle = λ q. absurd (omega arith);
   quiet = λ q more k.
       let l : length (low_bits len bits) ≡ len = length-low_bits len bits in
-      undecided_same (λ after. reading Synced ((low_bits len bits ++ more) ++ after)) (λ after. reading mode (low_bits len bits ++ (more ++ after)))
-      (λ after. ap (reading Synced) (append_assoc (low_bits len bits) more after) ∙ ap (λ d. reading d (low_bits len bits ++ (more ++ after))) (sym m))
+      undecided_same (λ after. reading Synced ((low_bits len bits ++ more) ++ after))
+      (λ after. reading mode (low_bits len bits ++ (more ++ after)))
+      (λ after. ap (reading Synced) (append_assoc (low_bits len bits) more after)
+      ∙ ap (λ d. reading d (low_bits len bits ++ (more ++ after))) (sym m))
       (is_cut_undecided Synced (low_bits len bits ++ more) (begun_cut len bits more p o (s more (omega arith))));
 }
 
-pub begun_open : (mode : Mode) (len bits next : ℕ) → mode ≡ Synced → 0 < len → bits % 2 ≡ 1 → length (low_bits len bits) < next → StaysBegun len bits next → IsOpenAt mode (low_bits len bits)
+pub begun_open : (mode : Mode) (len bits next : ℕ) → mode ≡ Synced → 0 < len → bits % 2 ≡ 1
+    → length (low_bits len bits) < next → StaysBegun len bits next → IsOpenAt mode (low_bits len bits)
 begun_open mode len bits next m p o n s =
     let l : length (low_bits len bits) + 0 ≡ length (low_bits len bits) = omega arith in
     subst (λ d. IsOpenAt d (low_bits len bits)) (sym m)

@@ -1,5 +1,6 @@
 -- Laws of what is decided.
-use Rattle.std.proofs.Common.{◌≡◌, ◌≢◌, ℕ, zero, suc, ◌+◌, ◌<◌, ◌≤◌, Bool, true, false, List, [], ◌∷◌, ◌++◌, length, replicate, refl, sym, ap, ◌∙◌, arith, inl, inr}
+use Rattle.std.proofs.Common.{◌≡◌, ◌≢◌, ℕ, zero, suc, ◌+◌, ◌<◌, ◌≤◌, Bool, true, false, List, [], ◌∷◌, ◌++◌, length}
+use Rattle.std.proofs.Common.{replicate, refl, sym, ap, ◌∙◌, arith, inl, inr}
 use Rattle.std.proofs.lemmas.List.{length-append, append-nil, replicate-append-replicate}
 use Rattle.std.proofs.lemmas.Bool.{cases_lt}
 use Rattle.swd_bits.specs.Bits.{number}
@@ -9,12 +10,16 @@ use Rattle.swd_trace.specs.declared.mode.Mode.{Mode}
 use Rattle.swd_trace.specs.declared.mode.Mode.TheVariants.{Synced, AfterReset, AfterSwitch, Lost}
 use Rattle.swd_trace.specs.Reading.{begins_with, switch, first, cut, reading}
 use Rattle.swd_trace.specs.Decided.{Begins, BeginsAll, IsUndecided, IsLongest}
-use Rattle.swd_trace.proofs.ReadingLemmas.{two_differ, reading_first, cut_law, cut_len, idle_end, reset_end, junk_law, switch_law, no_switch, cut_ones, cut_ones_after_switch, cut_ones_after_reset, junk_ones, bool_cases}
+use Rattle.swd_trace.proofs.ReadingLemmas.{two_differ, reading_first, cut_law, cut_len, idle_end, reset_end, junk_law}
+use Rattle.swd_trace.proofs.ReadingLemmas.{switch_law, no_switch, cut_ones, cut_ones_after_switch, cut_ones_after_reset}
+use Rattle.swd_trace.proofs.ReadingLemmas.{junk_ones, bool_cases}
 
 -- where all of the bits are cut off, one bit more changes the item
-pub cut_undecided : (mode : Mode) (b : Bool) (bits : List Bool) → first mode b bits ≡ cut (b ∷ bits) → IsUndecided (λ more. reading mode ((b ∷ bits) ++ more))
+pub cut_undecided : (mode : Mode) (b : Bool) (bits : List Bool) → first mode b bits ≡ cut (b ∷ bits)
+    → IsUndecided (λ more. reading mode ((b ∷ bits) ++ more))
 cut_undecided mode b bits e =
-    two_differ (λ more. reading mode ((b ∷ bits) ++ more)) [] (false ∷ []) (Cut (record { len = length (b ∷ bits); bits = number (b ∷ bits) }))
+    two_differ (λ more. reading mode ((b ∷ bits) ++ more)) [] (false ∷ [])
+    (Cut (record { len = length (b ∷ bits); bits = number (b ∷ bits) }))
     (first mode b (bits ++ false ∷ [])).item [] _ (inl refl) (inr (inl refl))
     (ap (λ x. reading mode (b ∷ x)) (append-nil bits) ∙ cut_law mode b bits e)
     (reading_first mode b (bits ++ false ∷ []))
@@ -28,26 +33,36 @@ cut_undecided mode b bits e =
 pub zeros_undecided : (n : ℕ) → 0 < n → IsUndecided (λ more. reading Synced (replicate n false ++ more))
 zeros_undecided n h =
     let longer : replicate n false ++ false ∷ [] ≡ replicate (n + 1) false = replicate-append-replicate n 1 false in
-    two_differ (λ more. reading Synced (replicate n false ++ more)) [] (false ∷ []) (Idle n) (Idle (n + 1)) [] [] (inl refl) (inr (inl refl))
+    two_differ (λ more. reading Synced (replicate n false ++ more)) [] (false ∷ []) (Idle n) (Idle (n + 1)) [] []
+    (inl refl) (inr (inl refl))
     (ap (reading Synced) (append-nil (replicate n false)) ∙ idle_end n h)
     (ap (reading Synced) longer ∙ idle_end (n + 1) (omega arith))
     (λ same. let e : n ≡ n + 1 = cc in omega arith)
 
 -- ones may become a reset, or a longer one
-first_of_ones : (mode : Mode) (n : ℕ) → 0 < n → (a : Item) × (r : List Item) × (reading mode (replicate n true) ≡ a ∷ r) × (a ≢ Reset (n + 50))
+first_of_ones : (mode : Mode) (n : ℕ) → 0 < n → (a : Item) × (r : List Item) × (reading mode (replicate n true) ≡ a ∷ r)
+    × (a ≢ Reset (n + 50))
 first_of_ones mode zero h = absurd (omega arith)
-first_of_ones mode (suc n) h = elim (cases_lt (suc n) 50) [ inl few ↦ few_ones mode few | inr many ↦ (Reset (suc n), [], reset_end mode (suc n) many, λ same. let e : suc n ≡ suc n + 50 = cc in omega arith) ]
+first_of_ones mode (suc n) h = elim (cases_lt (suc n) 50) [
+  | inl few ↦ few_ones mode few
+  | inr many ↦
+      (Reset (suc n), [], reset_end mode (suc n) many, λ same. let e : suc n ≡ suc n + 50 = cc in omega arith)
+]
   where
-    few_ones : (mode : Mode) → suc n < 50 → (a : Item) × (r : List Item) × (reading mode (replicate (suc n) true) ≡ a ∷ r) × (a ≢ Reset (suc n + 50))
+    few_ones : (mode : Mode) → suc n < 50 → (a : Item) × (r : List Item)
+        × (reading mode (replicate (suc n) true) ≡ a ∷ r) × (a ≢ Reset (suc n + 50))
     few_ones Synced few = (_, [], cut_law Synced true (replicate n true) (cut_ones n few), λ same. cc)
-    few_ones AfterReset few = (_, [], cut_law AfterReset true (replicate n true) (cut_ones_after_reset n few), λ same. cc)
-    few_ones AfterSwitch few = (_, [], cut_law AfterSwitch true (replicate n true) (cut_ones_after_switch n few), λ same. cc)
+    few_ones AfterReset few =
+        (_, [], cut_law AfterReset true (replicate n true) (cut_ones_after_reset n few), λ same. cc)
+    few_ones AfterSwitch few =
+        (_, [], cut_law AfterSwitch true (replicate n true) (cut_ones_after_switch n few), λ same. cc)
     few_ones Lost few = (_, _, junk_law Lost true (replicate n true) (junk_ones n few), λ same. cc)
 
 pub ones_undecided : (mode : Mode) (n : ℕ) → 0 < n → IsUndecided (λ more. reading mode (replicate n true ++ more))
 ones_undecided mode n h =
     let now = first_of_ones mode n h in
-    two_differ (λ more. reading mode (replicate n true ++ more)) [] (replicate 50 true) now.0 (Reset (n + 50)) now.1 [] (inl refl) (inr (inr (inr (inl refl))))
+    two_differ (λ more. reading mode (replicate n true ++ more)) [] (replicate 50 true) now.0 (Reset (n + 50)) now.1 []
+    (inl refl) (inr (inr (inr (inl refl))))
     (ap (reading mode) (append-nil (replicate n true)) ∙ now.2)
     (ap (reading mode) (replicate-append-replicate n 50 true) ∙ reset_end mode (n + 50) (omega arith))
     now.3
@@ -62,22 +77,27 @@ begins_len (false ∷ a) (false ∷ b) e = let h = begins_len a b e in omega ari
 
 -- fewer bits than a switch has are none
 pub short_no_switch : (bits : List Bool) → length bits < 16 → begins_with switch bits ≡ false
-short_no_switch bits h = elim (bool_cases (begins_with switch bits)) [ inl e ↦ (let l : 16 ≤ length bits = begins_len switch bits e in absurd (omega arith)) | inr e ↦ e ]
+short_no_switch bits h = elim (bool_cases (begins_with switch bits))
+    [ inl e ↦ (let l : 16 ≤ length bits = begins_len switch bits e in absurd (omega arith)) | inr e ↦ e ]
 
 -- the beginning of a switch may become one
-pub switch_undecided : (front back : List Bool) → switch ≡ front ++ back → front ≢ [] → length front < 16 → IsUndecided (λ more. reading AfterReset (front ++ more))
+pub switch_undecided : (front back : List Bool) → switch ≡ front ++ back → front ≢ [] → length front < 16
+    → IsUndecided (λ more. reading AfterReset (front ++ more))
 switch_undecided [] back e n h = absurd (n refl)
 switch_undecided (true ∷ front) back e n h = absurd cc
 switch_undecided (false ∷ front) back e n h =
-    two_differ (λ more. reading AfterReset ((false ∷ front) ++ more)) [] back (first Synced false front).item Switch _ _ (inl refl)
+    two_differ (λ more. reading AfterReset ((false ∷ front) ++ more)) [] back (first Synced false front).item Switch _ _
+    (inl refl)
     (inr (inr (inr (inr (false ∷ front, n, e)))))
-    (ap (reading AfterReset) (append-nil (false ∷ front)) ∙ no_switch (false ∷ front) (short_no_switch (false ∷ front) h) ∙ reading_first Synced false front)
+    (ap (reading AfterReset) (append-nil (false ∷ front))
+    ∙ no_switch (false ∷ front) (short_no_switch (false ∷ front) h) ∙ reading_first Synced false front)
     (ap (reading AfterReset) (sym e) ∙ switch_law [])
     (λ same. cc)
 
 -- ---- the longest common beginning
 
-begins_within : (items other : List Item) (rest : List Bool → List Item) → IsUndecided rest → BeginsAll other (λ more. items ++ rest more) → Begins other items
+begins_within : (items other : List Item) (rest : List Bool → List Item) → IsUndecided rest
+    → BeginsAll other (λ more. items ++ rest more) → Begins other items
 begins_within items [] rest u all = (items, refl)
 begins_within [] (o ∷ other) rest u all = absurd (u o (λ more c. (other ++ (all more c).0, (all more c).1)))
 begins_within (i ∷ items) (o ∷ other) rest u all =
@@ -90,7 +110,8 @@ begins_within (i ∷ items) (o ∷ other) rest u all =
     (r.0, ap (λ x. i ∷ x) r.1 ∙ ap (λ x. x ∷ (other ++ r.0)) same)
 
 -- where nothing is left to begin with, these items are the longest
-pub longest_of : (items : List Item) (readings rest : List Bool → List Item) → ((more : List Bool) → items ++ rest more ≡ readings more) → IsUndecided rest → IsLongest items readings
+pub longest_of : (items : List Item) (readings rest : List Bool → List Item)
+    → ((more : List Bool) → items ++ rest more ≡ readings more) → IsUndecided rest → IsLongest items readings
 longest_of items readings rest e u = record {
   common = λ more c. (rest more, sym (e more));
   longest = λ other all. begins_within items other rest u (λ more c. ((all more c).0, e more ∙ (all more c).1));

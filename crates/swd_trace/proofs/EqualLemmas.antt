@@ -28,7 +28,8 @@ same_bool true true e = refl
 same_bool false false e = refl
 same_bool a b e = absurd cc
 
-request_by : (ap read : Bool) (addr : Reg4) (b : Request) → ap ≡ b.ap → read ≡ b.read → addr ≡ b.addr → record { ap = ap; read = read; addr = addr } ≡ b
+request_by : (ap read : Bool) (addr : Reg4) (b : Request) → ap ≡ b.ap → read ≡ b.read → addr ≡ b.addr
+    → record { ap = ap; read = read; addr = addr } ≡ b
 request_by ap read addr b e f g = rw (e, f, g) refl
 
 same_request : (a b : Request) → (request_eq.ghosts).eq a b ≡ true → a ≡ b
@@ -36,7 +37,8 @@ same_request a b e =
     let f : (beq a.ap b.ap && (beq a.read b.read && sameb the_type a.addr b.addr)) ≡ true = e in
     let g = both (beq a.ap b.ap) (beq a.read b.read && sameb the_type a.addr b.addr) f in
     let h = both (beq a.read b.read) (sameb the_type a.addr b.addr) g.1 in
-    request_by a.ap a.read a.addr b (same_bool a.ap b.ap g.0) (same_bool a.read b.read h.0) (same_true the_type (search rules) a.addr b.addr h.1)
+    request_by a.ap a.read a.addr b (same_bool a.ap b.ap g.0) (same_bool a.read b.read h.0)
+    (same_true the_type (search rules) a.addr b.addr h.1)
 
 moved_by : (w v : ℕ) (p q : Bool) → w ≡ v → p ≡ q → Moved w p ≡ Moved v q
 moved_by w v p q e f = rw (e, f) refl
@@ -51,7 +53,8 @@ same_end Fault Fault e = refl
 same_end (NoAck m) (NoAck n) e = let f : (m == n) ≡ true = e in ap NoAck (eqb-true m n f)
 same_end a b e = absurd cc
 
-tx_by : (request : Request) (result : TxEnd) (b : Transaction) → request ≡ b.request → result ≡ b.result → record { request = request; result = result } ≡ b
+tx_by : (request : Request) (result : TxEnd) (b : Transaction) → request ≡ b.request → result ≡ b.result
+    → record { request = request; result = result } ≡ b
 tx_by request result b e f = rw (e, f) refl
 
 same_tx : (a b : Transaction) → (tx_eq.ghosts).eq a b ≡ true → a ≡ b

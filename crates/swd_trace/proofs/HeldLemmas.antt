@@ -1,5 +1,8 @@
 -- Laws of the steps of a decoder.
-use Rattle.std.proofs.Common.{◌≡◌, ◌≢◌, ℕ, ◌+◌, ◌-◌, ◌*◌, ◌/◌, ◌%◌, ◌^◌, ◌<◌, ◌≤◌, Bool, true, false, List, [], ◌∷◌, ◌++◌, replicate, append_assoc, refl, sym, ap, ◌∙◌, subst, arith, inl, inr, bit_or, Option, Some, None}
+use Rattle.std.proofs.Common.{◌≡◌, ◌≢◌, ℕ, ◌+◌, ◌-◌, ◌*◌, ◌/◌, ◌%◌, ◌^◌, ◌<◌, ◌≤◌, Bool, true, false}
+use Rattle.std.proofs.Common.{List, [], ◌∷◌}
+use Rattle.std.proofs.Common.{◌++◌, replicate, append_assoc, refl, sym, ap, ◌∙◌, subst, arith, inl, inr, bit_or, Option}
+use Rattle.std.proofs.Common.{Some, None}
 use Rattle.std.specs.Prelude.{◌==◌}
 use Rattle.std.proofs.lemmas.List.{append-nil}
 use Rattle.std.proofs.lemmas.Nat.{one_shl, pow_pos}
@@ -23,13 +26,16 @@ use Rattle.swd_trace.proofs.HoldingLemmas.{holds_bits, undecided_same}
 -- ---- what is held, after a step
 
 -- a run is gone
-pub holds_dropped : (mode after : Mode) (one : Bool) (run len bits next fed : ℕ) → Holds mode one run len bits next fed → 0 < run → Holds after one 0 len bits next fed
+pub holds_dropped : (mode after : Mode) (one : Bool) (run len bits next fed : ℕ) → Holds mode one run len bits next fed
+    → 0 < run → Holds after one 0 len bits next fed
 holds_dropped mode after one run len bits next fed h p =
     let counted : run + len ≤ fed = h.counted in
-    subst (λ n. Holds after one 0 len bits n fed) (sym (h.ran p).0) (holds_bits after one len bits fed h.whole h.short (omega arith))
+    subst (λ n. Holds after one 0 len bits n fed) (sym (h.ran p).0)
+    (holds_bits after one len bits fed h.whole h.short (omega arith))
 
 -- some bits are gone
-pub holds_fewer : (mode after : Mode) (one : Bool) (run len bits next fed n : ℕ) → Holds mode one run len bits next fed → run ≡ 0 → n ≤ len →
+pub holds_fewer : (mode after : Mode) (one : Bool) (run len bits next fed n : ℕ) → Holds mode one run len bits next fed
+    → run ≡ 0 → n ≤ len →
     Holds after one run (len - n) (bits / 2 ^ n) 1 fed
 holds_fewer mode after one run len bits next fed n h e k =
     let counted : run + len ≤ fed = h.counted in
@@ -49,36 +55,47 @@ not_false false h = absurd (h refl)
 
 bits_after : (len bits : ℕ) (b : Bool) (more : List Bool) → 0 < len → (bits % 2 == 1) ≡ b →
     low_bits len bits ++ more ≡ b ∷ (low_bits (len - 1) (bits / 2) ++ more)
-bits_after len bits b more h e = ap (λ x. x ++ more) (next_bit len bits h) ∙ ap (λ x. x ∷ (low_bits (len - 1) (bits / 2) ++ more)) e
+bits_after len bits b more h e = ap (λ x. x ++ more) (next_bit len bits h)
+    ∙ ap (λ x. x ∷ (low_bits (len - 1) (bits / 2) ++ more)) e
 
-pub reset_ended : (mode : Mode) (one : Bool) (run len bits : ℕ) → one ≡ true → 50 ≤ run → 0 < len → one ≢ (bits % 2 == 1) → (more : List Bool) →
-    reading mode (replicate run one ++ (low_bits len bits ++ more)) ≡ Reset run ∷ reading AfterReset (low_bits len bits ++ more)
+pub reset_ended : (mode : Mode) (one : Bool) (run len bits : ℕ) → one ≡ true → 50 ≤ run → 0 < len
+    → one ≢ (bits % 2 == 1) → (more : List Bool) →
+    reading mode (replicate run one ++ (low_bits len bits ++ more)) ≡ Reset run ∷ reading AfterReset
+    (low_bits len bits ++ more)
 reset_ended mode false run len bits o h k n more = absurd cc
 reset_ended mode true run len bits o h k n more =
     let e = bits_after len bits false more k (not_true _ n) in
-    ap (λ x. reading mode (replicate run true ++ x)) e ∙ reset_law mode run _ h ∙ ap (λ x. Reset run ∷ reading AfterReset x) (sym e)
+    ap (λ x. reading mode (replicate run true ++ x)) e ∙ reset_law mode run _ h
+    ∙ ap (λ x. Reset run ∷ reading AfterReset x) (sym e)
 
 pub reset_last : (mode : Mode) (one : Bool) (run len bits : ℕ) → one ≡ true → 50 ≤ run → len ≡ 0 →
-    reading mode (replicate run one ++ (low_bits len bits ++ [])) ≡ Reset run ∷ reading AfterReset (low_bits len bits ++ [])
+    reading mode (replicate run one ++ (low_bits len bits ++ [])) ≡ Reset run ∷ reading AfterReset
+    (low_bits len bits ++ [])
 reset_last mode one run len bits o h k =
     let e : low_bits len bits ++ [] ≡ [] = ap (λ x. x ++ []) (no_bits len bits k) in
-    ap (λ x. reading mode (replicate run one ++ x)) e ∙ ap (reading mode) (append-nil (replicate run one)) ∙ ap (λ b. reading mode (replicate run b)) o
-    ∙ reset_end mode run h ∙ ap (λ x. Reset run ∷ x) (sym (reading_none AfterReset)) ∙ ap (λ x. Reset run ∷ reading AfterReset x) (sym e)
+    ap (λ x. reading mode (replicate run one ++ x)) e ∙ ap (reading mode) (append-nil (replicate run one))
+    ∙ ap (λ b. reading mode (replicate run b)) o
+    ∙ reset_end mode run h ∙ ap (λ x. Reset run ∷ x) (sym (reading_none AfterReset))
+    ∙ ap (λ x. Reset run ∷ reading AfterReset x) (sym e)
 
-pub idle_ended : (mode : Mode) (one : Bool) (run len bits : ℕ) → mode ≡ Synced → one ≡ false → 0 < run → 0 < len → one ≢ (bits % 2 == 1) → (more : List Bool) →
-    reading mode (replicate run one ++ (low_bits len bits ++ more)) ≡ Idle run ∷ reading mode (low_bits len bits ++ more)
+pub idle_ended : (mode : Mode) (one : Bool) (run len bits : ℕ) → mode ≡ Synced → one ≡ false → 0 < run → 0 < len
+    → one ≢ (bits % 2 == 1) → (more : List Bool) →
+    reading mode (replicate run one ++ (low_bits len bits ++ more)) ≡ Idle run ∷ reading mode
+    (low_bits len bits ++ more)
 idle_ended mode true run len bits m o h k n more = absurd cc
 idle_ended mode false run len bits m o h k n more =
     let e = bits_after len bits true more k (not_false _ n) in
     ap (λ d. reading d (replicate run false ++ (low_bits len bits ++ more))) m
-    ∙ ap (λ x. reading Synced (replicate run false ++ x)) e ∙ idle_law run _ h ∙ ap (λ x. Idle run ∷ reading Synced x) (sym e)
+    ∙ ap (λ x. reading Synced (replicate run false ++ x)) e ∙ idle_law run _ h
+    ∙ ap (λ x. Idle run ∷ reading Synced x) (sym e)
     ∙ ap (λ d. Idle run ∷ reading d (low_bits len bits ++ more)) (sym m)
 
 pub idle_last : (mode : Mode) (one : Bool) (run len bits : ℕ) → mode ≡ Synced → one ≡ false → 0 < run → len ≡ 0 →
     reading mode (replicate run one ++ (low_bits len bits ++ [])) ≡ Idle run ∷ reading mode (low_bits len bits ++ [])
 idle_last mode one run len bits m o h k =
     let e : low_bits len bits ++ [] ≡ [] = ap (λ x. x ++ []) (no_bits len bits k) in
-    ap (λ x. reading mode (replicate run one ++ x)) e ∙ ap (reading mode) (append-nil (replicate run one)) ∙ ap (λ b. reading mode (replicate run b)) o
+    ap (λ x. reading mode (replicate run one ++ x)) e ∙ ap (reading mode) (append-nil (replicate run one))
+    ∙ ap (λ b. reading mode (replicate run b)) o
     ∙ ap (λ d. reading d (replicate run false)) m
     ∙ idle_end run h ∙ ap (λ x. Idle run ∷ x) (sym (reading_none mode)) ∙ ap (λ x. Idle run ∷ reading mode x) (sym e)
 
@@ -94,41 +111,54 @@ ones_lt run h = let e = one_shl run 64 h in let p = pow_pos run in omega arith
 pub unpacked_lt : (run len bits : ℕ) → bits < 2 ^ len → len + run ≤ 63 → unpacked run bits < 2 ^ (len + run)
 unpacked_lt run len bits h k =
     let e : run + len ≡ len + run = omega arith in
-    subst (λ n. unpacked run bits < 2 ^ n) e (join_lt run len bits (1 * 2 ^ run % 2 ^ 64 - 1) h (ones_lt run (omega arith)) (omega arith))
+    subst (λ n. unpacked run bits < 2 ^ n) e
+    (join_lt run len bits (1 * 2 ^ run % 2 ^ 64 - 1) h (ones_lt run (omega arith)) (omega arith))
 
-pub unpacked_bits : (run len bits : ℕ) → bits < 2 ^ len → len + run ≤ 63 → low_bits (len + run) (unpacked run bits) ≡ replicate run true ++ low_bits len bits
+pub unpacked_bits : (run len bits : ℕ) → bits < 2 ^ len → len + run ≤ 63
+    → low_bits (len + run) (unpacked run bits) ≡ replicate run true ++ low_bits len bits
 unpacked_bits run len bits h k =
     let e : len + run ≡ run + len = omega arith in
-    ap (λ n. low_bits n (unpacked run bits)) e ∙ low_bits-join run len bits (1 * 2 ^ run % 2 ^ 64 - 1) h (ones_lt run (omega arith)) (omega arith)
+    ap (λ n. low_bits n (unpacked run bits)) e
+    ∙ low_bits-join run len bits (1 * 2 ^ run % 2 ^ 64 - 1) h (ones_lt run (omega arith)) (omega arith)
     ∙ ap (λ x. x ++ low_bits len bits) (ap (λ x. low_bits run (x - 1)) (one_shl run 64 (omega arith)) ∙ low_ones run)
 
-pub holds_unpacked : (mode : Mode) (one : Bool) (run len bits next fed : ℕ) → Holds mode one run len bits next fed → 0 < run → run < 50 →
+pub holds_unpacked : (mode : Mode) (one : Bool) (run len bits next fed : ℕ) → Holds mode one run len bits next fed
+    → 0 < run → run < 50 →
     Holds mode one 0 (len + run) (unpacked run bits) next fed
 holds_unpacked mode one run len bits next fed h p k =
     let counted : run + len ≤ fed = h.counted in
     let one_bit : len ≤ 1 = (h.ran p).1 in
     subst (λ n. Holds mode one 0 (len + run) (unpacked run bits) n fed) (sym (h.ran p).0)
-    (holds_bits mode one (len + run) (unpacked run bits) fed (unpacked_lt run len bits h.whole (omega arith)) (omega arith) (omega arith))
+    (holds_bits mode one (len + run) (unpacked run bits) fed (unpacked_lt run len bits h.whole (omega arith))
+    (omega arith) (omega arith))
 
-pub unpacked_law : (mode : Mode) (one : Bool) (run len bits next fed : ℕ) → Holds mode one run len bits next fed → 0 < run → run < 50 → one ≡ true → (more : List Bool) →
-    reading mode (replicate run one ++ (low_bits len bits ++ more)) ≡ reading mode (low_bits (len + run) (unpacked run bits) ++ more)
+pub unpacked_law : (mode : Mode) (one : Bool) (run len bits next fed : ℕ) → Holds mode one run len bits next fed
+    → 0 < run → run < 50 → one ≡ true → (more : List Bool) →
+    reading mode (replicate run one ++ (low_bits len bits ++ more)) ≡ reading mode
+    (low_bits (len + run) (unpacked run bits) ++ more)
 unpacked_law mode one run len bits next fed h p k o more =
     let one_bit : len ≤ 1 = (h.ran p).1 in
     ap (λ b. reading mode (replicate run b ++ (low_bits len bits ++ more))) o
-    ∙ ap (reading mode) (sym (append_assoc (replicate run true) (low_bits len bits) more) ∙ ap (λ x. x ++ more) (sym (unpacked_bits run len bits h.whole (omega arith))))
+    ∙ ap (reading mode) (sym (append_assoc (replicate run true) (low_bits len bits) more)
+    ∙ ap (λ x. x ++ more) (sym (unpacked_bits run len bits h.whole (omega arith))))
 
 -- the bits become a run
-pub packed_law : (mode : Mode) (one bit : Bool) (run len bits count : ℕ) → run ≡ 0 → count ≡ len → low_bits len bits ≡ replicate len bit → (more : List Bool) →
-    reading mode (replicate run one ++ (low_bits len bits ++ more)) ≡ reading mode (replicate count bit ++ (low_bits 0 0 ++ more))
+pub packed_law : (mode : Mode) (one bit : Bool) (run len bits count : ℕ) → run ≡ 0 → count ≡ len
+    → low_bits len bits ≡ replicate len bit → (more : List Bool) →
+    reading mode (replicate run one ++ (low_bits len bits ++ more)) ≡ reading mode
+    (replicate count bit ++ (low_bits 0 0 ++ more))
 packed_law mode one bit run len bits count e f g more =
     ap (λ r. reading mode (replicate r one ++ (low_bits len bits ++ more))) e ∙ ap (λ x. reading mode (x ++ more)) g
-    ∙ ap (λ n. reading mode (replicate n bit ++ more)) (sym f) ∙ ap (λ x. reading mode (replicate count bit ++ (x ++ more))) (sym (no_bits 0 0 refl))
+    ∙ ap (λ n. reading mode (replicate n bit ++ more)) (sym f)
+    ∙ ap (λ x. reading mode (replicate count bit ++ (x ++ more))) (sym (no_bits 0 0 refl))
 
 -- ---- steps one after the other
 
-pub decides_after : (old mid new : Decoder) (result : Option Item) → Decides mid new result → ((more : List Bool) → rest old more ≡ rest mid more) → places mid ≡ places old →
+pub decides_after : (old mid new : Decoder) (result : Option Item) → Decides mid new result
+    → ((more : List Bool) → rest old more ≡ rest mid more) → places mid ≡ places old →
     fed_of mid ≡ fed_of old → Decides old new result
-decides_after old mid new (Some item) g l p f = record { law = λ more. l more ∙ g.law more; fewer = subst (λ n. places new < n) p g.fewer; fed = g.fed ∙ f }
+decides_after old mid new (Some item) g l p f =
+    record { law = λ more. l more ∙ g.law more; fewer = subst (λ n. places new < n) p g.fewer; fed = g.fed ∙ f }
 decides_after old mid new None g l p f = record {
   law = λ more. l more ∙ g.law more;
   open_end = g.open_end;
@@ -155,8 +185,10 @@ settled_undecided d s = elim (cases_lt 0 d.run) [
       (d.holds.quiet none [] (omega arith))
 ]
   where
-    run_undecided : (mode : Mode) (one : Bool) (run : ℕ) → 0 < run → (one ≡ false → mode ≡ Synced) → IsUndecided (λ more. reading mode (replicate run one ++ more))
+    run_undecided : (mode : Mode) (one : Bool) (run : ℕ) → 0 < run → (one ≡ false → mode ≡ Synced)
+        → IsUndecided (λ more. reading mode (replicate run one ++ more))
     run_undecided mode true run p i = ones_undecided mode run p
     run_undecided mode false run p i =
-        undecided_same (λ more. reading Synced (replicate run false ++ more)) (λ more. reading mode (replicate run false ++ more))
+        undecided_same (λ more. reading Synced (replicate run false ++ more))
+        (λ more. reading mode (replicate run false ++ more))
         (λ more. ap (λ m. reading m (replicate run false ++ more)) (sym (i refl))) (zeros_undecided run p)

@@ -1,5 +1,7 @@
 -- Laws of what a decoder holds.
-use Rattle.std.proofs.Common.{◌≡◌, ◌≢◌, ℕ, zero, suc, ◌+◌, ◌*◌, ◌%◌, ◌^◌, ◌<◌, ◌≤◌, Bool, true, false, List, [], ◌∷◌, ◌++◌, length, replicate, append_assoc, refl, sym, ap, ◌∙◌, subst, arith}
+use Rattle.std.proofs.Common.{◌≡◌, ◌≢◌, ℕ, zero, suc, ◌+◌, ◌*◌, ◌%◌, ◌^◌, ◌<◌, ◌≤◌, Bool, true, false, List}
+use Rattle.std.proofs.Common.{[], ◌∷◌}
+use Rattle.std.proofs.Common.{◌++◌, length, replicate, append_assoc, refl, sym, ap, ◌∙◌, subst, arith}
 use Rattle.std.specs.Prelude.{◌==◌}
 use Rattle.std.proofs.lemmas.List.{replicate-append-replicate}
 use Rattle.std.proofs.Common.{lit<, bit_or}
@@ -17,7 +19,8 @@ use Rattle.swd_trace.proofs.NumberLemmas.{no_bits}
 use Rattle.swd_trace.proofs.ReadingLemmas.{none_undecided}
 
 -- without a run, where nothing is known yet of the bits
-pub holds_bits : (mode : Mode) (one : Bool) (len bits fed : ℕ) → bits < 2 ^ len → len ≤ 50 → len ≤ fed → Holds mode one 0 len bits 1 fed
+pub holds_bits : (mode : Mode) (one : Bool) (len bits fed : ℕ) → bits < 2 ^ len → len ≤ 50 → len ≤ fed
+    → Holds mode one 0 len bits 1 fed
 unfolding low_bits
 holds_bits mode one len bits fed h s n = record {
   whole = h;
@@ -30,7 +33,8 @@ holds_bits mode one len bits fed h s n = record {
   quiet = λ p more q. none len more q;
 }
   where
-    none : (len : ℕ) (more : List Bool) → len + length more < 1 → IsUndecided (λ after. reading mode (low_bits len bits ++ (more ++ after)))
+    none : (len : ℕ) (more : List Bool) → len + length more < 1
+        → IsUndecided (λ after. reading mode (low_bits len bits ++ (more ++ after)))
     none zero [] q = none_undecided mode
     none zero (b ∷ more) q = absurd (omega arith)
     none (suc len) more q = absurd (omega arith)
@@ -52,9 +56,11 @@ pub pushed : (len bits b : ℕ) (bit : Bool) → bits < 2 ^ len → len < 50 →
 pushed len bits b bit h k e =
     let small : b < 2 ^ 1 = byte_lt b bit e in
     let room : len + 1 ≤ 63 = omega arith in
-    ap (low_bits (len + 1)) (or_comm bits (b * 2 ^ len % 2 ^ 64)) ∙ low_bits-join len 1 b bits small h room ∙ ap (λ x. low_bits len bits ++ x) (bit_of b bit e)
+    ap (low_bits (len + 1)) (or_comm bits (b * 2 ^ len % 2 ^ 64)) ∙ low_bits-join len 1 b bits small h room
+    ∙ ap (λ x. low_bits len bits ++ x) (bit_of b bit e)
 
-pub pushed_lt : (len bits b : ℕ) (bit : Bool) → bits < 2 ^ len → len < 50 → b ≡ bool_byte bit → bit_or bits (b * 2 ^ len % 2 ^ 64) < 2 ^ (len + 1)
+pub pushed_lt : (len bits b : ℕ) (bit : Bool) → bits < 2 ^ len → len < 50 → b ≡ bool_byte bit
+    → bit_or bits (b * 2 ^ len % 2 ^ 64) < 2 ^ (len + 1)
 pushed_lt len bits b bit h k e =
     let small : b < 2 ^ 1 = byte_lt b bit e in
     let room : len + 1 ≤ 63 = omega arith in
@@ -66,7 +72,8 @@ pushed_more len bits b bit more h k e =
     ap (λ x. x ++ more) (pushed len bits b bit h k e) ∙ append_assoc (low_bits len bits) (bit ∷ []) more
 
 -- readings that are the same everywhere decide the same
-pub undecided_same : (f g : List Bool → List Item) → ((more : List Bool) → f more ≡ g more) → IsUndecided f → IsUndecided g
+pub undecided_same : (f g : List Bool → List Item) → ((more : List Bool) → f more ≡ g more) → IsUndecided f
+    → IsUndecided g
 undecided_same f g e u = λ item all. u item (λ more c. ((all more c).0, e more ∙ (all more c).1))
 
 abbrev head_or : List Bool → Bool
@@ -74,11 +81,13 @@ head_or [] = false
 head_or (b ∷ bits) = b
 
 -- the first bit that is pushed
-first_pushed : (bits b : ℕ) (bit : Bool) → bits < 2 ^ 0 → b ≡ bool_byte bit → (bit_or bits (b * 2 ^ 0 % 2 ^ 64) % 2 == 1) ≡ bit
+first_pushed : (bits b : ℕ) (bit : Bool) → bits < 2 ^ 0 → b ≡ bool_byte bit
+    → (bit_or bits (b * 2 ^ 0 % 2 ^ 64) % 2 == 1) ≡ bit
 unfolding low_bits
 first_pushed bits b bit h e = ap head_or (pushed 0 bits b bit h (lit< tt) e)
 
-pub holds_pushed : (mode : Mode) (one : Bool) (run len bits next fed b : ℕ) (bit : Bool) → Holds mode one run len bits next fed → len < next → (0 < run → one ≢ bit) →
+pub holds_pushed : (mode : Mode) (one : Bool) (run len bits next fed b : ℕ) (bit : Bool)
+    → Holds mode one run len bits next fed → len < next → (0 < run → one ≢ bit) →
     b ≡ bool_byte bit → Holds mode one run (len + 1) (bit_or bits (b * 2 ^ len % 2 ^ 64)) next (fed + 1)
 holds_pushed mode one run len bits next fed b bit held h n e =
     let stage : next ≤ 50 = held.stage in
@@ -108,9 +117,11 @@ holds_pushed mode one run len bits next fed b bit held h n e =
 
 -- one more in the run
 pub longer : (mode : Mode) (one bit : Bool) (run len bits : ℕ) (more : List Bool) → len ≡ 0 → one ≡ bit →
-    reading mode (replicate (run + 1) one ++ (low_bits len bits ++ more)) ≡ reading mode (replicate run one ++ (low_bits len bits ++ (bit ∷ more)))
+    reading mode (replicate (run + 1) one ++ (low_bits len bits ++ more)) ≡ reading mode
+    (replicate run one ++ (low_bits len bits ++ (bit ∷ more)))
 longer mode one bit run len bits more h e =
-    ap (reading mode) (ap (λ x. replicate (run + 1) one ++ (x ++ more)) (no_bits len bits h) ∙ ap (λ x. x ++ more) (sym (replicate-append-replicate run 1 one))
+    ap (reading mode) (ap (λ x. replicate (run + 1) one ++ (x ++ more)) (no_bits len bits h)
+    ∙ ap (λ x. x ++ more) (sym (replicate-append-replicate run 1 one))
     ∙ append_assoc (replicate run one) (one ∷ []) more ∙ ap (λ b. replicate run one ++ (b ∷ more)) e
     ∙ ap (λ x. replicate run one ++ (x ++ (bit ∷ more))) (sym (no_bits len bits h)))
 
@@ -128,14 +139,18 @@ other_bit false false e = λ f. cc
 
 -- ---- bits are joined
 
-pub holds_joined : (mode : Mode) (one : Bool) (run len bits count more fed n : ℕ) → run ≡ 0 → bits < 2 ^ len → more < 2 ^ count → len + count ≤ 50 → len ≤ fed → n ≡ count →
+pub holds_joined : (mode : Mode) (one : Bool) (run len bits count more fed n : ℕ) → run ≡ 0 → bits < 2 ^ len
+    → more < 2 ^ count → len + count ≤ 50 → len ≤ fed → n ≡ count →
     Holds mode one run (len + count) (bit_or (more * 2 ^ len % 2 ^ 64) bits) 1 (fed + n)
 holds_joined mode one run len bits count more fed n e h k room counted same =
     subst (λ r. Holds mode one r (len + count) (bit_or (more * 2 ^ len % 2 ^ 64) bits) 1 (fed + n)) (sym e)
-    (holds_bits mode one (len + count) (bit_or (more * 2 ^ len % 2 ^ 64) bits) (fed + n) (join_lt len count more bits k h (omega arith)) room (omega arith))
+    (holds_bits mode one (len + count) (bit_or (more * 2 ^ len % 2 ^ 64) bits) (fed + n)
+    (join_lt len count more bits k h (omega arith)) room (omega arith))
 
 -- the bits and those after them, and what may follow
 pub joined : (len bits count more : ℕ) (after : List Bool) → bits < 2 ^ len → more < 2 ^ count → len + count ≤ 50 →
-    low_bits (len + count) (bit_or (more * 2 ^ len % 2 ^ 64) bits) ++ after ≡ low_bits len bits ++ (low_bits count more ++ after)
+    low_bits (len + count) (bit_or (more * 2 ^ len % 2 ^ 64) bits) ++ after ≡ low_bits len bits
+    ++ (low_bits count more ++ after)
 joined len bits count more after h k room =
-    ap (λ x. x ++ after) (low_bits-join len count more bits k h (omega arith)) ∙ append_assoc (low_bits len bits) (low_bits count more) after
+    ap (λ x. x ++ after) (low_bits-join len count more bits k h (omega arith))
+    ∙ append_assoc (low_bits len bits) (low_bits count more) after

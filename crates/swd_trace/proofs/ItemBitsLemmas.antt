@@ -1,5 +1,6 @@
 -- Laws of the bits of an item.
-use Rattle.std.proofs.Common.{◌≡◌, ℕ, zero, suc, ◌+◌, ◌-◌, ◌/◌, ◌^◌, ◌≤◌, List, Bool, ◌++◌, length, replicate, append_assoc, sym, ap, ◌∙◌, arith}
+use Rattle.std.proofs.Common.{◌≡◌, ℕ, zero, suc, ◌+◌, ◌-◌, ◌/◌, ◌^◌, ◌≤◌, List, Bool, ◌++◌, length, replicate}
+use Rattle.std.proofs.Common.{append_assoc, sym, ap, ◌∙◌, arith}
 use Rattle.std.proofs.lemmas.List.{length-append, length-replicate, replicate-append-replicate}
 use Rattle.swd_bits.specs.Bits.{low_bits}
 use Rattle.swd_trace.specs.declared.item.Item.{Item}
@@ -11,23 +12,33 @@ use Rattle.swd_trace.proofs.NumberLemmas.{parted}
 -- how many bits are left
 pub count_left : (run len bits : ℕ) (one : Bool) → length (replicate run one ++ low_bits len bits) ≡ run + len
 count_left run len bits one =
-    omega (arith, length-append (replicate run one) (low_bits len bits), length-replicate run one, length-low_bits len bits)
+    omega (
+      arith,
+      length-append (replicate run one) (low_bits len bits),
+      length-replicate run one,
+      length-low_bits len
+          bits,
+    )
 
 -- the first of the run, and what is left
 pub run_parted : (n run len bits : ℕ) (one : Bool) (more : List Bool) → n ≤ run →
-    replicate n one ++ ((replicate (run - n) one ++ low_bits len bits) ++ more) ≡ (replicate run one ++ low_bits len bits) ++ more
+    replicate n one ++ ((replicate (run - n) one ++ low_bits len bits) ++ more) ≡
+    (replicate run one ++ low_bits len bits) ++ more
 run_parted n run len bits one more h =
     let all : n + (run - n) ≡ run = omega arith in
     ap (λ x. replicate n one ++ x) (append_assoc (replicate (run - n) one) (low_bits len bits) more)
     ∙ sym (append_assoc (replicate n one) (replicate (run - n) one) (low_bits len bits ++ more))
-    ∙ ap (λ x. x ++ (low_bits len bits ++ more)) (replicate-append-replicate n (run - n) one ∙ ap (λ k. replicate k one) all)
+    ∙ ap (λ x. x ++ (low_bits len bits ++ more))
+    (replicate-append-replicate n (run - n) one ∙ ap (λ k. replicate k one) all)
     ∙ sym (append_assoc (replicate run one) (low_bits len bits) more)
 
 -- the first of the other bits, and what is left
 pub bits_parted : (n run len bits : ℕ) (one : Bool) (more : List Bool) → run ≤ 0 → n ≤ len →
-    low_bits n bits ++ ((replicate run one ++ low_bits (len - n) (bits / 2 ^ n)) ++ more) ≡ (replicate run one ++ low_bits len bits) ++ more
+    low_bits n bits ++ ((replicate run one ++ low_bits (len - n) (bits / 2 ^ n)) ++ more) ≡
+    (replicate run one ++ low_bits len bits) ++ more
 bits_parted n zero len bits one more r h =
-    sym (append_assoc (low_bits n bits) (low_bits (len - n) (bits / 2 ^ n)) more) ∙ ap (λ x. x ++ more) (sym (parted n len bits h))
+    sym (append_assoc (low_bits n bits) (low_bits (len - n) (bits / 2 ^ n)) more)
+    ∙ ap (λ x. x ++ more) (sym (parted n len bits h))
 bits_parted n (suc run) len bits one more r h = absurd (omega arith)
 
 -- an item that has a line has bits that can be written

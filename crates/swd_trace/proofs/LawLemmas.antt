@@ -1,7 +1,10 @@
 -- The tests of the reading are what they stand for.
-use Rattle.std.proofs.Common.{◌≡◌, ◌≢◌, ℕ, zero, suc, ◌+◌, ◌-◌, ◌<◌, ◌≤◌, Bool, true, false, not, List, [], ◌∷◌, ◌++◌, length, take, drop, replicate, nat_le, append_assoc, refl, sym, ap, ◌∙◌, subst, arith, inl, inr}
+use Rattle.std.proofs.Common.{◌≡◌, ◌≢◌, ℕ, zero, suc, ◌+◌, ◌-◌, ◌<◌, ◌≤◌, Bool, true, false, not, List, [], ◌∷◌, ◌++◌}
+use Rattle.std.proofs.Common.{length, take, drop, replicate, nat_le, append_assoc, refl, sym, ap, ◌∙◌, subst, arith}
+use Rattle.std.proofs.Common.{inl, inr}
 use Rattle.std.specs.Prelude.{if◌then◌else◌}
-use Rattle.std.proofs.lemmas.List.{length-append, length-replicate, length-take-le, take-append-drop, take_all, append-nil, append_cancel_left, replicate-append-replicate}
+use Rattle.std.proofs.lemmas.List.{length-append, length-replicate, length-take-le, take-append-drop, take_all}
+use Rattle.std.proofs.lemmas.List.{append-nil, append_cancel_left, replicate-append-replicate}
 use Rattle.std.proofs.lemmas.Bool.{leb-true, le-leb}
 use Rattle.std.proofs.lemmas.Bool.Decides.{leb_tells}
 use Rattle.swd_bits.specs.Bits.{odd}
@@ -11,7 +14,8 @@ use Rattle.swd_bits.specs.declared.tx.TxEnd.{TxEnd}
 use Rattle.swd_bits.specs.declared.tx.TxEnd.TheVariants.{Wait, Fault}
 use Rattle.swd_bits.specs.declared.tx.Tx.{Tx}
 use Rattle.swd_trace.specs.declared.item.Item.{Item}
-use Rattle.swd_trace.specs.Stands.{Stand, Whole, Begun, Broken, stands, after_ok, after_refusal, after_ack, after_request, after_parity, moved_in, phase_in}
+use Rattle.swd_trace.specs.Stands.{Stand, Whole, Begun, Broken, stands, after_ok, after_refusal, after_ack}
+use Rattle.swd_trace.specs.Stands.{after_request, after_parity, moved_in, phase_in}
 use Rattle.swd_trace.specs.Reading.{ones, all_ones, begins_with}
 use Rattle.swd_trace.specs.Decided.{Begins, IsDecided}
 use Rattle.swd_trace.proofs.StandLemmas.{chosen, lt_leb, settles, whole_fits}
@@ -21,12 +25,15 @@ use Rattle.swd_trace.proofs.ReadingLemmas.{all_ones_is}
 
 -- ---- a whole transaction
 
-pub whole_spells : (bits : List Bool) (tx : Tx) (n : ℕ) → stands bits ≡ Whole tx n → (n ≤ length bits) × Spells tx (take n bits)
+pub whole_spells : (bits : List Bool) (tx : Tx) (n : ℕ) → stands bits ≡ Whole tx n
+    → (n ≤ length bits) × Spells tx (take n bits)
 whole_spells bits tx n e = (whole_fits bits tx n e, stands_spelled bits tx n e)
 
-pub spells_whole : (bits : List Bool) (tx : Tx) (n : ℕ) → (n ≤ length bits) × Spells tx (take n bits) → stands bits ≡ Whole tx n
+pub spells_whole : (bits : List Bool) (tx : Tx) (n : ℕ) → (n ≤ length bits) × Spells tx (take n bits)
+    → stands bits ≡ Whole tx n
 spells_whole bits tx n h =
-    ap stands (sym (take-append-drop n bits)) ∙ spelled_stands tx (take n bits) (drop n bits) h.1 ∙ ap (Whole tx) (length-take-le n bits h.0)
+    ap stands (sym (take-append-drop n bits)) ∙ spelled_stands tx (take n bits) (drop n bits) h.1
+    ∙ ap (Whole tx) (length-take-le n bits h.0)
 
 -- ---- the beginning of one
 
@@ -42,12 +49,17 @@ not_empty b bits e = cc
 
 ok_completed : (q : Request) (bits : List Bool) → after_ok q bits ≡ Begun → Completed (after_ok q) 12 bits
 ok_completed q bits =
-    chosen (nat_le 34 (length bits)) (Whole (record { request = q; result = moved_in (phase_in q.read bits) }) 46) Begun (λ s. s ≡ Begun → Completed (after_ok q) 12 bits)
+    chosen (nat_le 34 (length bits)) (Whole (record { request = q; result = moved_in (phase_in q.read bits) }) 46) Begun
+    (λ s. s ≡ Begun → Completed (after_ok q) 12 bits)
     (λ t e. absurd cc) (λ t e. fill t)
   where
     fill : nat_le 34 (length bits) ≡ false → Completed (after_ok q) 12 bits
     fill t =
-        let few : length bits < 34 = elim (leb_tells 34 (length bits)) [ inl p ↦ (let f : nat_le 34 (length bits) ≡ true = p.0 in absurd cc) | inr p ↦ (let n : length bits < 34 = p.1 in n) ] in
+        let few : length bits < 34 = elim (leb_tells 34 (length bits)) [
+          | inl p ↦ (let f : nat_le 34 (length bits) ≡ true = p.0 in absurd cc)
+          | inr p ↦
+              (let n : length bits < 34 = p.1 in n)
+        ] in
         let pad : List Bool = replicate (34 - length bits) false in
         let k : length pad ≡ 34 - length bits = length-replicate (34 - length bits) false in
         let l : length (bits ++ pad) ≡ length bits + length pad = length-append bits pad in
@@ -57,15 +69,20 @@ ok_completed q bits =
           more = pad;
           some = λ e. let none : length pad ≡ 0 = ap length e in omega arith;
           tx = record { request = q; result = moved_in (phase_in q.read (bits ++ pad)) };
-          stands = ap (λ t. if t then Whole (record { request = q; result = moved_in (phase_in q.read (bits ++ pad)) }) 46 else Begun) enough
-              ∙ ap (λ n. Whole (record { request = q; result = moved_in (phase_in q.read (bits ++ pad)) }) (12 + n)) (sym all);
+          stands = ap (λ t. if t then Whole (record { request = q; result = moved_in (phase_in q.read (bits ++ pad)) })
+              46 else Begun) enough
+              ∙ ap (λ n. Whole (record { request = q; result = moved_in (phase_in q.read (bits ++ pad)) }) (12 + n))
+              (sym all);
         }
 
-refusal_completed : (q : Request) (end : TxEnd) (bits : List Bool) → after_refusal q end bits ≡ Begun → Completed (after_refusal q end) 12 bits
-refusal_completed q end [] e = record { more = true ∷ []; some = not_empty true []; tx = record { request = q; result = end }; stands = refl }
+refusal_completed : (q : Request) (end : TxEnd) (bits : List Bool) → after_refusal q end bits ≡ Begun
+    → Completed (after_refusal q end) 12 bits
+refusal_completed q end [] e =
+    record { more = true ∷ []; some = not_empty true []; tx = record { request = q; result = end }; stands = refl }
 refusal_completed q end (t ∷ bits) e = absurd cc
 
-ack_completed : (q : Request) (a b c : Bool) (bits : List Bool) → after_ack q a b c bits ≡ Begun → Completed (after_ack q a b c) 12 bits
+ack_completed : (q : Request) (a b c : Bool) (bits : List Bool) → after_ack q a b c bits ≡ Begun
+    → Completed (after_ack q a b c) 12 bits
 ack_completed q true false false bits e = ok_completed q bits e
 ack_completed q false true false bits e = refusal_completed q Wait bits e
 ack_completed q false false true bits e = refusal_completed q Fault bits e
@@ -75,22 +92,32 @@ ack_completed q false true true bits e = absurd cc
 ack_completed q false false false bits e = absurd cc
 
 request_completed : (q : Request) (bits : List Bool) → after_request q bits ≡ Begun → Completed (after_request q) 8 bits
-request_completed q [] e = record { more = true ∷ true ∷ true ∷ true ∷ []; some = not_empty true _; tx = _; stands = refl }
-request_completed q (t ∷ []) e = record { more = true ∷ true ∷ true ∷ []; some = not_empty true _; tx = _; stands = refl }
-request_completed q (t ∷ true ∷ []) e = record { more = true ∷ true ∷ []; some = not_empty true _; tx = _; stands = refl }
-request_completed q (t ∷ false ∷ []) e = record { more = true ∷ true ∷ []; some = not_empty true _; tx = _; stands = refl }
-request_completed q (t ∷ true ∷ true ∷ []) e = record { more = true ∷ []; some = not_empty true _; tx = _; stands = refl }
-request_completed q (t ∷ true ∷ false ∷ []) e = record { more = true ∷ []; some = not_empty true _; tx = _; stands = refl }
-request_completed q (t ∷ false ∷ true ∷ []) e = record { more = true ∷ []; some = not_empty true _; tx = _; stands = refl }
-request_completed q (t ∷ false ∷ false ∷ []) e = record { more = false ∷ []; some = not_empty false _; tx = _; stands = refl }
+request_completed q [] e =
+    record { more = true ∷ true ∷ true ∷ true ∷ []; some = not_empty true _; tx = _; stands = refl }
+request_completed q (t ∷ []) e =
+    record { more = true ∷ true ∷ true ∷ []; some = not_empty true _; tx = _; stands = refl }
+request_completed q (t ∷ true ∷ []) e =
+    record { more = true ∷ true ∷ []; some = not_empty true _; tx = _; stands = refl }
+request_completed q (t ∷ false ∷ []) e =
+    record { more = true ∷ true ∷ []; some = not_empty true _; tx = _; stands = refl }
+request_completed q (t ∷ true ∷ true ∷ []) e =
+    record { more = true ∷ []; some = not_empty true _; tx = _; stands = refl }
+request_completed q (t ∷ true ∷ false ∷ []) e =
+    record { more = true ∷ []; some = not_empty true _; tx = _; stands = refl }
+request_completed q (t ∷ false ∷ true ∷ []) e =
+    record { more = true ∷ []; some = not_empty true _; tx = _; stands = refl }
+request_completed q (t ∷ false ∷ false ∷ []) e =
+    record { more = false ∷ []; some = not_empty false _; tx = _; stands = refl }
 request_completed q (t ∷ a ∷ b ∷ c ∷ bits) e =
     let r = ack_completed q a b c bits e in
     record { more = r.more; some = r.some; tx = r.tx; stands = r.stands ∙ ap (Whole r.tx) (omega arith) }
 
 parity_completed : (q : Request) (bits : List Bool) → after_parity q bits ≡ Begun → Completed (after_parity q) 6 bits
-parity_completed q [] e = record { more = false ∷ true ∷ true ∷ true ∷ true ∷ true ∷ []; some = not_empty false _; tx = _; stands = refl }
+parity_completed q [] e =
+    record { more = false ∷ true ∷ true ∷ true ∷ true ∷ true ∷ []; some = not_empty false _; tx = _; stands = refl }
 parity_completed q (true ∷ bits) e = absurd cc
-parity_completed q (false ∷ []) e = record { more = true ∷ true ∷ true ∷ true ∷ true ∷ []; some = not_empty true _; tx = _; stands = refl }
+parity_completed q (false ∷ []) e =
+    record { more = true ∷ true ∷ true ∷ true ∷ true ∷ []; some = not_empty true _; tx = _; stands = refl }
 parity_completed q (false ∷ false ∷ bits) e = absurd cc
 parity_completed q (false ∷ true ∷ bits) e =
     let r = request_completed q bits e in
@@ -104,9 +131,14 @@ even_with : (bits : List Bool) → odd (bits ++ odd bits ∷ []) ≡ false
 even_with bits = odd_push bits (odd bits) ∙ flip_even (odd bits)
 
 -- four bits and their parity, and the rest of a transaction
-whole_from : (a b c d : Bool) → (tx : Tx) × (stands (true ∷ a ∷ b ∷ c ∷ d ∷ odd (a ∷ b ∷ c ∷ d ∷ []) ∷ false ∷ true ∷ true ∷ true ∷ true ∷ true ∷ []) ≡ Whole tx 12)
-whole_from a b c d =
-    (_, parity_right (a ∷ b ∷ c ∷ d ∷ odd (a ∷ b ∷ c ∷ d ∷ []) ∷ []) (false ∷ true ∷ true ∷ true ∷ true ∷ true ∷ []) refl (even_with (a ∷ b ∷ c ∷ d ∷ [])))
+whole_from : (a b c d : Bool)
+    → (tx : Tx) × (stands (true ∷ a ∷ b ∷ c ∷ d ∷ odd (a ∷ b ∷ c ∷ d ∷ []) ∷ false ∷ true ∷ true ∷ true ∷ true ∷ true ∷
+    []) ≡ Whole tx 12)
+whole_from a b c d = (
+  _,
+  parity_right (a ∷ b ∷ c ∷ d ∷ odd (a ∷ b ∷ c ∷ d ∷ []) ∷ []) (false ∷ true ∷ true ∷ true ∷ true ∷ true ∷ [])
+      refl (even_with (a ∷ b ∷ c ∷ d ∷ [])),
+)
 
 choice_begun : (t : Bool) (s : Stand) → (if t then Broken else s) ≡ Begun → (t ≡ false) × (s ≡ Begun)
 choice_begun true s e = absurd cc
@@ -118,45 +150,87 @@ unanswered = false ∷ true ∷ true ∷ true ∷ true ∷ true ∷ []
 completed : (bits : List Bool) → stands bits ≡ Begun → Completed stands 0 bits
 completed [] e =
     let w = whole_from false false false false in
-    record { more = true ∷ false ∷ false ∷ false ∷ false ∷ odd (false ∷ false ∷ false ∷ false ∷ []) ∷ unanswered; some = not_empty true _; tx = w.0; stands = w.1 }
+    record {
+      more = true ∷ false ∷ false ∷ false ∷ false ∷ odd (false ∷ false ∷ false ∷ false ∷ []) ∷ unanswered;
+      some =
+          not_empty true _;
+      tx = w.0;
+      stands = w.1;
+    }
 completed (false ∷ bits) e = absurd cc
 completed (true ∷ []) e =
     let w = whole_from false false false false in
-    record { more = false ∷ false ∷ false ∷ false ∷ odd (false ∷ false ∷ false ∷ false ∷ []) ∷ unanswered; some = not_empty false _; tx = w.0; stands = w.1 }
+    record {
+      more = false ∷ false ∷ false ∷ false ∷ odd (false ∷ false ∷ false ∷ false ∷ []) ∷ unanswered;
+      some =
+          not_empty false _;
+      tx = w.0;
+      stands = w.1;
+    }
 completed (true ∷ a ∷ []) e =
     let w = whole_from a false false false in
-    record { more = false ∷ false ∷ false ∷ odd (a ∷ false ∷ false ∷ false ∷ []) ∷ unanswered; some = not_empty false _; tx = w.0; stands = w.1 }
+    record {
+      more = false ∷ false ∷ false ∷ odd (a ∷ false ∷ false ∷ false ∷ []) ∷ unanswered;
+      some = not_empty false _;
+      tx = w.0;
+      stands = w.1;
+    }
 completed (true ∷ a ∷ b ∷ []) e =
     let w = whole_from a b false false in
-    record { more = false ∷ false ∷ odd (a ∷ b ∷ false ∷ false ∷ []) ∷ unanswered; some = not_empty false _; tx = w.0; stands = w.1 }
+    record {
+      more = false ∷ false ∷ odd (a ∷ b ∷ false ∷ false ∷ []) ∷ unanswered;
+      some = not_empty false _;
+      tx = w.0;
+      stands = w.1;
+    }
 completed (true ∷ a ∷ b ∷ c ∷ []) e =
     let w = whole_from a b c false in
-    record { more = false ∷ odd (a ∷ b ∷ c ∷ false ∷ []) ∷ unanswered; some = not_empty false _; tx = w.0; stands = w.1 }
+    record {
+      more = false ∷ odd (a ∷ b ∷ c ∷ false ∷ []) ∷ unanswered;
+      some = not_empty false _;
+      tx = w.0;
+      stands = w.1;
+    }
 completed (true ∷ a ∷ b ∷ c ∷ d ∷ []) e =
     let w = whole_from a b c d in
-    record { more = odd (a ∷ b ∷ c ∷ d ∷ []) ∷ unanswered; some = not_empty (odd (a ∷ b ∷ c ∷ d ∷ [])) _; tx = w.0; stands = w.1 }
+    record {
+      more = odd (a ∷ b ∷ c ∷ d ∷ []) ∷ unanswered;
+      some = not_empty (odd (a ∷ b ∷ c ∷ d ∷ [])) _;
+      tx = w.0;
+      stands = w.1;
+    }
 completed (true ∷ a ∷ b ∷ c ∷ d ∷ p ∷ bits) e =
     let q = asked_of (a ∷ b ∷ c ∷ d ∷ p ∷ []) in
     let h = choice_begun (odd (a ∷ b ∷ c ∷ d ∷ p ∷ [])) (after_parity q bits) e in
     let r = parity_completed q bits h.1 in
-    record { more = r.more; some = r.some; tx = r.tx; stands = parity_right (a ∷ b ∷ c ∷ d ∷ p ∷ []) (bits ++ r.more) refl h.0 ∙ r.stands ∙ ap (Whole r.tx) (omega arith) }
+    record {
+      more = r.more;
+      some = r.some;
+      tx = r.tx;
+      stands = parity_right (a ∷ b ∷ c ∷ d ∷ p ∷ []) (bits ++ r.more)
+          refl h.0 ∙ r.stands ∙ ap (Whole r.tx) (omega arith);
+    }
 
-pub begun_spells : (bits : List Bool) → stands bits ≡ Begun → (tx : Tx) × (more : List Bool) × (more ≢ []) × Spells tx (bits ++ more)
+pub begun_spells : (bits : List Bool) → stands bits ≡ Begun → (tx : Tx) × (more : List Bool) × (more ≢ [])
+    × Spells tx (bits ++ more)
 begun_spells bits e =
     let r = completed bits e in
     let l : 0 + length (bits ++ r.more) ≡ length (bits ++ r.more) = omega arith in
     let s = stands_spelled (bits ++ r.more) r.tx (length (bits ++ r.more)) (r.stands ∙ ap (Whole r.tx) l) in
-    let all : take (length (bits ++ r.more)) (bits ++ r.more) ≡ bits ++ r.more = take_all (length (bits ++ r.more)) (bits ++ r.more) (omega arith) in
+    let all : take (length (bits ++ r.more)) (bits ++ r.more) ≡ bits ++ r.more = take_all (length (bits ++ r.more))
+    (bits ++ r.more) (omega arith) in
     (r.tx, r.more, r.some, subst (Spells r.tx) all s)
 
 nothing_more : (bits : List Bool) → length bits ≡ 0 → bits ≡ []
 nothing_more [] h = refl
 nothing_more (b ∷ bits) h = absurd (omega arith)
 
-pub spells_begun : (bits : List Bool) → (tx : Tx) × (more : List Bool) × (more ≢ []) × Spells tx (bits ++ more) → stands bits ≡ Begun
+pub spells_begun : (bits : List Bool) → (tx : Tx) × (more : List Bool) × (more ≢ []) × Spells tx (bits ++ more)
+    → stands bits ≡ Begun
 spells_begun bits h =
     let more : List Bool = h.1 in
-    let w : stands (bits ++ more) ≡ Whole h.0 (length (bits ++ more)) = ap stands (sym (append-nil (bits ++ more))) ∙ spelled_stands h.0 (bits ++ more) [] h.3 in
+    let w : stands (bits ++ more) ≡ Whole h.0 (length (bits ++ more)) = ap stands (sym (append-nil (bits ++ more)))
+    ∙ spelled_stands h.0 (bits ++ more) [] h.3 in
     elim (settles bits more) [
       | inl e ↦ e
       | inr e ↦
@@ -170,17 +244,20 @@ spells_begun bits h =
 ones_front : (n : ℕ) (bits : List Bool) → n ≤ ones bits → (more : List Bool) × (bits ≡ replicate n true ++ more)
 ones_front zero bits h = (bits, refl)
 ones_front (suc n) [] h = absurd (omega arith)
-ones_front (suc n) (true ∷ bits) h = let less : n ≤ ones bits = omega arith in let r = ones_front n bits less in (r.0, ap (λ x. true ∷ x) r.1)
+ones_front (suc n) (true ∷ bits) h = let less : n ≤ ones bits = omega arith in let r = ones_front n bits less in
+    (r.0, ap (λ x. true ∷ x) r.1)
 ones_front (suc n) (false ∷ bits) h = absurd (omega arith)
 
 front_ones : (n : ℕ) (more : List Bool) → n ≤ ones (replicate n true ++ more)
 front_ones zero more = omega arith
 front_ones (suc n) more = let h = front_ones n more in omega arith
 
-pub fifty_stand : (bits : List Bool) → nat_le 50 (ones bits) ≡ true → (more : List Bool) × (bits ≡ replicate 50 true ++ more)
+pub fifty_stand : (bits : List Bool) → nat_le 50 (ones bits) ≡ true → (more : List Bool)
+    × (bits ≡ replicate 50 true ++ more)
 fifty_stand bits e = ones_front 50 bits (leb-true 50 (ones bits) e)
 
-pub stand_fifty : (bits : List Bool) → (more : List Bool) × (bits ≡ replicate 50 true ++ more) → nat_le 50 (ones bits) ≡ true
+pub stand_fifty : (bits : List Bool) → (more : List Bool) × (bits ≡ replicate 50 true ++ more)
+    → nat_le 50 (ones bits) ≡ true
 stand_fifty bits h = le-leb 50 (ones bits) (subst (λ x. 50 ≤ ones x) (sym h.1) (front_ones 50 h.0))
 
 ones_of_all : (bits : List Bool) → all_ones bits ≡ true → ones bits ≡ length bits
@@ -188,15 +265,22 @@ ones_of_all [] e = refl
 ones_of_all (true ∷ bits) e = ap suc (ones_of_all bits e)
 ones_of_all (false ∷ bits) e = absurd cc
 
-pub fewer_begin : (bits : List Bool) → (nat_le 50 (ones bits) ≡ false) × (all_ones bits ≡ true) → (more : List Bool) × (more ≢ []) × (replicate 50 true ≡ bits ++ more)
+pub fewer_begin : (bits : List Bool) → (nat_le 50 (ones bits) ≡ false) × (all_ones bits ≡ true) → (more : List Bool)
+    × (more ≢ []) × (replicate 50 true ≡ bits ++ more)
 fewer_begin bits h =
-    let few : ones bits < 50 = elim (leb_tells 50 (ones bits)) [ inl p ↦ (let f : nat_le 50 (ones bits) ≡ true = p.0 in let g : nat_le 50 (ones bits) ≡ false = h.0 in absurd cc) | inr p ↦ (let n : ones bits < 50 = p.1 in n) ] in
+    let few : ones bits < 50 = elim (leb_tells 50 (ones bits)) [
+      | inl p ↦ (let f : nat_le 50 (ones bits) ≡ true = p.0 in let g : nat_le 50 (ones bits) ≡ false = h.0 in
+          absurd cc)
+      | inr p ↦ (let n : ones bits < 50 = p.1 in n)
+    ] in
     let l : ones bits ≡ length bits = ones_of_all bits h.1 in
     let k : 50 - length bits + length bits ≡ 50 = omega arith in
     let m : length bits + (50 - length bits) ≡ 50 = omega arith in (
       replicate (50 - length bits) true,
-      λ e. (let none : length (replicate (50 - length bits) true) ≡ 0 = ap length e in let n = length-replicate (50 - length bits) true in omega arith),
-      sym (ap (λ x. x ++ replicate (50 - length bits) true) (all_ones_is bits h.1) ∙ replicate-append-replicate (length bits) (50 - length bits) true ∙ ap (λ n. replicate n true) m),
+      λ e. (let none : length (replicate (50 - length bits) true) ≡ 0 = ap length e in let n = length-replicate
+          (50 - length bits) true in omega arith),
+      sym (ap (λ x. x ++ replicate (50 - length bits) true) (all_ones_is bits h.1)
+          ∙ replicate-append-replicate (length bits) (50 - length bits) true ∙ ap (λ n. replicate n true) m),
     )
 
 all_front : (n : ℕ) (bits more : List Bool) → replicate n true ≡ bits ++ more → all_ones bits ≡ true
@@ -205,7 +289,8 @@ all_front zero (b ∷ bits) more e = absurd cc
 all_front (suc n) (true ∷ bits) more e = let f : replicate n true ≡ bits ++ more = cc in all_front n bits more f
 all_front (suc n) (false ∷ bits) more e = absurd cc
 
-pub begin_fewer : (bits : List Bool) → (more : List Bool) × (more ≢ []) × (replicate 50 true ≡ bits ++ more) → (nat_le 50 (ones bits) ≡ false) × (all_ones bits ≡ true)
+pub begin_fewer : (bits : List Bool) → (more : List Bool) × (more ≢ []) × (replicate 50 true ≡ bits ++ more)
+    → (nat_le 50 (ones bits) ≡ false) × (all_ones bits ≡ true)
 begin_fewer bits h =
     let all : all_ones bits ≡ true = all_front 50 bits h.0 h.2 in
     let n : ones bits ≡ length bits = ones_of_all bits all in
@@ -214,7 +299,8 @@ begin_fewer bits h =
     let few : ones bits < 50 = shorter bits h.0 h.1 n l m in
     (lt_leb 50 (ones bits) few, all)
   where
-    shorter : (bits more : List Bool) → more ≢ [] → ones bits ≡ length bits → 50 ≡ length (bits ++ more) → length (bits ++ more) ≡ length bits + length more → ones bits < 50
+    shorter : (bits more : List Bool) → more ≢ [] → ones bits ≡ length bits → 50 ≡ length (bits ++ more)
+        → length (bits ++ more) ≡ length bits + length more → ones bits < 50
     shorter bits [] s n l m = absurd (s refl)
     shorter bits (b ∷ more) s n l m = omega arith
 

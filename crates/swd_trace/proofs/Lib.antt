@@ -17,6 +17,7 @@ pub mod BitsStepLemmas
 pub mod SwitchLemmas
 pub mod CloseLemmas
 pub mod RunLemmas
+pub mod FoundLemmas
 pub mod ExtendLemmas
 pub mod LawLemmas
 pub mod SpelledLemmas

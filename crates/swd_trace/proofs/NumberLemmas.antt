@@ -1,5 +1,6 @@
 -- Laws of numbers that hold bits.
-use Rattle.std.proofs.Common.{◌≡◌, ℕ, zero, suc, ◌+◌, ◌-◌, ◌*◌, ◌/◌, ◌%◌, ◌^◌, ◌<◌, ◌≤◌, Bool, true, false, List, [], ◌∷◌, ◌++◌, replicate, arith, refl, sym, ap, ◌∙◌, subst, bit_and, inl, inr}
+use Rattle.std.proofs.Common.{◌≡◌, ℕ, zero, suc, ◌+◌, ◌-◌, ◌*◌, ◌/◌, ◌%◌, ◌^◌, ◌<◌, ◌≤◌, Bool, true, false, List, []}
+use Rattle.std.proofs.Common.{◌∷◌, ◌++◌, replicate, arith, refl, sym, ap, ◌∙◌, subst, bit_and, inl, inr}
 use Rattle.std.specs.Prelude.{◌==◌}
 use Rattle.std.proofs.Math.Pow.{shr_lt}
 use Rattle.std.proofs.lemmas.Bool.{eqb-true}
@@ -25,13 +26,15 @@ no_bits (suc len) v h = absurd (omega arith)
 
 -- the low bits of what is left of a number
 pub low_mod : (m v : ℕ) → low_bits m (v % 2 ^ m) ≡ low_bits m v
-low_mod m v = sym (ap (λ k. low_bits k v) (omega arith) ∙ low_bits-split m 0 v ∙ ap (λ x. low_bits m (v % 2 ^ m) ++ x) (no_bits 0 (v / 2 ^ m) refl) ∙ append-nil (low_bits m (v % 2 ^ m)))
+low_mod m v = sym (ap (λ k. low_bits k v) (omega arith) ∙ low_bits-split m 0 v
+    ∙ ap (λ x. low_bits m (v % 2 ^ m) ++ x) (no_bits 0 (v / 2 ^ m) refl) ∙ append-nil (low_bits m (v % 2 ^ m)))
 
 -- the first bits, and the others
 pub parted : (m len v : ℕ) → m ≤ len → low_bits len v ≡ low_bits m v ++ low_bits (len - m) (v / 2 ^ m)
 parted m len v h =
     let e : len ≡ m + (len - m) = omega arith in
-    ap (λ k. low_bits k v) e ∙ low_bits-split m (len - m) v ∙ ap (λ x. x ++ low_bits (len - m) (v / 2 ^ m)) (low_mod m v)
+    ap (λ k. low_bits k v) e ∙ low_bits-split m (len - m) v
+    ∙ ap (λ x. x ++ low_bits (len - m) (v / 2 ^ m)) (low_mod m v)
 
 -- a shift within the bits
 pub shifted_lt : (m len v : ℕ) → m ≤ len → v < 2 ^ len → v / 2 ^ m < 2 ^ (len - m)
@@ -52,7 +55,8 @@ low_ones (suc n) =
     let p : 0 < 2 ^ n = pow_pos n in
     let last : (2 ^ suc n - 1) % 2 ≡ 1 = omega arith in
     let half : (2 ^ suc n - 1) / 2 ≡ 2 ^ n - 1 = omega arith in
-    ap (λ d. (d == 1) ∷ low_bits n ((2 ^ suc n - 1) / 2)) last ∙ ap (λ h. true ∷ low_bits n h) half ∙ ap (λ x. true ∷ x) (low_ones n)
+    ap (λ d. (d == 1) ∷ low_bits n ((2 ^ suc n - 1) / 2)) last ∙ ap (λ h. true ∷ low_bits n h) half
+    ∙ ap (λ x. true ∷ x) (low_ones n)
 
 -- where the bits are not that number, there is a zero among them
 pub zero_among : (n v : ℕ) → v < 2 ^ n → n < 64 → (v ≡ 1 * 2 ^ n % 2 ^ 64 - 1 → ⊥) → all_ones (low_bits n v) ≡ false
@@ -60,7 +64,8 @@ zero_among n v h k d =
     elim (bool_cases (all_ones (low_bits n v))) [
       | inl e ↦
           let p : 0 < 2 ^ n = pow_pos n in
-          let same : low_bits n v ≡ low_bits n (2 ^ n - 1) = all_ones_is (low_bits n v) e ∙ ap (λ m. replicate m true) (length-low_bits n v) ∙ sym (low_ones n) in
+          let same : low_bits n v ≡ low_bits n (2 ^ n - 1) = all_ones_is (low_bits n v) e
+          ∙ ap (λ m. replicate m true) (length-low_bits n v) ∙ sym (low_ones n) in
           let shl : 1 * 2 ^ n % 2 ^ 64 ≡ 2 ^ n = one_shl n 64 k in
           absurd (d (same_bits n v (2 ^ n - 1) h (omega arith) same ∙ ap (λ x. x - 1) (sym shl)))
       | inr e ↦ e
@@ -91,7 +96,8 @@ pub record Trailing (len v z : ℕ) : Type 0 where
   pub one : v / 2 ^ z % 2 ≡ 1
   pub front : low_bits len v ≡ replicate z false ++ low_bits (len - z) (v / 2 ^ z)
 
-trailing_step : (len v z d : ℕ) → d ≡ v % 2 → 0 < len → 0 < v → v < 2 ^ len → (v % 2 ≡ 0 → Trailing (len - 1) (v / 2) z) → Trailing len v (under d z)
+trailing_step : (len v z d : ℕ) → d ≡ v % 2 → 0 < len → 0 < v → v < 2 ^ len → (v % 2 ≡ 0 → Trailing (len - 1) (v / 2) z)
+    → Trailing len v (under d z)
 trailing_step len v z zero e h p k next =
     let even : v % 2 ≡ 0 = sym e in
     let r = next even in
@@ -101,13 +107,19 @@ trailing_step len v z zero e h p k next =
     record {
       within = omega arith;
       one = ap (λ n. n % 2) (sym shift) ∙ r.one;
-      front = next_bit len v h ∙ ap (λ n. (n == 1) ∷ low_bits (len - 1) (v / 2)) even ∙ ap (λ x. false ∷ x) (r.front ∙ ap (λ n. replicate z false ++ low_bits n (v / 2 / 2 ^ z)) less)
+      front = next_bit len v h ∙ ap (λ n. (n == 1) ∷ low_bits (len - 1) (v / 2)) even
+          ∙ ap (λ x. false ∷ x) (r.front ∙ ap (λ n. replicate z false ++ low_bits n (v / 2 / 2 ^ z)) less)
           ∙ ap (λ n. false ∷ (replicate z false ++ low_bits (len - suc z) n)) shift;
     }
 trailing_step len v z (suc zero) e h p k next =
     let f : v / 2 ^ 0 ≡ v = omega arith in
     let g : len - 0 ≡ len = omega arith in
-    record { within = h; one = ap (λ n. n % 2) f ∙ sym e; front = ap (low_bits len) (sym f) ∙ ap (λ n. low_bits n (v / 2 ^ 0)) (sym g) }
+    record {
+      within = h;
+      one = ap (λ n. n % 2) f ∙ sym e;
+      front = ap (low_bits len) (sym f)
+          ∙ ap (λ n. low_bits n (v / 2 ^ 0)) (sym g);
+    }
 trailing_step len v z (suc (suc d)) e h p k next = absurd (omega arith)
 
 pub trailing : (k len v : ℕ) → len ≤ k → 0 < v → v < 2 ^ len → Trailing len v (count_trailing_zeros k v)
@@ -130,7 +142,8 @@ zeros_front k zero v h = refl
 zeros_front zero (suc n) v h = absurd (omega arith)
 zeros_front (suc k) (suc n) v h = step (v % 2) refl h (zeros_front k n (v / 2))
   where
-    step : (d : ℕ) → d ≡ v % 2 → suc n ≤ under d (count_trailing_zeros k (v / 2)) → (n ≤ count_trailing_zeros k (v / 2) → low_bits n (v / 2) ≡ replicate n false) →
+    step : (d : ℕ) → d ≡ v % 2 → suc n ≤ under d (count_trailing_zeros k (v / 2))
+        → (n ≤ count_trailing_zeros k (v / 2) → low_bits n (v / 2) ≡ replicate n false) →
         (v % 2 == 1) ∷ low_bits n (v / 2) ≡ false ∷ replicate n false
     step zero e h others = ap (λ x. (x == 1) ∷ low_bits n (v / 2)) (sym e) ∙ ap (λ x. false ∷ x) (others (omega arith))
     step (suc d) e h others = absurd (omega arith)
@@ -143,12 +156,15 @@ ones_front zero (suc n) v h c = absurd (omega arith)
 ones_front (suc k) (suc n) v h c =
     let e : 2 ^ suc k ≡ 2 ^ k * 2 = pow-suc 2 k in
     let half : (2 ^ suc k - 1 - v) / 2 ≡ 2 ^ k - 1 - v / 2 = omega arith in
-    step ((2 ^ suc k - 1 - v) % 2) (omega arith) (subst (λ m. suc n ≤ under ((2 ^ suc k - 1 - v) % 2) (count_trailing_zeros k m)) half c) (ones_front k n (v / 2) (omega arith))
+    step ((2 ^ suc k - 1 - v) % 2) (omega arith)
+    (subst (λ m. suc n ≤ under ((2 ^ suc k - 1 - v) % 2) (count_trailing_zeros k m)) half c)
+    (ones_front k n (v / 2) (omega arith))
   where
     step : (d : ℕ) → d + v % 2 ≡ 1 → suc n ≤ under d (count_trailing_zeros k (2 ^ k - 1 - v / 2)) →
         (n ≤ count_trailing_zeros k (2 ^ k - 1 - v / 2) → low_bits n (v / 2) ≡ replicate n true) →
         (v % 2 == 1) ∷ low_bits n (v / 2) ≡ true ∷ replicate n true
-    step zero e h others = let one : v % 2 ≡ 1 = omega arith in ap (λ x. (x == 1) ∷ low_bits n (v / 2)) one ∙ ap (λ x. true ∷ x) (others (omega arith))
+    step zero e h others = let one : v % 2 ≡ 1 = omega arith in ap (λ x. (x == 1) ∷ low_bits n (v / 2)) one
+        ∙ ap (λ x. true ∷ x) (others (omega arith))
     step (suc d) e h others = absurd (omega arith)
 
 -- no more than these are at the front
@@ -162,13 +178,15 @@ zeros_most (suc k) (suc n) v h e =
     let others : low_bits n (v / 2) ≡ replicate n false = cc in
     step (v % 2) refl here (zeros_most k n (v / 2) (omega arith) others)
   where
-    step : (d : ℕ) → d ≡ v % 2 → (v % 2 == 1) ≡ false → n ≤ count_trailing_zeros k (v / 2) → suc n ≤ under d (count_trailing_zeros k (v / 2))
+    step : (d : ℕ) → d ≡ v % 2 → (v % 2 == 1) ≡ false → n ≤ count_trailing_zeros k (v / 2)
+        → suc n ≤ under d (count_trailing_zeros k (v / 2))
     step zero e f g = omega arith
     step (suc d) e f g =
         let one : v % 2 ≡ 1 = omega arith in
         let odd : (1 == 1) ≡ false = ap (λ x. x == 1) (sym one) ∙ f in absurd cc
 
-pub ones_most : (k n v : ℕ) → v < 2 ^ k → n ≤ k → low_bits n v ≡ replicate n true → n ≤ count_trailing_zeros k (2 ^ k - 1 - v)
+pub ones_most : (k n v : ℕ) → v < 2 ^ k → n ≤ k → low_bits n v ≡ replicate n true
+    → n ≤ count_trailing_zeros k (2 ^ k - 1 - v)
 unfolding low_bits count_trailing_zeros
 ones_most k zero v s h e = omega arith
 ones_most zero (suc n) v s h e = absurd (omega arith)
@@ -179,9 +197,12 @@ ones_most (suc k) (suc n) v s h e =
     let here : (v % 2 == 1) ≡ true = cc in
     let others : low_bits n (v / 2) ≡ replicate n true = cc in
     let one : v % 2 ≡ 1 = eqb-true (v % 2) 1 here in
-    let more : n ≤ count_trailing_zeros k (2 ^ k - 1 - v / 2) = ones_most k n (v / 2) (omega arith) (omega arith) others in
-    subst (λ m. suc n ≤ under ((2 ^ suc k - 1 - v) % 2) (count_trailing_zeros k m)) (sym half) (step ((2 ^ suc k - 1 - v) % 2) (omega arith) more)
+    let more : n ≤ count_trailing_zeros k (2 ^ k - 1 - v / 2) = ones_most k n (v / 2) (omega arith) (omega arith)
+    others in
+    subst (λ m. suc n ≤ under ((2 ^ suc k - 1 - v) % 2) (count_trailing_zeros k m)) (sym half)
+    (step ((2 ^ suc k - 1 - v) % 2) (omega arith) more)
   where
-    step : (d : ℕ) → d ≡ 0 → n ≤ count_trailing_zeros k (2 ^ k - 1 - v / 2) → suc n ≤ under d (count_trailing_zeros k (2 ^ k - 1 - v / 2))
+    step : (d : ℕ) → d ≡ 0 → n ≤ count_trailing_zeros k (2 ^ k - 1 - v / 2)
+        → suc n ≤ under d (count_trailing_zeros k (2 ^ k - 1 - v / 2))
     step zero e g = omega arith
     step (suc d) e g = absurd (omega arith)

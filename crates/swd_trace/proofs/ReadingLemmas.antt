@@ -1,5 +1,6 @@
 -- Laws of the reading of a list of bits.
-use Rattle.std.proofs.Common.{◌≡◌, ◌≢◌, ℕ, zero, suc, ◌-◌, ◌<◌, ◌≤◌, Bool, true, false, List, [], ◌∷◌, ◌++◌, length, drop, replicate, nat_le, refl, sym, ap, ◌∙◌, arith, inl, inr, ◌⊎◌}
+use Rattle.std.proofs.Common.{◌≡◌, ◌≢◌, ℕ, zero, suc, ◌-◌, ◌<◌, ◌≤◌, Bool, true, false, List, [], ◌∷◌, ◌++◌, length}
+use Rattle.std.proofs.Common.{drop, replicate, nat_le, refl, sym, ap, ◌∙◌, arith, inl, inr, ◌⊎◌}
 use Rattle.std.specs.Prelude.{if◌then◌else◌}
 use Rattle.std.proofs.lemmas.List.{drop_all}
 use Rattle.std.proofs.lemmas.Bool.{le-leb}
@@ -11,7 +12,8 @@ use Rattle.swd_trace.specs.declared.item.Item.TheVariants.{Reset, Switch, Idle, 
 use Rattle.swd_trace.specs.declared.mode.Mode.{Mode}
 use Rattle.swd_trace.specs.declared.mode.Mode.TheVariants.{Synced, AfterReset, AfterSwitch, Lost}
 use Rattle.swd_trace.specs.Stands.{Stand, Whole, Begun, Broken, stands}
-use Rattle.swd_trace.specs.Reading.{ones, zeros, all_ones, begins_with, switch, First, mode_after, whole, cut, junk, cut_or_lost, first_by, first_synced, first_short, first, items_after, reading}
+use Rattle.swd_trace.specs.Reading.{ones, zeros, all_ones, begins_with, switch, First, mode_after, whole, cut, junk}
+use Rattle.swd_trace.specs.Reading.{cut_or_lost, first_by, first_synced, first_short, first, items_after, reading}
 use Rattle.swd_trace.specs.Decided.{Continues, IsUndecided}
 use Rattle.swd_trace.proofs.StandLemmas.{chosen, lt_leb, few_ones}
 
@@ -28,16 +30,19 @@ passed (suc n) mode [] = refl
 passed (suc n) mode (b ∷ bits) = passed n mode bits
 
 pub reading_first : (mode : Mode) (b : Bool) (bits : List Bool) →
-    reading mode (b ∷ bits) ≡ (first mode b bits).item ∷ reading (first mode b bits).after (drop ((first mode b bits).taken - 1) bits)
+    reading mode (b ∷ bits) ≡ (first mode b bits).item ∷ reading (first mode b bits).after
+    (drop ((first mode b bits).taken - 1) bits)
 unfolding items_after
-reading_first mode b bits = ap (λ items. (first mode b bits).item ∷ items) (passed ((first mode b bits).taken - 1) (first mode b bits).after bits)
+reading_first mode b bits = ap (λ items. (first mode b bits).item ∷ items)
+    (passed ((first mode b bits).taken - 1) (first mode b bits).after bits)
 
 pub reading_none : (mode : Mode) → reading mode [] ≡ []
 unfolding items_after
 reading_none mode = refl
 
 -- what is read first, from what `first` computes to
-pub from_first : (mode : Mode) (b : Bool) (bits : List Bool) (f : First) → first mode b bits ≡ f → reading mode (b ∷ bits) ≡ f.item ∷ reading f.after (drop (f.taken - 1) bits)
+pub from_first : (mode : Mode) (b : Bool) (bits : List Bool) (f : First) → first mode b bits ≡ f
+    → reading mode (b ∷ bits) ≡ f.item ∷ reading f.after (drop (f.taken - 1) bits)
 from_first mode b bits f e = reading_first mode b bits ∙ ap (λ g. g.item ∷ reading g.after (drop (g.taken - 1) bits)) e
 
 -- ---- runs
@@ -71,10 +76,12 @@ drop_whole zero b = refl
 drop_whole (suc n) b = drop_whole n b
 
 -- some bits with a zero among them end the ones, whatever follows
-pub ones_end : (bits more : List Bool) → all_ones bits ≡ false → (ones (bits ++ more) ≡ ones bits) × ((all_ones (bits ++ more) ≡ false) × (ones bits < length bits))
+pub ones_end : (bits more : List Bool) → all_ones bits ≡ false → (ones (bits ++ more) ≡ ones bits)
+    × ((all_ones (bits ++ more) ≡ false) × (ones bits < length bits))
 ones_end [] more e = absurd cc
 ones_end (false ∷ bits) more e = (refl, (refl, omega arith))
-ones_end (true ∷ bits) more e = let r = ones_end bits more e in (ap suc r.0, (r.1.0, (let h : ones bits < length bits = r.1.1 in omega arith)))
+ones_end (true ∷ bits) more e = let r = ones_end bits more e in
+    (ap suc r.0, (r.1.0, (let h : ones bits < length bits = r.1.1 in omega arith)))
 
 pub all_ones_is : (bits : List Bool) → all_ones bits ≡ true → bits ≡ replicate (length bits) true
 all_ones_is [] e = refl
@@ -87,18 +94,23 @@ pub first_reset : (mode : Mode) (b : Bool) (bits : List Bool) → 50 ≤ ones (b
     first mode b bits ≡ record { item = Reset (ones (b ∷ bits)); after = AfterReset; taken = ones (b ∷ bits) }
 first_reset mode b bits h = let t : nat_le 50 (ones (b ∷ bits)) ≡ true = le-leb 50 (ones (b ∷ bits)) h in rw t refl
 
-pub first_few : (mode : Mode) (b : Bool) (bits : List Bool) → ones (b ∷ bits) < 50 → first mode b bits ≡ first_short mode b bits
+pub first_few : (mode : Mode) (b : Bool) (bits : List Bool) → ones (b ∷ bits) < 50
+    → first mode b bits ≡ first_short mode b bits
 first_few mode b bits h = let t : nat_le 50 (ones (b ∷ bits)) ≡ false = lt_leb 50 (ones (b ∷ bits)) h in rw t refl
 
 -- a reset, with a zero after it
-pub reset_law : (mode : Mode) (n : ℕ) (more : List Bool) → 50 ≤ n → reading mode (replicate n true ++ false ∷ more) ≡ Reset n ∷ reading AfterReset (false ∷ more)
+pub reset_law : (mode : Mode) (n : ℕ) (more : List Bool) → 50 ≤ n
+    → reading mode (replicate n true ++ false ∷ more) ≡ Reset n ∷ reading AfterReset (false ∷ more)
 reset_law mode zero more h = absurd (omega arith)
 reset_law mode (suc n) more h =
     let e : ones (true ∷ (replicate n true ++ false ∷ more)) ≡ suc n = ap suc (ones_run n more) in
-    let f : first mode true (replicate n true ++ false ∷ more) ≡ record { item = Reset (suc n); after = AfterReset; taken = suc n } =
-    first_reset mode true (replicate n true ++ false ∷ more) (omega arith) ∙ ap (λ k. record { item = Reset k; after = AfterReset; taken = k }) e in
+    let f : first mode true (replicate n true ++ false ∷ more) ≡
+    record { item = Reset (suc n); after = AfterReset; taken = suc n } =
+    first_reset mode true (replicate n true ++ false ∷ more) (omega arith)
+    ∙ ap (λ k. record { item = Reset k; after = AfterReset; taken = k }) e in
     let d : suc n - 1 ≡ n = omega arith in
-    from_first mode true (replicate n true ++ false ∷ more) _ f ∙ ap (λ k. Reset (suc n) ∷ reading AfterReset (drop k (replicate n true ++ false ∷ more))) d
+    from_first mode true (replicate n true ++ false ∷ more) _ f
+    ∙ ap (λ k. Reset (suc n) ∷ reading AfterReset (drop k (replicate n true ++ false ∷ more))) d
     ∙ ap (λ x. Reset (suc n) ∷ reading AfterReset x) (drop_run n true (false ∷ more))
 
 -- a reset at the end
@@ -107,32 +119,41 @@ reset_end mode zero h = absurd (omega arith)
 reset_end mode (suc n) h =
     let e : ones (true ∷ replicate n true) ≡ suc n = ap suc (ones_all n) in
     let f : first mode true (replicate n true) ≡ record { item = Reset (suc n); after = AfterReset; taken = suc n } =
-    first_reset mode true (replicate n true) (omega arith) ∙ ap (λ k. record { item = Reset k; after = AfterReset; taken = k }) e in
+    first_reset mode true (replicate n true) (omega arith)
+    ∙ ap (λ k. record { item = Reset k; after = AfterReset; taken = k }) e in
     let d : suc n - 1 ≡ n = omega arith in
-    from_first mode true (replicate n true) _ f ∙ ap (λ k. Reset (suc n) ∷ reading AfterReset (drop k (replicate n true))) d
-    ∙ ap (λ x. Reset (suc n) ∷ reading AfterReset x) (drop_whole n true) ∙ ap (λ x. Reset (suc n) ∷ x) (reading_none AfterReset)
+    from_first mode true (replicate n true) _ f
+    ∙ ap (λ k. Reset (suc n) ∷ reading AfterReset (drop k (replicate n true))) d
+    ∙ ap (λ x. Reset (suc n) ∷ reading AfterReset x) (drop_whole n true)
+    ∙ ap (λ x. Reset (suc n) ∷ x) (reading_none AfterReset)
 
 -- idle cycles, with a one after them
-pub idle_law : (n : ℕ) (more : List Bool) → 0 < n → reading Synced (replicate n false ++ true ∷ more) ≡ Idle n ∷ reading Synced (true ∷ more)
+pub idle_law : (n : ℕ) (more : List Bool) → 0 < n
+    → reading Synced (replicate n false ++ true ∷ more) ≡ Idle n ∷ reading Synced (true ∷ more)
 idle_law zero more h = absurd (omega arith)
 idle_law (suc n) more h =
-    let f : first Synced false (replicate n false ++ true ∷ more) ≡ record { item = Idle (suc n); after = Synced; taken = suc n } = rw (zeros_run n more) refl in
+    let f : first Synced false (replicate n false ++ true ∷ more) ≡
+    record { item = Idle (suc n); after = Synced; taken = suc n } = rw (zeros_run n more) refl in
     let d : suc n - 1 ≡ n = omega arith in
-    from_first Synced false (replicate n false ++ true ∷ more) _ f ∙ ap (λ k. Idle (suc n) ∷ reading Synced (drop k (replicate n false ++ true ∷ more))) d
+    from_first Synced false (replicate n false ++ true ∷ more) _ f
+    ∙ ap (λ k. Idle (suc n) ∷ reading Synced (drop k (replicate n false ++ true ∷ more))) d
     ∙ ap (λ x. Idle (suc n) ∷ reading Synced x) (drop_run n false (true ∷ more))
 
 pub idle_end : (n : ℕ) → 0 < n → reading Synced (replicate n false) ≡ Idle n ∷ []
 idle_end zero h = absurd (omega arith)
 idle_end (suc n) h =
-    let f : first Synced false (replicate n false) ≡ record { item = Idle (suc n); after = Synced; taken = suc n } = rw (zeros_all n) refl in
+    let f : first Synced false (replicate n false) ≡ record { item = Idle (suc n); after = Synced; taken = suc n } =
+    rw (zeros_all n) refl in
     let d : suc n - 1 ≡ n = omega arith in
-    from_first Synced false (replicate n false) _ f ∙ ap (λ k. Idle (suc n) ∷ reading Synced (drop k (replicate n false))) d
+    from_first Synced false (replicate n false) _ f
+    ∙ ap (λ k. Idle (suc n) ∷ reading Synced (drop k (replicate n false))) d
     ∙ ap (λ x. Idle (suc n) ∷ reading Synced x) (drop_whole n false) ∙ ap (λ x. Idle (suc n) ∷ x) (reading_none Synced)
 
 -- the switch, directly after a reset
 pub switch_law : (more : List Bool) → reading AfterReset (switch ++ more) ≡ Switch ∷ reading AfterSwitch more
 switch_law more =
-    let f : first AfterReset false (drop 1 switch ++ more) ≡ record { item = Switch; after = AfterSwitch; taken = 16 } = refl in
+    let f : first AfterReset false (drop 1 switch ++ more) ≡ record { item = Switch; after = AfterSwitch; taken = 16 } =
+    refl in
     from_first AfterReset false (drop 1 switch ++ more) _ f
 
 -- where no switch stands, the mode after a reset is synced
@@ -140,21 +161,25 @@ pub no_switch : (bits : List Bool) → begins_with switch bits ≡ false → rea
 no_switch [] e = reading_none AfterReset ∙ sym (reading_none Synced)
 no_switch (b ∷ bits) e =
     let f : first AfterReset b bits ≡ first Synced b bits = rw e refl in
-    reading_first AfterReset b bits ∙ ap (λ g. g.item ∷ reading g.after (drop (g.taken - 1) bits)) f ∙ sym (reading_first Synced b bits)
+    reading_first AfterReset b bits ∙ ap (λ g. g.item ∷ reading g.after (drop (g.taken - 1) bits)) f
+    ∙ sym (reading_first Synced b bits)
 
 -- a transaction
-pub tx_law : (bits : List Bool) (tx : Transaction) (n : ℕ) → stands bits ≡ Whole tx n → 0 < n → reading Synced bits ≡ Tx tx ∷ reading (mode_after tx.result) (drop n bits)
+pub tx_law : (bits : List Bool) (tx : Transaction) (n : ℕ) → stands bits ≡ Whole tx n → 0 < n
+    → reading Synced bits ≡ Tx tx ∷ reading (mode_after tx.result) (drop n bits)
 tx_law [] tx n e h = absurd cc
 tx_law (false ∷ bits) tx n e h = absurd cc
 tx_law (true ∷ bits) tx zero e h = absurd (omega arith)
 tx_law (true ∷ bits) tx (suc n) e h =
     let few : ones (true ∷ bits) < 50 = elim (few_ones (true ∷ bits)) [ inl b ↦ absurd cc | inr l ↦ omega arith ] in
-    let f : first Synced true bits ≡ whole tx (suc n) = first_few Synced true bits few ∙ ap (λ s. first_by s true bits) e in
+    let f : first Synced true bits ≡ whole tx (suc n) = first_few Synced true bits few
+    ∙ ap (λ s. first_by s true bits) e in
     let d : suc n - 1 ≡ n = omega arith in
     from_first Synced true bits _ f ∙ ap (λ k. Tx tx ∷ reading (mode_after tx.result) (drop k bits)) d
 
 -- a bit that belongs to nothing
-pub junk_law : (mode : Mode) (b : Bool) (bits : List Bool) → first mode b bits ≡ junk b → reading mode (b ∷ bits) ≡ Junk b ∷ reading Lost bits
+pub junk_law : (mode : Mode) (b : Bool) (bits : List Bool) → first mode b bits ≡ junk b
+    → reading mode (b ∷ bits) ≡ Junk b ∷ reading Lost bits
 junk_law mode b bits e = from_first mode b bits _ e
 
 -- the end that is cut off
@@ -162,18 +187,23 @@ pub cut_law : (mode : Mode) (b : Bool) (bits : List Bool) → first mode b bits 
     reading mode (b ∷ bits) ≡ Cut (record { len = length (b ∷ bits); bits = number (b ∷ bits) }) ∷ []
 cut_law mode b bits e =
     let h : length bits ≤ suc (length bits) - 1 = omega arith in
-    from_first mode b bits _ e ∙ ap (λ x. Cut (record { len = length (b ∷ bits); bits = number (b ∷ bits) }) ∷ reading Synced x) (drop_all (suc (length bits) - 1) bits h)
+    from_first mode b bits _ e
+    ∙ ap (λ x. Cut (record { len = length (b ∷ bits); bits = number (b ∷ bits) }) ∷ reading Synced x)
+    (drop_all (suc (length bits) - 1) bits h)
     ∙ ap (λ x. Cut (record { len = length (b ∷ bits); bits = number (b ∷ bits) }) ∷ x) (reading_none Synced)
 
 -- ---- when these come
 
-pub junk_synced : (bits : List Bool) → stands (true ∷ bits) ≡ Broken → all_ones (true ∷ bits) ≡ false → ones (true ∷ bits) < 50 → first Synced true bits ≡ junk true
-junk_synced bits e a h = first_few Synced true bits h ∙ ap (λ s. first_by s true bits) e ∙ ap (λ t. if t then cut (true ∷ bits) else junk true) a
+pub junk_synced : (bits : List Bool) → stands (true ∷ bits) ≡ Broken → all_ones (true ∷ bits) ≡ false
+    → ones (true ∷ bits) < 50 → first Synced true bits ≡ junk true
+junk_synced bits e a h = first_few Synced true bits h ∙ ap (λ s. first_by s true bits) e
+    ∙ ap (λ t. if t then cut (true ∷ bits) else junk true) a
 
 pub junk_lost : (b : Bool) (bits : List Bool) → ones (b ∷ bits) < 50 → first Lost b bits ≡ junk b
 junk_lost b bits h = first_few Lost b bits h
 
-pub junk_after_switch : (b : Bool) (bits : List Bool) → all_ones (b ∷ bits) ≡ false → ones (b ∷ bits) < 50 → first AfterSwitch b bits ≡ junk b
+pub junk_after_switch : (b : Bool) (bits : List Bool) → all_ones (b ∷ bits) ≡ false → ones (b ∷ bits) < 50
+    → first AfterSwitch b bits ≡ junk b
 junk_after_switch b bits a h = first_few AfterSwitch b bits h ∙ ap (λ t. if t then cut (b ∷ bits) else junk b) a
 
 pub cut_begun : (bits : List Bool) → stands (true ∷ bits) ≡ Begun → first Synced true bits ≡ cut (true ∷ bits)
@@ -196,19 +226,25 @@ few_all n h = let e = ones_all (suc n) in omega arith
 pub cut_ones : (n : ℕ) → suc n < 50 → first Synced true (replicate n true) ≡ cut (true ∷ replicate n true)
 cut_ones n h =
     let bits : List Bool = replicate n true in
-    let by : first Synced true bits ≡ first_by (stands (true ∷ bits)) true bits = first_few Synced true bits (few_all n h) in
+    let by : first Synced true bits ≡ first_by (stands (true ∷ bits)) true bits = first_few Synced true bits
+    (few_all n h) in
     elim (stands_ones n) [
       | inl e ↦ by ∙ ap (λ s. first_by s true bits) e
-      | inr e ↦ by ∙ ap (λ s. first_by s true bits) e ∙ ap (λ t. if t then cut (true ∷ bits) else junk true) (all_ones_replicate (suc n))
+      | inr e ↦ by ∙ ap (λ s. first_by s true bits) e
+          ∙ ap (λ t. if t then cut (true ∷ bits) else junk true) (all_ones_replicate (suc n))
     ]
 
-pub cut_ones_after_switch : (n : ℕ) → suc n < 50 → first AfterSwitch true (replicate n true) ≡ cut (true ∷ replicate n true)
+pub cut_ones_after_switch : (n : ℕ) → suc n < 50
+    → first AfterSwitch true (replicate n true) ≡ cut (true ∷ replicate n true)
 cut_ones_after_switch n h =
-    first_few AfterSwitch true (replicate n true) (few_all n h) ∙ ap (λ t. if t then cut (true ∷ replicate n true) else junk true) (all_ones_replicate (suc n))
+    first_few AfterSwitch true (replicate n true) (few_all n h)
+    ∙ ap (λ t. if t then cut (true ∷ replicate n true) else junk true) (all_ones_replicate (suc n))
 
-pub cut_ones_after_reset : (n : ℕ) → suc n < 50 → first AfterReset true (replicate n true) ≡ cut (true ∷ replicate n true)
+pub cut_ones_after_reset : (n : ℕ) → suc n < 50
+    → first AfterReset true (replicate n true) ≡ cut (true ∷ replicate n true)
 cut_ones_after_reset n h =
-    first_few AfterReset true (replicate n true) (few_all n h) ∙ sym (first_few Synced true (replicate n true) (few_all n h)) ∙ cut_ones n h
+    first_few AfterReset true (replicate n true) (few_all n h)
+    ∙ sym (first_few Synced true (replicate n true) (few_all n h)) ∙ cut_ones n h
 
 pub junk_ones : (n : ℕ) → suc n < 50 → first Lost true (replicate n true) ≡ junk true
 junk_ones n h = junk_lost true (replicate n true) (few_all n h)
@@ -216,7 +252,8 @@ junk_ones n h = junk_lost true (replicate n true) (few_all n h)
 -- ---- what decides nothing
 
 -- two of the readings begin with different items
-pub two_differ : (readings : List Bool → List Item) (x y : List Bool) (a b : Item) (r s : List Item) → Continues x → Continues y →
+pub two_differ : (readings : List Bool → List Item) (x y : List Bool) (a b : Item) (r s : List Item) → Continues x
+    → Continues y →
     readings x ≡ a ∷ r → readings y ≡ b ∷ s → a ≢ b → IsUndecided readings
 two_differ readings x y a b r s cx cy e f n = λ item all.
     let p : readings x ≡ item ∷ (all x cx).0 = (all x cx).1 in
@@ -242,9 +279,11 @@ len_of (Tx tx) = 0
 len_of (Junk b) = 0
 
 -- no item that is cut off has another length
-pub cut_len : (mode : Mode) (b : Bool) (bits : List Bool) (t : TxBits) → (first mode b bits).item ≡ Cut t → t.len ≡ length (b ∷ bits)
+pub cut_len : (mode : Mode) (b : Bool) (bits : List Bool) (t : TxBits) → (first mode b bits).item ≡ Cut t
+    → t.len ≡ length (b ∷ bits)
 cut_len mode b bits t =
-    chosen (nat_le 50 (ones (b ∷ bits))) (reset_of (b ∷ bits)) (first_short mode b bits) (λ f. f.item ≡ Cut t → t.len ≡ length (b ∷ bits))
+    chosen (nat_le 50 (ones (b ∷ bits))) (reset_of (b ∷ bits)) (first_short mode b bits)
+    (λ f. f.item ≡ Cut t → t.len ≡ length (b ∷ bits))
     (λ e g. absurd cc) (λ e. short mode b bits)
   where
     by_ones : (b : Bool) (bits : List Bool) → (cut_or_lost b bits).item ≡ Cut t → t.len ≡ length (b ∷ bits)
@@ -261,9 +300,12 @@ cut_len mode b bits t =
     synced false bits g = absurd cc
     synced true bits g = by_stand (stands (true ∷ bits)) true bits g
 
-    short : (mode : Mode) (b : Bool) (bits : List Bool) → (first_short mode b bits).item ≡ Cut t → t.len ≡ length (b ∷ bits)
+    short : (mode : Mode) (b : Bool) (bits : List Bool) → (first_short mode b bits).item ≡ Cut t
+        → t.len ≡ length (b ∷ bits)
     short Synced b bits = synced b bits
     short AfterReset b bits =
-        chosen (begins_with switch (b ∷ bits)) (record { item = Switch; after = AfterSwitch; taken = 16 }) (first_synced b bits) (λ f. f.item ≡ Cut t → t.len ≡ length (b ∷ bits)) (λ e g. absurd cc) (λ e. synced b bits)
+        chosen (begins_with switch (b ∷ bits)) (record { item = Switch; after = AfterSwitch; taken = 16 })
+        (first_synced b bits) (λ f. f.item ≡ Cut t → t.len ≡ length (b ∷ bits)) (λ e g. absurd cc)
+        (λ e. synced b bits)
     short AfterSwitch b bits = by_ones b bits
     short Lost b bits = λ g. absurd cc

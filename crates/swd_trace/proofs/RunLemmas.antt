@@ -12,30 +12,33 @@ use Rattle.swd_trace.proofs.RereadLemmas.{rereads}
 use Rattle.std.proofs.lemmas.List.{append-nil}
 
 -- the items given so far are those that the bits so far decide
-pub read_decided : (d : Decoder) (bits : List Bool) (items : List Item) → HasRead d bits items → IsUndecided (rest d) → IsDecided bits items
+pub read_decided : (d : Decoder) (bits : List Bool) (items : List Item) → HasRead d bits items → IsUndecided (rest d)
+    → IsDecided bits items
 read_decided d bits items h u = longest_of items (λ more. reading_of (bits ++ more)) (rest d) h u
 
 -- some bits more, which give some items more
-pub read_more : (old new : Decoder) (bits next : List Bool) (items given : List Item) → ((more : List Bool) → given ++ rest new more ≡ rest old (next ++ more)) →
+pub read_more : (old new : Decoder) (bits next : List Bool) (items given : List Item)
+    → ((more : List Bool) → given ++ rest new more ≡ rest old (next ++ more)) →
     HasRead old bits items → HasRead new (bits ++ next) (items ++ given)
 read_more old new bits next items given law h = λ more.
-    append_assoc items given (rest new more) ∙ ap (λ x. items ++ x) (law more) ∙ h (next ++ more) ∙ ap reading_of (sym (append_assoc bits next more))
+    append_assoc items given (rest new more) ∙ ap (λ x. items ++ x) (law more) ∙ h (next ++ more)
+    ∙ ap reading_of (sym (append_assoc bits next more))
 
-pub read_bits : (old new : List Bool → List Item) (bits next : List Bool) (items : List Item) → ((more : List Bool) → new more ≡ old (next ++ more)) →
-    ((more : List Bool) → items ++ old more ≡ reading_of (bits ++ more)) → (more : List Bool) → items ++ new more ≡ reading_of ((bits ++ next) ++ more)
+pub read_bits : (old new : List Bool → List Item) (bits next : List Bool) (items : List Item)
+    → ((more : List Bool) → new more ≡ old (next ++ more)) →
+    ((more : List Bool) → items ++ old more ≡ reading_of (bits ++ more)) → (more : List Bool)
+    → items ++ new more ≡ reading_of ((bits ++ next) ++ more)
 read_bits old new bits next items law h more =
     ap (λ x. items ++ x) (law more) ∙ h (next ++ more) ∙ ap reading_of (sym (append_assoc bits next more))
 
-pub read_items : (old new : Decoder) (bits : List Bool) (items : List Item) (item : Item) → ((more : List Bool) → rest old more ≡ item ∷ rest new more) →
-    HasRead old bits items → HasRead new bits (items ++ item ∷ [])
-read_items old new bits items item law h = λ more.
-    append_assoc items (item ∷ []) (rest new more) ∙ ap (λ x. items ++ x) (sym (law more)) ∙ h more
-
 -- all items of a run are the reading of all bits
-pub read_whole : (d last : Decoder) (bits : List Bool) (items given : List Item) → given ++ rest last [] ≡ rest d [] → rest last [] ≡ [] → HasRead d bits items →
+pub read_whole : (d last : Decoder) (bits : List Bool) (items given : List Item) → given ++ rest last [] ≡ rest d []
+    → rest last [] ≡ [] → HasRead d bits items →
     items ++ given ≡ reading_of bits
 read_whole d last bits items given law none h =
-    ap (λ x. items ++ x) (sym (append-nil given) ∙ ap (λ x. given ++ x) (sym none) ∙ law) ∙ h [] ∙ ap reading_of (append-nil bits)
+    ap (λ x. items ++ x) (sym (append-nil given) ∙ ap (λ x. given ++ x) (sym none) ∙ law) ∙ h []
+    ∙ ap reading_of (append-nil bits)
 
-pub reads_again : (bits : List Bool) (items : List Item) → items ≡ reading_of bits → reading_of (bits_of_items items) ≡ items
+pub reads_again : (bits : List Bool) (items : List Item) → items ≡ reading_of bits
+    → reading_of (bits_of_items items) ≡ items
 reads_again bits items e = ap (λ x. reading_of (bits_of_items x)) e ∙ rereads Synced bits ∙ sym e

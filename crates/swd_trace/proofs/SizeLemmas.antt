@@ -1,5 +1,6 @@
 -- How many bits items have, and how many bytes their lines.
-use Rattle.std.proofs.Common.{◌≡◌, ℕ, ◌+◌, ◌^◌, ◌<◌, ◌≤◌, inl, inr, Bool, true, false, List, [], ◌∷◌, ◌++◌, length, append_assoc, refl, sym, ap, ◌∙◌, arith}
+use Rattle.std.proofs.Common.{◌≡◌, ℕ, ◌+◌, ◌^◌, ◌<◌, ◌≤◌, inl, inr, Bool, true, false, List, [], ◌∷◌, ◌++◌, length}
+use Rattle.std.proofs.Common.{append_assoc, refl, sym, ap, ◌∙◌, arith}
 use Rattle.std.specs.Fmt.{decimal}
 use Rattle.std.proofs.lemmas.Fmt.{length-decimal-le}
 use Rattle.std.proofs.lemmas.List.{length-append, length-map}
@@ -44,10 +45,18 @@ length-parity true = omega arith
 length-parity false = omega arith
 
 seen_small : (seen : ℕ) → IsEnd (NoAck seen) → seen < 2 ^ 64
-seen_small seen h = elim h [ inl e ↦ omega arith | inr h ↦ elim h [ inl e ↦ omega arith | inr h ↦ elim h [ inl e ↦ omega arith | inr h ↦ elim h [ inl e ↦ omega arith | inr e ↦ omega arith ] ] ] ]
+seen_small seen h = elim h [
+  | inl e ↦ omega arith
+  | inr h ↦ elim h [
+    | inl e ↦ omega arith
+    | inr h ↦ elim h
+        [ inl e ↦ omega arith | inr h ↦ elim h [ inl e ↦ omega arith | inr e ↦ omega arith ] ]
+  ]
+]
 
 length-outcome : (end : TxEnd) → IsEnd end → length (outcome end) ≤ 25
-length-outcome (Moved word ok) h = omega (arith, length-append (parity ok) (hex8 word), length-parity ok, length-hex8 word)
+length-outcome (Moved word ok) h = omega
+    (arith, length-append (parity ok) (hex8 word), length-parity ok, length-hex8 word)
 length-outcome Wait h = omega arith
 length-outcome Fault h = omega arith
 length-outcome (NoAck seen) h = let n = length-decimal seen (seen_small seen h) in omega (arith, n)
@@ -58,7 +67,17 @@ length-tx_line tx h =
     let a = address tx.request.addr in
     let d = direction tx.request.read in
     let o = outcome tx.result in
-    omega (arith, length-append ((p ++ a) ++ d) o, length-append (p ++ a) d, length-append p a, length-port tx.request.ap, length-address tx.request.addr, length-direction tx.request.read, length-outcome tx.result h)
+    omega (
+      arith,
+      length-append ((p ++ a) ++ d) o,
+      length-append (p ++ a) d,
+      length-append p a,
+      length-port
+          tx.request.ap,
+      length-address tx.request.addr,
+      length-direction tx.request.read,
+      length-outcome tx.result h,
+    )
 
 length-item_line : (item : Item) → IsLegal item → length (item_line item) ≤ 64
 length-item_line (Reset n) h = omega (arith, length-decimal n h)
@@ -74,12 +93,15 @@ pub length-line : (line : List ℕ) (item : Item) → IsLine line item → lengt
 length-line line item h = let n = length-item_line item h.legal in let e = ap length h.text in omega (arith, n, e)
 
 -- one item more
-pub bits_more : (items others : List Item) → bits_of_items (items ++ others) ≡ bits_of_items items ++ bits_of_items others
+pub bits_more : (items others : List Item)
+    → bits_of_items (items ++ others) ≡ bits_of_items items ++ bits_of_items others
 bits_more [] others = refl
 bits_more (item ∷ items) others =
-    ap (λ x. item_bits item ++ x) (bits_more items others) ∙ sym (append_assoc (item_bits item) (bits_of_items items) (bits_of_items others))
+    ap (λ x. item_bits item ++ x) (bits_more items others)
+    ∙ sym (append_assoc (item_bits item) (bits_of_items items) (bits_of_items others))
 
-pub length_more : (items : List Item) (item : Item) → length (bits_of_items (items ++ item ∷ [])) ≡ length (bits_of_items items) + length (item_bits item)
+pub length_more : (items : List Item) (item : Item)
+    → length (bits_of_items (items ++ item ∷ [])) ≡ length (bits_of_items items) + length (item_bits item)
 length_more items item =
     ap length (bits_more items (item ∷ [])) ∙ length-append (bits_of_items items) (item_bits item ++ [])
     ∙ ap (λ n. length (bits_of_items items) + n) (length-append (item_bits item) [] ∙ omega arith)

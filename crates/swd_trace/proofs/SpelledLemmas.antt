@@ -1,5 +1,6 @@
 -- Laws of bits that are transactions alone.
-use Rattle.std.proofs.Common.{◌≡◌, ℕ, zero, suc, ◌+◌, ◌<◌, ◌≤◌, Bool, true, false, List, [], ◌∷◌, ◌++◌, length, map, take, drop, replicate, append_assoc, refl, sym, ap, ◌∙◌, subst, arith}
+use Rattle.std.proofs.Common.{◌≡◌, ℕ, zero, suc, ◌+◌, ◌<◌, ◌≤◌, Bool, true, false, List, [], ◌∷◌, ◌++◌, length, map}
+use Rattle.std.proofs.Common.{take, drop, replicate, append_assoc, refl, sym, ap, ◌∙◌, subst, arith}
 use Rattle.std.proofs.lemmas.List.{length-append, drop_at}
 use Rattle.swd_bits.specs.Wire.{request}
 use Rattle.swd_bits.specs.Transactions.{Spells, ending}
@@ -38,7 +39,8 @@ read_as (tx ∷ txs) bits h =
     let whole : stands (front ++ rest) ≡ Whole tx (length front) = spelled_stands tx front rest h.3 in
     ap (reading Synced) h.2 ∙ tx_law (front ++ rest) tx (length front) whole (omega arith)
     ∙ ap (λ m. Tx tx ∷ reading m (drop (length front) (front ++ rest))) (stays_synced tx.result h.4)
-    ∙ ap (λ x. Tx tx ∷ reading Synced x) (drop_at front rest (length front) refl) ∙ ap (λ x. Tx tx ∷ x) (read_as txs rest h.5)
+    ∙ ap (λ x. Tx tx ∷ reading Synced x) (drop_at front rest (length front) refl)
+    ∙ ap (λ x. Tx tx ∷ x) (read_as txs rest h.5)
 
 -- ---- no fifty ones stand in them
 
@@ -63,10 +65,12 @@ calm_none m (true ∷ front) back h = calm_none (suc m) front back h
 calm_none m (false ∷ front) back h = calm_none 0 front back h.1
 
 -- a few bits of any value, and what comes after them
-calm_any : (bits rest : List Bool) (m : ℕ) → m + length bits < 50 → ((k : ℕ) → k ≤ m + length bits → Calm k rest) → Calm m (bits ++ rest)
+calm_any : (bits rest : List Bool) (m : ℕ) → m + length bits < 50 → ((k : ℕ) → k ≤ m + length bits → Calm k rest)
+    → Calm m (bits ++ rest)
 calm_any [] rest m h after = after m (omega arith)
 calm_any (true ∷ bits) rest m h after = calm_any bits rest (suc m) (omega arith) (λ k l. after k (omega arith))
-calm_any (false ∷ bits) rest m h after = (omega arith, calm_any bits rest 0 (omega arith) (λ k l. after k (omega arith)))
+calm_any (false ∷ bits) rest m h after =
+    (omega arith, calm_any bits rest 0 (omega arith) (λ k l. after k (omega arith)))
 
 -- a request has a zero behind six bits
 record Stops (front : List Bool) : Type 0 where
@@ -77,7 +81,8 @@ record Stops (front : List Bool) : Type 0 where
   pub rest : length others ≤ 39
 
 asked_stop : (port read : Bool) (addr : Reg4) (rest : List Bool) →
-    (six : List Bool) × (length six ≡ 6) × (request (record { ap = port; read = read; addr = addr }) ++ rest ≡ six ++ false ∷ true ∷ rest)
+    (six : List Bool) × (length six ≡ 6)
+    × (request (record { ap = port; read = read; addr = addr }) ++ rest ≡ six ++ false ∷ true ∷ rest)
 asked_stop port read R0 rest = (take 6 (request (record { ap = port; read = read; addr = R0 })), refl, refl)
 asked_stop port read R4 rest = (take 6 (request (record { ap = port; read = read; addr = R4 })), refl, refl)
 asked_stop port read R8 rest = (take 6 (request (record { ap = port; read = read; addr = R8 })), refl, refl)
@@ -95,7 +100,8 @@ stops tx front h =
     let q = asked_stop tx.request.ap tx.request.read tx.request.addr after in
     let is : front ≡ q.0 ++ false ∷ true ∷ after = h.3 ∙ q.2 in
     let l : length front ≡ length_of tx.result = ap length h.3 ∙ length_spelling tx h.1 h.2 in
-    let m : length front ≡ length q.0 + length (false ∷ true ∷ after) = ap length is ∙ length-append q.0 (false ∷ true ∷ after) in
+    let m : length front ≡ length q.0 + length (false ∷ true ∷ after) = ap length is
+    ∙ length-append q.0 (false ∷ true ∷ after) in
     let six : length q.0 ≡ 6 = q.1 in
     let k : length_of tx.result ≤ 46 = most tx.result in
     record { six = q.0; others = true ∷ after; is = is; few = six; rest = omega arith }
@@ -107,9 +113,12 @@ all_calm (tx ∷ txs) bits m h e =
     let s = stops tx e.0 e.3 in
     let six : length s.six ≡ 6 = s.few in
     let others : length s.others ≤ 39 = s.rest in
-    let is : bits ≡ s.six ++ (false ∷ (s.others ++ rest)) = e.2 ∙ ap (λ x. x ++ rest) s.is ∙ append_assoc s.six (false ∷ s.others) rest in
-    let after : Calm 0 (s.others ++ rest) = calm_any s.others rest 0 (omega arith) (λ k l. all_calm txs rest k (omega arith) e.5) in
+    let is : bits ≡ s.six ++ (false ∷ (s.others ++ rest)) = e.2 ∙ ap (λ x. x ++ rest) s.is
+    ∙ append_assoc s.six (false ∷ s.others) rest in
+    let after : Calm 0 (s.others ++ rest) = calm_any s.others rest 0 (omega arith)
+    (λ k l. all_calm txs rest k (omega arith) e.5) in
     subst (Calm m) (sym is) (calm_any s.six (false ∷ (s.others ++ rest)) m (omega arith) (λ k l. (omega arith, after)))
 
-pub no_fifty : (txs : List Transaction) (bits : List Bool) → AreSpelled txs bits → (front back : List Bool) → bits ≡ front ++ (replicate 50 true ++ back) → ⊥
+pub no_fifty : (txs : List Transaction) (bits : List Bool) → AreSpelled txs bits → (front back : List Bool)
+    → bits ≡ front ++ (replicate 50 true ++ back) → ⊥
 no_fifty txs bits h front back e = calm_none 0 front back (subst (Calm 0) e (all_calm txs bits 0 (omega arith) h))

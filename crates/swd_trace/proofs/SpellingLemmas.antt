@@ -1,5 +1,6 @@
 -- What stands at the front of some bits is a spelling of a transaction, or the beginning of one.
-use Rattle.std.proofs.Common.{◌≡◌, ℕ, zero, suc, ◌+◌, ◌^◌, ◌<◌, ◌≤◌, Bool, true, false, not, List, [], ◌∷◌, ◌++◌, length, take, nat_le, append_assoc, refl, sym, ap, ◌∙◌, subst, arith, inl, inr}
+use Rattle.std.proofs.Common.{◌≡◌, ℕ, zero, suc, ◌+◌, ◌^◌, ◌<◌, ◌≤◌, Bool, true, false, not, List, [], ◌∷◌, ◌++◌}
+use Rattle.std.proofs.Common.{length, take, nat_le, append_assoc, refl, sym, ap, ◌∙◌, subst, arith, inl, inr}
 use Rattle.std.specs.Prelude.{if◌then◌else◌}
 use Rattle.std.proofs.lemmas.List.{length-append, length-take-le, take_at, take-take}
 use Rattle.std.proofs.lemmas.Bool.{leb-true, le-leb}
@@ -14,7 +15,8 @@ use Rattle.swd_bits.specs.declared.tx.TxEnd.TheVariants.{Moved, Wait, Fault, NoA
 use Rattle.swd_bits.specs.declared.tx.Tx.{Tx}
 use Rattle.swd_bits.proofs.BitsLemmas.{number-low_bits, low_bits-number, number_lt, length-low_bits}
 use Rattle.swd_bits.proofs.TxLemmas.{length_request, length_phase_with}
-use Rattle.swd_trace.specs.Stands.{Whole, stands, after_ok, after_ack, after_request, after_parity, moved_in, phase_in, reg4_at}
+use Rattle.swd_trace.specs.Stands.{Whole, stands, after_ok, after_ack, after_request, after_parity, moved_in, phase_in}
+use Rattle.swd_trace.specs.Stands.{reg4_at}
 use Rattle.swd_trace.proofs.StandLemmas.{chosen}
 
 -- the parity with one bit more
@@ -36,7 +38,8 @@ even_tells bits false e = sym (odd_push bits false) ∙ e
 -- ---- requests
 
 asked_at : (ap read : Bool) (addr : Reg4) (bits : List Bool) →
-    stands (request (record { ap = ap; read = read; addr = addr }) ++ bits) ≡ after_request (record { ap = ap; read = read; addr = addr }) bits
+    stands (request (record { ap = ap; read = read; addr = addr }) ++ bits) ≡ after_request
+    (record { ap = ap; read = read; addr = addr }) bits
 asked_at true true R0 bits = refl
 asked_at true true R4 bits = refl
 asked_at true true R8 bits = refl
@@ -61,10 +64,14 @@ asked q bits = asked_at q.ap q.read q.addr bits
 -- eight bits that are one
 pub request_is : (port read a b p : Bool) → odd (port ∷ read ∷ a ∷ b ∷ p ∷ []) ≡ false →
     request (record { ap = port; read = read; addr = reg4_at a b }) ≡ true ∷ port ∷ read ∷ a ∷ b ∷ p ∷ false ∷ true ∷ []
-request_is port read false false p e = ap (λ x. true ∷ port ∷ read ∷ false ∷ false ∷ x ∷ false ∷ true ∷ []) (even_tells (port ∷ read ∷ false ∷ false ∷ []) p e)
-request_is port read true false p e = ap (λ x. true ∷ port ∷ read ∷ true ∷ false ∷ x ∷ false ∷ true ∷ []) (even_tells (port ∷ read ∷ true ∷ false ∷ []) p e)
-request_is port read false true p e = ap (λ x. true ∷ port ∷ read ∷ false ∷ true ∷ x ∷ false ∷ true ∷ []) (even_tells (port ∷ read ∷ false ∷ true ∷ []) p e)
-request_is port read true true p e = ap (λ x. true ∷ port ∷ read ∷ true ∷ true ∷ x ∷ false ∷ true ∷ []) (even_tells (port ∷ read ∷ true ∷ true ∷ []) p e)
+request_is port read false false p e = ap (λ x. true ∷ port ∷ read ∷ false ∷ false ∷ x ∷ false ∷ true ∷ [])
+    (even_tells (port ∷ read ∷ false ∷ false ∷ []) p e)
+request_is port read true false p e = ap (λ x. true ∷ port ∷ read ∷ true ∷ false ∷ x ∷ false ∷ true ∷ [])
+    (even_tells (port ∷ read ∷ true ∷ false ∷ []) p e)
+request_is port read false true p e = ap (λ x. true ∷ port ∷ read ∷ false ∷ true ∷ x ∷ false ∷ true ∷ [])
+    (even_tells (port ∷ read ∷ false ∷ true ∷ []) p e)
+request_is port read true true p e = ap (λ x. true ∷ port ∷ read ∷ true ∷ true ∷ x ∷ false ∷ true ∷ [])
+    (even_tells (port ∷ read ∷ true ∷ true ∷ []) p e)
 
 -- ---- data phases
 
@@ -91,7 +98,8 @@ phase_is phase h =
     let r = last_bit 32 phase h in
     let front = take 32 phase in
     let l : length front ≡ 32 = length-take-le 32 phase (omega arith) in
-    let word : low_bits 32 (number front) ≡ front = ap (λ n. low_bits n (number front)) (sym l) ∙ low_bits-number front in
+    let word : low_bits 32 (number front) ≡ front = ap (λ n. low_bits n (number front)) (sym l)
+    ∙ low_bits-number front in
     let parity : odd phase ≡ (if r.0 then not (odd front) else odd front) = ap odd r.1 ∙ odd_push front r.0 in
     let bit : (if not (odd phase) then odd front else not (odd front)) ≡ r.0 =
     ap (λ x. if not x then odd front else not (odd front)) parity ∙ parity_tells (odd front) r.0 in
@@ -112,17 +120,22 @@ unfolding phase_with
 moved_is word ok h =
     let front = low_bits 32 word in
     let p : Bool = if ok then odd front else not (odd front) in
-    let w : number (take 32 (front ++ p ∷ [])) ≡ word = ap number (take_at front (p ∷ []) 32 (length-low_bits 32 word)) ∙ number-low_bits 32 word h in
+    let w : number (take 32 (front ++ p ∷ [])) ≡ word = ap number (take_at front (p ∷ []) 32 (length-low_bits 32 word))
+    ∙ number-low_bits 32 word h in
     let r : not (odd (front ++ p ∷ [])) ≡ ok = ap not (odd_push front p) ∙ right_of (odd front) ok in
     ap (λ x. moved_of x (not (odd (front ++ p ∷ [])))) w ∙ ap (moved_of word) r
 
 -- ---- a spelling stands
 
-length_34 : (read u : Bool) (phase more : List Bool) → length phase ≡ 33 → length (moved read u phase ++ more) ≡ 34 + length more
-length_34 true u phase more h = length-append (phase ++ u ∷ []) more ∙ ap (λ n. n + length more) (length-append phase (u ∷ []) ∙ ap (λ n. n + 1) h)
-length_34 false u phase more h = let e : length (phase ++ more) ≡ 33 + length more = length-append phase more ∙ ap (λ n. n + length more) h in omega arith
+length_34 : (read u : Bool) (phase more : List Bool) → length phase ≡ 33
+    → length (moved read u phase ++ more) ≡ 34 + length more
+length_34 true u phase more h = length-append (phase ++ u ∷ []) more
+    ∙ ap (λ n. n + length more) (length-append phase (u ∷ []) ∙ ap (λ n. n + 1) h)
+length_34 false u phase more h = let e : length (phase ++ more) ≡ 33 + length more = length-append phase more
+    ∙ ap (λ n. n + length more) h in omega arith
 
-phase_found : (read u : Bool) (phase more : List Bool) → length phase ≡ 33 → phase_in read (moved read u phase ++ more) ≡ phase
+phase_found : (read u : Bool) (phase more : List Bool) → length phase ≡ 33
+    → phase_in read (moved read u phase ++ more) ≡ phase
 phase_found true u phase more h = ap (take 33) (append_assoc phase (u ∷ []) more) ∙ take_at phase (u ∷ more) 33 h
 phase_found false u phase more h = take_at phase more 33 h
 
@@ -133,8 +146,11 @@ stands_ok : (q : Request) (word : ℕ) (ok u : Bool) (more : List Bool) → word
     after_ok q (moved q.read u (phase_with word ok) ++ more) ≡ Whole (tx_of q (Moved word ok)) 46
 stands_ok q word ok u more h =
     let l = length_34 q.read u (phase_with word ok) more (length_phase_with word ok) in
-    let t : nat_le 34 (length (moved q.read u (phase_with word ok) ++ more)) ≡ true = le-leb 34 (length (moved q.read u (phase_with word ok) ++ more)) (omega arith) in
-    rw t (ap (λ p. Whole (tx_of q (moved_in p)) 46) (phase_found q.read u (phase_with word ok) more (length_phase_with word ok)) ∙ ap (λ m. Whole (tx_of q m) 46) (moved_is word ok h))
+    let t : nat_le 34 (length (moved q.read u (phase_with word ok) ++ more)) ≡ true = le-leb 34
+    (length (moved q.read u (phase_with word ok) ++ more)) (omega arith) in
+    rw t (ap (λ p. Whole (tx_of q (moved_in p)) 46)
+    (phase_found q.read u (phase_with word ok) more (length_phase_with word ok))
+    ∙ ap (λ m. Whole (tx_of q m) 46) (moved_is word ok h))
 
 -- how many bits a transaction has after its request and a turnaround
 abbrev pub length_of : TxEnd → ℕ
@@ -166,11 +182,13 @@ stands_end q (NoAck seen) t u more h =
     ap (λ x. after_request q (t ∷ x)) (append_assoc (low_bits 3 seen) [] more) ∙ stands_none q t seen more h
 
 length_ending : (read : Bool) (end : TxEnd) (u : Bool) → 9 + length (ending read end u) ≡ length_of end
-length_ending true (Moved word ok) u = let e = length-append (phase_with word ok) (u ∷ []) in let f = length_phase_with word ok in omega arith
+length_ending true (Moved word ok) u = let e = length-append (phase_with word ok) (u ∷ []) in let f = length_phase_with
+    word ok in omega arith
 length_ending false (Moved word ok) u = let f = length_phase_with word ok in omega arith
 length_ending read Wait u = refl
 length_ending read Fault u = refl
-length_ending read (NoAck seen) u = let e = length-append (low_bits 3 seen) [] in let f = length-low_bits 3 seen in omega arith
+length_ending read (NoAck seen) u = let e = length-append (low_bits 3 seen) [] in let f = length-low_bits 3 seen in
+    omega arith
 
 pub length_spelling : (tx : Tx) (t u : Bool) → length (spelling tx t u) ≡ length_of tx.result
 length_spelling tx t u =
@@ -217,7 +235,8 @@ word_lt phase h =
     let l : length (take 32 phase) ≡ 32 = length-take-le 32 phase (omega arith) in
     subst (λ n. number (take 32 phase) < 2 ^ n) l (number_lt (take 32 phase))
 
-found : (q : Request) (t : Bool) (bits : List Bool) (end : TxEnd) (tx : Tx) (m n k : ℕ) (u : Bool) → Whole (tx_of q end) m ≡ Whole tx n → m ≡ 9 + k →
+found : (q : Request) (t : Bool) (bits : List Bool) (end : TxEnd) (tx : Tx) (m n k : ℕ) (u : Bool)
+    → Whole (tx_of q end) m ≡ Whole tx n → m ≡ 9 + k →
     IsEnd end → take k bits ≡ ending q.read end u → Found q t bits tx n
 found q t bits end tx m n k u e h fits s =
     let same : tx_of q end ≡ tx = cc in
@@ -225,7 +244,8 @@ found q t bits end tx m n k u e h fits s =
     let spelled : Spells (tx_of q end) (request q ++ t ∷ take k bits) = (fits, t, u, ap (λ x. request q ++ t ∷ x) s) in
     record { more = k; long = omega arith; spelled = subst (λ x. Spells x (request q ++ t ∷ take k bits)) same spelled }
 
-ok_found : (q : Request) (t : Bool) (bits : List Bool) (tx : Tx) (n : ℕ) → after_ok q bits ≡ Whole tx n → Found q t (true ∷ false ∷ false ∷ bits) tx n
+ok_found : (q : Request) (t : Bool) (bits : List Bool) (tx : Tx) (n : ℕ) → after_ok q bits ≡ Whole tx n
+    → Found q t (true ∷ false ∷ false ∷ bits) tx n
 ok_found q t bits tx n =
     chosen (nat_le 34 (length bits)) _ _ (λ s. s ≡ Whole tx n → Found q t (true ∷ false ∷ false ∷ bits) tx n)
     (λ test e.
@@ -237,27 +257,38 @@ ok_found q t bits tx n =
     (ap (λ x. true ∷ false ∷ false ∷ x) (parts.1.1 ∙ ap (moved q.read parts.1.0) (sym spelled))))
     (λ test e. absurd cc)
 
-ack_found : (q : Request) (t a b c : Bool) (bits : List Bool) (tx : Tx) (n : ℕ) → after_ack q a b c bits ≡ Whole tx n → Found q t (a ∷ b ∷ c ∷ bits) tx n
+ack_found : (q : Request) (t a b c : Bool) (bits : List Bool) (tx : Tx) (n : ℕ) → after_ack q a b c bits ≡ Whole tx n
+    → Found q t (a ∷ b ∷ c ∷ bits) tx n
 unfolding low_bits
 ack_found q t true false false bits tx n e = ok_found q t bits tx n e
 ack_found q t false true false [] tx n e = absurd cc
-ack_found q t false true false (u ∷ bits) tx n e = found q t (false ∷ true ∷ false ∷ u ∷ bits) Wait tx 13 n 4 u e refl tt refl
+ack_found q t false true false (u ∷ bits) tx n e = found q t (false ∷ true ∷ false ∷ u ∷ bits) Wait tx 13 n 4 u e refl
+    tt refl
 ack_found q t false false true [] tx n e = absurd cc
-ack_found q t false false true (u ∷ bits) tx n e = found q t (false ∷ false ∷ true ∷ u ∷ bits) Fault tx 13 n 4 u e refl tt refl
-ack_found q t true true true bits tx n e = found q t (true ∷ true ∷ true ∷ bits) (NoAck 7) tx 12 n 3 true e refl (inr (inr (inr (inr refl)))) refl
-ack_found q t true true false bits tx n e = found q t (true ∷ true ∷ false ∷ bits) (NoAck 3) tx 12 n 3 true e refl (inr (inl refl)) refl
-ack_found q t true false true bits tx n e = found q t (true ∷ false ∷ true ∷ bits) (NoAck 5) tx 12 n 3 true e refl (inr (inr (inl refl))) refl
-ack_found q t false true true bits tx n e = found q t (false ∷ true ∷ true ∷ bits) (NoAck 6) tx 12 n 3 true e refl (inr (inr (inr (inl refl)))) refl
-ack_found q t false false false bits tx n e = found q t (false ∷ false ∷ false ∷ bits) (NoAck 0) tx 12 n 3 true e refl (inl refl) refl
+ack_found q t false false true (u ∷ bits) tx n e = found q t (false ∷ false ∷ true ∷ u ∷ bits) Fault tx 13 n 4 u e refl
+    tt refl
+ack_found q t true true true bits tx n e = found q t (true ∷ true ∷ true ∷ bits) (NoAck 7) tx 12 n 3 true e refl
+    (inr (inr (inr (inr refl)))) refl
+ack_found q t true true false bits tx n e = found q t (true ∷ true ∷ false ∷ bits) (NoAck 3) tx 12 n 3 true e refl
+    (inr (inl refl)) refl
+ack_found q t true false true bits tx n e = found q t (true ∷ false ∷ true ∷ bits) (NoAck 5) tx 12 n 3 true e refl
+    (inr (inr (inl refl))) refl
+ack_found q t false true true bits tx n e = found q t (false ∷ true ∷ true ∷ bits) (NoAck 6) tx 12 n 3 true e refl
+    (inr (inr (inr (inl refl)))) refl
+ack_found q t false false false bits tx n e = found q t (false ∷ false ∷ false ∷ bits) (NoAck 0) tx 12 n 3 true e refl
+    (inl refl) refl
 
-take_found : (q : Request) (t : Bool) (bits : List Bool) (tx : Tx) (n : ℕ) → Found q t bits tx n → Spells tx (take n (request q ++ t ∷ bits))
+take_found : (q : Request) (t : Bool) (bits : List Bool) (tx : Tx) (n : ℕ) → Found q t bits tx n
+    → Spells tx (take n (request q ++ t ∷ bits))
 take_found q t bits tx n f =
     let l : length (request q) ≡ 8 = length_request q in
     let e : take n (request q ++ t ∷ bits) ≡ request q ++ t ∷ take f.more bits =
-    ap (λ k. take k (request q ++ t ∷ bits)) (f.long ∙ omega arith) ∙ take_past (request q) (t ∷ bits) (suc f.more) 8 l in
+    ap (λ k. take k (request q ++ t ∷ bits)) (f.long ∙ omega arith)
+    ∙ take_past (request q) (t ∷ bits) (suc f.more) 8 l in
     subst (Spells tx) (sym e) f.spelled
   where
-    take_past : (front bits : List Bool) (k m : ℕ) → length front ≡ m → take (m + k) (front ++ bits) ≡ front ++ take k bits
+    take_past : (front bits : List Bool) (k m : ℕ) → length front ≡ m
+        → take (m + k) (front ++ bits) ≡ front ++ take k bits
     take_past [] bits k m h = let e : m + k ≡ k = omega arith in ap (λ j. take j bits) e
     take_past (b ∷ front) bits k zero h = absurd (omega arith)
     take_past (b ∷ front) bits k (suc m) h =
@@ -265,7 +296,8 @@ take_found q t bits tx n f =
         let e : suc m + k ≡ suc (m + k) = omega arith in
         ap (λ j. take j (b ∷ (front ++ bits))) e ∙ ap (λ x. b ∷ x) (take_past front bits k m l)
 
-parity_found : (q : Request) (bits : List Bool) (tx : Tx) (n : ℕ) (front : List Bool) → request q ≡ front ++ false ∷ true ∷ [] → after_parity q bits ≡ Whole tx n →
+parity_found : (q : Request) (bits : List Bool) (tx : Tx) (n : ℕ) (front : List Bool)
+    → request q ≡ front ++ false ∷ true ∷ [] → after_parity q bits ≡ Whole tx n →
     Spells tx (take n (front ++ bits))
 parity_found q [] tx n front h e = absurd cc
 parity_found q (true ∷ bits) tx n front h e = absurd cc
@@ -289,6 +321,8 @@ stands_spelled (true ∷ port ∷ read ∷ []) tx n e = absurd cc
 stands_spelled (true ∷ port ∷ read ∷ a ∷ []) tx n e = absurd cc
 stands_spelled (true ∷ port ∷ read ∷ a ∷ b ∷ []) tx n e = absurd cc
 stands_spelled (true ∷ port ∷ read ∷ a ∷ b ∷ parity ∷ bits) tx n e =
-    chosen (odd (port ∷ read ∷ a ∷ b ∷ parity ∷ [])) _ _ (λ s. s ≡ Whole tx n → Spells tx (take n (true ∷ port ∷ read ∷ a ∷ b ∷ parity ∷ bits)))
+    chosen (odd (port ∷ read ∷ a ∷ b ∷ parity ∷ [])) _ _
+    (λ s. s ≡ Whole tx n → Spells tx (take n (true ∷ port ∷ read ∷ a ∷ b ∷ parity ∷ bits)))
     (λ t e. absurd cc)
-    (λ t e. parity_found (record { ap = port; read = read; addr = reg4_at a b }) bits tx n (true ∷ port ∷ read ∷ a ∷ b ∷ parity ∷ []) (request_is port read a b parity t) e) e
+    (λ t e. parity_found (record { ap = port; read = read; addr = reg4_at a b }) bits tx n
+    (true ∷ port ∷ read ∷ a ∷ b ∷ parity ∷ []) (request_is port read a b parity t) e) e

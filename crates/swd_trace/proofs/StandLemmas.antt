@@ -1,5 +1,6 @@
 -- Laws of what stands at the front of some bits.
-use Rattle.std.proofs.Common.{◌≡◌, ℕ, ◌+◌, ◌<◌, ◌≤◌, Bool, true, false, List, [], ◌∷◌, ◌++◌, length, nat_le, refl, ap, ◌∙◌, arith, inl, inr, ◌⊎◌}
+use Rattle.std.proofs.Common.{◌≡◌, ℕ, ◌+◌, ◌<◌, ◌≤◌, Bool, true, false, List, [], ◌∷◌, ◌++◌, length, nat_le, refl, ap}
+use Rattle.std.proofs.Common.{◌∙◌, arith, inl, inr, ◌⊎◌}
 use Rattle.std.specs.Prelude.{if◌then◌else◌}
 use Rattle.std.proofs.lemmas.List.{length-append, take-append-le}
 use Rattle.std.proofs.lemmas.Bool.{leb-true, le-leb}
@@ -9,11 +10,13 @@ use Rattle.swd_bits.specs.declared.request.Request.{Request}
 use Rattle.swd_bits.specs.declared.tx.TxEnd.{TxEnd}
 use Rattle.swd_bits.specs.declared.tx.TxEnd.TheVariants.{Wait, Fault}
 use Rattle.swd_bits.specs.declared.tx.Tx.{Tx}
-use Rattle.swd_trace.specs.Stands.{Stand, Whole, Begun, Broken, stands, after_ok, after_refusal, after_ack, after_request, after_parity, phase_in, reg4_at}
+use Rattle.swd_trace.specs.Stands.{Stand, Whole, Begun, Broken, stands, after_ok, after_refusal, after_ack}
+use Rattle.swd_trace.specs.Stands.{after_request, after_parity, phase_in, reg4_at}
 use Rattle.swd_trace.specs.Reading.{ones}
 
 -- a choice, by its test
-pub chosen : {A : Type 0} (t : Bool) (a b : A) (P : A → Type 0) → (t ≡ true → P a) → (t ≡ false → P b) → P (if t then a else b)
+pub chosen : {A : Type 0} (t : Bool) (a b : A) (P : A → Type 0) → (t ≡ true → P a) → (t ≡ false → P b)
+    → P (if t then a else b)
 chosen true a b P f g = f refl
 chosen false a b P f g = g refl
 
@@ -24,7 +27,8 @@ lt_leb a b h = elim (leb_tells a b) [ inl p ↦ (let n : a ≤ b = p.1 in absurd
 abbrev Settles : Stand → Stand → Type 0
 Settles old new = (old ≡ Begun) ⊎ (new ≡ old)
 
-phase_stays : (read : Bool) (bits more : List Bool) → 34 ≤ length bits → phase_in read (bits ++ more) ≡ phase_in read bits
+phase_stays : (read : Bool) (bits more : List Bool) → 34 ≤ length bits
+    → phase_in read (bits ++ more) ≡ phase_in read bits
 phase_stays true bits more h = take-append-le 33 bits more (omega arith)
 phase_stays false [] more h = absurd (omega arith)
 phase_stays false (b ∷ bits) more h = take-append-le 33 bits more (omega arith)
@@ -40,11 +44,13 @@ ok_settles q bits more =
       | inr p ↦ inl (rw p.0 refl)
     ]
 
-refusal_settles : (q : Request) (end : TxEnd) (bits more : List Bool) → Settles (after_refusal q end bits) (after_refusal q end (bits ++ more))
+refusal_settles : (q : Request) (end : TxEnd) (bits more : List Bool)
+    → Settles (after_refusal q end bits) (after_refusal q end (bits ++ more))
 refusal_settles q end [] more = inl refl
 refusal_settles q end (t ∷ bits) more = inr refl
 
-ack_settles : (q : Request) (a b c : Bool) (bits more : List Bool) → Settles (after_ack q a b c bits) (after_ack q a b c (bits ++ more))
+ack_settles : (q : Request) (a b c : Bool) (bits more : List Bool)
+    → Settles (after_ack q a b c bits) (after_ack q a b c (bits ++ more))
 ack_settles q true false false bits more = ok_settles q bits more
 ack_settles q false true false bits more = refusal_settles q Wait bits more
 ack_settles q false false true bits more = refusal_settles q Fault bits more
@@ -53,7 +59,8 @@ ack_settles q true false true bits more = inr refl
 ack_settles q false true true bits more = inr refl
 ack_settles q false false false bits more = inr refl
 
-request_settles : (q : Request) (bits more : List Bool) → Settles (after_request q bits) (after_request q (bits ++ more))
+request_settles : (q : Request) (bits more : List Bool)
+    → Settles (after_request q bits) (after_request q (bits ++ more))
 request_settles q [] more = inl refl
 request_settles q (t ∷ []) more = inl refl
 request_settles q (t ∷ a ∷ []) more = inl refl
@@ -67,7 +74,8 @@ parity_settles q (false ∷ []) more = inl refl
 parity_settles q (false ∷ false ∷ bits) more = inr refl
 parity_settles q (false ∷ true ∷ bits) more = request_settles q bits more
 
-choice_settles : (t : Bool) (old new : Stand) → Settles old new → Settles (if t then Broken else old) (if t then Broken else new)
+choice_settles : (t : Bool) (old new : Stand) → Settles old new
+    → Settles (if t then Broken else old) (if t then Broken else new)
 choice_settles true old new s = inr refl
 choice_settles false old new s = s
 
@@ -80,9 +88,11 @@ settles (true ∷ ap ∷ read ∷ []) more = inl refl
 settles (true ∷ ap ∷ read ∷ a ∷ []) more = inl refl
 settles (true ∷ ap ∷ read ∷ a ∷ b ∷ []) more = inl refl
 settles (true ∷ ap ∷ read ∷ a ∷ b ∷ parity ∷ bits) more =
-    choice_settles (odd (ap ∷ read ∷ a ∷ b ∷ parity ∷ [])) _ _ (parity_settles (record { ap = ap; read = read; addr = reg4_at a b }) bits more)
+    choice_settles (odd (ap ∷ read ∷ a ∷ b ∷ parity ∷ [])) _ _
+    (parity_settles (record { ap = ap; read = read; addr = reg4_at a b }) bits more)
 
-pub whole_stays : (bits more : List Bool) (tx : Tx) (n : ℕ) → stands bits ≡ Whole tx n → stands (bits ++ more) ≡ Whole tx n
+pub whole_stays : (bits more : List Bool) (tx : Tx) (n : ℕ) → stands bits ≡ Whole tx n
+    → stands (bits ++ more) ≡ Whole tx n
 whole_stays bits more tx n e = elim (settles bits more) [ inl f ↦ absurd cc | inr f ↦ f ∙ e ]
 
 pub broken_stays : (bits more : List Bool) → stands bits ≡ Broken → stands (bits ++ more) ≡ Broken
@@ -111,10 +121,13 @@ few_ones (true ∷ ap ∷ []) = let h = ones_le (true ∷ ap ∷ []) in inr (ome
 few_ones (true ∷ ap ∷ read ∷ []) = let h = ones_le (true ∷ ap ∷ read ∷ []) in inr (omega arith)
 few_ones (true ∷ ap ∷ read ∷ a ∷ []) = let h = ones_le (true ∷ ap ∷ read ∷ a ∷ []) in inr (omega arith)
 few_ones (true ∷ ap ∷ read ∷ a ∷ b ∷ []) = let h = ones_le (true ∷ ap ∷ read ∷ a ∷ b ∷ []) in inr (omega arith)
-few_ones (true ∷ ap ∷ read ∷ a ∷ b ∷ parity ∷ []) = let h = ones_le (true ∷ ap ∷ read ∷ a ∷ b ∷ parity ∷ []) in inr (omega arith)
+few_ones (true ∷ ap ∷ read ∷ a ∷ b ∷ parity ∷ []) = let h = ones_le (true ∷ ap ∷ read ∷ a ∷ b ∷ parity ∷ []) in inr
+    (omega arith)
 few_ones (true ∷ ap ∷ read ∷ a ∷ b ∷ parity ∷ false ∷ bits) =
-    let h : ones (true ∷ ap ∷ read ∷ a ∷ b ∷ parity ∷ false ∷ bits) ≤ 6 = ones_front (true ∷ ap ∷ read ∷ a ∷ b ∷ parity ∷ []) bits in inr h
-few_ones (true ∷ ap ∷ read ∷ a ∷ b ∷ parity ∷ true ∷ bits) = inl (choice_broken (odd (ap ∷ read ∷ a ∷ b ∷ parity ∷ [])) Broken refl)
+    let h : ones (true ∷ ap ∷ read ∷ a ∷ b ∷ parity ∷ false ∷ bits) ≤ 6 = ones_front
+    (true ∷ ap ∷ read ∷ a ∷ b ∷ parity ∷ []) bits in inr h
+few_ones (true ∷ ap ∷ read ∷ a ∷ b ∷ parity ∷ true ∷ bits) = inl
+    (choice_broken (odd (ap ∷ read ∷ a ∷ b ∷ parity ∷ [])) Broken refl)
 
 -- a transaction that stands has no more bits than there are
 ok_fits : (q : Request) (bits : List Bool) (tx : Tx) (n : ℕ) → after_ok q bits ≡ Whole tx n → n ≤ 12 + length bits
@@ -123,11 +136,13 @@ ok_fits q bits tx n =
     (λ t e. let h : 34 ≤ length bits = leb-true 34 (length bits) t in let m : 46 ≡ n = cc in omega arith)
     (λ t e. absurd cc)
 
-refusal_fits : (q : Request) (end : TxEnd) (bits : List Bool) (tx : Tx) (n : ℕ) → after_refusal q end bits ≡ Whole tx n → n ≤ 12 + length bits
+refusal_fits : (q : Request) (end : TxEnd) (bits : List Bool) (tx : Tx) (n : ℕ) → after_refusal q end bits ≡ Whole tx n
+    → n ≤ 12 + length bits
 refusal_fits q end [] tx n e = absurd cc
 refusal_fits q end (t ∷ bits) tx n e = let m : 13 ≡ n = cc in omega arith
 
-ack_fits : (q : Request) (a b c : Bool) (bits : List Bool) (tx : Tx) (n : ℕ) → after_ack q a b c bits ≡ Whole tx n → n ≤ 12 + length bits
+ack_fits : (q : Request) (a b c : Bool) (bits : List Bool) (tx : Tx) (n : ℕ) → after_ack q a b c bits ≡ Whole tx n
+    → n ≤ 12 + length bits
 ack_fits q true false false bits tx n e = ok_fits q bits tx n e
 ack_fits q false true false bits tx n e = refusal_fits q Wait bits tx n e
 ack_fits q false false true bits tx n e = refusal_fits q Fault bits tx n e
@@ -136,7 +151,8 @@ ack_fits q true false true bits tx n e = let m : 12 ≡ n = cc in omega arith
 ack_fits q false true true bits tx n e = let m : 12 ≡ n = cc in omega arith
 ack_fits q false false false bits tx n e = let m : 12 ≡ n = cc in omega arith
 
-parity_fits : (q : Request) (bits : List Bool) (tx : Tx) (n : ℕ) → after_parity q bits ≡ Whole tx n → n ≤ 6 + length bits
+parity_fits : (q : Request) (bits : List Bool) (tx : Tx) (n : ℕ) → after_parity q bits ≡ Whole tx n
+    → n ≤ 6 + length bits
 parity_fits q [] tx n e = absurd cc
 parity_fits q (true ∷ bits) tx n e = absurd cc
 parity_fits q (false ∷ []) tx n e = absurd cc
@@ -156,7 +172,8 @@ whole_fits (true ∷ ap ∷ read ∷ []) tx n e = absurd cc
 whole_fits (true ∷ ap ∷ read ∷ a ∷ []) tx n e = absurd cc
 whole_fits (true ∷ ap ∷ read ∷ a ∷ b ∷ []) tx n e = absurd cc
 whole_fits (true ∷ ap ∷ read ∷ a ∷ b ∷ parity ∷ bits) tx n e =
-    let h : n ≤ 6 + length bits = chosen (odd (ap ∷ read ∷ a ∷ b ∷ parity ∷ [])) _ _ (λ s. s ≡ Whole tx n → n ≤ 6 + length bits)
+    let h : n ≤ 6 + length bits = chosen (odd (ap ∷ read ∷ a ∷ b ∷ parity ∷ [])) _ _
+    (λ s. s ≡ Whole tx n → n ≤ 6 + length bits)
     (λ t e. absurd cc)
     (λ t e. parity_fits (record { ap = ap; read = read; addr = reg4_at a b }) bits tx n e) e in
     omega arith

@@ -1,5 +1,7 @@
 -- Laws of the numbers and bits that stand in a listing line.
-use Rattle.std.proofs.Common.{◌≡◌, ◌≢◌, ℕ, suc, ◌+◌, ◌-◌, ◌*◌, ◌/◌, ◌%◌, ◌^◌, ◌<◌, ◌≤◌, Bool, true, false, List, [], ◌∷◌, length, map, drop, get_or, refl, ap, ◌∙◌, subst, arith, Result, Ok, Err}
+use Rattle.std.proofs.Common.{◌≡◌, ◌≢◌, ℕ, suc, ◌+◌, ◌-◌, ◌*◌, ◌/◌, ◌%◌, ◌^◌, ◌<◌, ◌≤◌, Bool, true}
+use Rattle.std.proofs.Common.{false, List, []}
+use Rattle.std.proofs.Common.{◌∷◌, length, map, drop, get_or, refl, ap, ◌∙◌, subst, arith, Result, Ok, Err}
 use Rattle.std.specs.Prelude.{◌==◌}
 use Rattle.std.specs.Char.{digit_value}
 use Rattle.std.specs.Str.{IsAscii}
@@ -30,40 +32,64 @@ not_plus d h = grind (arith, nat_tests)
 eight_ascii : (a b c d e f g h : ℕ) → a < 128 → b < 128 → c < 128 → d < 128 → e < 128 → f < 128 → g < 128 → h < 128 →
     IsAscii (a ∷ b ∷ c ∷ d ∷ e ∷ f ∷ g ∷ h ∷ [])
 eight_ascii a b c d e f g h i j k l m n o p =
-    IsAscii-cons a (b ∷ c ∷ d ∷ e ∷ f ∷ g ∷ h ∷ []) i (IsAscii-cons b (c ∷ d ∷ e ∷ f ∷ g ∷ h ∷ []) j (IsAscii-cons c (d ∷ e ∷ f ∷ g ∷ h ∷ []) k
-    (IsAscii-cons d (e ∷ f ∷ g ∷ h ∷ []) l (IsAscii-cons e (f ∷ g ∷ h ∷ []) m (IsAscii-cons f (g ∷ h ∷ []) n (IsAscii-cons g (h ∷ []) o (IsAscii-cons h [] p IsAscii-nil)))))))
+    IsAscii-cons a (b ∷ c ∷ d ∷ e ∷ f ∷ g ∷ h ∷ []) i
+    (IsAscii-cons b (c ∷ d ∷ e ∷ f ∷ g ∷ h ∷ []) j (IsAscii-cons c (d ∷ e ∷ f ∷ g ∷ h ∷ []) k
+    (IsAscii-cons d (e ∷ f ∷ g ∷ h ∷ []) l
+    (IsAscii-cons e (f ∷ g ∷ h ∷ []) m
+    (IsAscii-cons f (g ∷ h ∷ []) n (IsAscii-cons g (h ∷ []) o (IsAscii-cons h [] p IsAscii-nil)))))))
 
 pub IsAscii-hex8 : (word : ℕ) → word < 2 ^ 32 → IsAscii (hex8 word)
 unfolding hex8 hex2
 IsAscii-hex8 word h =
-    eight_ascii (hex_digit (word / 2 ^ 24 / 16)) (hex_digit (word / 2 ^ 24 % 16)) (hex_digit (word / 2 ^ 16 % 256 / 16)) (hex_digit (word / 2 ^ 16 % 256 % 16))
-    (hex_digit (word / 2 ^ 8 % 256 / 16)) (hex_digit (word / 2 ^ 8 % 256 % 16)) (hex_digit (word % 256 / 16)) (hex_digit (word % 256 % 16))
-    (glyph_lt (word / 2 ^ 24 / 16) (omega arith)) (glyph_lt (word / 2 ^ 24 % 16) (omega arith)) (glyph_lt (word / 2 ^ 16 % 256 / 16) (omega arith)) (glyph_lt (word / 2 ^ 16 % 256 % 16) (omega arith))
-    (glyph_lt (word / 2 ^ 8 % 256 / 16) (omega arith)) (glyph_lt (word / 2 ^ 8 % 256 % 16) (omega arith)) (glyph_lt (word % 256 / 16) (omega arith)) (glyph_lt (word % 256 % 16) (omega arith))
+    eight_ascii (hex_digit (word / 2 ^ 24 / 16)) (hex_digit (word / 2 ^ 24 % 16)) (hex_digit (word / 2 ^ 16 % 256 / 16))
+    (hex_digit (word / 2 ^ 16 % 256 % 16))
+    (hex_digit (word / 2 ^ 8 % 256 / 16)) (hex_digit (word / 2 ^ 8 % 256 % 16)) (hex_digit (word % 256 / 16))
+    (hex_digit (word % 256 % 16))
+    (glyph_lt (word / 2 ^ 24 / 16) (omega arith)) (glyph_lt (word / 2 ^ 24 % 16) (omega arith))
+    (glyph_lt (word / 2 ^ 16 % 256 / 16) (omega arith)) (glyph_lt (word / 2 ^ 16 % 256 % 16) (omega arith))
+    (glyph_lt (word / 2 ^ 8 % 256 / 16) (omega arith)) (glyph_lt (word / 2 ^ 8 % 256 % 16) (omega arith))
+    (glyph_lt (word % 256 / 16) (omega arith)) (glyph_lt (word % 256 % 16) (omega arith))
 
 -- the number of eight digits with these values
 eight : (a b c d e f g h : ℕ) → a < 16 → b < 16 → c < 16 → d < 16 → e < 16 → f < 16 → g < 16 → h < 16 →
-    digits_value 16 (hex_digit a ∷ hex_digit b ∷ hex_digit c ∷ hex_digit d ∷ hex_digit e ∷ hex_digit f ∷ hex_digit g ∷ hex_digit h ∷ [])
+    digits_value 16 (hex_digit a ∷ hex_digit b ∷ hex_digit c ∷ hex_digit d ∷ hex_digit e ∷ hex_digit f ∷ hex_digit g ∷
+    hex_digit h ∷ [])
     ≡ ((a * 16 + b) * 65536 + (c * 16 + d) * 256 + (e * 16 + f)) * 256 + (g * 16 + h)
 eight a b c d e f g h i j k l m n o p =
-    rw (value_of a i, value_of b j, value_of c k, value_of d l, value_of e m, value_of f n, value_of g o, value_of h p) (omega arith)
+    rw (value_of a i, value_of b j, value_of c k, value_of d l, value_of e m, value_of f n, value_of g o, value_of h p)
+    (omega arith)
 
 all_eight : (a b c d e f g h : ℕ) → a < 16 → b < 16 → c < 16 → d < 16 → e < 16 → f < 16 → g < 16 → h < 16 →
-    AllDigits 16 (hex_digit a ∷ hex_digit b ∷ hex_digit c ∷ hex_digit d ∷ hex_digit e ∷ hex_digit f ∷ hex_digit g ∷ hex_digit h ∷ [])
-all_eight a b c d e f g h i j k l m n o p =
-    (rw (value_of a i) i, (rw (value_of b j) j, (rw (value_of c k) k, (rw (value_of d l) l, (rw (value_of e m) m, (rw (value_of f n) n, (rw (value_of g o) o, (rw (value_of h p) p, tt))))))))
+    AllDigits 16 (hex_digit a ∷ hex_digit b ∷ hex_digit c ∷ hex_digit d ∷ hex_digit e ∷ hex_digit f ∷ hex_digit g ∷
+    hex_digit h ∷ [])
+all_eight a b c d e f g h i j k l m n o p = (
+  rw (value_of a i) i,
+  (
+    rw (value_of b j) j,
+    (
+      rw (value_of c k) k,
+      (
+        rw (value_of d l) l,
+        (rw (value_of e m) m, (rw (value_of f n) n, (rw (value_of g o) o, (rw (value_of h p) p, tt)))),
+      ),
+    ),
+  ),
+)
 
 pub digits_value-hex8 : (word : ℕ) → word < 2 ^ 32 → digits_value 16 (hex8 word) ≡ word
 unfolding hex8 hex2
 digits_value-hex8 word h =
-    eight (word / 2 ^ 24 / 16) (word / 2 ^ 24 % 16) (word / 2 ^ 16 % 256 / 16) (word / 2 ^ 16 % 256 % 16) (word / 2 ^ 8 % 256 / 16) (word / 2 ^ 8 % 256 % 16) (word % 256 / 16) (word % 256 % 16)
-    (omega arith) (omega arith) (omega arith) (omega arith) (omega arith) (omega arith) (omega arith) (omega arith) ∙ omega arith
+    eight (word / 2 ^ 24 / 16) (word / 2 ^ 24 % 16) (word / 2 ^ 16 % 256 / 16) (word / 2 ^ 16 % 256 % 16)
+    (word / 2 ^ 8 % 256 / 16) (word / 2 ^ 8 % 256 % 16) (word % 256 / 16) (word % 256 % 16)
+    (omega arith) (omega arith) (omega arith) (omega arith) (omega arith) (omega arith) (omega arith) (omega arith)
+    ∙ omega arith
 
 pub IsNumeral-hex8 : (word : ℕ) → word < 2 ^ 32 → IsNumeral 16 (hex8 word)
 unfolding hex8 hex2
 IsNumeral-hex8 word h = (
   omega arith,
-  all_eight (word / 2 ^ 24 / 16) (word / 2 ^ 24 % 16) (word / 2 ^ 16 % 256 / 16) (word / 2 ^ 16 % 256 % 16) (word / 2 ^ 8 % 256 / 16) (word / 2 ^ 8 % 256 % 16) (word % 256 / 16) (word % 256 % 16)
+  all_eight (word / 2 ^ 24 / 16) (word / 2 ^ 24 % 16) (word / 2 ^ 16 % 256 / 16) (word / 2 ^ 16 % 256 % 16)
+      (word / 2 ^ 8 % 256 / 16) (word / 2 ^ 8 % 256 % 16) (word % 256 / 16) (word % 256 % 16)
       (omega arith) (omega arith) (omega arith) (omega arith) (omega arith) (omega arith) (omega arith) (omega arith),
 )
 
@@ -72,14 +98,17 @@ first_not_plus : (word : ℕ) → word < 2 ^ 32 → get_or (hex8 word) 0 0 ≢ 4
 unfolding hex8 hex2
 first_not_plus word h = not_plus (word / 2 ^ 24 / 16) (omega arith)
 
-read_as : {E : Type 0} (bs : List ℕ) (word : ℕ) (r : Result ℕ E) → word < 2 ^ 32 → IsNumeral 16 bs → digits_value 16 bs ≡ word →
+read_as : {E : Type 0} (bs : List ℕ) (word : ℕ) (r : Result ℕ E) → word < 2 ^ 32 → IsNumeral 16 bs
+    → digits_value 16 bs ≡ word →
     OkIff r (IsNumeral 16 bs × (digits_value 16 bs < 2 ^ 32)) (digits_value 16 bs) → r ≡ Ok word
 read_as bs word (Ok x) h n e p = ap Ok (p.1 ∙ e)
 read_as bs word (Err x) h n e p = absurd (p (n, rw e h))
 
-pub parse-hex8 : {E : Type 0} (word : ℕ) (bs : List ℕ) (r : Result ℕ E) → word < 2 ^ 32 → bs ≡ hex8 word → ParsesUnsigned 32 16 bs r → r ≡ Ok word
+pub parse-hex8 : {E : Type 0} (word : ℕ) (bs : List ℕ) (r : Result ℕ E) → word < 2 ^ 32 → bs ≡ hex8 word
+    → ParsesUnsigned 32 16 bs r → r ≡ Ok word
 parse-hex8 word bs r h e p =
-    let plain : without_leading_plus bs ≡ hex8 word = ap without_leading_plus e ∙ without_leading_plus_none (hex8 word) (first_not_plus word h) in
+    let plain : without_leading_plus bs ≡ hex8 word = ap without_leading_plus e
+    ∙ without_leading_plus_none (hex8 word) (first_not_plus word h) in
     let q = rw plain at p in
     read_as (hex8 word) word r h (IsNumeral-hex8 word h) (digits_value-hex8 word h) q
 
@@ -88,24 +117,30 @@ abbrev pub written : List ℕ → ℕ
 written digits = number (map (λ b. b == 49) digits)
 
 pub written_lt : (digits : List ℕ) → written digits < 2 ^ length digits
-written_lt digits = subst (λ n. written digits < 2 ^ n) (length-map digits (λ b. b == 49)) (number_lt (map (λ b. b == 49) digits))
+written_lt digits = subst (λ n. written digits < 2 ^ n) (length-map digits (λ b. b == 49))
+    (number_lt (map (λ b. b == 49) digits))
 
 pub byte_of_bit : (b : Bool) → bool_byte b ≡ bit b
 byte_of_bit true = refl
 byte_of_bit false = refl
 
 pub written_more : (digits : List ℕ) (i : ℕ) → i < length digits →
-    written (drop (length digits - (i + 1)) digits) ≡ written (drop (length digits - i) digits) * 2 + bool_byte (get_or digits (length digits - 1 - i) 0 == 49)
+    written (drop (length digits - (i + 1)) digits) ≡ written (drop (length digits - i) digits) * 2 + bool_byte
+    (get_or digits (length digits - 1 - i) 0 == 49)
 written_more digits i h =
     let a : length digits - (i + 1) ≡ length digits - 1 - i = omega arith in
     let b : suc (length digits - 1 - i) ≡ length digits - i = omega arith in
     let within : length digits - 1 - i < length digits = omega arith in
-    let d : drop (length digits - (i + 1)) digits ≡ get_or digits (length digits - 1 - i) 0 ∷ drop (length digits - i) digits =
-    ap (λ n. drop n digits) a ∙ drop-cons digits (length digits - 1 - i) 0 within ∙ ap (λ n. get_or digits (length digits - 1 - i) 0 ∷ drop n digits) b in
-    let e : written (drop (length digits - (i + 1)) digits) ≡ bit (get_or digits (length digits - 1 - i) 0 == 49) + 2 * written (drop (length digits - i) digits) = ap written d in
+    let d : drop (length digits - (i + 1)) digits ≡ get_or digits (length digits - 1 - i) 0 ∷ drop (length digits - i)
+    digits =
+    ap (λ n. drop n digits) a ∙ drop-cons digits (length digits - 1 - i) 0 within
+    ∙ ap (λ n. get_or digits (length digits - 1 - i) 0 ∷ drop n digits) b in
+    let e : written (drop (length digits - (i + 1)) digits) ≡ bit (get_or digits (length digits - 1 - i) 0 == 49) + 2 *
+    written (drop (length digits - i) digits) = ap written d in
     rw (byte_of_bit (get_or digits (length digits - 1 - i) 0 == 49)) (omega (arith, e))
 
-pub written_room : (digits : List ℕ) (i : ℕ) → i < length digits → length digits ≤ 49 → written (drop (length digits - i) digits) < 2 ^ 49
+pub written_room : (digits : List ℕ) (i : ℕ) → i < length digits → length digits ≤ 49
+    → written (drop (length digits - i) digits) < 2 ^ 49
 written_room digits i h k =
     let n : length (drop (length digits - i) digits) ≤ 49 = omega (arith, length-drop (length digits - i) digits) in
     let m : 2 ^ length (drop (length digits - i) digits) ≤ 2 ^ 49 = pow-le-pow_right (lit< tt) n in
@@ -116,8 +151,10 @@ read_back [] = refl
 read_back (true ∷ bits) = ap (λ x. true ∷ x) (read_back bits)
 read_back (false ∷ bits) = ap (λ x. false ∷ x) (read_back bits)
 
-pub written-digits : (len bits : ℕ) (digits : List ℕ) → bits < 2 ^ len → digits ≡ map digit (low_bits len bits) → written digits ≡ bits
-written-digits len bits digits h e = ap written e ∙ ap number (read_back (low_bits len bits)) ∙ number-low_bits len bits h
+pub written-digits : (len bits : ℕ) (digits : List ℕ) → bits < 2 ^ len → digits ≡ map digit (low_bits len bits)
+    → written digits ≡ bits
+written-digits len bits digits h e = ap written e ∙ ap number (read_back (low_bits len bits))
+    ∙ number-low_bits len bits h
 
 pub length-digits : (len bits : ℕ) (digits : List ℕ) → digits ≡ map digit (low_bits len bits) → length digits ≡ len
 length-digits len bits digits e = ap length e ∙ length-map (low_bits len bits) digit ∙ length-low_bits len bits

@@ -32,11 +32,14 @@ joined_runs : reading_of (bits_of_items (Idle 1 ∷ Idle 1 ∷ [])) ≡ Idle 2 �
 unfolding items_after
 joined_runs = refl
 
-longer_cut : reading_of (bits_of_items (Cut (record { len = 1; bits = 1 }) ∷ Idle 1 ∷ [])) ≡ Cut (record { len = 2; bits = 1 }) ∷ []
+longer_cut : reading_of (bits_of_items (Cut (record { len = 1; bits = 1 }) ∷ Idle 1 ∷ [])) ≡ Cut
+    (record { len = 2; bits = 1 }) ∷ []
 unfolding items_after low_bits
 longer_cut = refl
 
-after_no_acknowledgement : reading_of (bits_of_items (Tx (record { request = record { ap = false; read = true; addr = R0 }; result = NoAck 7 }) ∷ Idle 1 ∷ [])) ≡
+after_no_acknowledgement : reading_of
+    (bits_of_items (Tx (record { request = record { ap = false; read = true; addr = R0 }; result = NoAck 7 }) ∷ Idle 1 ∷
+    [])) ≡
     Tx (record { request = record { ap = false; read = true; addr = R0 }; result = NoAck 7 }) ∷ Junk false ∷ []
 unfolding items_after low_bits
 after_no_acknowledgement = refl

@@ -1,15 +1,18 @@
 -- What a decoder holds.
-use Rattle.std.specs.Prelude.{◌≡◌, ℕ, ◌+◌, ◌-◌, ◌<◌, ◌≤◌, Bool, List, [], ◌∷◌, ◌++◌, length, replicate, min, Option, Some, None}
+use Rattle.std.specs.Prelude.{◌≡◌, ℕ, zero, suc, ◌+◌, ◌-◌, ◌<◌, ◌≤◌, Bool, List, [], ◌∷◌, ◌++◌, length, replicate}
+use Rattle.std.specs.Prelude.{min, Option}
+use Rattle.std.specs.Prelude.{Some, None}
 use Rattle.swd_bits.specs.Bits.{low_bits}
 use Rattle.swd_bits.specs.BitLists.{bits_of, IsSpelled}
 use Rattle.swd_bits.specs.Transactions.{Spells}
 use Rattle.swd_bits.specs.declared.tx.Tx.{Tx as Transaction}
 use Rattle.swd_bits.specs.declared.tx_bits.TxBits.{TxBits}
 use Rattle.swd_trace.specs.declared.item.Item.{Item}
-use Rattle.swd_trace.specs.declared.item.Item.TheVariants.{Tx}
+use Rattle.swd_trace.specs.declared.item.Item.TheVariants.{Tx, Idle}
 use Rattle.swd_trace.specs.declared.mode.Mode.{Mode}
 use Rattle.swd_trace.specs.declared.mode.Mode.TheVariants.{Synced, AfterReset, AfterSwitch, Lost}
 use Rattle.swd_trace.specs.declared.decoder.Decoder.{Decoder}
+use Rattle.swd_trace.specs.declared.found_tx.FoundTx.{FoundTx}
 use Rattle.swd_trace.specs.Reading.{switch, first, cut, reading, reading_of}
 
 -- the bits that a decoder holds
@@ -83,6 +86,23 @@ pub record Waits (old new : Decoder) : Type 0 where
   pub settled : IsSettled new
   pub places : places new ≤ places old
   pub fed : fed_of new ≡ fed_of old
+
+-- idle cycles as an item, where there are any
+abbrev pub idle_items : ℕ → List Item
+idle_items zero = []
+idle_items (suc n) = Idle (suc n) ∷ []
+
+-- a transaction comes from bits that come, and an item of idle cycles before it, where there are any
+pub record TakesTx (old new : Decoder) (bits count : ℕ) (found : FoundTx) : Type 0 where
+  pub whole : IsSpelled found.tx
+  pub short : found.tx.len ≤ 46
+  pub spells : (tx : Transaction) × Spells tx (bits_of found.tx)
+  pub some : 0 < found.taken
+  pub most : found.taken ≤ count
+  pub gives : (tx : Transaction) → Spells tx (bits_of found.tx) → (more : List Bool)
+      → rest old (low_bits found.taken bits ++ more) ≡ idle_items found.idle ++ (Tx tx ∷ rest new more)
+  pub fed : fed_of new ≡ fed_of old + found.taken
+  pub settled : IsSettled new
 
 abbrev pub Decides : Decoder → Decoder → Option Item → Type 0
 Decides old new (Some item) = Gives old new item

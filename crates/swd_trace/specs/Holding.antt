@@ -17,4 +17,5 @@ pub record Holds (mode : Mode) (one : Bool) (run len bits next fed : ℕ) : Type
   pub ran : 0 < run → (next ≡ 1) × (len ≤ 1)
   pub ends : 0 < run → 0 < len → one ≢ (bits % 2 == 1)
   pub idle : 0 < run → one ≡ false → mode ≡ Synced
-  pub quiet : run ≡ 0 → (more : List Bool) → len + length more < next → IsUndecided (λ after. reading mode (low_bits len bits ++ (more ++ after)))
+  pub quiet : run ≡ 0 → (more : List Bool) → len + length more < next
+      → IsUndecided (λ after. reading mode (low_bits len bits ++ (more ++ after)))

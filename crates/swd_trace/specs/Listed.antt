@@ -88,6 +88,7 @@ IsNormal items = reading_of (bits_of_items items) ≡ items
 -- the fault is that of a listing with these lines
 abbrev pub Refuses : ListFault → List (List ℕ) → Type 0
 Refuses (BadLine number) lines = IsFirstBadLine lines number
-Refuses (NotNormal number) lines = (items : List Item) × Lists lines items × DiffersFirst items (reading_of (bits_of_items items)) number
+Refuses (NotNormal number) lines = (items : List Item) × Lists lines items
+    × DiffersFirst items (reading_of (bits_of_items items)) number
 Refuses Memory lines = Unit {0}
 Refuses Read lines = Unit {0}

@@ -86,21 +86,24 @@ first_synced true bits = first_by (stands (true ∷ bits)) true bits
 abbrev pub first_short : Mode → Bool → List Bool → First
 first_short Synced b bits = first_synced b bits
 first_short AfterReset b bits =
-    if begins_with switch (b ∷ bits) then record { item = Switch; after = AfterSwitch; taken = 16 } else first_synced b bits
+    if begins_with switch (b ∷ bits) then record { item = Switch; after = AfterSwitch; taken = 16 } else first_synced b
+    bits
 first_short AfterSwitch b bits = cut_or_lost b bits
 first_short Lost b bits = junk b
 
 -- what stands at a place, given its bit and those that follow: fifty ones in any mode, then the other cases
 abbrev pub first : Mode → Bool → List Bool → First
 first mode b bits =
-    if nat_le 50 (ones (b ∷ bits)) then record { item = Reset (ones (b ∷ bits)); after = AfterReset; taken = ones (b ∷ bits) }
+    if nat_le 50 (ones (b ∷ bits)) then
+    record { item = Reset (ones (b ∷ bits)); after = AfterReset; taken = ones (b ∷ bits) }
     else first_short mode b bits
 
 -- the items, where so many bits still belong to the item before
 unfoldable pub items_after : ℕ → Mode → List Bool → List Item
 items_after passed mode [] = []
 items_after (suc passed) mode (b ∷ bits) = items_after passed mode bits
-items_after zero mode (b ∷ bits) = (first mode b bits).item ∷ items_after ((first mode b bits).taken - 1) (first mode b bits).after bits
+items_after zero mode (b ∷ bits) = (first mode b bits).item ∷ items_after ((first mode b bits).taken - 1)
+    (first mode b bits).after bits
 
 -- the items of a whole list
 abbrev pub reading : Mode → List Bool → List Item

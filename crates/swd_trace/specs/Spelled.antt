@@ -16,4 +16,5 @@ IsAcknowledged (NoAck seen) = ⊥
 abbrev pub AreSpelled : List Tx → List Bool → Type 0
 AreSpelled [] bits = bits ≡ []
 AreSpelled (tx ∷ txs) bits =
-    (front : List Bool) × (rest : List Bool) × (bits ≡ front ++ rest) × Spells tx front × IsAcknowledged tx.result × AreSpelled txs rest
+    (front : List Bool) × (rest : List Bool) × (bits ≡ front ++ rest) × Spells tx front × IsAcknowledged tx.result
+    × AreSpelled txs rest

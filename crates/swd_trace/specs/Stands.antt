@@ -1,5 +1,6 @@
 -- Whether a transaction, or the beginning of one, stands at the front of some bits.
-use Rattle.std.specs.Prelude.{ℕ, zero, suc, Bool, true, false, not, List, [], ◌∷◌, length, take, drop, nat_le, if◌then◌else◌}
+use Rattle.std.specs.Prelude.{ℕ, zero, suc, Bool, true, false, not, List, [], ◌∷◌, length, take, drop, nat_le}
+use Rattle.std.specs.Prelude.{if◌then◌else◌}
 use Rattle.swd_bits.specs.Bits.{number, odd}
 use Rattle.swd_bits.specs.declared.request.Request.{Request}
 use Rattle.swd_bits.specs.declared.request.Reg4.{Reg4}
@@ -33,7 +34,8 @@ phase_in false bits = take 33 (drop 1 bits)
 
 -- after OK: a data phase and a turnaround
 abbrev pub after_ok : Request → List Bool → Stand
-after_ok q bits = if nat_le 34 (length bits) then Whole (record { request = q; result = moved_in (phase_in q.read bits) }) 46 else Begun
+after_ok q bits = if nat_le 34 (length bits) then Whole
+    (record { request = q; result = moved_in (phase_in q.read bits) }) 46 else Begun
 
 -- after WAIT and FAULT: a turnaround
 abbrev pub after_refusal : Request → TxEnd → List Bool → Stand
@@ -67,7 +69,8 @@ after_parity q (true ∷ bits) = Broken
 -- the start bit is 1; port, direction, address and parity have an even number of ones
 abbrev pub stands : List Bool → Stand
 stands (true ∷ ap ∷ read ∷ a ∷ b ∷ parity ∷ bits) =
-    if odd (ap ∷ read ∷ a ∷ b ∷ parity ∷ []) then Broken else after_parity (record { ap = ap; read = read; addr = reg4_at a b }) bits
+    if odd (ap ∷ read ∷ a ∷ b ∷ parity ∷ []) then Broken else after_parity
+    (record { ap = ap; read = read; addr = reg4_at a b }) bits
 stands (false ∷ bits) = Broken
 stands bits = Begun
 

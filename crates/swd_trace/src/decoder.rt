@@ -4,8 +4,9 @@ ghost use Rattle.swd_trace.specs.Holding.{Holds};
 
 mod fields;
 
+use crate::found_tx::FoundTx;
 use crate::front::Front;
-use crate::grammar::front_of;
+use crate::grammar::{acknowledged, front_of};
 use crate::item::{Item, RESET_ONES};
 use crate::mode::Mode;
 use arrayvec::ArrayVec;
@@ -46,7 +47,8 @@ pub struct Decoder {
 }
 
 impl Decoder {
-    ghost use Rattle.std.specs.Prelude.{ℕ, ◌==◌, ◌/◌, ◌%◌, true, false, ◌++◌, [], ◌∷◌, ◌-◌, IfSome, IfNone, replicate, map};
+    ghost use Rattle.std.specs.Prelude.{ℕ, ◌==◌, ◌/◌, ◌%◌, true, false, ◌++◌, [], ◌∷◌, ◌-◌, IfSome, IfNone, replicate};
+    ghost use Rattle.std.specs.Prelude.{map};
     ghost use Rattle.swd_bits.specs.Bits.{low_bits};
     ghost use Rattle.swd_trace.specs.Reading.{reading, reading_of, all_ones};
     ghost use Rattle.swd_trace.specs.Decided.{IsUndecided, IsDecided};
@@ -59,7 +61,9 @@ impl Decoder {
     ghost use Rattle.swd_trace.specs.Texts.{bits_of_items};
     ghost use Rattle.swd_trace.specs.declared.mode.Mode;
     ghost use Rattle.swd_trace.specs.declared.item.Item;
-    ghost use Rattle.swd_trace.specs.Held.{rest, HasRead, held, fed_of, held_len, places, IsSettled, IsOpen, IsOpenAt, Gives, GivesTx, Waits, Decides, Closes, ClosesWith, TakesMany};
+    ghost use Rattle.swd_trace.specs.Held.{rest, HasRead, held, fed_of, held_len, places, IsSettled, IsOpen, IsOpenAt};
+    ghost use Rattle.swd_trace.specs.Held.{Gives, GivesTx, Waits, Decides, Closes, ClosesWith, TakesMany, TakesTx};
+    ghost use Rattle.swd_trace.specs.Held.{idle_items};
 
     /// A decoder that was fed no bit.
     pub fn new() -> Decoder
@@ -298,6 +302,53 @@ impl Decoder {
             // Zeros and more zeros are no switch.
             self.mode = Mode::Synced;
         }
+    }
+
+    /// Takes a whole transaction that was acknowledged at the front of the lowest `count` bits, the first in time least
+    /// significant, with the idle cycles before it, where nothing but idle cycles is held, or nothing. `None` says
+    /// nothing of the bits.
+    ///
+    /// `take_bits` and `due` do the same: where many transactions come whole, this takes less time, since nothing has
+    /// to be held.
+    #[inline(always)]
+    pub fn take_tx(&mut self, bits: u64, count: u8) -> Option<FoundTx>
+        requires within { count ≤ 64 }
+        requires room { fed_of self.old + count < 2 ^ 64 }
+        ensures tx { IfSome result (λ found. TakesTx self.old self.new bits count found) }
+        ensures read { IfSome result (λ found. (tx : Tx) (before : List Bool) (items : List Item)
+            → Spells tx (bits_of found.tx) → HasRead self.old before items
+            → HasRead self.new (before ++ low_bits found.taken bits) (items ++ (idle_items found.idle ++ Item.Tx tx ∷ []))) }
+        ensures none { IfNone result (self.new ≡ self.old) }
+    {
+        if bits == 0 || !self.holds_idle_alone() {
+            return None;
+        }
+        let zeros = bits.trailing_zeros() as u8;
+        let Some(tx) = acknowledged(bits >> zeros) else {
+            return None;
+        };
+        let taken = zeros + tx.len;
+        if taken > count {
+            return None;
+        }
+        let idle = self.run + u64::from(zeros);
+        self.run = 0;
+        self.next = 1;
+        self.fed += u64::from(taken);
+        Some(FoundTx { idle, taken, tx })
+    }
+
+    // Whether nothing is held, or nothing but idle cycles, where more of them or a transaction may follow.
+    #[inline(always)]
+    fn holds_idle_alone(&self) -> bool
+        ensures mode { result ≡ true → self.now.mode ≡ Mode.Synced }
+        ensures alone { result ≡ true → self.now.len ≡ 0 }
+        ensures idle { result ≡ true → 0 < self.now.run → self.now.one ≡ false }
+    {
+        let Mode::Synced = self.mode else {
+            return false;
+        };
+        self.len == 0 && (self.run == 0 || !self.one)
     }
 
     /// The bits of the next item, where it is decided and is a transaction, and no bits before it have to be looked at

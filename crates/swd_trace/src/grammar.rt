@@ -1,12 +1,12 @@
 //! Finding the transaction at the front of held bits.
-ghost use Rattle.std.specs.Prelude.{◌≡◌, ◌-◌, ◌/◌, ◌%◌, ◌^◌, ◌<◌, ◌≤◌, List, Bool, ◌++◌};
+ghost use Rattle.std.specs.Prelude.{◌≡◌, ◌-◌, ◌/◌, ◌%◌, ◌^◌, ◌<◌, ◌≤◌, List, Bool, ◌++◌, IfSome};
 ghost use Rattle.swd_bits.specs.Bits.{low_bits};
 ghost use Rattle.swd_bits.specs.declared.request.Request.{Request};
 ghost use Rattle.swd_trace.specs.Stands.{stands, after_request, len_of};
-ghost use Rattle.swd_trace.specs.Fronts.{IsFront};
+ghost use Rattle.swd_trace.specs.Fronts.{IsFront, IsAtFront};
 
 use crate::front::Front;
-use swd_bits::{MOVED_BITS, REFUSED_BITS, Tx, TxBits, UNACKNOWLEDGED_BITS};
+use swd_bits::{MOVED_BITS, REFUSED_BITS, Request, Tx, TxBits, UNACKNOWLEDGED_BITS};
 
 // What the held bits, of which the first is a one, begin as.
 #[inline(always)]
@@ -65,7 +65,26 @@ fn front_of_request(bits: u64, len: u8) -> Front
     }
 }
 
+/// The bits of the transaction at the front of 64 bits, where one stands there that was acknowledged.
+#[inline(always)]
+pub(crate) fn acknowledged(bits: u64) -> Option<TxBits>
+    ensures { IfSome result (λ spelled. IsAtFront bits spelled) }
+{
+    let Some(_) = Request::of((bits % 256) as u8) else {
+        return None;
+    };
+    let len = whole_len(bits >> 9 & 7);
+    if len == UNACKNOWLEDGED_BITS {
+        return None;
+    }
+    Some(TxBits {
+        len,
+        bits: bits & ((1 << len) - 1),
+    })
+}
+
 // How many bits a transaction has, by the number of its acknowledgement.
+#[inline(always)]
 fn whole_len(seen: u64) -> u8
     requires { seen < 8 }
     ensures { result ≡ len_of seen }

@@ -1,5 +1,6 @@
 //! The bits of an item, as they go by.
-ghost use Rattle.std.specs.Prelude.{◌≡◌, ◌+◌, ◌^◌, ◌<◌, ◌≤◌, ◌++◌, ◌∷◌, ◌↔◌, [], Bool, true, false, List, length, IsTrue, IfSome, IfNone};
+ghost use Rattle.std.specs.Prelude.{◌≡◌, ◌+◌, ◌^◌, ◌<◌, ◌≤◌, ◌++◌, ◌∷◌, ◌↔◌, [], Bool, true, false, List};
+ghost use Rattle.std.specs.Prelude.{length, IsTrue, IfSome, IfNone};
 
 use crate::decoder::Decoder;
 use crate::item::Item;

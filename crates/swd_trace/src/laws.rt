@@ -1,5 +1,6 @@
 //! Laws of the reading of a list of bits. The functions do nothing: their contracts are the laws.
-ghost use Rattle.std.specs.Prelude.{◌≡◌, ◌≢◌, ◌↔◌, ℕ, ◌≤◌, Bool, true, false, List, [], ◌∷◌, ◌++◌, length, map, take, nat_le, replicate};
+ghost use Rattle.std.specs.Prelude.{◌≡◌, ◌≢◌, ◌↔◌, ℕ, ◌≤◌, Bool, true, false, List, [], ◌++◌, length, map};
+ghost use Rattle.std.specs.Prelude.{take, nat_le, replicate};
 ghost use Rattle.swd_bits.specs.Transactions.{Spells};
 ghost use Rattle.swd_bits.specs.declared.tx.Tx.{Tx};
 ghost use Rattle.swd_trace.specs.declared.item.Item.{Item};

@@ -3,6 +3,7 @@
 
 mod decoder;
 mod encoder;
+mod found_tx;
 mod front;
 mod grammar;
 mod item;
@@ -15,6 +16,7 @@ mod mode;
 
 pub use decoder::{Decoder, DecoderFields};
 pub use encoder::encode;
+pub use found_tx::FoundTx;
 pub use item::Item;
 pub use item_bytes::ItemBytes;
 pub use item_text::{ItemLine, LONGEST_LINE};

@@ -1,7 +1,7 @@
 //! The numbers and bits of a listing line.
-ghost use Rattle.std.specs.Prelude.{◌≡◌, ℕ, ◌^◌, ◌<◌, ◌≤◌, map, IfSome};
+ghost use Rattle.std.specs.Prelude.{◌≡◌, ℕ, ◌^◌, ◌<◌, map, IfSome};
 ghost use Rattle.std.specs.Fmt.{decimal};
-ghost use Rattle.swd_bits.specs.BitLists.{bits_of, IsSpelled};
+ghost use Rattle.swd_bits.specs.BitLists.{bits_of};
 ghost use Rattle.swd_bits.specs.Listing.{hex8};
 ghost use Rattle.swd_bits.specs.declared.tx_bits.TxBits.{TxBits};
 ghost use Rattle.swd_trace.specs.Listed.{IsCut};

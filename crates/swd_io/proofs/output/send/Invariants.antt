@@ -3,7 +3,12 @@ use Rattle.std.specs.Io.KnownBytes.{Appends}
 use Rattle.swd_io.proofs.output.send.Given as goal
 
 abbrev pub invariant-loop-sent : goal.invariant-loop-sent
-invariant-loop-sent g l = record { within : l.sent ≤ length l.text; written : Appends (g.W.Write.contents l.fn.writer) (g.W.Write.contents l.writer) (take l.sent l.text) }
+invariant-loop-sent g l =
+    record {
+      within : l.sent ≤ length l.text;
+      written : Appends (g.W.Write.contents l.fn.writer)
+          (g.W.Write.contents l.writer) (take l.sent l.text);
+    }
 
 abbrev pub decreases-loop-sent : goal.decreases-loop-sent
 decreases-loop-sent g l = length l.text - l.sent

@@ -11,13 +11,16 @@ use Rattle.swd_text.proofs.DigitLemmas.{front, front_of}
 use Rattle.swd_text.proofs.digits.digits_of.Goals as goal
 
 -- of the first 64 bytes, so of the text
-found : (text : List ℕ) (ones others n : ℕ) → 64 ≤ length text → ones ≡ mask_l (map (λ byte. byte == 49) (chunk 0 64 text)) → others ≡ mask_l (map is_other (chunk 0 64 text)) →
+found : (text : List ℕ) (ones others n : ℕ) → 64 ≤ length text
+    → ones ≡ mask_l (map (λ byte. byte == 49) (chunk 0 64 text)) → others ≡ mask_l (map is_other (chunk 0 64 text)) →
     n ≤ count_trailing_zeros 64 others → take n text ≡ map digit (low_bits n ones)
 found text ones others n long e f h =
     let few : n ≤ 64 = omega (arith, trailing_le 64 others) in
     let all : length (chunk 0 64 text) ≡ 64 = length-chunk 0 64 text long in
     let within = subst (λ m. n ≤ count_trailing_zeros 64 m) f h in
-    sym (take-take n 64 text few) ∙ front (chunk 0 64 text) n (omega (arith, front_of (chunk 0 64 text) all, within)) ∙ ap (λ m. map digit (low_bits n m)) (sym e)
+    sym (take-take n 64 text few) ∙ front (chunk 0 64 text) n (omega (arith, front_of (chunk 0 64 text) all, within))
+    ∙ ap (λ m. map digit (low_bits n m)) (sym e)
 
 pub returns-clause-bits : goal.returns-clause-bits
-returns-clause-bits c = λ n h. found c.args.text.now c.ones.result c.others.result n c.requires c.ones.ensures c.others.ensures h
+returns-clause-bits c = λ n h. found c.args.text.now c.ones.result c.others.result n c.requires c.ones.ensures
+    c.others.ensures h

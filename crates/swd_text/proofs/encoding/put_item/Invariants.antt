@@ -7,7 +7,8 @@ use Rattle.swd_text.proofs.encoding.put_item.Given as goal
 abbrev pub invariant-loop-bytes : goal.invariant-loop-bytes
 invariant-loop-bytes g l = record {
   sends : (start : Option (List ℕ)) (all : List ℕ) → Sends g.W.Write.contents start l.fn.block all
-      → (sent : List ℕ) × (item_text l.item ≡ sent ++ bytes_left l.bytes) × Sends g.W.Write.contents start l.block (all ++ sent);
+      → (sent : List ℕ) × (item_text l.item ≡ sent ++ bytes_left l.bytes)
+      × Sends g.W.Write.contents start l.block (all ++ sent);
   writer : l.block.writer.ghost_name ≡ l.fn.block.writer.ghost_name;
 }
 

@@ -1,4 +1,5 @@
-use Rattle.std.proofs.Common.{◌≡◌, ℕ, zero, suc, ◌+◌, ◌<◌, List, [], ◌∷◌, ◌++◌, length, take, get_or, sym, ap, ◌∙◌, subst, append_assoc, arith, add-one}
+use Rattle.std.proofs.Common.{◌≡◌, ℕ, zero, suc, ◌+◌, ◌<◌, List, [], ◌∷◌, ◌++◌, length, take, get_or, sym, ap, ◌∙◌}
+use Rattle.std.proofs.Common.{subst, append_assoc, arith, add-one}
 use Rattle.std.proofs.lemmas.List.{append-nil}
 use Rattle.std.proofs.Math.Seq.{take-suc}
 use Rattle.swd_trace.specs.declared.item.Item.{Item}
@@ -16,11 +17,14 @@ legal_at (item ∷ items) (suc k) d h l = legal_at items k d (omega arith) l.1
 -- the text of some items and one more
 trace_more : (items : List Item) (item : Item) → trace_text (items ++ item ∷ []) ≡ trace_text items ++ item_text item
 trace_more [] item = append-nil (item_text item)
-trace_more (i ∷ items) item = ap (λ x. item_text i ++ x) (trace_more items item) ∙ sym (append_assoc (item_text i) (trace_text items) (item_text item))
+trace_more (i ∷ items) item = ap (λ x. item_text i ++ x) (trace_more items item)
+    ∙ sym (append_assoc (item_text i) (trace_text items) (item_text item))
 
-trace_next : (items : List Item) (k : ℕ) (d : Item) → k < length items → trace_text (take (k + 1) items) ≡ trace_text (take k items) ++ item_text (get_or items k d)
+trace_next : (items : List Item) (k : ℕ) (d : Item) → k < length items
+    → trace_text (take (k + 1) items) ≡ trace_text (take k items) ++ item_text (get_or items k d)
 trace_next items k d h =
-    ap (λ n. trace_text (take n items)) (add-one k) ∙ ap trace_text (take-suc items k d h) ∙ trace_more (take k items) (get_or items k d)
+    ap (λ n. trace_text (take n items)) (add-one k) ∙ ap trace_text (take-suc items k d h)
+    ∙ trace_more (take k items) (get_or items k d)
 
 pub put_item-requires : goal.put_item-requires
 put_item-requires g c = legal_at c.args.items.now c.loop-item.item-index _ c.loop-item-test.true c.requires
@@ -30,6 +34,7 @@ loop-item-preserved g c = record {
   sends =
       subst (Sends g.W.Write.contents (g.W.Write.contents c.args.writer.now) c.put_item.new.block)
       (sym (trace_next c.args.items.now c.loop-item.item-index _ c.loop-item-test.true))
-      (c.put_item.ensures.sends (g.W.Write.contents c.args.writer.now) (trace_text (take c.loop-item.item-index c.args.items.now)) c.loop-item.invariant.sends);
+      (c.put_item.ensures.sends (g.W.Write.contents c.args.writer.now)
+      (trace_text (take c.loop-item.item-index c.args.items.now)) c.loop-item.invariant.sends);
   writer = c.put_item.ensures.writer ∙ c.loop-item.invariant.writer;
 }

@@ -6,7 +6,8 @@ use Rattle.swd_trace.proofs.encoder.encode.Given as goal
 
 abbrev pub invariant-loop-bytes : goal.invariant-loop-bytes
 invariant-loop-bytes g l =
-    (sent : List ℕ) × (item_text l.item ≡ sent ++ bytes_left l.bytes) × Appends (g.W.Write.contents l.fn.writer) (g.W.Write.contents l.writer) sent
+    (sent : List ℕ) × (item_text l.item ≡ sent ++ bytes_left l.bytes)
+    × Appends (g.W.Write.contents l.fn.writer) (g.W.Write.contents l.writer) sent
 
 abbrev pub decreases-loop-bytes : goal.decreases-loop-bytes
 decreases-loop-bytes g l = length (bytes_left l.bytes)

@@ -2,7 +2,8 @@ use Rattle.std.proofs.Common.{◌≡◌, ◌-◌, ◌/◌, ◌^◌, ◌≤◌, �
 use Rattle.swd_bits.specs.Bits.{low_bits}
 use Rattle.swd_bits.proofs.BitsLemmas.{length-low_bits}
 use Rattle.swd_trace.specs.Stands.{Whole, len_of}
-use Rattle.swd_trace.proofs.GrammarLemmas.{request_few, length_after, ack_of, len_of_least, len_of_most, begun_by_len, whole_by_len, spelled_front, front_spelled}
+use Rattle.swd_trace.proofs.GrammarLemmas.{request_few, length_after, ack_of, len_of_least, len_of_most, begun_by_len}
+use Rattle.swd_trace.proofs.GrammarLemmas.{whole_by_len, spelled_front, front_spelled}
 use Rattle.swd_trace.proofs.grammar.front_of_request.Goals as goal
 
 pub returns-then-len-lt-UNACKNOWLEDGED_BITS : goal.returns-then-len-lt-UNACKNOWLEDGED_BITS
@@ -12,7 +13,9 @@ returns-then-len-lt-UNACKNOWLEDGED_BITS c =
       omega arith,
       λ more s.
           let m = length_after 8 c.args.len (c.args.bits / 2 ^ 8) more in
-          c.requires.request.1 more ∙ request_few c.requires.request.0 (low_bits (c.args.len - 8) (c.args.bits / 2 ^ 8) ++ more) (omega arith),
+          c.requires.request.1 more
+          ∙ request_few c.requires.request.0 (low_bits (c.args.len - 8) (c.args.bits / 2 ^ 8) ++ more)
+          (omega arith),
     )
 
 pub returns-then-len-whole : goal.returns-then-len-whole
@@ -23,18 +26,24 @@ returns-then-len-whole c =
       omega arith,
       omega arith,
       λ more s.
-          begun_by_len c.requires.request.0 c.args.len c.args.bits c.requires.request.1 c.if-len-lt-UNACKNOWLEDGED_BITS.false more (omega arith),
+          begun_by_len c.requires.request.0 c.args.len c.args.bits c.requires.request.1
+          c.if-len-lt-UNACKNOWLEDGED_BITS.false more (omega arith),
     )
 
 pub returns-in-Some : goal.returns-in-Some
 returns-in-Some c =
     let w : c.whole_len-whole.result ≡ len_of (ack_of c.args.bits) = c.whole_len-whole.ensures in
-    let m : 12 ≤ len_of (ack_of c.args.bits) = len_of_least (ack_of c.args.bits) in
-    (spelled_front c.args.len c.args.bits c.whole_len-whole.result c.in-Some.tx c.if-len-whole.false (omega arith) c.in-Some.ensures.found, omega arith)
+    let m : 12 ≤ len_of (ack_of c.args.bits) = len_of_least (ack_of c.args.bits) in (
+      spelled_front c.args.len c.args.bits c.whole_len-whole.result c.in-Some.tx c.if-len-whole.false (omega arith)
+          c.in-Some.ensures.found,
+      omega arith,
+    )
 
 pub returns-in-None : goal.returns-in-None
 returns-in-None c =
     let w : c.whole_len-whole.result ≡ len_of (ack_of c.args.bits) = c.whole_len-whole.ensures in
-    let r = whole_by_len c.requires.request.0 c.args.len c.args.bits c.requires.request.1 c.if-len-lt-UNACKNOWLEDGED_BITS.false (omega arith) in
+    let r = whole_by_len c.requires.request.0 c.args.len c.args.bits c.requires.request.1
+    c.if-len-lt-UNACKNOWLEDGED_BITS.false (omega arith) in
     absurd (c.in-None.ensures.none r.0
-    (front_spelled c.args.len c.args.bits c.whole_len-whole.result r.0 c.if-len-whole.false (omega arith) (r.1 ∙ ap (Whole r.0) (sym w))))
+    (front_spelled c.args.len c.args.bits c.whole_len-whole.result r.0 c.if-len-whole.false (omega arith)
+    (r.1 ∙ ap (Whole r.0) (sym w))))

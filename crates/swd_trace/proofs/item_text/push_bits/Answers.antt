@@ -1,4 +1,6 @@
-use Rattle.std.proofs.Common.{rules, ◌≡◌, ℕ, ◌+◌, ◌-◌, ◌/◌, ◌%◌, ◌<◌, ◌≤◌, List, [], ◌∷◌, ◌++◌, map, append_assoc, sym, ap, ◌∙◌, arith}
+use Rattle.std.proofs.Common.{rules, ◌≡◌, ℕ, ◌+◌, ◌-◌, ◌/◌, ◌%◌, ◌<◌, ◌≤◌, List, [], ◌∷◌, ◌++◌, map}
+use Rattle.std.proofs.Common.{append_assoc, sym}
+use Rattle.std.proofs.Common.{ap, ◌∙◌, arith}
 use Rattle.std.specs.Prelude.{◌==◌}
 use Rattle.std.proofs.lemmas.List.{append-nil}
 use Rattle.swd_bits.specs.Bits.{low_bits}
@@ -31,4 +33,5 @@ done text all len at v h k =
     sym (append-nil text) ∙ ap (λ x. text ++ map digit x) (sym (no_bits (len - at) v none)) ∙ k
 
 pub returns-clause-bytes : goal.returns-clause-bytes
-returns-clause-bytes g c = done c.loop.text.bytes _ c.args.bits.len c.loop.counter c.loop.rest c.loop-test.false c.loop.invariant.kept
+returns-clause-bytes g c = done c.loop.text.bytes _ c.args.bits.len c.loop.counter c.loop.rest c.loop-test.false
+    c.loop.invariant.kept

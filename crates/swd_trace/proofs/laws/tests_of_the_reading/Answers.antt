@@ -1,5 +1,6 @@
 use Rattle.swd_trace.specs.Reading.{switch}
-use Rattle.swd_trace.proofs.LawLemmas.{whole_spells, spells_whole, begun_spells, spells_begun, fifty_stand, stand_fifty, fewer_begin, begin_fewer, with_front, front_of}
+use Rattle.swd_trace.proofs.LawLemmas.{whole_spells, spells_whole, begun_spells, spells_begun, fifty_stand, stand_fifty}
+use Rattle.swd_trace.proofs.LawLemmas.{fewer_begin, begin_fewer, with_front, front_of}
 use Rattle.swd_trace.proofs.laws.tests_of_the_reading.Goals as goal
 
 pub returns-clause-transaction : goal.returns-clause-transaction

@@ -9,7 +9,8 @@ returns-in-Ok-clause-sends g c = λ start all h.
     let text = c.as_slice.ensures in
     of_carries contents block.failed start _ all c.if-self.false
     (gone_out contents start block _ all c.as_slice.result.now text c.in-Ok.ensures.ok
-    c.clear.ensures.bytes (c.saturating_add-self.ensures ∙ ap (λ n. min (block.written + n) (2 ^ 64 - 1)) (c.len.ensures.bytes ∙ ap length (sym text)))
+    c.clear.ensures.bytes (c.saturating_add-self.ensures
+    ∙ ap (λ n. min (block.written + n) (2 ^ 64 - 1)) (c.len.ensures.bytes ∙ ap length (sym text)))
     (to_carries contents block.failed start block all c.if-self.false h))
 
 pub returns-in-Err-clause-sends : goal.returns-in-Err-clause-sends

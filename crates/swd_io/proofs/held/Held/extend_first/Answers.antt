@@ -10,9 +10,10 @@ first_added n m k bytes old piece l e h =
     let whole : length (take m bytes) ≡ length old + length piece = ap length e ∙ length-append old piece in
     let within : length old + k ≤ length (take m bytes) = omega arith in
     let cut : take (length old + k) bytes ≡ take (length old + k) (take m bytes)
-    = ap (take (length old + k)) (sym (take-append-drop m bytes)) ∙ take-append-le (length old + k) (take m bytes) (drop m bytes) within in
+    = ap (take (length old + k)) (sym (take-append-drop m bytes))
+    ∙ take-append-le (length old + k) (take m bytes) (drop m bytes) within in
     ap (λ j. take (j + k) bytes) (sym l) ∙ cut ∙ ap (take (length old + k)) e ∙ take-append-add old piece k
 
-pub returns : goal.returns
-returns g c = first_added c.args.self.now.len _ c.args.count _ _ c.args.piece.now
-    (length-take-le c.args.self.now.len c.args.self.now.bytes (omega arith)) c.extend.ensures (omega arith)
+pub returns-clause-bytes : goal.returns-clause-bytes
+returns-clause-bytes g c = first_added c.args.self.now.len _ c.args.count _ _ c.args.piece.now
+    (length-take-le c.args.self.now.len c.args.self.now.bytes (omega arith)) c.extend.ensures.bytes (omega arith)

@@ -5,4 +5,5 @@ use Rattle.swd_text.proofs.lister.Lister.bit.Goals as goal
 pub returns-clause-ok : goal.returns-clause-ok
 returns-clause-ok g c = λ start bits items h.
     c.put_due.ensures.lists start (bits ++ c.args.bit ∷ []) items
-    (more_bits g.W.Write.contents start c.args.self.now.decoder c.take.new.self c.args.block.now bits items (c.args.bit ∷ []) c.take.ensures.law c.take.ensures.fed (omega arith) h)
+    (more_bits g.W.Write.contents start c.args.self.now.decoder c.take.new.self c.args.block.now bits items
+    (c.args.bit ∷ []) c.take.ensures.law c.take.ensures.fed (omega arith) h)

@@ -13,7 +13,8 @@ returns-in-Passed-clause-ok g c = λ start seen h.
       read = record {
         bits = r.bits;
         items = r.items;
-        reads = reads_passed seen r.bits lister.scan c.byte.new.self c.args.byte c.in-Passed.ensures.sign c.in-Passed.ensures.comment r.reads;
+        reads = reads_passed seen r.bits lister.scan c.byte.new.self c.args.byte c.in-Passed.ensures.sign
+            c.in-Passed.ensures.comment r.reads;
         undecided = r.undecided;
         law = r.law;
         count = r.count;
@@ -25,7 +26,11 @@ returns-in-Passed-clause-ok g c = λ start seen h.
 pub returns-in-Bad-clause-err : goal.returns-in-Bad-clause-err
 returns-in-Bad-clause-err g c = λ start seen h.
     let lister = c.args.self.now in (
-      (c.saturating_add.ensures, λ more. first_bad seen more h.read.bits lister.scan c.args.byte c.in-Bad.ensures.sign h.read.reads),
+      (
+        c.saturating_add.ensures,
+        λ more. first_bad seen more h.read.bits lister.scan c.args.byte c.in-Bad.ensures.sign
+            h.read.reads,
+      ),
       (lister.scan, h),
     )
 
@@ -34,12 +39,14 @@ returns-in-Bit-clause-ok g c = on_ok c.bit.result
     (λ lists undecided start seen h.
     let lister = c.args.self.now in
     let r = h.read in
-    let m = lists start r.bits r.items (lists_of g.W.Write.contents start lister.decoder lister.scan c.args.block.now seen h) in
+    let m = lists start r.bits r.items
+    (lists_of g.W.Write.contents start lister.decoder lister.scan c.args.block.now seen h) in
     record {
       read = record {
         bits = r.bits ++ c.in-Bit.bit ∷ [];
         items = m.0;
-        reads = reads_bit seen r.bits lister.scan c.bit.new.self.scan c.in-Bit.bit c.args.byte c.in-Bit.ensures.sign (c.bit.ensures.scan ∙ c.in-Bit.ensures.comment) r.reads;
+        reads = reads_bit seen r.bits lister.scan c.bit.new.self.scan c.in-Bit.bit c.args.byte c.in-Bit.ensures.sign
+            (c.bit.ensures.scan ∙ c.in-Bit.ensures.comment) r.reads;
         undecided = undecided;
         law = m.1.law;
         count = m.1.count;
@@ -61,7 +68,8 @@ returns-in-Bit-clause-err g c = on_err c.bit.result
       subst (λ f. StopsAt f place seen c.args.byte) (sym long.0) (record {
         bits = r.bits ++ c.in-Bit.bit ∷ [];
         comment = c.byte.new.self;
-        reads = reads_bit seen r.bits lister.scan c.byte.new.self c.in-Bit.bit c.args.byte c.in-Bit.ensures.sign c.in-Bit.ensures.comment r.reads;
+        reads = reads_bit seen r.bits lister.scan c.byte.new.self c.in-Bit.bit c.args.byte c.in-Bit.ensures.sign
+            c.in-Bit.ensures.comment r.reads;
         long = omega arith;
       }),
       (

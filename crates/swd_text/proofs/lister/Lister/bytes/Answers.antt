@@ -1,4 +1,5 @@
-use Rattle.std.proofs.Common.{◌≡◌, ℕ, suc, ◌+◌, ◌-◌, ◌^◌, ◌<◌, min, List, [], ◌∷◌, ◌++◌, length, take, drop, get_or, Option, refl, sym, ap, ◌∙◌, subst, append_assoc, add-one, take_all, arith}
+use Rattle.std.proofs.Common.{◌≡◌, ℕ, suc, ◌+◌, ◌-◌, ◌^◌, ◌<◌, min, List, [], ◌∷◌, ◌++◌, length, take, drop, get_or}
+use Rattle.std.proofs.Common.{Option, refl, sym, ap, ◌∙◌, subst, append_assoc, add-one, take_all, arith}
 use Rattle.std.proofs.Math.Seq.{take-add, take-suc}
 use Rattle.std.proofs.lemmas.List.{length-append, length-drop, length-take-le}
 use Rattle.swd_io.specs.declared.block.Block.{Block}
@@ -9,16 +10,22 @@ use Rattle.swd_text.specs.declared.lister.Lister.{Lister}
 use Rattle.swd_text.proofs.DecodingLemmas.{decided_by, stops_with}
 use Rattle.swd_text.proofs.lister.Lister.bytes.Goals as goal
 
-least : (place index before seen : ℕ) → place ≡ min before (2 ^ 64 - 1) → seen ≡ before + index → min (place + index) (2 ^ 64 - 1) ≡ min seen (2 ^ 64 - 1)
+least : (place index before seen : ℕ) → place ≡ min before (2 ^ 64 - 1) → seen ≡ before + index
+    → min (place + index) (2 ^ 64 - 1) ≡ min seen (2 ^ 64 - 1)
 least place index before seen p q = omega arith
 
 -- bytes at a place of a piece, as bytes of its front
-more : {W : Type 0} (contents : W → Option (List ℕ)) (start : Option (List ℕ)) (lister : Lister) (block : Block W) (seen piece : List ℕ) (index n m : ℕ) → m ≡ index + n →
-    GoesOn contents start lister block ((seen ++ take index piece) ++ take n (take (length piece - index) (drop index piece))) → GoesOn contents start lister block (seen ++ take m piece)
+more : {W : Type 0} (contents : W → Option (List ℕ)) (start : Option (List ℕ)) (lister : Lister) (block : Block W)
+    (seen piece : List ℕ) (index n m : ℕ) → m ≡ index + n →
+    GoesOn contents start lister block
+    ((seen ++ take index piece) ++ take n (take (length piece - index) (drop index piece)))
+    → GoesOn contents start lister block (seen ++ take m piece)
 more contents start lister block seen piece index n m e =
     subst (GoesOn contents start lister block)
-    (ap (λ x. (seen ++ take index piece) ++ take n x) (take_all _ (drop index piece) (omega (arith, length-drop index piece)))
-    ∙ append_assoc seen (take index piece) (take n (drop index piece)) ∙ ap (λ x. seen ++ x) (sym (take-add index n piece) ∙ ap (λ k. take k piece) (sym e)))
+    (ap (λ x. (seen ++ take index piece) ++ take n x)
+    (take_all _ (drop index piece) (omega (arith, length-drop index piece)))
+    ∙ append_assoc seen (take index piece) (take n (drop index piece))
+    ∙ ap (λ x. seen ++ x) (sym (take-add index n piece) ∙ ap (λ k. take k piece) (sym e)))
 
 pub returns-in-Err-clause-err : goal.returns-in-Err-clause-err
 returns-in-Err-clause-err g c = λ start seen h place.
@@ -32,13 +39,16 @@ returns-in-Err-clause-err g c = λ start seen h place.
     let front : length (take index piece) ≡ index = length-take-le index piece (omega arith) in
     let len : length so_far ≡ length seen + length (take index piece) = length-append seen (take index piece) in
     let far : length so_far ≡ length seen + index = omega arith in
-    let here : c.digits-taken.new.self.place ≡ c.args.self.now.place = c.digits-taken.ensures.place ∙ c.loop-index.invariant.place in
-    let at : min (c.digits-taken.new.self.place + index) (2 ^ 64 - 1) ≡ min (length so_far) (2 ^ 64 - 1) =
-    least c.digits-taken.new.self.place index (length seen) (length so_far) (here ∙ place) far in
-    let none : index ≡ index + c.digits-taken.result = omega arith in
+    let here : c.bytes_at_once-taken.new.self.place ≡ c.args.self.now.place = c.bytes_at_once-taken.ensures.place
+    ∙ c.loop-index.invariant.place in
+    let at : min (c.bytes_at_once-taken.new.self.place + index) (2 ^ 64 - 1) ≡ min (length so_far) (2 ^ 64 - 1) =
+    least c.bytes_at_once-taken.new.self.place index (length seen) (length so_far) (here ∙ place) far in
+    let none : index ≡ index + c.bytes_at_once-taken.result = omega arith in
     let unmoved =
-    more contents start c.digits-taken.new.self c.digits-taken.new.block seen piece index c.digits-taken.result index none
-    (c.digits-taken.ensures.taken start so_far (c.loop-index.invariant.goes start seen h)) in
+    more contents start c.bytes_at_once-taken.new.self c.bytes_at_once-taken.new.block seen piece index
+    c.bytes_at_once-taken.result index
+    none
+    (c.bytes_at_once-taken.ensures.taken start so_far (c.loop-index.invariant.goes start seen h)) in
     let s = c.in-Err.ensures.err start so_far unmoved in
     let listed = s.1.1 in
     let due = decided_by c.byte.new.self.decoder s.1.0 so_far listed.read in
@@ -46,41 +56,51 @@ returns-in-Err-clause-err g c = λ start seen h place.
       items = listed.read.items;
       stops = λ more.
           subst (StopsWith fault listed.read.items) (parted seen piece more index within)
-          (stops_with fault so_far (drop (suc index) piece ++ more) byte listed.read.items (subst (λ p. StopsAt fault p so_far byte) at s.0) due);
+          (stops_with fault so_far (drop (suc index) piece ++ more) byte listed.read.items
+          (subst (λ p. StopsAt fault p so_far byte) at s.0) due);
       sends = listed.sends;
     }
 
 -- one byte more of the piece
-next_byte : (seen piece : List ℕ) (index : ℕ) → index < length piece → (seen ++ take index piece) ++ get_or piece index 0 ∷ [] ≡ seen ++ take (index + 1) piece
-next_byte seen piece index h = append_assoc seen (take index piece) (get_or piece index 0 ∷ []) ∙ ap (λ x. seen ++ x) (sym (ap (λ n. take n piece) (add-one index) ∙ take-suc piece index 0 h))
+next_byte : (seen piece : List ℕ) (index : ℕ) → index < length piece
+    → (seen ++ take index piece) ++ get_or piece index 0 ∷ [] ≡ seen ++ take (index + 1) piece
+next_byte seen piece index h = append_assoc seen (take index piece) (get_or piece index 0 ∷ [])
+    ∙ ap (λ x. seen ++ x) (sym (ap (λ n. take n piece) (add-one index) ∙ take-suc piece index 0 h))
 
 pub loop-index-preserved-then-taken-gt0 : goal.loop-index-preserved-then-taken-gt0
 loop-index-preserved-then-taken-gt0 g c = record {
-  within = omega (arith, c.digits-taken.ensures.within, length-drop c.loop-index.index c.args.piece.now);
-  settled = c.digits-taken.ensures.settled;
-  place = c.digits-taken.ensures.place ∙ c.loop-index.invariant.place;
-  writer = c.digits-taken.ensures.writer ∙ c.loop-index.invariant.writer;
+  within = omega (arith, c.bytes_at_once-taken.ensures.within, length-drop c.loop-index.index c.args.piece.now);
+  settled = c.bytes_at_once-taken.ensures.settled;
+  place = c.bytes_at_once-taken.ensures.place ∙ c.loop-index.invariant.place;
+  writer = c.bytes_at_once-taken.ensures.writer ∙ c.loop-index.invariant.writer;
   goes = λ start seen h.
-      more g.W.Write.contents start c.digits-taken.new.self c.digits-taken.new.block seen c.args.piece.now c.loop-index.index c.digits-taken.result _ refl
-      (c.digits-taken.ensures.taken start (seen ++ take c.loop-index.index c.args.piece.now) (c.loop-index.invariant.goes start seen h));
+      more g.W.Write.contents start c.bytes_at_once-taken.new.self c.bytes_at_once-taken.new.block seen c.args.piece.now
+      c.loop-index.index c.bytes_at_once-taken.result _ refl
+      (c.bytes_at_once-taken.ensures.taken start (seen ++ take c.loop-index.index c.args.piece.now)
+      (c.loop-index.invariant.goes start seen h));
 }
 
 pub loop-index-preserved : goal.loop-index-preserved
 loop-index-preserved g c = record {
   within = omega arith;
   settled = c.byte.ensures.settled;
-  place = c.byte.ensures.place ∙ c.digits-taken.ensures.place ∙ c.loop-index.invariant.place;
-  writer = c.byte.ensures.writer ∙ c.digits-taken.ensures.writer ∙ c.loop-index.invariant.writer;
+  place = c.byte.ensures.place ∙ c.bytes_at_once-taken.ensures.place ∙ c.loop-index.invariant.place;
+  writer = c.byte.ensures.writer ∙ c.bytes_at_once-taken.ensures.writer ∙ c.loop-index.invariant.writer;
   goes = λ start seen h.
-      let none : c.loop-index.index ≡ c.loop-index.index + c.digits-taken.result = omega arith in
+      let none : c.loop-index.index ≡ c.loop-index.index + c.bytes_at_once-taken.result = omega arith in
       let unmoved =
-      more g.W.Write.contents start c.digits-taken.new.self c.digits-taken.new.block seen c.args.piece.now c.loop-index.index c.digits-taken.result c.loop-index.index none
-      (c.digits-taken.ensures.taken start (seen ++ take c.loop-index.index c.args.piece.now) (c.loop-index.invariant.goes start seen h)) in
-      subst (GoesOn g.W.Write.contents start c.byte.new.self c.byte.new.block) (next_byte seen c.args.piece.now c.loop-index.index c.loop-index-test.true)
+      more g.W.Write.contents start c.bytes_at_once-taken.new.self c.bytes_at_once-taken.new.block seen c.args.piece.now
+      c.loop-index.index c.bytes_at_once-taken.result c.loop-index.index none
+      (c.bytes_at_once-taken.ensures.taken start (seen ++ take c.loop-index.index c.args.piece.now)
+      (c.loop-index.invariant.goes start seen h)) in
+      subst (GoesOn g.W.Write.contents start c.byte.new.self c.byte.new.block)
+      (next_byte seen c.args.piece.now c.loop-index.index c.loop-index-test.true)
       (c.in_default.ensures.ok start (seen ++ take c.loop-index.index c.args.piece.now) unmoved);
 }
 
 pub returns-clause-ok : goal.returns-clause-ok
 returns-clause-ok g c = λ start seen h.
-    let all : take c.loop-index.index c.args.piece.now ≡ c.args.piece.now = take_all c.loop-index.index c.args.piece.now (omega arith) in
-    subst (λ x. GoesOn g.W.Write.contents start c.loop-index.self c.loop-index.block (seen ++ x)) all (c.loop-index.invariant.goes start seen h)
+    let all : take c.loop-index.index c.args.piece.now ≡ c.args.piece.now = take_all c.loop-index.index c.args.piece.now
+    (omega arith) in
+    subst (λ x. GoesOn g.W.Write.contents start c.loop-index.self c.loop-index.block (seen ++ x)) all
+    (c.loop-index.invariant.goes start seen h)

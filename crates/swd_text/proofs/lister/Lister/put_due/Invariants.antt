@@ -6,7 +6,8 @@ use Rattle.swd_text.proofs.lister.Lister.put_due.Given as goal
 
 abbrev pub invariant-loop-item : goal.invariant-loop-item
 invariant-loop-item g l = record {
-  lists : (start : Option (List ℕ)) (bits : List Bool) (items : List Item) → Lists g.W.Write.contents start l.fn.self.decoder l.fn.block bits items
+  lists : (start : Option (List ℕ)) (bits : List Bool) (items : List Item)
+      → Lists g.W.Write.contents start l.fn.self.decoder l.fn.block bits items
       → (more : List Item) × Lists g.W.Write.contents start l.self.decoder l.block bits more;
   scan : l.self.scan ≡ l.fn.self.scan;
   place : l.self.place ≡ l.fn.self.place;

@@ -9,7 +9,8 @@ loop-item-preserved g c = record {
   sends = λ start bits items h.
       let i = c.loop-item.invariant.sends start bits items h in (
         i.0 ++ c.in-Some.item ∷ [],
-        append_assoc i.0 (c.in-Some.item ∷ []) (rest c.last.new.self []) ∙ ap (λ x. i.0 ++ x) (sym c.in-Some.ensures.item) ∙ i.1,
+        append_assoc i.0 (c.in-Some.item ∷ []) (rest c.last.new.self [])
+            ∙ ap (λ x. i.0 ++ x) (sym c.in-Some.ensures.item) ∙ i.1,
         subst (λ all. Sends g.W.Write.contents start c.put_line.new.block all) (sym (listing_more i.0 c.in-Some.item))
             (c.put_line.ensures.sends start _ i.2),
       );

@@ -9,8 +9,10 @@ use Rattle.swd_text.proofs.lister.Lister.put_last.Given as goal
 
 abbrev pub invariant-loop-item : goal.invariant-loop-item
 invariant-loop-item g l = record {
-  sends : (start : Option (List ℕ)) (bits : List Bool) (items : List Item) → Lists g.W.Write.contents start l.fn.self.decoder l.fn.block bits items
-      → (given : List Item) × (given ++ rest l.self.decoder [] ≡ reading_of bits) × Sends g.W.Write.contents start l.block (listing given);
+  sends : (start : Option (List ℕ)) (bits : List Bool) (items : List Item)
+      → Lists g.W.Write.contents start l.fn.self.decoder l.fn.block bits items
+      → (given : List Item) × (given ++ rest l.self.decoder [] ≡ reading_of bits)
+      × Sends g.W.Write.contents start l.block (listing given);
   writer : l.block.writer.ghost_name ≡ l.fn.block.writer.ghost_name;
 }
 

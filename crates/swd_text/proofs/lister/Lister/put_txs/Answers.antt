@@ -11,13 +11,15 @@ loop-spelled-preserved g c = record {
       let spelled = c.in-Some.ensures.tx.found.1 in
       let gives = c.in-Some.ensures.tx.gives tx spelled in (
         i.0 ++ Tx tx ∷ [],
-        one_more g.W.Write.contents start c.loop-spelled.self.decoder c.due_tx.new.self c.loop-spelled.block c.put_tx.new.block bits i.0 (Tx tx)
-            gives.law gives.fed (λ all s. c.put_tx.ensures.sends tx spelled start all s) i.1,
+        one_more g.W.Write.contents start c.loop-spelled.self.decoder c.due_tx.new.self c.loop-spelled.block
+            c.put_held_tx.new.block bits i.0 (Tx tx)
+            gives.law gives.fed (λ all s. c.put_held_tx.ensures.sends tx spelled start all s) i.1,
       );
   scan = c.loop-spelled.invariant.scan;
   place = c.loop-spelled.invariant.place;
-  writer = c.put_tx.ensures.writer ∙ c.loop-spelled.invariant.writer;
+  writer = c.put_held_tx.ensures.writer ∙ c.loop-spelled.invariant.writer;
 }
 
 pub loop-spelled-smaller : goal.loop-spelled-smaller
-loop-spelled-smaller g c = let gives = c.in-Some.ensures.tx.gives c.in-Some.ensures.tx.found.0 c.in-Some.ensures.tx.found.1 in gives.fewer
+loop-spelled-smaller g c = let gives = c.in-Some.ensures.tx.gives c.in-Some.ensures.tx.found.0
+    c.in-Some.ensures.tx.found.1 in gives.fewer

@@ -11,16 +11,19 @@ pub returns-then-self-mask : goal.returns-then-self-mask
 returns-then-self-mask c =
     let seen : c.min-seen.result ≡ min c.args.self.now.len 16 = c.min-seen.ensures in
     decides_after c.args.self.now _ c.synced.new.self c.synced.result c.synced.ensures
-    (λ more. same_law c.args.self.now.mode Synced c.args.self.now.one c.args.self.now.run (low_bits c.args.self.now.len c.args.self.now.bits ++ more)
+    (λ more. same_law c.args.self.now.mode Synced c.args.self.now.one c.args.self.now.run
+    (low_bits c.args.self.now.len c.args.self.now.bits ++ more)
     (low_bits c.args.self.now.len c.args.self.now.bits ++ more) c.requires.run
-    (no_switch_law c.args.self.now.mode c.args.self.now.one c.args.self.now.len c.args.self.now.bits c.min-seen.result c.requires.mode (omega arith) (omega arith) c.if-self-mask.true more))
+    (no_switch_law c.args.self.now.mode c.args.self.now.one c.args.self.now.len c.args.self.now.bits c.min-seen.result
+    c.requires.mode (omega arith) (omega arith) c.if-self-mask.true more))
     refl refl
 
 pub invariant_of-self-then-self-lt-SWITCH_BITS : goal.invariant_of-self-then-self-lt-SWITCH_BITS
 invariant_of-self-then-self-lt-SWITCH_BITS c =
     let seen : c.min-seen.result ≡ c.args.self.now.len = c.min-seen.ensures ∙ omega arith in
     record {
-      holds = holds_switching c.args.self.now.mode c.args.self.now.one c.args.self.now.run c.args.self.now.len c.args.self.now.bits c.args.self.now.next c.args.self.now.fed
+      holds = holds_switching c.args.self.now.mode c.args.self.now.one c.args.self.now.run c.args.self.now.len
+          c.args.self.now.bits c.args.self.now.next c.args.self.now.fed
           c.args.self.now.holds c.requires.run c.requires.mode c.requires.some c.if-self-lt-SWITCH_BITS.true
           (subst (λ n. bit_and c.args.self.now.bits (mask_of n) ≡ bit_and 59294 (mask_of n)) seen c.if-self-mask.false);
     }
@@ -32,8 +35,10 @@ returns-then-self-lt-SWITCH_BITS c =
       law = λ more. refl;
       open_end = record {
         ran = λ p. let none : c.args.self.now.run ≡ 0 = c.requires.run in absurd (omega arith);
-        held = λ e p. switch_open c.args.self.now.mode c.args.self.now.len c.args.self.now.bits c.requires.mode c.if-self-lt-SWITCH_BITS.true
-            (subst (λ n. bit_and c.args.self.now.bits (mask_of n) ≡ bit_and 59294 (mask_of n)) seen c.if-self-mask.false);
+        held = λ e p. switch_open c.args.self.now.mode c.args.self.now.len c.args.self.now.bits c.requires.mode
+            c.if-self-lt-SWITCH_BITS.true
+            (subst (λ n. bit_and c.args.self.now.bits (mask_of n) ≡ bit_and 59294 (mask_of n)) seen
+            c.if-self-mask.false);
       };
       settled = omega arith;
       places = omega arith;
@@ -42,7 +47,8 @@ returns-then-self-lt-SWITCH_BITS c =
 
 pub invariant_of-self-2 : goal.invariant_of-self-2
 invariant_of-self-2 c = record {
-  holds = holds_fewer c.args.self.now.mode AfterSwitch c.args.self.now.one c.args.self.now.run c.args.self.now.len c.args.self.now.bits c.args.self.now.next c.args.self.now.fed
+  holds = holds_fewer c.args.self.now.mode AfterSwitch c.args.self.now.one c.args.self.now.run c.args.self.now.len
+      c.args.self.now.bits c.args.self.now.next c.args.self.now.fed
       16 c.args.self.now.holds c.requires.run c.if-self-lt-SWITCH_BITS.false;
 }
 
@@ -52,10 +58,12 @@ returns c =
     let long : 16 ≤ c.args.self.now.len = c.if-self-lt-SWITCH_BITS.false in
     record {
       law = λ more.
-          bits_law c.args.self.now.mode AfterSwitch c.args.self.now.one c.args.self.now.run Switch (low_bits c.args.self.now.len c.args.self.now.bits ++ more)
+          bits_law c.args.self.now.mode AfterSwitch c.args.self.now.one c.args.self.now.run Switch
+          (low_bits c.args.self.now.len c.args.self.now.bits ++ more)
           (low_bits (c.args.self.now.len - 16) (c.args.self.now.bits / 2 ^ 16) ++ more) c.requires.run
           (switch_bits_law c.args.self.now.mode c.args.self.now.len c.args.self.now.bits c.requires.mode long
-          (subst (λ n. bit_and c.args.self.now.bits (mask_of n) ≡ bit_and 59294 (mask_of n)) seen c.if-self-mask.false) more);
+          (subst (λ n. bit_and c.args.self.now.bits (mask_of n) ≡ bit_and 59294 (mask_of n)) seen c.if-self-mask.false)
+          more);
       fewer = omega arith;
       fed = refl;
     }

@@ -8,13 +8,15 @@ use Rattle.swd_trace.proofs.decoder.Decoder.close_bits.Goals as goal
 
 pub invariant_of-self : goal.invariant_of-self
 invariant_of-self c = record {
-  holds = holds_fewer c.args.self.now.mode Synced c.args.self.now.one c.args.self.now.run c.args.self.now.len c.args.self.now.bits c.args.self.now.next c.args.self.now.fed
+  holds = holds_fewer c.args.self.now.mode Synced c.args.self.now.one c.args.self.now.run c.args.self.now.len
+      c.args.self.now.bits c.args.self.now.next c.args.self.now.fed
       1 c.args.self.now.holds c.requires.run c.requires.some;
 }
 
 pub returns-in-AfterReset : goal.returns-in-AfterReset
 returns-in-AfterReset c = record {
-  law = begun_switch c.args.self.now.mode c.args.self.now.one c.args.self.now.run c.args.self.now.len c.args.self.now.bits c.in-AfterReset.is c.requires.run c.requires.some c.requires.open_end;
+  law = begun_switch c.args.self.now.mode c.args.self.now.one c.args.self.now.run c.args.self.now.len
+      c.args.self.now.bits c.in-AfterReset.is c.requires.run c.requires.some c.requires.open_end;
   fewer = omega arith;
   fed = refl;
 }
@@ -23,13 +25,16 @@ pub invariant_of-self-2 : goal.invariant_of-self-2
 invariant_of-self-2 c =
     let counted : c.args.self.now.run + c.args.self.now.len ≤ c.args.self.now.fed = c.args.self.now.holds.counted in
     record {
-      holds = subst (λ r. Holds c.args.self.now.mode c.args.self.now.one r 0 0 1 c.args.self.now.fed) (sym c.requires.run)
-          (holds_bits c.args.self.now.mode c.args.self.now.one 0 0 c.args.self.now.fed (lit< tt) (omega arith) (omega arith));
+      holds = subst (λ r. Holds c.args.self.now.mode c.args.self.now.one r 0 0 1 c.args.self.now.fed)
+          (sym c.requires.run)
+          (holds_bits c.args.self.now.mode c.args.self.now.one 0 0 c.args.self.now.fed (lit< tt) (omega arith)
+          (omega arith));
     }
 
 pub returns : goal.returns
 returns c = record {
-  law = cut_held c.args.self.now.mode c.args.self.now.one c.args.self.now.run c.args.self.now.len c.args.self.now.bits c.in_default.not-AfterReset c.requires.run c.args.self.now.holds.whole c.requires.open_end;
+  law = cut_held c.args.self.now.mode c.args.self.now.one c.args.self.now.run c.args.self.now.len c.args.self.now.bits
+      c.in_default.not-AfterReset c.requires.run c.args.self.now.holds.whole c.requires.open_end;
   fewer = omega arith;
   fed = refl;
 }

@@ -11,8 +11,10 @@ pub invariant_of-self : goal.invariant_of-self
 invariant_of-self c =
     let counted : c.args.self.now.run + c.args.self.now.len ≤ c.args.self.now.fed = c.args.self.now.holds.counted in
     record {
-      holds = subst (λ r. Holds c.args.self.now.mode c.args.self.now.one r c.args.self.now.len c.args.self.now.bits 1 c.args.self.now.fed) (sym c.requires)
-          (holds_bits c.args.self.now.mode c.args.self.now.one c.args.self.now.len c.args.self.now.bits c.args.self.now.fed c.args.self.now.holds.whole c.args.self.now.holds.short (omega arith));
+      holds = subst (λ r. Holds c.args.self.now.mode c.args.self.now.one r c.args.self.now.len c.args.self.now.bits 1
+          c.args.self.now.fed) (sym c.requires)
+          (holds_bits c.args.self.now.mode c.args.self.now.one c.args.self.now.len c.args.self.now.bits
+          c.args.self.now.fed c.args.self.now.holds.whole c.args.self.now.holds.short (omega arith));
     }
 
 pub pack-requires-clause-same : goal.pack-requires-clause-same

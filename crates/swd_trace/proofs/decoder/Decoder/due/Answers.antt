@@ -12,7 +12,8 @@ pub returns-then-self-clause-undecided : goal.returns-then-self-clause-undecided
 returns-then-self-clause-undecided c = settled_undecided c.args.self.now c.if-self.true
 
 pub returns-then-self-clause-decided : goal.returns-then-self-clause-decided
-returns-then-self-clause-decided c = λ bits items h. (h, read_decided c.args.self.now bits items h (settled_undecided c.args.self.now c.if-self.true))
+returns-then-self-clause-decided c = λ bits items h.
+    (h, read_decided c.args.self.now bits items h (settled_undecided c.args.self.now c.if-self.true))
 
 nothing : (old new : Decoder) (result : Option Item) → Decides old new result → IfNone result (IsUndecided (rest new))
 nothing old new (Some item) d = tt
@@ -22,7 +23,8 @@ pub returns-clause-undecided : goal.returns-clause-undecided
 returns-clause-undecided c = nothing c.args.self.now c.decide.new.self c.decide.result c.decide.ensures
 
 all_read : (old new : Decoder) (result : Option Item) → Decides old new result →
-    IfNone result ((bits : List Bool) (items : List Item) → HasRead old bits items → HasRead new bits items × IsDecided bits items)
+    IfNone result ((bits : List Bool) (items : List Item) → HasRead old bits items → HasRead new bits items
+    × IsDecided bits items)
 all_read old new (Some item) d = tt
 all_read old new None d = λ bits items h.
     let kept : HasRead new bits items = λ more. ap (λ x. items ++ x) (sym (d.law more)) ∙ h more in

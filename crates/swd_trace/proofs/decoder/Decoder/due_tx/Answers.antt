@@ -1,4 +1,6 @@
-use Rattle.std.proofs.Common.{◌≡◌, ◌<◌, ◌≤◌, ◌^◌, ◌%◌, ◌-◌, ◌*◌, ◌++◌, ◌∷◌, [], ℕ, zero, suc, List, Bool, length, ap, sym, subst, ◌∙◌, arith, append_assoc}
+use Rattle.std.proofs.Common.{◌≡◌, ◌<◌, ◌≤◌, ◌^◌, ◌%◌, ◌-◌, ◌*◌, ◌++◌, ◌∷◌, [], ℕ, zero, suc, List, Bool}
+use Rattle.std.proofs.Common.{length, ap}
+use Rattle.std.proofs.Common.{sym, subst, ◌∙◌, arith, append_assoc}
 use Rattle.std.specs.Prelude.{bit_and}
 use Rattle.std.proofs.lemmas.Nat.{one_shl, pow_pos}
 use Rattle.swd_bits.specs.Bits.{low_bits}
@@ -25,7 +27,8 @@ odd_of n h = let small : n % 2 < 2 = omega arith in by (n % 2) small h
 
 -- an odd number has a bit
 some_odd : (n len : ℕ) → n % 2 ≡ 1 → n < 2 ^ len → 0 < len
-some_odd n zero h k = let small : n < 1 = k in let none : n ≡ 0 = omega arith in let even : n % 2 ≡ 0 = ap (λ m. m % 2) none in absurd (omega arith)
+some_odd n zero h k = let small : n < 1 = k in let none : n ≡ 0 = omega arith in let even : n % 2 ≡ 0 = ap (λ m. m % 2)
+    none in absurd (omega arith)
 some_odd n (suc len) h k = omega arith
 
 longest : (end : TxEnd) → length_of end ≤ 46
@@ -49,7 +52,8 @@ same_tx len v n one other h k e s =
     let f : stands (low_bits len v) ≡ Whole other n = spelled_front len v n other h k s in
     cc
 
-read_on : (old new : Decoder) (tx : Transaction) (bits : List Bool) (items : List _) → Gives old new (Tx tx) → HasRead old bits items →
+read_on : (old new : Decoder) (tx : Transaction) (bits : List Bool) (items : List _) → Gives old new (Tx tx)
+    → HasRead old bits items →
     HasRead new bits (items ++ Tx tx ∷ [])
 read_on old new tx bits items g h = λ more.
     append_assoc items (Tx tx ∷ []) (rest new more) ∙ ap (λ x. items ++ x) (sym (g.law more)) ∙ h more
@@ -58,18 +62,21 @@ pub front_of-requires-clause-started : goal.front_of-requires-clause-started
 front_of-requires-clause-started c = odd_of c.args.self.now.bits c.if-self-eq0.false
 
 pub front_of-requires-clause-some : goal.front_of-requires-clause-some
-front_of-requires-clause-some c = some_odd c.args.self.now.bits c.args.self.now.len (odd_of c.args.self.now.bits c.if-self-eq0.false) c.args.self.now.holds.whole
+front_of-requires-clause-some c = some_odd c.args.self.now.bits c.args.self.now.len
+    (odd_of c.args.self.now.bits c.if-self-eq0.false) c.args.self.now.holds.whole
 
 pub overflow_shl-spelled : goal.overflow_shl-spelled
 overflow_shl-spelled c =
     let short : c.args.self.now.len ≤ 50 = c.args.self.now.holds.short in
-    let fits : c.in-Whole.len ≤ c.args.self.now.len = tx_fits c.args.self.now.len c.args.self.now.bits c.in-Whole.len c.in-Whole.tx c.in-Whole.ensures.0 in
+    let fits : c.in-Whole.len ≤ c.args.self.now.len = tx_fits c.args.self.now.len c.args.self.now.bits c.in-Whole.len
+    c.in-Whole.tx c.in-Whole.ensures.0 in
     omega arith
 
 pub overflow_sub-spelled : goal.overflow_sub-spelled
 overflow_sub-spelled c =
     let short : c.args.self.now.len ≤ 50 = c.args.self.now.holds.short in
-    let fits : c.in-Whole.len ≤ c.args.self.now.len = tx_fits c.args.self.now.len c.args.self.now.bits c.in-Whole.len c.in-Whole.tx c.in-Whole.ensures.0 in
+    let fits : c.in-Whole.len ≤ c.args.self.now.len = tx_fits c.args.self.now.len c.args.self.now.bits c.in-Whole.len
+    c.in-Whole.tx c.in-Whole.ensures.0 in
     let some : 0 < 2 ^ c.in-Whole.len = pow_pos c.in-Whole.len in
     rw (one_shl c.in-Whole.len 64 (omega arith)) (omega arith)
 
@@ -87,7 +94,8 @@ returns-clause-tx c =
       short = few_bits n _ c.in-Whole.tx spelled;
       found = (c.in-Whole.tx, spelled);
       gives = λ other s.
-          subst (λ tx. Gives d c.drop_tx.new.self (Tx tx)) (same_tx d.len d.bits n c.in-Whole.tx other fits (omega arith) c.in-Whole.ensures.0 s) c.drop_tx.ensures;
+          subst (λ tx. Gives d c.drop_tx.new.self (Tx tx))
+          (same_tx d.len d.bits n c.in-Whole.tx other fits (omega arith) c.in-Whole.ensures.0 s) c.drop_tx.ensures;
     }
 
 pub returns-clause-read : goal.returns-clause-read
@@ -98,4 +106,5 @@ returns-clause-read c =
     let fits : n ≤ d.len = tx_fits d.len d.bits n c.in-Whole.tx c.in-Whole.ensures.0 in
     λ other bits items s h.
     read_on d c.drop_tx.new.self other bits items
-    (subst (λ tx. Gives d c.drop_tx.new.self (Tx tx)) (same_tx d.len d.bits n c.in-Whole.tx other fits (omega arith) c.in-Whole.ensures.0 s) c.drop_tx.ensures) h
+    (subst (λ tx. Gives d c.drop_tx.new.self (Tx tx))
+    (same_tx d.len d.bits n c.in-Whole.tx other fits (omega arith) c.in-Whole.ensures.0 s) c.drop_tx.ensures) h

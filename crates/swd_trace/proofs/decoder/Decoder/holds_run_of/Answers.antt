@@ -10,30 +10,38 @@ pub returns-then-self-gt0-clause-run : goal.returns-then-self-gt0-clause-run
 returns-then-self-gt0-clause-run c = λ e.
     let last : c.args.self.now.next ≡ 1 = (c.args.self.now.holds.ran c.if-self-gt0.true).0 in
     let settled : c.args.self.now.len < c.args.self.now.next = c.requires in
-    run_of c.args.self.now.one c.args.bit c.args.self.now.run c.args.self.now.len c.args.self.now.bits c.if-self-gt0.true (omega arith) (same_bit _ _ e)
+    run_of c.args.self.now.one c.args.bit c.args.self.now.run c.args.self.now.len c.args.self.now.bits
+    c.if-self-gt0.true (omega arith) (same_bit _ _ e)
 
 pub returns-then-self-eq0-clause-none : goal.returns-then-self-eq0-clause-none
 returns-then-self-eq0-clause-none c = λ e.
-    no_run c.args.self.now.one c.args.bit c.args.self.now.run c.args.self.now.len c.args.self.now.bits (omega arith) c.if-self-eq0.true
+    no_run c.args.self.now.one c.args.bit c.args.self.now.run c.args.self.now.len c.args.self.now.bits (omega arith)
+    c.if-self-eq0.true
 
 pub returns-then-bit-clause-run : goal.returns-then-bit-clause-run
 returns-then-bit-clause-run c = λ e.
     let short : c.args.self.now.len ≤ 50 = c.args.self.now.holds.short in
-    bits_of_run c.args.self.now.one c.args.bit c.args.self.now.run c.args.self.now.len c.args.self.now.bits (omega arith) (omega arith)
-    (ones_alone c.args.self.now.len c.args.self.now.bits (omega arith) (eqb-true _ _ e) ∙ ap (replicate c.args.self.now.len) (sym c.if-bit.true))
+    bits_of_run c.args.self.now.one c.args.bit c.args.self.now.run c.args.self.now.len c.args.self.now.bits
+    (omega arith) (omega arith)
+    (ones_alone c.args.self.now.len c.args.self.now.bits (omega arith) (eqb-true _ _ e)
+    ∙ ap (replicate c.args.self.now.len) (sym c.if-bit.true))
 
 pub returns-then-bit-clause-none : goal.returns-then-bit-clause-none
 returns-then-bit-clause-none c = λ e n p f.
     let short : c.args.self.now.len ≤ 50 = c.args.self.now.holds.short in
-    other_ones c.args.self.now.one c.args.self.now.run c.args.self.now.len c.args.self.now.bits (omega arith) (omega arith) c.args.self.now.holds.whole (eqb-false _ _ e) n p
+    other_ones c.args.self.now.one c.args.self.now.run c.args.self.now.len c.args.self.now.bits (omega arith)
+    (omega arith) c.args.self.now.holds.whole (eqb-false _ _ e) n p
     (f ∙ ap (replicate n) c.if-bit.true)
 
 pub returns-else-bit-clause-run : goal.returns-else-bit-clause-run
 returns-else-bit-clause-run c = λ e.
-    bits_of_run c.args.self.now.one c.args.bit c.args.self.now.run c.args.self.now.len c.args.self.now.bits (omega arith) (omega arith)
-    (ap (low_bits c.args.self.now.len) (eqb-true _ _ e) ∙ low_zeros c.args.self.now.len ∙ ap (replicate c.args.self.now.len) (sym c.if-bit.false))
+    bits_of_run c.args.self.now.one c.args.bit c.args.self.now.run c.args.self.now.len c.args.self.now.bits
+    (omega arith) (omega arith)
+    (ap (low_bits c.args.self.now.len) (eqb-true _ _ e) ∙ low_zeros c.args.self.now.len
+    ∙ ap (replicate c.args.self.now.len) (sym c.if-bit.false))
 
 pub returns-else-bit-clause-none : goal.returns-else-bit-clause-none
 returns-else-bit-clause-none c = λ e n p f.
-    other_zeros c.args.self.now.one c.args.self.now.run c.args.self.now.len c.args.self.now.bits (omega arith) c.args.self.now.holds.whole (eqb-false _ _ e) n p
+    other_zeros c.args.self.now.one c.args.self.now.run c.args.self.now.len c.args.self.now.bits (omega arith)
+    c.args.self.now.holds.whole (eqb-false _ _ e) n p
     (f ∙ ap (replicate n) c.if-bit.false)

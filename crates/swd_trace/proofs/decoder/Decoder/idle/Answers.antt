@@ -15,7 +15,8 @@ pub overflow_sub-self : goal.overflow_sub-self
 overflow_sub-self c =
     let short : c.args.self.now.len ≤ 50 = c.args.self.now.holds.short in
     let some : 0 < c.args.self.now.bits = omega arith in
-    let z = some_zeros c.args.self.now.bits c.args.self.now.len c.requires.first (omega arith) some c.args.self.now.holds.whole in
+    let z = some_zeros c.args.self.now.bits c.args.self.now.len c.requires.first (omega arith) some
+    c.args.self.now.holds.whole in
     let within : count_trailing_zeros 64 c.args.self.now.bits < c.args.self.now.len = z.1 in
     omega arith
 
@@ -23,10 +24,12 @@ pub invariant_of-self : goal.invariant_of-self
 invariant_of-self c =
     let short : c.args.self.now.len ≤ 50 = c.args.self.now.holds.short in
     let some : 0 < c.args.self.now.bits = omega arith in
-    let z = some_zeros c.args.self.now.bits c.args.self.now.len c.requires.first (omega arith) some c.args.self.now.holds.whole in
+    let z = some_zeros c.args.self.now.bits c.args.self.now.len c.requires.first (omega arith) some
+    c.args.self.now.holds.whole in
     let within : count_trailing_zeros 64 c.args.self.now.bits < c.args.self.now.len = z.1 in
     record {
-      holds = holds_fewer c.args.self.now.mode c.args.self.now.mode c.args.self.now.one c.args.self.now.run c.args.self.now.len c.args.self.now.bits c.args.self.now.next c.args.self.now.fed
+      holds = holds_fewer c.args.self.now.mode c.args.self.now.mode c.args.self.now.one c.args.self.now.run
+          c.args.self.now.len c.args.self.now.bits c.args.self.now.next c.args.self.now.fed
           (count_trailing_zeros 64 c.args.self.now.bits) c.args.self.now.holds c.requires.run (omega arith);
     }
 
@@ -35,15 +38,21 @@ returns c =
     let short : c.args.self.now.len ≤ 50 = c.args.self.now.holds.short in
     let some : 0 < c.args.self.now.bits = omega arith in
     let zeros = count_trailing_zeros 64 c.args.self.now.bits in
-    let z = some_zeros c.args.self.now.bits c.args.self.now.len c.requires.first (omega arith) some c.args.self.now.holds.whole in
+    let z = some_zeros c.args.self.now.bits c.args.self.now.len c.requires.first (omega arith) some
+    c.args.self.now.holds.whole in
     let positive : 0 < count_trailing_zeros 64 c.args.self.now.bits = z.0 in
     let within : count_trailing_zeros 64 c.args.self.now.bits < c.args.self.now.len = z.1 in
     record {
       law = λ more.
-          bits_law c.args.self.now.mode c.args.self.now.mode c.args.self.now.one c.args.self.now.run (Idle zeros) (low_bits c.args.self.now.len c.args.self.now.bits ++ more)
+          bits_law c.args.self.now.mode c.args.self.now.mode c.args.self.now.one c.args.self.now.run (Idle zeros)
+          (low_bits c.args.self.now.len c.args.self.now.bits ++ more)
           (low_bits (c.args.self.now.len - zeros) (c.args.self.now.bits / 2 ^ zeros) ++ more) c.requires.run
-          (idle_bits c.args.self.now.mode c.args.self.now.len c.args.self.now.bits c.requires.mode c.requires.first (omega arith) some c.args.self.now.holds.whole more)
-          ∙ ap (λ n. Idle n ∷ reading c.args.self.now.mode (replicate c.args.self.now.run c.args.self.now.one ++ (low_bits (c.args.self.now.len - zeros) (c.args.self.now.bits / 2 ^ zeros) ++ more))) (sym c.from.ensures);
+          (idle_bits c.args.self.now.mode c.args.self.now.len c.args.self.now.bits c.requires.mode c.requires.first
+          (omega arith) some c.args.self.now.holds.whole more)
+          ∙ ap (λ n. Idle n ∷ reading c.args.self.now.mode
+          (replicate c.args.self.now.run c.args.self.now.one
+          ++ (low_bits (c.args.self.now.len - zeros) (c.args.self.now.bits / 2 ^ zeros) ++ more)))
+          (sym c.from.ensures);
       fewer = omega arith;
       fed = refl;
     }

@@ -9,14 +9,18 @@ use Rattle.swd_trace.proofs.decoder.Decoder.junk.Goals as goal
 
 pub invariant_of-self : goal.invariant_of-self
 invariant_of-self c = record {
-  holds = holds_fewer c.args.self.now.mode Lost c.args.self.now.one c.args.self.now.run c.args.self.now.len c.args.self.now.bits c.args.self.now.next c.args.self.now.fed 1
+  holds = holds_fewer c.args.self.now.mode Lost c.args.self.now.one c.args.self.now.run c.args.self.now.len
+      c.args.self.now.bits c.args.self.now.next c.args.self.now.fed 1
       c.args.self.now.holds c.requires.run c.requires.some;
 }
 
 pub returns : goal.returns
 returns c = record {
-  law = λ more. bits_law c.args.self.now.mode Lost c.args.self.now.one c.args.self.now.run (Junk (c.args.self.now.bits % 2 == 1))
-      (low_bits c.args.self.now.len c.args.self.now.bits ++ more) (low_bits (c.args.self.now.len - 1) (c.args.self.now.bits / 2) ++ more) c.requires.run (c.requires.first more);
+  law = λ more. bits_law c.args.self.now.mode Lost c.args.self.now.one c.args.self.now.run
+      (Junk (c.args.self.now.bits % 2 == 1))
+      (low_bits c.args.self.now.len c.args.self.now.bits ++ more)
+      (low_bits (c.args.self.now.len - 1) (c.args.self.now.bits / 2) ++ more) c.requires.run
+      (c.requires.first more);
   fewer = omega arith;
   fed = refl;
 }

@@ -9,24 +9,30 @@ low_masked : (n v : ℕ) → n < 64 → low_bits n (bit_and v (1 * 2 ^ n % 2 ^ 6
 low_masked n v h = ap (low_bits n) (masked n v h) ∙ low_mod n v
 
 pub returns-then-self-ge-MOVED_BITS-clause-law : goal.returns-then-self-ge-MOVED_BITS-clause-law
-returns-then-self-ge-MOVED_BITS-clause-law c = λ more. c.take.ensures.law more ∙ ap (rest c.args.self.now) (first_bit c.args.bits more)
+returns-then-self-ge-MOVED_BITS-clause-law c = λ more. c.take.ensures.law more
+    ∙ ap (rest c.args.self.now) (first_bit c.args.bits more)
 
 pub returns-then-self-ge-MOVED_BITS-clause-read : goal.returns-then-self-ge-MOVED_BITS-clause-read
 returns-then-self-ge-MOVED_BITS-clause-read c = λ before items h.
-    read_bits (rest c.args.self.now) (rest c.take.new.self) before (low_bits 1 c.args.bits) items (returns-then-self-ge-MOVED_BITS-clause-law c) h
+    read_bits (rest c.args.self.now) (rest c.take.new.self) before (low_bits 1 c.args.bits) items
+    (returns-then-self-ge-MOVED_BITS-clause-law c) h
 
 pub returns-then-self-gt0-clause-read : goal.returns-then-self-gt0-clause-read
 returns-then-self-gt0-clause-read c = λ before items h.
-    read_bits (rest c.args.self.now) (rest c.continue_run.new.self) before (low_bits c.continue_run.result c.args.bits) items c.continue_run.ensures.law h
+    read_bits (rest c.args.self.now) (rest c.continue_run.new.self) before (low_bits c.continue_run.result c.args.bits)
+    items c.continue_run.ensures.law h
 
 pub returns-clause-law : goal.returns-clause-law
 returns-clause-law c = λ more.
     let few : c.min-taken.result < 64 = omega arith in
-    c.append_bits.ensures.law more ∙ ap (λ x. rest c.args.self.now (x ++ more)) (low_masked c.min-taken.result c.args.bits few)
+    c.append_bits.ensures.law more
+    ∙ ap (λ x. rest c.args.self.now (x ++ more)) (low_masked c.min-taken.result c.args.bits few)
 
 pub returns-clause-read : goal.returns-clause-read
 returns-clause-read c = λ before items h.
-    read_bits (rest c.args.self.now) (rest c.append_bits.new.self) before (low_bits c.min-taken.result c.args.bits) items (returns-clause-law c) h
+    read_bits (rest c.args.self.now) (rest c.append_bits.new.self) before (low_bits c.min-taken.result c.args.bits)
+    items (returns-clause-law c) h
 
 pub returns-then-self-gt0-clause-many : goal.returns-then-self-gt0-clause-many
-returns-then-self-gt0-clause-many c = record { run = λ p n h e. c.continue_run.ensures.many n h e; alone = λ e p. absurd (omega arith) }
+returns-then-self-gt0-clause-many c =
+    record { run = λ p n h e. c.continue_run.ensures.many n h e; alone = λ e p. absurd (omega arith) }

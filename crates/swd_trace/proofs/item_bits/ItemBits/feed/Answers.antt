@@ -13,7 +13,8 @@ take_bits-taken-requires-clause-some c =
 pub take_bits-taken-requires-clause-room : goal.take_bits-taken-requires-clause-room
 take_bits-taken-requires-clause-room c =
     let b = c.args.self.now in
-    let room : c.args.decoder.now.fed + length (replicate b.run b.one ++ low_bits b.len b.bits) < 2 ^ 64 = c.requires.room in
+    let room : c.args.decoder.now.fed + length (replicate b.run b.one ++ low_bits b.len b.bits) < 2 ^ 64 =
+    c.requires.room in
     omega (arith, count_left b.run b.len b.bits b.one)
 
 pub returns-then-self-gt0-clause-law : goal.returns-then-self-gt0-clause-law
@@ -27,7 +28,8 @@ returns-else-self-gt0-clause-law c = λ more.
     let b = c.args.self.now in
     let n = c.take_bits-taken.result in
     c.take_bits-taken.ensures.law ((replicate b.run b.one ++ low_bits (b.len - n) (b.bits / 2 ^ n)) ++ more)
-    ∙ ap (rest c.args.decoder.now) (bits_parted n b.run b.len b.bits b.one more c.if-self-gt0.false c.take_bits-taken.ensures.most)
+    ∙ ap (rest c.args.decoder.now)
+    (bits_parted n b.run b.len b.bits b.one more c.if-self-gt0.false c.take_bits-taken.ensures.most)
 
 pub returns-else-self-gt0-clause-fewer : goal.returns-else-self-gt0-clause-fewer
 returns-else-self-gt0-clause-fewer c =

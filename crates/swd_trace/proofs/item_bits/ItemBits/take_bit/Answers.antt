@@ -15,8 +15,12 @@ none (suc run) len bits one r h = absurd (omega arith)
 
 pub returns-then-self-gt0-2-clause-bit : goal.returns-then-self-gt0-2-clause-bit
 returns-then-self-gt0-2-clause-bit c =
-    first c.args.self.now.run c.args.self.now.len c.args.self.now.bits c.args.self.now.one c.if-self-gt0.false c.if-self-gt0-2.true
+    first c.args.self.now.run c.args.self.now.len c.args.self.now.bits c.args.self.now.one c.if-self-gt0.false
+    c.if-self-gt0-2.true
 
 pub returns-clause-none : goal.returns-clause-none
-returns-clause-none c =
-    (none c.args.self.now.run c.args.self.now.len c.args.self.now.bits c.args.self.now.one c.if-self-gt0.false c.if-self-gt0-2.false, refl)
+returns-clause-none c = (
+  none c.args.self.now.run c.args.self.now.len c.args.self.now.bits c.args.self.now.one c.if-self-gt0.false
+      c.if-self-gt0-2.false,
+  refl,
+)

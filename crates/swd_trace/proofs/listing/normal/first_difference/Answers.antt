@@ -6,12 +6,14 @@ use Rattle.swd_trace.proofs.NormalLemmas.{legal_at, bits_from_item, count_from_i
 use Rattle.swd_trace.proofs.listing.normal.first_difference.Goals as goal
 
 pub take_item-requires-clause-legal : goal.take_item-requires-clause-legal
-take_item-requires-clause-legal c = legal_at c.args.items.now c.loop-item.item-index (Reset 0) c.loop-item-test.true c.requires.legal
+take_item-requires-clause-legal c = legal_at c.args.items.now c.loop-item.item-index (Reset 0) c.loop-item-test.true
+    c.requires.legal
 
 pub take_item-requires-clause-room : goal.take_item-requires-clause-room
 take_item-requires-clause-room c =
     let items = c.args.items.now in
-    let fed : c.loop-item.decoder.fed + length (bits_of_items (drop c.loop-item.item-index items)) ≡ length (bits_of_items items) = c.loop-item.invariant.fed in
+    let fed : c.loop-item.decoder.fed + length (bits_of_items (drop c.loop-item.item-index items)) ≡ length
+    (bits_of_items items) = c.loop-item.invariant.fed in
     let counted : length (bits_of_items items) < 2 ^ 64 = c.requires.counted in
     omega (arith, count_from_item items c.loop-item.item-index (Reset 0) c.loop-item-test.true)
 
@@ -20,24 +22,29 @@ returns-then-not-take_item-clause-tells c =
     let items = c.args.items.now in
     let at = c.loop-item.item-index in
     (c.take_item.ensures.no c.if-not-take_item.true (bits_of_items (drop (at + 1) items))
-    (subst (Agrees items c.loop-item.same c.loop-item.decoder) (bits_from_item items at (Reset 0) c.loop-item-test.true) c.loop-item.invariant.agrees)).first
+    (subst (Agrees items c.loop-item.same c.loop-item.decoder) (bits_from_item items at (Reset 0) c.loop-item-test.true)
+    c.loop-item.invariant.agrees)).first
 
 pub returns-then-not-take_item-clause-within : goal.returns-then-not-take_item-clause-within
 returns-then-not-take_item-clause-within c =
     let items = c.args.items.now in
     let at = c.loop-item.item-index in
     (c.take_item.ensures.no c.if-not-take_item.true (bits_of_items (drop (at + 1) items))
-    (subst (Agrees items c.loop-item.same c.loop-item.decoder) (bits_from_item items at (Reset 0) c.loop-item-test.true) c.loop-item.invariant.agrees)).within
+    (subst (Agrees items c.loop-item.same c.loop-item.decoder) (bits_from_item items at (Reset 0) c.loop-item-test.true)
+    c.loop-item.invariant.agrees)).within
 
 pub loop-item-preserved : goal.loop-item-preserved
 loop-item-preserved c =
     let items = c.args.items.now in
     let at = c.loop-item.item-index in
-    let before : c.loop-item.decoder.fed + length (bits_of_items (drop at items)) ≡ length (bits_of_items items) = c.loop-item.invariant.fed in
-    let fed : c.take_item.new.decoder.fed ≡ c.loop-item.decoder.fed + length (item_bits (get_or items at (Reset 0))) = c.take_item.ensures.fed c.if-not-take_item.false in
+    let before : c.loop-item.decoder.fed + length (bits_of_items (drop at items)) ≡ length (bits_of_items items) =
+    c.loop-item.invariant.fed in
+    let fed : c.take_item.new.decoder.fed ≡ c.loop-item.decoder.fed + length (item_bits (get_or items at (Reset 0))) =
+    c.take_item.ensures.fed c.if-not-take_item.false in
     record {
       settled = c.take_item.ensures.settled c.if-not-take_item.false;
       fed = omega (arith, count_from_item items at (Reset 0) c.loop-item-test.true);
       agrees = c.take_item.ensures.yes c.if-not-take_item.false (bits_of_items (drop (at + 1) items))
-          (subst (Agrees items c.loop-item.same c.loop-item.decoder) (bits_from_item items at (Reset 0) c.loop-item-test.true) c.loop-item.invariant.agrees);
+          (subst (Agrees items c.loop-item.same c.loop-item.decoder)
+          (bits_from_item items at (Reset 0) c.loop-item-test.true) c.loop-item.invariant.agrees);
     }

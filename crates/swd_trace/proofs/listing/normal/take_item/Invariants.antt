@@ -10,7 +10,8 @@ invariant-loop-left l = record {
   settled : IsSettled l.decoder;
   short : l.left.len ≤ 63;
   fed : fed_of l.decoder + length (bits_left l.left) ≡ fed_of l.fn.decoder + length (item_bits l.item);
-  agrees : (ahead : List Bool) → Agrees l.items l.fn.same l.fn.decoder (item_bits l.item ++ ahead) → Agrees l.items l.same l.decoder (bits_left l.left ++ ahead);
+  agrees : (ahead : List Bool) → Agrees l.items l.fn.same l.fn.decoder (item_bits l.item ++ ahead)
+      → Agrees l.items l.same l.decoder (bits_left l.left ++ ahead);
 }
 
 abbrev pub decreases-loop-left : goal.decreases-loop-left

@@ -25,17 +25,20 @@ unread : (a : Option (List ℕ)) → IfSome a (λ x. Refuses Read (lines x))
 unread None = tt
 unread (Some x) = tt
 
-refused : {A : Type 0} (old new : Option (List ℕ)) (before after : Lines A × Unit {0}) (fault : Unread ListFault) → HasRead tt before [] →
+refused : {A : Type 0} (old new : Option (List ℕ)) (before after : Lines A × Unit {0}) (fault : Unread ListFault)
+    → HasRead tt before [] →
     Reads (LeadsOn HasRead) (LeadsToEnd HasRead RefusesLater) (Err fault) old new before after →
     IfSome old (λ x. Refuses (fault_or fault Read) (lines x))
 refused old new before after Reader h r = unread old
 refused old new before after (Consumer fault) h r = found old new r.0 fault r.1 (r.2 tt [] h)
 
 -- what is said of each text that was read, is said of the reader's
-of_text : (old new : Option (List ℕ)) (text : List ℕ) (P : List ℕ → Type 0) → Consumes old new text → IsAtEnd new → P text → IfSome old P
+of_text : (old new : Option (List ℕ)) (text : List ℕ) (P : List ℕ → Type 0) → Consumes old new text → IsAtEnd new
+    → P text → IfSome old P
 of_text old new text P = Consumes-whole old new text P
 
-err_of_text : (old new : Option (List ℕ)) (text : List ℕ) {V : Type 0} (r : Result V ListFault) → Consumes old new text → IsAtEnd new →
+err_of_text : (old new : Option (List ℕ)) (text : List ℕ) {V : Type 0} (r : Result V ListFault) → Consumes old new text
+    → IsAtEnd new →
     IfErr r (λ fault. Refuses fault (lines text)) → IfErr r (λ fault. IfSome old (λ x. Refuses fault (lines x)))
 err_of_text old new text (Ok v) h e p = tt
 err_of_text old new text (Err fault) h e p = Consumes-whole old new text (λ x. Refuses fault (lines x)) h e p
@@ -54,7 +57,8 @@ pub returns-in-Ok-clause-ok : goal.returns-in-Ok-clause-ok
 returns-in-Ok-clause-ok g c =
     let read = c.in-Ok.ensures in
     IfOk-weaker c.finish.result _ _
-    (λ items f. of_text _ _ read.0 (λ x. Lists (lines x) items.items) read.1 read.2 (f read.0 (read.3 tt [] c.new-lines.ensures))) c.finish.ensures.ok
+    (λ items f. of_text _ _ read.0 (λ x. Lists (lines x) items.items) read.1 read.2
+    (f read.0 (read.3 tt [] c.new-lines.ensures))) c.finish.ensures.ok
 
 pub returns-in-Ok-clause-err : goal.returns-in-Ok-clause-err
 returns-in-Ok-clause-err g c =
@@ -68,5 +72,7 @@ returns-in-Ok-clause-err g c =
 
 pub returns-in-Err-clause-err : goal.returns-in-Err-clause-err
 returns-in-Err-clause-err g c =
-    subst (λ fault. IfSome (g.R.Read.remaining c.args.reader.now) (λ x. Refuses fault (lines x))) (sym c.fault_or.ensures)
-    (refused _ (g.R.Read.remaining c.read_pieces.new.reader) (c.new-lines.result, tt) (c.read_pieces.new.consumer, tt) c.in-Err.unread c.new-lines.ensures c.in-Err.ensures)
+    subst (λ fault. IfSome (g.R.Read.remaining c.args.reader.now) (λ x. Refuses fault (lines x)))
+    (sym c.fault_or.ensures)
+    (refused _ (g.R.Read.remaining c.read_pieces.new.reader) (c.new-lines.result, tt) (c.read_pieces.new.consumer, tt)
+    c.in-Err.unread c.new-lines.ensures c.in-Err.ensures)

@@ -8,8 +8,11 @@ use Rattle.swd_trace.proofs.listing.word.seen_in.Goals as goal
 
 pub returns-in-Ok : goal.returns-in-Ok
 returns-in-Ok c = λ n h e.
-    c.ok.ensures.value ∙ ap result_ok (parse-decimal 8 n c.in-Ok.text.now c.parse.result (omega arith) (omega arith) (c.in-Ok.ensures.cases.0 ∙ e) c.parse.ensures.value.0)
+    c.ok.ensures.value ∙ ap result_ok
+    (parse-decimal 8 n c.in-Ok.text.now c.parse.result (omega arith) (omega arith) (c.in-Ok.ensures.cases.0 ∙ e)
+    c.parse.ensures.value.0)
 
 pub returns-in-Err : goal.returns-in-Err
 returns-in-Err c = λ n h e.
-    absurd (c.in-Err.ensures.cases.0 (subst IsUtf8 (sym e) (IsUtf8-from_ascii (decimal n) (IsAscii-decimal n (omega arith)))))
+    absurd (c.in-Err.ensures.cases.0
+    (subst IsUtf8 (sym e) (IsUtf8-from_ascii (decimal n) (IsAscii-decimal n (omega arith)))))

@@ -8,7 +8,9 @@ use Rattle.swd_trace.proofs.listing.word.word_in.Goals as goal
 
 pub returns-in-Ok : goal.returns-in-Ok
 returns-in-Ok c = λ word h e.
-    c.ok.ensures.value ∙ ap result_ok (parse-hex8 word c.in-Ok.text.now c.from_str_radix.result h (c.in-Ok.ensures.cases.0 ∙ e) c.from_str_radix.ensures.value)
+    c.ok.ensures.value ∙ ap result_ok
+    (parse-hex8 word c.in-Ok.text.now c.from_str_radix.result h (c.in-Ok.ensures.cases.0 ∙ e)
+    c.from_str_radix.ensures.value)
 
 pub returns-in-Err : goal.returns-in-Err
 returns-in-Err c = λ word h e.

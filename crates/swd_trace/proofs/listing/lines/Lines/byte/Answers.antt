@@ -13,4 +13,5 @@ returns-then-len-eq-LONGEST-clause-err g c = λ seen more t.
 pub returns-clause-ok : goal.returns-clause-ok
 returns-clause-ok g c = λ seen t.
     let self = c.args.self.now in
-    takes_more seen self.items.items self.line.items c.push.new.self.items self.total c.args.byte c.if-byte-eq10.false c.push.ensures.items t
+    takes_more seen self.items.items self.line.items c.push.new.self.items self.total c.args.byte c.if-byte-eq10.false
+    c.push.ensures.items t

@@ -12,13 +12,19 @@ pub returns-in-Ok-clause-ok : goal.returns-in-Ok-clause-ok
 returns-in-Ok-clause-ok g c = λ seen t.
     let self = c.args.self in
     let new = c.end_line.new.self in
-    let k = takes_all (seen ++ 10 ∷ []) new.items.items new.line.items new.total c.in-Ok.ensures.empty (c.in-Ok.ensures.ok seen t) in
-    subst (λ x. Lists x new.items.items) (last_same seen self.items.items self.line.items self.total (some self.line.items c.is_empty.result c.is_empty.ensures c.if-is_empty.false) t) k
+    let k = takes_all (seen ++ 10 ∷ []) new.items.items new.line.items new.total c.in-Ok.ensures.empty
+    (c.in-Ok.ensures.ok seen t) in
+    subst (λ x. Lists x new.items.items)
+    (last_same seen self.items.items self.line.items self.total
+    (some self.line.items c.is_empty.result c.is_empty.ensures c.if-is_empty.false) t) k
 
 pub returns-in-Err-clause-err : goal.returns-in-Err-clause-err
 returns-in-Err-clause-err g c = λ seen t.
     let self = c.args.self in
-    subst (Refuses c.in-Err.fault) (last_same seen self.items.items self.line.items self.total (some self.line.items c.is_empty.result c.is_empty.ensures c.if-is_empty.false) t) (c.in-Err.ensures.err seen [] t)
+    subst (Refuses c.in-Err.fault)
+    (last_same seen self.items.items self.line.items self.total
+    (some self.line.items c.is_empty.result c.is_empty.ensures c.if-is_empty.false) t)
+    (c.in-Err.ensures.err seen [] t)
 
 pub returns-then-is_empty-clause-legal : goal.returns-then-is_empty-clause-legal
 returns-then-is_empty-clause-legal g c = λ seen t. are_legal t.ended c.args.self.items.items t.each
