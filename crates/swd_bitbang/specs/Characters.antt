@@ -6,7 +6,8 @@ use Rattle.swd_bitbang.specs.declared.character.Character.TheVariants.{Moves, Lo
 -- the lamp B b, the reset lines r s t u, the waits Z z
 abbrev pub is_passed_over : ℕ → Bool
 is_passed_over byte =
-    (byte == 66) || (byte == 98) || (byte == 114) || (byte == 115) || (byte == 116) || (byte == 117) || (byte == 90) || (byte == 122)
+    (byte == 66) || (byte == 98) || (byte == 114) || (byte == 115) || (byte == 116) || (byte == 117) || (byte == 90)
+    || (byte == 122)
 
 abbrev pub character : ℕ → Option Character
 character byte =

@@ -45,7 +45,8 @@ IsEnd (ends.Bad place which) taken byte = IsBad place which taken byte
 IsEnd served taken byte = ⊥
 
 -- The session ended within these bytes, and what was answered before is under way.
-pub record StopsIn {A W : Type 0} (contents : W → Option (List ℕ)) (begin : Begin A) (server : Server A) (block : Block W)
+pub record StopsIn {A W : Type 0} (contents : W → Option (List ℕ)) (begin : Begin A) (server : Server A)
+    (block : Block W)
     (served : Served) (text : List ℕ) : Type 0 where
   pub taken : List ℕ
   pub byte : ℕ
@@ -61,4 +62,5 @@ IsStop ends.Read = ⊥
 IsStop served = Unit {0}
 
 abbrev pub Ends : {A W : Type 0} → (W → Option (List ℕ)) → Begin A → Server A × W → Served → List ℕ → Type 0
-Ends contents begin state served text = IsStop served × EndsAs served begin.1 (contents state.1) text begin.0 state.0.pins
+Ends contents begin state served text = IsStop served
+    × EndsAs served begin.1 (contents state.1) text begin.0 state.0.pins

@@ -34,7 +34,8 @@ pub record Answers {A : Type 0} (byte : ℕ) (levels : List ℕ) (s t : Pins A) 
 -- a text of characters, none of which ends the session, and all that is answered to it
 abbrev pub Session : {A : Type 0} → List ℕ → List ℕ → Pins A → Pins A → Type 0
 Session [] levels s t = (levels ≡ []) × (t ≡ s)
-Session {A} (byte ∷ text) levels s t = (m : Pins A) × (first : List ℕ) × (rest : List ℕ) × Answers byte first s m × Session text rest m t × (levels ≡ first ++ rest)
+Session {A} (byte ∷ text) levels s t = (m : Pins A) × (first : List ℕ) × (rest : List ℕ) × Answers byte first s m
+    × Session text rest m t × (levels ≡ first ++ rest)
 
 -- What went over both streams: of what was read, these characters led the pins from one state to another, and exactly
 -- their answers went out.
@@ -44,7 +45,8 @@ pub record Goes {A : Type 0} (old new : Option (List ℕ)) (taken : List ℕ) (s
   pub gone : Appends old new levels
 
 -- the same, up to a character of this kind; what follows it wasn't looked at
-pub record StopsAt {A : Type 0} (IsEnd : List ℕ → ℕ → Type 0) (old new : Option (List ℕ)) (read : List ℕ) (s t : Pins A) : Type 0 where
+pub record StopsAt {A : Type 0} (IsEnd : List ℕ → ℕ → Type 0) (old new : Option (List ℕ)) (read : List ℕ)
+    (s t : Pins A) : Type 0 where
   pub taken : List ℕ
   pub byte : ℕ
   pub more : List ℕ
@@ -52,7 +54,8 @@ pub record StopsAt {A : Type 0} (IsEnd : List ℕ → ℕ → Type 0) (old new :
   pub ends : IsEnd taken byte
   pub goes : Goes old new taken s t
 
--- the writer failed: of the answers to a beginning of what was read exactly the first bytes went out, as many as are told, and not all
+-- the writer failed: of the answers to a beginning of what was read exactly the first bytes went out, as many as are
+-- told, and not all
 pub record Breaks {A : Type 0} (sent : ℕ) (old new : Option (List ℕ)) (read : List ℕ) (s t : Pins A) : Type 0 where
   pub taken : List ℕ
   pub more : List ℕ

@@ -1,4 +1,5 @@
--- What a character does to the two pins. The characters are OpenOCD's; which of them makes a clock is this project's choice.
+-- What a character does to the two pins. The characters are OpenOCD's; which of them makes a clock is this project's
+-- choice.
 use Rattle.std.specs.Prelude.{◌≡◌, Bool, true, false, Option, Some, None, if◌then◌else◌}
 use Rattle.swd_clocked.specs.Marked.{MarkedCycles}
 use Rattle.swd_bitbang.specs.Traces.{Keeps}
@@ -40,7 +41,8 @@ SeesBy false bit s t = Shows bit s t
 -- one character, and what comes of it
 abbrev pub Steps : {A : Type 0} → Option Character → Pins A → Sign → Pins A → Type 0
 Steps (Some (Moves false level)) s sign t = (sign ≡ Silent) × (t ≡ fallen level s)
-Steps (Some (Moves true level)) s sign t = (sign ≡ Silent) × ((bit : Bool) × Shows bit (record s { clock = true; level = level }) t)
+Steps (Some (Moves true level)) s sign t = (sign ≡ Silent)
+    × ((bit : Bool) × Shows bit (record s { clock = true; level = level }) t)
 Steps (Some Looks) s sign t = (bit : Bool) × (sign ≡ Level bit) × SeesBy s.drives bit s t
 Steps (Some (Drives drives)) s sign t = (sign ≡ Silent) × (t ≡ record s { drives = drives })
 Steps (Some Nothing) s sign t = (sign ≡ Silent) × (t ≡ s)

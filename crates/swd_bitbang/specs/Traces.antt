@@ -23,6 +23,7 @@ is_cut_off t = t.cut
 pub record Keeps {A : Type 0} (bit : Bool) (s t : Trace A) : Type 0 where
   pub wanted : t.wanted ≡ s.wanted
   pub more : s.wanted ≡ true → s.cut ≡ false
-      → ((kept_text t ≡ kept_text s ++ level_text bit) × (t.cut ≡ false)) ⊎ ((kept_text t ≡ kept_text s) × (t.cut ≡ true))
+      → ((kept_text t ≡ kept_text s ++ level_text bit) × (t.cut ≡ false))
+      ⊎ ((kept_text t ≡ kept_text s) × (t.cut ≡ true))
   pub unwanted : s.wanted ≡ false → t ≡ s
   pub none : s.cut ≡ true → t ≡ s

@@ -10,6 +10,3 @@ pub use character::Character;
 pub use pins::{Pins, Sign};
 pub use serving::{Served, serve};
 pub use trace::Trace;
-
-#[cfg(test)]
-mod tests;

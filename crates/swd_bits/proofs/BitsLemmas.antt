@@ -1,5 +1,6 @@
 -- Laws of lists of bits and the numbers that hold them.
-use Rattle.std.proofs.Common.{◌≡◌, ℕ, zero, suc, ◌+◌, ◌*◌, ◌/◌, ◌%◌, ◌^◌, ◌<◌, ◌≤◌, Bool, true, false, not, List, [], ◌∷◌, ◌++◌, length, refl, sym, ◌∙◌, ap, arith}
+use Rattle.std.proofs.Common.{◌≡◌, ℕ, zero, suc, ◌+◌, ◌*◌, ◌/◌, ◌%◌, ◌^◌, ◌<◌, ◌≤◌, Bool, true, false, not, List, []}
+use Rattle.std.proofs.Common.{◌∷◌, ◌++◌, length, refl, sym, ◌∙◌, ap, arith}
 use Rattle.std.proofs.Math.Nat.{pow-suc}
 use Rattle.std.specs.Prelude.{◌==◌}
 use Rattle.std.specs.Int.RustNames.{count_ones}
@@ -74,7 +75,8 @@ unfolding low_bits count_ones
 odd-low_bits zero v h = let z : v ≡ 0 = omega arith in rw z refl
 odd-low_bits (suc n) v h =
     let small : v / 2 < 2 ^ n = omega (arith, pow-suc 2 n) in
-    rw (ones_step v) (odd_step (v % 2) (count_ones (v / 2)) (omega arith) (low_bits n (v / 2)) (odd-low_bits n (v / 2) small))
+    rw (ones_step v) (odd_step (v % 2) (count_ones (v / 2)) (omega arith) (low_bits n (v / 2))
+    (odd-low_bits n (v / 2) small))
 
 -- the bits of a number with a high part and a low part
 pub low_bits-cat : (m n a b : ℕ) → b < 2 ^ m → low_bits (m + n) (a * 2 ^ m + b) ≡ low_bits m b ++ low_bits n a
@@ -102,13 +104,15 @@ no_loss m n a k room =
     mod-eq_of_lt (omega arith)
 
 -- the bits of two numbers that are joined
-pub low_bits-join : (m n a b : ℕ) → a < 2 ^ n → b < 2 ^ m → m + n ≤ 63 → low_bits (m + n) (bit_or (a * 2 ^ m % 2 ^ 64) b) ≡ low_bits m b ++ low_bits n a
+pub low_bits-join : (m n a b : ℕ) → a < 2 ^ n → b < 2 ^ m → m + n ≤ 63
+    → low_bits (m + n) (bit_or (a * 2 ^ m % 2 ^ 64) b) ≡ low_bits m b ++ low_bits n a
 low_bits-join m n a b k h room = rw (no_loss m n a k room, or_shifted a m b h, low_bits-cat m n a b h) refl
 
 pub join_lt : (m n a b : ℕ) → a < 2 ^ n → b < 2 ^ m → m + n ≤ 63 → bit_or (a * 2 ^ m % 2 ^ 64) b < 2 ^ (m + n)
 join_lt m n a b k h room =
     let e : m + n ≡ n + m = omega arith in
-    rw (no_loss m n a k room, or_shifted a m b h, e, pow-add 2 n m, mul_comm (2 ^ n) (2 ^ m)) (mul-add-lt a (2 ^ m) b (2 ^ n) k h)
+    rw (no_loss m n a k room, or_shifted a m b h, e, pow-add 2 n m, mul_comm (2 ^ n) (2 ^ m))
+    (mul-add-lt a (2 ^ m) b (2 ^ n) k h)
 
 -- the bits of a number that is taken apart
 pub low_bits-split : (m n v : ℕ) → low_bits (m + n) v ≡ low_bits m (v % 2 ^ m) ++ low_bits n (v / 2 ^ m)

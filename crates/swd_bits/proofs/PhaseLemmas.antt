@@ -1,5 +1,6 @@
 -- Laws of data phases.
-use Rattle.std.proofs.Common.{◌≡◌, ℕ, zero, suc, ◌+◌, ◌-◌, ◌*◌, ◌/◌, ◌%◌, ◌^◌, ◌<◌, Bool, true, false, [], ◌∷◌, refl, sym, ◌∙◌, ap, arith}
+use Rattle.std.proofs.Common.{◌≡◌, ℕ, zero, suc, ◌+◌, ◌-◌, ◌*◌, ◌/◌, ◌%◌, ◌^◌, ◌<◌, Bool, true, false, [], ◌∷◌, refl}
+use Rattle.std.proofs.Common.{sym, ◌∙◌, ap, arith}
 use Rattle.std.specs.Prelude.{◌==◌, Some, None, if◌then◌else◌}
 use Rattle.std.specs.Int.RustNames.{count_ones, bit_xor}
 use Rattle.std.specs.Int.Bits.{xor_zero_r}
@@ -29,7 +30,8 @@ ones_flip (suc p) v =
     let z : 2 ^ suc p % 2 ≡ 0 = omega (arith, pow-suc 2 p) in
     let h : 2 ^ suc p / 2 ≡ 2 ^ p = omega (arith, pow-suc 2 p) in
     let a : bit_xor v (2 ^ suc p) % 2 ≡ v % 2 = xor_mod v (2 ^ suc p) 1 ∙ ap (bit_xor (v % 2)) z ∙ xor_zero_r (v % 2) in
-    let b : count_ones (bit_xor v (2 ^ suc p) / 2) ≡ count_ones (bit_xor (v / 2) (2 ^ p)) = ap count_ones (xor_shr v (2 ^ suc p) 1 ∙ ap (bit_xor (v / 2)) h) in
+    let b : count_ones (bit_xor v (2 ^ suc p) / 2) ≡ count_ones (bit_xor (v / 2) (2 ^ p)) = ap count_ones
+    (xor_shr v (2 ^ suc p) 1 ∙ ap (bit_xor (v / 2)) h) in
     omega (arith, ones_step (bit_xor v (2 ^ suc p)), ones_step v, ones_flip p (v / 2))
 
 ones_digit : (r : ℕ) → r < 2 → count_ones r ≡ r
@@ -53,7 +55,8 @@ word_phase w h = rw (ones_phase w h, mod_low (count_ones w % 2) 32 w h) refl
 -- a phase with one bit changed tells none
 pub word_flip : (w p : ℕ) → w < 2 ^ 32 → word_in (bit_xor (phase_number w) (2 ^ p)) ≡ None
 word_flip w p h =
-    let e : count_ones (bit_xor (phase_number w) (2 ^ p)) % 2 ≡ 1 = omega (arith, ones_flip p (phase_number w), ones_phase w h) in
+    let e : count_ones (bit_xor (phase_number w) (2 ^ p)) % 2 ≡ 1 = omega
+    (arith, ones_flip p (phase_number w), ones_phase w h) in
     rw e refl
 
 -- a run of ones
@@ -76,14 +79,22 @@ last_bit p h = let e : p % 2 ≡ p = omega arith in rw e refl
 -- the bits of a phase
 pub bits_phase : (w : ℕ) → w < 2 ^ 32 → low_bits 33 (phase_number w) ≡ phase w
 unfolding phase
-bits_phase w h = rw (low_bits-cat 32 1 (count_ones w % 2) w h, last_bit (count_ones w % 2) (omega arith), odd-low_bits 32 w h) refl
+bits_phase w h = rw (
+  low_bits-cat 32 1 (count_ones w % 2) w h,
+  last_bit (count_ones w % 2) (omega arith),
+  odd-low_bits
+      32 w h,
+) refl
 
-told : (even : Bool) (v w : ℕ) → v < 2 ^ 33 → (count_ones v % 2 == 0) ≡ even → (if even then Some (v % 2 ^ 32) else None) ≡ Some w → v ≡ phase_number w
+told : (even : Bool) (v w : ℕ) → v < 2 ^ 33 → (count_ones v % 2 == 0) ≡ even
+    → (if even then Some (v % 2 ^ 32) else None) ≡ Some w → v ≡ phase_number w
 told true v w h e f =
     let zero_rest : count_ones v % 2 ≡ 0 = eqb-true (count_ones v % 2) 0 e in
     let g : v % 2 ^ 32 ≡ w = cc in
     let parts : v / 2 ^ 32 * 2 ^ 32 + v % 2 ^ 32 ≡ v = shr_split v 32 in
-    let ones : count_ones v ≡ v / 2 ^ 32 + count_ones w = ap count_ones (sym parts) ∙ ones_parts (v / 2 ^ 32) (v % 2 ^ 32) (omega arith) (omega arith) ∙ ap (λ n. v / 2 ^ 32 + count_ones n) g in
+    let ones : count_ones v ≡ v / 2 ^ 32 + count_ones w = ap count_ones (sym parts)
+    ∙ ones_parts (v / 2 ^ 32) (v % 2 ^ 32) (omega arith) (omega arith)
+    ∙ ap (λ n. v / 2 ^ 32 + count_ones n) g in
     omega arith
 told false v w h e f = absurd (cc)
 
@@ -104,7 +115,8 @@ none_found : (even : Bool) (v : ℕ) → v < 2 ^ 33 → IsNoPhase v → (count_o
 none_found false v h none e = rw e refl
 none_found true v h none e =
     let small : v % 2 ^ 32 < 2 ^ 32 = omega arith in
-    absurd (none (v % 2 ^ 32) small (sym (ap (low_bits 33) (phase_told v (v % 2 ^ 32) h (rw e refl)) ∙ bits_phase (v % 2 ^ 32) small)))
+    absurd (none (v % 2 ^ 32) small
+    (sym (ap (low_bits 33) (phase_told v (v % 2 ^ 32) h (rw e refl)) ∙ bits_phase (v % 2 ^ 32) small)))
 
 pub word_missing : (v : ℕ) → v < 2 ^ 33 → IsNoPhase v → word_in v ≡ None
 word_missing v h none = none_found (count_ones v % 2 == 0) v h none refl

@@ -1,5 +1,6 @@
 -- Laws of the reading of a trace text.
-use Rattle.std.proofs.Common.{◌≡◌, ℕ, suc, ◌+◌, ◌<◌, drop, get_or, drop-cons, take-append-drop, Bool, false, List, [], ◌∷◌, ◌++◌, length, take, Option, None, Some, refl, sym, ap, ◌∙◌, append_assoc, is_some}
+use Rattle.std.proofs.Common.{◌≡◌, ℕ, suc, ◌+◌, ◌<◌, drop, get_or, drop-cons, take-append-drop, Bool, false, List, []}
+use Rattle.std.proofs.Common.{◌∷◌, ◌++◌, length, take, Option, None, Some, refl, sym, ap, ◌∙◌, append_assoc, is_some}
 use Rattle.std.specs.Option.{option_map}
 use Rattle.std.proofs.lemmas.List.{take_at, length-append, append-nil}
 use Rattle.swd_bits.specs.TraceText.{bits_from, bits_of_text, sign_of, comment_after, add_sign}
@@ -14,7 +15,8 @@ pub reads_none : (comment : Bool) → comment ≡ false → Reads [] [] comment
 unfolding Reads
 reads_none comment e = λ more. ap (λ c. bits_from c more) (sym e) ∙ map_id (bits_from comment more)
 
-pub reads_passed : (seen : List ℕ) (bits : List Bool) (c d : Bool) (b : ℕ) → Passed ≡ sign_of c b → d ≡ comment_after c b → Reads seen bits c → Reads (seen ++ b ∷ []) bits d
+pub reads_passed : (seen : List ℕ) (bits : List Bool) (c d : Bool) (b : ℕ) → Passed ≡ sign_of c b
+    → d ≡ comment_after c b → Reads seen bits c → Reads (seen ++ b ∷ []) bits d
 unfolding Reads
 reads_passed seen bits c d b e f h = λ more.
     ap (bits_from false) (append_assoc seen (b ∷ []) more) ∙ h (b ∷ more)
@@ -22,11 +24,13 @@ reads_passed seen bits c d b e f h = λ more.
     ∙ ap (λ x. option_map (λ rest. bits ++ rest) (bits_from x more)) (sym f)
 
 map_more : (bits : List Bool) (bit : Bool) (o : Option (List Bool)) →
-    option_map (λ rest. bits ++ rest) (option_map (λ rest. bit ∷ rest) o) ≡ option_map (λ rest. (bits ++ bit ∷ []) ++ rest) o
+    option_map (λ rest. bits ++ rest) (option_map (λ rest. bit ∷ rest) o) ≡ option_map
+    (λ rest. (bits ++ bit ∷ []) ++ rest) o
 map_more bits bit None = refl
 map_more bits bit (Some x) = ap Some (sym (append_assoc bits (bit ∷ []) x))
 
-pub reads_bit : (seen : List ℕ) (bits : List Bool) (c d bit : Bool) (b : ℕ) → Bit bit ≡ sign_of c b → d ≡ comment_after c b → Reads seen bits c → Reads (seen ++ b ∷ []) (bits ++ bit ∷ []) d
+pub reads_bit : (seen : List ℕ) (bits : List Bool) (c d bit : Bool) (b : ℕ) → Bit bit ≡ sign_of c b
+    → d ≡ comment_after c b → Reads seen bits c → Reads (seen ++ b ∷ []) (bits ++ bit ∷ []) d
 unfolding Reads
 reads_bit seen bits c d bit b e f h = λ more.
     ap (bits_from false) (append_assoc seen (b ∷ []) more) ∙ h (b ∷ more)
@@ -39,13 +43,15 @@ pub reads_all : (seen : List ℕ) (bits : List Bool) (c : Bool) → Reads seen b
 unfolding Reads
 reads_all seen bits c h = ap bits_of_text (sym (append-nil seen)) ∙ h [] ∙ ap Some (append-nil bits)
 
-pub first_bad : (seen more : List ℕ) (bits : List Bool) (c : Bool) (b : ℕ) → Bad ≡ sign_of c b → Reads seen bits c → IsFirstBad (seen ++ b ∷ more) (length seen)
+pub first_bad : (seen more : List ℕ) (bits : List Bool) (c : Bool) (b : ℕ) → Bad ≡ sign_of c b → Reads seen bits c
+    → IsFirstBad (seen ++ b ∷ more) (length seen)
 unfolding Reads
 first_bad seen more bits c b e h =
     let front : take (length seen) (seen ++ b ∷ more) ≡ seen = take_at seen (b ∷ more) (length seen) refl in
     let n : length (seen ++ b ∷ []) ≡ length seen + 1 = length-append seen (b ∷ []) in
     let next : take (length seen + 1) (seen ++ b ∷ more) ≡ seen ++ b ∷ [] =
-    ap (take (length seen + 1)) (sym (append_assoc seen (b ∷ []) more)) ∙ take_at (seen ++ b ∷ []) more (length seen + 1) n in
+    ap (take (length seen + 1)) (sym (append_assoc seen (b ∷ []) more))
+    ∙ take_at (seen ++ b ∷ []) more (length seen + 1) n in
     let whole : bits_of_text seen ≡ Some bits = reads_all seen bits c h in
     record {
       good = ap (λ x. is_some (bits_of_text x)) front ∙ ap is_some whole;
@@ -54,8 +60,10 @@ first_bad seen more bits c b e h =
     }
 
 -- a text that is cut at a byte of its second piece
-pub parted : (seen piece more : List ℕ) (i : ℕ) → i < length piece → (seen ++ take i piece) ++ (get_or piece i 0 ∷ (drop (suc i) piece ++ more)) ≡ (seen ++ piece) ++ more
+pub parted : (seen piece more : List ℕ) (i : ℕ) → i < length piece
+    → (seen ++ take i piece) ++ (get_or piece i 0 ∷ (drop (suc i) piece ++ more)) ≡ (seen ++ piece) ++ more
 parted seen piece more i h =
     append_assoc seen (take i piece) _
-    ∙ ap (λ x. seen ++ x) (ap (λ x. take i piece ++ (x ++ more)) (sym (drop-cons piece i 0 h)) ∙ sym (append_assoc (take i piece) (drop i piece) more) ∙ ap (λ x. x ++ more) (take-append-drop i piece))
+    ∙ ap (λ x. seen ++ x) (ap (λ x. take i piece ++ (x ++ more)) (sym (drop-cons piece i 0 h))
+    ∙ sym (append_assoc (take i piece) (drop i piece) more) ∙ ap (λ x. x ++ more) (take-append-drop i piece))
     ∙ sym (append_assoc seen piece more)

@@ -1,5 +1,6 @@
 -- Laws of the spelling of transactions.
-use Rattle.std.proofs.Common.{◌≡◌, ◌≢◌, ℕ, zero, suc, ◌+◌, ◌^◌, ◌<◌, ◌≤◌, Bool, true, false, not, drop, ap₂, List, [], ◌∷◌, ◌++◌, length, append_assoc, refl, sym, ap, ◌∙◌, arith, inl, inr}
+use Rattle.std.proofs.Common.{◌≡◌, ◌≢◌, ℕ, zero, suc, ◌+◌, ◌^◌, ◌<◌, ◌≤◌, Bool, true, false, not, drop, ap₂, List, []}
+use Rattle.std.proofs.Common.{◌∷◌, ◌++◌, length, append_assoc, refl, sym, ap, ◌∙◌, arith, inl, inr}
 use Rattle.std.specs.Prelude.{if◌then◌else◌}
 use Rattle.std.proofs.lemmas.List.{length-append}
 use Rattle.swd_bits.specs.Bits.{low_bits, odd}
@@ -117,7 +118,8 @@ after AckOk = 34
 after AckWait = 1
 after AckFault = 1
 
-pub length_after : (a : Ack) (read u : Bool) (end : TxEnd) → IsEnd end → head end ≡ ack a → length (tail read end u) ≡ after a
+pub length_after : (a : Ack) (read u : Bool) (end : TxEnd) → IsEnd end → head end ≡ ack a
+    → length (tail read end u) ≡ after a
 length_after AckOk read u (Moved word ok) h e = length_moved read u (phase_with word ok) (length_phase_with word ok)
 length_after AckWait read u (Moved word ok) h e = absurd cc
 length_after AckFault read u (Moved word ok) h e = absurd cc
@@ -130,7 +132,8 @@ length_after AckFault read u Fault h e = refl
 length_after a read u (NoAck seen) h e = absurd (ack_other seen h a e)
 
 -- where no acknowledgement was seen nothing follows
-pub nothing_after : (seen : ℕ) → ((a : Ack) → ack a ≢ low_bits 3 seen) → (read u : Bool) (end : TxEnd) → head end ≡ low_bits 3 seen → tail read end u ≡ []
+pub nothing_after : (seen : ℕ) → ((a : Ack) → ack a ≢ low_bits 3 seen) → (read u : Bool) (end : TxEnd)
+    → head end ≡ low_bits 3 seen → tail read end u ≡ []
 nothing_after seen none read u (Moved word ok) e = absurd (none AckOk e)
 nothing_after seen none read u Wait e = absurd (none AckWait e)
 nothing_after seen none read u Fault e = absurd (none AckFault e)
@@ -147,11 +150,20 @@ no_bit [] h = refl
 no_bit (b ∷ bits) h = absurd (omega arith)
 
 -- what the parts of some bits say
-pub spells : (q : Request) (end : TxEnd) (bits a r1 t r2 s r3 : List Bool) → length t ≡ 1 → request q ≡ a → head end ≡ s →
-    bits ≡ a ++ r1 → r1 ≡ t ++ r2 → r2 ≡ s ++ r3 → IsEnd end → (u : Bool) → r3 ≡ tail q.read end u → Spells (record { request = q; result = end }) bits
+pub spells : (q : Request) (end : TxEnd) (bits a r1 t r2 s r3 : List Bool) → length t ≡ 1 → request q ≡ a → head end ≡ s
+    →
+    bits ≡ a ++ r1 → r1 ≡ t ++ r2 → r2 ≡ s ++ r3 → IsEnd end → (u : Bool) → r3 ≡ tail q.read end u
+    → Spells (record { request = q; result = end }) bits
 spells q end bits a r1 t r2 s r3 n e f g h i fits u j =
-    let first = one_bit t n in
-    (fits, first.0, u, g ∙ ap (λ x. x ++ r1) (sym e) ∙ ap (λ x. request q ++ x) (h ∙ ap (λ x. x ++ r2) first.1 ∙ ap (λ x. first.0 ∷ x) (i ∙ ap (λ x. x ++ r3) (sym f) ∙ ap (λ x. head end ++ x) j)))
+    let first = one_bit t n in (
+      fits,
+      first.0,
+      u,
+      g ∙ ap (λ x. x ++ r1) (sym e)
+          ∙ ap (λ x. request q ++ x)
+          (h ∙ ap (λ x. x ++ r2) first.1
+          ∙ ap (λ x. first.0 ∷ x) (i ∙ ap (λ x. x ++ r3) (sym f) ∙ ap (λ x. head end ++ x) j)),
+    )
 
 -- a spelling that is cut into its parts
 pub record Parts (tx : Tx) (a r2 s r3 : List Bool) : Type 0 where
@@ -163,9 +175,11 @@ pub record Parts (tx : Tx) (a r2 s r3 : List Bool) : Type 0 where
 pub parts : (tx : Tx) (bits a r1 t r2 s r3 : List Bool) → length a ≡ 8 → length t ≡ 1 → length s ≡ 3 →
     bits ≡ a ++ r1 → r1 ≡ t ++ r2 → r2 ≡ s ++ r3 → Spells tx bits → Parts tx a r2 s r3
 parts tx bits a r1 t r2 s r3 na nt ns g h i p =
-    let first = split_same (request tx.request) a (p.1 ∷ ending tx.request.read tx.result p.2) r1 (length_request tx.request ∙ sym na) (sym p.3 ∙ g) in
+    let first = split_same (request tx.request) a (p.1 ∷ ending tx.request.read tx.result p.2) r1
+    (length_request tx.request ∙ sym na) (sym p.3 ∙ g) in
     let second = split_same (p.1 ∷ []) t (ending tx.request.read tx.result p.2) r2 (sym nt) (first.1 ∙ h) in
-    let third = split_same (head tx.result) s (tail tx.request.read tx.result p.2) r3 (length_head tx.result ∙ sym ns) (second.1 ∙ i) in
+    let third = split_same (head tx.result) s (tail tx.request.read tx.result p.2) r3 (length_head tx.result ∙ sym ns)
+    (second.1 ∙ i) in
     record { asked = first.0; seen = third.0; last = p.2; rest = sym third.1 }
 
 -- requests with the same bits have the same direction
@@ -177,12 +191,15 @@ pub long : (tx : Tx) (bits : List Bool) → Spells tx bits → 12 ≤ length bit
 long tx bits p =
     let n : length (request tx.request) ≡ 8 = length_request tx.request in
     let h : length (head tx.result) ≡ 3 = length_head tx.result in
-    let e : length bits ≡ length (request tx.request) + length (p.1 ∷ ending tx.request.read tx.result p.2) = ap length p.3 ∙ length-append (request tx.request) _ in
-    let f : length (ending tx.request.read tx.result p.2) ≡ length (head tx.result) + length (tail tx.request.read tx.result p.2) = length-append (head tx.result) _ in
+    let e : length bits ≡ length (request tx.request) + length (p.1 ∷ ending tx.request.read tx.result p.2) = ap length
+    p.3 ∙ length-append (request tx.request) _ in
+    let f : length (ending tx.request.read tx.result p.2) ≡ length (head tx.result) + length
+    (tail tx.request.read tx.result p.2) = length-append (head tx.result) _ in
     omega arith
 
 length_tail : (read u : Bool) (end : TxEnd) → length (tail read end u) ≤ 34
-length_tail read u (Moved word ok) = let e = length_moved read u (phase_with word ok) (length_phase_with word ok) in omega arith
+length_tail read u (Moved word ok) = let e = length_moved read u (phase_with word ok) (length_phase_with word ok) in
+    omega arith
 length_tail read u Wait = omega arith
 length_tail read u Fault = omega arith
 length_tail read u (NoAck seen) = omega arith
@@ -193,13 +210,17 @@ short tx bits p =
     let n : length (request tx.request) ≡ 8 = length_request tx.request in
     let h : length (head tx.result) ≡ 3 = length_head tx.result in
     let m = length_tail tx.request.read p.2 tx.result in
-    let e : length bits ≡ length (request tx.request) + length (p.1 ∷ ending tx.request.read tx.result p.2) = ap length p.3 ∙ length-append (request tx.request) _ in
-    let f : length (ending tx.request.read tx.result p.2) ≡ length (head tx.result) + length (tail tx.request.read tx.result p.2) = length-append (head tx.result) _ in
+    let e : length bits ≡ length (request tx.request) + length (p.1 ∷ ending tx.request.read tx.result p.2) = ap length
+    p.3 ∙ length-append (request tx.request) _ in
+    let f : length (ending tx.request.read tx.result p.2) ≡ length (head tx.result) + length
+    (tail tx.request.read tx.result p.2) = length-append (head tx.result) _ in
     omega arith
 
 -- the same acknowledgement is followed by as many bits
-same_length : (q r u v : Bool) (a b : TxEnd) → IsEnd a → IsEnd b → head a ≡ head b → length (tail q a u) ≡ length (tail r b v)
-same_length q r u v (Moved word ok) b f g e = length_after AckOk q u (Moved word ok) f refl ∙ sym (length_after AckOk r v b g (sym e))
+same_length : (q r u v : Bool) (a b : TxEnd) → IsEnd a → IsEnd b → head a ≡ head b
+    → length (tail q a u) ≡ length (tail r b v)
+same_length q r u v (Moved word ok) b f g e = length_after AckOk q u (Moved word ok) f refl
+    ∙ sym (length_after AckOk r v b g (sym e))
 same_length q r u v Wait b f g e = sym (length_after AckWait r v b g (sym e))
 same_length q r u v Fault b f g e = sym (length_after AckFault r v b g (sym e))
 same_length q r u v (NoAck m) (Moved word ok) f g e = absurd (ack_other m f AckOk e)
@@ -212,15 +233,20 @@ pub no_beginning : (a b : Tx) (bits more : List Bool) → Spells a bits → Spel
 no_beginning a b bits more p q =
     let ta = tail a.request.read a.result p.2 in
     let tb = tail b.request.read b.result q.2 in
-    let whole : request a.request ++ (p.1 ∷ (head a.result ++ (ta ++ more))) ≡ request b.request ++ (q.1 ∷ (head b.result ++ tb)) =
-    ap (λ x. request a.request ++ p.1 ∷ x) (sym (append_assoc (head a.result) ta more)) ∙ sym (append_assoc (request a.request) (p.1 ∷ (head a.result ++ ta)) more)
+    let whole : request a.request ++ (p.1 ∷ (head a.result ++ (ta ++ more))) ≡ request b.request
+    ++ (q.1 ∷ (head b.result ++ tb)) =
+    ap (λ x. request a.request ++ p.1 ∷ x) (sym (append_assoc (head a.result) ta more))
+    ∙ sym (append_assoc (request a.request) (p.1 ∷ (head a.result ++ ta)) more)
     ∙ ap (λ x. x ++ more) (sym p.3) ∙ q.3 in
-    let first = split_same (request a.request) (request b.request) _ _ (length_request a.request ∙ sym (length_request b.request)) whole in
+    let first = split_same (request a.request) (request b.request) _ _
+    (length_request a.request ∙ sym (length_request b.request)) whole in
     let second = split_same (p.1 ∷ []) (q.1 ∷ []) (head a.result ++ (ta ++ more)) (head b.result ++ tb) refl first.1 in
-    let third = split_same (head a.result) (head b.result) (ta ++ more) tb (length_head a.result ∙ sym (length_head b.result)) second.1 in
+    let third = split_same (head a.result) (head b.result) (ta ++ more) tb
+    (length_head a.result ∙ sym (length_head b.result)) second.1 in
     let n : length (ta ++ more) ≡ length ta + length more = length-append ta more in
     let m : length (ta ++ more) ≡ length tb = ap length third.1 in
-    let k : length ta ≡ length tb = same_length a.request.read b.request.read p.2 q.2 a.result b.result p.0 q.0 third.0 in
+    let k : length ta ≡ length tb = same_length a.request.read b.request.read p.2 q.2 a.result b.result p.0 q.0
+    third.0 in
     no_bit more (omega arith)
 
 same_reg4 : (a b : Reg4) (x y : List Bool) → addr_bits a ++ x ≡ addr_bits b ++ y → a ≡ b
@@ -250,9 +276,11 @@ same_request q r e =
     let port : q.ap ≡ r.ap = cc in
     let direction : q.read ≡ r.read = cc in
     let tails : drop 3 (request q) ≡ drop 3 (request r) = ap (drop 3) e in
-    let register : q.addr ≡ r.addr = same_reg4 q.addr r.addr (odd (q.ap ∷ q.read ∷ addr_bits q.addr) ∷ false ∷ true ∷ [])
+    let register : q.addr ≡ r.addr = same_reg4 q.addr r.addr
+    (odd (q.ap ∷ q.read ∷ addr_bits q.addr) ∷ false ∷ true ∷ [])
     (odd (r.ap ∷ r.read ∷ addr_bits r.addr) ∷ false ∷ true ∷ []) tails in
-    ap (λ x. request_of x q.read q.addr) port ∙ ap (λ x. request_of r.ap x q.addr) direction ∙ ap (request_of r.ap r.read) register
+    ap (λ x. request_of x q.read q.addr) port ∙ ap (λ x. request_of r.ap x q.addr) direction
+    ∙ ap (request_of r.ap r.read) register
 
 below_8 : (n : ℕ) → IsEnd (NoAck n) → n < 8
 below_8 n h = elim h [
@@ -294,7 +322,8 @@ same_moved false t u p q h e = cc
 -- what follows the request says how the transaction ended
 same_end : (read t u : Bool) (a b : TxEnd) → IsEnd a → IsEnd b → head a ≡ head b → tail read a t ≡ tail read b u → a ≡ b
 same_end read t u (Moved v x) (Moved w y) h k e f =
-    same_phase v w x y h k (same_moved read t u (phase_with v x) (phase_with w y) (length_phase_with v x ∙ sym (length_phase_with w y)) f)
+    same_phase v w x y h k (same_moved read t u (phase_with v x) (phase_with w y)
+    (length_phase_with v x ∙ sym (length_phase_with w y)) f)
 same_end read t u (Moved v x) Wait h k e f = absurd cc
 same_end read t u (Moved v x) Fault h k e f = absurd cc
 same_end read t u (Moved v x) (NoAck n) h k e f = absurd (ack_other n k AckOk (sym e))
@@ -317,11 +346,14 @@ tx_of q end = record { request = q; result = end }
 -- transactions with the same bits are one
 pub same_tx : (a b : Tx) (bits : List Bool) → Spells a bits → Spells b bits → a ≡ b
 same_tx a b bits p q =
-    let first = split_same (request a.request) (request b.request) (p.1 ∷ ending a.request.read a.result p.2) (q.1 ∷ ending b.request.read b.result q.2)
+    let first = split_same (request a.request) (request b.request) (p.1 ∷ ending a.request.read a.result p.2)
+    (q.1 ∷ ending b.request.read b.result q.2)
     (length_request a.request ∙ sym (length_request b.request)) (sym p.3 ∙ q.3) in
     let asked : a.request ≡ b.request = same_request a.request b.request first.0 in
-    let second = split_same (p.1 ∷ []) (q.1 ∷ []) (ending a.request.read a.result p.2) (ending b.request.read b.result q.2) refl first.1 in
-    let third = split_same (head a.result) (head b.result) (tail a.request.read a.result p.2) (tail b.request.read b.result q.2)
+    let second = split_same (p.1 ∷ []) (q.1 ∷ []) (ending a.request.read a.result p.2)
+    (ending b.request.read b.result q.2) refl first.1 in
+    let third = split_same (head a.result) (head b.result) (tail a.request.read a.result p.2)
+    (tail b.request.read b.result q.2)
     (length_head a.result ∙ sym (length_head b.result)) second.1 in
     let tails : tail a.request.read a.result p.2 ≡ tail a.request.read b.result q.2 =
     third.1 ∙ ap (λ r. tail r b.result q.2) (ap (λ (x : Request). x.read) (sym asked)) in

@@ -1,5 +1,6 @@
 -- What is answered to the trace text of one transaction.
-use Rattle.std.specs.Prelude.{◌≡◌, ℕ, ◌+◌, ◌-◌, ◌^◌, ◌<◌, ◌≤◌, min, Bool, true, false, List, [], ◌∷◌, ◌++◌, length, take, Option, None, Result, Ok, Err, IsSome, IsSomeAnd, IfSome}
+use Rattle.std.specs.Prelude.{◌≡◌, ℕ, ◌+◌, ◌-◌, ◌^◌, ◌<◌, ◌≤◌, min, Bool, true, false, List, [], ◌∷◌, ◌++◌, length}
+use Rattle.std.specs.Prelude.{take, Option, None, Result, Ok, Err, IsSome, IsSomeAnd, IfSome}
 use Rattle.std.specs.Option.{option_map}
 use Rattle.std.specs.Io.KnownBytes.{Appends}
 use Rattle.swd_bits.specs.BitLists.{bits_of}
@@ -40,11 +41,13 @@ Answers (Ok u) text old new = (tx : Tx) × IfSome text (IsTextOf tx) × Appends 
 Answers (Err (BadChar told)) text old new = IfSome text (TellsBad told) × Appends old new []
 Answers (Err NotOne) text old new = IfSome text IsTextOfNone × Appends old new []
 Answers (Err Read) text old new = Appends old new []
-Answers (Err Write) text old new = (tx : Tx) × (k : ℕ) × (k < length (line tx)) × IfSome text (IsTextOf tx) × Appends old new (take k (line tx))
+Answers (Err Write) text old new = (tx : Tx) × (k : ℕ) × (k < length (line tx)) × IfSome text (IsTextOf tx)
+    × Appends old new (take k (line tx))
 
 -- A text so far has these bits, and ends in a comment or outside, whatever follows.
 unfoldable pub Reads : List ℕ → List Bool → Bool → Type 0
-Reads seen bits comment = (more : List ℕ) → bits_from false (seen ++ more) ≡ option_map (λ rest. bits ++ rest) (bits_from comment more)
+Reads seen bits comment = (more : List ℕ)
+    → bits_from false (seen ++ more) ≡ option_map (λ rest. bits ++ rest) (bits_from comment more)
 
 -- the bits as they are held, or more than any transaction has
 abbrev pub IsHeld : Bool → TxBits → List Bool → Type 0

@@ -27,6 +27,3 @@ pub use tx::{
     MOVED_BITS, REFUSED_BITS, Tx, TxEnd, UNACKNOWLEDGED_BITS, transactions_are_told_apart,
 };
 pub use tx_bits::TxBits;
-
-#[cfg(test)]
-mod tests;

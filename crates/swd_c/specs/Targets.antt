@@ -13,7 +13,8 @@ use Rattle.swd_target.specs.MemoryWords.{window}
 use Rattle.swd_target.specs.Simulations.{made_with}
 use Rattle.swd_clocked.specs.declared.clocked.Clocked.{Clocked}
 use Rattle.swd_clocked.specs.declared.fields.ClockedFields.{ClockedFields}
-use Rattle.swd_clocked.specs.Clocks.{Clocks, Holds, Settles, cycles_of, frame_in, is_held, memory_of, simulation_of, state_of}
+use Rattle.swd_clocked.specs.Clocks.{Clocks, Holds, Settles, cycles_of, frame_in, is_held, memory_of, simulation_of}
+use Rattle.swd_clocked.specs.Clocks.{state_of}
 use Rattle.swd_clocked.specs.Fields.{fields_of}
 use Rattle.swd_clocked.specs.Frames.{counted, idle}
 use Rattle.swd_c.specs.declared.nowhere.Nowhere.{Nowhere}

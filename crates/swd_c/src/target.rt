@@ -146,9 +146,9 @@ fn driven(drive: u8) -> Option<bool>
     if drive == 2 { None } else { Some(drive == 1) }
 }
 
-/// One clock: `drive` is the bit that the host drives, or 2 where it leaves the line alone. Gives the bit on the line. It
-/// gives 2 where the transfer that is pending has to take effect before, and 255 where the fields are those of no
-/// target or `drive` is above 2; then they stay as they were.
+/// One clock: `drive` is the bit that the host drives, or 2 where it leaves the line alone. Gives the bit on the
+/// line. It gives 2 where the transfer that is pending has to take effect before, and 255 where the fields are those
+/// of no target or `drive` is above 2; then they stay as they were.
 #[unsafe(no_mangle)]
 pub extern "C" fn swd_target_cycle(target: &mut ClockedFields, drive: u8) -> u8
     ensures clocks { result < 2 → (m : PlainMemory) → (target.old.waits ≡ 1 → IsReadyFor target.old m)

@@ -2,8 +2,8 @@
 use Rattle.std.specs.Prelude.{ℕ, ◌≡◌, ◌⊎◌, List, Option, Some, None, codes}
 use Rattle.std.specs.Option.{option_map}
 use Rattle.std.specs.String.{string_bytes}
-use Rattle.swd_cli.specs.declared.command.Line.{Line}
-use Rattle.swd_cli.specs.declared.command.Line.TheVariants.{One, Decode, Encode, Run, Target}
+use Rattle.swd_words.specs.declared.command.Line.{Line}
+use Rattle.swd_words.specs.declared.command.Line.TheVariants.{One, Decode, Encode, Run, Target}
 
 -- the file that the words name
 abbrev pub named : Line → Option (List ℕ)

@@ -7,8 +7,8 @@ use Rattle.swd_remote.specs.declared.kept.Line.{Line}
 use Rattle.swd_remote.specs.declared.remote.Fault.{Fault}
 use Rattle.swd_remote.specs.WholeRuns.{GoesOver, IsUnused}
 use Rattle.swd_run.specs.declared.closing.Finished.{Finished}
-use Rattle.swd_run.specs.RemoteRuns.{RunsRecorded, RunsRemote}
-use Rattle.swd_cli.specs.declared.command.RunLine.{RunLine}
+use Rattle.swd_ends.specs.RemoteRuns.{RunsRecorded, RunsRemote}
+use Rattle.swd_words.specs.declared.command.RunLine.{RunLine}
 use Rattle.swd_cli.specs.Statuses.{status_of_run}
 
 -- where the other end went away, the status is 1; else it is that of the run
@@ -17,28 +17,34 @@ status_at failed (Some fault) (Ok finished) = 1
 status_at failed _ answer = status_of_run failed answer
 
 -- only a strict run may fail its script
-pub record IsStatusAt (strict : Bool) (answer : Result Finished EngineFault) (gone : Option Fault) (status : ℕ) : Type 0 where
-  pub failed : Bool
-  pub only_strict : strict ≡ false → failed ≡ false
-  pub is : status ≡ status_at failed gone answer
+pub record IsStatusAt (strict : Bool) (answer : Result Finished EngineFault) (gone : Option Fault) (status : ℕ) : Type 0
+  where
+    pub failed : Bool
+    pub only_strict : strict ≡ false → failed ≡ false
+    pub is : status ≡ status_at failed gone answer
 
 -- what went over the line whose end this is, by the calls of the wire
-abbrev pub WentOver : {R W : Type 0} → (R → Option (List ℕ)) → (W → Option (List ℕ)) → Option (List ℕ) → Option (List ℕ) → Line R W
+abbrev pub WentOver : {R W : Type 0} → (R → Option (List ℕ)) → (W → Option (List ℕ)) → Option (List ℕ) → Option (List ℕ)
+    → Line R W
     → List Call → Type 0
 WentOver remaining contents sent left line calls = ∥ GoesOver remaining contents sent left line calls ∥₁
 
--- The script is run over a line, and its report and, where one is named, its trace go to files of which nothing else is known; or
--- such a file can't be opened. That the line is over the standard streams, tests show.
-abbrev pub PerformsAt : {S R W : Type 0} → (ℕ → Port) → Option S → RunLine → ℕ → (R → Option (List ℕ)) → (W → Option (List ℕ))
+-- The script is run over a line, and its report and, where one is named, its trace go to files of which nothing else
+-- is known; or such a file can't be opened. That the line is over the standard streams, tests show.
+abbrev pub PerformsAt : {S R W : Type 0} → (ℕ → Port) → Option S → RunLine → ℕ → (R → Option (List ℕ))
+    → (W → Option (List ℕ))
     → Option (List ℕ) → Option (List ℕ) → Option (List ℕ) → Type 0
 PerformsAt {S} {R} {W} story None run status remaining contents sent left script =
     (answer : Result Finished EngineFault) × (line : Line R W) × (before : Option (List ℕ)) × (after : Option (List ℕ))
-    × RunsRemote story run.tries run.resumes (WentOver remaining contents sent left line) (IsUnused remaining contents sent left line)
+    × RunsRemote story run.tries run.resumes (WentOver remaining contents sent left line)
+    (IsUnused remaining contents sent left line)
     answer script before after × IsStatusAt run.strict answer line.fault status
 PerformsAt {S} {R} {W} story (Some trace) run status remaining contents sent left script =
-    (status ≡ 2) ⊎ ((answer : Result Finished EngineFault) × (line : Line R W) × (before : Option (List ℕ)) × (after : Option (List ℕ))
+    (status ≡ 2) ⊎ ((answer : Result Finished EngineFault) × (line : Line R W) × (before : Option (List ℕ))
+    × (after : Option (List ℕ))
     × (untraced : Option (List ℕ)) × (traced : Option (List ℕ))
-    × RunsRecorded story run.tries run.resumes (WentOver remaining contents sent left line) (IsUnused remaining contents sent left line)
+    × RunsRecorded story run.tries run.resumes (WentOver remaining contents sent left line)
+    (IsUnused remaining contents sent left line)
     answer script before after untraced traced × IsStatusAt run.strict answer line.fault status)
 
 -- so it is where a file of the report is named that can be opened

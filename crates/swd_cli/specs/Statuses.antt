@@ -1,13 +1,14 @@
 -- What a command does, and the status that it ends with.
-use Rattle.std.specs.Prelude.{◌≡◌, ◌⊎◌, ℕ, Bool, false, true, List, [], Option, None, Some, Result, Ok, Err, ◌||◌, is_ok, is_some, if◌then◌else◌}
+use Rattle.std.specs.Prelude.{◌≡◌, ◌⊎◌, ℕ, Bool, false, true, List, [], Option, None, Some, Result, Ok, Err, ◌||◌}
+use Rattle.std.specs.Prelude.{is_ok, is_some, if◌then◌else◌}
 use Rattle.swd_bits.specs.One.{Answers}
 use Rattle.swd_bits.specs.declared.one.OneFault.{OneFault}
 use Rattle.swd_text.specs.Decoding.{Decodes}
 use Rattle.swd_text.specs.Encoding.{Encodes}
 use Rattle.swd_text.specs.declared.fault.EngineFault.{EngineFault}
-use Rattle.swd_cli.specs.declared.command.Line.{Line}
-use Rattle.swd_cli.specs.declared.command.Line.TheVariants.{One, Decode, Encode, Run, Target}
-use Rattle.swd_cli.specs.declared.command.RunLine.{RunLine}
+use Rattle.swd_words.specs.declared.command.Line.{Line}
+use Rattle.swd_words.specs.declared.command.Line.TheVariants.{One, Decode, Encode, Run, Target}
+use Rattle.swd_words.specs.declared.command.RunLine.{RunLine}
 use Rattle.swd_host.specs.declared.outcome.End.{End}
 use Rattle.swd_host.specs.declared.outcome.End.TheVariants.{All, Lost, TriesOut, WrongId, Confused}
 use Rattle.swd_run.specs.declared.closing.Finished.{Finished}
@@ -44,16 +45,19 @@ NotOpened status old new = (status ≡ 2) × Appends old new []
 
 -- A run reads a script and a plan and writes a report, and its status is that of its end. The trace goes to the file
 -- that is named for it, of which nothing else is known.
-abbrev pub PerformsUnder : {S : Type 0} → Option S → RunLine → ℕ → Option (List ℕ) → Option (List ℕ) → Option (List ℕ) → Option (List ℕ) → Type 0
+abbrev pub PerformsUnder : {S : Type 0} → Option S → RunLine → ℕ → Option (List ℕ) → Option (List ℕ) → Option (List ℕ)
+    → Option (List ℕ) → Type 0
 PerformsUnder None run status script plan old new =
-    (answer : Result Finished EngineFault) × RunsText run.tries run.resumes answer script plan old new × IsStatusOf run.strict answer status
+    (answer : Result Finished EngineFault) × RunsText run.tries run.resumes answer script plan old new
+    × IsStatusOf run.strict answer status
 PerformsUnder (Some trace) run status script plan old new =
     NotOpened status old new
     ⊎ ((answer : Result Finished EngineFault) × (before : Option (List ℕ)) × (after : Option (List ℕ))
     × RunsTraced run.tries run.resumes answer script plan old new before after × IsStatusOf run.strict answer status)
 
 -- The plan is empty where none is named, and else some text: no contract knows what a file held.
-abbrev pub PerformsRun : {S : Type 0} → Option S → RunLine → ℕ → Option (List ℕ) → Option (List ℕ) → Option (List ℕ) → Type 0
+abbrev pub PerformsRun : {S : Type 0} → Option S → RunLine → ℕ → Option (List ℕ) → Option (List ℕ) → Option (List ℕ)
+    → Type 0
 PerformsRun None run status script old new = PerformsUnder run.trace run status script (Some []) old new
 PerformsRun (Some plan) run status script old new =
     NotOpened status old new ⊎ ((text : Option (List ℕ)) × PerformsUnder run.trace run status script text old new)

@@ -1,16 +1,13 @@
 //! The program `swd`.
 #![tactic(auto)]
 
-mod command;
 mod files;
 mod program;
 mod remote_command;
 mod report;
 mod target_command;
-mod target_words;
 mod trace;
 mod watch;
-mod words;
 
 use files::Disk;
 use program::run_words;

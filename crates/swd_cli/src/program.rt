@@ -3,20 +3,19 @@ ghost use Rattle.std.specs.Prelude.{◌≡◌, ◌≢◌, IfNone, IfSome, Some, 
 ghost use Rattle.swd_cli.specs.Inputs.{IsStandard, named};
 ghost use Rattle.swd_cli.specs.Statuses.{Performs, PerformsRun, PerformsUnder};
 
-use crate::command::{Line, LineFault, RunLine};
 use crate::files::{Files, Identity};
 use crate::remote_command::{Untold, perform_remote};
 use crate::report::{DONE, FAULT, cannot_open, engine_status, one_status, run_status, tell};
 use crate::target_command::perform_target;
 use crate::trace::{Sources, open_plan, open_trace};
 use crate::watch::Watch;
-use crate::words::line;
 use clap::Error;
 use std::alloc::Global;
 use std::io::{Read, Write};
 use swd_bits::one_text;
 use swd_run::{run_text, run_traced};
 use swd_text::{decode_text, encode_text};
+use swd_words::{Line, LineFault, RunLine, line};
 
 /// Does what the words ask for, the program's name first, and returns the status: 0 where all was
 /// done, 1 where a run ended before all was done, or a strict one met a bus fault, 2 at a fault of words,

@@ -4,17 +4,18 @@ ghost use Rattle.std.specs.FinMap.{empty};
 ghost use Rattle.swd_port.specs.Port.{made};
 ghost use Rattle.swd_cli.specs.Remotes.{IsStatusAt, PerformsAt, PerformsRemote};
 
-use crate::command::RunLine;
 use crate::files::{Files, Identity};
 use crate::report::{STOPPED, cannot_open, run_status, tell};
 use crate::trace::{Sources, open_trace};
 use crate::watch::Watch;
 use std::alloc::Global;
 use std::io::{Read, Write};
+use swd_ends::{run_remote, run_remote_traced};
 use swd_port::Story;
 use swd_remote::Fault;
-use swd_run::{Finished, run_remote, run_remote_traced};
+use swd_run::Finished;
 use swd_text::EngineFault;
+use swd_words::RunLine;
 
 /// Any story of the other end: what is proved of a run is proved of each.
 pub struct Untold;

@@ -2,7 +2,6 @@
 ghost use Rattle.std.specs.Prelude.{◌≡◌, ℕ, List, Option};
 ghost use Rattle.swd_cli.specs.Targets.{IsServedStatus, ServesHost};
 
-use crate::command::TargetLine;
 use crate::files::{Files, Identity, Opened};
 use crate::report::{DONE, FAULT, cannot_open, engine_status, tell};
 use crate::trace::{Sources, open_plan, open_trace};
@@ -10,8 +9,9 @@ use std::alloc::Allocator;
 use std::io::{Read, Write};
 use swd_bitbang::{Served, Trace, serve};
 use swd_clocked::MarkedClocked;
+use swd_ends::{TargetFault, read_target, write_log};
 use swd_io::send;
-use swd_run::{TargetFault, read_target, write_log};
+use swd_words::TargetLine;
 
 /// Opens the plan, and serves a host at the target of the script. Without a plan nothing happens to the
 /// requests.

@@ -25,7 +25,8 @@ use Rattle.swd_target.specs.Simulations.{reply_to, phase_to, link_after}
 use Rattle.swd_target.specs.Targets.{simulation}
 use Rattle.swd_target.proofs.AskLemmas.{answers_deaf}
 use Rattle.swd_clocked.specs.declared.frame.Frame.{Frame}
-use Rattle.swd_clocked.specs.declared.frame.Frame.TheVariants.{Asks, Lost, High, Switches, Replies, Drives, Awaits, Passes}
+use Rattle.swd_clocked.specs.declared.frame.Frame.TheVariants.{Asks, Lost, High, Switches, Replies, Drives, Awaits}
+use Rattle.swd_clocked.specs.declared.frame.Frame.TheVariants.{Passes}
 use Rattle.swd_clocked.specs.declared.clocked.Clocked.{Clocked}
 use Rattle.swd_clocked.specs.Frames.{idle, frame_register, frame_seen}
 use Rattle.swd_clocked.specs.Cycles.{Moved, Seen}
@@ -59,7 +60,8 @@ kind_flipped flip lines.Idle = refl
 kind_flipped flip (lines.Drives bits) = refl
 kind_flipped flip (lines.Awaits r f) = refl
 
-kind_phase : (a : Reply) (read : Bool) (r : Register) (flip : Option ℕ) (v : ℕ) → kind (line_after a (phase_after read r flip v) lines.Idle) ≡ kind_after a read
+kind_phase : (a : Reply) (read : Bool) (r : Register) (flip : Option ℕ) (v : ℕ)
+    → kind (line_after a (phase_after read r flip v) lines.Idle) ≡ kind_after a read
 kind_phase Okay true r flip v = refl
 kind_phase Okay false r flip v = refl
 kind_phase Waits read r flip v = refl
@@ -67,9 +69,11 @@ kind_phase Faults read r flip v = refl
 kind_phase Silent read r flip v = refl
 
 -- the phase that a request leaves is that of its reply
-pub kind_seen : {A : Type 0} (m : Mark) (q : Request) (s t : Target A) (a : Reply) (phase : Line) → AnswersUnder m q s a (line_under m phase) t → kind phase ≡ kind_after a q.read
+pub kind_seen : {A : Type 0} (m : Mark) (q : Request) (s t : Target A) (a : Reply) (phase : Line)
+    → AnswersUnder m q s a (line_under m phase) t → kind phase ≡ kind_after a q.read
 kind_seen m q s t a phase u =
-    sym (kind_flipped (flip_of m) phase) ∙ ap kind u.phases ∙ kind_phase _ q.read _ (flip_of m) _ ∙ ap (λ (y : Reply). kind_after y q.read) (sym u.replies)
+    sym (kind_flipped (flip_of m) phase) ∙ ap kind u.phases ∙ kind_phase _ q.read _ (flip_of m) _
+    ∙ ap (λ (y : Reply). kind_after y q.read) (sym u.replies)
 
 due_muted : (place : ℕ) (a : Reply) (read : Bool) → place < 3 → due_after read (seen_at (Mute place) a) ≡ DueLost
 due_muted zero Okay read l = refl
@@ -98,7 +102,8 @@ rests_muted Faults lines.Idle = refl
 rests_muted Faults (lines.Drives bits) = refl
 rests_muted Faults (lines.Awaits r f) = refl
 
-rests_plain : (a : Reply) (read : Bool) (phase : Line) → kind phase ≡ kind_after a read → rests (due_after read (driven a)) (frame_seen a phase) ≡ true
+rests_plain : (a : Reply) (read : Bool) (phase : Line) → kind phase ≡ kind_after a read
+    → rests (due_after read (driven a)) (frame_seen a phase) ≡ true
 rests_plain Silent read phase e = refl
 rests_plain Okay true lines.Idle e = absurd (omega arith)
 rests_plain Okay true (lines.Drives bits) e = refl
@@ -132,14 +137,21 @@ seen_plain Deaf Waits n = refl
 seen_plain Deaf Faults n = refl
 seen_plain Deaf Silent n = refl
 
-rests_seen : (m : Mark) (a : Reply) (read : Bool) (phase : Line) → IsMark m → kind phase ≡ kind_after a read → rests (due_after read (seen_at m a)) (frame_seen a phase) ≡ true
-rests_seen (Mute place) a read phase l e = ap (λ (d : Due). rests d (frame_seen a phase)) (due_muted place a read l) ∙ rests_muted a phase
-rests_seen Clean a read phase l e = ap (λ n. rests (due_after read n) (frame_seen a phase)) (seen_plain Clean a (λ p h. cc)) ∙ rests_plain a read phase e
-rests_seen Wait a read phase l e = ap (λ n. rests (due_after read n) (frame_seen a phase)) (seen_plain Wait a (λ p h. cc)) ∙ rests_plain a read phase e
-rests_seen (Flip x) a read phase l e = ap (λ n. rests (due_after read n) (frame_seen a phase)) (seen_plain (Flip x) a (λ p h. cc)) ∙ rests_plain a read phase e
-rests_seen Deaf a read phase l e = ap (λ n. rests (due_after read n) (frame_seen a phase)) (seen_plain Deaf a (λ p h. cc)) ∙ rests_plain a read phase e
+rests_seen : (m : Mark) (a : Reply) (read : Bool) (phase : Line) → IsMark m → kind phase ≡ kind_after a read
+    → rests (due_after read (seen_at m a)) (frame_seen a phase) ≡ true
+rests_seen (Mute place) a read phase l e = ap (λ (d : Due). rests d (frame_seen a phase)) (due_muted place a read l)
+    ∙ rests_muted a phase
+rests_seen Clean a read phase l e = ap (λ n. rests (due_after read n) (frame_seen a phase))
+    (seen_plain Clean a (λ p h. cc)) ∙ rests_plain a read phase e
+rests_seen Wait a read phase l e = ap (λ n. rests (due_after read n) (frame_seen a phase))
+    (seen_plain Wait a (λ p h. cc)) ∙ rests_plain a read phase e
+rests_seen (Flip x) a read phase l e = ap (λ n. rests (due_after read n) (frame_seen a phase))
+    (seen_plain (Flip x) a (λ p h. cc)) ∙ rests_plain a read phase e
+rests_seen Deaf a read phase l e = ap (λ n. rests (due_after read n) (frame_seen a phase))
+    (seen_plain Deaf a (λ p h. cc)) ∙ rests_plain a read phase e
 
-line_seen : (a : Reply) (read : Bool) (phase : Line) (flip : Option ℕ) → kind phase ≡ kind_after a read → line_at (frame_seen a phase) flip ≡ line_after a (line_flipped flip phase) lines.Idle
+line_seen : (a : Reply) (read : Bool) (phase : Line) (flip : Option ℕ) → kind phase ≡ kind_after a read
+    → line_at (frame_seen a phase) flip ≡ line_after a (line_flipped flip phase) lines.Idle
 line_seen Silent read phase flip e = refl
 line_seen Okay read lines.Idle flip e = refl
 line_seen Okay read (lines.Drives bits) flip e = refl
@@ -158,7 +170,8 @@ pub record SeenUnder {A : Type 0} (m : Mark) (q : Request) (a : Reply) (s : Targ
   pub line : line_at t.frame (flip_of m) ≡ line_after a phase lines.Idle
   pub resting : rests (due_after q.read (seen_at m a)) t.frame ≡ true
 
-pub seen_marked : {A : Type 0} (m : Mark) (q : Request) (a : Reply) (s : Target A) (w : Bool) (t : Clocked A) → IsMark m → is_deaf m ≡ false → w ≡ is_wait m → Seen q a s w t → SeenUnder m q a s t
+pub seen_marked : {A : Type 0} (m : Mark) (q : Request) (a : Reply) (s : Target A) (w : Bool) (t : Clocked A) → IsMark m
+    → is_deaf m ≡ false → w ≡ is_wait m → Seen q a s w t → SeenUnder m q a s t
 seen_marked m q a s w t legal hears waits d =
     let u = d.answers.under m legal hears (sym waits) in
     let k = kind_seen m q s t.target a d.phase u in
@@ -169,7 +182,8 @@ seen_marked m q a s w t legal hears waits d =
       resting = ap (rests (due_after q.read (seen_at m a))) d.frame ∙ rests_seen m a q.read d.phase legal k;
     }
 
-pub awaiting_at : (f : Frame) (flip : Option ℕ) → rests Give f ≡ true → line_at f flip ≡ lines.Awaits (frame_register f) flip
+pub awaiting_at : (f : Frame) (flip : Option ℕ) → rests Give f ≡ true
+    → line_at f flip ≡ lines.Awaits (frame_register f) flip
 awaiting_at (Awaits r bits place) flip e = refl
 awaiting_at (Asks bits count) flip e = absurd cc
 awaiting_at (Lost ones) flip e = absurd cc
@@ -180,12 +194,14 @@ awaiting_at (Drives bits left) flip e = absurd cc
 awaiting_at Passes flip e = absurd cc
 
 -- what is due after it, and the data phase
-pub link_seen : {A : Type 0} (m : Mark) (q : Request) (a : Reply) (s t : Target A) (phase line : Line) (due : Due) (l : Link) (seen : ℕ) → AnswersUnder m q s a phase t
+pub link_seen : {A : Type 0} (m : Mark) (q : Request) (a : Reply) (s t : Target A) (phase line : Line) (due : Due)
+    (l : Link) (seen : ℕ) → AnswersUnder m q s a phase t
     → seen ≡ seen_at m a → due ≡ due_after q.read seen → line ≡ line_after a phase l.line
     → record { due = due; line = line } ≡ link_after m q (reply_to m q (simulation s)) (phase_to m q (simulation s)) l
 link_seen m q a s t phase line due l seen u sees dues lined =
     let now : record { due = due; line = line } ≡ link_after m q a phase l = rw (lined, dues, sees) refl in
-    now ∙ ap (λ (y : Reply). link_after m q y phase l) u.replies ∙ ap (λ (y : Line). link_after m q (reply_to m q (simulation s)) y l) u.phases
+    now ∙ ap (λ (y : Reply). link_after m q y phase l) u.replies
+    ∙ ap (λ (y : Line). link_after m q (reply_to m q (simulation s)) y l) u.phases
 
 -- a request that the target doesn't see
 pub deaf_is : (m : Mark) → is_deaf m ≡ true → m ≡ Deaf
@@ -195,10 +211,13 @@ deaf_is Wait e = absurd cc
 deaf_is (Flip p) e = absurd cc
 deaf_is (Mute p) e = absurd cc
 
-pub deaf_under : {A : Type 0} (m : Mark) (q : Request) (s : Target A) (w : Bool) (t : Clocked A) → m ≡ Deaf → Moved idle s w t → SeenUnder m q Silent s t
+pub deaf_under : {A : Type 0} (m : Mark) (q : Request) (s : Target A) (w : Bool) (t : Clocked A) → m ≡ Deaf
+    → Moved idle s w t → SeenUnder m q Silent s t
 deaf_under m q s w t deaf moved = record {
   phase = lines.Idle;
-  answers = subst (λ (y : Mark). AnswersUnder y q s Silent lines.Idle t.target) (sym deaf) (subst (λ (y : Target _). AnswersUnder Deaf q s Silent lines.Idle y) (sym moved.target) (answers_deaf q s));
+  answers = subst (λ (y : Mark). AnswersUnder y q s Silent lines.Idle t.target) (sym deaf)
+      (subst (λ (y : Target _). AnswersUnder Deaf q s Silent lines.Idle y) (sym moved.target) (answers_deaf q s));
   line = ap (λ (f : Frame). line_at f (flip_of m)) moved.frame;
-  resting = ap (λ (y : Mark). rests (due_after q.read (seen_at y Silent)) t.frame) deaf ∙ ap (rests (due_after q.read 7)) moved.frame;
+  resting = ap (λ (y : Mark). rests (due_after q.read (seen_at y Silent)) t.frame) deaf
+      ∙ ap (rests (due_after q.read 7)) moved.frame;
 }

@@ -12,11 +12,10 @@ pub stays_on : (n m k a : ℕ) → m ≡ n → k ≡ m + a → a ≡ 0 → k ≡
 stays_on n m k a first next none = omega arith
 
 -- the same in a frame that the proof knows
-pub stays_in : (n m k : ℕ) (f g : Frame) (driven : Bool) → m ≡ n → k ≡ m + contends f driven → f ≡ g → contends g driven ≡ 0 → k ≡ n
-stays_in n m k f g driven first next is none = stays_on n m k (contends f driven) first next (ap (λ (x : Frame). contends x driven) is ∙ none)
-
-pub undriven_alone : (f : Frame) → contends f false ≡ 0
-undriven_alone f = refl
+pub stays_in : (n m k : ℕ) (f g : Frame) (driven : Bool) → m ≡ n → k ≡ m + contends f driven → f ≡ g
+    → contends g driven ≡ 0 → k ≡ n
+stays_in n m k f g driven first next is none = stays_on n m k (contends f driven) first next
+    (ap (λ (x : Frame). contends x driven) is ∙ none)
 
 pub asks_alone : (bits count : ℕ) (driven : Bool) → contends (Asks bits count) driven ≡ 0
 asks_alone bits count true = refl
@@ -30,7 +29,3 @@ switch_alone : (n : ℕ) (a b : Bool) → contends (if a then High else (if b th
 switch_alone n true b = refl
 switch_alone n false true = refl
 switch_alone n false false = refl
-
-pub switching_alone : (n : ℕ) (driven : Bool) → contends (switching n) driven ≡ 0
-switching_alone n true = switch_alone n (n == 0) (n == 16)
-switching_alone n false = refl

@@ -15,7 +15,8 @@ use Rattle.swd_port.specs.Moving.{bits_driven}
 use Rattle.swd_target.proofs.FieldsLemmas.{flag_read, target_read}
 use Rattle.swd_clocked.specs.declared.clocked.Clocked.{Clocked}
 use Rattle.swd_clocked.specs.declared.frame.Frame.{Frame}
-use Rattle.swd_clocked.specs.declared.frame.Frame.TheVariants.{Asks, Lost, High, Switches, Replies, Drives, Awaits, Passes}
+use Rattle.swd_clocked.specs.declared.frame.Frame.TheVariants.{Asks, Lost, High, Switches, Replies, Drives, Awaits}
+use Rattle.swd_clocked.specs.declared.frame.Frame.TheVariants.{Passes}
 use Rattle.swd_clocked.specs.Fields.{fields_of, frame_fields, line_fields, register_number, reply_number}
 use Rattle.swd_clocked.specs.Fields.{read_clocked, read_frame, read_line, read_register, read_reply}
 use Rattle.swd_clocked.specs.Frames.{frame_bits, frame_limit, frame_place}
@@ -51,7 +52,8 @@ line_read (lines.Drives bits) h = rw (mod-eq_of_lt h) refl
 line_read (lines.Awaits r None) h = rw (register_read r) refl
 line_read (lines.Awaits r (Some place)) h = rw (register_read r) refl
 
-frame_read : (f : Frame) → frame_bits f < 2 ^ 33 → frame_place f < frame_limit f → read_frame (frame_fields f) ≡ frame_fields f
+frame_read : (f : Frame) → frame_bits f < 2 ^ 33 → frame_place f < frame_limit f
+    → read_frame (frame_fields f) ≡ frame_fields f
 frame_read (Asks byte count) h p = rw (mod-eq_of_lt p) refl
 frame_read (Lost ones) h p = rw (mod-eq_of_lt p) refl
 frame_read High h p = refl

@@ -1,5 +1,6 @@
 -- What ones and zeros do at a clocked target.
-use Rattle.std.proofs.Common.{◌≡◌, ℕ, ◌+◌, ◌-◌, ◌/◌, ◌<◌, ◌≤◌, ◌^◌, ◌⊎◌, inl, inr, Option, Bool, true, refl, sym, ap, subst, ◌∙◌, arith}
+use Rattle.std.proofs.Common.{◌≡◌, ℕ, ◌+◌, ◌-◌, ◌/◌, ◌<◌, ◌≤◌, ◌^◌, ◌⊎◌, inl, inr, Option, Bool, true, refl, sym, ap}
+use Rattle.std.proofs.Common.{subst, ◌∙◌, arith}
 use Rattle.std.proofs.lemmas.Bool.{cases_lt}
 use lib.Count.{count_leading_zeros}
 use Rattle.swd_bits.specs.Bits.{low_bits}
@@ -13,9 +14,11 @@ use Rattle.swd_target.specs.Targets.{state_of, simulation}
 use Rattle.swd_target.specs.Simulations.{Simulation, stepped}
 use Rattle.swd_target.specs.Requests.{DataComes}
 use Rattle.swd_clocked.specs.declared.frame.Frame.{Frame}
-use Rattle.swd_clocked.specs.declared.frame.Frame.TheVariants.{Asks, Lost, High, Switches, Replies, Drives, Awaits, Passes}
+use Rattle.swd_clocked.specs.declared.frame.Frame.TheVariants.{Asks, Lost, High, Switches, Replies, Drives, Awaits}
+use Rattle.swd_clocked.specs.declared.frame.Frame.TheVariants.{Passes}
 use Rattle.swd_clocked.specs.declared.clocked.Clocked.{Clocked}
-use Rattle.swd_clocked.specs.Frames.{frame_place, frame_limit, idle, shifted, ones_at_end, IsRising, rise, risen, IsFalling, fall}
+use Rattle.swd_clocked.specs.Frames.{frame_place, frame_limit, idle, shifted, ones_at_end, IsRising, rise, risen}
+use Rattle.swd_clocked.specs.Frames.{IsFalling, fall}
 use Rattle.swd_clocked.specs.Cycles.{Moved, ResetCame, DataCame, Cycles}
 use Rattle.swd_clocked.specs.Clocks.{Rises}
 use Rattle.swd_clocked.proofs.Shifts.{no_request}
@@ -23,31 +26,40 @@ use Rattle.swd_clocked.proofs.Shifts.{no_request}
 -- the line reset that ones lead to, as a state and exactly
 abbrev Rose : {A : Type 0} → Frame → Target A → Clocked A → Type 0
 Rose f s t =
-    (risen t.frame (state_of t.target) ≡ risen f (state_of s)) × (stepped (λ c. risen t.frame) (simulation t.target) ≡ stepped (λ c. risen f) (simulation s))
+    (risen t.frame (state_of t.target) ≡ risen f (state_of s))
+    × (stepped (λ c. risen t.frame) (simulation t.target) ≡ stepped (λ c. risen f) (simulation s))
 
 rose_moved : {A : Type 0} (f : Frame) (s : Target A) (w : Bool) (t : Clocked A) → Moved f s w t → Rose f s t
 rose_moved f s w t m = (
   ap (λ (x : Frame). risen x (state_of t.target)) m.frame ∙ ap (λ (x : Target _). risen f (state_of x)) m.target,
-  ap (λ (x : Frame). stepped (λ c. risen x) (simulation t.target)) m.frame ∙ ap (λ (x : Target _). stepped (λ c. risen f) (simulation x)) m.target,
+  ap (λ (x : Frame). stepped (λ c. risen x) (simulation t.target)) m.frame
+      ∙ ap (λ (x : Target _). stepped (λ c. risen f) (simulation x)) m.target,
 )
 
 rose_reset : {A : Type 0} (ones : ℕ) (s : Target A) (w : Bool) (t : Clocked A) → ResetCame s w t → Rose (Lost ones) s t
-rose_reset ones s w t r =
-    (ap (λ (x : Frame). risen x (state_of t.target)) r.frame ∙ r.reset.state, ap (λ (x : Frame). stepped (λ c. risen x) (simulation t.target)) r.frame ∙ r.reset.exact)
+rose_reset ones s w t r = (
+  ap (λ (x : Frame). risen x (state_of t.target)) r.frame
+      ∙ r.reset.state,
+  ap (λ (x : Frame). stepped (λ c. risen x) (simulation t.target)) r.frame ∙ r.reset.exact,
+)
 
-rose_damaged : {A : Type 0} (r : Register) (bits place : ℕ) (s : Target A) (w : Bool) (t : Clocked A) → DataCame r undriven s w t → Rose (Awaits r bits place) s t
+rose_damaged : {A : Type 0} (r : Register) (bits place : ℕ) (s : Target A) (w : Bool) (t : Clocked A)
+    → DataCame r undriven s w t → Rose (Awaits r bits place) s t
 rose_damaged r bits place s w t d =
     let comes = subst (λ (o : Option ℕ). DataComes (arrival_of r o) s t.target) word_ones d.comes in (
       ap (λ (x : Frame). risen x (state_of t.target)) d.frame ∙ ap (risen idle) (comes.undone refl),
-      ap (λ (x : Frame). stepped (λ c. risen x) (simulation t.target)) d.frame ∙ ap (stepped (λ c. risen idle)) comes.exact,
+      ap (λ (x : Frame). stepped (λ c. risen x) (simulation t.target)) d.frame
+          ∙ ap (stepped (λ c. risen idle)) comes.exact,
     )
 
-one_rose : {A : Type 0} (f : Frame) (answer : Bool) (s : Target A) (w : Bool) (t : Clocked A) → IsRising f → frame_place f < frame_limit f → Cycles f true answer s w t → Rose f s t
+one_rose : {A : Type 0} (f : Frame) (answer : Bool) (s : Target A) (w : Bool) (t : Clocked A) → IsRising f
+    → frame_place f < frame_limit f → Cycles f true answer s w t → Rose f s t
 one_rose High answer s w t i p c = rose_moved _ s w t c.1
 one_rose (Asks bits count) answer s w t i p c =
     elim (cases_lt count 7) as (λ (x : (count < 7) ⊎ (7 ≤ count)). Rose (Asks bits count) s t) [
       | inl l ↦ rose_moved _ s w t (c.1.more l (λ e. refl))
-      | inr g ↦ rose_moved _ s w t ((c.1.whole (omega arith)).broken (λ q e. no_request q (e ∙ ap (λ n. low_bits 8 (shifted 128 n true)) i)))
+      | inr g ↦ rose_moved _ s w t
+          ((c.1.whole (omega arith)).broken (λ q e. no_request q (e ∙ ap (λ n. low_bits 8 (shifted 128 n true)) i)))
     ]
 one_rose (Lost ones) answer s w t i p c =
     elim (cases_lt ones 49) as (λ (x : (ones < 49) ⊎ (49 ≤ ones)). Rose (Lost ones) s t) [
@@ -66,13 +78,16 @@ one_rose (Awaits r bits place) answer s w t i p c =
       | inr g ↦ rose_moved _ s w t (c.1.turn (omega arith))
       | inl l ↦ elim (cases_lt place 33) as (λ (x : (place < 33) ⊎ (33 ≤ place)). Rose (Awaits r bits place) s t) [
         | inl m ↦ rose_moved _ s w t (c.1.more (λ e. absurd (omega arith)) m)
-        | inr m ↦ rose_damaged r bits place s w t (subst (λ n. DataCame r (shifted (2 ^ 32) n true) s w t) i (c.1.whole (omega arith)))
+        | inr m ↦ rose_damaged r bits place s w t
+            (subst (λ n. DataCame r (shifted (2 ^ 32) n true) s w t) i (c.1.whole (omega arith)))
       ]
     ]
 one_rose Passes answer s w t i p c = rose_moved _ s w t c.1
 
-pub one_rises : {A : Type 0} (s t : Clocked A) (answer : Bool) → IsRising s.frame → frame_place s.frame < frame_limit s.frame → Cycles s.frame true answer s.target s.waits t → Rises s t
-one_rises s t answer i p c = let r = one_rose s.frame answer s.target s.waits t i p c in record { state = r.0; exact = r.1 }
+pub one_rises : {A : Type 0} (s t : Clocked A) (answer : Bool) → IsRising s.frame
+    → frame_place s.frame < frame_limit s.frame → Cycles s.frame true answer s.target s.waits t → Rises s t
+one_rises s t answer i p c = let r = one_rose s.frame answer s.target s.waits t i p c in
+    record { state = r.0; exact = r.1 }
 
 pub rises_on : {A : Type 0} (s t u : Clocked A) → Rises s t → Rises t u → Rises s u
 rises_on s t u a b = record { state = b.state ∙ a.state; exact = b.exact ∙ a.exact }
@@ -111,7 +126,8 @@ again (Drives bits left) s i l = refl
 again (Awaits r bits place) s i l = refl
 again Passes s i l = refl
 
-again_exactly : (f : Frame) (s : Simulation) → IsRising f → 0 < rise f → stepped (λ c. risen (Lost 0)) (stepped (λ c. risen f) s) ≡ stepped (λ c. risen f) s
+again_exactly : (f : Frame) (s : Simulation) → IsRising f → 0 < rise f
+    → stepped (λ c. risen (Lost 0)) (stepped (λ c. risen f) s) ≡ stepped (λ c. risen f) s
 again_exactly High s i l = absurd (omega arith)
 again_exactly (Asks bits count) s i l = refl
 again_exactly (Lost ones) s i l = refl
@@ -120,17 +136,6 @@ again_exactly (Replies reply line place) s i l = absurd i
 again_exactly (Drives bits left) s i l = refl
 again_exactly (Awaits r bits place) s i l = refl
 again_exactly Passes s i l = refl
-
-pub rises_again : {A : Type 0} (s t u v : Clocked A) → IsRising s.frame → 0 < rise s.frame → Rises s t → t.frame ≡ High → Moved (Lost 0) t.target t.waits u → Rises u v → Rises s v
-rises_again s t u v i l first high switched second =
-    let state : state_of t.target ≡ risen s.frame (state_of s.target) = sym (ap (λ (x : Frame). risen x (state_of t.target)) high) ∙ first.state in
-    let exact : simulation t.target ≡ stepped (λ c. risen s.frame) (simulation s.target) = sym (ap (λ (x : Frame). stepped (λ c. risen x) (simulation t.target)) high) ∙ first.exact in
-    record {
-      state = second.state ∙ ap (λ (x : Frame). risen x (state_of u.target)) switched.frame ∙ ap (λ (x : Target _). risen (Lost 0) (state_of x)) switched.target
-          ∙ ap (risen (Lost 0)) state ∙ again s.frame (state_of s.target) i l;
-      exact = second.exact ∙ ap (λ (x : Frame). stepped (λ c. risen x) (simulation u.target)) switched.frame ∙ ap (λ (x : Target _). stepped (λ c. risen (Lost 0)) (simulation x)) switched.target
-          ∙ ap (stepped (λ c. risen (Lost 0))) exact ∙ again_exactly s.frame (simulation s.target) i l;
-    }
 
 -- and one of them less leads to it
 pub record Risen (f g : Frame) : Type 0 where
@@ -143,14 +148,28 @@ eight_ones : ones_at_end 255 ≡ 8
 unfolding count_leading_zeros
 eight_ones = refl
 
-pub one_frame : {A : Type 0} (f : Frame) (answer : Bool) (s : Target A) (w : Bool) (t : Clocked A) → IsRising f → frame_place f < frame_limit f → Cycles f true answer s w t → Risen f t.frame
+pub one_frame : {A : Type 0} (f : Frame) (answer : Bool) (s : Target A) (w : Bool) (t : Clocked A) → IsRising f
+    → frame_place f < frame_limit f → Cycles f true answer s w t → Risen f t.frame
 one_frame High answer s w t i p c = record { next = High; is = c.1.frame; rising = tt; less = refl }
 one_frame (Asks bits count) answer s w t i p c =
     elim (cases_lt count 7) as (λ (x : (count < 7) ⊎ (7 ≤ count)). Risen (Asks bits count) t.frame) [
-      | inl l ↦ record { next = Asks (shifted 128 bits true) (count + 1); is = (c.1.more l (λ e. refl)).frame; rising = ap (λ n. shifted 128 n true) i; less = omega arith }
+      | inl l ↦ record {
+        next = Asks (shifted 128 bits true) (count + 1);
+        is = (c.1.more l (λ e. refl)).frame;
+        rising =
+            ap (λ n. shifted 128 n true) i;
+        less = omega arith;
+      }
       | inr g ↦
-          let m = (c.1.whole (omega arith)).broken (λ q e. no_request q (e ∙ ap (λ n. low_bits 8 (shifted 128 n true)) i)) in
-          record { next = Lost 8; is = m.frame ∙ ap (λ n. Lost (ones_at_end (shifted 128 n true))) i ∙ ap Lost eight_ones; rising = tt; less = omega arith }
+          let m = (c.1.whole (omega arith)).broken
+          (λ q e. no_request q (e ∙ ap (λ n. low_bits 8 (shifted 128 n true)) i)) in
+          record {
+            next = Lost 8;
+            is = m.frame ∙ ap (λ n. Lost (ones_at_end (shifted 128 n true))) i
+                ∙ ap Lost eight_ones;
+            rising = tt;
+            less = omega arith;
+          }
     ]
 one_frame (Lost ones) answer s w t i p c =
     elim (cases_lt ones 49) as (λ (x : (ones < 49) ⊎ (49 ≤ ones)). Risen (Lost ones) t.frame) [
@@ -161,14 +180,27 @@ one_frame (Switches place) answer s w t i p c = absurd i
 one_frame (Replies reply line place) answer s w t i p c = absurd i
 one_frame (Drives bits left) answer s w t i p c =
     elim (cases_lt 0 left) as (λ (x : (0 < left) ⊎ (left ≤ 0)). Risen (Drives bits left) t.frame) [
-      | inl l ↦ record { next = Drives (bits / 2) (left - 1); is = (c.more (λ e. absurd (omega arith))).frame; rising = tt; less = omega arith }
+      | inl l ↦ record {
+        next = Drives (bits / 2) (left - 1);
+        is = (c.more (λ e. absurd (omega arith))).frame;
+        rising =
+            tt;
+        less = omega arith;
+      }
       | inr g ↦ record { next = idle; is = (c.turn (omega arith)).1.frame; rising = refl; less = omega arith }
     ]
 one_frame (Awaits r bits place) answer s w t i p c =
     elim (cases_lt 0 place) as (λ (x : (0 < place) ⊎ (place ≤ 0)). Risen (Awaits r bits place) t.frame) [
       | inr g ↦ record { next = Awaits r bits 1; is = (c.1.turn (omega arith)).frame; rising = i; less = omega arith }
       | inl l ↦ elim (cases_lt place 33) as (λ (x : (place < 33) ⊎ (33 ≤ place)). Risen (Awaits r bits place) t.frame) [
-        | inl m ↦ record { next = Awaits r (shifted (2 ^ 32) bits true) (place + 1); is = (c.1.more (λ e. absurd (omega arith)) m).frame; rising = ap (λ n. shifted (2 ^ 32) n true) i; less = omega arith }
+        | inl m ↦ record {
+          next = Awaits r (shifted (2 ^ 32) bits true) (place + 1);
+          is =
+              (c.1.more (λ e. absurd (omega arith)) m).frame;
+          rising = ap (λ n. shifted (2 ^ 32) n true) i;
+          less = omega
+              arith;
+        }
         | inr m ↦ record { next = idle; is = (c.1.whole (omega arith)).frame; rising = refl; less = omega arith }
       ]
     ]

@@ -1,5 +1,6 @@
 -- Cycles at a clocked target whose requests meet a plan, and the bits that its marks change.
-use Rattle.std.proofs.Common.{◌≡◌, ℕ, zero, suc, ◌+◌, ◌*◌, ◌/◌, ◌%◌, ◌-◌, ◌<◌, ◌^◌, inl, inr, Option, Bool, true, false, not, refl, sym, ap, subst, ◌∙◌, arith}
+use Rattle.std.proofs.Common.{◌≡◌, ℕ, zero, suc, ◌+◌, ◌*◌, ◌/◌, ◌%◌, ◌-◌, ◌<◌, ◌^◌, inl, inr, Option, Bool, true, false}
+use Rattle.std.proofs.Common.{not, refl, sym, ap, subst, ◌∙◌, arith}
 use Rattle.std.specs.Prelude.{◌==◌, is_some, unwrap_or, bit_xor}
 use Rattle.std.specs.Int.{bit_at}
 use Rattle.std.proofs.lemmas.Bool.Decides.{nat_tests, eqb_tells}
@@ -18,7 +19,8 @@ use Rattle.swd_port.specs.Answers.{seen_at}
 use Rattle.swd_target.specs.Marks.{is_legal}
 use Rattle.swd_target.specs.declared.target.Target.{Target}
 use Rattle.swd_clocked.specs.declared.frame.Frame.{Frame}
-use Rattle.swd_clocked.specs.declared.frame.Frame.TheVariants.{Asks, Lost, High, Switches, Replies, Drives, Awaits, Passes}
+use Rattle.swd_clocked.specs.declared.frame.Frame.TheVariants.{Asks, Lost, High, Switches, Replies, Drives, Awaits}
+use Rattle.swd_clocked.specs.declared.frame.Frame.TheVariants.{Passes}
 use Rattle.swd_clocked.specs.declared.clocked.Clocked.{Clocked}
 use Rattle.swd_clocked.specs.declared.marked.MarkedClocked.{MarkedClocked}
 use Rattle.swd_clocked.specs.Frames.{reply_bit}
@@ -51,7 +53,8 @@ no_end (Awaits r bits place) b q o l = l
 no_end Passes b q o l = l
 
 -- a cycle in a frame, with the bits that the mark changes
-pub record Turns {A : Type 0} (f : Frame) (mark : Mark) (drive : Option Bool) (answer : Bool) (s : Target A) (w : Bool) (t : Clocked A) : Type 0 where
+pub record Turns {A : Type 0} (f : Frame) (mark : Mark) (drive : Option Bool) (answer : Bool) (s : Target A) (w : Bool)
+    (t : Clocked A) : Type 0 where
   pub bit : Bool
   pub cycles : Cycles f (turned (changes f mark (is_some drive)) (unwrap_or drive true)) bit s w t
   pub sees : answer ≡ turned (changes f mark (is_some drive)) bit
@@ -61,15 +64,21 @@ pub record Step {A : Type 0} (f : Frame) (drive : Option Bool) (answer : Bool) (
   pub keeps : Keeps s t
   pub heard : t.unseen ≡ 0
 
-turns_of : {A : Type 0} (m : Mark) (w : Bool) (drive : Option Bool) (answer : Bool) (s t : MarkedClocked A) → Reaches m w drive answer s t → Turns s.clocked.frame m drive answer s.clocked.target w t.clocked
+turns_of : {A : Type 0} (m : Mark) (w : Bool) (drive : Option Bool) (answer : Bool) (s t : MarkedClocked A)
+    → Reaches m w drive answer s t → Turns s.clocked.frame m drive answer s.clocked.target w t.clocked
 turns_of m w drive answer s t r = record { bit = r.bit; cycles = r.cycles; sees = r.sees }
 
-pub turns_at : {A : Type 0} (f : Frame) (m : Mark) (w : Bool) (drive : Option Bool) (answer : Bool) (s t : MarkedClocked A) → Reaches m w drive answer s t → s.clocked.frame ≡ f → Turns f m drive answer s.clocked.target w t.clocked
-turns_at f m w drive answer s t r is = subst (λ (x : Frame). Turns x m drive answer s.clocked.target w t.clocked) is (turns_of m w drive answer s t r)
+pub turns_at : {A : Type 0} (f : Frame) (m : Mark) (w : Bool) (drive : Option Bool) (answer : Bool)
+    (s t : MarkedClocked A) → Reaches m w drive answer s t → s.clocked.frame ≡ f
+    → Turns f m drive answer s.clocked.target w t.clocked
+turns_at f m w drive answer s t r is = subst (λ (x : Frame). Turns x m drive answer s.clocked.target w t.clocked) is
+    (turns_of m w drive answer s t r)
 
-pub step_at : {A : Type 0} (f : Frame) (drive : Option Bool) (answer : Bool) (s t : MarkedClocked A) → MarkedCycles drive answer s t → s.unseen ≡ 0 → s.clocked.frame ≡ f → IsOpen f → Step f drive answer s t
+pub step_at : {A : Type 0} (f : Frame) (drive : Option Bool) (answer : Bool) (s t : MarkedClocked A)
+    → MarkedCycles drive answer s t → s.unseen ≡ 0 → s.clocked.frame ≡ f → IsOpen f → Step f drive answer s t
 step_at f drive answer s t c heard is o =
-    let r = c.other heard (λ q l. no_end f (unwrap_or drive true) q o (subst (λ (x : Frame). IsLast x (unwrap_or drive true) q) is l)) in
+    let r = c.other heard (λ q l. no_end f (unwrap_or drive true) q o
+    (subst (λ (x : Frame). IsLast x (unwrap_or drive true) q) is l)) in
     record { turns = turns_at f s.mark s.clocked.waits drive answer s t r.0 is; keeps = r.1; heard = r.0.heard }
 
 -- a frame in which no bit is changed
@@ -90,15 +99,21 @@ plain_open (Drives bits left) p = absurd p
 plain_open (Awaits r bits place) p = absurd p
 plain_open Passes p = tt
 
-plain_cycles : {A : Type 0} (f : Frame) (m : Mark) (drive : Option Bool) (answer : Bool) (s : Target A) (w : Bool) (t : Clocked A) → IsPlain f → Turns f m drive answer s w t → Cycles f (unwrap_or drive true) answer s w t
-plain_cycles (Asks bits count) m drive answer s w t p x = subst (λ (b : Bool). Cycles (Asks bits count) (unwrap_or drive true) b s w t) (sym x.sees) x.cycles
-plain_cycles (Lost ones) m drive answer s w t p x = subst (λ (b : Bool). Cycles (Lost ones) (unwrap_or drive true) b s w t) (sym x.sees) x.cycles
-plain_cycles High m drive answer s w t p x = subst (λ (b : Bool). Cycles High (unwrap_or drive true) b s w t) (sym x.sees) x.cycles
-plain_cycles (Switches place) m drive answer s w t p x = subst (λ (b : Bool). Cycles (Switches place) (unwrap_or drive true) b s w t) (sym x.sees) x.cycles
+plain_cycles : {A : Type 0} (f : Frame) (m : Mark) (drive : Option Bool) (answer : Bool) (s : Target A) (w : Bool)
+    (t : Clocked A) → IsPlain f → Turns f m drive answer s w t → Cycles f (unwrap_or drive true) answer s w t
+plain_cycles (Asks bits count) m drive answer s w t p x =
+    subst (λ (b : Bool). Cycles (Asks bits count) (unwrap_or drive true) b s w t) (sym x.sees) x.cycles
+plain_cycles (Lost ones) m drive answer s w t p x =
+    subst (λ (b : Bool). Cycles (Lost ones) (unwrap_or drive true) b s w t) (sym x.sees) x.cycles
+plain_cycles High m drive answer s w t p x = subst (λ (b : Bool). Cycles High (unwrap_or drive true) b s w t)
+    (sym x.sees) x.cycles
+plain_cycles (Switches place) m drive answer s w t p x =
+    subst (λ (b : Bool). Cycles (Switches place) (unwrap_or drive true) b s w t) (sym x.sees) x.cycles
 plain_cycles (Replies reply line place) m drive answer s w t p x = absurd p
 plain_cycles (Drives bits left) m drive answer s w t p x = absurd p
 plain_cycles (Awaits r bits place) m drive answer s w t p x = absurd p
-plain_cycles Passes m drive answer s w t p x = subst (λ (b : Bool). Cycles Passes (unwrap_or drive true) b s w t) (sym x.sees) x.cycles
+plain_cycles Passes m drive answer s w t p x = subst (λ (b : Bool). Cycles Passes (unwrap_or drive true) b s w t)
+    (sym x.sees) x.cycles
 
 -- a cycle in such a frame is one of the target alone
 pub record Plain {A : Type 0} (f : Frame) (drive : Option Bool) (answer : Bool) (s t : MarkedClocked A) : Type 0 where
@@ -106,10 +121,15 @@ pub record Plain {A : Type 0} (f : Frame) (drive : Option Bool) (answer : Bool) 
   pub keeps : Keeps s t
   pub heard : t.unseen ≡ 0
 
-pub plain_at : {A : Type 0} (f : Frame) (drive : Option Bool) (answer : Bool) (s t : MarkedClocked A) → MarkedCycles drive answer s t → s.unseen ≡ 0 → s.clocked.frame ≡ f → IsPlain f → Plain f drive answer s t
+pub plain_at : {A : Type 0} (f : Frame) (drive : Option Bool) (answer : Bool) (s t : MarkedClocked A)
+    → MarkedCycles drive answer s t → s.unseen ≡ 0 → s.clocked.frame ≡ f → IsPlain f → Plain f drive answer s t
 plain_at f drive answer s t c heard is plain =
     let x = step_at f drive answer s t c heard is (plain_open f plain) in
-    record { cycles = plain_cycles f s.mark drive answer s.clocked.target s.clocked.waits t.clocked plain x.turns; keeps = x.keeps; heard = x.heard }
+    record {
+      cycles = plain_cycles f s.mark drive answer s.clocked.target s.clocked.waits t.clocked plain x.turns;
+      keeps = x.keeps;
+      heard = x.heard;
+    }
 
 -- cycles after cycles
 pub keeps_on : {A : Type 0} (s t u : MarkedClocked A) → Keeps s t → Keeps t u → Keeps s u
@@ -119,10 +139,21 @@ pub keeps_none : {A : Type 0} (s : MarkedClocked A) → Keeps s s
 keeps_none s = record { plan = refl; mark = refl }
 
 pub goes_none : {A : Type 0} (f : Frame) (s : MarkedClocked A) → s.unseen ≡ 0 → s.clocked.frame ≡ f → Goes f s s
-goes_none f s heard is = record { moved = record { frame = is; target = refl; waits = refl }; keeps = keeps_none s; heard = heard }
+goes_none f s heard is = record {
+  moved = record { frame = is; target = refl; waits = refl };
+  keeps = keeps_none s;
+  heard = heard;
+}
 
-pub goes_on : {A : Type 0} (f g : Frame) (s t u : MarkedClocked A) → Goes f s t → Moved g t.clocked.target t.clocked.waits u.clocked → Keeps t u → u.unseen ≡ 0 → Goes g s u
-goes_on f g s t u a m k heard = record { moved = moved_on f g s.clocked.target s.clocked.waits t.clocked u.clocked a.moved m; keeps = keeps_on s t u a.keeps k; heard = heard }
+pub goes_on : {A : Type 0} (f g : Frame) (s t u : MarkedClocked A) → Goes f s t
+    → Moved g t.clocked.target t.clocked.waits u.clocked → Keeps t u → u.unseen ≡ 0 → Goes g s u
+goes_on f g s t u a m k heard =
+    record {
+      moved = moved_on f g s.clocked.target s.clocked.waits t.clocked u.clocked a.moved m;
+      keeps = keeps_on s t u
+          a.keeps k;
+      heard = heard;
+    }
 
 -- the bit of a data phase with this number is changed
 abbrev pub flips_at : Mark → ℕ → Bool
@@ -146,14 +177,17 @@ flipped_bit v p k =
     elim (eqb_tells k p) as (λ z. turned (k == p) (bit_at v k == 1) ≡ (bit_at (bit_xor v (2 ^ p)) k == 1)) [
       | inl same ↦
           let one : bit_at (2 ^ p) k ≡ 1 = ap (bit_at (2 ^ p)) same.1 ∙ bit_at-pow_same p in
-          ap (λ (c : Bool). turned c (bit_at v k == 1)) same.0 ∙ sym (bit_turned (bit_at v k) small) ∙ ap (λ n. (bit_at v k + n) % 2 == 1) (sym one) ∙ ap (λ n. n == 1) (sym xor)
+          ap (λ (c : Bool). turned c (bit_at v k == 1)) same.0 ∙ sym (bit_turned (bit_at v k) small)
+          ∙ ap (λ n. (bit_at v k + n) % 2 == 1) (sym one) ∙ ap (λ n. n == 1) (sym xor)
       | inr other ↦
           let none : bit_at (2 ^ p) k ≡ 0 = bit_at-pow_other p k other.1 in
-          ap (λ (c : Bool). turned c (bit_at v k == 1)) other.0 ∙ sym (bit_kept (bit_at v k) small) ∙ ap (λ n. (bit_at v k + n) % 2 == 1) (sym none) ∙ ap (λ n. n == 1) (sym xor)
+          ap (λ (c : Bool). turned c (bit_at v k == 1)) other.0 ∙ sym (bit_kept (bit_at v k) small)
+          ∙ ap (λ n. (bit_at v k + n) % 2 == 1) (sym none) ∙ ap (λ n. n == 1) (sym xor)
     ]
 
 -- a bit of a phase on the other side of the damage
-pub flipped_at : (m : Mark) (v k : ℕ) → turned (flips_at m k) (v / 2 ^ k % 2 == 1) ≡ (flipped (flip_of m) v / 2 ^ k % 2 == 1)
+pub flipped_at : (m : Mark) (v k : ℕ)
+    → turned (flips_at m k) (v / 2 ^ k % 2 == 1) ≡ (flipped (flip_of m) v / 2 ^ k % 2 == 1)
 flipped_at Clean v k = refl
 flipped_at Wait v k = refl
 flipped_at (Flip p) v k = flipped_bit v p k
@@ -161,7 +195,8 @@ flipped_at Deaf v k = refl
 flipped_at (Mute p) v k = refl
 
 -- which cycle of a data phase has the bit
-pub changes_driven : (m : Mark) (bits k : ℕ) (driven : Bool) → IsMark m → k < 33 → changes (Drives bits (33 - k)) m driven ≡ flips_at m k
+pub changes_driven : (m : Mark) (bits k : ℕ) (driven : Bool) → IsMark m → k < 33
+    → changes (Drives bits (33 - k)) m driven ≡ flips_at m k
 changes_driven Clean bits k driven l h = refl
 changes_driven Wait bits k driven l h = refl
 changes_driven (Flip p) bits k driven l h = grind (arith, nat_tests)
@@ -183,7 +218,8 @@ abbrev pub three_bits : Bool → Bool → Bool → ℕ
 three_bits a b c = bool_byte a + 2 * bool_byte b + 4 * bool_byte c
 
 muted : (p : ℕ) (reply : Reply) (line : Line) → p < 3 → (reply ≡ Silent → ⊥)
-    → three_bits (shown (Mute p) reply line 1) (shown (Mute p) reply line 2) (shown (Mute p) reply line 3) ≡ seen_at (Mute p) reply
+    → three_bits (shown (Mute p) reply line 1) (shown (Mute p) reply line 2) (shown (Mute p) reply line 3) ≡ seen_at
+    (Mute p) reply
 muted p Silent line l n = absurd (n refl)
 muted zero Okay line l n = refl
 muted zero Waits line l n = refl

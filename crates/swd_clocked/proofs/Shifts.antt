@@ -1,5 +1,6 @@
 -- Bits that go through a shift register, and cycles that follow each other.
-use Rattle.std.proofs.Common.{◌≡◌, ℕ, zero, suc, ◌+◌, ◌*◌, ◌/◌, ◌%◌, ◌-◌, ◌<◌, ◌^◌, Bool, true, false, refl, sym, ap, subst, ◌∙◌, arith}
+use Rattle.std.proofs.Common.{◌≡◌, ℕ, zero, suc, ◌+◌, ◌*◌, ◌/◌, ◌%◌, ◌-◌, ◌<◌, ◌^◌, Bool, true, false, refl, sym, ap}
+use Rattle.std.proofs.Common.{subst, ◌∙◌, arith}
 use Rattle.std.specs.Prelude.{◌==◌}
 use lib.Pow.{shr-shr}
 use mir.Val.{bool_byte}
@@ -17,7 +18,8 @@ use Rattle.swd_clocked.specs.Frames.{shifted, counted}
 use Rattle.swd_clocked.specs.Cycles.{Moved, DataCame, ByteCame}
 
 -- eight ones are no request
-no_request_at : (ap read : Bool) (addr : Reg4) → request (record { ap = ap; read = read; addr = addr }) ≡ low_bits 8 255 → ⊥
+no_request_at : (ap read : Bool) (addr : Reg4) → request (record { ap = ap; read = read; addr = addr }) ≡ low_bits 8 255
+    → ⊥
 unfolding low_bits
 no_request_at ap read R0 e = cc
 no_request_at ap read R4 e = cc
@@ -40,25 +42,29 @@ digit zero h = refl
 digit (suc zero) h = refl
 digit (suc (suc n)) h = absurd (omega arith)
 
-pub shift_8 : (whole place rest bits : ℕ) → Shifts 256 whole place rest bits → Shifts 256 whole (place + 1) (rest / 2) (shifted 128 bits (rest % 2 == 1))
+pub shift_8 : (whole place rest bits : ℕ) → Shifts 256 whole place rest bits
+    → Shifts 256 whole (place + 1) (rest / 2) (shifted 128 bits (rest % 2 == 1))
 shift_8 whole place rest bits s =
     let low : rest % 2 < 2 = omega arith in
     let d = digit (rest % 2) low in
     let e = s.equation in
     let h = halved whole place in
     record {
-      equation = (let g : rest / 2 * 256 + (bits / 2 + bit (rest % 2 == 1) * 128) ≡ (rest * 256 + bits) / 2 = rw d (omega arith) in g ∙ ap (λ n. n / 2) e ∙ h);
+      equation = (let g : rest / 2 * 256 + (bits / 2 + bit (rest % 2 == 1) * 128) ≡ (rest * 256 + bits) / 2 = rw d
+          (omega arith) in g ∙ ap (λ n. n / 2) e ∙ h);
       small = (let b = s.small in rw d (omega arith));
     }
 
-pub shift_33 : (whole place rest bits : ℕ) → Shifts (2 ^ 33) whole place rest bits → Shifts (2 ^ 33) whole (place + 1) (rest / 2) (shifted (2 ^ 32) bits (rest % 2 == 1))
+pub shift_33 : (whole place rest bits : ℕ) → Shifts (2 ^ 33) whole place rest bits
+    → Shifts (2 ^ 33) whole (place + 1) (rest / 2) (shifted (2 ^ 32) bits (rest % 2 == 1))
 shift_33 whole place rest bits s =
     let low : rest % 2 < 2 = omega arith in
     let d = digit (rest % 2) low in
     let e = s.equation in
     let h = halved whole place in
     record {
-      equation = (let g : rest / 2 * 2 ^ 33 + (bits / 2 + bit (rest % 2 == 1) * 2 ^ 32) ≡ (rest * 2 ^ 33 + bits) / 2 = rw d (omega arith) in g ∙ ap (λ n. n / 2) e ∙ h);
+      equation = (let g : rest / 2 * 2 ^ 33 + (bits / 2 + bit (rest % 2 == 1) * 2 ^ 32) ≡ (rest * 2 ^ 33 + bits) / 2 =
+          rw d (omega arith) in g ∙ ap (λ n. n / 2) e ∙ h);
       small = (let b = s.small in rw d (omega arith));
     }
 
@@ -66,14 +72,16 @@ shift_33 whole place rest bits s =
 pub shifted_8 : (byte rest bits : ℕ) → byte < 256 → Shifts 256 (byte * 256 + 255) 8 rest bits → bits ≡ byte
 shifted_8 byte rest bits h s = let e = s.equation in let b = s.small in omega arith
 
-pub shifted_33 : (sent rest bits : ℕ) → sent < 2 ^ 33 → Shifts (2 ^ 33) (sent * 2 ^ 33 + (2 ^ 33 - 1)) 33 rest bits → bits ≡ sent
+pub shifted_33 : (sent rest bits : ℕ) → sent < 2 ^ 33 → Shifts (2 ^ 33) (sent * 2 ^ 33 + (2 ^ 33 - 1)) 33 rest bits
+    → bits ≡ sent
 shifted_33 sent rest bits h s = let e = s.equation in let b = s.small in omega arith
 
 pub taken_33 : (sent rest bits : ℕ) → sent < 2 ^ 33 → Shifts (2 ^ 33) (sent * 2 ^ 33) 33 rest bits → bits ≡ sent
 taken_33 sent rest bits h s = let e = s.equation in let b = s.small in omega arith
 
 -- the first bit of a request is a one
-pub first_8 : (byte place rest bits : ℕ) → Shifts 256 (byte * 256 + 255) place rest bits → place ≡ 0 → byte % 2 ≡ 1 → (rest % 2 == 1) ≡ true
+pub first_8 : (byte place rest bits : ℕ) → Shifts 256 (byte * 256 + 255) place rest bits → place ≡ 0 → byte % 2 ≡ 1
+    → (rest % 2 == 1) ≡ true
 first_8 byte place rest bits s z odd =
     let e : rest * 256 + bits ≡ (byte * 256 + 255) / 1 = s.equation ∙ ap (λ n. (byte * 256 + 255) / 2 ^ n) z in
     let b = s.small in
@@ -87,21 +95,26 @@ byte_bit false false n e h = e
 byte_bit true false n e h = absurd cc
 byte_bit false true n e h = absurd cc
 
-pub shift_taken : (whole place rest bits n : ℕ) → Shifts (2 ^ 33) whole place rest bits → n ≡ bit (rest % 2 == 1) → Shifts (2 ^ 33) whole (place + 1) (rest / 2) (bits / 2 + n * 2 ^ 32)
-shift_taken whole place rest bits n s e = subst (λ x. Shifts (2 ^ 33) whole (place + 1) (rest / 2) (bits / 2 + x * 2 ^ 32)) (sym e) (shift_33 whole place rest bits s)
+pub shift_taken : (whole place rest bits n : ℕ) → Shifts (2 ^ 33) whole place rest bits → n ≡ bit (rest % 2 == 1)
+    → Shifts (2 ^ 33) whole (place + 1) (rest / 2) (bits / 2 + n * 2 ^ 32)
+shift_taken whole place rest bits n s e =
+    subst (λ x. Shifts (2 ^ 33) whole (place + 1) (rest / 2) (bits / 2 + x * 2 ^ 32)) (sym e)
+    (shift_33 whole place rest bits s)
 
 -- one cycle after others
-pub moved_on : {A : Type 0} (f g : Frame) (s : Target A) (w : Bool) (t u : Clocked A) → Moved f s w t → Moved g t.target t.waits u → Moved g s w u
+pub moved_on : {A : Type 0} (f g : Frame) (s : Target A) (w : Bool) (t u : Clocked A) → Moved f s w t
+    → Moved g t.target t.waits u → Moved g s w u
 moved_on f g s w t u m n = record { frame = n.frame; target = n.target ∙ m.target; waits = n.waits ∙ m.waits }
 
-pub came_on : {A : Type 0} (f : Frame) (r : Register) (a b : ℕ) (s : Target A) (w : Bool) (t u : Clocked A) → Moved f s w t → a ≡ b → DataCame r a t.target t.waits u → DataCame r b s w u
-came_on f r a b s w t u m e d = subst (λ x. DataCame r x s w u) e (subst (λ (x : Target _). DataCame r a x w u) m.target (subst (λ x. DataCame r a t.target x u) m.waits d))
+pub came_on : {A : Type 0} (f : Frame) (r : Register) (a b : ℕ) (s : Target A) (w : Bool) (t u : Clocked A)
+    → Moved f s w t → a ≡ b → DataCame r a t.target t.waits u → DataCame r b s w u
+came_on f r a b s w t u m e d = subst (λ x. DataCame r x s w u) e
+    (subst (λ (x : Target _). DataCame r a x w u) m.target (subst (λ x. DataCame r a t.target x u) m.waits d))
 
-pub byte_on : {A : Type 0} (f : Frame) (a b : ℕ) (s : Target A) (w : Bool) (t u : Clocked A) → Moved f s w t → a ≡ b → ByteCame a t.target t.waits u → ByteCame b s w u
-byte_on f a b s w t u m e d = subst (λ x. ByteCame x s w u) e (subst (λ (x : Target _). ByteCame a x w u) m.target (subst (λ x. ByteCame a t.target x u) m.waits d))
-
-pub left_less : {A : Type 0} (rest place : ℕ) (s : Target A) (w : Bool) (t : Clocked A) → place < 33 → Moved (Drives rest (33 - place - 1)) s w t → Moved (Drives rest (33 - (place + 1))) s w t
-left_less rest place s w t h m = let e : 33 - place - 1 ≡ 33 - (place + 1) = omega arith in subst (λ n. Moved (Drives rest n) s w t) e m
+pub left_less : {A : Type 0} (rest place : ℕ) (s : Target A) (w : Bool) (t : Clocked A) → place < 33
+    → Moved (Drives rest (33 - place - 1)) s w t → Moved (Drives rest (33 - (place + 1))) s w t
+left_less rest place s w t h m = let e : 33 - place - 1 ≡ 33 - (place + 1) = omega arith in
+    subst (λ n. Moved (Drives rest n) s w t) e m
 
 -- cycles after others
 pub counted_on : (a b c n m k : ℕ) → m ≡ counted a n → k ≡ counted b m → a + b ≡ c → k ≡ counted c n

@@ -1,5 +1,8 @@
 -- Cycles one after the other: what a request, its reply and its data leave on the line.
-use Rattle.std.proofs.Common.{◌≡◌, ◌≢◌, ℕ, zero, suc, ◌+◌, ◌-◌, ◌/◌, ◌%◌, ◌<◌, ◌≤◌, ◌^◌, Bool, true, false, not, List, [], ◌∷◌, ◌++◌, length, map, replicate, Option, Some, None, refl, sym, ap, subst, ◌∙◌, arith, inl, inr}
+use Rattle.std.proofs.Common.{◌≡◌, ◌≢◌, ℕ, zero, suc, ◌+◌, ◌-◌, ◌/◌, ◌%◌, ◌<◌, ◌≤◌, ◌^◌, Bool, true}
+use Rattle.std.proofs.Common.{false, not, List}
+use Rattle.std.proofs.Common.{[], ◌∷◌, ◌++◌, length, map, replicate, Option, Some, None, refl, sym, ap, subst, ◌∙◌}
+use Rattle.std.proofs.Common.{arith, inl, inr}
 use Rattle.std.specs.Prelude.{◌==◌, unwrap_or, ◌⊎◌, if◌then◌else◌}
 use Rattle.swd_bits.specs.Bits.{low_bits, number, odd}
 use Rattle.swd_bits.specs.Wire.{request, addr_bits}
@@ -28,7 +31,8 @@ use Rattle.swd_clocked.specs.declared.clocked.Clocked.{Clocked}
 use Rattle.swd_clocked.specs.Frames.{idle, shifted, frame_of, frame_replied, reply_bit, IsRising, rise, risen}
 use Rattle.swd_clocked.specs.Cycles.{Moved, Cycles, ByteCame, Requested}
 use Rattle.swd_clocked.specs.Clocks.{Clocks, Rises, state_of}
-use Rattle.swd_clocked.specs.Spelled.{Runs, leaves, drives_behind, EndsAs, frame_behind, SpellsOne, RequestsSpell, AreOnes, OnesReset}
+use Rattle.swd_clocked.specs.Spelled.{Runs, leaves, drives_behind, EndsAs, frame_behind, SpellsOne, RequestsSpell}
+use Rattle.swd_clocked.specs.Spelled.{AreOnes, OnesReset}
 use Rattle.swd_clocked.proofs.Calls.{kind, kind_after, kind_seen}
 use Rattle.swd_clocked.proofs.Frames.{one_rises, rises_on, rises_none, one_frame, risen_high}
 
@@ -43,7 +47,8 @@ cycle_on f s w m t drive b h c =
 moved_here : {A : Type 0} (f : Frame) (s : Clocked A) → s.frame ≡ f → Moved f s.target s.waits s
 moved_here f s is = record { frame = is; target = refl; waits = refl }
 
-moved_same : {A : Type 0} (f : Frame) (s : Target A) (w : Bool) (m t : Clocked A) → t ≡ m → Moved f s w m → Moved f s w t
+moved_same : {A : Type 0} (f : Frame) (s : Target A) (w : Bool) (m t : Clocked A) → t ≡ m → Moved f s w m
+    → Moved f s w t
 moved_same f s w m t e h = subst (λ (x : Clocked _). Moved f s w x) (sym e) h
 
 -- ---- the bits of a request
@@ -72,7 +77,8 @@ asked (x ∷ []) (y ∷ z ∷ line) bits count s w m t a b e h r = absurd r.2
 asked (x ∷ z ∷ l) (y ∷ line) bits count s w m t a b e h r =
     let c = cycle_on (Asks bits count) s w m r.0 (Some x) y h r.1 in
     let more = c.1.more (omega arith) (λ none. absurd (omega arith)) in
-    let rest = asked (z ∷ l) line (shifted 128 bits x) (count + 1) s w r.0 t (omega arith) (omega arith) (omega arith) more r.2 in
+    let rest = asked (z ∷ l) line (shifted 128 bits x) (count + 1) s w r.0 t (omega arith) (omega arith) (omega arith)
+    more r.2 in
     record { line_is = ap (λ i. i ∷ line) c.0 ∙ ap (λ i. x ∷ i) rest.line_is; came = rest.came }
 
 -- a request without its first bit
@@ -82,7 +88,8 @@ behind_start q =
     asked ++ odd asked ∷ false ∷ true ∷ []
 
 byte_at : (ap read : Bool) (addr : Reg4) →
-    let q : Request = record { ap = ap; read = read; addr = addr } in request q ≡ low_bits 8 (shifted_in 255 (behind_start q))
+    let q : Request = record { ap = ap; read = read; addr = addr } in request q ≡ low_bits 8
+    (shifted_in 255 (behind_start q))
 unfolding low_bits
 byte_at true true R0 = refl
 byte_at true true R4 = refl
@@ -105,14 +112,16 @@ pub record Sent {A : Type 0} (q : Request) (line : List Bool) (s : Target A) (w 
   pub line_is : line ≡ request q
   pub requested : Requested q s w t
 
-sent : {A : Type 0} (q : Request) (line : List Bool) (s t : Clocked A) → s.frame ≡ idle → Runs (map Some (request q)) line s t →
+sent : {A : Type 0} (q : Request) (line : List Bool) (s t : Clocked A) → s.frame ≡ idle
+    → Runs (map Some (request q)) line s t →
     Sent q line s.target s.waits t
 sent q [] s t is r = absurd r
 sent q (b ∷ line) s t is r =
     let c = cycle_on idle s.target s.waits s r.0 (Some true) b (moved_here idle s is) r.1 in
     let first = c.1.more (omega arith) (λ e. refl) in
     let eight = length_request q in
-    let rest = asked (behind_start q) line 255 1 s.target s.waits r.0 t (omega arith) (omega arith) (omega arith) first r.2 in
+    let rest = asked (behind_start q) line 255 1 s.target s.waits r.0 t (omega arith) (omega arith) (omega arith) first
+    r.2 in
     record {
       line_is = ap (λ x. x ∷ line) c.0 ∙ ap (λ x. true ∷ x) rest.line_is;
       requested = rest.came.whole q (byte_at q.ap q.read q.addr);
@@ -120,7 +129,8 @@ sent q (b ∷ line) s t is r =
 
 -- ---- one cycle after the other
 
-pub record Stepped {A : Type 0} (drive : Option Bool) (drives : List (Option Bool)) (line : List Bool) (m t : Clocked A) : Type 0 where
+pub record Stepped {A : Type 0} (drive : Option Bool) (drives : List (Option Bool)) (line : List Bool)
+    (m t : Clocked A) : Type 0 where
   pub on : Bool
   pub rest : List Bool
   pub next : Clocked A
@@ -131,7 +141,8 @@ pub record Stepped {A : Type 0} (drive : Option Bool) (drives : List (Option Boo
 stepped : {A : Type 0} (drive : Option Bool) (drives : List (Option Bool)) (line : List Bool) (m t : Clocked A) →
     Runs (drive ∷ drives) line m t → Stepped drive drives line m t
 stepped drive drives [] m t r = absurd r
-stepped drive drives (b ∷ line) m t r = record { on = b; rest = line; next = r.0; line_is = refl; clocks = r.1; runs = r.2 }
+stepped drive drives (b ∷ line) m t r =
+    record { on = b; rest = line; next = r.0; line_is = refl; clocks = r.1; runs = r.2 }
 
 pub record Ended {A : Type 0} (line : List Bool) (m t : Clocked A) : Type 0 where
   pub none : line ≡ []
@@ -156,8 +167,10 @@ pub record Replied {A : Type 0} (reply : Reply) (phase : Line) (drives : List (O
   pub moved : Moved (frame_of phase) s w next
   pub runs : Runs drives rest next t
 
-replied : {A : Type 0} (reply : Reply) (phase : Line) (drives : List (Option Bool)) (line : List Bool) (s : Target A) (w : Bool)
-    (m t : Clocked A) → Moved (Replies reply phase 0) s w m → Runs (leaves 4 ++ drives) line m t → Replied reply phase drives line s w t
+replied : {A : Type 0} (reply : Reply) (phase : Line) (drives : List (Option Bool)) (line : List Bool) (s : Target A)
+    (w : Bool)
+    (m t : Clocked A) → Moved (Replies reply phase 0) s w m → Runs (leaves 4 ++ drives) line m t
+    → Replied reply phase drives line s w t
 replied reply phase drives line s w m t h r =
     let a = stepped None (leaves 3 ++ drives) line m t r in
     let c = cycle_on (Replies reply phase 0) s w m a.next None a.on h a.clocks in
@@ -168,8 +181,10 @@ replied reply phase drives line s w m t h r =
     let a3 = stepped None drives a2.rest a2.next t a2.runs in
     let c3 = cycle_on (Replies reply phase 3) s w a2.next a3.next None a3.on c2.frame a3.clocks in
     let third = a3.line_is ∙ ap (λ x. x ∷ a3.rest) (c3.driven (not_none 3 (omega arith))) in
-    let second = a2.line_is ∙ ap (λ x. x ∷ a2.rest) (c2.driven (not_none 2 (omega arith))) ∙ ap (λ x. reply_bit reply 2 ∷ x) third in
-    let first = a1.line_is ∙ ap (λ x. x ∷ a1.rest) (c1.driven (not_none 1 (omega arith))) ∙ ap (λ x. reply_bit reply 1 ∷ x) second in
+    let second = a2.line_is ∙ ap (λ x. x ∷ a2.rest) (c2.driven (not_none 2 (omega arith)))
+    ∙ ap (λ x. reply_bit reply 2 ∷ x) third in
+    let first = a1.line_is ∙ ap (λ x. x ∷ a1.rest) (c1.driven (not_none 1 (omega arith)))
+    ∙ ap (λ x. reply_bit reply 1 ∷ x) second in
     record {
       turn = a.on;
       rest = a3.rest;
@@ -188,7 +203,11 @@ silence : {A : Type 0} (n ones : ℕ) (line : List Bool) (s : Target A) (w : Boo
     ones + n < 50 → Moved (Lost ones) s w m → Runs (leaves n) line m t → Silence n ones line s w t
 silence zero ones line s w m t few h r =
     let e = ended line m t r in
-    record { line_is = e.none; moved = subst (λ k. Moved (Lost k) s w t) (let z : ones ≡ ones + 0 = omega arith in z) (moved_same (Lost ones) s w m t e.same h) }
+    record {
+      line_is = e.none;
+      moved = subst (λ k. Moved (Lost k) s w t) (let z : ones ≡ ones + 0 = omega arith in z)
+          (moved_same (Lost ones) s w m t e.same h);
+    }
 silence (suc n) ones line s w m t few h r =
     let a = stepped None (leaves n) line m t r in
     let c = cycle_on (Lost ones) s w m a.next None a.on h a.clocks in
@@ -203,7 +222,8 @@ pub record Turned {A : Type 0} (line : List Bool) (t : Clocked A) : Type 0 where
   pub line_is : line ≡ true ∷ []
   pub frame : t.frame ≡ idle
 
-passed : {A : Type 0} (line : List Bool) (s : Target A) (w : Bool) (m t : Clocked A) → Moved Passes s w m → Runs (leaves 1) line m t → Turned line t
+passed : {A : Type 0} (line : List Bool) (s : Target A) (w : Bool) (m t : Clocked A) → Moved Passes s w m
+    → Runs (leaves 1) line m t → Turned line t
 passed line s w m t h r =
     let a = stepped None [] line m t r in
     let c = cycle_on Passes s w m a.next None a.on h a.clocks in
@@ -228,7 +248,13 @@ last_of zero (b ∷ []) h = record { front = []; last = b; counted = refl; is = 
 last_of zero (b ∷ d ∷ bits) h = absurd (omega arith)
 last_of (suc n) (b ∷ bits) h =
     let rest = last_of n bits (omega arith) in
-    record { front = b ∷ rest.front; last = rest.last; counted = (let e = rest.counted in omega arith); is = ap (λ x. b ∷ x) rest.is }
+    record {
+      front = b ∷ rest.front;
+      last = rest.last;
+      counted = (let e = rest.counted in omega arith);
+      is =
+          ap (λ x. b ∷ x) rest.is;
+    }
 
 -- a bit is a parity, or where it is wrong the other bit
 parity : (p o : Bool) → (ok : Bool) × (p ≡ (if ok then o else not o))
@@ -249,7 +275,8 @@ unfolding phase_with
 phase_of bits h =
     let cut = last_of 32 bits h in
     let word = number cut.front in
-    let same : low_bits 32 word ≡ cut.front = subst (λ n. low_bits n word ≡ cut.front) cut.counted (low_bits-number cut.front) in
+    let same : low_bits 32 word ≡ cut.front = subst (λ n. low_bits n word ≡ cut.front) cut.counted
+    (low_bits-number cut.front) in
     let p = parity cut.last (odd (low_bits 32 word)) in
     record {
       word = word;
@@ -279,7 +306,8 @@ drives (suc n) bits line s w m t h r =
     let c = cycle_on (Drives bits (suc n)) s w m a.next None a.on h a.clocks in
     let some : suc n ≢ 0 = not_none (suc n) (omega arith) in
     let less : suc n - 1 ≡ n = omega arith in
-    let rest = drives n (bits / 2) a.rest s w a.next t (subst (λ k. Moved (Drives (bits / 2) k) s w a.next) less (c.more some)) a.runs in
+    let rest = drives n (bits / 2) a.rest s w a.next t
+    (subst (λ k. Moved (Drives (bits / 2) k) s w a.next) less (c.more some)) a.runs in
     record {
       line_is = a.line_is ∙ ap (λ x. x ∷ a.rest) (c.driven some) ∙ ap (λ x. (bits % 2 == 1) ∷ x) rest.line_is;
       frame = rest.frame;
@@ -290,8 +318,10 @@ pub record Taken {A : Type 0} (wanted line : List Bool) (t : Clocked A) : Type 0
   pub line_is : line ≡ wanted
   pub frame : t.frame ≡ idle
 
-awaits : {A : Type 0} (wanted line : List Bool) (r : Register) (bits place : ℕ) (s : Target A) (w : Bool) (m t : Clocked A) →
-    0 < place → 0 < length wanted → place + length wanted ≡ 34 → Moved (Awaits r bits place) s w m → Runs (map Some wanted) line m t →
+awaits : {A : Type 0} (wanted line : List Bool) (r : Register) (bits place : ℕ) (s : Target A) (w : Bool)
+    (m t : Clocked A) →
+    0 < place → 0 < length wanted → place + length wanted ≡ 34 → Moved (Awaits r bits place) s w m
+    → Runs (map Some wanted) line m t →
     Taken wanted line t
 awaits [] line r bits place s w m t a b e h runs = absurd (omega arith)
 awaits (x ∷ wanted) [] r bits place s w m t a b e h runs = absurd runs
@@ -303,7 +333,8 @@ awaits (x ∷ []) (y ∷ z ∷ line) r bits place s w m t a b e h runs = absurd 
 awaits (x ∷ z ∷ wanted) (y ∷ line) r bits place s w m t a b e h runs =
     let c = cycle_on (Awaits r bits place) s w m runs.0 (Some x) y h runs.1 in
     let more = c.1.more (not_none place a) (omega arith) in
-    let rest = awaits (z ∷ wanted) line r (shifted (2 ^ 32) bits x) (place + 1) s w runs.0 t (omega arith) (omega arith) (omega arith) more runs.2 in
+    let rest = awaits (z ∷ wanted) line r (shifted (2 ^ 32) bits x) (place + 1) s w runs.0 t (omega arith) (omega arith)
+    (omega arith) more runs.2 in
     record { line_is = ap (λ i. i ∷ line) c.0 ∙ ap (λ i. x ∷ i) rest.line_is; frame = rest.frame }
 
 -- ---- a whole transaction
@@ -313,9 +344,12 @@ spelled : (q : Request) (end : TxEnd) (sent line : List Bool) (turn last : Bool)
     line ≡ turn ∷ ending q.read end last → Spells (record { request = q; result = end }) (sent ++ line)
 spelled q end sent line turn last fits e h = (fits, turn, last, ap (λ x. x ++ line) e ∙ ap (λ x. request q ++ x) h)
 
-refused : {A : Type 0} (q : Request) (reply : Reply) (end : TxEnd) (sent line : List Bool) (m t : Clocked A) → sent ≡ request q → IsEnd end →
-    ((x : Bool) → ending q.read end x ≡ reply_bit reply 1 ∷ reply_bit reply 2 ∷ reply_bit reply 3 ∷ x ∷ []) → EndsAs reply end →
-    frame_behind reply ≡ idle → Moved (Replies reply lines.Idle 0) m.target m.waits m → Runs (leaves 5) line m t → SpellsOne q reply (sent ++ line) t
+refused : {A : Type 0} (q : Request) (reply : Reply) (end : TxEnd) (sent line : List Bool) (m t : Clocked A)
+    → sent ≡ request q → IsEnd end →
+    ((x : Bool) → ending q.read end x ≡ reply_bit reply 1 ∷ reply_bit reply 2 ∷ reply_bit reply 3 ∷ x ∷ [])
+    → EndsAs reply end →
+    frame_behind reply ≡ idle → Moved (Replies reply lines.Idle 0) m.target m.waits m → Runs (leaves 5) line m t
+    → SpellsOne q reply (sent ++ line) t
 refused q reply end sent line m t e fits is ends frame h r =
     let x = replied reply lines.Idle (leaves 1) line m.target m.waits m t h r in
     let y = passed x.rest m.target m.waits x.next t x.moved x.runs in
@@ -323,12 +357,15 @@ refused q reply end sent line m t e fits is ends frame h r =
       end = end;
       ends = ends;
       spells = spelled q end sent line x.turn true fits e
-          (x.line_is ∙ ap (λ i. x.turn ∷ reply_bit reply 1 ∷ reply_bit reply 2 ∷ reply_bit reply 3 ∷ i) y.line_is ∙ ap (λ i. x.turn ∷ i) (sym (is true)));
+          (x.line_is ∙ ap (λ i. x.turn ∷ reply_bit reply 1 ∷ reply_bit reply 2 ∷ reply_bit reply 3 ∷ i) y.line_is
+          ∙ ap (λ i. x.turn ∷ i) (sym (is true)));
       frame = y.frame ∙ sym frame;
     }
 
-okay_read : {A : Type 0} (q : Request) (bits : ℕ) (sent line : List Bool) (m t : Clocked A) → q.read ≡ true → sent ≡ request q →
-    Moved (Replies Okay (lines.Drives bits) 0) m.target m.waits m → Runs (leaves 38) line m t → SpellsOne q Okay (sent ++ line) t
+okay_read : {A : Type 0} (q : Request) (bits : ℕ) (sent line : List Bool) (m t : Clocked A) → q.read ≡ true
+    → sent ≡ request q →
+    Moved (Replies Okay (lines.Drives bits) 0) m.target m.waits m → Runs (leaves 38) line m t
+    → SpellsOne q Okay (sent ++ line) t
 okay_read q bits sent line m t reads e h r =
     let x = replied Okay (lines.Drives bits) (leaves 34) line m.target m.waits m t h r in
     let y = drives 33 bits x.rest m.target m.waits x.next t x.moved x.runs in
@@ -343,13 +380,16 @@ okay_read q bits sent line m t reads e h r =
       frame = y.frame;
     }
 
-okay_write : {A : Type 0} (q : Request) (r : Register) (flip : Option ℕ) (phase sent line : List Bool) (m t : Clocked A) → q.read ≡ false → length phase ≡ 33 →
-    sent ≡ request q → Moved (Replies Okay (lines.Awaits r flip) 0) m.target m.waits m → Runs (leaves 5 ++ map Some phase) line m t → SpellsOne q Okay (sent ++ line) t
+okay_write : {A : Type 0} (q : Request) (r : Register) (flip : Option ℕ) (phase sent line : List Bool) (m t : Clocked A)
+    → q.read ≡ false → length phase ≡ 33 →
+    sent ≡ request q → Moved (Replies Okay (lines.Awaits r flip) 0) m.target m.waits m
+    → Runs (leaves 5 ++ map Some phase) line m t → SpellsOne q Okay (sent ++ line) t
 okay_write q r flip phase sent line m t writes n e h runs =
     let x = replied Okay (lines.Awaits r flip) (leaves 1 ++ map Some phase) line m.target m.waits m t h runs in
     let a = stepped None (map Some phase) x.rest x.next t x.runs in
     let c = cycle_on (Awaits r undriven 0) m.target m.waits x.next a.next None a.on x.moved a.clocks in
-    let y = awaits phase a.rest r undriven 1 m.target m.waits a.next t (omega arith) (omega arith) (omega arith) (c.1.turn refl) a.runs in
+    let y = awaits phase a.rest r undriven 1 m.target m.waits a.next t (omega arith) (omega arith) (omega arith)
+    (c.1.turn refl) a.runs in
     let p = phase_of phase n in
     let end : TxEnd = WordMoved p.word p.ok in
     record {
@@ -365,32 +405,39 @@ silent_line : (read last : Bool) → replicate 4 true ≡ true ∷ ending read (
 unfolding low_bits
 silent_line read last = refl
 
-behind : {A : Type 0} (q : Request) (reply : Reply) (read : Bool) (follows : Line) (phase sent line : List Bool) (m t : Clocked A) → q.read ≡ read →
-    kind follows ≡ kind_after reply read → length phase ≡ 33 → sent ≡ request q → Moved (frame_replied reply follows) m.target m.waits m →
+behind : {A : Type 0} (q : Request) (reply : Reply) (read : Bool) (follows : Line) (phase sent line : List Bool)
+    (m t : Clocked A) → q.read ≡ read →
+    kind follows ≡ kind_after reply read → length phase ≡ 33 → sent ≡ request q
+    → Moved (frame_replied reply follows) m.target m.waits m →
     Runs (drives_behind reply read phase) line m t → SpellsOne q reply (sent ++ line) t
 behind q Silent read follows phase sent line m t reads k n e h r =
     let x = silence 4 1 line m.target m.waits m t (omega arith) h r in
     record {
       end = NoAck 7;
       ends = refl;
-      spells = spelled q (NoAck 7) sent line true true (inr (inr (inr (inr refl)))) e (x.line_is ∙ silent_line q.read true);
+      spells = spelled q (NoAck 7) sent line true true (inr (inr (inr (inr refl)))) e
+          (x.line_is ∙ silent_line q.read true);
       frame = x.moved.frame;
     }
-behind q Waits read lines.Idle phase sent line m t reads k n e h r = refused q Waits Wait sent line m t e tt (λ x. refl) refl refl h r
+behind q Waits read lines.Idle phase sent line m t reads k n e h r = refused q Waits Wait sent line m t e tt (λ x. refl)
+    refl refl h r
 behind q Waits read (lines.Drives bits) phase sent line m t reads k n e h r = absurd (omega arith)
 behind q Waits read (lines.Awaits reg flip) phase sent line m t reads k n e h r = absurd (omega arith)
-behind q Faults read lines.Idle phase sent line m t reads k n e h r = refused q Faults Fault sent line m t e tt (λ x. refl) refl refl h r
+behind q Faults read lines.Idle phase sent line m t reads k n e h r = refused q Faults Fault sent line m t e tt
+    (λ x. refl) refl refl h r
 behind q Faults read (lines.Drives bits) phase sent line m t reads k n e h r = absurd (omega arith)
 behind q Faults read (lines.Awaits reg flip) phase sent line m t reads k n e h r = absurd (omega arith)
 behind q Okay true (lines.Drives bits) phase sent line m t reads k n e h r = okay_read q bits sent line m t reads e h r
 behind q Okay true lines.Idle phase sent line m t reads k n e h r = absurd (omega arith)
 behind q Okay true (lines.Awaits reg flip) phase sent line m t reads k n e h r = absurd (omega arith)
-behind q Okay false (lines.Awaits reg flip) phase sent line m t reads k n e h r = okay_write q reg flip phase sent line m t reads n e h r
+behind q Okay false (lines.Awaits reg flip) phase sent line m t reads k n e h r = okay_write q reg flip phase sent line
+    m t reads n e h r
 behind q Okay false lines.Idle phase sent line m t reads k n e h r = absurd (omega arith)
 behind q Okay false (lines.Drives bits) phase sent line m t reads k n e h r = absurd (omega arith)
 
 -- the phase that a request leaves is that of its reply
-kind_answered : {A : Type 0} (w : Bool) (q : Request) (s t : Target A) (reply : Reply) (follows : Line) → Answers w q s reply follows t → kind follows ≡ kind_after reply q.read
+kind_answered : {A : Type 0} (w : Bool) (q : Request) (s t : Target A) (reply : Reply) (follows : Line)
+    → Answers w q s reply follows t → kind follows ≡ kind_after reply q.read
 kind_answered true q s t reply follows x = kind_seen WaitMark q s t reply follows (x.under WaitMark tt refl refl)
 kind_answered false q s t reply follows x = kind_seen Clean q s t reply follows (x.under Clean tt refl refl)
 
@@ -404,7 +451,8 @@ requests_spell q phase line s m is n r =
       follows = y.phase;
       answers = y.answers;
       one = λ more t runs. behind q y.reply q.read y.phase phase line more m t refl
-          (kind_answered s.waits q s.target m.target y.reply y.phase y.answers) n x.line_is (moved_here (frame_replied y.reply y.phase) m y.frame) runs;
+          (kind_answered s.waits q s.target m.target y.reply y.phase y.answers) n x.line_is
+          (moved_here (frame_replied y.reply y.phase) m y.frame) runs;
     }
 
 -- ---- ones
@@ -414,7 +462,8 @@ pub record Risen {A : Type 0} (n : ℕ) (s t : Clocked A) : Type 0 where
   pub left : rise t.frame ≡ rise s.frame - n
   pub rises : Rises s t
 
-ones_run : {A : Type 0} (drives : List (Option Bool)) (line : List Bool) (s t : Clocked A) → IsRising s.frame → AreOnes drives → Runs drives line s t →
+ones_run : {A : Type 0} (drives : List (Option Bool)) (line : List Bool) (s t : Clocked A) → IsRising s.frame
+    → AreOnes drives → Runs drives line s t →
     Risen (length drives) s t
 ones_run [] line s t i h r =
     let e = ended line s t r in
@@ -434,7 +483,8 @@ ones_run (drive ∷ drives) line s t i h r =
     }
 
 -- a frame from which fifty ones are a line reset
-hears : (f : Frame) → (f ≡ idle) ⊎ ((ones : ℕ) × (f ≡ Lost ones)) → IsRising f × (rise f ≤ 50) × ((x : State) → risen f x ≡ record x { reset = Fresh })
+hears : (f : Frame) → (f ≡ idle) ⊎ ((ones : ℕ) × (f ≡ Lost ones)) → IsRising f × (rise f ≤ 50)
+    × ((x : State) → risen f x ≡ record x { reset = Fresh })
 hears f h = elim h [
   | inl e ↦ rw e (refl, omega arith, λ x. refl)
   | inr (ones, e) ↦ rw e (tt, omega arith, λ x. refl)

@@ -12,9 +12,11 @@ use Rattle.swd_target.specs.declared.target.Target.{Target}
 use Rattle.swd_target.specs.Targets.{Steps, line_reset}
 use Rattle.swd_target.specs.Requests.{Answers, DataComes}
 use Rattle.swd_clocked.specs.declared.frame.Frame.{Frame}
-use Rattle.swd_clocked.specs.declared.frame.Frame.TheVariants.{Asks, Lost, High, Switches, Replies, Drives, Awaits, Passes}
+use Rattle.swd_clocked.specs.declared.frame.Frame.TheVariants.{Asks, Lost, High, Switches, Replies, Drives, Awaits}
+use Rattle.swd_clocked.specs.declared.frame.Frame.TheVariants.{Passes}
 use Rattle.swd_clocked.specs.declared.clocked.Clocked.{Clocked}
-use Rattle.swd_clocked.specs.Frames.{idle, shifted, frame_of, frame_replied, frame_seen, reply_bit, switched, switch_bit}
+use Rattle.swd_clocked.specs.Frames.{idle, shifted, frame_of, frame_replied, frame_seen, reply_bit, switched}
+use Rattle.swd_clocked.specs.Frames.{switch_bit}
 use Rattle.swd_clocked.specs.Frames.{ones_at_end, unswitched}
 
 -- Each relation below is between the target and what is held before, and the clocked target after.

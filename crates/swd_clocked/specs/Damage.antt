@@ -9,8 +9,8 @@ use Rattle.swd_clocked.specs.declared.frame.Frame.{Frame}
 use Rattle.swd_clocked.specs.declared.frame.Frame.TheVariants.{Asks, Replies, Drives, Awaits}
 use Rattle.swd_clocked.specs.Frames.{shifted}
 
--- Whether the mark of a request changes the bit of a cycle, which the host drives or not: the bit of its data phase, or of
--- its acknowledgement, that the mark names. Of a write's data a bit that nobody drives is never changed.
+-- Whether the mark of a request changes the bit of a cycle, which the host drives or not: the bit of its data phase,
+-- or of its acknowledgement, that the mark names. Of a write's data a bit that nobody drives is never changed.
 abbrev pub changes : Frame → Mark → Bool → Bool
 changes (Replies reply line now) (Mute place) driven = now == place + 1
 changes (Drives bits left) (Flip place) driven = left + place == 33

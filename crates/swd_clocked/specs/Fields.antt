@@ -1,5 +1,5 @@
--- A clocked target as numbers, but for its memory. Each kind of thing that is always there has its numbers from 1 on, so
--- that zeros are no target; what a number isn't needed for has it as 0.
+-- A clocked target as numbers, but for its memory. Each kind of thing that is always there has its numbers from 1 on,
+-- so that zeros are no target; what a number isn't needed for has it as 0.
 use Rattle.std.specs.Prelude.{ℕ, ◌==◌, ◌%◌, ◌^◌, is_some, unwrap_or, if◌then◌else◌}
 use Rattle.swd_bits.specs.Bits.{bit}
 use Rattle.swd_port.specs.declared.register.Register.{Register}
@@ -19,7 +19,8 @@ use Rattle.swd_clocked.specs.declared.fields.ClockedFields.{ClockedFields}
 use Rattle.swd_clocked.specs.declared.fields.FrameFields.{FrameFields}
 use Rattle.swd_clocked.specs.declared.fields.LineFields.{LineFields}
 use Rattle.swd_clocked.specs.declared.frame.Frame.{Frame}
-use Rattle.swd_clocked.specs.declared.frame.Frame.TheVariants.{Asks, Lost, High, Switches, Replies, Drives, Awaits, Passes}
+use Rattle.swd_clocked.specs.declared.frame.Frame.TheVariants.{Asks, Lost, High, Switches, Replies, Drives, Awaits}
+use Rattle.swd_clocked.specs.declared.frame.Frame.TheVariants.{Passes}
 
 abbrev pub register_number : Register → ℕ
 register_number DpidrRead = 1
@@ -107,7 +108,8 @@ read_frame f =
     record (plain_frame 5 (f.place % 4)) { line = read_line f.line; reply = read_reply f.reply }
     else if f.kind == 6 then record (plain_frame 6 (f.place % 34)) { line = line_with 0 (f.line.bits % 2 ^ 33) 0 0 0 }
     else if f.kind == 7 then
-    record (plain_frame 7 (f.place % 34)) { line = line_with 0 (f.line.bits % 2 ^ 33) (read_register f.line.register) 0 0 }
+    record (plain_frame 7 (f.place % 34))
+    { line = line_with 0 (f.line.bits % 2 ^ 33) (read_register f.line.register) 0 0 }
     else plain_frame 8 0
 
 abbrev pub read_clocked : ClockedFields → ClockedFields

@@ -1,6 +1,7 @@
 -- What a clocked target is doing, by its frame. All of it is this project's choice, but for the bits of the switch:
 -- IHI 0031, B5, "JTAG-to-SWD sequence".
-use Rattle.std.specs.Prelude.{ℕ, zero, suc, ◌≡◌, ◌+◌, ◌*◌, ◌-◌, ◌/◌, ◌%◌, ◌^◌, ◌==◌, ◌&&◌, not, Bool, true, false, min, if◌then◌else◌}
+use Rattle.std.specs.Prelude.{ℕ, zero, suc, ◌≡◌, ◌+◌, ◌*◌, ◌-◌, ◌/◌, ◌%◌, ◌^◌, ◌==◌, ◌&&◌, not, Bool, true, false, min}
+use Rattle.std.specs.Prelude.{if◌then◌else◌}
 use Rattle.std.specs.Int.{w8, leading_ones}
 use Rattle.swd_bits.specs.Bits.{bit}
 use Rattle.swd_port.specs.declared.register.Register.{Register}
@@ -15,7 +16,8 @@ use Rattle.swd_port.specs.Phases.{undriven}
 use Rattle.swd_port.specs.Answers.{is_okay}
 use Rattle.swd_port.specs.Moving.{bits_driven}
 use Rattle.swd_clocked.specs.declared.frame.Frame.{Frame}
-use Rattle.swd_clocked.specs.declared.frame.Frame.TheVariants.{Asks, Lost, High, Switches, Replies, Drives, Awaits, Passes}
+use Rattle.swd_clocked.specs.declared.frame.Frame.TheVariants.{Asks, Lost, High, Switches, Replies, Drives, Awaits}
+use Rattle.swd_clocked.specs.declared.frame.Frame.TheVariants.{Passes}
 
 -- the 33 bits that a frame holds
 abbrev pub frame_bits : Frame → ℕ
@@ -99,8 +101,8 @@ switched place = if place == 15 then Lost 0 else Switches (place + 1)
 abbrev pub ones_at_end : ℕ → ℕ
 ones_at_end byte = leading_ones w8 byte
 
--- What a bit leads to that ends neither a request nor fifty ones: idle, the beginning of a request, or one that is broken,
--- with the ones since its last zero. After a line reset a zero is idle.
+-- What a bit leads to that ends neither a request nor fifty ones: idle, the beginning of a request, or one that is
+-- broken, with the ones since its last zero. After a line reset a zero is idle.
 abbrev pub heard : Bool → Frame → Frame
 heard b (Asks bits count) =
     if (count == 0) && not b then idle

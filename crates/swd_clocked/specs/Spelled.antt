@@ -1,5 +1,6 @@
 -- Cycles one after the other, and what they spell: IHI 0031, B4, "Serial Wire Debug protocol operation".
-use Rattle.std.specs.Prelude.{ℕ, ◌≡◌, ◌≤◌, ◌⊎◌, Bool, true, false, List, [], ◌∷◌, ◌++◌, Option, Some, None, map, length, replicate}
+use Rattle.std.specs.Prelude.{ℕ, ◌≡◌, ◌≤◌, ◌⊎◌, Bool, true, false, List, [], ◌∷◌, ◌++◌, Option, Some, None, map, length}
+use Rattle.std.specs.Prelude.{replicate}
 use Rattle.std.specs.Prelude.{unwrap_or}
 use Rattle.swd_bits.specs.Wire.{request}
 use Rattle.swd_bits.specs.Transactions.{Spells}
@@ -28,8 +29,8 @@ Runs {A} (drive ∷ drives) (bit ∷ line) s t = (m : Clocked A) × Clocks drive
 abbrev pub leaves : ℕ → List (Option Bool)
 leaves count = replicate count None
 
--- What a host drives behind a request: nothing, up to the end of the transaction, but for the data of a write behind its
--- turnarounds.
+-- What a host drives behind a request: nothing, up to the end of the transaction, but for the data of a write behind
+-- its turnarounds.
 abbrev pub drives_behind : Reply → Bool → List Bool → List (Option Bool)
 drives_behind Okay true phase = leaves 38
 drives_behind Okay false phase = leaves 5 ++ map Some phase
@@ -44,7 +45,8 @@ EndsAs Waits end = end ≡ Wait
 EndsAs Faults end = end ≡ Fault
 EndsAs Silent end = end ≡ NoAck 7
 
--- where the target is then: between transactions, or, where it didn't reply, it awaits fifty ones, of which these are five
+-- where the target is then: between transactions, or, where it didn't reply, it awaits fifty ones, of which these are
+-- five
 abbrev pub frame_behind : Reply → Frame
 frame_behind Silent = Lost 5
 frame_behind reply = idle
@@ -56,8 +58,8 @@ pub record SpellsOne {A : Type 0} (q : Request) (reply : Reply) (line : List Boo
   pub spells : Spells (record { request = q; result = end }) line
   pub frame : t.frame ≡ frame_behind reply
 
--- The bits of a request that are sent between transactions stand on the line, and the target replies as the port machine
--- does; and with what follows on the line they spell one transaction.
+-- The bits of a request that are sent between transactions stand on the line, and the target replies as the port
+-- machine does; and with what follows on the line they spell one transaction.
 pub record SpellsRequest {A : Type 0} (q : Request) (phase sent : List Bool) (s m : Clocked A) : Type 0 where
   pub sends : sent ≡ request q
   pub reply : Reply

@@ -2,7 +2,8 @@
 ghost use Rattle.std.specs.Prelude.{◌≡◌, ◌<◌, ◌^◌, ◌+◌, is_some, true, false};
 ghost use Rattle.swd_port.specs.Port.{made_target};
 ghost use Rattle.swd_target.specs.Simulations.{made_with};
-ghost use Rattle.swd_clocked.specs.Frames.{frame_bits, frame_place, frame_limit, idle, counted, contends, reply_bit, unswitched};
+ghost use Rattle.swd_clocked.specs.Frames.{frame_bits, frame_place, frame_limit, idle, counted, contends, reply_bit};
+ghost use Rattle.swd_clocked.specs.Frames.{unswitched};
 
 use crate::frame::Frame;
 use std::alloc::{Allocator, Global};
@@ -105,7 +106,8 @@ impl<A: Allocator> Clocked<A> {
     pub fn cycle(&mut self, drive: Option<bool>) -> bool
         ensures clocks { Clocks drive result self.old self.new }
         ensures cycles { cycles_of self.new ≡ counted 1 (cycles_of self.old) }
-        ensures contended { contended_of self.new ≡ contended_of self.old + contends (frame_in self.old) (is_some drive) }
+        ensures contended { contended_of self.new ≡ contended_of self.old
+            + contends (frame_in self.old) (is_some drive) }
         ensures quirks { quirks_of self.new ≡ quirks_of self.old }
         ensures quiet { (quirks_of self.old).late ≡ true → (state_of self.old).pending ≡ None
             → memory_of self.new ≡ memory_of self.old }

@@ -14,6 +14,3 @@ pub use clocked::Clocked;
 pub use clocked_bench::ClockedBench;
 pub use fields::{ClockedFields, FrameFields, LineFields};
 pub use marked::MarkedClocked;
-
-#[cfg(test)]
-mod tests;

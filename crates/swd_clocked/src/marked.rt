@@ -3,7 +3,7 @@ ghost use Rattle.std.specs.Prelude.{◌≡◌, ◌-◌, ◌+◌, ◌^◌, ◌<�
 ghost use Rattle.swd_bits.specs.declared.request.Request.{Request};
 ghost use Rattle.swd_port.specs.Port.{made_target};
 ghost use Rattle.swd_port.specs.declared.mark.Mark.TheVariants.{Clean};
-ghost use Rattle.swd_port.specs.Choices.{IsMark, is_deaf, is_wait};
+ghost use Rattle.swd_port.specs.Choices.{is_deaf, is_wait};
 ghost use Rattle.swd_target.specs.Marks.{IsPlan, is_legal};
 ghost use Rattle.swd_target.specs.Simulations.{made_with};
 ghost use Rattle.swd_target.specs.Plans as plans;
@@ -72,8 +72,10 @@ fn turned(change: bool, bit: bool) -> bool
 
 impl<A: Allocator> MarkedClocked<A> {
     ghost use Rattle.swd_clocked.specs.Clocks.{Settles};
-    ghost use Rattle.swd_clocked.specs.Marked.{state_of, simulation_of, frame_in, mark_of, unseen_of, plan_of, tally_of};
-    ghost use Rattle.swd_clocked.specs.Marked.{cycles_of, contended_of, MarkedCycles, Meets, Misses, Reaches, Uses, Keeps};
+    ghost use Rattle.swd_clocked.specs.Marked.{state_of, simulation_of, frame_in, mark_of, unseen_of, plan_of};
+    ghost use Rattle.swd_clocked.specs.Marked.{tally_of};
+    ghost use Rattle.swd_clocked.specs.Marked.{cycles_of, contended_of, MarkedCycles, Meets, Misses, Reaches, Uses};
+    ghost use Rattle.swd_clocked.specs.Marked.{Keeps};
 
     /// Makes a target that had no line reset yet, with this memory behind its access port, whose
     /// requests meet these marks. DPIDR gives 2ba01477.
@@ -132,7 +134,8 @@ impl<A: Allocator> MarkedClocked<A> {
     pub fn cycle(&mut self, drive: Option<bool>) -> bool
         ensures cycles { MarkedCycles drive result self.old self.new }
         ensures count { cycles_of self.new ≡ counted 1 (cycles_of self.old) }
-        ensures contended { contended_of self.new ≡ contended_of self.old + contends (frame_in self.old) (is_some drive) }
+        ensures contended { contended_of self.new ≡ contended_of self.old
+            + contends (frame_in self.old) (is_some drive) }
     {
         if self.unseen > 0 {
             return self.miss(self.unseen - 1, drive);
@@ -159,7 +162,8 @@ impl<A: Allocator> MarkedClocked<A> {
         requires { self.old.unseen ≡ 0 }
         ensures meets { Meets drive result self.old self.new }
         ensures count { cycles_of self.new ≡ counted 1 (cycles_of self.old) }
-        ensures contended { contended_of self.new ≡ contended_of self.old + contends (frame_in self.old) (is_some drive) }
+        ensures contended { contended_of self.new ≡ contended_of self.old
+            + contends (frame_in self.old) (is_some drive) }
     {
         self.use_mark();
         if is_deaf(self.mark) {
@@ -183,7 +187,8 @@ impl<A: Allocator> MarkedClocked<A> {
         ensures misses { Misses more drive result self.old self.new }
         ensures keeps { Keeps self.old self.new }
         ensures count { cycles_of self.new ≡ counted 1 (cycles_of self.old) }
-        ensures contended { contended_of self.new ≡ contended_of self.old + contends (frame_in self.old) (is_some drive) }
+        ensures contended { contended_of self.new ≡ contended_of self.old
+            + contends (frame_in self.old) (is_some drive) }
     {
         self.unseen = more;
         self.clocked.miss(drive.is_some());
@@ -196,7 +201,8 @@ impl<A: Allocator> MarkedClocked<A> {
         ensures reaches { Reaches self.old.mark self.old.clocked.waits drive result self.old self.new }
         ensures keeps { Keeps self.old self.new }
         ensures count { cycles_of self.new ≡ counted 1 (cycles_of self.old) }
-        ensures contended { contended_of self.new ≡ contended_of self.old + contends (frame_in self.old) (is_some drive) }
+        ensures contended { contended_of self.new ≡ contended_of self.old
+            + contends (frame_in self.old) (is_some drive) }
     {
         let change = self.is_changed(drive.is_some());
         let bit = turned(change, drive.unwrap_or(true));

@@ -1,5 +1,5 @@
 //! Whole phases at a clocked target whose requests meet a plan, cycle by cycle, as a host drives them.
-ghost use Rattle.std.specs.Prelude.{◌≡◌, ◌≢◌, ◌≤◌, ◌<◌, ◌^◌, ◌-◌, ◌+◌, true, is_some, unwrap_or};
+ghost use Rattle.std.specs.Prelude.{◌≡◌, ◌≤◌, ◌<◌, ◌^◌, ◌-◌, ◌+◌, true, is_some, unwrap_or};
 ghost use Rattle.swd_port.specs.Phases.{undriven};
 ghost use Rattle.swd_port.specs.Choices.{flip_of};
 ghost use Rattle.swd_port.specs.Phases.{flipped};

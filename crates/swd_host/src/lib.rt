@@ -23,6 +23,3 @@ pub use outcome::{End, Outcome, Refused, Report};
 pub use outside::run_outside;
 pub use resuming::resume;
 pub use running::run;
-
-#[cfg(test)]
-mod tests;

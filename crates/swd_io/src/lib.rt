@@ -10,6 +10,3 @@ mod pieces;
 pub use block::{Block, LONGEST};
 pub use output::{Unsent, send};
 pub use pieces::{Consumer, Unread, read_pieces};
-
-#[cfg(test)]
-mod tests;

@@ -6,7 +6,8 @@ use Rattle.swd_port.specs.declared.access.Answer.TheVariants.{Value}
 use Rattle.swd_bits.specs.Phases.{IsPhaseOf, phase_number}
 use Rattle.swd_port.specs.Phases.{flipped}
 use Rattle.swd_port.specs.PlainMemory.{PlainMemory, word_at, plain_answer, plain_after}
-use Rattle.swd_port.specs.Port.{Port, Target, RdbuffRead, DrwRead, DrwWrite, Idle, Drives, Awaits, Live, register, request_of}
+use Rattle.swd_port.specs.Port.{Port, Target, RdbuffRead, DrwRead, DrwWrite, Idle, Drives, Awaits, Live, register}
+use Rattle.swd_port.specs.Port.{request_of}
 use Rattle.swd_port.specs.Completion.{Completes}
 use Rattle.swd_port.specs.Asking.{Asks}
 use Rattle.swd_port.specs.Moving.{Takes, Gives, Arrives, after_bits}
@@ -25,9 +26,11 @@ not_drw_read : DrwWrite ≢ DrwRead
 not_drw_read e = cc
 
 -- the request of DRW, seen as OK
-drw_seen : (at : ℕ) (m : PlainMemory) (s t : Port) → Ready s.target → Aimed at m s.target → Asks s (request_of DrwWrite) 1 t → SeesOkay DrwWrite false 1 s t
+drw_seen : (at : ℕ) (m : PlainMemory) (s t : Port) → Ready s.target → Aimed at m s.target
+    → Asks s (request_of DrwWrite) 1 t → SeesOkay DrwWrite false 1 s t
 drw_seen at m s t r h asks =
-    elim (free_request_exact DrwWrite (request_of DrwWrite) 1 s t (ap (λ x. register x (request_of DrwWrite)) r.select) refl not_drw_read r.live h.pending r.write_error h.sticky_error (λ e. r.power) asks) [
+    elim (free_request_exact DrwWrite (request_of DrwWrite) 1 s t (ap (λ x. register x (request_of DrwWrite)) r.select)
+    refl not_drw_read r.live h.pending r.write_error h.sticky_error (λ e. r.power) asks) [
       | okay o ↦ o
       | wait w ↦ absurd (let e : 1 ≡ 2 = w.is in cc)
       | lost n e ↦ absurd (let e : true ≡ false = n.none.not_okay in cc)
@@ -48,46 +51,60 @@ record WordGiven (at word : ℕ) (m : PlainMemory) (x : Target) : Type 0 where
   pub write_error : x.write_error ≡ false
   pub sent : Sent (Write at word) m x
 
-given_word : (at word sent : ℕ) (m : PlainMemory) (s asked given : Port) → Ready s.target → Aimed at m s.target → word < 2 ^ 32 → sent < 2 ^ 33 → IsPhaseOf word sent →
-    SeesOkay DrwWrite false 1 s asked → asked.tally.disturbed ≡ s.tally.disturbed → Gives asked sent given → WordGiven at word m given.target
+given_word : (at word sent : ℕ) (m : PlainMemory) (s asked given : Port) → Ready s.target → Aimed at m s.target
+    → word < 2 ^ 32 → sent < 2 ^ 33 → IsPhaseOf word sent →
+    SeesOkay DrwWrite false 1 s asked → asked.tally.disturbed ≡ s.tally.disturbed → Gives asked sent given
+    → WordGiven at word m given.target
 given_word at word sent m s asked given r h range fits is o clean gives =
     let a : Accepts DrwWrite false o.flip s asked = o.accepts in
-    let aimed : Aimed at m asked.target = subst (Aimed at m) (sym a.target) (record { tar = h.tar; memory = h.memory; pending = h.pending; sticky_error = h.sticky_error }) in
-    let line : asked.link.line ≡ Awaits DrwWrite None = a.line ∙ ap (λ f. Awaits DrwWrite f) (not_flipped o.flip s asked o.spares clean) in
-    let found : (b : Port) × Given DrwWrite None word asked b × Completes b given = data_given_at_rest DrwWrite None word sent asked given line range fits is aimed.pending gives in
+    let aimed : Aimed at m asked.target = subst (Aimed at m) (sym a.target)
+    (record { tar = h.tar; memory = h.memory; pending = h.pending; sticky_error = h.sticky_error }) in
+    let line : asked.link.line ≡ Awaits DrwWrite None = a.line
+    ∙ ap (λ f. Awaits DrwWrite f) (not_flipped o.flip s asked o.spares clean) in
+    let found : (b : Port) × Given DrwWrite None word asked b
+    × Completes b given = data_given_at_rest DrwWrite None word sent asked given line range fits is
+    aimed.pending gives in
     let g : Gave DrwWrite word asked found.0 = given_whole word asked found.0 found.1 in
     let k : Kept found.0 given = kept found.0 given found.2 in
     record {
       live = k.reset ∙ ap (λ x. x.reset) g.target ∙ a.live;
-      write_error = k.write_error ∙ ap (λ x. x.write_error) (g.target ∙ ap (after_bits (Arrives DrwWrite word)) a.target) ∙ r.write_error;
+      write_error = k.write_error
+          ∙ ap (λ x. x.write_error) (g.target ∙ ap (after_bits (Arrives DrwWrite word)) a.target) ∙ r.write_error;
       sent = sent_stays (Write at word) m found.0 given found.2 (write_begins at word m asked found.0 aimed g);
     }
 
 -- the confirming read of RDBUFF
-confirmed_done : (at word : ℕ) (m : PlainMemory) (s t : Port) → Confirms (Write at word) m RdbuffRead (request_of RdbuffRead) 1 s t → Succeeded (Write at word) m t.target
-confirmed_done at word m s t (confirms_okay done o) = subst (Succeeded (Write at word) m) (sym o.accepts.target) (record {
-  answer = done.answer;
-  memory = done.memory;
-  pending = done.pending;
-  sticky_error = done.sticky_error;
-  buffered = tt;
-  advanced = done.advanced;
-})
+confirmed_done : (at word : ℕ) (m : PlainMemory) (s t : Port)
+    → Confirms (Write at word) m RdbuffRead (request_of RdbuffRead) 1 s t → Succeeded (Write at word) m t.target
+confirmed_done at word m s t (confirms_okay done o) = subst (Succeeded (Write at word) m) (sym o.accepts.target)
+    (record {
+      answer = done.answer;
+      memory = done.memory;
+      pending = done.pending;
+      sticky_error = done.sticky_error;
+      buffered = tt;
+      advanced = done.advanced;
+    })
 confirmed_done at word m s t (confirms_wait sent w) = absurd (let e : 1 ≡ 2 = w.is in cc)
 confirmed_done at word m s t (confirms_fault failed f) = absurd (let e : 1 ≡ 4 = f.is in cc)
 confirmed_done at word m s t (confirms_lost sent n e) = absurd (let e : true ≡ false = n.none.not_okay in cc)
 
-confirmed_call : (at word : ℕ) (m : PlainMemory) (s t : Port) → Around (Confirms (Write at word) m RdbuffRead (request_of RdbuffRead) 1) s t → Succeeded (Write at word) m t.target
+confirmed_call : (at word : ℕ) (m : PlainMemory) (s t : Port)
+    → Around (Confirms (Write at word) m RdbuffRead (request_of RdbuffRead) 1) s t
+    → Succeeded (Write at word) m t.target
 confirmed_call at word m s t (a, b, first, step, last) =
     let done : Succeeded (Write at word) m b.target = confirmed_done at word m a b step in
     subst (λ p. Succeeded (Write at word) m p.target) (sym (none_done b t done.pending last)) done
 
 pub word_written : WordWritten
 word_written at word sent bits m s asked given confirmed t r h range fits is asks clean gives reads takes =
-    let g : WordGiven at word m given.target = given_word at word sent m s asked given r h range fits is (drw_seen at m s asked r h asks) clean gives in
+    let g : WordGiven at word m given.target = given_word at word sent m s asked given r h range fits is
+    (drw_seen at m s asked r h asks) clean gives in
     let done : Succeeded (Write at word) m confirmed.target = confirmed_call at word m given confirmed
-    (confirming_request (Write at word) m RdbuffRead (request_of RdbuffRead) 1 given confirmed g.sent refl refl g.live g.write_error (λ e. absurd (cc)) reads) in
-    subst (Succeeded (Write at word) m) (sym (take_moves_nothing_at_rest bits confirmed t done.pending takes).0.target) done
+    (confirming_request (Write at word) m RdbuffRead (request_of RdbuffRead) 1 given confirmed g.sent refl refl g.live
+    g.write_error (λ e. absurd (cc)) reads) in
+    subst (Succeeded (Write at word) m) (sym (take_moves_nothing_at_rest bits confirmed t done.pending takes).0.target)
+    done
 
 -- what stands from the request of a DRW read on
 record ReadGiven (at : ℕ) (m : PlainMemory) (x : Target) : Type 0 where
@@ -96,10 +113,12 @@ record ReadGiven (at : ℕ) (m : PlainMemory) (x : Target) : Type 0 where
   pub sent : Sent (Read at) m x
 
 -- the request of a DRW read, seen as OK
-read_seen : (at : ℕ) (m : PlainMemory) (s t : Port) → Ready s.target → Aimed at m s.target → Asks s (request_of DrwRead) 1 t → ReadGiven at m t.target
+read_seen : (at : ℕ) (m : PlainMemory) (s t : Port) → Ready s.target → Aimed at m s.target
+    → Asks s (request_of DrwRead) 1 t → ReadGiven at m t.target
 read_seen at m s t r h asks =
     let found : (b : Port) × OkayWaitOrLost DrwRead true 1 s b × Completes b t =
-    free_request_at_rest DrwRead (request_of DrwRead) 1 s t (ap (λ x. register x (request_of DrwRead)) r.select) refl r.live h.pending r.write_error h.sticky_error (λ e. r.power) asks in
+    free_request_at_rest DrwRead (request_of DrwRead) 1 s t (ap (λ x. register x (request_of DrwRead)) r.select) refl
+    r.live h.pending r.write_error h.sticky_error (λ e. r.power) asks in
     let k : Kept found.0 t = kept found.0 t found.2 in
     elim found.1 [
       | okay o ↦ record {
@@ -112,11 +131,18 @@ read_seen at m s t r h asks =
     ]
 
 -- its data phase
-read_taken : (at bits : ℕ) (m : PlainMemory) (s t : Port) → ReadGiven at m s.target → Takes s bits t → ReadGiven at m t.target
+read_taken : (at bits : ℕ) (m : PlainMemory) (s t : Port) → ReadGiven at m s.target → Takes s bits t
+    → ReadGiven at m t.target
 read_taken at bits m s t h takes =
     let found : (a : Port) × Completes s a × Passed a t × (t.link.line ≡ Idle) = take_moves_nothing bits s t takes in
     let k : Kept s found.0 = kept s found.0 found.1 in
-    subst (ReadGiven at m) (sym found.2.target) (record { live = k.reset ∙ h.live; write_error = k.write_error ∙ h.write_error; sent = sent_stays (Read at) m s found.0 found.1 h.sent })
+    subst (ReadGiven at m) (sym found.2.target)
+    (record {
+      live = k.reset ∙ h.live;
+      write_error = k.write_error
+          ∙ h.write_error;
+      sent = sent_stays (Read at) m s found.0 found.1 h.sent;
+    })
 
 -- RDBUFF, seen as OK and undisturbed, has the word
 record WordOut (at : ℕ) (m : PlainMemory) (t : Port) : Type 0 where
@@ -126,10 +152,13 @@ record WordOut (at : ℕ) (m : PlainMemory) (t : Port) : Type 0 where
   pub range : word_at at m < 2 ^ 32
   pub line : t.link.line ≡ Drives (flipped None (phase_number (word_at at m)))
 
-buffer_seen : (at : ℕ) (m : PlainMemory) (s t : Port) → Confirms (Read at) m RdbuffRead (request_of RdbuffRead) 1 s t → t.tally.disturbed ≡ s.tally.disturbed → WordOut at m t
+buffer_seen : (at : ℕ) (m : PlainMemory) (s t : Port) → Confirms (Read at) m RdbuffRead (request_of RdbuffRead) 1 s t
+    → t.tally.disturbed ≡ s.tally.disturbed → WordOut at m t
 buffer_seen at m s t (confirms_okay done o) clean =
     let whole_phase : o.flip ≡ None = not_flipped o.flip s t o.spares clean in
-    let back : OnLine (word_at at m) o.flip t × (t.target.last_returned ≡ Some (word_at at m)) = buffer_returned RdbuffRead o.flip (word_at at m) s t refl done.buffered o.accepts in
+    let back : OnLine (word_at at m) o.flip t
+    × (t.target.last_returned ≡ Some (word_at at m)) = buffer_returned RdbuffRead o.flip (word_at at m) s t refl
+    done.buffered o.accepts in
     record {
       answer = done.answer;
       memory = ap (λ x. x.memory) o.accepts.target ∙ done.memory;
@@ -141,10 +170,13 @@ buffer_seen at m s t (confirms_wait sent w) clean = absurd (let e : 1 ≡ 2 = w.
 buffer_seen at m s t (confirms_fault failed f) clean = absurd (let e : 1 ≡ 4 = f.is in cc)
 buffer_seen at m s t (confirms_lost sent n e) clean = absurd (let e : true ≡ false = n.none.not_okay in cc)
 
-buffer_call : (at : ℕ) (m : PlainMemory) (s t : Port) → Around (Confirms (Read at) m RdbuffRead (request_of RdbuffRead) 1) s t → t.tally.disturbed ≡ s.tally.disturbed → WordOut at m t
+buffer_call : (at : ℕ) (m : PlainMemory) (s t : Port)
+    → Around (Confirms (Read at) m RdbuffRead (request_of RdbuffRead) 1) s t → t.tally.disturbed ≡ s.tally.disturbed
+    → WordOut at m t
 buffer_call at m s t (a, b, first, step, last) clean =
     let k : Kept s a = kept s a first in let l : Kept b t = kept b t last in
-    let out : WordOut at m b = buffer_seen at m a b step (ap (λ n. n.disturbed) (sym l.tally) ∙ clean ∙ ap (λ n. n.disturbed) (sym k.tally)) in
+    let out : WordOut at m b = buffer_seen at m a b step
+    (ap (λ n. n.disturbed) (sym l.tally) ∙ clean ∙ ap (λ n. n.disturbed) (sym k.tally)) in
     subst (WordOut at m) (sym (none_done b t out.pending last)) out
 
 got_phase : (value bits : ℕ) → Got None value bits → IsPhaseOf value bits
@@ -153,9 +185,11 @@ got_phase value bits (got_damaged place e none told) = absurd (cc)
 
 pub word_read : WordRead
 word_read at first_bits bits m s asked taken confirmed t r h fits asks first reads clean takes =
-    let sent : ReadGiven at m taken.target = read_taken at first_bits m asked taken (read_seen at m s asked r h asks) first in
+    let sent : ReadGiven at m taken.target = read_taken at first_bits m asked taken (read_seen at m s asked r h asks)
+    first in
     let out : WordOut at m confirmed = buffer_call at m taken confirmed
-    (confirming_request (Read at) m RdbuffRead (request_of RdbuffRead) 1 taken confirmed sent.sent refl refl sent.live sent.write_error (λ e. absurd (cc)) reads) clean in (
+    (confirming_request (Read at) m RdbuffRead (request_of RdbuffRead) 1 taken confirmed sent.sent refl refl sent.live
+    sent.write_error (λ e. absurd (cc)) reads) clean in (
       got_phase (word_at at m) bits (data_taken None (word_at at m) bits confirmed t out.line out.range fits takes),
       out.answer,
       ap (λ x. x.memory) ((take_moves_nothing_at_rest bits confirmed t out.pending takes).0.target) ∙ out.memory,

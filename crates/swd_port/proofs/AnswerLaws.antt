@@ -8,7 +8,8 @@ use Rattle.swd_bits.specs.Wire.{ack}
 use Rattle.swd_port.specs.declared.wire.Due.TheVariants.{Lost}
 use Rattle.swd_port.specs.Port.{Register, Reset}
 use Rattle.swd_port.specs.Choices.{Mark, Clean, Wait, Flip, Deaf, Mute, IsMark, is_wait, is_deaf}
-use Rattle.swd_port.specs.Answers.{Reply, Okay, Waits, Faults, Silent, answer, may_wait, MayAnswer, reply_under, driven, seen_at, Sees, IsNoAcknowledgement, due_after, is_answered, is_exempt}
+use Rattle.swd_port.specs.Answers.{Reply, Okay, Waits, Faults, Silent, answer, may_wait, MayAnswer, reply_under, driven}
+use Rattle.swd_port.specs.Answers.{seen_at, Sees, IsNoAcknowledgement, due_after, is_answered, is_exempt}
 
 answer_by : (a b c : Bool) → (if not a then Silent else if b then Okay else if c then Faults else Okay) ≢ Waits
 answer_by true true c = λ e. cc
@@ -16,8 +17,10 @@ answer_by true false true = λ e. cc
 answer_by true false false = λ e. cc
 answer_by false b c = λ e. cc
 
-pub never_waits : (reset : Reset) (sticky write unpowered : Bool) (r : Register) → answer reset sticky write unpowered r ≢ Waits
-never_waits reset sticky write unpowered r = answer_by (is_answered reset r) (is_exempt r) (sticky || write || unpowered)
+pub never_waits : (reset : Reset) (sticky write unpowered : Bool) (r : Register)
+    → answer reset sticky write unpowered r ≢ Waits
+never_waits reset sticky write unpowered r = answer_by (is_answered reset r) (is_exempt r)
+    (sticky || write || unpowered)
 
 allowed_if : (b : Bool) (r : Register) (a : Reply) → may_wait r a ≡ b → MayAnswer r a (if b then Waits else a)
 allowed_if true r a e = inr (e, refl)
@@ -33,7 +36,8 @@ allowed (Mute place) r a seen = inl refl
 pub waits : (r : Register) (a : Reply) → may_wait r a ≡ true → reply_under Wait r a ≡ Waits
 waits r a e = rw e refl
 
-pub waits_only : (mark : Mark) (r : Register) (a : Reply) → a ≢ Waits → reply_under mark r a ≡ Waits → is_wait mark ≡ true
+pub waits_only : (mark : Mark) (r : Register) (a : Reply) → a ≢ Waits → reply_under mark r a ≡ Waits
+    → is_wait mark ≡ true
 waits_only Clean r a other e = absurd (other e)
 waits_only Wait r a other e = refl
 waits_only (Flip place) r a other e = absurd (other e)
@@ -67,7 +71,8 @@ other n AckOk b d f e = absurd (cc (rw e at b))
 other n AckWait b d f e = absurd (cc (rw e at d))
 other n AckFault b d f e = absurd (cc (rw e at f))
 
-muted_seen : (place : ℕ) (reply : Reply) (a : Ack) → place < 3 → seen_at (Mute place) reply ≡ number (ack a) → driven reply ≡ number (ack a)
+muted_seen : (place : ℕ) (reply : Reply) (a : Ack) → place < 3 → seen_at (Mute place) reply ≡ number (ack a)
+    → driven reply ≡ number (ack a)
 muted_seen zero Okay a h e = absurd (other (seen_at (Mute 0) Okay) a refl refl refl e)
 muted_seen zero Waits a h e = absurd (other (seen_at (Mute 0) Waits) a refl refl refl e)
 muted_seen zero Faults a h e = absurd (other (seen_at (Mute 0) Faults) a refl refl refl e)
@@ -80,7 +85,8 @@ muted_seen (suc (suc zero)) Faults a h e = absurd (other (seen_at (Mute 2) Fault
 muted_seen (suc (suc (suc n))) reply a h e = absurd (omega arith)
 muted_seen place Silent a h e = e
 
-pub seen_driven : (mark : Mark) (reply : Reply) (a : Ack) → IsMark mark → seen_at mark reply ≡ number (ack a) → driven reply ≡ number (ack a)
+pub seen_driven : (mark : Mark) (reply : Reply) (a : Ack) → IsMark mark → seen_at mark reply ≡ number (ack a)
+    → driven reply ≡ number (ack a)
 seen_driven (Mute place) reply a h e = muted_seen place reply a h e
 seen_driven mark Okay a h e = e
 seen_driven mark Waits a h e = e
@@ -103,13 +109,15 @@ muted_none (suc (suc zero)) Faults h = record { not_okay = refl; not_wait = refl
 muted_none (suc (suc (suc n))) reply h = absurd (omega arith)
 
 -- nothing but a line reset is due then
-pub lost_due : (read : Bool) (seen : ℕ) → (seen == 1) ≡ false → (seen == 2) ≡ false → (seen == 4) ≡ false → due_after read seen ≡ Lost
+pub lost_due : (read : Bool) (seen : ℕ) → (seen == 1) ≡ false → (seen == 2) ≡ false → (seen == 4) ≡ false
+    → due_after read seen ≡ Lost
 lost_due read seen e f g = rw (e, f, g) refl
 
 pub none_due : (read : Bool) (seen : ℕ) → IsNoAcknowledgement seen → due_after read seen ≡ Lost
 none_due read seen none = lost_due read seen none.not_okay none.not_wait none.not_fault
 
-pub muted_due : (place : ℕ) (reply : Reply) (read : Bool) → place < 3 → due_after read (seen_at (Mute place) reply) ≡ Lost
+pub muted_due : (place : ℕ) (reply : Reply) (read : Bool) → place < 3
+    → due_after read (seen_at (Mute place) reply) ≡ Lost
 muted_due place reply read h = none_due read (seen_at (Mute place) reply) (muted_none place reply h)
 
 pub deaf_silent : (mark : Mark) (r : Register) (a : Reply) → is_deaf mark ≡ true → reply_under mark r a ≡ Silent

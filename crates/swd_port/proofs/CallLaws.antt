@@ -15,7 +15,8 @@ use Rattle.swd_port.specs.Completion.{Completes}
 use Rattle.swd_port.specs.Moves.{Kept}
 use Rattle.swd_port.specs.Outcomes.{Steady}
 use Rattle.swd_port.specs.Asking.{AsksNow, reply_in, tally_after}
-use Rattle.swd_port.specs.Laws.Calls.{DueAfterRequest, AcknowledgementSeen, NoAcknowledgementSeen, NothingDue, RequestCounted, OthersUncounted, IdentificationKept, with_asked, CountedApart}
+use Rattle.swd_port.specs.Laws.Calls.{DueAfterRequest, AcknowledgementSeen, NoAcknowledgementSeen, NothingDue}
+use Rattle.swd_port.specs.Laws.Calls.{RequestCounted, OthersUncounted, IdentificationKept, with_asked, CountedApart}
 use Rattle.swd_port.proofs.CompletionLaws.{kept}
 use Rattle.swd_port.proofs.AnswerLaws.{lost_due, none_due, muted_due}
 use Rattle.swd_port.proofs.RequestLaws.{steady}
@@ -28,7 +29,8 @@ ack_bits AckWait = refl
 ack_bits AckFault = refl
 
 pub acknowledgement_seen : AcknowledgementSeen
-acknowledgement_seen seen a range = (λ e. sym (ap number e ∙ number-low_bits 3 seen range), λ e. sym (ap (low_bits 3) e ∙ ack_bits a))
+acknowledgement_seen seen a range =
+    (λ e. sym (ap number e ∙ number-low_bits 3 seen range), λ e. sym (ap (low_bits 3) e ∙ ack_bits a))
 
 differs : (seen n : ℕ) → seen ≢ n → (seen == n) ≡ false
 differs seen n other = grind arith
@@ -45,16 +47,23 @@ plain_due mark c q seen s t now same sees =
 
 pub no_acknowledgement_seen : NoAcknowledgementSeen
 no_acknowledgement_seen seen read range none =
-    let not_okay : (seen == 1) ≡ false = differs seen 1 (λ e. none AckOk ((acknowledgement_seen seen AckOk range).1 e)) in
-    let not_wait : (seen == 2) ≡ false = differs seen 2 (λ e. none AckWait ((acknowledgement_seen seen AckWait range).1 e)) in
-    let not_fault : (seen == 4) ≡ false = differs seen 4 (λ e. none AckFault ((acknowledgement_seen seen AckFault range).1 e)) in
-    (record { not_okay = not_okay; not_wait = not_wait; not_fault = not_fault }, lost_due read seen not_okay not_wait not_fault)
+    let not_okay : (seen == 1) ≡ false = differs seen 1
+    (λ e. none AckOk ((acknowledgement_seen seen AckOk range).1 e)) in
+    let not_wait : (seen == 2) ≡ false = differs seen 2
+    (λ e. none AckWait ((acknowledgement_seen seen AckWait range).1 e)) in
+    let not_fault : (seen == 4) ≡ false = differs seen 4
+    (λ e. none AckFault ((acknowledgement_seen seen AckFault range).1 e)) in (
+      record { not_okay = not_okay; not_wait = not_wait; not_fault = not_fault },
+      lost_due read seen not_okay not_wait
+          not_fault,
+    )
 
 due_now : (mark : Mark) (c : Choice) (q : Request) (seen : ℕ) (s t : Port) → AsksNow mark c s q seen t
     → t.link.due ≡ due_after q.read seen
 due_now Clean c q seen s t now = plain_due Clean c q seen s t now (plain_seen Clean _ refl) now.sees
 due_now Wait c q seen s t now = plain_due Wait c q seen s t now (plain_seen Wait _ refl) now.sees
-due_now (Flip place) c q seen s t now = plain_due (Flip place) c q seen s t now (plain_seen (Flip place) _ refl) now.sees
+due_now (Flip place) c q seen s t now = plain_due (Flip place) c q seen s t now (plain_seen (Flip place) _ refl)
+    now.sees
 due_now Deaf c q seen s t now = ap (λ p. p.link.due) now.after ∙ sym (none_due q.read seen now.sees)
 due_now (Mute place) c q seen s t now = ap (λ p. p.link.due) now.after
     ∙ (muted_due place (reply_in (Mute place) s.target q) q.read now.legal ∙ sym (none_due q.read seen now.sees))
@@ -78,7 +87,8 @@ nothing_due = record {
 
 -- the numbers over a step and its completions
 counted_around : (s a b t : Port) → Completes s a → b.tally ≡ a.tally → Completes b t → t.tally ≡ s.tally
-counted_around s a b t first u last = let k : Kept s a = kept s a first in let l : Kept b t = kept b t last in l.tally ∙ u ∙ k.tally
+counted_around s a b t first u last = let k : Kept s a = kept s a first in let l : Kept b t = kept b t last in l.tally
+    ∙ u ∙ k.tally
 
 pub others_uncounted : OthersUncounted
 others_uncounted = record {
@@ -89,8 +99,10 @@ others_uncounted = record {
 }
 
 -- what DPIDR gives over a step and its completions
-identified_around : (s a b t : Port) → Completes s a → b.target.identification ≡ a.target.identification → Completes b t → t.target.identification ≡ s.target.identification
-identified_around s a b t first u last = let k : Kept s a = kept s a first in let l : Kept b t = kept b t last in l.identification ∙ u ∙ k.identification
+identified_around : (s a b t : Port) → Completes s a → b.target.identification ≡ a.target.identification → Completes b t
+    → t.target.identification ≡ s.target.identification
+identified_around s a b t first u last = let k : Kept s a = kept s a first in let l : Kept b t = kept b t last in
+    l.identification ∙ u ∙ k.identification
 
 pub identification_kept : IdentificationKept
 identification_kept = record {
@@ -123,7 +135,8 @@ grows_one a b n e h = omega arith
 pub request_counted : RequestCounted
 request_counted q seen s t (a, b, mark, c, first, now, last) =
     let k : Kept s a = kept s a first in let l : Kept b t = kept b t last in
-    let n : t.tally ≡ tally_after mark s.tally = l.tally ∙ ap (λ p. p.tally) now.after ∙ ap (tally_after mark) k.tally in
+    let n : t.tally ≡ tally_after mark s.tally = l.tally ∙ ap (λ p. p.tally) now.after
+    ∙ ap (tally_after mark) k.tally in
     let y : Steady a.target b.target = steady _ _ _ q.ap a.target b.target (ap (λ p. p.target) now.after) in
     record {
       asked = ap (λ n. n.asked) n;
@@ -154,11 +167,43 @@ counted_apart = record {
     h.2,
     h.3,
     completed_apart n s h.0 h.4,
-    record { legal = h.5.legal; choice = h.5.choice; settled = h.5.settled; word = h.5.word; sees = h.5.sees; after = ap (with_asked (n + 1)) h.5.after },
+    record {
+      legal = h.5.legal;
+      choice = h.5.choice;
+      settled = h.5.settled;
+      word = h.5.word;
+      sees = h.5.sees;
+      after =
+          ap (with_asked (n + 1)) h.5.after;
+    },
     completed_apart (n + 1) h.1 t h.6,
   );
-  taken = λ n bits s t h. (with_asked n h.0, with_asked n h.1, completed_apart n s h.0 h.2, record { gets = h.3.gets; after = ap (with_asked n) h.3.after }, completed_apart n h.1 t h.4);
-  given = λ n sent s t h. (with_asked n h.0, with_asked n h.1, completed_apart n s h.0 h.2, record { after = ap (with_asked n) h.3.after }, completed_apart n h.1 t h.4);
-  passed = λ n s t h. (with_asked n h.0, with_asked n h.1, completed_apart n s h.0 h.2, record { after = ap (with_asked n) h.3.after }, completed_apart n h.1 t h.4);
-  led = λ n ones s t h. (with_asked n h.0, with_asked n h.1, completed_apart n s h.0 h.2, record { after = ap (with_asked n) h.3.after }, completed_apart n h.1 t h.4);
+  taken = λ n bits s t h. (
+    with_asked n h.0,
+    with_asked n h.1,
+    completed_apart n s h.0 h.2,
+    record { gets = h.3.gets; after = ap (with_asked n) h.3.after },
+    completed_apart n h.1 t h.4,
+  );
+  given = λ n sent s t h. (
+    with_asked n h.0,
+    with_asked n h.1,
+    completed_apart n s h.0 h.2,
+    record { after = ap (with_asked n) h.3.after },
+    completed_apart n h.1 t h.4,
+  );
+  passed = λ n s t h. (
+    with_asked n h.0,
+    with_asked n h.1,
+    completed_apart n s h.0 h.2,
+    record { after = ap (with_asked n) h.3.after },
+    completed_apart n h.1 t h.4,
+  );
+  led = λ n ones s t h. (
+    with_asked n h.0,
+    with_asked n h.1,
+    completed_apart n s h.0 h.2,
+    record { after = ap (with_asked n) h.3.after },
+    completed_apart n h.1 t h.4,
+  );
 }

@@ -10,7 +10,8 @@ use Rattle.std.specs.Cmp.{nat_cmp_total}
 -- two keys that differ don't tie
 apart : (q k : ℕ) → (q ≡ k → ⊥) → eq_by_cmp nat_cmp q k ≡ false
 apart q k none =
-    elim (nat_cmp q k) as (λ r. nat_cmp q k ≡ r → is_eq r ≡ false) [ Less ↦ λ e. refl | Equal ↦ λ e. absurd (none (nat_cmp-IsAntisymmetric q k e)) | Greater ↦ λ e. refl ] refl
+    elim (nat_cmp q k) as (λ r. nat_cmp q k ≡ r → is_eq r ≡ false)
+    [ Less ↦ λ e. refl | Equal ↦ λ e. absurd (none (nat_cmp-IsAntisymmetric q k e)) | Greater ↦ λ e. refl ] refl
 
 -- one insertion, at another key and at its own
 pub get_other : (m : FinMap nat_cmp ℕ) (k v q : ℕ) → (q ≡ k → ⊥) → get (insert m k v) q ≡ get m q
@@ -20,7 +21,8 @@ pub get_same : (m : FinMap nat_cmp ℕ) (k v q : ℕ) → q ≡ k → get (inser
 get_same m k v q e = grind (arith, gets)
 
 -- two insertions at one key
-twice_at : (m : FinMap nat_cmp ℕ) (k v w q : ℕ) → (q ≡ k) ⊎ (q ≡ k → ⊥) → get (insert (insert m k v) k w) q ≡ get (insert m k w) q
+twice_at : (m : FinMap nat_cmp ℕ) (k v w q : ℕ) → (q ≡ k) ⊎ (q ≡ k → ⊥)
+    → get (insert (insert m k v) k w) q ≡ get (insert m k w) q
 twice_at m k v w q (inl e) = get_same _ k w q e ∙ sym (get_same m k w q e)
 twice_at m k v w q (inr none) = get_other _ k w q none ∙ (get_other m k v q none ∙ sym (get_other m k w q none))
 

@@ -7,32 +7,41 @@ use Rattle.swd_port.specs.Phases.{flipped}
 use Rattle.swd_port.specs.Port.{Port, idle_link, Register, DrwWrite, Idle, Awaits, Drw, made}
 use Rattle.swd_port.specs.Choices.{Choice}
 use Rattle.swd_port.specs.Completion.{Completes, completed}
-use Rattle.swd_port.specs.Moving.{bits_driven, after_take, after_pass, Arrives, Damaged, arrival, after_arrival, pending_after}
+use Rattle.swd_port.specs.Moving.{bits_driven, after_take, after_pass, Arrives, Damaged, arrival, after_arrival}
+use Rattle.swd_port.specs.Moving.{pending_after}
 use Rattle.swd_port.specs.Leading.{Leads}
 use Rattle.swd_port.specs.Moves.{reset_target, Around, Kept, Passed, Got, Gave, Spoiled, Given, whole, damaged}
-use Rattle.swd_port.specs.Laws.DataPhases.{DataTaken, TakeMovesNothing, TakeMovesNothingAtRest, DataGiven, DataGivenAtRest, DataGivenExact, TurnaroundPassed, TurnaroundPassedAtRest}
+use Rattle.swd_port.specs.Laws.DataPhases.{DataTaken, TakeMovesNothing, TakeMovesNothingAtRest, DataGiven}
+use Rattle.swd_port.specs.Laws.DataPhases.{DataGivenAtRest, DataGivenExact, TurnaroundPassed, TurnaroundPassedAtRest}
 use Rattle.swd_port.specs.Laws.LineResets.{LineReset, IdleCycles, IdleCyclesAtRest, FirstLineReset}
 use Rattle.swd_bits.proofs.PhaseLemmas.{word_phase, word_flip, bits_phase, phase_told, word_told}
 use Rattle.swd_port.proofs.CompletionLaws.{kept, none_done, same}
 
 -- the 33 bits of a value, as they are got
 got_whole : (value bits : ℕ) → bits ≡ phase_number value → value < 2 ^ 32 → Got None value bits
-got_whole value bits e range = whole refl (sym (ap (low_bits 33) e ∙ bits_phase value range)) (ap word_in e ∙ word_phase value range)
+got_whole value bits e range = whole refl (sym (ap (low_bits 33) e ∙ bits_phase value range))
+    (ap word_in e ∙ word_phase value range)
 
-got_damaged : (place value bits : ℕ) → bits ≡ flipped (Some place) (phase_number value) → value < 2 ^ 32 → bits < 2 ^ 33 → Got (Some place) value bits
+got_damaged : (place value bits : ℕ) → bits ≡ flipped (Some place) (phase_number value) → value < 2 ^ 32 → bits < 2 ^ 33
+    → Got (Some place) value bits
 got_damaged place value bits e range fits =
     let none : word_in bits ≡ None = ap word_in e ∙ word_flip value place range in
-    damaged place refl (λ word small is. absurd (let some : word_in bits ≡ Some word = word_told bits word fits small (sym is) in let both : Some word ≡ None = sym some ∙ none in cc)) none
+    damaged place refl (λ word small is.
+    absurd (let some : word_in bits ≡ Some word = word_told bits word fits small (sym is) in let both : Some word ≡
+    None = sym some ∙ none in cc)) none
 
-got : (flip : Option ℕ) (value bits : ℕ) → bits ≡ flipped flip (phase_number value) → value < 2 ^ 32 → bits < 2 ^ 33 → Got flip value bits
+got : (flip : Option ℕ) (value bits : ℕ) → bits ≡ flipped flip (phase_number value) → value < 2 ^ 32 → bits < 2 ^ 33
+    → Got flip value bits
 got None value bits e range fits = got_whole value bits e range
 got (Some place) value bits e range fits = got_damaged place value bits e range fits
 
 -- a completion after such a step might as well have come before it
-before_step : (step : Port → Port) → ((c : Choice) (s : Port) → completed c (step s) ≡ step (completed c s)) → (s a b t : Port) → Completes s a → b ≡ step a → Completes b t →
+before_step : (step : Port → Port) → ((c : Choice) (s : Port) → completed c (step s) ≡ step (completed c s))
+    → (s a b t : Port) → Completes s a → b ≡ step a → Completes b t →
     (d : Port) × Completes s d × (t ≡ step d)
 before_step step moves s a b t first is (inl e) = (a, first, e ∙ is)
-before_step step moves s a b t (inl f) is (inr (c, fits, e)) = (completed c s, inr (c, fits, refl), e ∙ ap (completed c) (is ∙ ap step f) ∙ moves c s)
+before_step step moves s a b t (inl f) is (inr (c, fits, e)) =
+    (completed c s, inr (c, fits, refl), e ∙ ap (completed c) (is ∙ ap step f) ∙ moves c s)
 before_step step moves s a b t (inr (d, range, f)) is (inr (c, fits, e)) =
     (a, inr (d, range, f), e ∙ ap (completed c) is ∙ moves c a ∙ ap step (same c a (ap (λ p. p.target.pending) f)))
 
@@ -44,8 +53,13 @@ data_taken flip value bits s t line range fits (a, b, first, now, last) =
 
 pub take_moves_nothing : TakeMovesNothing
 take_moves_nothing bits s t (a, b, first, now, last) =
-    let (d, done, e) : (d : Port) × Completes s d × (t ≡ after_take d) = before_step after_take (λ c p. refl) s a b t first now.after last in
-    (d, done, record { due = ap (λ p. p.link.due) e; target = ap (λ p. p.target) e; tally = ap (λ p. p.tally) e }, ap (λ p. p.link.line) e)
+    let (d, done, e) : (d : Port) × Completes s d
+    × (t ≡ after_take d) = before_step after_take (λ c p. refl) s a b t first now.after last in (
+      d,
+      done,
+      record { due = ap (λ p. p.link.due) e; target = ap (λ p. p.target) e; tally = ap (λ p. p.tally) e },
+      ap (λ p. p.link.line) e,
+    )
 
 pub take_moves_nothing_at_rest : TakeMovesNothingAtRest
 take_moves_nothing_at_rest bits s t none h =
@@ -58,8 +72,13 @@ PassedAfter s t = (a : Port) × Completes s a × Passed a t × (t.link.line ≡ 
 
 passed_after : (s a b t : Port) → Completes s a → b ≡ after_pass a → Completes b t → PassedAfter s t
 passed_after s a b t first now last =
-    let (d, done, e) : (d : Port) × Completes s d × (t ≡ after_pass d) = before_step after_pass (λ c p. refl) s a b t first now last in
-    (d, done, record { due = ap (λ p. p.link.due) e; target = ap (λ p. p.target) e; tally = ap (λ p. p.tally) e }, ap (λ p. p.link.line) e)
+    let (d, done, e) : (d : Port) × Completes s d
+    × (t ≡ after_pass d) = before_step after_pass (λ c p. refl) s a b t first now last in (
+      d,
+      done,
+      record { due = ap (λ p. p.link.due) e; target = ap (λ p. p.target) e; tally = ap (λ p. p.tally) e },
+      ap (λ p. p.link.line) e,
+    )
 
 passed_at_rest : (s t : Port) → s.target.pending ≡ None → PassedAfter s t → Passed s t × (t.link.line ≡ s.link.line)
 passed_at_rest s t none h = subst (λ p. Passed p t × (t.link.line ≡ p.link.line)) (none_done s h.0 none h.1) (h.2, h.3)
@@ -77,16 +96,23 @@ gave r word s t e = record { link = ap (λ p. p.link) e; target = ap (λ p. p.ta
 spoiled : (s t : Port) → t ≡ after_arrival Damaged s → Spoiled s t
 spoiled s t e = record { link = ap (λ p. p.link) e; target = ap (λ p. p.target) e; tally = ap (λ p. p.tally) e }
 
-arrives : (r : Register) (word sent : ℕ) → sent ≡ phase_number word → word < 2 ^ 32 → arrival (Awaits r None) sent ≡ Arrives r word
+arrives : (r : Register) (word sent : ℕ) → sent ≡ phase_number word → word < 2 ^ 32
+    → arrival (Awaits r None) sent ≡ Arrives r word
 arrives r word sent e range = rw (e, word_phase word range) refl
 
-spoils : (r : Register) (place word sent : ℕ) → sent ≡ phase_number word → word < 2 ^ 32 → arrival (Awaits r (Some place)) sent ≡ Damaged
+spoils : (r : Register) (place word sent : ℕ) → sent ≡ phase_number word → word < 2 ^ 32
+    → arrival (Awaits r (Some place)) sent ≡ Damaged
 spoils r place word sent e range = rw (e, word_flip word place range) refl
 
-given : (r : Register) (flip : Option ℕ) (word sent : ℕ) (s t : Port) → s.link.line ≡ Awaits r flip → word < 2 ^ 32 → sent ≡ phase_number word → t ≡ after_arrival (arrival s.link.line sent) s → Given r flip word s t
-given r None word sent s t line range is e = whole refl (gave r word s t (e ∙ ap (λ x. after_arrival (arrival x sent) s) line ∙ ap (λ x. after_arrival x s) (arrives r word sent is range)))
+given : (r : Register) (flip : Option ℕ) (word sent : ℕ) (s t : Port) → s.link.line ≡ Awaits r flip → word < 2 ^ 32
+    → sent ≡ phase_number word → t ≡ after_arrival (arrival s.link.line sent) s → Given r flip word s t
+given r None word sent s t line range is e = whole refl
+    (gave r word s t (e ∙ ap (λ x. after_arrival (arrival x sent) s) line
+    ∙ ap (λ x. after_arrival x s) (arrives r word sent is range)))
 given r (Some place) word sent s t line range is e =
-    damaged place refl (spoiled s t (e ∙ ap (λ x. after_arrival (arrival x sent) s) line ∙ ap (λ x. after_arrival x s) (spoils r place word sent is range)))
+    damaged place refl (spoiled s t
+    (e ∙ ap (λ x. after_arrival (arrival x sent) s) line
+    ∙ ap (λ x. after_arrival x s) (spoils r place word sent is range)))
 
 pub data_given : DataGiven
 data_given r flip word sent s t line range fits is (a, b, first, now, last) =
@@ -99,18 +125,23 @@ data_given_at_rest r flip word sent s t line range fits is none h =
     let found : Around (Given r flip word) s t = data_given r flip word sent s t line range fits is h in
     (found.1, subst (λ p. Given r flip word p found.1) (none_done s found.0 none found.2) found.3, found.4)
 
-only_drw_pends : (r : Register) (word : ℕ) (pending : Option Drw) → r ≢ DrwWrite → pending_after (Arrives r word) pending ≡ pending
+only_drw_pends : (r : Register) (word : ℕ) (pending : Option Drw) → r ≢ DrwWrite
+    → pending_after (Arrives r word) pending ≡ pending
 only_drw_pends DrwWrite word pending other = absurd (other refl)
 only_drw_pends r word pending other = refl
 
-given_rests : (r : Register) (flip : Option ℕ) (word : ℕ) (s t : Port) → s.target.pending ≡ None → r ≢ DrwWrite → Given r flip word s t → t.target.pending ≡ None
-given_rests r flip word s t none other (whole e g) = ap (λ x. x.pending) g.target ∙ only_drw_pends r word s.target.pending other ∙ none
+given_rests : (r : Register) (flip : Option ℕ) (word : ℕ) (s t : Port) → s.target.pending ≡ None → r ≢ DrwWrite
+    → Given r flip word s t → t.target.pending ≡ None
+given_rests r flip word s t none other (whole e g) = ap (λ x. x.pending) g.target
+    ∙ only_drw_pends r word s.target.pending other ∙ none
 given_rests r flip word s t none other (damaged place e g) = ap (λ x. x.pending) g.target ∙ none
 
 pub data_given_exact : DataGivenExact
 data_given_exact r flip word sent s t line range fits is none other h =
-    let found : (b : Port) × Given r flip word s b × Completes b t = data_given_at_rest r flip word sent s t line range fits is none h in
-    subst (Given r flip word s) (sym (none_done found.0 t (given_rests r flip word s found.0 none other found.1) found.2)) found.1
+    let found : (b : Port) × Given r flip word s b
+    × Completes b t = data_given_at_rest r flip word sent s t line range fits is none h in
+    subst (Given r flip word s)
+    (sym (none_done found.0 t (given_rests r flip word s found.0 none other found.1) found.2)) found.1
 
 -- ones and zeros
 resets : (n : ℕ) → n ≢ 0 → (n == 0) ≡ false
@@ -120,7 +151,8 @@ abbrev after_ones : Port → Port
 after_ones s = record s { link = idle_link; target = reset_target s }
 
 led : (ones : ℕ) (s t : Port) → ones ≢ 0 → Leads s ones t → (a : Port) × Completes s a × (t ≡ after_ones a)
-led ones s t other (a, b, first, now, last) = before_step after_ones (λ c p. refl) s a b t first (now.after ∙ rw (resets ones other) refl) last
+led ones s t other (a, b, first, now, last) = before_step after_ones (λ c p. refl) s a b t first
+    (now.after ∙ rw (resets ones other) refl) last
 
 pub line_reset : LineReset
 line_reset ones s t other h =
@@ -135,5 +167,6 @@ idle_cycles_at_rest s t none h = passed_at_rest s t none (idle_cycles s t h)
 
 pub first_line_reset : FirstLineReset
 first_line_reset identification ones m t other h =
-    let found : (a : Port) × Completes (made identification m) a × (t ≡ after_ones a) = led ones (made identification m) t other h in
+    let found : (a : Port) × Completes (made identification m) a
+    × (t ≡ after_ones a) = led ones (made identification m) t other h in
     found.2 ∙ ap after_ones (none_done (made identification m) found.0 refl found.1)

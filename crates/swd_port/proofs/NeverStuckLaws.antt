@@ -1,18 +1,17 @@
 -- A step for each state: the pending transfer takes effect, and an unknown word is 0.
-use Rattle.std.proofs.Common.{◌≡◌, ℕ, ◌<◌, ◌^◌, ◌+◌, ◌*◌, Bool, true, false, Option, Some, None, refl, inl, inr, arith}
+use Rattle.std.proofs.Common.{ℕ, ◌<◌, ◌^◌, Bool, true, false, Option, Some, None, refl, inl, inr, arith}
 use Rattle.std.specs.Prelude.{IfSome, unwrap_or}
-use Rattle.swd_bits.specs.Bits.{bit}
-use Rattle.swd_bits.specs.declared.request.Request.{Request}
 use Rattle.swd_port.specs.Registers.{ctrl_stat_read}
 use Rattle.swd_port.specs.PlainMemory.{PlainMemory, word_at}
-use Rattle.swd_port.specs.Port.{Port, Target, Register, DpidrRead, CtrlStatRead, ResendRead, DpZeroRead, Drw, Reads, Writes, register}
-use Rattle.swd_port.specs.Choices.{Mark, IsMark, is_wait, Choice, IsChoice}
+use Rattle.swd_port.specs.Port.{Target, Register, DpidrRead, CtrlStatRead, ResendRead, DpZeroRead, Drw, Reads}
+use Rattle.swd_port.specs.Port.{Writes, register}
+use Rattle.swd_port.specs.Choices.{is_wait, Choice, IsChoice}
 use Rattle.swd_port.specs.Answers.{Reply, Okay, Waits, Faults, Silent, seen_at}
 use Rattle.swd_port.specs.Completion.{completed, fails, buffer_after}
-use Rattle.swd_port.specs.Asking.{value_in, status_in, reply_in, after_reply, IsSettled, IsWordRead}
+use Rattle.swd_port.specs.Asking.{value_in, reply_in, after_reply, IsSettled, IsWordRead}
 use Rattle.swd_port.specs.Moving.{bits_driven, after_take, arrival, after_arrival, after_pass}
 use Rattle.swd_port.specs.Leading.{after_lead}
-use Rattle.swd_port.specs.Laws.NeverStuck.{IsOfWords, EachRequestGoes, EachCallGoes}
+use Rattle.swd_port.specs.Laws.NeverStuck.{EachRequestGoes, EachCallGoes}
 use Rattle.swd_port.proofs.AnswerLaws.{sees_seen_at, deaf_silent}
 
 abbrev zeros : Choice
@@ -38,7 +37,8 @@ completed_buffer (Some Reads) false at m buffer words h = words at
 completed_buffer (Some (Writes word)) true at m buffer words h = tt
 completed_buffer (Some (Writes word)) false at m buffer words h = h
 
-value_word : (busy : Bool) (r : Register) (x : Target) → x.identification < 2 ^ 32 → IfSome x.buffer (λ word. word < 2 ^ 32) →
+value_word : (busy : Bool) (r : Register) (x : Target) → x.identification < 2 ^ 32
+    → IfSome x.buffer (λ word. word < 2 ^ 32) →
     IfSome x.last_returned (λ word. word < 2 ^ 32) → value_in busy r 0 x < 2 ^ 32
 value_word busy DpidrRead x i b l = i
 value_word busy CtrlStatRead x i b l = status_word x.sticky_error x.read_ok x.write_error x.debug_power x.system_power _
@@ -67,7 +67,8 @@ each_request_goes mark s q legal words =
     let b = after_reply mark reply r q zeros a in
     let x = s.target in
     let at = unwrap_or x.tar 0 in
-    let buffer = completed_buffer x.pending (fails x.pending at x.memory) at x.memory x.buffer words.memory words.buffer in (
+    let buffer = completed_buffer x.pending (fails x.pending at x.memory) at x.memory x.buffer words.memory
+    words.buffer in (
       seen_at mark reply,
       b,
       a,
@@ -86,8 +87,13 @@ each_request_goes mark s q legal words =
 
 pub each_call_goes : EachCallGoes
 each_call_goes = record {
-  taken = λ s. (bits_driven s.link.line, after_take s, (s, after_take s, inl refl, record { gets = refl; after = refl }, inl refl));
-  given = λ s sent. let t = after_arrival (arrival s.link.line sent) s in (t, (s, t, inl refl, record { after = refl }, inl refl));
+  taken = λ s. (
+    bits_driven s.link.line,
+    after_take s,
+    (s, after_take s, inl refl, record { gets = refl; after = refl }, inl refl),
+  );
+  given = λ s sent. let t = after_arrival (arrival s.link.line sent) s in
+      (t, (s, t, inl refl, record { after = refl }, inl refl));
   passed = λ s. (after_pass s, (s, after_pass s, inl refl, record { after = refl }, inl refl));
   led = λ s ones. (after_lead ones s, (s, after_lead ones s, inl refl, record { after = refl }, inl refl));
 }

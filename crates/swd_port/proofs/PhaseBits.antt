@@ -9,7 +9,8 @@ use Rattle.swd_bits.specs.Bits.{low_bits}
 use Rattle.swd_bits.specs.Wire.{phase}
 use Rattle.swd_bits.specs.Phases.{word_in}
 use Rattle.swd_port.specs.Phases.{flipped, flip_at, undriven}
-use Rattle.swd_bits.proofs.PhaseLemmas.{bits_phase, phase_is, word_missing, word_flip, word_phase, word_told, phase_told, word_ones}
+use Rattle.swd_bits.proofs.PhaseLemmas.{bits_phase, phase_is, word_missing, word_flip, word_phase, word_told}
+use Rattle.swd_bits.proofs.PhaseLemmas.{phase_told, word_ones}
 
 first_flips : (r : ℕ) → r < 2 → (bit_xor r 1 == 1) ≡ not (r == 1)
 first_flips zero h = refl
@@ -45,4 +46,14 @@ pub bits_undriven : low_bits 33 undriven ≡ replicate 33 true
 unfolding low_bits
 bits_undriven = refl
 
-pub ruleset phase_laws = (bits_phase, phase_is, word_is, word_missing, bits_flipped, word_phase, word_flip, bits_undriven, word_ones)
+pub ruleset phase_laws = (
+  bits_phase,
+  phase_is,
+  word_is,
+  word_missing,
+  bits_flipped,
+  word_phase,
+  word_flip,
+  bits_undriven,
+  word_ones,
+)

@@ -6,7 +6,8 @@ use Rattle.swd_port.specs.PlainMemory.{reads}
 pub reads_more : (addr count : ℕ) → reads addr (suc count) ≡ reads addr count ++ Read (addr + 4 * count) ∷ []
 reads_more addr zero = ap (λ a. Read a ∷ []) (omega arith)
 reads_more addr (suc count) =
-    ap (λ x. Read addr ∷ x) (reads_more (addr + 4) count ∙ ap (λ a. reads (addr + 4) count ++ Read a ∷ []) (omega arith))
+    ap (λ x. Read addr ∷ x) (reads_more (addr + 4) count
+    ∙ ap (λ a. reads (addr + 4) count ++ Read a ∷ []) (omega arith))
 
 pub reads_next : (addr count : ℕ) → reads addr (count + 1) ≡ reads addr count ++ Read (addr + 4 * count) ∷ []
 reads_next addr count = ap (reads addr) (add-one count) ∙ reads_more addr count

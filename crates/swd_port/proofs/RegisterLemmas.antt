@@ -14,13 +14,16 @@ digit (suc zero) h = refl
 digit (suc (suc n)) h = absurd (omega arith)
 
 -- a mask of a high and a low block
-two_blocks : (w k high low : ℕ) → low < 2 ^ k → w % 2 ^ k < 2 ^ k → bit_and w (high * 2 ^ k + low) ≡ bit_and (w / 2 ^ k) high * 2 ^ k + bit_and (w % 2 ^ k) low
-two_blocks w k high low h j = ap (λ x. bit_and x (high * 2 ^ k + low)) (sym (shr_split w k)) ∙ and_block k (w / 2 ^ k) high (w % 2 ^ k) low j h
+two_blocks : (w k high low : ℕ) → low < 2 ^ k → w % 2 ^ k < 2 ^ k
+    → bit_and w (high * 2 ^ k + low) ≡ bit_and (w / 2 ^ k) high * 2 ^ k + bit_and (w % 2 ^ k) low
+two_blocks w k high low h j = ap (λ x. bit_and x (high * 2 ^ k + low)) (sym (shr_split w k))
+    ∙ and_block k (w / 2 ^ k) high (w % 2 ^ k) low j h
 
 -- the bits that SELECT names
 pub select_bits : (w : ℕ) → bit_and w select_mask ≡ w / 2 ^ 24 % 2 ^ 8 * 2 ^ 24 + w % 2 ^ 8
 select_bits w =
-    let parts : bit_and w select_mask ≡ bit_and (w / 2 ^ 24) 255 * 2 ^ 24 + bit_and (w % 2 ^ 24) 255 = two_blocks w 24 255 255 (omega arith) (omega arith) in
+    let parts : bit_and w select_mask ≡ bit_and (w / 2 ^ 24) 255 * 2 ^ 24 + bit_and (w % 2 ^ 24) 255 = two_blocks w 24
+    255 255 (omega arith) (omega arith) in
     let high : bit_and (w / 2 ^ 24) 255 ≡ w / 2 ^ 24 % 2 ^ 8 = and_mask (w / 2 ^ 24) 8 in
     let low : bit_and (w % 2 ^ 24) 255 ≡ w % 2 ^ 24 % 2 ^ 8 = and_mask (w % 2 ^ 24) 8 in
     omega arith
@@ -31,8 +34,10 @@ select_kept w = let e = select_bits w in omega arith
 -- the bits that CSW names
 pub csw_bits : (w : ℕ) → bit_and w csw_mask ≡ w / 2 ^ 24 % 2 ^ 7 * 2 ^ 24 + w / 2 ^ 4 % 2 ^ 4 * 2 ^ 4 + w % 2 ^ 3
 csw_bits w =
-    let parts : bit_and w csw_mask ≡ bit_and (w / 2 ^ 24) 127 * 2 ^ 24 + bit_and (w % 2 ^ 24) 247 = two_blocks w 24 127 247 (omega arith) (omega arith) in
-    let more : bit_and (w % 2 ^ 24) 247 ≡ bit_and (w % 2 ^ 24 / 2 ^ 4) 15 * 2 ^ 4 + bit_and (w % 2 ^ 24 % 2 ^ 4) 7 = two_blocks (w % 2 ^ 24) 4 15 7 (omega arith) (omega arith) in
+    let parts : bit_and w csw_mask ≡ bit_and (w / 2 ^ 24) 127 * 2 ^ 24 + bit_and (w % 2 ^ 24) 247 = two_blocks w 24 127
+    247 (omega arith) (omega arith) in
+    let more : bit_and (w % 2 ^ 24) 247 ≡ bit_and (w % 2 ^ 24 / 2 ^ 4) 15 * 2 ^ 4 + bit_and (w % 2 ^ 24 % 2 ^ 4) 7 =
+    two_blocks (w % 2 ^ 24) 4 15 7 (omega arith) (omega arith) in
     let high : bit_and (w / 2 ^ 24) 127 ≡ w / 2 ^ 24 % 2 ^ 7 = and_mask (w / 2 ^ 24) 7 in
     let middle : bit_and (w % 2 ^ 24 / 2 ^ 4) 15 ≡ w % 2 ^ 24 / 2 ^ 4 % 2 ^ 4 = and_mask (w % 2 ^ 24 / 2 ^ 4) 4 in
     let low : bit_and (w % 2 ^ 24 % 2 ^ 4) 7 ≡ w % 2 ^ 24 % 2 ^ 4 % 2 ^ 3 = and_mask (w % 2 ^ 24 % 2 ^ 4) 3 in
@@ -53,8 +58,10 @@ select_joined s a b d e f g =
     let low : d ≡ s.dpbanksel % 2 ^ 4 = g ∙ and_mask s.dpbanksel 4 in
     let top : a * 16777216 % 4294967296 ≡ a % 256 * 2 ^ 24 = omega arith in
     let place : b * 16 % 4294967296 ≡ b * 16 = omega arith in
-    let one : bit_or (a % 256 * 2 ^ 24) (b * 16) ≡ a % 256 * 2 ^ 24 + b * 16 = or_shifted (a % 256) 24 (b * 16) (omega arith) in
-    let two : bit_or ((a % 256 * 2 ^ 20 + b) * 2 ^ 4) d ≡ (a % 256 * 2 ^ 20 + b) * 2 ^ 4 + d = or_shifted (a % 256 * 2 ^ 20 + b) 4 d (omega arith) in
+    let one : bit_or (a % 256 * 2 ^ 24) (b * 16) ≡ a % 256 * 2 ^ 24 + b * 16 = or_shifted (a % 256) 24 (b * 16)
+    (omega arith) in
+    let two : bit_or ((a % 256 * 2 ^ 20 + b) * 2 ^ 4) d ≡ (a % 256 * 2 ^ 20 + b) * 2 ^ 4 + d = or_shifted
+    (a % 256 * 2 ^ 20 + b) 4 d (omega arith) in
     let same : a % 256 * 2 ^ 24 + b * 16 ≡ (a % 256 * 2 ^ 20 + b) * 2 ^ 4 = omega arith in
     rw (top, place, one, same, two) (omega arith)
 

@@ -6,10 +6,13 @@ use Rattle.swd_port.specs.Registers.{bit_of, ctrl_stat_read}
 use Rattle.swd_bits.specs.Phases.{phase_number}
 use Rattle.swd_port.specs.Phases.{flipped}
 use Rattle.swd_port.specs.Port.{Target, Register, Drives, Drw}
-use Rattle.swd_port.specs.Asking.{is_posted, value_read, value_in, status_in, buffer_once_read, pending_once_read, after_okay}
+use Rattle.swd_port.specs.Asking.{is_posted, value_read, value_in, status_in, buffer_once_read, pending_once_read}
+use Rattle.swd_port.specs.Asking.{after_okay}
 use Rattle.swd_port.specs.Answers.{is_exempt}
 use Rattle.swd_port.specs.Transfers.{Carries}
-use Rattle.swd_port.specs.Laws.WordsRead.{StatusWord, holds, IdentificationReturned, StatusReturned, BufferReturned, ValueResent, CarriedByRequest, CarriedWhereHeld, CarriedWhereRefused, CarriedWherePassed, CarriedByReset, Clears, FlagsCleared}
+use Rattle.swd_port.specs.Laws.WordsRead.{StatusWord, holds, IdentificationReturned, StatusReturned, BufferReturned}
+use Rattle.swd_port.specs.Laws.WordsRead.{ValueResent, CarriedByRequest, CarriedWhereHeld, CarriedWhereRefused}
+use Rattle.swd_port.specs.Laws.WordsRead.{CarriedWherePassed, CarriedByReset, Clears, FlagsCleared}
 
 -- CTRL/STAT
 sticky_held : (a b d e f g : Bool) → holds 0x20 (ctrl_stat_read a b d e f g) ≡ a
@@ -68,7 +71,8 @@ taken_by : (b : Bool) (x y : Option ℕ) → b ≡ true → (if b then x else y)
 taken_by b x y e = rw e refl
 
 -- a posted read's value is the buffer's
-posted_value : (r : Register) (identification status filler : ℕ) (last_returned buffer : Option ℕ) → is_posted r ≡ true →
+posted_value : (r : Register) (identification status filler : ℕ) (last_returned buffer : Option ℕ) → is_posted r ≡ true
+    →
     value_read r identification status last_returned buffer filler ≡ unwrap_or buffer filler
 posted_value r identification status filler last_returned buffer e = grind arith
 
@@ -76,22 +80,39 @@ pub identification_returned : IdentificationReturned
 identification_returned flip s t h = record { line = h.line; range = h.value_range refl }
 
 pub status_returned : StatusReturned
-status_returned flip s t h = (record { line = h.line; range = h.value_range refl }, status_word s.target.sticky_error s.target.read_ok s.target.write_error s.target.debug_power s.target.system_power _)
+status_returned flip s t h = (
+  record { line = h.line; range = h.value_range refl },
+  status_word s.target.sticky_error s.target.read_ok
+      s.target.write_error s.target.debug_power s.target.system_power _,
+)
 
 pub buffer_returned : BufferReturned
 buffer_returned r flip value s t posted known h =
-    let is : value_in h.busy r h.filler s.target ≡ value = posted_value r s.target.identification (status_in h.busy s.target) h.filler s.target.last_returned s.target.buffer posted ∙ returned value h.filler s.target.buffer known in (
-      record { line = h.line ∙ ap (λ n. Drives (flipped flip (phase_number n))) is; range = subst (λ n. n < 2 ^ 32) is (h.value_range refl) },
+    let is : value_in h.busy r h.filler s.target ≡ value = posted_value r s.target.identification
+    (status_in h.busy s.target) h.filler s.target.last_returned s.target.buffer posted
+    ∙ returned value h.filler s.target.buffer known in (
+      record {
+        line = h.line ∙ ap (λ n. Drives (flipped flip (phase_number n))) is;
+        range = subst (λ n. n < 2 ^ 32) is
+            (h.value_range refl);
+      },
       ap (λ x. x.last_returned) h.target ∙ taken_by (is_posted r) s.target.buffer s.target.last_returned posted ∙ known,
     )
 
 pub value_resent : ValueResent
 value_resent flip value s t known h =
-    let is : unwrap_or s.target.last_returned h.filler ≡ value = returned value h.filler s.target.last_returned known in
-    (record { line = h.line ∙ ap (λ n. Drives (flipped flip (phase_number n))) is; range = subst (λ n. n < 2 ^ 32) is (h.value_range refl) }, ap (λ x. x.last_returned) h.target ∙ known)
+    let is : unwrap_or s.target.last_returned h.filler ≡ value = returned value h.filler s.target.last_returned known in (
+      record {
+        line = h.line ∙ ap (λ n. Drives (flipped flip (phase_number n))) is;
+        range = subst (λ n. n < 2 ^ 32) is
+            (h.value_range refl);
+      },
+      ap (λ x. x.last_returned) h.target ∙ known,
+    )
 
 -- requests that leave a transfer alone
-moves_none : (r : Register) (csw : ℕ) (tar buffer : Option ℕ) → is_exempt r ≡ true → buffer_once_read r csw tar buffer ≡ buffer
+moves_none : (r : Register) (csw : ℕ) (tar buffer : Option ℕ) → is_exempt r ≡ true
+    → buffer_once_read r csw tar buffer ≡ buffer
 moves_none r csw tar buffer e = grind arith
 
 starts_none : (r : Register) (pending : Option Drw) → is_exempt r ≡ true → pending_once_read r pending ≡ pending
@@ -109,17 +130,30 @@ Leaves x y = Carries x y × (y.last_returned ≡ x.last_returned)
 
 exempt_carries : (busy : Bool) (r : Register) (x : Target) → is_exempt r ≡ true → Leaves x (after_okay busy r x)
 exempt_carries busy r x e = (
-  record { pending = starts_none r x.pending e; tar = refl; memory = refl; sticky_error = refl; buffer = moves_none r _ x.tar x.buffer e; increments = refl },
+  record {
+    pending = starts_none r x.pending e;
+    tar = refl;
+    memory = refl;
+    sticky_error = refl;
+    buffer = moves_none r _
+        x.tar x.buffer e;
+    increments = refl;
+  },
   chosen (is_posted r) x.buffer x.last_returned (posts_none r e),
 )
 
 pub carried_by_request : CarriedByRequest
-carried_by_request r read flip s t (inl e) h = subst (Leaves s.target) (sym h.target) (exempt_carries h.busy r s.target e)
-carried_by_request r read flip s t (inr e) h = subst (Leaves s.target) (sym (h.target ∙ ap (λ x. after_okay h.busy x s.target) e)) (record { pending = refl; tar = refl; memory = refl; sticky_error = refl; buffer = refl; increments = refl }, refl)
+carried_by_request r read flip s t (inl e) h = subst (Leaves s.target) (sym h.target)
+    (exempt_carries h.busy r s.target e)
+carried_by_request r read flip s t (inr e) h = subst (Leaves s.target)
+    (sym (h.target ∙ ap (λ x. after_okay h.busy x s.target) e))
+    (record { pending = refl; tar = refl; memory = refl; sticky_error = refl; buffer = refl; increments = refl }, refl)
 
 pub carried_where_held : CarriedWhereHeld
-carried_where_held r s t (inl h) = subst (Carries s.target) (sym h.target) (record { pending = refl; tar = refl; memory = refl; sticky_error = refl; buffer = refl; increments = refl })
-carried_where_held r s t (inr h) = subst (Carries s.target) (sym h.target) (record { pending = refl; tar = refl; memory = refl; sticky_error = refl; buffer = refl; increments = refl })
+carried_where_held r s t (inl h) = subst (Carries s.target) (sym h.target)
+    (record { pending = refl; tar = refl; memory = refl; sticky_error = refl; buffer = refl; increments = refl })
+carried_where_held r s t (inr h) = subst (Carries s.target) (sym h.target)
+    (record { pending = refl; tar = refl; memory = refl; sticky_error = refl; buffer = refl; increments = refl })
 
 pub carried_where_refused : CarriedWhereRefused
 carried_where_refused r access s t h e = record {
@@ -132,10 +166,12 @@ carried_where_refused r access s t h e = record {
 }
 
 pub carried_where_passed : CarriedWherePassed
-carried_where_passed s t h = subst (Carries s.target) (sym h.target) (record { pending = refl; tar = refl; memory = refl; sticky_error = refl; buffer = refl; increments = refl })
+carried_where_passed s t h = subst (Carries s.target) (sym h.target)
+    (record { pending = refl; tar = refl; memory = refl; sticky_error = refl; buffer = refl; increments = refl })
 
 pub carried_by_reset : CarriedByReset
-carried_by_reset s t h = subst (Carries s.target) (sym h.target) (record { pending = refl; tar = refl; memory = refl; sticky_error = refl; buffer = refl; increments = refl })
+carried_by_reset s t h = subst (Carries s.target) (sym h.target)
+    (record { pending = refl; tar = refl; memory = refl; sticky_error = refl; buffer = refl; increments = refl })
 
 -- ABORT
 cleared : (flag bit : Bool) → bit ≡ true → (flag && not bit) ≡ false

@@ -37,9 +37,28 @@ abbrev after : Mark → Request → Port → Port
 after mark q s = after_reply mark (reply_in mark s.target q) (register s.target.select q) q choice s
 
 -- such a request is a call of `ask`
-asks : (mark : Mark) (q : Request) (s : Port) → IsMark mark → IsSettled (reply_in mark s.target q) (register s.target.select q) s.target.pending →
-    IsWordRead (reply_in mark s.target q) q.read (value_in (is_wait mark) (register s.target.select q) choice.filler s.target) → Asks s q (seen_at mark (reply_in mark s.target q)) (after mark q s)
-asks mark q s legal settled word = (s, after mark q s, mark, choice, inl refl, record { legal = legal; choice = choice_fits; settled = settled; word = word; sees = sees_seen_at mark (reply_in mark s.target q) legal (deaf_silent mark _ _); after = refl }, inl refl)
+asks : (mark : Mark) (q : Request) (s : Port) → IsMark mark
+    → IsSettled (reply_in mark s.target q) (register s.target.select q) s.target.pending →
+    IsWordRead (reply_in mark s.target q) q.read
+    (value_in (is_wait mark) (register s.target.select q) choice.filler s.target)
+    → Asks s q (seen_at mark (reply_in mark s.target q)) (after mark q s)
+asks mark q s legal settled word = (
+  s,
+  after mark q s,
+  mark,
+  choice,
+  inl refl,
+  record {
+    legal = legal;
+    choice = choice_fits;
+    settled = settled;
+    word = word;
+    sees = sees_seen_at mark
+        (reply_in mark s.target q) legal (deaf_silent mark _ _);
+    after = refl;
+  },
+  inl refl,
+)
 
 -- a memory of one word
 abbrev memory : PlainMemory
@@ -51,7 +70,15 @@ one_word = grind (arith, gets)
 -- a target that is ready for a transfer at that word
 abbrev start : Port
 start = record (made 0x2ba0_1477 memory) {
-  target = record (made_target 0x2ba0_1477 memory) { reset = Live; debug_power = true; system_power = true; increments = true; csw_upper = 0x23; tar = Some 0x2000_0000 };
+  target = record (made_target 0x2ba0_1477 memory) {
+    reset = Live;
+    debug_power = true;
+    system_power = true;
+    increments = true;
+    csw_upper = 0x23;
+    tar = Some
+        0x2000_0000;
+  };
 }
 
 ready : Ready start.target
@@ -130,7 +157,15 @@ confirmed = (
   Clean,
   choice,
   inr (choice, choice_fits, refl),
-  record { legal = tt; choice = choice_fits; settled = rw one_word (λ e. refl); word = rw one_word (omega arith); sees = rw one_word refl; after = refl },
+  record {
+    legal = tt;
+    choice = choice_fits;
+    settled = rw one_word (λ e. refl);
+    word = rw one_word (omega arith);
+    sees =
+        rw one_word refl;
+    after = refl;
+  },
   inl refl,
 )
 
@@ -142,7 +177,13 @@ write_damaged : Asks start (ap_write RC) 1 damaged
 write_damaged = asks (Flip 0) (ap_write RC) start (omega arith) (λ e. refl) tt
 
 damaged_given : Gives damaged (phase_number 1) (after_arrival Damaged damaged)
-damaged_given = (damaged, after_arrival Damaged damaged, inl refl, record { after = rw (word_flip 1 0 (omega arith)) refl }, inl refl)
+damaged_given = (
+  damaged,
+  after_arrival Damaged damaged,
+  inl refl,
+  record { after = rw (word_flip 1 0 (omega arith)) refl },
+  inl refl,
+)
 
 damaged_is_flagged : (after_arrival Damaged damaged).target.write_error ≡ true
 damaged_is_flagged = refl

@@ -69,7 +69,8 @@ before_any_lead m = refl
 lost_before_any_lead : (m : PlainMemory) → (asked (dp_read R0) (made 0x2ba0_1477 m)).link.due ≡ Lost
 lost_before_any_lead m = refl
 
-dpidr : (m : PlainMemory) → (asked (dp_read R0) (after_lead 56 (made 0x2ba0_1477 m))).link.line ≡ Drives (phase_number 0x2ba0_1477)
+dpidr : (m : PlainMemory)
+    → (asked (dp_read R0) (after_lead 56 (made 0x2ba0_1477 m))).link.line ≡ Drives (phase_number 0x2ba0_1477)
 dpidr m = refl
 
 unknown_buffer : (m : PlainMemory) → (asked (dp_read RC) (live m)).link.line ≡ Drives (phase_number 0xa5a5_a5a5)
@@ -88,7 +89,8 @@ silent_while_fresh m = refl
 cut_short_sets_write_error : (m : PlainMemory) → value (dp_read R4) (taken (dp_read R0) (cut_short m)) ≡ 0x0000_0080
 cut_short_sets_write_error m = refl
 
-other_bank_ignores : (m : PlainMemory) → value (dp_read R4) (given (dp_write R8) 0 (given (dp_write R4) 0x5000_0000 (given (dp_write R8) 1 (live m)))) ≡ 0
+other_bank_ignores : (m : PlainMemory)
+    → value (dp_read R4) (given (dp_write R8) 0 (given (dp_write R4) 0x5000_0000 (given (dp_write R8) 1 (live m)))) ≡ 0
 other_bank_ignores m = refl
 
 no_power : (m : PlainMemory) → seen (ap_read R0) (live m) ≡ 4
@@ -97,7 +99,8 @@ no_power m = refl
 no_power_sets_sticky_error : (m : PlainMemory) → value (dp_read R4) (asked (ap_read R0) (live m)) ≡ 0x0000_0020
 no_power_sets_sticky_error m = refl
 
-no_power_beside_write_error : (m : PlainMemory) → value (dp_read R4) (asked (ap_read R0) (damaged (dp_write R8) (live m))) ≡ 0x0000_00a0
+no_power_beside_write_error : (m : PlainMemory)
+    → value (dp_read R4) (asked (ap_read R0) (damaged (dp_write R8) (live m))) ≡ 0x0000_00a0
 no_power_beside_write_error m = refl
 
 powered : (m : PlainMemory) → value (dp_read R4) (up m) ≡ 0xf000_0000
@@ -107,7 +110,8 @@ powered m = refl
 abbrev late : PlainMemory → Port
 late m = asked_busy (dp_read R4) (given (dp_write R4) 0x5000_0000 (live m))
 
-late_in_status : (m : PlainMemory) → value_in true CtrlStatRead choice.filler (given (dp_write R4) 0x5000_0000 (live m)).target ≡ 0x5000_0000
+late_in_status : (m : PlainMemory)
+    → value_in true CtrlStatRead choice.filler (given (dp_write R4) 0x5000_0000 (live m)).target ≡ 0x5000_0000
 late_in_status m = refl
 
 late_is_disturbed : (m : PlainMemory) → (late m).tally.disturbed ≡ 1
@@ -123,7 +127,8 @@ late_no_more_for_access_ports : (m : PlainMemory) → seen (ap_read R0) (asked (
 late_no_more_for_access_ports m = refl
 
 -- once it was seen, no busy target finds it late
-stays_there : (m : PlainMemory) → value_in true CtrlStatRead choice.filler (asked (dp_read R4) (late m)).target ≡ 0xf000_0000
+stays_there : (m : PlainMemory)
+    → value_in true CtrlStatRead choice.filler (asked (dp_read R4) (late m)).target ≡ 0xf000_0000
 stays_there m = refl
 
 -- an access port that answers has it
@@ -137,7 +142,8 @@ csw : (m : PlainMemory) → value (dp_read RC) (taken (ap_read R0) (up m)) ≡ 0
 csw m = refl
 
 damaged_write_keeps_returned : (m : PlainMemory) →
-    value (dp_read R8) (given (dp_write R0) 8 (damaged (ap_write R4) (taken (dp_read RC) (taken (ap_read R0) (up m))))) ≡ 0x2300_0052
+    value (dp_read R8) (given (dp_write R0) 8
+    (damaged (ap_write R4) (taken (dp_read RC) (taken (ap_read R0) (up m))))) ≡ 0x2300_0052
 damaged_write_keeps_returned m = refl
 
 -- a write to an address where the memory has no word, done at once
@@ -147,18 +153,23 @@ failed m = completed choice (given (ap_write RC) 1 (given (ap_write R4) 0x3000_0
 bus_error_is_a_fault : (m : PlainMemory) → succeeds_at 0x3000_0000 m ≡ false → seen (dp_read RC) (failed m) ≡ 4
 bus_error_is_a_fault m none = rw none refl
 
-bus_error_in_status : (m : PlainMemory) → succeeds_at 0x3000_0000 m ≡ false → value (dp_read R4) (asked (dp_read RC) (failed m)) ≡ 0xf000_0020
+bus_error_in_status : (m : PlainMemory) → succeeds_at 0x3000_0000 m ≡ false
+    → value (dp_read R4) (asked (dp_read RC) (failed m)) ≡ 0xf000_0020
 bus_error_in_status m none = rw none refl
 
-bus_error_cleared : (m : PlainMemory) → succeeds_at 0x3000_0000 m ≡ false → value (dp_read R4) (given (dp_write R0) 4 (asked (dp_read RC) (failed m))) ≡ 0xf000_0000
+bus_error_cleared : (m : PlainMemory) → succeeds_at 0x3000_0000 m ≡ false
+    → value (dp_read R4) (given (dp_write R0) 4 (asked (dp_read RC) (failed m))) ≡ 0xf000_0000
 bus_error_cleared m none = rw none refl
 
 -- a write to an address where it has one, at the end of a kilobyte
 abbrev moved : Bool → PlainMemory → Port
-moved wraps m = completed (record choice { wraps = wraps }) (given (ap_write RC) 1 (given (ap_write R4) 0x2000_03fc (up m)))
+moved wraps m = completed (record choice { wraps = wraps })
+    (given (ap_write RC) 1 (given (ap_write R4) 0x2000_03fc (up m)))
 
-wraps_inside : (m : PlainMemory) → succeeds_at 0x2000_03fc m ≡ true → value (dp_read RC) (taken (ap_read R4) (moved true m)) ≡ 0x2000_0000
+wraps_inside : (m : PlainMemory) → succeeds_at 0x2000_03fc m ≡ true
+    → value (dp_read RC) (taken (ap_read R4) (moved true m)) ≡ 0x2000_0000
 wraps_inside m there = rw there refl
 
-carries_on : (m : PlainMemory) → succeeds_at 0x2000_03fc m ≡ true → value (dp_read RC) (taken (ap_read R4) (moved false m)) ≡ 0x2000_0400
+carries_on : (m : PlainMemory) → succeeds_at 0x2000_03fc m ≡ true
+    → value (dp_read RC) (taken (ap_read R4) (moved false m)) ≡ 0x2000_0400
 carries_on m there = rw there refl

@@ -10,7 +10,8 @@ use Rattle.swd_bits.specs.Wire.{ack}
 use Rattle.swd_bits.specs.declared.ack.Ack.TheVariants.{Ok as AckOk, Wait as AckWait, Fault as AckFault}
 use Rattle.swd_port.specs.declared.wire.Due.{Due}
 use Rattle.swd_port.specs.declared.wire.Due.TheVariants.{Take, Give, Pass, Lost}
-use Rattle.swd_port.specs.Port.{PowerUp, Late, Register, DpidrRead, AbortWrite, CtrlStatRead, Reset, Unreset, Fresh, Live}
+use Rattle.swd_port.specs.Port.{PowerUp, Late, Register, DpidrRead, AbortWrite, CtrlStatRead, Reset, Unreset, Fresh}
+use Rattle.swd_port.specs.Port.{Live}
 use Rattle.swd_port.specs.Choices.{Mark, Deaf, Mute, is_wait, is_deaf}
 
 -- never WAIT or FAULT: DPIDR read, CTRL/STAT read, ABORT write
@@ -90,8 +91,8 @@ pub record IsNoAcknowledgement (seen : ℕ) : Type 0 where
   pub not_wait : (seen == 2) ≡ false
   pub not_fault : (seen == 4) ≡ false
 
--- the number that the host may see: of a lost request any that is no acknowledgement, since a line that fails may read as
--- anything; of every other the one that is driven (this project's choice)
+-- the number that the host may see: of a lost request any that is no acknowledgement, since a line that fails may
+-- read as anything; of every other the one that is driven (this project's choice)
 abbrev pub Sees : Mark → Reply → ℕ → Type 0
 Sees Deaf reply seen = IsNoAcknowledgement seen
 Sees (Mute place) reply seen = IsNoAcknowledgement seen

@@ -60,8 +60,8 @@ is_access_port ApZeroRead = true
 is_access_port ApIgnoredWrite = true
 is_access_port r = false
 
--- What an OK tells of the power, where the target may be busy: a read of CTRL/STAT finds it there, or late where the target
--- is busy and it wasn't seen to be there before; an access port that answers has it (this project's choice)
+-- What an OK tells of the power, where the target may be busy: a read of CTRL/STAT finds it there, or late where the
+-- target is busy and it wasn't seen to be there before; an access port that answers has it (this project's choice)
 abbrev pub power_up_after : Bool → Register → PowerUp → PowerUp
 power_up_after busy CtrlStatRead Seen = Seen
 power_up_after busy CtrlStatRead u = if busy then Late else Seen
@@ -140,7 +140,8 @@ abbrev pub after_reply : Mark → Reply → Register → Request → Choice → 
 after_reply mark reply r q c s = record {
   link = record {
     due = due_after q.read (seen_at mark reply);
-    line = line_after reply (phase_after q.read r (flip_of mark) (value_in (is_wait mark) r c.filler s.target)) s.link.line;
+    line = line_after reply (phase_after q.read r (flip_of mark) (value_in (is_wait mark) r c.filler s.target))
+        s.link.line;
   };
   target = target_after (is_wait mark) reply r q.ap s.target;
   tally = tally_after mark s.tally;

@@ -39,8 +39,8 @@ pub record Refuses (r : Register) (ap : Bool) (s t : Port) : Type 0 where
   pub settled : s.target.pending ≡ None
 
 -- The target answered OK, and is live. A read's value is fixed here, and its phase stands on the line, with this
--- place changed; a write's phase is awaited. Any word stands for an unknown value. Where the target is busy, so that it may
--- find power late, the request is disturbed, and its phase isn't changed.
+-- place changed; a write's phase is awaited. Any word stands for an unknown value. Where the target is busy, so that
+-- it may find power late, the request is disturbed, and its phase isn't changed.
 pub record Accepts (r : Register) (read : Bool) (flip : Option ℕ) (s t : Port) : Type 0 where
   pub busy : Bool
   pub disturbed : busy ≡ true → (flip ≡ None) × (t.tally.disturbed ≡ s.tally.disturbed + 1)

@@ -21,8 +21,8 @@ pub data Made : Type 0 where
 abbrev pub IsByteOf : Request → ℕ → Type 0
 IsByteOf request byte = low_bits 8 byte ≡ bits.request request
 
--- The calls that a request makes: what is seen, whether the transport has failed then, and the data phase that was fetched last,
--- before and after. A read that is answered OK is fetched at once; where a call failed, nothing is seen.
+-- The calls that a request makes: what is seen, whether the transport has failed then, and the data phase that was
+-- fetched last, before and after. A read that is answered OK is fetched at once; where a call failed, nothing is seen.
 pub data Sees (request : Request) (seen : ℕ) (made : List Made) (gone : Bool) (had fetched : ℕ) : Type 0 where
   answers : (byte : ℕ) → IsByteOf request byte → (request.read ≡ true → seen ≡ 1 → ⊥) → made ≡ Ask byte (Ok seen) ∷ []
       → gone ≡ false → fetched ≡ had → Sees request seen made gone had fetched
@@ -31,7 +31,8 @@ pub data Sees (request : Request) (seen : ℕ) (made : List Made) (gone : Bool) 
   loses : (byte : ℕ) (told : Result ℕ Gone) → IsByteOf request byte → made ≡ Ask byte told ∷ [] → seen ≡ 7 → gone ≡ true
       → fetched ≡ had → Sees request seen made gone had fetched
   breaks : (byte : ℕ) (told : Result ℕ Gone) → IsByteOf request byte → request.read ≡ true
-      → made ≡ Ask byte (Ok 1) ∷ Take told ∷ [] → seen ≡ 7 → gone ≡ true → fetched ≡ had → Sees request seen made gone had fetched
+      → made ≡ Ask byte (Ok 1) ∷ Take told ∷ [] → seen ≡ 7 → gone ≡ true → fetched ≡ had
+      → Sees request seen made gone had fetched
 
 -- the calls that one call of a wire makes of a transport that hasn't failed
 abbrev pub Makes : Call → List Made → Bool → ℕ → ℕ → Type 0
@@ -55,8 +56,8 @@ abbrev pub MakesBy : Bool → Call → List Made → Bool → ℕ → ℕ → Ty
 MakesBy true call made gone had fetched = (made ≡ []) × (gone ≡ true) × (fetched ≡ had) × IsUnseen call had
 MakesBy false call made gone had fetched = Makes call made gone had fetched
 
--- These calls of a wire, the last one first, made those of its transport, the first one first; whether it has failed, and what was
--- fetched last.
+-- These calls of a wire, the last one first, made those of its transport, the first one first; whether it has failed,
+-- and what was fetched last.
 abbrev pub AreMadeOf : List Call → List Made → Bool → ℕ → Type 0
 AreMadeOf [] made gone fetched = (made ≡ []) × (gone ≡ false)
 AreMadeOf (call ∷ calls) made gone fetched = (before : List Made) × (more : List Made) × (was : Bool) × (had : ℕ)
@@ -83,7 +84,8 @@ IsFetched (Fetched word) told = told ≡ Ok word
 IsFetched Lost told = Unit {0}
 
 -- So many calls more were made of a transport, which are those of a call of the wire.
-pub record Goes {T : Type 0} (Tells : List Made → T → Type 0) (was : Bool) (call : Call) (gone : Bool) (fetched : ℕ → ℕ) (s t : T)
+pub record Goes {T : Type 0} (Tells : List Made → T → Type 0) (was : Bool) (call : Call) (gone : Bool) (fetched : ℕ → ℕ)
+    (s t : T)
     : Type 0 where
   pub more : List Made
   pub tells : (made : List Made) → Tells made s → Tells (made ++ more) t
@@ -96,14 +98,16 @@ pub record Fetches {T : Type 0} (Tells : List Made → T → Type 0) (reply : Re
   pub is : IsFetched reply told
 
 -- The transport tells of exactly the calls that the wire's made.
-pub record Went {T : Type 0} (Tells : List Made → T → Type 0) (calls : List Call) (gone : Bool) (fetched : ℕ) (transport : T)
+pub record Went {T : Type 0} (Tells : List Made → T → Type 0) (calls : List Call) (gone : Bool) (fetched : ℕ)
+    (transport : T)
     : Type 0 where
   pub made : List Made
   pub told : Tells made transport
   pub of : AreMadeOf calls made gone fetched
 
 -- the same, where it doesn't matter what was fetched
-pub record WentOver {T : Type 0} (Tells : List Made → T → Type 0) (calls : List Call) (gone : Bool) (transport : T) : Type 0 where
+pub record WentOver {T : Type 0} (Tells : List Made → T → Type 0) (calls : List Call) (gone : Bool) (transport : T) :
+    Type 0 where
   pub made : List Made
   pub fetched : ℕ
   pub told : Tells made transport

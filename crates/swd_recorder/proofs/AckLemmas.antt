@@ -1,5 +1,6 @@
 -- Acknowledgements that were seen, and data phases.
-use Rattle.std.proofs.Common.{◌≡◌, ◌≢◌, ℕ, ◌<◌, ◌^◌, ◌/◌, ◌%◌, true, not, ◌++◌, take, Some, None, refl, sym, ap, ◌∙◌, arith, inl, inr}
+use Rattle.std.proofs.Common.{◌≡◌, ◌≢◌, ℕ, ◌<◌, ◌^◌, ◌/◌, ◌%◌, true, not, ◌++◌, take, Some, None, refl, sym, ap, ◌∙◌}
+use Rattle.std.proofs.Common.{arith, inl, inr}
 use Rattle.std.specs.Prelude.{◌==◌, count_ones}
 use Rattle.swd_bits.specs.Bits.{low_bits, number, odd}
 use Rattle.swd_bits.specs.Wire.{ack}
@@ -29,7 +30,8 @@ none_of seen h = elim h [
   | inr (inr (inr (inr e))) ↦ rw e (refl, refl)
 ]
 
-pub ack_missing : (seen : ℕ) → seen < 8 → ((a : Ack) → ack a ≢ low_bits 3 seen) → (ack_seen seen ≡ None) × (is_none seen ≡ true)
+pub ack_missing : (seen : ℕ) → seen < 8 → ((a : Ack) → ack a ≢ low_bits 3 seen) → (ack_seen seen ≡ None)
+    × (is_none seen ≡ true)
 ack_missing seen h none = none_of seen (no_ack seen h none)
 
 -- ---- the data phase
@@ -43,8 +45,12 @@ phase_parts bits h =
     let low = low_bits 32 (bits % 2 ^ 32) in
     let high = low_bits 1 (bits / 2 ^ 32) in
     let parts : low_bits 33 bits ≡ low ++ high = low_bits-split 32 1 bits in
-    let front : take 32 (low_bits 33 bits) ≡ low = ap (take 32) parts ∙ take_at low high 32 (length-low_bits 32 (bits % 2 ^ 32)) in
-    let word : number (take 32 (low_bits 33 bits)) ≡ bits % 2 ^ 32 = ap number front ∙ number-low_bits 32 (bits % 2 ^ 32) (omega arith) in
-    let parity : not (odd (low_bits 33 bits)) ≡ (count_ones bits % 2 == 0) = ap not (odd-low_bits 33 bits h) ∙ even (count_ones bits) in
-    sym (ap (λ w. phase_with w (count_ones bits % 2 == 0)) word) ∙ sym (ap (phase_with (number (take 32 (low_bits 33 bits)))) parity)
+    let front : take 32 (low_bits 33 bits) ≡ low = ap (take 32) parts
+    ∙ take_at low high 32 (length-low_bits 32 (bits % 2 ^ 32)) in
+    let word : number (take 32 (low_bits 33 bits)) ≡ bits % 2 ^ 32 = ap number front
+    ∙ number-low_bits 32 (bits % 2 ^ 32) (omega arith) in
+    let parity : not (odd (low_bits 33 bits)) ≡ (count_ones bits % 2 == 0) = ap not (odd-low_bits 33 bits h)
+    ∙ even (count_ones bits) in
+    sym (ap (λ w. phase_with w (count_ones bits % 2 == 0)) word)
+    ∙ sym (ap (phase_with (number (take 32 (low_bits 33 bits)))) parity)
     ∙ phase_is (low_bits 33 bits) (length-low_bits 33 bits)

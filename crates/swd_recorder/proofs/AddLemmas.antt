@@ -1,11 +1,13 @@
 -- What calls add to a recording.
-use Rattle.std.proofs.Common.{◌≡◌, ◌≢◌, ℕ, zero, suc, ◌+◌, ◌<◌, ◌≤◌, Bool, true, false, List, [], ◌∷◌, ◌++◌, refl, sym, ap, ◌∙◌, subst, arith}
+use Rattle.std.proofs.Common.{◌≡◌, ◌≢◌, ℕ, zero, suc, ◌+◌, ◌<◌, ◌≤◌, Bool, true, false, List, [], ◌∷◌, ◌++◌, refl, sym}
+use Rattle.std.proofs.Common.{ap, ◌∙◌, subst, arith}
 use Rattle.std.specs.Prelude.{◌==◌, not, if◌then◌else◌}
 use Rattle.std.proofs.lemmas.Bool.{le-leb}
 use Rattle.std.proofs.lemmas.List.{append_assoc}
 use Rattle.swd_trace.specs.declared.item.Item.{Item}
 use Rattle.swd_trace.specs.declared.item.Item.TheVariants.{Reset, Switch, Idle, Tx, Junk, Cut}
-use Rattle.swd_recorder.specs.Chains.{Place, Clear, Low, High, Switched, Silent, place_after, place_of, may_lower, is_between}
+use Rattle.swd_recorder.specs.Chains.{Place, Clear, Low, High, Switched, Silent, place_after, place_of, may_lower}
+use Rattle.swd_recorder.specs.Chains.{is_between}
 use Rattle.swd_recorder.specs.Recordings.{Kept, with_item, with_items, high_items, low_items, lead_items, Adds}
 use Rattle.swd_recorder.specs.Steps.{transactions}
 use Rattle.swd_recorder.proofs.ChainLemmas.{place_with, count_with, counted_one, not_zero, high_is, low_is}
@@ -29,7 +31,8 @@ adds_none old new items cut = record {
     clash e = cc
 
 -- one item is added, and nothing is cut
-pub adds_one : (item : Item) (old new : Kept) → old.is_cut ≡ false → new.is_cut ≡ false → new.items ≡ with_item old.items item → Adds (item ∷ []) old new
+pub adds_one : (item : Item) (old new : Kept) → old.is_cut ≡ false → new.is_cut ≡ false
+    → new.items ≡ with_item old.items item → Adds (item ∷ []) old new
 adds_one item old new e f items = record {
   whole = λ _. (e, items);
   cut = λ _ g. absurd (clash (sym f ∙ g));
@@ -37,17 +40,6 @@ adds_one item old new e f items = record {
 }
   where
     clash : false ≡ true → ⊥
-    clash h = cc
-
--- it is cut here, and nothing is added
-pub adds_cut : (more : List Item) (old new : Kept) → more ≢ [] → new.is_cut ≡ true → new.items ≡ old.items → Adds more old new
-adds_cut more old new some f items = record {
-  whole = λ g. absurd (clash (sym f ∙ g));
-  cut = λ _ _. ([], more, some, refl, items);
-  stays = λ _. (f, items);
-}
-  where
-    clash : true ≡ false → ⊥
     clash h = cc
 
 some_rest : (rest b : List Item) → rest ≢ [] → (rest ++ b) ≢ []
@@ -63,36 +55,44 @@ adds_both a b old mid new f g = record {
 }
   where
     by : old.is_cut ≡ false → new.is_cut ≡ true → (m : Bool) → mid.is_cut ≡ m →
-        (some : List Item) × (rest : List Item) × (rest ≢ []) × (a ++ b ≡ some ++ rest) × (new.items ≡ with_items old.items some)
+        (some : List Item) × (rest : List Item) × (rest ≢ []) × (a ++ b ≡ some ++ rest)
+        × (new.items ≡ with_items old.items some)
     by e h true m =
         let (some, rest, left, parts, items) = f.cut e m in
         let (n, same) = g.stays m in
         (some, rest ++ b, some_rest rest b left, ap (λ x. x ++ b) parts ∙ append_assoc some rest b, same ∙ items)
     by e h false m =
         let (some, rest, left, parts, items) = g.cut m h in
-        let (o, first) = f.whole m in
-        (a ++ some, rest, left, ap (λ x. a ++ x) parts ∙ sym (append_assoc a some rest), items ∙ ap (λ x. with_items x some) first ∙ sym (with_both old.items a some))
+        let (o, first) = f.whole m in (
+          a ++ some,
+          rest,
+          left,
+          ap (λ x. a ++ x) parts ∙ sym (append_assoc a some rest),
+          items
+              ∙ ap (λ x. with_items x some) first ∙ sym (with_both old.items a some),
+        )
 
 -- ---- where it stands then
 
 -- an item added
-pub placed_one : (item : Item) (old new : Kept) → Adds (item ∷ []) old new → new.is_cut ≡ false → place_of new.items ≡ place_after item
+pub placed_one : (item : Item) (old new : Kept) → Adds (item ∷ []) old new → new.is_cut ≡ false
+    → place_of new.items ≡ place_after item
 placed_one item old new h e = let (o, items) = h.whole e in ap place_of items ∙ place_with Clear old.items item
 
-pub counted : (item : Item) (old new : Kept) → Adds (item ∷ []) old new → new.is_cut ≡ false → transactions new.items ≡ transactions old.items + counted_one item
+pub counted : (item : Item) (old new : Kept) → Adds (item ∷ []) old new → new.is_cut ≡ false
+    → transactions new.items ≡ transactions old.items + counted_one item
 counted item old new h e = let (o, items) = h.whole e in ap transactions items ∙ count_with old.items item
-
--- nothing added
-pub same_items : (old new : Kept) → Adds [] old new → new.is_cut ≡ false → new.items ≡ old.items
-same_items old new h e = let (o, items) = h.whole e in items
 
 -- ---- ones, and zeros after them
 
-place_high : (items : List Item) (ones : ℕ) (switches : Bool) → ones ≢ 0 → place_of (with_items items (high_items ones switches)) ≡ High
-place_high items ones true h = rw (high_is ones true h refl) (place_with Clear (with_item (with_item items (Reset ones)) Switch) (Reset ones))
+place_high : (items : List Item) (ones : ℕ) (switches : Bool) → ones ≢ 0
+    → place_of (with_items items (high_items ones switches)) ≡ High
+place_high items ones true h = rw (high_is ones true h refl)
+    (place_with Clear (with_item (with_item items (Reset ones)) Switch) (Reset ones))
 place_high items ones false h = rw (not_zero ones h) (place_with Clear items (Reset ones))
 
-between_lower : (place : Place) (ones lows : ℕ) → ones ≡ 0 → 0 < lows → is_between place ones ≡ true → may_lower place lows ≡ true
+between_lower : (place : Place) (ones lows : ℕ) → ones ≡ 0 → 0 < lows → is_between place ones ≡ true
+    → may_lower place lows ≡ true
 between_lower Clear ones lows o h e = le-leb 1 lows (omega (arith, h))
 between_lower Low ones lows o h e = refl
 between_lower High ones lows o h e = absurd cc
@@ -102,11 +102,14 @@ between_lower Silent ones lows o h e = absurd (zero_led ones o e)
     zero_led : (n : ℕ) → n ≡ 0 → not (n == 0) ≡ true → ⊥
     zero_led n o e = let f : not (0 == 0) ≡ true = subst (λ m. not (m == 0) ≡ true) o e in cc
 
-pub lower_after : (ones lows : ℕ) (switches : Bool) (old new : Kept) → Adds (high_items ones switches) old new → (ones ≢ 0 → 2 ≤ lows) → 0 < lows →
-    (old.is_cut ≡ false → is_between (place_of old.items) ones ≡ true) → new.is_cut ≡ false → may_lower (place_of new.items) lows ≡ true
+pub lower_after : (ones lows : ℕ) (switches : Bool) (old new : Kept) → Adds (high_items ones switches) old new
+    → (ones ≢ 0 → 2 ≤ lows) → 0 < lows →
+    (old.is_cut ≡ false → is_between (place_of old.items) ones ≡ true) → new.is_cut ≡ false
+    → may_lower (place_of new.items) lows ≡ true
 lower_after zero lows switches old new h two some between e =
     let (o, items) = h.whole e in
-    subst (λ l. may_lower (place_of l) lows ≡ true) (sym items) (between_lower (place_of old.items) 0 lows refl some (between o))
+    subst (λ l. may_lower (place_of l) lows ≡ true) (sym items)
+    (between_lower (place_of old.items) 0 lows refl some (between o))
 lower_after (suc n) lows switches old new h two some between e =
     let (o, items) = h.whole e in
     let some_ones : suc n ≢ 0 = λ z. omega (arith, z) in
@@ -119,17 +122,15 @@ abbrev lead_of : List Item → ℕ → Bool → ℕ → List Item
 lead_of items ones switches lows = with_items items (lead_items ones switches lows)
 
 -- zeros come last
-pub place_lead : (items : List Item) (ones lows : ℕ) (switches : Bool) → lows ≢ 0 → place_of (lead_of items ones switches lows) ≡ Low
+pub place_lead : (items : List Item) (ones lows : ℕ) (switches : Bool) → lows ≢ 0
+    → place_of (lead_of items ones switches lows) ≡ Low
 place_lead items ones lows switches h =
     ap place_of (with_both items (high_items ones switches) (low_items lows))
     ∙ ap (λ l. place_of (with_items (with_items items (high_items ones switches)) l)) (low_is lows h)
     ∙ place_with Clear (with_items items (high_items ones switches)) (Idle lows)
 
--- and nothing where there are none
-pub lead_none : (items : List Item) (switches : Bool) → lead_of items 0 switches 0 ≡ items
-lead_none items switches = refl
-
-count_high : (items : List Item) (ones : ℕ) (switches : Bool) → transactions (with_items items (high_items ones switches)) ≡ transactions items
+count_high : (items : List Item) (ones : ℕ) (switches : Bool)
+    → transactions (with_items items (high_items ones switches)) ≡ transactions items
 count_high items zero switches = refl
 count_high items (suc n) true =
     let some : suc n ≢ 0 = λ z. omega (arith, z) in
@@ -140,7 +141,8 @@ count_high items (suc n) true =
 count_high items (suc n) false =
     let some : suc n ≢ 0 = λ z. omega (arith, z) in
     let d = count_with items (Reset (suc n)) in
-    ap (λ t. transactions (with_items items (if t then [] else Reset (suc n) ∷ []))) (not_zero (suc n) some) ∙ omega (arith, d)
+    ap (λ t. transactions (with_items items (if t then [] else Reset (suc n) ∷ []))) (not_zero (suc n) some)
+    ∙ omega (arith, d)
 
 count_low : (items : List Item) (lows : ℕ) → transactions (with_items items (low_items lows)) ≡ transactions items
 count_low items zero = refl
@@ -149,7 +151,8 @@ count_low items (suc n) =
     let d = count_with items (Idle (suc n)) in
     ap (λ l. transactions (with_items items l)) (low_is (suc n) some) ∙ omega (arith, d)
 
-pub count_lead : (items : List Item) (ones lows : ℕ) (switches : Bool) → transactions (lead_of items ones switches lows) ≡ transactions items
+pub count_lead : (items : List Item) (ones lows : ℕ) (switches : Bool)
+    → transactions (lead_of items ones switches lows) ≡ transactions items
 count_lead items ones lows switches =
     ap transactions (with_both items (high_items ones switches) (low_items lows))
     ∙ count_low (with_items items (high_items ones switches)) lows ∙ count_high items ones switches
@@ -181,10 +184,12 @@ count_both (item ∷ some) rest =
     omega (arith, a, b, d)
 
 -- no more than what is added
-pub adds_most : (more : List Item) (old new : Kept) → Adds more old new → transactions new.items ≤ transactions old.items + transactions more
+pub adds_most : (more : List Item) (old new : Kept) → Adds more old new
+    → transactions new.items ≤ transactions old.items + transactions more
 adds_most more old new h = by old.is_cut new.is_cut refl refl
   where
-    by : (a b : Bool) → old.is_cut ≡ a → new.is_cut ≡ b → transactions new.items ≤ transactions old.items + transactions more
+    by : (a b : Bool) → old.is_cut ≡ a → new.is_cut ≡ b
+        → transactions new.items ≤ transactions old.items + transactions more
     by true b e f = let same = ap transactions (h.stays e).1 in omega (arith, same)
     by false true e f =
         let (some, rest, left, parts, items) = h.cut e f in
@@ -194,16 +199,19 @@ adds_most more old new h = by old.is_cut new.is_cut refl refl
     by false false e f = let now = ap transactions (h.whole f).1 ∙ count_added old.items more in omega (arith, now)
 
 -- nothing where it was cut before
-pub adds_nothing : (more : List Item) (old new : Kept) → Adds more old new → old.is_cut ≡ true → transactions new.items ≡ transactions old.items
+pub adds_nothing : (more : List Item) (old new : Kept) → Adds more old new → old.is_cut ≡ true
+    → transactions new.items ≡ transactions old.items
 adds_nothing more old new h e = ap transactions (h.stays e).1
 
 pub none_in_lead : (ones lows : ℕ) (switches : Bool) → transactions (lead_items ones switches lows) ≡ 0
-none_in_lead ones lows switches = count_both (high_items ones switches) (low_items lows) ∙ (let a = high ones switches in let b = low lows in omega (arith, a, b))
+none_in_lead ones lows switches = count_both (high_items ones switches) (low_items lows)
+    ∙ (let a = high ones switches in let b = low lows in omega (arith, a, b))
   where
     high : (n : ℕ) (b : Bool) → transactions (high_items n b) ≡ 0
     high zero b = refl
     high (suc n) true = let some : suc n ≢ 0 = λ z. omega (arith, z) in ap transactions (high_is (suc n) true some refl)
-    high (suc n) false = let some : suc n ≢ 0 = λ z. omega (arith, z) in ap (λ t. transactions (if t then [] else Reset (suc n) ∷ [])) (not_zero (suc n) some)
+    high (suc n) false = let some : suc n ≢ 0 = λ z. omega (arith, z) in
+        ap (λ t. transactions (if t then [] else Reset (suc n) ∷ [])) (not_zero (suc n) some)
 
     low : (n : ℕ) → transactions (low_items n) ≡ 0
     low zero = refl

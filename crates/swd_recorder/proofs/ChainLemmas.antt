@@ -1,5 +1,7 @@
 -- Lists of items as a host sends them.
-use Rattle.std.proofs.Common.{◌≡◌, ◌≢◌, ℕ, zero, suc, ◌+◌, ◌-◌, ◌^◌, ◌<◌, ◌≤◌, Bool, true, false, List, [], ◌∷◌, ◌++◌, length, replicate, nat_le, Some, None, refl, sym, ap, ◌∙◌, arith, inl, inr}
+use Rattle.std.proofs.Common.{◌≡◌, ◌≢◌, ℕ, zero, suc, ◌+◌, ◌-◌, ◌^◌, ◌<◌, ◌≤◌, Bool, true, false, List, []}
+use Rattle.std.proofs.Common.{◌∷◌, ◌++◌}
+use Rattle.std.proofs.Common.{length, replicate, nat_le, Some, None, refl, sym, ap, ◌∙◌, arith, inl, inr}
 use Rattle.std.specs.Prelude.{◌&&◌, ◌||◌, ◌==◌, nat_lt, slice_get, slice_set, ◌⊎◌, not, if◌then◌else◌}
 use Rattle.std.proofs.lemmas.Bool.{leb-true, ltb-true, le-leb, lt-ltb}
 use Rattle.std.proofs.lemmas.List.{drop_at}
@@ -17,7 +19,9 @@ use Rattle.swd_trace.specs.Listed.{AreLegal}
 use Rattle.swd_trace.proofs.SpellingLemmas.{spelling_stands, length_of, length_spelling}
 use Rattle.swd_trace.proofs.ReadingLemmas.{reading_none, switch_law, no_switch, tx_law}
 use Rattle.swd_trace.proofs.RereadLemmas.{StartsWith, reset_any, idle_any}
-use Rattle.swd_recorder.specs.Chains.{Place, Clear, Low, High, Switched, Silent, place_of_end, place_after, place_behind, place_of, may_reset, may_idle, may_ask, may_lower, may_lead, is_none, is_end, may_follow, is_chained}
+use Rattle.swd_recorder.specs.Chains.{Place, Clear, Low, High, Switched, Silent, place_of_end, place_after}
+use Rattle.swd_recorder.specs.Chains.{place_behind, place_of, may_reset, may_idle, may_ask, may_lower, may_lead}
+use Rattle.swd_recorder.specs.Chains.{is_none, is_end, may_follow, is_chained}
 use Rattle.swd_recorder.specs.Recordings.{joined, with_item, idle_in, idle_at_end, high_items, low_items}
 use Rattle.swd_recorder.specs.Steps.{transactions}
 
@@ -87,10 +91,13 @@ some_bits Wait = omega arith
 some_bits Fault = omega arith
 some_bits (NoAck seen) = omega arith
 
-tx_read : (tx : Transaction) (tail : List Bool) → IsEnd tx.result → reading Synced (spelling tx true true ++ tail) ≡ Tx tx ∷ reading (mode_at (place_of_end tx.result)) tail
+tx_read : (tx : Transaction) (tail : List Bool) → IsEnd tx.result
+    → reading Synced (spelling tx true true ++ tail) ≡ Tx tx ∷ reading (mode_at (place_of_end tx.result)) tail
 tx_read tx tail h =
-    tx_law (spelling tx true true ++ tail) tx (length_of tx.result) (spelling_stands tx true true tail h) (some_bits tx.result)
-    ∙ ap (λ x. Tx tx ∷ reading (mode_after tx.result) x) (drop_at (spelling tx true true) tail (length_of tx.result) (length_spelling tx true true))
+    tx_law (spelling tx true true ++ tail) tx (length_of tx.result) (spelling_stands tx true true tail h)
+    (some_bits tx.result)
+    ∙ ap (λ x. Tx tx ∷ reading (mode_after tx.result) x)
+    (drop_at (spelling tx true true) tail (length_of tx.result) (length_spelling tx true true))
     ∙ ap (λ m. Tx tx ∷ reading m tail) (mode_behind tx.result)
 
 idle_after_reset : (n : ℕ) (tail : List Bool) → 2 ≤ n → begins_with switch (replicate n false ++ tail) ≡ false
@@ -98,14 +105,17 @@ idle_after_reset zero tail h = absurd (omega arith)
 idle_after_reset (suc zero) tail h = absurd (omega arith)
 idle_after_reset (suc (suc n)) tail h = refl
 
-pub chained_read : (place : Place) (items : List Item) → is_chained place items ≡ true → reading (mode_at place) (bits_of_items items) ≡ items
+pub chained_read : (place : Place) (items : List Item) → is_chained place items ≡ true
+    → reading (mode_at place) (bits_of_items items) ≡ items
 chained_read place [] e = reading_none (mode_at place)
 chained_read place (Reset n ∷ items) e =
     let (here, rest) = both (may_follow place (Reset n)) (is_chained High items) e in
     let (a, fits) = both (may_reset place && nat_le 50 n) (nat_lt n (2 ^ 64)) here in
     let (may, fifty) = both (may_reset place) (nat_le 50 n) a in
-    reset_any (mode_at place) n (bits_of_items items) (leb-true 50 n fifty) (low_first items rest) ∙ ap (λ x. Reset n ∷ x) (chained_read High items rest)
-chained_read High (Switch ∷ items) e = switch_law (bits_of_items items) ∙ ap (λ x. Switch ∷ x) (chained_read Switched items e)
+    reset_any (mode_at place) n (bits_of_items items) (leb-true 50 n fifty) (low_first items rest)
+    ∙ ap (λ x. Reset n ∷ x) (chained_read High items rest)
+chained_read High (Switch ∷ items) e = switch_law (bits_of_items items)
+    ∙ ap (λ x. Switch ∷ x) (chained_read Switched items e)
 chained_read Clear (Switch ∷ items) e = absurd cc
 chained_read Low (Switch ∷ items) e = absurd cc
 chained_read Switched (Switch ∷ items) e = absurd cc
@@ -113,22 +123,26 @@ chained_read Silent (Switch ∷ items) e = absurd cc
 chained_read Clear (Idle n ∷ items) e =
     let (here, rest) = both (may_follow Clear (Idle n)) (is_chained Low items) e in
     let (some, fits) = both (nat_le 1 n) (nat_lt n (2 ^ 64)) here in
-    idle_any n (bits_of_items items) (leb-true 1 n some) (high_first items rest) ∙ ap (λ x. Idle n ∷ x) (chained_read Low items rest)
+    idle_any n (bits_of_items items) (leb-true 1 n some) (high_first items rest)
+    ∙ ap (λ x. Idle n ∷ x) (chained_read Low items rest)
 chained_read High (Idle n ∷ items) e =
     let (here, rest) = both (may_follow High (Idle n)) (is_chained Low items) e in
     let (some, fits) = both (nat_le 2 n) (nat_lt n (2 ^ 64)) here in
     let two : 2 ≤ n = leb-true 2 n some in
     no_switch (replicate n false ++ bits_of_items items) (idle_after_reset n (bits_of_items items) two)
-    ∙ idle_any n (bits_of_items items) (omega (arith, two)) (high_first items rest) ∙ ap (λ x. Idle n ∷ x) (chained_read Low items rest)
+    ∙ idle_any n (bits_of_items items) (omega (arith, two)) (high_first items rest)
+    ∙ ap (λ x. Idle n ∷ x) (chained_read Low items rest)
 chained_read Low (Idle n ∷ items) e = absurd cc
 chained_read Switched (Idle n ∷ items) e = absurd cc
 chained_read Silent (Idle n ∷ items) e = absurd cc
 chained_read Clear (Tx tx ∷ items) e =
     let (here, rest) = both (may_follow Clear (Tx tx)) (is_chained (place_of_end tx.result) items) e in
-    tx_read tx (bits_of_items items) (end_is tx.result here) ∙ ap (λ x. Tx tx ∷ x) (chained_read (place_of_end tx.result) items rest)
+    tx_read tx (bits_of_items items) (end_is tx.result here)
+    ∙ ap (λ x. Tx tx ∷ x) (chained_read (place_of_end tx.result) items rest)
 chained_read Low (Tx tx ∷ items) e =
     let (here, rest) = both (may_follow Low (Tx tx)) (is_chained (place_of_end tx.result) items) e in
-    tx_read tx (bits_of_items items) (end_is tx.result here) ∙ ap (λ x. Tx tx ∷ x) (chained_read (place_of_end tx.result) items rest)
+    tx_read tx (bits_of_items items) (end_is tx.result here)
+    ∙ ap (λ x. Tx tx ∷ x) (chained_read (place_of_end tx.result) items rest)
 chained_read High (Tx tx ∷ items) e = absurd cc
 chained_read Switched (Tx tx ∷ items) e = absurd cc
 chained_read Silent (Tx tx ∷ items) e = absurd cc
@@ -143,7 +157,8 @@ chained_legal place (Reset n ∷ items) e =
     let (a, fits) = both (may_reset place && nat_le 50 n) (nat_lt n (2 ^ 64)) here in
     (ltb-true n (2 ^ 64) fits, chained_legal High items rest)
 chained_legal place (Switch ∷ items) e =
-    let (here, rest) = both (may_follow place Switch) (is_chained Switched items) e in (tt, chained_legal Switched items rest)
+    let (here, rest) = both (may_follow place Switch) (is_chained Switched items) e in
+    (tt, chained_legal Switched items rest)
 chained_legal place (Idle n ∷ items) e =
     let (here, rest) = both (may_follow place (Idle n)) (is_chained Low items) e in
     let (some, fits) = both (may_idle place n) (nat_lt n (2 ^ 64)) here in
@@ -158,7 +173,8 @@ chained_legal place (Cut bits ∷ items) e = absurd cc
 -- ---- one item more
 
 -- an item that may stand there is no idle cycles behind others
-pub pushed : (place : Place) (items : List Item) (item : Item) → may_follow (place_behind place items) item ≡ true → with_item items item ≡ items ++ item ∷ []
+pub pushed : (place : Place) (items : List Item) (item : Item) → may_follow (place_behind place items) item ≡ true
+    → with_item items item ≡ items ++ item ∷ []
 pushed place [] item e = refl
 pushed place (last ∷ []) item e = apart last item e
   where
@@ -176,15 +192,18 @@ pushed place (last ∷ []) item e = apart last item e
     apart (Cut bits) item e = refl
 pushed place (first ∷ second ∷ items) item e = ap (λ x. first ∷ x) (pushed (place_after first) (second ∷ items) item e)
 
-pub chained_push : (place : Place) (items : List Item) (item : Item) → is_chained place items ≡ true → may_follow (place_behind place items) item ≡ true →
+pub chained_push : (place : Place) (items : List Item) (item : Item) → is_chained place items ≡ true
+    → may_follow (place_behind place items) item ≡ true →
     is_chained place (items ++ item ∷ []) ≡ true
 chained_push place [] item e f = both_are (may_follow place item) true f refl
 chained_push place (first ∷ items) item e f =
     let (here, rest) = both (may_follow place first) (is_chained (place_after first) items) e in
-    both_are (may_follow place first) (is_chained (place_after first) (items ++ item ∷ [])) here (chained_push (place_after first) items item rest f)
+    both_are (may_follow place first) (is_chained (place_after first) (items ++ item ∷ [])) here
+    (chained_push (place_after first) items item rest f)
 
 -- where it stands, and how many transactions there are then
-pub place_with : (place : Place) (items : List Item) (item : Item) → place_behind place (with_item items item) ≡ place_after item
+pub place_with : (place : Place) (items : List Item) (item : Item)
+    → place_behind place (with_item items item) ≡ place_after item
 place_with place [] item = refl
 place_with place (last ∷ []) item = at_end last item
   where
@@ -205,27 +224,18 @@ place_with place (first ∷ second ∷ items) item = place_with (place_after fir
 -- ---- idle cycles joined to others
 
 -- the last item, by its place
-last_at : (items : List Item) (k : ℕ) (item : Item) → length items ≡ suc k → slice_get items k ≡ Some item → idle_at_end items ≡ idle_in item
+last_at : (items : List Item) (k : ℕ) (item : Item) → length items ≡ suc k → slice_get items k ≡ Some item
+    → idle_at_end items ≡ idle_in item
 last_at [] k item l e = absurd (omega arith)
 last_at (first ∷ []) zero item l e = let same : first ≡ item = cc in ap idle_in same
 last_at (first ∷ []) (suc k) item l e = absurd (omega arith)
 last_at (first ∷ second ∷ items) zero item l e = absurd (omega arith)
 last_at (first ∷ second ∷ items) (suc k) item l e = last_at (second ∷ items) k item (omega arith) e
 
-pub last_is : (items : List Item) (item : Item) → slice_get items (length items - 1) ≡ Some item → idle_at_end items ≡ idle_in item
+pub last_is : (items : List Item) (item : Item) → slice_get items (length items - 1) ≡ Some item
+    → idle_at_end items ≡ idle_in item
 last_is [] item e = absurd cc
 last_is (first ∷ items) item e = last_at (first ∷ items) (length (first ∷ items) - 1) item (omega arith) e
-
-pub none_is_last : (items : List Item) → slice_get items (length items - 1) ≡ None → idle_at_end items ≡ 0
-none_is_last [] e = refl
-none_is_last (first ∷ items) e = absurd (some_at (first ∷ items) (length (first ∷ items) - 1) (omega arith) e)
-  where
-    some_at : (items : List Item) (k : ℕ) → length items ≡ suc k → slice_get items k ≡ None → ⊥
-    some_at [] k l e = omega arith
-    some_at (first ∷ []) zero l e = cc
-    some_at (first ∷ []) (suc k) l e = omega arith
-    some_at (first ∷ second ∷ items) zero l e = omega arith
-    some_at (first ∷ second ∷ items) (suc k) l e = some_at (second ∷ items) k (omega arith) e
 
 pub some_last : (items : List Item) → 0 < idle_at_end items → 0 < length items
 some_last [] h = absurd (omega arith)
@@ -239,15 +249,18 @@ idle_joined (Tx tx) n h = absurd (omega arith)
 idle_joined (Junk b) n h = absurd (omega arith)
 idle_joined (Cut bits) n h = absurd (omega arith)
 
-joined_at : (items : List Item) (k n : ℕ) → length items ≡ suc k → 0 < idle_at_end items → slice_set items k (Idle (idle_at_end items + n)) ≡ with_item items (Idle n)
+joined_at : (items : List Item) (k n : ℕ) → length items ≡ suc k → 0 < idle_at_end items
+    → slice_set items k (Idle (idle_at_end items + n)) ≡ with_item items (Idle n)
 joined_at [] k n l h = absurd (omega arith)
 joined_at (item ∷ []) zero n l h = idle_joined item n h
 joined_at (item ∷ []) (suc k) n l h = absurd (omega arith)
 joined_at (first ∷ second ∷ items) zero n l h = absurd (omega arith)
 joined_at (first ∷ second ∷ items) (suc k) n l h = ap (λ x. first ∷ x) (joined_at (second ∷ items) k n (omega arith) h)
 
-pub joined_last : (items : List Item) (n : ℕ) → 0 < idle_at_end items → slice_set items (length items - 1) (Idle (idle_at_end items + n)) ≡ with_item items (Idle n)
-joined_last items n h = let some : 0 < length items = some_last items h in joined_at items (length items - 1) n (omega arith) h
+pub joined_last : (items : List Item) (n : ℕ) → 0 < idle_at_end items
+    → slice_set items (length items - 1) (Idle (idle_at_end items + n)) ≡ with_item items (Idle n)
+joined_last items n h = let some : 0 < length items = some_last items h in joined_at items (length items - 1) n
+    (omega arith) h
 
 -- more idle cycles stand wherever fewer do
 more_idle : (place : Place) (m n : ℕ) → may_idle place m ≡ true → may_idle place (m + n) ≡ true
@@ -257,25 +270,30 @@ more_idle Low m n e = absurd cc
 more_idle Switched m n e = absurd cc
 more_idle Silent m n e = absurd cc
 
-chained_one : (place : Place) (item : Item) (n : ℕ) → is_chained place (item ∷ []) ≡ true → 0 < idle_in item → idle_in item + n < 2 ^ 64 →
+chained_one : (place : Place) (item : Item) (n : ℕ) → is_chained place (item ∷ []) ≡ true → 0 < idle_in item
+    → idle_in item + n < 2 ^ 64 →
     is_chained place (joined item (Idle n)) ≡ true
 chained_one place (Idle m) n e h fits =
     let (here, rest) = both (may_follow place (Idle m)) true e in
     let (may, old) = both (may_idle place m) (nat_lt m (2 ^ 64)) here in
-    both_are (may_follow place (Idle (m + n))) true (both_are (may_idle place (m + n)) (nat_lt (m + n) (2 ^ 64)) (more_idle place m n may) (lt-ltb (m + n) (2 ^ 64) fits)) refl
+    both_are (may_follow place (Idle (m + n))) true
+    (both_are (may_idle place (m + n)) (nat_lt (m + n) (2 ^ 64)) (more_idle place m n may)
+    (lt-ltb (m + n) (2 ^ 64) fits)) refl
 chained_one place (Reset m) n e h fits = absurd (omega arith)
 chained_one place Switch n e h fits = absurd (omega arith)
 chained_one place (Tx tx) n e h fits = absurd (omega arith)
 chained_one place (Junk b) n e h fits = absurd (omega arith)
 chained_one place (Cut bits) n e h fits = absurd (omega arith)
 
-pub chained_join : (place : Place) (items : List Item) (n : ℕ) → is_chained place items ≡ true → 0 < idle_at_end items → idle_at_end items + n < 2 ^ 64 →
+pub chained_join : (place : Place) (items : List Item) (n : ℕ) → is_chained place items ≡ true → 0 < idle_at_end items
+    → idle_at_end items + n < 2 ^ 64 →
     is_chained place (with_item items (Idle n)) ≡ true
 chained_join place [] n e h fits = absurd (omega arith)
 chained_join place (item ∷ []) n e h fits = chained_one place item n e h fits
 chained_join place (first ∷ second ∷ items) n e h fits =
     let (here, rest) = both (may_follow place first) (is_chained (place_after first) (second ∷ items)) e in
-    both_are (may_follow place first) (is_chained (place_after first) (with_item (second ∷ items) (Idle n))) here (chained_join (place_after first) (second ∷ items) n rest h fits)
+    both_are (may_follow place first) (is_chained (place_after first) (with_item (second ∷ items) (Idle n))) here
+    (chained_join (place_after first) (second ∷ items) n rest h fits)
 
 -- ---- idle cycles that join no others
 
@@ -292,7 +310,8 @@ end_not_low Wait e = cc
 end_not_low Fault e = cc
 end_not_low (NoAck seen) e = cc
 
-last_not_low : (place : Place) (item : Item) → is_chained place (item ∷ []) ≡ true → idle_in item ≡ 0 → place_after item ≢ Low
+last_not_low : (place : Place) (item : Item) → is_chained place (item ∷ []) ≡ true → idle_in item ≡ 0
+    → place_after item ≢ Low
 last_not_low place (Idle n) e h f =
     let (here, rest) = both (may_follow place (Idle n)) true e in
     let (may, fits) = both (may_idle place n) (nat_lt n (2 ^ 64)) here in
@@ -303,7 +322,8 @@ last_not_low place (Tx tx) e h f = end_not_low tx.result f
 last_not_low place (Junk b) e h f = cc
 last_not_low place (Cut bits) e h f = cc
 
-not_low : (place : Place) (item : Item) (items : List Item) → is_chained place (item ∷ items) ≡ true → idle_at_end (item ∷ items) ≡ 0 → place_behind place (item ∷ items) ≢ Low
+not_low : (place : Place) (item : Item) (items : List Item) → is_chained place (item ∷ items) ≡ true
+    → idle_at_end (item ∷ items) ≡ 0 → place_behind place (item ∷ items) ≢ Low
 not_low place item [] e h = last_not_low place item e h
 not_low place item (second ∷ items) e h =
     let (here, rest) = both (may_follow place item) (is_chained (place_after item) (second ∷ items)) e in
@@ -317,17 +337,20 @@ lowered Switched n h e = e
 lowered Silent n h e = e
 
 -- where no idle cycles stand at the end, more may stand on their own
-pub apart : (items : List Item) (n : ℕ) → is_chained Clear items ≡ true → idle_at_end items ≡ 0 → may_lower (place_of items) n ≡ true → n < 2 ^ 64 → may_follow (place_of items) (Idle n) ≡ true
+pub apart : (items : List Item) (n : ℕ) → is_chained Clear items ≡ true → idle_at_end items ≡ 0
+    → may_lower (place_of items) n ≡ true → n < 2 ^ 64 → may_follow (place_of items) (Idle n) ≡ true
 apart [] n e h may fits = both_are (nat_le 1 n) (nat_lt n (2 ^ 64)) may (lt-ltb n (2 ^ 64) fits)
 apart (item ∷ items) n e h may fits =
-    both_are (may_idle (place_of (item ∷ items)) n) (nat_lt n (2 ^ 64)) (lowered (place_of (item ∷ items)) n (not_low Clear item items e h) may) (lt-ltb n (2 ^ 64) fits)
+    both_are (may_idle (place_of (item ∷ items)) n) (nat_lt n (2 ^ 64))
+    (lowered (place_of (item ∷ items)) n (not_low Clear item items e h) may) (lt-ltb n (2 ^ 64) fits)
 
 -- ---- the numbers of transactions
 
 abbrev pub counted_one : Item → ℕ
 counted_one item = transactions (item ∷ [])
 
-pub count_with : (items : List Item) (item : Item) → transactions (with_item items item) ≡ transactions items + counted_one item
+pub count_with : (items : List Item) (item : Item)
+    → transactions (with_item items item) ≡ transactions items + counted_one item
 count_with [] item = omega arith
 count_with (last ∷ []) item = at_end last item
   where
@@ -356,11 +379,14 @@ pub not_zero : (n : ℕ) → n ≢ 0 → (n == 0) ≡ false
 not_zero zero h = absurd (h refl)
 not_zero (suc n) h = grind arith
 
-pub fifty_led : (place : Place) (ones : ℕ) (switches : Bool) → ones ≢ 0 → may_lead place ones switches ≡ true → (may_reset place ≡ true) × (nat_le 50 ones ≡ true)
+pub fifty_led : (place : Place) (ones : ℕ) (switches : Bool) → ones ≢ 0 → may_lead place ones switches ≡ true
+    → (may_reset place ≡ true) × (nat_le 50 ones ≡ true)
 fifty_led place ones switches h e =
-    both (may_reset place) (nat_le 50 ones) (sym (ap (λ t. if t then not switches else (may_reset place && nat_le 50 ones)) (not_zero ones h)) ∙ e)
+    both (may_reset place) (nat_le 50 ones)
+    (sym (ap (λ t. if t then not switches else (may_reset place && nat_le 50 ones)) (not_zero ones h)) ∙ e)
 
-pub high_is : (ones : ℕ) (switches : Bool) → ones ≢ 0 → switches ≡ true → high_items ones switches ≡ Reset ones ∷ Switch ∷ Reset ones ∷ []
+pub high_is : (ones : ℕ) (switches : Bool) → ones ≢ 0 → switches ≡ true
+    → high_items ones switches ≡ Reset ones ∷ Switch ∷ Reset ones ∷ []
 high_is ones switches h e = rw (not_zero ones h, e) refl
 
 pub low_is : (count : ℕ) → count ≢ 0 → low_items count ≡ Idle count ∷ []

@@ -1,5 +1,6 @@
 -- A recording keeps step with its wire.
-use Rattle.std.proofs.Common.{◌≡◌, ◌≢◌, ℕ, zero, suc, ◌+◌, ◌≤◌, Bool, true, false, List, [], ◌∷◌, ◌++◌, Option, Some, None, refl, ap, ◌∙◌, subst, arith, inl, inr}
+use Rattle.std.proofs.Common.{◌≡◌, ◌≢◌, ℕ, zero, suc, ◌+◌, ◌≤◌, Bool, true, false, List, [], ◌∷◌, ◌++◌, Option, Some}
+use Rattle.std.proofs.Common.{None, refl, ap, ◌∙◌, subst, arith, inl, inr}
 use Rattle.std.specs.Prelude.{◌||◌, ◌==◌, not, if◌then◌else◌, nat_le, ◌&&◌, ◌↔◌, ◌⊎◌}
 use Rattle.std.proofs.lemmas.Bool.{le-leb, leb-true}
 use Rattle.swd_bits.specs.declared.ack.Ack.{Ack}
@@ -14,11 +15,16 @@ use Rattle.swd_port.specs.declared.wire.Due.TheVariants.{Nothing, Take, Give, Pa
 use Rattle.swd_port.specs.Answers.{due_after}
 use Rattle.swd_port.specs.Leading.{MayLead}
 use Rattle.swd_recorder.specs.declared.recording.InHand.{InHand}
-use Rattle.swd_recorder.specs.Chains.{Place, Clear, Low, High, Switched, Silent, place_of_end, place_after, place_behind, place_of, may_ask, may_reset, may_lead, is_between, may_follow, is_chained}
-use Rattle.swd_recorder.specs.Recordings.{Kept, with_items, Adds, lead_items, answered, ack_seen, unanswered, Refuses, RecordsLead, RecordsAsk, RecordsPhase, RecordsRefusal}
-use Rattle.swd_recorder.specs.Steps.{is_held, is_at, transactions, pending, is_placed, is_counted, is_refused, EndsUnacknowledged}
+use Rattle.swd_recorder.specs.Chains.{Place, Clear, Low, High, Switched, Silent, place_of_end, place_after}
+use Rattle.swd_recorder.specs.Chains.{place_behind, place_of, may_ask, may_reset, may_lead, is_between, may_follow}
+use Rattle.swd_recorder.specs.Chains.{is_chained}
+use Rattle.swd_recorder.specs.Recordings.{Kept, with_items, Adds, lead_items, answered, ack_seen, unanswered, Refuses}
+use Rattle.swd_recorder.specs.Recordings.{RecordsLead, RecordsAsk, RecordsPhase, RecordsRefusal}
+use Rattle.swd_recorder.specs.Steps.{is_held, is_at, transactions, pending, is_placed, is_counted, is_refused}
+use Rattle.swd_recorder.specs.Steps.{EndsUnacknowledged}
 use Rattle.swd_recorder.proofs.ChainLemmas.{both, both_are, place_with, count_with, not_zero}
-use Rattle.swd_recorder.proofs.AddLemmas.{placed_one, counted, place_lead, count_lead, adds_most, adds_nothing, none_in_lead}
+use Rattle.swd_recorder.proofs.AddLemmas.{placed_one, counted, place_lead, count_lead, adds_most, adds_nothing}
+use Rattle.swd_recorder.proofs.AddLemmas.{none_in_lead}
 
 -- a recording in step with a wire
 pub record InStep (due : Due) (kept : Kept) (asked : ℕ) : Type 0 where
@@ -43,23 +49,26 @@ number_same a b e = grind arith
 -- how many transactions there are
 pub most_of : (due : Due) (kept : Kept) (n : ℕ) → is_counted due kept n ≡ true → transactions kept.items ≤ n
 most_of due kept n e =
-    leb-true (transactions kept.items) n (both (nat_le (transactions kept.items) n) (kept.is_cut || (transactions kept.items + pending due == n)) e).0
+    leb-true (transactions kept.items) n
+    (both (nat_le (transactions kept.items) n) (kept.is_cut || (transactions kept.items + pending due == n)) e).0
 
-pub whole_of : (due : Due) (kept : Kept) (n : ℕ) → is_counted due kept n ≡ true → kept.is_cut ≡ false → transactions kept.items + pending due ≡ n
+pub whole_of : (due : Due) (kept : Kept) (n : ℕ) → is_counted due kept n ≡ true → kept.is_cut ≡ false
+    → transactions kept.items + pending due ≡ n
 whole_of due kept n e uncut =
-    let rest = (both (nat_le (transactions kept.items) n) (kept.is_cut || (transactions kept.items + pending due == n)) e).1 in
-    same_number (transactions kept.items + pending due) n (when_open kept.is_cut (transactions kept.items + pending due == n) rest uncut)
+    let rest = (both (nat_le (transactions kept.items) n) (kept.is_cut || (transactions kept.items + pending due == n))
+    e).1 in
+    same_number (transactions kept.items + pending due) n
+    (when_open kept.is_cut (transactions kept.items + pending due == n) rest uncut)
 
-counted_as : (due : Due) (kept : Kept) (n : ℕ) → transactions kept.items ≤ n → (kept.is_cut ≡ false → transactions kept.items + pending due ≡ n) → is_counted due kept n ≡ true
+counted_as : (due : Due) (kept : Kept) (n : ℕ) → transactions kept.items ≤ n
+    → (kept.is_cut ≡ false → transactions kept.items + pending due ≡ n) → is_counted due kept n ≡ true
 counted_as due kept n most whole =
-    both_are (nat_le (transactions kept.items) n) (kept.is_cut || (transactions kept.items + pending due == n)) (le-leb (transactions kept.items) n most)
-    (open_or kept.is_cut (transactions kept.items + pending due == n) (λ e. number_same (transactions kept.items + pending due) n (whole e)))
+    both_are (nat_le (transactions kept.items) n) (kept.is_cut || (transactions kept.items + pending due == n))
+    (le-leb (transactions kept.items) n most)
+    (open_or kept.is_cut (transactions kept.items + pending due == n)
+    (λ e. number_same (transactions kept.items + pending due) n (whole e)))
 
 -- ---- what each call of the recording asks for
-
-pub none_at_rest : (in_hand : Option InHand) → is_held Nothing in_hand ≡ true → in_hand ≡ None
-none_at_rest None e = refl
-none_at_rest (Some asked) e = absurd cc
 
 -- while a transaction is under way a request may stand where the items end
 asks_at : (due : Due) (place : Place) → due ≢ Lost → is_at due place ≡ true → may_ask place ≡ true
@@ -81,25 +90,9 @@ asks_at Take Silent h e = absurd cc
 asks_at Give Silent h e = absurd cc
 asks_at Pass Silent h e = absurd cc
 
-pub may_ask_at : (due : Due) (kept : Kept) → due ≢ Lost → is_placed due kept ≡ true → kept.is_cut ≡ false → may_ask (place_of kept.items) ≡ true
-may_ask_at due kept h placed uncut = asks_at due (place_of kept.items) h (when_open kept.is_cut (is_at due (place_of kept.items)) placed uncut)
-
-pub some_in_hand : (due : Due) (in_hand : Option InHand) → pending due ≡ 1 → is_held due in_hand ≡ true → in_hand ≢ None
-some_in_hand Nothing in_hand p e f = omega (arith, p)
-some_in_hand Lost in_hand p e f = omega (arith, p)
-some_in_hand Take None p e f = cc
-some_in_hand Take (Some asked) p e f = cc
-some_in_hand Give None p e f = cc
-some_in_hand Give (Some asked) p e f = cc
-some_in_hand Pass None p e f = cc
-some_in_hand Pass (Some asked) p e f = cc
-
-pub refused_in_hand : (in_hand : Option InHand) → is_held Pass in_hand ≡ true → is_refused in_hand ≡ true
-refused_in_hand None e = absurd cc
-refused_in_hand (Some asked) e = e
-
 -- where the wire is lost, or at rest
-at_due : (due : Due) (place : Place) → is_at due place ≡ true → (place ≡ Clear) ⊎ (place ≡ Low) ⊎ ((place ≡ Silent) × (due ≡ Lost))
+at_due : (due : Due) (place : Place) → is_at due place ≡ true → (place ≡ Clear) ⊎ (place ≡ Low)
+    ⊎ ((place ≡ Silent) × (due ≡ Lost))
 at_due due Clear e = inl refl
 at_due due Low e = inr (inl refl)
 at_due Lost Silent e = inr (inr (refl, refl))
@@ -128,7 +121,8 @@ resets_at due place e = elim (at_due due place e) [
   | inr (inr (p, d)) ↦ ap may_reset p
 ]
 
-may_lead_by : (due : Due) (place : Place) (ones lows : ℕ) (switches : Bool) → MayLead due ones switches lows → is_at due place ≡ true → may_lead place ones switches ≡ true
+may_lead_by : (due : Due) (place : Place) (ones lows : ℕ) (switches : Bool) → MayLead due ones switches lows
+    → is_at due place ≡ true → may_lead place ones switches ≡ true
 may_lead_by due place zero lows true m e = absurd (m.switched refl refl)
 may_lead_by due place zero lows false m e = refl
 may_lead_by due place (suc n) lows switches m e =
@@ -140,26 +134,14 @@ may_lead_by due place (suc n) lows switches m e =
 some_ones : (due : Due) (ones lows : ℕ) (switches : Bool) → MayLead due ones switches lows → due ≢ Nothing → ones ≢ 0
 some_ones due ones lows switches m h z = let (many, none) = m.inside h in omega (arith, many, z)
 
-is_between_by : (due : Due) (place : Place) (ones lows : ℕ) (switches : Bool) → MayLead due ones switches lows → is_at due place ≡ true → is_between place ones ≡ true
+is_between_by : (due : Due) (place : Place) (ones lows : ℕ) (switches : Bool) → MayLead due ones switches lows
+    → is_at due place ≡ true → is_between place ones ≡ true
 is_between_by due place ones lows switches m e = elim (at_due due place e) [
   | inl p ↦ ap (λ q. is_between q ones) p
   | inr (inl p) ↦ ap (λ q. is_between q ones) p
-  | inr (inr (p, d)) ↦ ap (λ q. is_between q ones) p ∙ ap not (not_zero ones (some_ones due ones lows switches m (lost_not_rest due d)))
+  | inr (inr (p, d)) ↦ ap (λ q. is_between q ones) p
+      ∙ ap not (not_zero ones (some_ones due ones lows switches m (lost_not_rest due d)))
 ]
-
-pub may_lead_at : (due : Due) (kept : Kept) (ones lows : ℕ) (switches : Bool) → MayLead due ones switches lows → is_placed due kept ≡ true → kept.is_cut ≡ false →
-    (may_lead (place_of kept.items) ones switches ≡ true) × (is_between (place_of kept.items) ones ≡ true)
-may_lead_at due kept ones lows switches m placed uncut =
-    let e = when_open kept.is_cut (is_at due (place_of kept.items)) placed uncut in
-    (may_lead_by due (place_of kept.items) ones lows switches m e, is_between_by due (place_of kept.items) ones lows switches m e)
-
-pub ones_inside : (due : Due) (in_hand : Option InHand) (ones lows : ℕ) (switches : Bool) → MayLead due ones switches lows → is_held due in_hand ≡ true → in_hand ≢ None → ones ≢ 0
-ones_inside due None ones lows switches m e h = absurd (h refl)
-ones_inside Nothing (Some asked) ones lows switches m e h = absurd cc
-ones_inside Take (Some asked) ones lows switches m e h = some_ones Take ones lows switches m (λ f. cc)
-ones_inside Give (Some asked) ones lows switches m e h = some_ones Give ones lows switches m (λ f. cc)
-ones_inside Pass (Some asked) ones lows switches m e h = some_ones Pass ones lows switches m (λ f. cc)
-ones_inside Lost (Some asked) ones lows switches m e h = absurd cc
 
 -- ---- a request
 
@@ -169,7 +151,8 @@ due_by read one two four = if one then (if read then Take else Give) else if two
 abbrev ack_by : Bool → Bool → Bool → Option Ack
 ack_by one two four = if one then Some AckOk else if two then Some AckWait else if four then Some AckFault else None
 
-held_by : (q : Request) (read one two four : Bool) → is_held (due_by read one two four) (answered q (ack_by one two four)) ≡ true
+held_by : (q : Request) (read one two four : Bool)
+    → is_held (due_by read one two four) (answered q (ack_by one two four)) ≡ true
 held_by q true true two four = refl
 held_by q false true two four = refl
 held_by q read false true four = refl
@@ -195,32 +178,39 @@ at_any Pass High h e = absurd cc
 at_any Pass Switched h e = absurd cc
 at_any Pass Silent h e = absurd cc
 
-place_by : (q : Request) (seen : ℕ) (items : List Item) (read one two four : Bool) → is_at Nothing (place_of items) ≡ true →
+place_by : (q : Request) (seen : ℕ) (items : List Item) (read one two four : Bool)
+    → is_at Nothing (place_of items) ≡ true →
     is_at (due_by read one two four) (place_of (with_items items (unanswered q seen (ack_by one two four)))) ≡ true
 place_by q seen items true true two four e = at_any Take (place_of items) (λ f. cc) e
 place_by q seen items false true two four e = at_any Give (place_of items) (λ f. cc) e
 place_by q seen items read false true four e = at_any Pass (place_of items) (λ f. cc) e
 place_by q seen items read false false true e = at_any Pass (place_of items) (λ f. cc) e
-place_by q seen items read false false false e = ap (is_at Lost) (place_with Clear items (Tx (record { request = q; result = NoAck seen })))
+place_by q seen items read false false false e = ap (is_at Lost)
+    (place_with Clear items (Tx (record { request = q; result = NoAck seen })))
 
 count_by : (q : Request) (seen : ℕ) (items : List Item) (read one two four : Bool) →
-    transactions (with_items items (unanswered q seen (ack_by one two four))) + pending (due_by read one two four) ≡ transactions items + 1
+    transactions (with_items items (unanswered q seen (ack_by one two four))) + pending (due_by read one two four) ≡
+    transactions items + 1
 count_by q seen items true true two four = refl
 count_by q seen items false true two four = refl
 count_by q seen items read false true four = refl
 count_by q seen items read false false true = refl
-count_by q seen items read false false false = let d = count_with items (Tx (record { request = q; result = NoAck seen })) in omega (arith, d)
+count_by q seen items read false false false = let d = count_with items
+    (Tx (record { request = q; result = NoAck seen })) in omega (arith, d)
 
 unanswered_most : (q : Request) (seen : ℕ) (a : Option Ack) → transactions (unanswered q seen a) ≤ 1
 unanswered_most q seen None = omega arith
 unanswered_most q seen (Some a) = omega arith
 
-pub asked : (q : Request) (seen : ℕ) (old new : Kept) (n : ℕ) → InStep Nothing old n → RecordsAsk q seen old new → InStep (due_after q.read seen) new (n + 1)
+pub asked : (q : Request) (seen : ℕ) (old new : Kept) (n : ℕ) → InStep Nothing old n → RecordsAsk q seen old new
+    → InStep (due_after q.read seen) new (n + 1)
 asked q seen old new n s r = record {
   held = ap (is_held (due_after q.read seen)) r.in_hand ∙ held_by q q.read (seen == 1) (seen == 2) (seen == 4);
-  placed = open_or new.is_cut (is_at (due_after q.read seen) (place_of new.items)) (λ e. let (o, items) = r.adds.whole e in
+  placed = open_or new.is_cut (is_at (due_after q.read seen) (place_of new.items))
+      (λ e. let (o, items) = r.adds.whole e in
       ap (λ l. is_at (due_after q.read seen) (place_of l)) items
-      ∙ place_by q seen old.items q.read (seen == 1) (seen == 2) (seen == 4) (when_open old.is_cut (is_at Nothing (place_of old.items)) s.placed o));
+      ∙ place_by q seen old.items q.read (seen == 1) (seen == 2) (seen == 4)
+      (when_open old.is_cut (is_at Nothing (place_of old.items)) s.placed o));
   counted = counted_as (due_after q.read seen) new (n + 1)
       (let most = adds_most (unanswered q seen (ack_seen seen)) old new r.adds in
       let few = unanswered_most q seen (ack_seen seen) in
@@ -234,7 +224,8 @@ asked q seen old new n s r = record {
 
 -- ---- a transaction that becomes whole
 
-whole_now : (due : Due) (q : Request) (end : TxEnd) (old new : Kept) (n : ℕ) → pending due ≡ 1 → place_of_end end ≡ Clear → InStep due old n →
+whole_now : (due : Due) (q : Request) (end : TxEnd) (old new : Kept) (n : ℕ) → pending due ≡ 1
+    → place_of_end end ≡ Clear → InStep due old n →
     Adds (Tx (record { request = q; result = end }) ∷ []) old new → new.in_hand ≡ None → InStep Nothing new n
 whole_now due q end old new n p clear s adds rest = record {
   held = ap (is_held Nothing) rest;
@@ -256,8 +247,10 @@ whole_now due q end old new n p clear s adds rest = record {
         let before = whole_of due old n s.counted e in
         omega (arith, now, before, p)
 
-pub moved : (due : Due) (bits : ℕ) (old new : Kept) (n : ℕ) → pending due ≡ 1 → InStep due old n → RecordsPhase bits old new → InStep Nothing new n
-moved due bits old new n p s r = whole_now due r.asked.request r.result old new n p (ap place_of_end r.moved.is) s r.adds r.in_hand
+pub moved : (due : Due) (bits : ℕ) (old new : Kept) (n : ℕ) → pending due ≡ 1 → InStep due old n
+    → RecordsPhase bits old new → InStep Nothing new n
+moved due bits old new n p s r = whole_now due r.asked.request r.result old new n p (ap place_of_end r.moved.is) s
+    r.adds r.in_hand
 
 refused_clear : (a : Ack) (end : TxEnd) → Refuses a end → place_of_end end ≡ Clear
 refused_clear AckOk end h = absurd h
@@ -265,7 +258,8 @@ refused_clear AckWait end h = ap place_of_end h
 refused_clear AckFault end h = ap place_of_end h
 
 pub refused : (old new : Kept) (n : ℕ) → InStep Pass old n → RecordsRefusal old new → InStep Nothing new n
-refused old new n s r = whole_now Pass r.asked.request r.result old new n refl (refused_clear r.asked.ack r.result r.refuses) s r.adds r.in_hand
+refused old new n s r = whole_now Pass r.asked.request r.result old new n refl
+    (refused_clear r.asked.ack r.result r.refuses) s r.adds r.in_hand
 
 -- ---- a lead
 
@@ -287,21 +281,25 @@ pending_none Give (Some asked) e h = absurd cc
 pending_none Pass None e h = absurd cc
 pending_none Pass (Some asked) e h = absurd cc
 
-at_rest : (due : Due) (place : Place) (switches : Bool) → MayLead due 0 switches 0 → is_at due place ≡ true → is_at Nothing place ≡ true
+at_rest : (due : Due) (place : Place) (switches : Bool) → MayLead due 0 switches 0 → is_at due place ≡ true
+    → is_at Nothing place ≡ true
 at_rest due place switches m e = elim (at_due due place e) [
   | inl p ↦ ap (is_at Nothing) p
   | inr (inl p) ↦ ap (is_at Nothing) p
   | inr (inr (p, d)) ↦ absurd (some_ones due 0 0 switches m (lost_not_rest due d) refl)
 ]
 
-lead_at : (due : Due) (items : List Item) (ones lows : ℕ) (switches : Bool) → MayLead due ones switches lows → is_at due (place_of items) ≡ true →
+lead_at : (due : Due) (items : List Item) (ones lows : ℕ) (switches : Bool) → MayLead due ones switches lows
+    → is_at due (place_of items) ≡ true →
     is_at Nothing (place_of (with_items items (lead_items ones switches lows))) ≡ true
-lead_at due items ones (suc n) switches m e = let some : suc n ≢ 0 = λ z. omega (arith, z) in ap (is_at Nothing) (place_lead items ones (suc n) switches some)
+lead_at due items ones (suc n) switches m e = let some : suc n ≢ 0 = λ z. omega (arith, z) in ap (is_at Nothing)
+    (place_lead items ones (suc n) switches some)
 lead_at due items (suc k) zero switches m e =
     let two : 2 ≤ 0 = m.low (λ z. omega (arith, z)) in absurd (omega (arith, two))
 lead_at due items zero zero switches m e = at_rest due (place_of items) switches m e
 
-pub led : (due : Due) (ones lows : ℕ) (switches : Bool) (old new : Kept) (n : ℕ) → MayLead due ones switches lows → InStep due old n →
+pub led : (due : Due) (ones lows : ℕ) (switches : Bool) (old new : Kept) (n : ℕ) → MayLead due ones switches lows
+    → InStep due old n →
     RecordsLead ones switches lows old new → InStep Nothing new n
 led due ones lows switches old new n m s r = record {
   held = ap (is_held Nothing) r.in_hand;
@@ -317,19 +315,22 @@ led due ones lows switches old new n m s r = record {
       let none : old.in_hand ≡ None = none_inside old.in_hand (λ h. not_cut new.is_cut (r.inside h).0 e) in
       let rest : pending due ≡ 0 = pending_none due old.in_hand none s.held in
       let before = whole_of due old n s.counted o in
-      let now : transactions new.items ≡ transactions old.items = ap transactions items ∙ count_lead old.items ones lows switches in
+      let now : transactions new.items ≡ transactions old.items = ap transactions items
+      ∙ count_lead old.items ones lows switches in
       omega (arith, before, now, rest));
 }
 
 -- ---- the last item
 
-silent_end : (q : Request) (end : TxEnd) → place_of_end end ≡ Silent → EndsUnacknowledged (Tx (record { request = q; result = end }) ∷ [])
+silent_end : (q : Request) (end : TxEnd) → place_of_end end ≡ Silent
+    → EndsUnacknowledged (Tx (record { request = q; result = end }) ∷ [])
 silent_end q (NoAck seen) e = ([], q, seen, refl)
 silent_end q (Moved word ok) e = absurd cc
 silent_end q Wait e = absurd cc
 silent_end q Fault e = absurd cc
 
-silent_last : (place : Place) (item : Item) (items : List Item) → is_chained place (item ∷ items) ≡ true → place_behind place (item ∷ items) ≡ Silent → EndsUnacknowledged (item ∷ items)
+silent_last : (place : Place) (item : Item) (items : List Item) → is_chained place (item ∷ items) ≡ true
+    → place_behind place (item ∷ items) ≡ Silent → EndsUnacknowledged (item ∷ items)
 silent_last place (Tx tx) [] c e = silent_end tx.request tx.result e
 silent_last place (Reset n) [] c e = absurd cc
 silent_last place Switch [] c e = absurd cc
@@ -341,7 +342,8 @@ silent_last place item (second ∷ items) c e =
     let (front, q, seen, is) = silent_last (place_after item) second items rest e in
     (item ∷ front, q, seen, ap (λ l. item ∷ l) is)
 
-ends_silent : (place : Place) (front : List Item) (q : Request) (seen : ℕ) → place_behind place (front ++ Tx (record { request = q; result = NoAck seen }) ∷ []) ≡ Silent
+ends_silent : (place : Place) (front : List Item) (q : Request) (seen : ℕ)
+    → place_behind place (front ++ Tx (record { request = q; result = NoAck seen }) ∷ []) ≡ Silent
 ends_silent place [] q seen = refl
 ends_silent place (item ∷ front) q seen = ends_silent (place_after item) front q seen
 
@@ -359,13 +361,16 @@ lost_silent Low e = absurd cc
 lost_silent High e = absurd cc
 lost_silent Switched e = absurd cc
 
-unacknowledged : (items : List Item) → is_chained Clear items ≡ true → place_of items ≡ Silent → EndsUnacknowledged items
+unacknowledged : (items : List Item) → is_chained Clear items ≡ true → place_of items ≡ Silent
+    → EndsUnacknowledged items
 unacknowledged [] c e = absurd cc
 unacknowledged (item ∷ items) c e = silent_last Clear item items c e
 
-pub ends_lost : (due : Due) (kept : Kept) → is_chained Clear kept.items ≡ true → is_placed due kept ≡ true → kept.is_cut ≡ false → EndsUnacknowledged kept.items ↔ (due ≡ Lost)
+pub ends_lost : (due : Due) (kept : Kept) → is_chained Clear kept.items ≡ true → is_placed due kept ≡ true
+    → kept.is_cut ≡ false → EndsUnacknowledged kept.items ↔ (due ≡ Lost)
 ends_lost due kept c placed uncut =
     let e = when_open kept.is_cut (is_at due (place_of kept.items)) placed uncut in (
       λ (front, q, seen, is). silent_due due (place_of kept.items) e (ap place_of is ∙ ends_silent Clear front q seen),
-      λ d. unacknowledged kept.items c (lost_silent (place_of kept.items) (subst (λ x. is_at x (place_of kept.items) ≡ true) d e)),
+      λ d. unacknowledged kept.items c
+          (lost_silent (place_of kept.items) (subst (λ x. is_at x (place_of kept.items) ≡ true) d e)),
     )

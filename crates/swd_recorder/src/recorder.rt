@@ -119,7 +119,8 @@ impl<W: Wire, A: Allocator> Wire for Recorder<W, A> {
         requires { (port_by self.old).link.due ≡ Nothing }
         ensures range { result < 8 }
         ensures due { (port_by self.new).link.due ≡ due_after request.read result }
-        ensures step { lawful_by self.new → lawful_by self.old × Asks (port_by self.old) request result (port_by self.new) }
+        ensures step { lawful_by self.new → lawful_by self.old
+            × Asks (port_by self.old) request result (port_by self.new) }
         ensures plan { plan_by self.new ≡ plan_by self.old }
         ensures records { RecordsAsk request result (kept_by self.old) (kept_by self.new) }
     {

@@ -1,6 +1,5 @@
 //! The items of what went over a wire, one call after the other.
-ghost use Rattle.std.specs.Prelude.{◌≡◌, ◌≢◌, ◌^◌, ◌<◌, ◌≤◌, ◌⊎◌, true, false, [], ◌∷◌, None, Some};
-ghost use Rattle.swd_bits.specs.declared.ack.Ack.TheVariants.{Ok as AckOk};
+ghost use Rattle.std.specs.Prelude.{◌≡◌, ◌≢◌, ◌^◌, ◌<◌, ◌≤◌, true, false, [], ◌∷◌, None, Some};
 ghost use Rattle.swd_trace.specs.declared.item.Item.{Item};
 ghost use Rattle.swd_recorder.specs.Chains.{Clear, is_chained};
 ghost use Rattle.swd_recorder.specs.Recordings.{MovedBy, idle_in};

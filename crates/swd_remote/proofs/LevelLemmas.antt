@@ -1,5 +1,7 @@
 -- Laws of levels and clocks.
-use Rattle.std.proofs.Common.{◌≡◌, ℕ, suc, ◌+◌, ◌-◌, ◌*◌, ◌/◌, ◌%◌, ◌^◌, ◌<◌, ◌≤◌, Bool, true, false, List, [], ◌∷◌, ◌++◌, length, drop, get_or, map, sym, ap, ◌∙◌, arith, lit<, add-one}
+use Rattle.std.proofs.Common.{◌≡◌, ℕ, suc, ◌+◌, ◌-◌, ◌*◌, ◌/◌, ◌%◌, ◌^◌, ◌<◌, ◌≤◌, Bool, true, false, List}
+use Rattle.std.proofs.Common.{[], ◌∷◌}
+use Rattle.std.proofs.Common.{◌++◌, length, drop, get_or, map, sym, ap, ◌∙◌, arith, lit<, add-one}
 use mir.Val.{bool_byte}
 use Rattle.std.specs.Prelude.{◌==◌, replicate}
 use Rattle.std.proofs.Math.Seq.{drop-cons, drop-length}
@@ -16,11 +18,13 @@ twice number false =
     let h : (number * 2 + 0) / 2 ≡ number = omega arith in
     let r : (number * 2 + 0) % 2 ≡ 0 = omega arith in (h, ap (λ x. x == 1) r)
 
-levels_more : (place number : ℕ) (b : Bool) → levels (suc place) (number * 2 + bit b) ≡ level_character b ∷ levels place number
+levels_more : (place number : ℕ) (b : Bool)
+    → levels (suc place) (number * 2 + bit b) ≡ level_character b ∷ levels place number
 unfolding low_bits
 levels_more place number b =
     let e = twice number b in
-    ap (λ x. level_character x ∷ levels place ((number * 2 + bit b) / 2)) e.1 ∙ ap (λ x. level_character b ∷ levels place x) e.0
+    ap (λ x. level_character x ∷ levels place ((number * 2 + bit b) / 2)) e.1
+    ∙ ap (λ x. level_character b ∷ levels place x) e.0
 
 bit_small : (b : Bool) → bit b < 2
 bit_small true = lit< tt
@@ -46,13 +50,6 @@ next_bound place number b h =
     let small = bit_small b in
     let p : 2 ^ suc place ≡ 2 ^ place * 2 = pow-suc 2 place in
     let q : 2 ^ (place + 1) ≡ 2 ^ suc place = ap (λ n. 2 ^ n) (add-one place) in
-    omega arith
-
-pub next_fits : (place number : ℕ) (b : Bool) → place < 64 → number < 2 ^ place → number * 2 + bit b < 2 ^ 64
-next_fits place number b l h =
-    let n = next_bound place number b h in
-    let r : place + 1 ≤ 64 = omega arith in
-    let m : 2 ^ (place + 1) ≤ 2 ^ 64 = pow-le-pow_right (lit< tt) r in
     omega arith
 
 -- the clocks that are left, of which one goes by

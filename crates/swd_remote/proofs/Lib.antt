@@ -1,6 +1,5 @@
 pub mod WayLemmas
 pub mod LevelLemmas
-pub mod ClockLemmas
 pub mod RunLemmas
 pub mod KeptLemmas
 pub mod WholeLemmas

@@ -1,5 +1,6 @@
 -- Laws of a text on its way to a writer.
-use Rattle.std.proofs.Common.{◌≡◌, ℕ, ◌+◌, ◌<◌, Bool, true, false, List, [], ◌++◌, length, take, Option, sym, ap, ◌∙◌, subst, arith}
+use Rattle.std.proofs.Common.{◌≡◌, ℕ, ◌+◌, ◌<◌, Bool, true, false, List, [], ◌++◌, length, take, Option, sym, ap, ◌∙◌}
+use Rattle.std.proofs.Common.{subst, arith}
 use Rattle.std.proofs.Common.{append_assoc, append-nil}
 use Rattle.std.specs.Io.KnownBytes.{Appends}
 use Rattle.std.proofs.KnownBytes.{Appends-trans}
@@ -9,7 +10,8 @@ use Rattle.swd_remote.specs.declared.outgoing.Outgoing.{Outgoing}
 use Rattle.swd_remote.specs.Ways.{Carries, Breaks, OnItsWayBy, IsOnItsWay, Lengthens}
 
 -- what was held went out
-pub gone_out : {W : Type 0} (contents : W → Option (List ℕ)) (start : Option (List ℕ)) (s t : Outgoing W) (text : List ℕ)
+pub gone_out : {W : Type 0} (contents : W → Option (List ℕ)) (start : Option (List ℕ)) (s t : Outgoing W)
+    (text : List ℕ)
     → Appends (contents s.writer) (contents t.writer) s.held.items → t.held.items ≡ [] → Carries contents start s text
     → Appends start (contents t.writer) text × Carries contents start t text
 gone_out contents start s t text a n h =
@@ -24,7 +26,8 @@ gone_out contents start s t text a n h =
     )
 
 -- a beginning of what was held went out
-pub cut_short : {W : Type 0} (contents : W → Option (List ℕ)) (start now : Option (List ℕ)) (s : Outgoing W) (text : List ℕ) (k : ℕ)
+pub cut_short : {W : Type 0} (contents : W → Option (List ℕ)) (start now : Option (List ℕ)) (s : Outgoing W)
+    (text : List ℕ) (k : ℕ)
     → k < length s.held.items → Appends (contents s.writer) now (take k s.held.items) → Carries contents start s text
     → Breaks start now text
 cut_short contents start now s text k l a h =
@@ -35,11 +38,13 @@ cut_short contents start now s text k l a h =
     record {
       sent = length h.sent + k;
       short = omega arith;
-      gone = subst (Appends start now) (sym (ap (take (length h.sent + k)) h.whole ∙ take-append-add h.sent held k)) gone;
+      gone = subst (Appends start now) (sym (ap (take (length h.sent + k)) h.whole ∙ take-append-add h.sent held k))
+          gone;
     }
 
 -- a text in which the writer failed may be longer
-pub broken_more : (start now : Option (List ℕ)) (text more : List ℕ) → Breaks start now text → Breaks start now (text ++ more)
+pub broken_more : (start now : Option (List ℕ)) (text more : List ℕ) → Breaks start now text
+    → Breaks start now (text ++ more)
 broken_more start now text more h =
     let len : length (text ++ more) ≡ length text + length more = length-append text more in
     let short = h.short in
@@ -50,19 +55,23 @@ broken_more start now text more h =
     }
 
 -- whether the writer failed is told by the flag
-pub to_carries : {W : Type 0} (contents : W → Option (List ℕ)) (flag : Bool) (start : Option (List ℕ)) (s : Outgoing W) (text : List ℕ)
+pub to_carries : {W : Type 0} (contents : W → Option (List ℕ)) (flag : Bool) (start : Option (List ℕ)) (s : Outgoing W)
+    (text : List ℕ)
     → flag ≡ false → OnItsWayBy flag contents start s text → Carries contents start s text
 to_carries contents flag start s text e h = rw e at h
 
-pub of_carries : {W : Type 0} (contents : W → Option (List ℕ)) (flag : Bool) (start : Option (List ℕ)) (s : Outgoing W) (text : List ℕ)
+pub of_carries : {W : Type 0} (contents : W → Option (List ℕ)) (flag : Bool) (start : Option (List ℕ)) (s : Outgoing W)
+    (text : List ℕ)
     → flag ≡ false → Carries contents start s text → OnItsWayBy flag contents start s text
 of_carries contents flag start s text e h = rw e h
 
-pub to_broken : {W : Type 0} (contents : W → Option (List ℕ)) (flag : Bool) (start : Option (List ℕ)) (s : Outgoing W) (text : List ℕ)
+pub to_broken : {W : Type 0} (contents : W → Option (List ℕ)) (flag : Bool) (start : Option (List ℕ)) (s : Outgoing W)
+    (text : List ℕ)
     → flag ≡ true → OnItsWayBy flag contents start s text → Breaks start (contents s.writer) text
 to_broken contents flag start s text e h = rw e at h
 
-pub of_broken : {W : Type 0} (contents : W → Option (List ℕ)) (flag : Bool) (start : Option (List ℕ)) (s : Outgoing W) (text : List ℕ)
+pub of_broken : {W : Type 0} (contents : W → Option (List ℕ)) (flag : Bool) (start : Option (List ℕ)) (s : Outgoing W)
+    (text : List ℕ)
     → flag ≡ true → Breaks start (contents s.writer) text → OnItsWayBy flag contents start s text
 of_broken contents flag start s text e h = rw e h
 
@@ -71,10 +80,6 @@ pub no_longer : {W : Type 0} (contents : W → Option (List ℕ)) (start : Optio
     → IsOnItsWay contents start s text → IsOnItsWay contents start s (text ++ [])
 no_longer contents start s text h = subst (λ x. IsOnItsWay contents start s x) (sym (append-nil text)) h
 
-pub as_long : {W : Type 0} (contents : W → Option (List ℕ)) (start : Option (List ℕ)) (s : Outgoing W) (text : List ℕ)
-    → IsOnItsWay contents start s (text ++ []) → IsOnItsWay contents start s text
-as_long contents start s text h = subst (λ x. IsOnItsWay contents start s x) (append-nil text) h
-
 -- one piece after the other
 pub longer_twice : {W : Type 0} (contents : W → Option (List ℕ)) (a b : List ℕ) (s m t : Outgoing W)
     → Lengthens contents a s m → Lengthens contents b m t → Lengthens contents (a ++ b) s t
@@ -82,7 +87,8 @@ longer_twice contents a b s m t p q = λ start text h.
     subst (λ x. IsOnItsWay contents start t x) (append_assoc text a b) (q start (text ++ a) (p start text h))
 
 -- a piece that is held
-pub held_more : {W : Type 0} (contents : W → Option (List ℕ)) (more : List ℕ) (s t : Outgoing W) → s.failed ≡ false → t.failed ≡ false
+pub held_more : {W : Type 0} (contents : W → Option (List ℕ)) (more : List ℕ) (s t : Outgoing W) → s.failed ≡ false
+    → t.failed ≡ false
     → t.writer ≡ s.writer → t.held.items ≡ s.held.items ++ more → Lengthens contents more s t
 held_more contents more s t f u w e = λ start text h.
     let was = to_carries contents s.failed start s text f h in
@@ -91,13 +97,6 @@ held_more contents more s t f u w e = λ start text h.
       gone = subst (λ x. Appends start (contents x) was.sent) (sym w) was.gone;
       whole = ap (λ x. x ++ more) was.whole ∙ append_assoc was.sent s.held.items more ∙ ap (λ x. was.sent ++ x) (sym e);
     })
-
--- where the writer failed before, a piece is dropped
-pub dropped_more : {W : Type 0} (contents : W → Option (List ℕ)) (more : List ℕ) (s : Outgoing W) → s.failed ≡ true
-    → Lengthens contents more s s
-dropped_more contents more s f = λ start text h.
-    of_broken contents s.failed start s (text ++ more) f
-    (broken_more start (contents s.writer) text more (to_broken contents s.failed start s text f h))
 
 -- what was put and what is left are all, and nothing is left
 pub all_put : {W : Type 0} (contents : W → Option (List ℕ)) (done left all : List ℕ) (s t : Outgoing W)

@@ -11,7 +11,8 @@ use Rattle.swd_remote.specs.Runs.{AreMade, ExactUpTo, text_of, all_levels}
 use Rattle.swd_remote.specs.Ways.{IsOnItsWay}
 
 -- nothing was sent yet: the writer holds what it did at first, and the reader has what it had; the host drives SWDIO
-pub record IsFresh {R W : Type 0} (remaining : R → Option (List ℕ)) (contents : W → Option (List ℕ)) (sent left : Option (List ℕ))
+pub record IsFresh {R W : Type 0} (remaining : R → Option (List ℕ)) (contents : W → Option (List ℕ))
+    (sent left : Option (List ℕ))
     (start : ProbeTransport (Remote R W)) : Type 0 where
   pub well : start.probe.fault ≡ None
   pub asked : start.probe.asked ≡ 0
@@ -21,21 +22,25 @@ pub record IsFresh {R W : Type 0} (remaining : R → Option (List ℕ)) (content
   pub reader : remaining start.probe.reader ≡ left
 
 -- these calls were made since the beginning, the first one first, and nothing else was done to it
-pub record IsTold {R W : Type 0} (remaining : R → Option (List ℕ)) (contents : W → Option (List ℕ)) (sent left : Option (List ℕ))
+pub record IsTold {R W : Type 0} (remaining : R → Option (List ℕ)) (contents : W → Option (List ℕ))
+    (sent left : Option (List ℕ))
     (calls : List Made) (t : ProbeTransport (Remote R W)) : Type 0 where
   pub start : ProbeTransport (Remote R W)
   pub fresh : IsFresh remaining contents sent left start
   pub made : AreMade remaining contents calls start t
 
--- Of a line that is well at its end: exactly the characters of the calls went out, and Q, and exactly the levels that they told of
--- were read.
-pub record WentWell {R W : Type 0} (remaining : R → Option (List ℕ)) (contents : W → Option (List ℕ)) (sent left : Option (List ℕ))
+-- Of a line that is well at its end: exactly the characters of the calls went out, and Q, and exactly the levels that
+-- they told of were read.
+pub record WentWell {R W : Type 0} (remaining : R → Option (List ℕ)) (contents : W → Option (List ℕ))
+    (sent left : Option (List ℕ))
     (calls : List Made) (line : Line R W) : Type 0 where
   pub out : Appends sent (contents line.writer) (text_of true false calls ++ 81 ∷ [])
   pub reads : Consumes left (remaining line.reader) (all_levels calls)
 
--- These calls were made up to the end of a line. Up to the first fault they are exact; where there was none, all of them, and Q.
-pub record HangsUp {R W : Type 0} (remaining : R → Option (List ℕ)) (contents : W → Option (List ℕ)) (sent left : Option (List ℕ))
+-- These calls were made up to the end of a line. Up to the first fault they are exact; where there was none, all of
+-- them, and Q.
+pub record HangsUp {R W : Type 0} (remaining : R → Option (List ℕ)) (contents : W → Option (List ℕ))
+    (sent left : Option (List ℕ))
     (calls : List Made) (line : Line R W) : Type 0 where
   pub start : ProbeTransport (Remote R W)
   pub fresh : IsFresh remaining contents sent left start

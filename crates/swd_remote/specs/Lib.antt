@@ -2,7 +2,6 @@ pub mod Packets
 pub mod Characters
 pub mod Ways
 pub mod Remotes
-pub mod ClockedProbes
 pub mod Runs
 pub mod Kept
 pub mod WholeRuns

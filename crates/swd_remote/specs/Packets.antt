@@ -1,6 +1,7 @@
 -- The calls of a wire as stretches of clocks. Their lengths are the standard's (IHI 0031, B4); that 34 of the ones stay
 -- undriven where a data phase may be open is this project's choice.
-use Rattle.std.specs.Prelude.{ℕ, ◌≡◌, ◌-◌, ◌<◌, ◌≤◌, min, nat_lt, Bool, true, false, List, [], ◌∷◌, Result, Ok, Err, if◌then◌else◌}
+use Rattle.std.specs.Prelude.{ℕ, ◌≡◌, ◌-◌, ◌<◌, ◌≤◌, min, nat_lt, Bool, true, false, List, [], ◌∷◌, Result, Ok, Err}
+use Rattle.std.specs.Prelude.{if◌then◌else◌}
 use Rattle.swd_port.specs.declared.outside.Gone.{Gone}
 use Rattle.swd_remote.specs.declared.probe.Stretch.{Stretch}
 use Rattle.swd_remote.specs.declared.probe.Stretch.TheVariants.{Drive, Hold, Release, Sample}
@@ -45,7 +46,8 @@ QueuesBy false queues stretch s t = t ≡ s
 -- stretches are queued one after the other
 abbrev pub Queues : {P : Type 0} → (Stretch → P → P → Type 0) → List Stretch → P → P → Type 0
 Queues queues [] s t = t ≡ s
-Queues {P} queues (stretch ∷ more) s t = (m : P) × QueuesBy (has_clocks stretch) queues stretch s m × Queues queues more m t
+Queues {P} queues (stretch ∷ more) s t = (m : P) × QueuesBy (has_clocks stretch) queues stretch s m
+    × Queues queues more m t
 
 -- what a caller is told of an exchange: a number of so many values, or that the other end is gone
 abbrev pub IsToldOf : ℕ → Result ℕ Gone → Result ℕ Gone → Type 0

@@ -54,7 +54,8 @@ pub record Answered {R W : Type 0} (remaining : R → Option (List ℕ)) (conten
   pub fault : t.fault ≡ None
 
 -- where the writer failed, a beginning of what was queued went out, and nothing is read
-abbrev pub FailsAs : {R W : Type 0} → Option Fault → (R → Option (List ℕ)) → (W → Option (List ℕ)) → Remote R W → Remote R W → Type 0
+abbrev pub FailsAs : {R W : Type 0} → Option Fault → (R → Option (List ℕ)) → (W → Option (List ℕ)) → Remote R W
+    → Remote R W → Type 0
 FailsAs None remaining contents s t = ⊥
 FailsAs (Some Write) remaining contents s t =
     (t.reader ≡ s.reader) × (has_broken t.outgoing ≡ true) × Lengthens contents [] s.outgoing t.outgoing
@@ -68,7 +69,8 @@ ExchangesAt None remaining contents (Ok number) s t = Answered remaining content
 ExchangesAt None remaining contents (Err gone) s t = FailsAs t.fault remaining contents s t
 
 -- The host is done: all that was queued and Q went out.
-abbrev pub QuitsAt : {R W : Type 0} → Option Fault → (W → Option (List ℕ)) → Result (Unit {0}) Gone → Remote R W → Remote R W → Type 0
+abbrev pub QuitsAt : {R W : Type 0} → Option Fault → (W → Option (List ℕ)) → Result (Unit {0}) Gone → Remote R W
+    → Remote R W → Type 0
 QuitsAt (Some fault) contents result s t = IsErr result × (t ≡ s)
 QuitsAt None contents (Ok u) s t =
     (t.reader ≡ s.reader) × ((start : Option (List ℕ)) (text : List ℕ) → IsOnItsWay contents start s.outgoing text

@@ -1,4 +1,5 @@
--- The calls of a wire over remote_bitbang characters, one after the other: what goes out and what comes back for all of them.
+-- The calls of a wire over remote_bitbang characters, one after the other: what goes out and what comes back for all
+-- of them.
 use Rattle.std.specs.Prelude.{ℕ, ◌≡◌, Bool, true, false, List, [], ◌∷◌, ◌++◌, Option, Some, None, Result, Ok, IsOk}
 use Rattle.std.specs.Io.KnownBytes.{Appends, Consumes}
 use Rattle.swd_port.specs.declared.outside.Gone.{Gone}
@@ -89,8 +90,8 @@ pub record Exact {R W : Type 0} (remaining : R → Option (List ℕ)) (contents 
   pub out : Lengthens contents (text_of s.probe.drives s.owes calls) s.probe.outgoing t.probe.outgoing
   pub reads : Consumes (remaining s.probe.reader) (remaining t.probe.reader) (all_levels calls)
 
--- The other end went away in this call, after exact ones. What the call sent and read is what its contract says, and nothing was
--- sent or read after it.
+-- The other end went away in this call, after exact ones. What the call sent and read is what its contract says, and
+-- nothing was sent or read after it.
 pub record Ends {R W : Type 0} (remaining : R → Option (List ℕ)) (contents : W → Option (List ℕ)) (fault : Fault)
     (calls : List Made) (s t : ProbeTransport (Remote R W)) : Type 0 where
   pub done : List Made
@@ -117,9 +118,11 @@ RunsExactly {R} {W} remaining contents = (calls : List Made) (s t : ProbeTranspo
     → AreMade remaining contents calls s t → s.probe.fault ≡ None → s.probe.asked ≡ 0
     → ExactUpTo remaining contents t.probe.fault calls s t
 
--- And where the host then says that it is done, exactly these characters and Q went out, after what the writer began with.
+-- And where the host then says that it is done, exactly these characters and Q went out, after what the writer began
+-- with.
 abbrev pub QuitsExactly : {R W : Type 0} → (R → Option (List ℕ)) → (W → Option (List ℕ)) → Type 0
-QuitsExactly {R} {W} remaining contents = (calls : List Made) (start : Option (List ℕ)) (s t : ProbeTransport (Remote R W)) (u : Remote R W)
+QuitsExactly {R} {W} remaining contents = (calls : List Made) (start : Option (List ℕ))
+    (s t : ProbeTransport (Remote R W)) (u : Remote R W)
     (told : Unit {0}) → AreMade remaining contents calls s t → s.probe.fault ≡ None → s.probe.asked ≡ 0
     → IsOnItsWay contents start s.probe.outgoing [] → QuitsAt t.probe.fault contents (Ok told) t.probe u
     → Appends start (contents u.outgoing.writer) (text_of s.probe.drives s.owes calls ++ 81 ∷ [])

@@ -4,7 +4,8 @@ use Rattle.std.specs.Io.KnownBytes.{Appends}
 use Rattle.swd_remote.specs.declared.outgoing.Outgoing.{Outgoing}
 
 -- The writer began with `start`, and holds the text but for what is held back.
-pub record Carries {W : Type 0} (contents : W → Option (List ℕ)) (start : Option (List ℕ)) (way : Outgoing W) (text : List ℕ)
+pub record Carries {W : Type 0} (contents : W → Option (List ℕ)) (start : Option (List ℕ)) (way : Outgoing W)
+    (text : List ℕ)
     : Type 0 where
   pub sent : List ℕ
   pub gone : Appends start (contents way.writer) sent

@@ -11,9 +11,10 @@ use Rattle.swd_host.specs.Reports.{Closes, RunsOver, told_of}
 use Rattle.swd_remote.specs.declared.kept.Line.{Line}
 use Rattle.swd_remote.specs.Kept.{HangsUp}
 
--- These were the calls of a wire over a line from its beginning to its end, the last one first. And these are the calls that they
--- made of the transport, the first one first: their characters went out, and their levels were read.
-pub record GoesOver {R W : Type 0} (remaining : R → Option (List ℕ)) (contents : W → Option (List ℕ)) (sent left : Option (List ℕ))
+-- These were the calls of a wire over a line from its beginning to its end, the last one first. And these are the
+-- calls that they made of the transport, the first one first: their characters went out, and their levels were read.
+pub record GoesOver {R W : Type 0} (remaining : R → Option (List ℕ)) (contents : W → Option (List ℕ))
+    (sent left : Option (List ℕ))
     (line : Line R W) (calls : List Call) : Type 0 where
   pub made : List Made
   pub gone : Bool
@@ -22,12 +23,15 @@ pub record GoesOver {R W : Type 0} (remaining : R → Option (List ℕ)) (conten
   pub hangs : HangsUp remaining contents sent left made line
 
 -- a line over which nothing went
-abbrev pub IsUnused : {R W : Type 0} → (R → Option (List ℕ)) → (W → Option (List ℕ)) → Option (List ℕ) → Option (List ℕ) → Line R W → Type 0
+abbrev pub IsUnused : {R W : Type 0} → (R → Option (List ℕ)) → (W → Option (List ℕ)) → Option (List ℕ) → Option (List ℕ)
+    → Line R W → Type 0
 IsUnused remaining contents sent left line = (contents line.writer ≡ sent) × (remaining line.reader ≡ left)
 
 -- The calls of the wire of which the report tells, and all that went over the line.
-pub record RanOver {A R W : Type 0} (story : ℕ → Port) (accesses : List Access) (tries : ℕ) (remaining : R → Option (List ℕ))
-    (contents : W → Option (List ℕ)) (sent left : Option (List ℕ)) (result : Result (Report A) Refused) (line : Line R W) : Type 0 where
+pub record RanOver {A R W : Type 0} (story : ℕ → Port) (accesses : List Access) (tries : ℕ)
+    (remaining : R → Option (List ℕ))
+    (contents : W → Option (List ℕ)) (sent left : Option (List ℕ)) (result : Result (Report A) Refused)
+    (line : Line R W) : Type 0 where
   pub calls : List Call
   pub closes : IfOk result (λ report. Closes 0 1 accesses tries (told_of report) (due_by calls))
   pub fits : IfOk result (λ report. FitsStory story calls

@@ -1,5 +1,5 @@
 //! The levels that come back.
-ghost use Rattle.std.specs.Prelude.{◌≡◌, ◌≢◌, ◌<◌, ◌≤◌, ◌^◌, ℕ, length, take, OnOk, IfOk, IfErr, IfSome, IfNone};
+ghost use Rattle.std.specs.Prelude.{◌≡◌, ◌≢◌, ◌<◌, ◌≤◌, ◌^◌, length, OnOk, IfOk, IfErr, IfSome, IfNone};
 ghost use Rattle.std.specs.Io.KnownBytes.{Consumes};
 ghost use Rattle.swd_remote.specs.Characters.{levels, level_character};
 ghost use Rattle.swd_remote.specs.Remotes.{ReadsLevels, IsNoLevel, Stops};
@@ -13,7 +13,8 @@ pub(crate) const MOST: usize = 64;
 // Fills the buffer. A read that fails isn't tried again.
 fn fill<R: Read>(reader: &mut R, buffer: &mut [u8]) -> Result<(), Fault>
     ensures ok { OnOk result (Consumes (R.remaining reader.old) (R.remaining reader.new) buffer.new) }
-    ensures err { IfErr result (λ fault. Stops fault (length buffer.old) (R.remaining reader.old) (R.remaining reader.new)) }
+    ensures err { IfErr result (λ fault. Stops fault (length buffer.old) (R.remaining reader.old)
+        (R.remaining reader.new)) }
 {
     let mut at = 0;
     while at < buffer.len() {

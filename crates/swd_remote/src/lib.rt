@@ -1,8 +1,7 @@
-//! A way to a target by stretches of clocks, and the host over it: over single clocks, and over OpenOCD's
-//! remote_bitbang characters for serial wire.
+//! A way to a target by stretches of clocks, and the host over it, as over OpenOCD's remote_bitbang characters for
+//! serial wire.
 #![tactic(auto)]
 
-mod clocked_probe;
 mod kept;
 pub mod laws;
 mod levels;
@@ -12,12 +11,8 @@ mod probe_transport;
 mod remote;
 mod whole_run;
 
-pub use clocked_probe::ClockedProbe;
 pub use kept::{Beginning, Kept, Line};
 pub use probe::{Probe, Stretch};
 pub use probe_transport::ProbeTransport;
 pub use remote::{Fault, Remote};
 pub use whole_run::run_over_line;
-
-#[cfg(test)]
-mod tests;

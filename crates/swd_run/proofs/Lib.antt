@@ -1,6 +1,4 @@
-pub mod RemoteLemmas
 pub mod ReportLemmas
-pub mod LogLemmas
 pub mod RunLemmas
 pub mod WentLemmas
 pub mod SessionLemmas

@@ -1,7 +1,8 @@
 -- Laws of the text of a report.
 use Rattle.std.proofs.lemmas.List.{append-nil, drop_all, drop_min, drop-take, length-take, take_all, take_min}
 use Rattle.std.proofs.Math.Seq.{drop-cons}
-use Rattle.std.proofs.Common.{◌≡◌, ℕ, zero, suc, ◌+◌, ◌-◌, ◌<◌, ◌≤◌, List, [], ◌∷◌, ◌++◌, length, map, take, drop, get_or, min, refl, sym, ap, ap₂, ◌∙◌, append_assoc, arith, add-one}
+use Rattle.std.proofs.Common.{◌≡◌, ℕ, zero, suc, ◌+◌, ◌-◌, ◌<◌, ◌≤◌, List, [], ◌∷◌, ◌++◌, length, map, take, drop}
+use Rattle.std.proofs.Common.{get_or, min, refl, sym, ap, ap₂, ◌∙◌, append_assoc, arith, add-one}
 use Rattle.swd_port.specs.declared.access.Access.{Access}
 use Rattle.swd_port.specs.declared.access.Answer.{Answer}
 use Rattle.swd_run.specs.declared.going_on.Stop.{Stop}
@@ -10,12 +11,14 @@ use Rattle.swd_run.specs.Reports.{answer_lines, lines_between, lines_from, pair_
 -- one text more
 pub pairs_more : {X Y : Type 0} (text : X → Y → List ℕ) (xs : List X) (ys : List Y) (i : ℕ) (d : X) (e : Y)
     → i < length xs → i < length ys
-    → pair_texts text (take (i + 1) xs) (take (i + 1) ys) ≡ pair_texts text (take i xs) (take i ys) ++ text (get_or xs i d) (get_or ys i e)
+    → pair_texts text (take (i + 1) xs) (take (i + 1) ys) ≡ pair_texts text (take i xs) (take i ys)
+    ++ text (get_or xs i d) (get_or ys i e)
 pairs_more {X} {Y} text xs ys i d e h k =
     ap (λ n. pair_texts text (take n xs) (take n ys)) (add-one i) ∙ more xs ys i h k
   where
     more : (xs : List X) (ys : List Y) (i : ℕ) → i < length xs → i < length ys
-        → pair_texts text (take (suc i) xs) (take (suc i) ys) ≡ pair_texts text (take i xs) (take i ys) ++ text (get_or xs i d) (get_or ys i e)
+        → pair_texts text (take (suc i) xs) (take (suc i) ys) ≡ pair_texts text (take i xs) (take i ys)
+        ++ text (get_or xs i d) (get_or ys i e)
     more [] ys i h k = absurd (omega arith)
     more (x ∷ xs) [] i h k = absurd (omega arith)
     more (x ∷ xs) (y ∷ ys) zero h k = append-nil (text x y)
@@ -24,7 +27,8 @@ pairs_more {X} {Y} text xs ys i d e h k =
         ∙ sym (append_assoc (text x y) (pair_texts text (take i xs) (take i ys)) (text (get_or xs i d) (get_or ys i e)))
 
 -- the texts are all there once one of the lists ends
-pub pairs_whole : {X Y : Type 0} (text : X → Y → List ℕ) (xs : List X) (ys : List Y) (i : ℕ) → i ≡ min (length xs) (length ys)
+pub pairs_whole : {X Y : Type 0} (text : X → Y → List ℕ) (xs : List X) (ys : List Y) (i : ℕ)
+    → i ≡ min (length xs) (length ys)
     → pair_texts text (take i xs) (take i ys) ≡ pair_texts text xs ys
 pairs_whole text [] ys zero h = refl
 pairs_whole text [] ys (suc i) h = absurd (omega arith)
@@ -43,7 +47,8 @@ pairs_map text f h (x ∷ xs) (y ∷ ys) = ap (λ t. text (f x) (h y) ++ t) (pai
 -- ---- the parts of a report that was resumed
 
 -- the items from one place to another, as far as there are any
-pub between_is : {X : Type 0} (from to : ℕ) (xs : List X) (end start : ℕ) → end ≡ min to (length xs) → start ≡ min from end →
+pub between_is : {X : Type 0} (from to : ℕ) (xs : List X) (end start : ℕ) → end ≡ min to (length xs)
+    → start ≡ min from end →
     take (end - start) (drop start xs) ≡ drop from (take to xs)
 between_is from to xs end start e s =
     let many : length (take to xs) ≡ end = length-take to xs ∙ sym e in
@@ -61,21 +66,26 @@ pub text_next : (all text part line : List ℕ) → ((all ++ text) ++ part) ++ l
 text_next all text part line =
     append_assoc (all ++ text) part line ∙ append_assoc all text (part ++ line)
 
-pub lines_next : (accesses : List Access) (answers : List Answer) (stops : List Stop) (i from : ℕ) (d : Stop) (text whole part line : List ℕ) → i < length stops →
+pub lines_next : (accesses : List Access) (answers : List Answer) (stops : List Stop) (i from : ℕ) (d : Stop)
+    (text whole part line : List ℕ) → i < length stops →
     part ≡ lines_between from (get_or stops i d).answered accesses answers → line ≡ resume_line (get_or stops i d) →
     text ++ lines_from from (drop i stops) accesses answers ≡ whole →
-    (text ++ (part ++ (line ++ 10 ∷ []))) ++ lines_from (get_or stops i d).answered (drop (i + 1) stops) accesses answers ≡ whole
+    (text ++ (part ++ (line ++ 10 ∷ []))) ++ lines_from (get_or stops i d).answered (drop (i + 1) stops) accesses
+    answers ≡ whole
 lines_next accesses answers stops i from d text whole part line low part_is line_is e =
     let stop = get_or stops i d in
     let rest = lines_from stop.answered (drop (i + 1) stops) accesses answers in
-    let split : drop i stops ≡ stop ∷ drop (i + 1) stops = drop-cons stops i d low ∙ ap (λ n. stop ∷ drop n stops) (sym (add-one i)) in
+    let split : drop i stops ≡ stop ∷ drop (i + 1) stops = drop-cons stops i d low
+    ∙ ap (λ n. stop ∷ drop n stops) (sym (add-one i)) in
     append_assoc text (part ++ (line ++ 10 ∷ [])) rest ∙ ap (λ l. text ++ l) (append_assoc part (line ++ 10 ∷ []) rest)
     ∙ ap₂ (λ x y. text ++ (x ++ ((y ++ 10 ∷ []) ++ rest))) part_is line_is
     ∙ ap (λ l. text ++ lines_from from l accesses answers) (sym split) ∙ e
 
 -- and no line more
-pub lines_end : (accesses : List Access) (answers : List Answer) (stops : List Stop) (i from : ℕ) (text whole : List ℕ) → length stops ≤ i →
-    text ++ lines_from from (drop i stops) accesses answers ≡ whole → text ++ answer_lines (drop from accesses) (drop from answers) ≡ whole
+pub lines_end : (accesses : List Access) (answers : List Answer) (stops : List Stop) (i from : ℕ) (text whole : List ℕ)
+    → length stops ≤ i →
+    text ++ lines_from from (drop i stops) accesses answers ≡ whole
+    → text ++ answer_lines (drop from accesses) (drop from answers) ≡ whole
 lines_end accesses answers stops i from text whole high e =
     ap (λ l. text ++ lines_from from l accesses answers) (sym (drop_all i stops high)) ∙ e
 

@@ -1,5 +1,6 @@
 -- What a run over a simulated target says in terms of its plan.
-use Rattle.std.proofs.Common.{◌≡◌, ℕ, ◌+◌, ◌%◌, ◌≤◌, ◌∙◌, List, length, Option, Some, None, Result, Ok, Err, Bool, false, inl, inr, refl, sym, ap}
+use Rattle.std.proofs.Common.{◌≡◌, ℕ, ◌+◌, ◌%◌, ◌≤◌, ◌∙◌, List, length, Option, Some, None, Result, Ok, Err, Bool}
+use Rattle.std.proofs.Common.{false, inl, inr, refl, sym, ap}
 use Rattle.std.proofs.Common.{subst, arith}
 use Rattle.std.specs.Prelude.{◌↔◌, IfOk, IfSome, is_some, if◌then◌else◌}
 use Rattle.swd_trace.specs.declared.item.Item.{Item}
@@ -28,7 +29,8 @@ use Rattle.swd_text.specs.declared.fault.EngineFault.TheVariants.{Memory, TraceC
 use Rattle.swd_run.specs.Tracing.{AreItems, IsTraceOf, IsOfTrace, IsRecorded, RunsTraced}
 
 pub excused : (ended : End) (tries : ℕ) (marks : List Mark) (s t : Port) →
-    t.tally.disturbed ≤ disturbed_among marks → t.tally.lost ≤ lost_among marks → EndsAt ended tries s t → IsExcused ended tries marks
+    t.tally.disturbed ≤ disturbed_among marks → t.tally.lost ≤ lost_among marks → EndsAt ended tries s t
+    → IsExcused ended tries marks
 excused All tries marks s t p q e = tt
 excused Lost tries marks s t p q e = let grew = e.1 in omega arith
 excused TriesOut tries marks s t p q e = let grew = e.1 in omega arith
@@ -106,8 +108,10 @@ ends_at (WrongId word) tries s t e = absurd e
 ends_at Confused tries s t e = absurd e
 
 -- its items are its trace
-pub trace_of : (requests : ℕ) (ended : End) (port : Port) (items : List Item) → IsRecorded requests ended port → AreItems items
-    → transactions items + pending port.link.due ≡ port.tally.asked → EndsUnacknowledged items ↔ (port.link.due ≡ DueLost)
+pub trace_of : (requests : ℕ) (ended : End) (port : Port) (items : List Item) → IsRecorded requests ended port
+    → AreItems items
+    → transactions items + pending port.link.due ≡ port.tally.asked
+    → EndsUnacknowledged items ↔ (port.link.due ≡ DueLost)
     → IsTraceOf requests ended items
 trace_of requests ended port items recorded read count lost = record {
   read = read;
@@ -116,7 +120,8 @@ trace_of requests ended port items recorded read count lost = record {
 }
 
 -- and also where it was cut off they are of it
-pub of_trace : (requests : ℕ) (ended : End) (port : Port) (items : List Item) → IsRecorded requests ended port → AreItems items
+pub of_trace : (requests : ℕ) (ended : End) (port : Port) (items : List Item) → IsRecorded requests ended port
+    → AreItems items
     → transactions items ≤ port.tally.asked → IsOfTrace requests items
 of_trace requests ended port items recorded read most = record {
   read = read;
@@ -125,12 +130,15 @@ of_trace requests ended port items recorded read most = record {
 
 -- ---- what was read, and what came of it
 
-abbrev pub ran_as : (tries resumes : ℕ) (script plan : Option (List ℕ)) (m : Meaning) (marks : List Mark) (runs : List Done)
+abbrev pub ran_as : (tries resumes : ℕ) (script plan : Option (List ℕ)) (m : Meaning) (marks : List Mark)
+    (runs : List Done)
     → AreRead script plan m marks → RunsScript tries resumes m marks runs → Ran tries resumes script plan
-ran_as tries resumes script plan m marks runs read are = record { meaning = m; marks = marks; read = read; runs = runs; are = are }
+ran_as tries resumes script plan m marks runs read are =
+    record { meaning = m; marks = marks; read = read; runs = runs; are = are }
 
 -- what was written of the runs, as an answer to the texts
-pub text_runs : (tries resumes : ℕ) (script plan : Option (List ℕ)) (result : Result Finished EngineFault) (ran : Ran tries resumes script plan)
+pub text_runs : (tries resumes : ℕ) (script plan : Option (List ℕ)) (result : Result Finished EngineFault)
+    (ran : Ran tries resumes script plan)
     (old new : Option (List ℕ)) → WritesSession ran.meaning.batches ran.runs result old new
     → RunsText tries resumes result script plan old new
 text_runs tries resumes script plan (Ok finished) ran old new h = (ran, h.0, h.1)
@@ -144,17 +152,21 @@ text_runs tries resumes script plan (Err (Listing fault)) ran old new h = absurd
 text_runs tries resumes script plan (Err TraceCut) ran old new h = absurd h
 
 -- and of their trace
-pub traced_runs : (tries resumes : ℕ) (script plan : Option (List ℕ)) (result : Result Finished EngineFault) (cut : Bool)
+pub traced_runs : (tries resumes : ℕ) (script plan : Option (List ℕ)) (result : Result Finished EngineFault)
+    (cut : Bool)
     (ran : Ran tries resumes script plan) (items : List Item) (old new before after : Option (List ℕ))
-    → IsOfTrace (requests_of ran.runs) items → (cut ≡ false → IsTraceOf (requests_of ran.runs) (ended_of ran.runs) items)
+    → IsOfTrace (requests_of ran.runs) items
+    → (cut ≡ false → IsTraceOf (requests_of ran.runs) (ended_of ran.runs) items)
     → WritesBoth cut ran.meaning.batches ran.runs result items old new before after
     → RunsTraced tries resumes result script plan old new before after
 traced_runs tries resumes script plan (Ok finished) cut ran items old new before after of whole h =
     (ran, h.1, h.2, items, whole h.0, h.3)
-traced_runs tries resumes script plan (Err (Write written)) cut ran items old new before after of whole (inl short) = (ran, inl short)
+traced_runs tries resumes script plan (Err (Write written)) cut ran items old new before after of whole (inl short) =
+    (ran, inl short)
 traced_runs tries resumes script plan (Err (Write written)) cut ran items old new before after of whole (inr short) =
     (ran, inr (short.0, items, of, short.1))
-traced_runs tries resumes script plan (Err TraceCut) cut ran items old new before after of whole h = (ran, h.1, items, of, h.2)
+traced_runs tries resumes script plan (Err TraceCut) cut ran items old new before after of whole h =
+    (ran, h.1, items, of, h.2)
 traced_runs tries resumes script plan (Err (Script fault)) cut ran items old new before after of whole h = absurd h
 traced_runs tries resumes script plan (Err (Plan fault)) cut ran items old new before after of whole h = absurd h
 traced_runs tries resumes script plan (Err Read) cut ran items old new before after of whole h = absurd h

@@ -1,5 +1,6 @@
 -- Runs of a script, one after the other.
-use Rattle.std.proofs.Common.{◌≡◌, ℕ, zero, suc, ◌+◌, ◌<◌, ◌≤◌, ◌∙◌, List, [], ◌∷◌, ◌++◌, length, take, map, get_or, refl, sym, ap, subst}
+use Rattle.std.proofs.Common.{◌≡◌, ℕ, zero, suc, ◌+◌, ◌<◌, ◌≤◌, ◌∙◌, List, [], ◌∷◌, ◌++◌, length, take, map, get_or}
+use Rattle.std.proofs.Common.{refl, sym, ap, subst}
 use Rattle.std.proofs.Common.{arith, add-one}
 use Rattle.std.specs.Prelude.{◌↔◌, All as Each}
 use Rattle.std.proofs.lemmas.List.{length-append}
@@ -82,7 +83,8 @@ module _ {W : Type 0} (port : W → Port) (plan : W → List Mark) (lawful : W �
       where
         apart : (due : Due) → due ≡ Nothing → due ≡ DueLost → ⊥
         apart due e d = cc
-    ends batches runs t (then {batches = before} {runs = earlier} {t = u} {u = v} {batch = batch} {run = run} runs_before all goes) law =
+    ends batches runs t (then {batches = before} {runs = earlier} {t = u} {u = v} {batch = batch} {run = run}
+        runs_before all goes) law =
         let n : ℕ = most_begun batch in
         let back : lawful u = law_before port plan lawful n batch.accesses tries u run.stops run.told v goes.went law in
         let h : Ends earlier u = ends before earlier u runs_before back in
@@ -94,13 +96,16 @@ module _ {W : Type 0} (port : W → Port) (plan : W → List Mark) (lawful : W �
         let sum = requests_last earlier run in
         record {
           law = h.law;
-          at_rest = λ e. rests port plan lawful n batch.accesses tries u r run.stops run.told v goes.went law (sym last ∙ e);
+          at_rest = λ e. rests port plan lawful n batch.accesses tries u r run.stops run.told v goes.went law
+              (sym last ∙ e);
           counted = omega (arith, many, before_counted, sum);
-          ending = subst (λ x. (pending (port v).link.due ≡ 0) × (((port v).link.due ≡ DueLost) ↔ (x ≡ Lost))) (sym last) ending_is;
+          ending = subst (λ x. (pending (port v).link.due ≡ 0) × (((port v).link.due ≡ DueLost) ↔ (x ≡ Lost)))
+              (sym last) ending_is;
         }
 
     pub recorded : (batches : List Listed) (runs : List Done) (t : W) → (port s).tally.asked ≡ 0
-        → Runs port plan lawful most_begun tries resumes s batches runs t → lawful t → IsRecorded (requests_of runs) (ended_of runs) (port t)
+        → Runs port plan lawful most_begun tries resumes s batches runs t → lawful t
+        → IsRecorded (requests_of runs) (ended_of runs) (port t)
     recorded batches runs t no_request all law =
         let h : Ends runs t = ends batches runs t all law in
         let many = h.counted in
@@ -114,9 +119,11 @@ module _ {W : Type 0} (port : W → Port) (plan : W → List Mark) (lawful : W �
           → Runs port plan lawful most_begun tries resumes s batches runs t → lawful t
           → (plan t ≡ marks) × Session tries resumes marks (port s).target.memory batches runs (port t).target.memory
       sessions batches runs t none law = (planned, no_run)
-      sessions batches runs t (then {batches = before} {runs = earlier} {t = u} {u = v} {batch = batch} {run = run} runs_before all goes) law =
+      sessions batches runs t (then {batches = before} {runs = earlier} {t = u} {u = v} {batch = batch} {run = run}
+          runs_before all goes) law =
           let n : ℕ = most_begun batch in
-          let back : lawful u = law_before port plan lawful n batch.accesses tries u run.stops run.told v goes.went law in
+          let back : lawful u = law_before port plan lawful n batch.accesses tries u run.stops run.told v goes.went
+          law in
           let (same, session) = sessions before earlier u runs_before back in
           let r : IsAtRest (port u) = (ends before earlier u runs_before back).at_rest all in (
             plan_kept port plan lawful n batch.accesses tries u run.stops run.told v goes.went ∙ same,
@@ -132,7 +139,8 @@ batch_at P f xs i x each is low =
     subst P (map_at f xs i x ∙ ap f (sym is)) (each i (f x) (let many = map_length f xs in omega (arith, many, low)))
 
 -- one run more of a list of batches, in the form of the lists that are kept
-pub runs_after : {W X Y : Type 0} (port : W → Port) (plan : W → List Mark) (lawful : W → Type 0) (tries resumes : ℕ) (s t u : W)
+pub runs_after : {W X Y : Type 0} (port : W → Port) (plan : W → List Mark) (lawful : W → Type 0) (tries resumes : ℕ)
+    (s t u : W)
     (f : X → Listed) (h : Y → Done) (xs : List X) (ys : List Y) (i : ℕ) (x : X) (y : Y) (now : List Y)
     → Runs port plan lawful most_begun tries resumes s (take i (map f xs)) (map h ys) t → ended_of (map h ys) ≡ All
     → x ≡ get_or xs i x → i < length xs → now ≡ ys ++ y ∷ []
@@ -143,19 +151,23 @@ runs_after port plan lawful tries resumes s t u f h xs ys i x y now before all i
     ap (λ z. take i (map f xs) ++ f z ∷ []) is ∙ sym (one_more_of f xs i x low) in
     let runs : map h ys ++ h y ∷ [] ≡ map h now = sym (map_last h ys y) ∙ ap (map h) (sym pushed) in
     subst (λ z. Runs port plan lawful most_begun tries resumes s z (map h now) u) batches
-    (subst (λ z. Runs port plan lawful most_begun tries resumes s (take i (map f xs) ++ f x ∷ []) z u) runs (then before all goes))
+    (subst (λ z. Runs port plan lawful most_begun tries resumes s (take i (map f xs) ++ f x ∷ []) z u) runs
+    (then before all goes))
 
 pub ended_after : {Y : Type 0} (h : Y → Done) (ys : List Y) (y : Y) (now : List Y) → now ≡ ys ++ y ∷ []
     → ended_of (map h now) ≡ (h y).told.ended
-ended_after h ys y now pushed = ap (λ l. ended_of (map h l)) pushed ∙ ap ended_of (map_last h ys y) ∙ ended_last (map h ys) (h y)
+ended_after h ys y now pushed = ap (λ l. ended_of (map h l)) pushed ∙ ap ended_of (map_last h ys y)
+    ∙ ended_last (map h ys) (h y)
 
 pub length_after : {Y : Type 0} (ys : List Y) (y : Y) (now : List Y) → now ≡ ys ++ y ∷ [] → length now ≡ length ys + 1
 length_after ys y now pushed = ap length pushed ∙ length-append ys (y ∷ [])
 
 -- ---- a script over a target that was just made
 
-module _ {W : Type 0} (port : W → Port) (plan : W → List Mark) (lawful : W → Type 0) (tries resumes : ℕ) (script : Meaning)
-    (marks : List Mark) (runs : List Done) (s t : W) (is_made : port s ≡ made 731911287 (memory_of script)) (planned : plan s ≡ marks)
+module _ {W : Type 0} (port : W → Port) (plan : W → List Mark) (lawful : W → Type 0) (tries resumes : ℕ)
+    (script : Meaning)
+    (marks : List Mark) (runs : List Done) (s t : W) (is_made : port s ≡ made 731911287 (memory_of script))
+    (planned : plan s ≡ marks)
     (marked : (w : W) → plan w ≡ marks
     → ((port w).tally.disturbed ≤ disturbed_among marks) × ((port w).tally.lost ≤ lost_among marks)) (law : lawful t)
     (all : RunsAll port plan lawful most_begun tries resumes script.batches s runs t) where
@@ -163,15 +175,18 @@ module _ {W : Type 0} (port : W → Port) (plan : W → List Mark) (lawful : W �
   script_runs =
       let rest : IsAtRest (port s) = made_rests (memory_of script) (port s) is_made in
       let batches : List Listed = take (length runs) script.batches in
-      let (same, session) = sessions port plan lawful tries resumes s rest marks planned marked batches runs t all.runs_are law in
+      let (same, session) = sessions port plan lawful tries resumes s rest marks planned marked batches runs t
+      all.runs_are law in
       record {
         memory = (port t).target.memory;
-        session = subst (λ m. Session tries resumes marks m batches runs (port t).target.memory) (ap (λ x. x.target.memory) is_made) session;
+        session = subst (λ m. Session tries resumes marks m batches runs (port t).target.memory)
+            (ap (λ x. x.target.memory) is_made) session;
         whole = all.whole;
       }
 
   -- what they leave on a wire that was recorded from its start
   pub script_recorded : IsRecorded (requests_of runs) (ended_of runs) (port t)
   script_recorded =
-      recorded port plan lawful tries resumes s (made_rests (memory_of script) (port s) is_made) (take (length runs) script.batches) runs t
+      recorded port plan lawful tries resumes s (made_rests (memory_of script) (port s) is_made)
+      (take (length runs) script.batches) runs t
       (ap (λ x. x.tally.asked) is_made) all.runs_are law

@@ -1,5 +1,6 @@
 -- Words that a script tells, and what was read.
-use Rattle.std.proofs.Common.{◌≡◌, ℕ, suc, ◌+◌, ◌<◌, ◌≤◌, ◌∙◌, List, [], ◌∷◌, length, drop, get_or, map, min, Option, Some, None, Bool, true, false, inl, inr, refl, sym, ap, arith, add-one}
+use Rattle.std.proofs.Common.{◌≡◌, ℕ, suc, ◌+◌, ◌<◌, ◌≤◌, ◌∙◌, List, [], ◌∷◌, length, drop, get_or, map, min, Option}
+use Rattle.std.proofs.Common.{Some, None, Bool, true, false, inl, inr, refl, sym, ap, arith, add-one}
 use Rattle.std.specs.Prelude.{◌⊎◌, nat_le}
 use Rattle.std.proofs.lemmas.Bool.Decides.{nat_tests}
 use Rattle.std.proofs.Math.Seq.{drop-cons}
@@ -17,33 +18,41 @@ split xs i x is low =
 
 -- what is left of the reads of a run
 pub reads_left : (reads : List Expected) (answers : List Answer) (i : ℕ) (d : Expected) → i < length reads
-    → difference_in (drop i reads) answers ≡ or_else (differs_among answers (get_or reads i d)) (difference_in (drop (i + 1) reads) answers)
+    → difference_in (drop i reads) answers ≡ or_else (differs_among answers (get_or reads i d))
+    (difference_in (drop (i + 1) reads) answers)
 reads_left reads answers i d low =
-    ap (λ l. difference_in l answers) (drop-cons reads i d low ∙ ap (λ n. get_or reads i d ∷ drop n reads) (sym (add-one i)))
+    ap (λ l. difference_in l answers)
+    (drop-cons reads i d low ∙ ap (λ n. get_or reads i d ∷ drop n reads) (sym (add-one i)))
 
-pub no_read_left : (reads : List Expected) (answers : List Answer) (i : ℕ) → length reads ≤ i → difference_in (drop i reads) answers ≡ None
+pub no_read_left : (reads : List Expected) (answers : List Answer) (i : ℕ) → length reads ≤ i
+    → difference_in (drop i reads) answers ≡ None
 no_read_left reads answers i high = ap (λ l. difference_in l answers) (drop_all i reads high)
 
-pub found_first : (result later whole : Option Difference) (found : Difference) → result ≡ Some found → whole ≡ or_else result later
+pub found_first : (result later whole : Option Difference) (found : Difference) → result ≡ Some found
+    → whole ≡ or_else result later
     → Some found ≡ whole
 found_first result later whole found is e = sym (e ∙ ap (λ r. or_else r later) is)
 
-pub found_later : (result later whole : Option Difference) → result ≡ None → whole ≡ or_else result later → whole ≡ later
+pub found_later : (result later whole : Option Difference) → result ≡ None → whole ≡ or_else result later
+    → whole ≡ later
 found_later result later whole is e = e ∙ ap (λ r. or_else r later) is
 
 module _ {X Y : Type 0} (f : X → Listed) (h : Y → Done) (xs : List X) (ys : List Y) where
   -- what is left of the runs
   pub runs_left : (i : ℕ) (x : X) (y : Y) → x ≡ get_or xs i x → y ≡ get_or ys i y → i < length xs → i < length ys
       → first_difference (map f (drop i xs)) (map h (drop i ys))
-      ≡ or_else (difference_in (f x).expected (h y).told.answers) (first_difference (map f (drop (i + 1) xs)) (map h (drop (i + 1) ys)))
+      ≡ or_else (difference_in (f x).expected (h y).told.answers)
+      (first_difference (map f (drop (i + 1) xs)) (map h (drop (i + 1) ys)))
   runs_left i x y is_x is_y low_x low_y =
       ap (λ l. first_difference (map f l) (map h (drop i ys))) (split xs i x is_x low_x)
       ∙ ap (λ l. first_difference (map f (x ∷ drop (i + 1) xs)) (map h l)) (split ys i y is_y low_y)
 
-  pub no_run_left : (i : ℕ) → i ≡ min (length xs) (length ys) → first_difference (map f (drop i xs)) (map h (drop i ys)) ≡ None
+  pub no_run_left : (i : ℕ) → i ≡ min (length xs) (length ys)
+      → first_difference (map f (drop i xs)) (map h (drop i ys)) ≡ None
   no_run_left i end = ended (drop i xs) (drop i ys) (one_ends i xs ys end)
     where
-      one_ends : (i : ℕ) (xs : List X) (ys : List Y) → i ≡ min (length xs) (length ys) → (drop i xs ≡ []) ⊎ (drop i ys ≡ [])
+      one_ends : (i : ℕ) (xs : List X) (ys : List Y) → i ≡ min (length xs) (length ys)
+          → (drop i xs ≡ []) ⊎ (drop i ys ≡ [])
       one_ends i xs ys end = by_le (nat_le (length xs) (length ys)) refl
         where
           by_le : (t : Bool) → nat_le (length xs) (length ys) ≡ t → (drop i xs ≡ []) ⊎ (drop i ys ≡ [])

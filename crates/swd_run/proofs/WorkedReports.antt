@@ -12,8 +12,15 @@ use Rattle.swd_run.specs.Reports.{lines_from, report_text}
 fed : List ℕ → List ℕ
 fed line = line ++ 10 ∷ []
 
-report : report_text (Write 536870912 3735928559 ∷ Read 536870912 ∷ Read 805306368 ∷ []) [] (record { answers = Written ∷ Value 3735928559 ∷ BusFault ∷ []; begun = 0; requests = 9; ended = WrongId 731911286 }) ≡
-    fed (codes "w 20000000 written") ++ fed (codes "r 20000000 deadbeef") ++ fed (codes "r 30000000 busfault") ++ fed (codes "end id 2ba01476")
+report : report_text (Write 536870912 3735928559 ∷ Read 536870912 ∷ Read 805306368 ∷ []) []
+    (record {
+      answers = Written ∷ Value 3735928559 ∷ BusFault ∷ [];
+      begun = 0;
+      requests = 9;
+      ended = WrongId 731911286;
+    }) ≡
+    fed (codes "w 20000000 written") ++ fed (codes "r 20000000 deadbeef") ++ fed (codes "r 30000000 busfault")
+    ++ fed (codes "end id 2ba01476")
 unfolding fed hex8 hex2
 report = refl
 
@@ -21,7 +28,10 @@ report = refl
 again : List ℕ
 again = codes "resume " ++ (decimal 1 ++ codes " begun " ++ decimal 1)
 
-resumed : lines_from 0 (record { answered = 1; begun = 1; requests = 14 } ∷ record { answered = 1; begun = 1; requests = 1 } ∷ []) (Write 536870912 3735928559 ∷ Read 536870912 ∷ Read 805306368 ∷ []) (Written ∷ Value 3735928559 ∷ BusFault ∷ []) ≡
-    fed (codes "w 20000000 written") ++ (fed again ++ (fed again ++ (fed (codes "r 20000000 deadbeef") ++ fed (codes "r 30000000 busfault"))))
+resumed : lines_from 0 (record { answered = 1; begun = 1; requests = 14 } ∷
+    record { answered = 1; begun = 1; requests = 1 } ∷ [])
+    (Write 536870912 3735928559 ∷ Read 536870912 ∷ Read 805306368 ∷ []) (Written ∷ Value 3735928559 ∷ BusFault ∷ []) ≡
+    fed (codes "w 20000000 written")
+    ++ (fed again ++ (fed again ++ (fed (codes "r 20000000 deadbeef") ++ fed (codes "r 30000000 busfault"))))
 unfolding fed again hex8 hex2
 resumed = refl

@@ -18,16 +18,20 @@ abbrev pub IsFinished : List Listed → List Done → Finished → Type 0
 IsFinished batches runs finished = (finished.ended ≡ ended_of runs) × (finished.differs ≡ first_difference batches runs)
 
 -- what was written of the reports
-abbrev pub WritesSession : List Listed → List Done → Result Finished EngineFault → Option (List ℕ) → Option (List ℕ) → Type 0
-WritesSession batches runs (Ok finished) old new = IsFinished batches runs finished × Appends old new (session_text batches runs)
+abbrev pub WritesSession : List Listed → List Done → Result Finished EngineFault → Option (List ℕ) → Option (List ℕ)
+    → Type 0
+WritesSession batches runs (Ok finished) old new = IsFinished batches runs finished
+    × Appends old new (session_text batches runs)
 WritesSession batches runs (Err (Write written)) old new = Stopped written old new (session_text batches runs)
 WritesSession batches runs (Err fault) old new = ⊥
 
 -- what was written of the reports, and then of the trace of these items, of which the last ones were cut off or not
-abbrev pub WritesBoth : Bool → List Listed → List Done → Result Finished EngineFault → List Item → Option (List ℕ) → Option (List ℕ)
+abbrev pub WritesBoth : Bool → List Listed → List Done → Result Finished EngineFault → List Item → Option (List ℕ)
+    → Option (List ℕ)
     → Option (List ℕ) → Option (List ℕ) → Type 0
 WritesBoth cut batches runs (Ok finished) items old new before after =
-    (cut ≡ false) × IsFinished batches runs finished × Appends old new (session_text batches runs) × Appends before after (trace_text items)
+    (cut ≡ false) × IsFinished batches runs finished × Appends old new (session_text batches runs)
+    × Appends before after (trace_text items)
 WritesBoth cut batches runs (Err TraceCut) items old new before after =
     (cut ≡ true) × Appends old new (session_text batches runs) × Appends before after (trace_text items)
 WritesBoth cut batches runs (Err (Write written)) items old new before after =

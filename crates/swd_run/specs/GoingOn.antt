@@ -28,7 +28,8 @@ in_all stops told = record told { requests = requests_before stops + told.reques
 -- A run over a wire and the calls of `resume` after it, each of them at a lost acknowledgement: from the wire s to the
 -- wire t, with the places where it was resumed, and with what the last call told. Whatever came back, each call closes;
 -- and where it was lawful, it fits.
-pub data Went {W : Type 0} (port : W → Port) (plan : W → List Mark) (lawful : W → Type 0) (limit : ℕ) (list : List Access)
+pub data Went {W : Type 0} (port : W → Port) (plan : W → List Mark) (lawful : W → Type 0) (limit : ℕ)
+    (list : List Access)
     (tries : ℕ) (s : W) : List Stop → Told → W → Type 0 where
   ran : {told : Told} {t : W} → plan t ≡ plan s → Closes 0 limit list tries told (port t).link.due
       → (lawful t → lawful s × RunsWithin limit list tries told (port s) (port t))
@@ -41,7 +42,8 @@ pub data Went {W : Type 0} (port : W → Port) (plan : W → List Mark) (lawful 
 
 -- WHAT THEY TELL
 -- One call of a run over n accesses: after so many answers of the calls before it, of which the last one left so many
--- accesses open, it came to so many answers, with so many accesses begun that aren't answered, and sent so many requests.
+-- accesses open, it came to so many answers, with so many accesses begun that aren't answered, and sent so many
+-- requests.
 pub record IsCall (spare limit tries n from left answered begun requests : ℕ) (ended : End) : Type 0 where
   pub grows : from ≤ answered
   pub number : answered ≤ n
@@ -54,8 +56,8 @@ pub record IsCall (spare limit tries n from left answered begun requests : ℕ) 
   -- no more than its tries allow, whatever the plan: no access took requests but those that it answered and the next
   pub spends : requests ≤ spare + most_requests tries (min (n - from) (answered - from + 1))
 
--- The calls one after the other. Beside what the opening of a run may take, going on may take five requests more, and it
--- leaves one access open at most.
+-- The calls one after the other. Beside what the opening of a run may take, going on may take five requests more, and
+-- it leaves one access open at most.
 abbrev pub AreCalls : (spare limit tries n from left : ℕ) → List Stop → Told → Type 0
 AreCalls spare limit tries n from left [] told =
     IsCall spare limit tries n from left (length told.answers) told.begun told.requests told.ended
@@ -83,9 +85,9 @@ pub record ToldAgain (stops : List Stop) (list : List Access) (m : PlainMemory) 
   pub left : told.ended ≡ All → memory ≡ after
   pub words : told.ended ≡ All → after.words ≡ (memory_after list m).words
 
--- What the calls over this memory tell, and what they leave. The answers of the first one are the plain memory's. So are
--- all answers, unless the first one was a block that left two accesses open, and where the log has room for the accesses
--- that are done twice.
+-- What the calls over this memory tell, and what they leave. The answers of the first one are the plain memory's. So
+-- are all answers, unless the first one was a block that left two accesses open, and where the log has room for the
+-- accesses that are done twice.
 pub record TellOf (limit tries : ℕ) (list : List Access) (m : PlainMemory) (stops : List Stop) (told : Told)
     (after : PlainMemory) : Type 0 where
   pub calls : AreCalls 0 limit tries (length list) 0 0 stops told

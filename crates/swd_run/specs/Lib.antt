@@ -5,6 +5,3 @@ pub mod Reports
 pub mod Verified
 pub mod Running
 pub mod Tracing
-pub mod Serving
-pub mod TargetLogs
-pub mod RemoteRuns

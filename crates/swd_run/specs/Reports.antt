@@ -1,5 +1,7 @@
--- The report of a run: a line for each answer, one for each time that the run was resumed, and one for how it ended. The text is this project's choice.
-use Rattle.std.specs.Prelude.{ℕ, ◌≡◌, ◌-◌, ◌^◌, min, List, [], ◌∷◌, ◌++◌, length, take, drop, codes, Option, Result, Ok, Err}
+-- The report of a run: a line for each answer, one for each time that the run was resumed, and one for how it ended.
+-- The text is this project's choice.
+use Rattle.std.specs.Prelude.{ℕ, ◌≡◌, ◌-◌, ◌^◌, min, List, [], ◌∷◌, ◌++◌, length, take, drop, codes, Option, Result, Ok}
+use Rattle.std.specs.Prelude.{Err}
 use Rattle.std.specs.Io.KnownBytes.{Appends}
 use Rattle.swd_io.specs.Blocks.{Stopped}
 use Rattle.std.specs.Fmt.{decimal}

@@ -1,5 +1,6 @@
 -- What an answer to a script and a plan says: the theorem of the host, over texts.
-use Rattle.std.specs.Prelude.{◌≡◌, ℕ, ◌+◌, ◌*◌, ◌<◌, ◌≤◌, List, [], ◌∷◌, ◌++◌, length, take, Option, Result, Ok, Err, IfSome}
+use Rattle.std.specs.Prelude.{◌≡◌, ℕ, ◌+◌, ◌*◌, ◌<◌, ◌≤◌, List, [], ◌∷◌, ◌++◌, length, take, Option, Result, Ok, Err}
+use Rattle.std.specs.Prelude.{IfSome}
 use Rattle.std.specs.Prelude.{IsOk, is_some, if◌then◌else◌, min}
 use Rattle.std.specs.Io.KnownBytes.{Appends}
 use Rattle.swd_io.specs.Blocks.{Stopped}
@@ -44,19 +45,21 @@ abbrev pub most_begun : Listed → ℕ
 most_begun batch = if is_some batch.block then 2 else 1
 
 -- What a run comes to over a memory under a plan. The report fits the memory before it, and that after it.
-pub record RunsAs (tries : ℕ) (batch : Listed) (before : PlainMemory) (marks : List Mark) (told : Told) (after : PlainMemory)
+pub record RunsAs (tries : ℕ) (batch : Listed) (before : PlainMemory) (marks : List Mark) (told : Told)
+    (after : PlainMemory)
     : Type 0 where
   pub fits : Fits (most_begun batch) batch.accesses before told after
   pub excused : IsExcused told.ended tries marks
   pub whole : lost_among marks ≡ 0 → disturbed_among marks ≤ tries → told.ended ≡ All
   pub least : told.ended ≡ All → 9 + length batch.accesses ≤ told.requests
   pub most : told.requests ≤ 9 + 6 * length batch.accesses + 5 * disturbed_among marks
-  -- no more than so many tries allow, whatever the plan: no access took requests but those that are answered and the next
+  -- no more than so many tries allow, whatever the plan: no access took requests but those that are answered and the
+  -- next
   pub spends : told.requests ≤ most_requests tries (min (length batch.accesses) (length told.answers + 1))
 
--- What a run comes to that may be resumed so many times. Where it never was, it comes to what a run does. Else its calls
--- tell of the memory before it; each place where it was resumed is a request that the plan lost; and it ends at a lost
--- acknowledgement only where the plan loses more requests than it may be resumed.
+-- What a run comes to that may be resumed so many times. Where it never was, it comes to what a run does. Else its
+-- calls tell of the memory before it; each place where it was resumed is a request that the plan lost; and it ends at
+-- a lost acknowledgement only where the plan loses more requests than it may be resumed.
 pub record RunsOn (tries resumes : ℕ) (batch : Listed) (before : PlainMemory) (marks : List Mark) (stops : List Stop)
     (told : Told) (after : PlainMemory) : Type 0 where
   pub alone : stops ≡ [] → RunsAs tries batch before marks told after
@@ -72,15 +75,16 @@ pub record RunsOn (tries resumes : ℕ) (batch : Listed) (before : PlainMemory) 
 
 -- The runs of a script, one after the other over the plain memory: each comes to what `RunsOn` says of the memory that
 -- the one before left, and begins only where that one ended all.
-pub data Session (tries resumes : ℕ) (marks : List Mark) (m : PlainMemory) : List Listed → List Done → PlainMemory → Type 0 where
+pub data Session (tries resumes : ℕ) (marks : List Mark) (m : PlainMemory) : List Listed → List Done → PlainMemory
+    → Type 0 where
   none : Session tries resumes marks m [] [] m
   then : {batches : List Listed} {runs : List Done} {before after : PlainMemory} {batch : Listed} {run : Done}
       → Session tries resumes marks m batches runs before → ended_of runs ≡ All
       → RunsOn tries resumes batch before marks run.stops run.told after
       → Session tries resumes marks m (batches ++ batch ∷ []) (runs ++ run ∷ []) after
 
--- The runs of a script over a target that was just made with its memory: all of them, or those up to one that did not end
--- all.
+-- The runs of a script over a target that was just made with its memory: all of them, or those up to one that did not
+-- end all.
 pub record RunsScript (tries resumes : ℕ) (script : Meaning) (marks : List Mark) (runs : List Done) : Type 0 where
   pub memory : PlainMemory
   pub session : Session tries resumes marks (memory_of script) (take (length runs) script.batches) runs memory
@@ -125,14 +129,17 @@ AreUnread (Text fault) script plan = ⊥
 AreUnread (Listing fault) script plan = ⊥
 AreUnread TraceCut script plan = ⊥
 
--- What an answer says of the readers' texts, where their bytes are known, and of what the writer holds before and after.
+-- What an answer says of the readers' texts, where their bytes are known, and of what the writer holds before and
+-- after.
 abbrev pub RunsText : ℕ → ℕ → Result Finished EngineFault → Option (List ℕ) → Option (List ℕ) → Option (List ℕ)
     → Option (List ℕ) → Type 0
 RunsText tries resumes (Ok finished) script plan old new =
-    (ran : Ran tries resumes script plan) × IsFinished ran.meaning.batches ran.runs finished × Appends old new (report_of ran)
+    (ran : Ran tries resumes script plan) × IsFinished ran.meaning.batches ran.runs finished
+    × Appends old new (report_of ran)
 RunsText tries resumes (Err (Write written)) script plan old new =
     (ran : Ran tries resumes script plan) × Stopped written old new (report_of ran)
-RunsText tries resumes (Err (Script fault)) script plan old new = AreUnread (Script fault) script plan × Appends old new []
+RunsText tries resumes (Err (Script fault)) script plan old new = AreUnread (Script fault) script plan
+    × Appends old new []
 RunsText tries resumes (Err (Plan fault)) script plan old new = AreUnread (Plan fault) script plan × Appends old new []
 RunsText tries resumes (Err Read) script plan old new = Appends old new []
 RunsText tries resumes (Err Memory) script plan old new = IsScript script × IsPlan plan × Appends old new []

@@ -46,8 +46,10 @@ pub record IsRecorded (requests : ℕ) (ended : End) (port : Port) : Type 0 wher
 abbrev pub RunsTraced : ℕ → ℕ → Result Finished EngineFault → Option (List ℕ) → Option (List ℕ) → Option (List ℕ)
     → Option (List ℕ) → Option (List ℕ) → Option (List ℕ) → Type 0
 RunsTraced tries resumes (Ok finished) script plan old new before after =
-    (ran : Ran tries resumes script plan) × IsFinished ran.meaning.batches ran.runs finished × Appends old new (report_of ran)
-    × (items : List Item) × IsTraceOf (requests_of ran.runs) (ended_of ran.runs) items × Appends before after (trace_text items)
+    (ran : Ran tries resumes script plan) × IsFinished ran.meaning.batches ran.runs finished
+    × Appends old new (report_of ran)
+    × (items : List Item) × IsTraceOf (requests_of ran.runs) (ended_of ran.runs) items
+    × Appends before after (trace_text items)
 RunsTraced tries resumes (Err TraceCut) script plan old new before after =
     (ran : Ran tries resumes script plan) × Appends old new (report_of ran)
     × (items : List Item) × IsOfTrace (requests_of ran.runs) items × Appends before after (trace_text items)

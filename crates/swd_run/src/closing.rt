@@ -40,7 +40,7 @@ fn outcome_of<A: Allocator>(batches: &[Batch<A>], session: &Session<A>) -> Finis
 /// # Errors
 ///
 /// `Write` where the writer failed, or took no bytes, after exactly its first `written` bytes.
-pub(crate) fn write_session<W: Write, A: Allocator>(
+pub fn write_session<W: Write, A: Allocator>(
     writer: &mut W,
     batches: &[Batch<A>],
     session: &Session<A>,
@@ -62,7 +62,7 @@ pub(crate) fn write_session<W: Write, A: Allocator>(
 ///
 /// `Write` where the report's writer failed, or the trace's, once the report stands whole. `TraceCut` where
 /// items were cut off, once both are written.
-pub(crate) fn write_both<O: Write, T: Write, A: Allocator>(
+pub fn write_both<O: Write, T: Write, A: Allocator>(
     report: &mut O,
     trace: &mut T,
     batches: &[Batch<A>],

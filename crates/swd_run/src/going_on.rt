@@ -42,12 +42,12 @@ impl Stop {
 }
 
 /// A run and what was resumed of it.
-#[derive(Drop)]
-pub(crate) struct Resumed<A: Allocator> {
+#[derive(Debug, Drop)]
+pub struct Resumed<A: Allocator> {
     /// Where it was resumed, the first place first.
-    pub(crate) stops: Vec<Stop, A>,
+    pub stops: Vec<Stop, A>,
     /// What the last call told, with all answers.
-    pub(crate) report: Report<A>,
+    pub report: Report<A>,
 }
 
 // Goes on with the accesses of a batch. `None` where memory was refused, before the first bit.

@@ -5,25 +5,18 @@
 
 mod closing;
 mod going_on;
-mod remote;
 mod report;
 mod running;
-mod serving;
 mod session;
-mod target_log;
 mod texts;
 mod tracing;
 mod verified;
 
-pub use closing::Finished;
-pub use going_on::Stop;
-pub use remote::{run_remote, run_remote_traced};
+pub use closing::{Finished, write_both, write_session};
+pub use going_on::{Resumed, Stop};
 pub use report::{ReportLine, answer_line, last_line, resume_line};
-pub use running::run_text;
-pub use serving::{TargetFault, read_target};
-pub use target_log::write_log;
+pub use running::{QUIRKS, run_text, zero_memory};
+pub use session::{Session, run_all};
+pub use texts::{Texts, read_texts, script_fault};
 pub use tracing::run_traced;
 pub use verified::Difference;
-
-#[cfg(test)]
-mod tests;

@@ -182,7 +182,8 @@ fn write_run<W: Write, A: Allocator>(
     report: &Report<A>,
 ) -> Result<u64, u64>
     ensures { (start : Option (List ℕ)) (all : List ℕ) → HasWritten start (W.contents writer.old) all written
-        → WritesOn result start (W.contents writer.new) (all ++ report_text accesses.now stops.now (told_of report.now)) }
+        → WritesOn result start (W.contents writer.new) (all ++ report_text accesses.now stops.now
+        (told_of report.now)) }
 {
     let mut block = Block::new(writer, written);
     put_report(&mut block, accesses, stops, report);

@@ -23,15 +23,15 @@ use swd_target::laws::marks_used;
 use swd_target::{Bench, MakeFault, Memory, Quirks};
 use swd_text::EngineFault;
 
-// What the standard leaves to a target.
-pub(crate) const QUIRKS: Quirks = Quirks {
+/// What the standard leaves to a target, as the simulated target of a script has it.
+pub const QUIRKS: Quirks = Quirks {
     wrap: true,
     late: false,
     filler: 0,
 };
 
-// The memory of a script. `None` where memory was refused.
-pub(crate) fn zero_memory<A: Allocator + Copy>(alloc: A, script: &Script<A>) -> Option<Memory<A>>
+/// The memory that a script describes: its words, all zero, and its room. `None` where memory was refused.
+pub fn zero_memory<A: Allocator + Copy>(alloc: A, script: &Script<A>) -> Option<Memory<A>>
     requires { IsRunnable (meaning script.now) }
     ensures { IfSome result (λ memory. memory ≡ memory_of (meaning script.now)) }
 {

@@ -13,16 +13,17 @@ use swd_port::Wire;
 use swd_script::Batch;
 
 /// The runs that were made, and how the last one ended.
-#[derive(Drop)]
-pub(crate) struct Session<A: Allocator> {
+#[derive(Debug, Drop)]
+pub struct Session<A: Allocator> {
     /// The first one first.
-    pub(crate) runs: Vec<Resumed<A>, A>,
-    pub(crate) ended: End,
+    pub runs: Vec<Resumed<A>, A>,
+    /// How the last one ended; `All` where none was made.
+    pub ended: End,
 }
 
 /// Runs one batch after the other over a wire, as long as each is done whole, and resumes each at most so many
 /// times. `None` where memory was refused.
-pub(crate) fn run_all<W: Wire, A: Allocator + Copy>(
+pub fn run_all<W: Wire, A: Allocator + Copy>(
     alloc: A,
     wire: &mut W,
     batches: &[Batch<A>],

@@ -13,13 +13,13 @@ use swd_text::EngineFault;
 
 /// A script and the marks of a plan.
 #[derive(Drop)]
-pub(crate) struct Texts<A: Allocator> {
-    pub(crate) script: Script<A>,
-    pub(crate) plan: Vec<Mark, A>,
+pub struct Texts<A: Allocator> {
+    pub script: Script<A>,
+    pub plan: Vec<Mark, A>,
 }
 
-// The fault of a script that was not read.
-pub(crate) fn script_fault(unread: Unread<ScriptFault>) -> EngineFault
+/// The fault of a script that was not read: `Read` where its reader failed, else `Script`.
+pub fn script_fault(unread: Unread<ScriptFault>) -> EngineFault
     ensures { result ≡ script_fault_of unread }
 {
     match unread {
@@ -39,7 +39,12 @@ fn plan_fault(unread: Unread<ScriptFault>) -> EngineFault
 }
 
 /// Reads a script and then a plan.
-pub(crate) fn read_texts<S: Read, P: Read, A: Allocator + Copy>(
+///
+/// # Errors
+///
+/// `Script` and `Plan` for the first fault of these texts, the script's before the plan's; `Read` where a reader
+/// failed.
+pub fn read_texts<S: Read, P: Read, A: Allocator + Copy>(
     alloc: A,
     script: &mut S,
     plan: &mut P,

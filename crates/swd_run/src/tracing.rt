@@ -97,6 +97,3 @@ pub fn run_traced<S: Read, P: Read, W: Write, T: Write, A: Allocator + Copy>(
     let batches = script.batches.as_slice();
     write_both(writer, trace, batches, &session, recorder.items(), cut)
 }
-
-#[cfg(test)]
-mod tests;

@@ -1,5 +1,7 @@
 -- Laws of a text that is read line by line.
-use Rattle.std.proofs.Common.{◌≡◌, ◌≢◌, ℕ, suc, ◌+◌, ◌-◌, ◌^◌, ◌<◌, take, drop, get_or, drop-cons, take-append-drop, List, [], ◌∷◌, ◌++◌, length, append_assoc, sym, ap, ◌∙◌, subst, arith, Option, Result, Ok, Err}
+use Rattle.std.proofs.Common.{◌≡◌, ◌≢◌, ℕ, suc, ◌+◌, ◌-◌, ◌^◌, ◌<◌, take, drop, get_or, drop-cons, take-append-drop}
+use Rattle.std.proofs.Common.{List, [], ◌∷◌, ◌++◌, length, append_assoc, sym, ap, ◌∙◌, subst, arith, Option, Result, Ok}
+use Rattle.std.proofs.Common.{Err}
 use Rattle.std.specs.Prelude.{min, IsOk}
 use Rattle.std.proofs.lemmas.List.{append-nil, length-append}
 use Rattle.arrayvec.specs.ArrayVec.{ArrayVec}
@@ -15,22 +17,28 @@ use Rattle.swd_script.specs.Scans.{without_return, Holds, IsScanned}
 use Rattle.swd_script.proofs.LineLemmas.{lines_fed, lines_last, unbroken_more}
 
 -- a byte of a line more
-pub splits_byte : (seen : List ℕ) (ended : List (List ℕ)) (old new : Lines) (byte : ℕ) → byte ≢ 10 → new.number ≡ old.number →
-    ((line : List ℕ) → Holds line old.scan → Holds (line ++ byte ∷ []) new.scan) → Splits seen ended old → Splits (seen ++ byte ∷ []) ended new
+pub splits_byte : (seen : List ℕ) (ended : List (List ℕ)) (old new : Lines) (byte : ℕ) → byte ≢ 10
+    → new.number ≡ old.number →
+    ((line : List ℕ) → Holds line old.scan → Holds (line ++ byte ∷ []) new.scan) → Splits seen ended old
+    → Splits (seen ++ byte ∷ []) ended new
 splits_byte seen ended old new byte h e f s = record {
   line = s.line ++ byte ∷ [];
-  law = λ more. ap lines (append_assoc seen (byte ∷ []) more) ∙ s.law (byte ∷ more) ∙ ap (λ x. ended ++ lines x) (sym (append_assoc s.line (byte ∷ []) more));
+  law = λ more. ap lines (append_assoc seen (byte ∷ []) more) ∙ s.law (byte ∷ more)
+      ∙ ap (λ x. ended ++ lines x) (sym (append_assoc s.line (byte ∷ []) more));
   unbroken = unbroken_more s.line byte s.unbroken h;
   holds = f s.line s.holds;
   number = e ∙ s.number;
 }
 
-next_number : (number before : ℕ) → number ≡ line_number before → min (number + 1) (2 ^ 64 - 1) ≡ line_number (before + 1)
+next_number : (number before : ℕ) → number ≡ line_number before
+    → min (number + 1) (2 ^ 64 - 1) ≡ line_number (before + 1)
 next_number number before e = omega arith
 
 -- a line feed more
-pub splits_fed : (seen : List ℕ) (ended : List (List ℕ)) (old new : Lines) (scanned : Option (ArrayVec (ArrayVec ℕ))) → new.number ≡ min (old.number + 1) (2 ^ 64 - 1) → Holds [] new.scan →
-    ((line : List ℕ) → Holds line old.scan → IsScanned (without_return line) scanned) → Splits seen ended old → IsFed seen ended scanned new
+pub splits_fed : (seen : List ℕ) (ended : List (List ℕ)) (old new : Lines) (scanned : Option (ArrayVec (ArrayVec ℕ)))
+    → new.number ≡ min (old.number + 1) (2 ^ 64 - 1) → Holds [] new.scan →
+    ((line : List ℕ) → Holds line old.scan → IsScanned (without_return line) scanned) → Splits seen ended old
+    → IsFed seen ended scanned new
 splits_fed seen ended old new scanned e h f s =
     let line = without_return s.line in
     let law : (more : List ℕ) → lines (seen ++ 10 ∷ more) ≡ ended ++ line ∷ lines more =
@@ -41,45 +49,60 @@ splits_fed seen ended old new scanned e h f s =
       law = law;
       next = record {
         line = [];
-        law = λ more. ap lines (append_assoc seen (10 ∷ []) more) ∙ law more ∙ sym (append_assoc ended (line ∷ []) (lines more));
+        law = λ more. ap lines (append_assoc seen (10 ∷ []) more) ∙ law more
+            ∙ sym (append_assoc ended (line ∷ []) (lines more));
         unbroken = tt;
         holds = h;
-        number = e ∙ next_number old.number (length ended) s.number ∙ ap line_number (sym (length-append ended (line ∷ [])));
+        number = e ∙ next_number old.number (length ended) s.number
+            ∙ ap line_number (sym (length-append ended (line ∷ [])));
       };
     }
 
 -- the end of the text
-pub splits_last : (seen : List ℕ) (ended : List (List ℕ)) (old : Lines) (scanned : Option (ArrayVec (ArrayVec ℕ))) → ((line : List ℕ) → Holds line old.scan → IsScanned line scanned) → Splits seen ended old → IsLast seen ended scanned
+pub splits_last : (seen : List ℕ) (ended : List (List ℕ)) (old : Lines) (scanned : Option (ArrayVec (ArrayVec ℕ)))
+    → ((line : List ℕ) → Holds line old.scan → IsScanned line scanned) → Splits seen ended old
+    → IsLast seen ended scanned
 splits_last seen ended old scanned f s = record {
   line = s.line;
   scan = f s.line s.holds;
-  law = ap lines (sym (append-nil seen)) ∙ s.law [] ∙ ap (λ x. ended ++ lines x) (append-nil s.line) ∙ ap (λ x. ended ++ x) (lines_last s.line s.unbroken);
+  law = ap lines (sym (append-nil seen)) ∙ s.law [] ∙ ap (λ x. ended ++ lines x) (append-nil s.line)
+      ∙ ap (λ x. ended ++ x) (lines_last s.line s.unbroken);
 }
 
-step_before : {S : Type 0} (take : ℕ → S → Option (List (List ℕ)) → Result S LineFault) (state : S) (before count : ℕ) (rest : List (List ℕ)) →
+step_before : {S : Type 0} (take : ℕ → S → Option (List (List ℕ)) → Result S LineFault) (state : S) (before count : ℕ)
+    (rest : List (List ℕ)) →
     after_lines take state (suc before + count) rest ≡ after_lines take state (before + suc count) rest
 step_before take state before count rest = ap (λ n. after_lines take state n rest) (omega arith)
 
 same_ok : {S : Type 0} (a b : S) → (let left : Result S ScriptFault = Ok a in left ≡ Ok b) → a ≡ b
 same_ok a b e = cc
 
-append_step : {S : Type 0} (take : ℕ → S → Option (List (List ℕ)) → Result S LineFault) (next : S) (before : ℕ) (front rest : List (List ℕ)) (result : Result S LineFault) →
-    ((s : S) → after_lines take s (suc before) front ≡ Ok next → after_lines take s (suc before) (front ++ rest) ≡ after_lines take next (suc before + length front) rest) →
+append_step : {S : Type 0} (take : ℕ → S → Option (List (List ℕ)) → Result S LineFault) (next : S) (before : ℕ)
+    (front rest : List (List ℕ)) (result : Result S LineFault) →
+    ((s : S) → after_lines take s (suc before) front ≡ Ok next
+    → after_lines take s (suc before) (front ++ rest) ≡ after_lines take next (suc before + length front) rest) →
     then_lines before (λ s. after_lines take s (suc before) front) result ≡ Ok next →
-    then_lines before (λ s. after_lines take s (suc before) (front ++ rest)) result ≡ after_lines take next (before + suc (length front)) rest
+    then_lines before (λ s. after_lines take s (suc before) (front ++ rest)) result ≡ after_lines take next
+    (before + suc (length front)) rest
 append_step take next before front rest (Ok s) f e = f s e ∙ step_before take next before (length front) rest
 append_step take next before front rest (Err fault) f e = absurd cc
 
 -- lines after others
-pub after_append : {S : Type 0} (take : ℕ → S → Option (List (List ℕ)) → Result S LineFault) (start next : S) (before : ℕ) (front rest : List (List ℕ)) →
-    after_lines take start before front ≡ Ok next → after_lines take start before (front ++ rest) ≡ after_lines take next (before + length front) rest
-after_append take start next before [] rest e = ap (λ s. after_lines take s before rest) (same_ok start next e) ∙ ap (λ n. after_lines take next n rest) (omega arith)
+pub after_append : {S : Type 0} (take : ℕ → S → Option (List (List ℕ)) → Result S LineFault) (start next : S)
+    (before : ℕ) (front rest : List (List ℕ)) →
+    after_lines take start before front ≡ Ok next
+    → after_lines take start before (front ++ rest) ≡ after_lines take next (before + length front) rest
+after_append take start next before [] rest e = ap (λ s. after_lines take s before rest) (same_ok start next e)
+    ∙ ap (λ n. after_lines take next n rest) (omega arith)
 after_append take start next before (line ∷ front) rest e =
-    append_step take next before front rest (take (line_number before) start (line_words line)) (λ s h. after_append take s next (suc before) front rest h) e
+    append_step take next before front rest (take (line_number before) start (line_words line))
+    (λ s h. after_append take s next (suc before) front rest h) e
 
 -- lines after the first ones of a text
-after_first : {S : Type 0} (take : ℕ → S → Option (List (List ℕ)) → Result S LineFault) (start next : S) (front rest : List (List ℕ))
-    → after_lines take start 0 front ≡ Ok next → after_lines take start 0 (front ++ rest) ≡ after_lines take next (length front) rest
+after_first : {S : Type 0} (take : ℕ → S → Option (List (List ℕ)) → Result S LineFault) (start next : S)
+    (front rest : List (List ℕ))
+    → after_lines take start 0 front ≡ Ok next
+    → after_lines take start 0 (front ++ rest) ≡ after_lines take next (length front) rest
 after_first take start next front rest e =
     let n : 0 + length front ≡ length front = omega arith in
     after_append take start next 0 front rest e ∙ ap (λ n. after_lines take next n rest) n
@@ -105,7 +128,8 @@ after_fault take start mid ended rest line fault e f =
 
 -- a fault of a line is one of the text
 pub runs_out : {S : Type 0} (take : ℕ → S → Option (List (List ℕ)) → Result S LineFault) (start mid : S) (text : List ℕ)
-    (ended : List (List ℕ)) (line : List ℕ) (number : ℕ) → EndsLine text ended line → number ≡ line_number (length ended)
+    (ended : List (List ℕ)) (line : List ℕ) (number : ℕ) → EndsLine text ended line
+    → number ≡ line_number (length ended)
     → after_lines take start 0 ended ≡ Ok mid → IsOk (take (line_number (length ended)) mid (line_words line))
     → RunsOut take start text number
 runs_out {S} take start mid text ended line number l n e f = record {
@@ -125,13 +149,17 @@ runs_out {S} take start mid text ended line number l n e f = record {
 -- a line at fault makes the text at fault
 pub text_fault : {S M : Type 0} (meaning_of : List ℕ → Result M ScriptFault)
     (take : ℕ → S → Option (List (List ℕ)) → Result S LineFault) (start mid : S)
-    → ((text : List ℕ) (fault : ScriptFault) → after_lines take start 0 (lines text) ≡ Err fault → meaning_of text ≡ Err fault)
-    → (text : List ℕ) (ended : List (List ℕ)) (line : List ℕ) (number : ℕ) (fault : LineFault) → EndsLine text ended line
+    → ((text : List ℕ) (fault : ScriptFault) → after_lines take start 0 (lines text) ≡ Err fault
+    → meaning_of text ≡ Err fault)
+    → (text : List ℕ) (ended : List (List ℕ)) (line : List ℕ) (number : ℕ) (fault : LineFault)
+    → EndsLine text ended line
     → number ≡ line_number (length ended) → after_lines take start 0 ended ≡ Ok mid
-    → IsFaultOf fault (take number mid (line_words line)) → IsTextFault meaning_of take start (fault_at fault number) text
+    → IsFaultOf fault (take number mid (line_words line))
+    → IsTextFault meaning_of take start (fault_at fault number) text
 text_fault {S} meaning_of take start mid m text ended line number fault l n e f = at fault f
   where
-    told : (fault : LineFault) → take number mid (line_words line) ≡ Err fault → meaning_of text ≡ Err (fault_at fault number)
+    told : (fault : LineFault) → take number mid (line_words line) ≡ Err fault
+        → meaning_of text ≡ Err (fault_at fault number)
     told fault f =
         m text (fault_at fault number)
         (ap (after_lines take start 0) l.law
@@ -144,11 +172,14 @@ text_fault {S} meaning_of take start mid m text ended line number fault l n e f 
     at Number f = told Number f
     at Range f = told Range f
     at NoMemoryLine f = told NoMemoryLine f
-    at Memory f = runs_out take start mid text ended line number l n e (subst (λ k. IsOk (take k mid (line_words line))) n f)
+    at Memory f = runs_out take start mid text ended line number l n e
+        (subst (λ k. IsOk (take k mid (line_words line))) n f)
 
 -- the piece about a byte
-pub parted : (seen piece more : List ℕ) (i : ℕ) → i < length piece → (seen ++ take i piece) ++ (get_or piece i 0 ∷ (drop (suc i) piece ++ more)) ≡ (seen ++ piece) ++ more
+pub parted : (seen piece more : List ℕ) (i : ℕ) → i < length piece
+    → (seen ++ take i piece) ++ (get_or piece i 0 ∷ (drop (suc i) piece ++ more)) ≡ (seen ++ piece) ++ more
 parted seen piece more i h =
     append_assoc seen (take i piece) (get_or piece i 0 ∷ (drop (suc i) piece ++ more))
-    ∙ ap (λ x. seen ++ x) (ap (λ x. take i piece ++ (x ++ more)) (sym (drop-cons piece i 0 h)) ∙ sym (append_assoc (take i piece) (drop i piece) more) ∙ ap (λ x. x ++ more) (take-append-drop i piece))
+    ∙ ap (λ x. seen ++ x) (ap (λ x. take i piece ++ (x ++ more)) (sym (drop-cons piece i 0 h))
+    ∙ sym (append_assoc (take i piece) (drop i piece) more) ∙ ap (λ x. x ++ more) (take-append-drop i piece))
     ∙ sym (append_assoc seen piece more)

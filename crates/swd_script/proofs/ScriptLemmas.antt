@@ -1,12 +1,14 @@
 -- Laws of the lines of a script.
-use Rattle.std.proofs.Common.{◌≡◌, ℕ, suc, zero, ◌<◌, ◌≤◌, Bool, true, false, List, [], ◌∷◌, length, take, refl, sym, ap, ◌∙◌, arith, Option, Some, None, Result, Ok, Err}
+use Rattle.std.proofs.Common.{◌≡◌, ℕ, suc, zero, ◌<◌, ◌≤◌, Bool, true, false, List, [], ◌∷◌, length, take, refl, sym}
+use Rattle.std.proofs.Common.{ap, ◌∙◌, arith, Option, Some, None, Result, Ok, Err}
 use Rattle.std.specs.Prelude.{if◌then◌else◌, ◌&&◌, nat_le, nat_eq, codes}
 use Rattle.std.specs.Option.{option_and_then}
 use Rattle.std.specs.Str.{bytes_eq}
 use Rattle.std.proofs.lemmas.Bool.Decides.{nat_tests}
 use Rattle.std.proofs.lemmas.List.{take_all, length-take-le}
 use Rattle.swd_script.specs.declared.command.Command.{Command}
-use Rattle.swd_script.specs.declared.command.Command.TheVariants.{Memory, Room, Read as ReadCommand, Write as WriteCommand, ReadMany, Block, Verify, Next}
+use Rattle.swd_script.specs.declared.command.Command.TheVariants.{Memory, Room, Read as ReadCommand}
+use Rattle.swd_script.specs.declared.command.Command.TheVariants.{Write as WriteCommand, ReadMany, Block, Verify, Next}
 use Rattle.swd_script.specs.Numerals.{decimal_of, hex_of, number_from, numeral, word_sized}
 use Rattle.swd_script.specs.Plans.{bare_mark, mark_of, marked, place_below, placed_mark, plan_line, with_mark}
 use Rattle.swd_script.specs.Scripts.{after_command, command_of, long_command, script_line, short_command, Sayings}
@@ -24,14 +26,16 @@ same_name : (n : ℕ) (word name : List ℕ) → length name < n → bytes_eq (t
 same_name zero word name h = absurd (omega arith)
 same_name (suc n) [] name h = refl
 same_name (suc n) (byte ∷ word) [] h = refl
-same_name (suc n) (byte ∷ word) (first ∷ name) h = let k : length name < n = omega arith in ap (λ t. nat_eq byte first && t) (same_name n word name k)
+same_name (suc n) (byte ∷ word) (first ∷ name) h = let k : length name < n = omega arith in
+    ap (λ t. nat_eq byte first && t) (same_name n word name k)
 
 no_numeral : (base longest : ℕ) (word : List ℕ) → longest < length word → numeral base longest word ≡ None
 no_numeral base longest word h =
     let e : (nat_le 1 (length word) && nat_le (length word) longest) ≡ false = grind (arith, nat_tests) in
     ap (λ t. if t then option_and_then word_sized (number_from base 0 word) else None) e
 
-numeral_cut : (base longest : ℕ) (word : List ℕ) (t : Bool) → nat_le (length word) 11 ≡ t → longest ≤ 10 → numeral base longest (take 11 word) ≡ numeral base longest word
+numeral_cut : (base longest : ℕ) (word : List ℕ) (t : Bool) → nat_le (length word) 11 ≡ t → longest ≤ 10
+    → numeral base longest (take 11 word) ≡ numeral base longest word
 numeral_cut base longest word true e h =
     let n : length word ≤ 11 = grind (arith, nat_tests) in
     ap (numeral base longest) (take_all 11 word n)
@@ -51,10 +55,15 @@ name_cut word name h = same_name 11 word name h
 
 short_cut : (name first : List ℕ) → short_command (take 11 name) (take 11 first) ≡ short_command name first
 short_cut name first =
-    ap (λ t. if t then Some (Room (decimal_of (take 11 first))) else (if bytes_eq (take 11 name) (codes "r") then Some (ReadCommand (hex_of (take 11 first))) else None)) (name_cut name (codes "room") (omega arith))
-    ∙ ap (λ t. if bytes_eq name (codes "room") then Some (Room (decimal_of (take 11 first))) else (if t then Some (ReadCommand (hex_of (take 11 first))) else None)) (name_cut name (codes "r") (omega arith))
-    ∙ ap (λ n. if bytes_eq name (codes "room") then Some (Room n) else (if bytes_eq name (codes "r") then Some (ReadCommand (hex_of (take 11 first))) else None)) (decimal_cut first)
-    ∙ ap (λ n. if bytes_eq name (codes "room") then Some (Room (decimal_of first)) else (if bytes_eq name (codes "r") then Some (ReadCommand n) else None)) (hex_cut first)
+    ap (λ t. if t then Some (Room (decimal_of (take 11 first))) else
+    (if bytes_eq (take 11 name) (codes "r") then Some (ReadCommand (hex_of (take 11 first))) else None))
+    (name_cut name (codes "room") (omega arith))
+    ∙ ap (λ t. if bytes_eq name (codes "room") then Some (Room (decimal_of (take 11 first))) else
+    (if t then Some (ReadCommand (hex_of (take 11 first))) else None)) (name_cut name (codes "r") (omega arith))
+    ∙ ap (λ n. if bytes_eq name (codes "room") then Some (Room n) else
+    (if bytes_eq name (codes "r") then Some (ReadCommand (hex_of (take 11 first))) else None)) (decimal_cut first)
+    ∙ ap (λ n. if bytes_eq name (codes "room") then Some (Room (decimal_of first)) else
+    (if bytes_eq name (codes "r") then Some (ReadCommand n) else None)) (hex_cut first)
 
 abbrev long_shape : Bool → Bool → Bool → Bool → Bool → Option ℕ → Option ℕ → Option ℕ → Option Command
 long_shape memory write many block verify first second count =
@@ -77,11 +86,13 @@ long_cut name first second =
     let block = bytes_eq name (codes "block") in
     let verify = bytes_eq name (codes "verify") in
     let last = bytes_eq kept (codes "verify") in
-    ap (λ t. long_shape t (bytes_eq kept (codes "w")) (bytes_eq kept (codes "rn")) (bytes_eq kept (codes "block")) last f s d)
+    ap (λ t. long_shape t (bytes_eq kept (codes "w")) (bytes_eq kept (codes "rn")) (bytes_eq kept (codes "block")) last
+    f s d)
     (name_cut name (codes "memory") (omega arith))
     ∙ ap (λ t. long_shape memory t (bytes_eq kept (codes "rn")) (bytes_eq kept (codes "block")) last f s d)
     (name_cut name (codes "w") (omega arith))
-    ∙ ap (λ t. long_shape memory write t (bytes_eq kept (codes "block")) last f s d) (name_cut name (codes "rn") (omega arith))
+    ∙ ap (λ t. long_shape memory write t (bytes_eq kept (codes "block")) last f s d)
+    (name_cut name (codes "rn") (omega arith))
     ∙ ap (λ t. long_shape memory write many t last f s d) (name_cut name (codes "block") (omega arith))
     ∙ ap (λ t. long_shape memory write many block t f s d) (name_cut name (codes "verify") (omega arith))
     ∙ ap (λ n. long_shape memory write many block verify n s d) (hex_cut first)
@@ -102,18 +113,21 @@ script_cut number said [] = refl
 script_cut number said (name ∷ arguments) = ap (after_command number said) (command_cut (name ∷ arguments))
 
 abbrev bare_shape : Bool → Bool → Bool → Result Mark LineFault
-bare_shape clean wait deaf = if clean then Ok Clean else (if wait then Ok Wait else (if deaf then Ok Deaf else Err Word))
+bare_shape clean wait deaf = if clean then Ok Clean else
+    (if wait then Ok Wait else (if deaf then Ok Deaf else Err Word))
 
 abbrev placed_shape : Bool → Bool → Option ℕ → Result Mark LineFault
 placed_shape flip mute place =
-    if flip then marked (λ bit. Flip bit) (place_below 33 place) else (if mute then marked (λ bit. Mute bit) (place_below 3 place) else Err Word)
+    if flip then marked (λ bit. Flip bit) (place_below 33 place) else
+    (if mute then marked (λ bit. Mute bit) (place_below 3 place) else Err Word)
 
 bare_cut : (name : List ℕ) → bare_mark (take 11 name) ≡ bare_mark name
 bare_cut name =
     let kept = take 11 name in
     let clean = bytes_eq name (codes ".") in
     let wait = bytes_eq name (codes "wait") in
-    ap (λ t. bare_shape t (bytes_eq kept (codes "wait")) (bytes_eq kept (codes "deaf"))) (name_cut name (codes ".") (omega arith))
+    ap (λ t. bare_shape t (bytes_eq kept (codes "wait")) (bytes_eq kept (codes "deaf")))
+    (name_cut name (codes ".") (omega arith))
     ∙ ap (λ t. bare_shape clean t (bytes_eq kept (codes "deaf"))) (name_cut name (codes "wait") (omega arith))
     ∙ ap (λ t. bare_shape clean wait t) (name_cut name (codes "deaf") (omega arith))
 
@@ -133,16 +147,19 @@ mark_cut (name ∷ place ∷ []) = placed_cut name place
 mark_cut (name ∷ place ∷ third ∷ []) = refl
 mark_cut (name ∷ place ∷ third ∷ fourth ∷ more) = refl
 
-pub plan_cut : (marks : List Mark) (all : List (List ℕ)) → plan_line marks (Some (first_words all)) ≡ plan_line marks (Some all)
+pub plan_cut : (marks : List Mark) (all : List (List ℕ))
+    → plan_line marks (Some (first_words all)) ≡ plan_line marks (Some all)
 plan_cut marks [] = refl
 plan_cut marks (name ∷ arguments) = ap (with_mark marks) (mark_cut (name ∷ arguments))
 
 -- what the first words of a line say is what the line says
-pub script_words : (number : ℕ) (said : Sayings) (line : List ℕ) (words : Option (ArrayVec (ArrayVec ℕ))) → IsScanned line words
+pub script_words : (number : ℕ) (said : Sayings) (line : List ℕ) (words : Option (ArrayVec (ArrayVec ℕ)))
+    → IsScanned line words
     → script_line number said (texts_of words) ≡ script_line number said (line_words line)
 script_words number said line None h = ap (script_line number said) (sym h)
 script_words number said line (Some kept) h =
-    ap (λ x. script_line number said (Some x)) h.first ∙ script_cut number said h.all ∙ ap (script_line number said) (sym h.are)
+    ap (λ x. script_line number said (Some x)) h.first ∙ script_cut number said h.all
+    ∙ ap (script_line number said) (sym h.are)
 
 pub plan_words : (marks : List Mark) (line : List ℕ) (words : Option (ArrayVec (ArrayVec ℕ))) → IsScanned line words
     → plan_line marks (texts_of words) ≡ plan_line marks (line_words line)

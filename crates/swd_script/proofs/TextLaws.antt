@@ -1,5 +1,6 @@
 -- What a script means, a run takes; and the marks of a plan are legal.
-use Rattle.std.proofs.Common.{◌≡◌, ◌≢◌, ℕ, suc, zero, ◌+◌, ◌*◌, ◌%◌, ◌^◌, ◌<◌, ◌≤◌, Bool, true, false, List, [], ◌∷◌}
+use Rattle.std.proofs.Common.{◌≡◌, ◌≢◌, ℕ, suc, zero, ◌+◌, ◌*◌, ◌%◌, ◌^◌, ◌<◌, ◌≤◌, Bool, true, false, List}
+use Rattle.std.proofs.Common.{[], ◌∷◌}
 use Rattle.std.proofs.Common.{◌++◌, length, refl, sym, ap, ◌∙◌, subst, arith, Option, Some, None, IfSome, Result, Ok}
 use Rattle.std.proofs.Common.{Err}
 use Rattle.std.specs.Prelude.{if◌then◌else◌, ◌&&◌, ◌==◌, nat_le, nat_lt, All, codes, is_some, unwrap_or, get_or}
@@ -15,7 +16,8 @@ use Rattle.swd_port.specs.declared.mark.Mark.{Mark}
 use Rattle.swd_port.specs.declared.mark.Mark.TheVariants.{Clean, Wait, Flip, Deaf, Mute}
 use Rattle.swd_port.specs.Choices.{IsMark}
 use Rattle.swd_script.specs.declared.command.Command.{Command}
-use Rattle.swd_script.specs.declared.command.Command.TheVariants.{Memory, Room, Read, Write, ReadMany, Block, Verify, Next}
+use Rattle.swd_script.specs.declared.command.Command.TheVariants.{Memory, Room, Read, Write, ReadMany, Block, Verify}
+use Rattle.swd_script.specs.declared.command.Command.TheVariants.{Next}
 use Rattle.swd_script.specs.declared.draft.Extent.{Extent}
 use Rattle.swd_script.specs.declared.fault.LineFault.{LineFault}
 use Rattle.swd_script.specs.declared.fault.LineFault.TheVariants.{Word, Range}
@@ -28,7 +30,8 @@ use Rattle.swd_port.specs.PlainMemory.{reads}
 use Rattle.swd_port.proofs.ReadLists.{length_reads}
 use Rattle.swd_script.specs.declared.batch.Expected.{Expected}
 use Rattle.swd_script.specs.Faults.{line_number}
-use Rattle.swd_script.specs.Scripts.{Listed, Meaning, Sayings, after_command, are_words, as_block, as_expected, beside_block}
+use Rattle.swd_script.specs.Scripts.{Listed, Meaning, Sayings, after_command, are_words, as_block, as_expected}
+use Rattle.swd_script.specs.Scripts.{beside_block}
 use Rattle.swd_script.specs.Scripts.{carried_out, command_of, fault_before, is_some_list, misplaced, nothing_listed}
 use Rattle.swd_script.specs.Scripts.{nothing_said, script_line, script_meaning, script_of, whole_script, with_accesses}
 use Rattle.swd_script.specs.Scripts.{with_memory, with_next, with_number, with_room, with_verified, without_memory}
@@ -145,7 +148,8 @@ sound_accesses : (said next : Sayings) (addr count : ℕ) (more : List Access)
 sound_accesses said next addr count more e n a free s =
     let old : List Access = said.batch.accesses in
     let room = nat_le (length old + count) 65536 in
-    let ok = if_ok (are_words addr count && room) (record said { batch = record said.batch { accesses = old ++ more } }) Range next e in
+    let ok = if_ok (are_words addr count && room) (record said { batch = record said.batch { accesses = old ++ more } })
+    Range next e in
     let few : room ≡ true = and_right (are_words addr count) room ok.0 in
     let words = are_words_so addr count (and_left (are_words addr count) room ok.0) in
     let len : length (old ++ more) ≡ length old + length more = length-append old more in
@@ -170,7 +174,8 @@ sound_block said next addr count e free s =
     let old : List Access = said.batch.accesses in
     let room = nat_le (length old + count) 65536 in
     let b = if_block addr (with_accesses said addr count more) next e in
-    let ok = if_ok (are_words addr count && room) (record said { batch = record said.batch { accesses = old ++ more } }) Range b.0 b.1 in
+    let ok = if_ok (are_words addr count && room) (record said { batch = record said.batch { accesses = old ++ more } })
+    Range b.0 b.1 in
     let few : room ≡ true = and_right (are_words addr count) room ok.0 in
     let words = are_words_so addr count (and_left (are_words addr count) room ok.0) in
     let only : old ≡ [] = no_access old (without_memory said) free in
@@ -191,7 +196,8 @@ sound_block said next addr count e free s =
     })
 
 if_expected : (read : Expected) (r : Result Sayings LineFault) (next : Sayings) → as_expected read r ≡ Ok next
-    → (said : Sayings) × (r ≡ Ok said) × (record said { batch = record said.batch { expected = said.batch.expected ++ read ∷ [] } } ≡ next)
+    → (said : Sayings) × (r ≡ Ok said)
+    × (record said { batch = record said.batch { expected = said.batch.expected ++ read ∷ [] } } ≡ next)
 if_expected read (Ok said) next e = (said, refl, cc)
 if_expected read (Err fault) next e = absurd cc
 
@@ -236,11 +242,13 @@ sound_command line said next (Read addr) e free s =
     let a = if_number addr (λ addr. with_accesses said addr 1 (ReadAccess addr ∷ [])) next e in
     sound_accesses said next a.0 1 (ReadAccess a.0 ∷ []) a.1 refl (one_aligned a.0) free s
 sound_command line said next (Write addr value) e free s =
-    let a = if_number addr (λ addr. with_number value (λ value. with_accesses said addr 1 (WriteAccess addr value ∷ []))) next e in
+    let a = if_number addr (λ addr. with_number value
+    (λ value. with_accesses said addr 1 (WriteAccess addr value ∷ []))) next e in
     let v = if_number value (λ value. with_accesses said a.0 1 (WriteAccess a.0 value ∷ [])) next a.1 in
     sound_accesses said next a.0 1 (WriteAccess a.0 v.0 ∷ []) v.1 refl (one_aligned a.0) free s
 sound_command line said next (ReadMany addr count) e free s =
-    let a = if_number addr (λ addr. with_number count (λ count. with_accesses said addr count (reads addr count))) next e in
+    let a = if_number addr (λ addr. with_number count (λ count. with_accesses said addr count (reads addr count))) next
+    e in
     let c = if_number count (λ count. with_accesses said a.0 count (reads a.0 count)) next a.1 in
     sound_accesses said next a.0 c.0 (reads a.0 c.0) c.1 (length_reads a.0 c.0) (aligned_reads a.0 c.0) free s
 sound_command line said next (Block addr count) e free s =
@@ -325,14 +333,16 @@ none k d l = absurd (omega arith)
 pub is_runnable : (text : List ℕ) (m : Meaning) → script_of text ≡ Ok m → IsRunnable m
 is_runnable text m e =
     whole_runs (after_lines script_line nothing_said 0 (lines text)) m
-    (λ said f. after_all script_line IsSound sound_line (lines text) nothing_said said 0 f (record { memory = tt; earlier = none; batch = nothing_sound })) e
+    (λ said f. after_all script_line IsSound sound_line (lines text) nothing_said said 0 f
+    (record { memory = tt; earlier = none; batch = nothing_sound })) e
 
 legal_flip : (place : ℕ) (r : Option ℕ) (mark : Mark) → marked (λ bit. Flip bit) (place_below 33 r) ≡ Ok mark
     → IsMark mark
 legal_flip place None mark e = absurd cc
 legal_flip place (Some bit) mark e = flip (nat_lt bit 33) refl e
   where
-    flip : (test : Bool) → nat_lt bit 33 ≡ test → marked (λ bit. Flip bit) (if test then Ok bit else Err Range) ≡ Ok mark → IsMark mark
+    flip : (test : Bool) → nat_lt bit 33 ≡ test
+        → marked (λ bit. Flip bit) (if test then Ok bit else Err Range) ≡ Ok mark → IsMark mark
     flip true t e = let small : bit < 33 = grind (arith, nat_tests) in subst IsMark (same_value (Flip bit) mark e) small
     flip false t e = absurd cc
 
@@ -341,12 +351,14 @@ legal_mute : (place : ℕ) (r : Option ℕ) (mark : Mark) → marked (λ bit. Mu
 legal_mute place None mark e = absurd cc
 legal_mute place (Some bit) mark e = mute (nat_lt bit 3) refl e
   where
-    mute : (test : Bool) → nat_lt bit 3 ≡ test → marked (λ bit. Mute bit) (if test then Ok bit else Err Range) ≡ Ok mark → IsMark mark
+    mute : (test : Bool) → nat_lt bit 3 ≡ test → marked (λ bit. Mute bit) (if test then Ok bit else Err Range) ≡ Ok mark
+        → IsMark mark
     mute true t e = let small : bit < 3 = grind (arith, nat_tests) in subst IsMark (same_value (Mute bit) mark e) small
     mute false t e = absurd cc
 
 abbrev bare_shape : Bool → Bool → Bool → Result Mark LineFault
-bare_shape clean wait deaf = if clean then Ok Clean else (if wait then Ok Wait else (if deaf then Ok Deaf else Err Word))
+bare_shape clean wait deaf = if clean then Ok Clean else
+    (if wait then Ok Wait else (if deaf then Ok Deaf else Err Word))
 
 legal_bare : (clean wait deaf : Bool) (mark : Mark) → bare_shape clean wait deaf ≡ Ok mark → IsMark mark
 legal_bare true wait deaf mark e = subst IsMark (same_value Clean mark e) tt
@@ -355,15 +367,19 @@ legal_bare false false true mark e = subst IsMark (same_value Deaf mark e) tt
 legal_bare false false false mark e = absurd cc
 
 legal_placed : (flip mute : Bool) (place : List ℕ) (mark : Mark) →
-    (if flip then marked (λ bit. Flip bit) (place_below 33 (decimal_of place)) else (if mute then marked (λ bit. Mute bit) (place_below 3 (decimal_of place)) else Err Word)) ≡ Ok mark → IsMark mark
+    (if flip then marked (λ bit. Flip bit) (place_below 33 (decimal_of place)) else
+    (if mute then marked (λ bit. Mute bit) (place_below 3 (decimal_of place)) else Err Word)) ≡ Ok mark
+    → IsMark mark
 legal_placed true mute place mark e = legal_flip 0 (decimal_of place) mark e
 legal_placed false true place mark e = legal_mute 0 (decimal_of place) mark e
 legal_placed false false place mark e = absurd cc
 
 legal_mark : (words : List (List ℕ)) (mark : Mark) → mark_of words ≡ Ok mark → IsMark mark
 legal_mark [] mark e = absurd cc
-legal_mark (name ∷ []) mark e = legal_bare (bytes_eq name (codes ".")) (bytes_eq name (codes "wait")) (bytes_eq name (codes "deaf")) mark e
-legal_mark (name ∷ place ∷ []) mark e = legal_placed (bytes_eq name (codes "flip")) (bytes_eq name (codes "mute")) place mark e
+legal_mark (name ∷ []) mark e = legal_bare (bytes_eq name (codes ".")) (bytes_eq name (codes "wait"))
+    (bytes_eq name (codes "deaf")) mark e
+legal_mark (name ∷ place ∷ []) mark e = legal_placed (bytes_eq name (codes "flip")) (bytes_eq name (codes "mute")) place
+    mark e
 legal_mark (name ∷ place ∷ third ∷ more) mark e = absurd cc
 
 one_legal : (mark : Mark) → IsMark mark → All IsMark (mark ∷ [])
@@ -380,8 +396,10 @@ legal_line old new (Some []) e h = subst (All IsMark) (same_value old new e) h
 legal_line old new (Some (name ∷ arguments)) e h = with_one (mark_of (name ∷ arguments)) refl e
   where
     with_one : (r : Result Mark LineFault) → mark_of (name ∷ arguments) ≡ r → with_mark old r ≡ Ok new → All IsMark new
-    with_one (Ok mark) k e = subst (All IsMark) (same_value (old ++ mark ∷ []) new e) (All-append IsMark old (mark ∷ []) h (one_legal mark (legal_mark (name ∷ arguments) mark k)))
+    with_one (Ok mark) k e = subst (All IsMark) (same_value (old ++ mark ∷ []) new e)
+        (All-append IsMark old (mark ∷ []) h (one_legal mark (legal_mark (name ∷ arguments) mark k)))
     with_one (Err fault) k e = absurd cc
 
 pub is_plan : (text : List ℕ) (marks : List Mark) → plan_of text ≡ Ok marks → All IsMark marks
-is_plan text marks e = after_all (λ number. plan_line) (All IsMark) (λ number. legal_line) (lines text) [] marks 0 e (λ k d l. absurd (omega arith))
+is_plan text marks e = after_all (λ number. plan_line) (All IsMark) (λ number. legal_line) (lines text) [] marks 0 e
+    (λ k d l. absurd (omega arith))

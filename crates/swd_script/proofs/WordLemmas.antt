@@ -1,7 +1,9 @@
 -- Laws of the words of a line, and of what is kept of them.
-use Rattle.std.proofs.Common.{◌≡◌, ℕ, suc, zero, ◌<◌, ◌≤◌, true, false, List, [], ◌∷◌, ◌++◌, length, map, take, append_assoc, refl, sym, ap, ◌∙◌, arith}
+use Rattle.std.proofs.Common.{◌≡◌, ℕ, suc, zero, ◌<◌, ◌≤◌, true, false, List, [], ◌∷◌, ◌++◌, length, map, take}
+use Rattle.std.proofs.Common.{append_assoc, refl, sym, ap, ◌∙◌, arith}
 use Rattle.std.specs.Prelude.{if◌then◌else◌, min}
-use Rattle.std.proofs.lemmas.List.{take_all, take-append-le, length-append, length-map, length-take, append-nil, map-append}
+use Rattle.std.proofs.lemmas.List.{take_all, take-append-le, length-append, length-map, length-take, append-nil}
+use Rattle.std.proofs.lemmas.List.{map-append}
 use Rattle.arrayvec.specs.ArrayVec.{ArrayVec}
 use Rattle.swd_script.specs.declared.words.Words.{Words}
 use Rattle.swd_script.specs.Lines.{before_first, ends_word, is_blank, words}
@@ -9,20 +11,29 @@ use Rattle.swd_script.specs.Words.{texts, first_words, begun, IsUnblank, Gathers
 
 -- a blank before the words
 pub words_blank : (byte : ℕ) (more : List ℕ) → is_blank byte ≡ true → words (byte ∷ more) ≡ words more
-words_blank byte more e = ap (λ t. if t then words more else (if ends_word more then (byte ∷ []) ∷ words more else before_first byte (words more))) e
+words_blank byte more e =
+    ap (λ t. if t then words more else
+    (if ends_word more then (byte ∷ []) ∷ words more else before_first byte (words more))) e
 
 -- a byte of a word
-words_byte : (byte : ℕ) (more : List ℕ) → is_blank byte ≡ false → words (byte ∷ more) ≡ (if ends_word more then (byte ∷ []) ∷ words more else before_first byte (words more))
-words_byte byte more e = ap (λ t. if t then words more else (if ends_word more then (byte ∷ []) ∷ words more else before_first byte (words more))) e
+words_byte : (byte : ℕ) (more : List ℕ) → is_blank byte ≡ false
+    → words (byte ∷ more) ≡ (if ends_word more then (byte ∷ []) ∷ words more else before_first byte (words more))
+words_byte byte more e = ap (λ t. if t then words more else
+    (if ends_word more then (byte ∷ []) ∷ words more else before_first byte (words more))) e
 
-words_last_byte : (byte : ℕ) (more : List ℕ) → is_blank byte ≡ false → ends_word more ≡ true → words (byte ∷ more) ≡ (byte ∷ []) ∷ words more
-words_last_byte byte more e h = words_byte byte more e ∙ ap (λ t. if t then (byte ∷ []) ∷ words more else before_first byte (words more)) h
+words_last_byte : (byte : ℕ) (more : List ℕ) → is_blank byte ≡ false → ends_word more ≡ true
+    → words (byte ∷ more) ≡ (byte ∷ []) ∷ words more
+words_last_byte byte more e h = words_byte byte more e
+    ∙ ap (λ t. if t then (byte ∷ []) ∷ words more else before_first byte (words more)) h
 
-words_next_byte : (byte : ℕ) (more : List ℕ) → is_blank byte ≡ false → ends_word more ≡ false → words (byte ∷ more) ≡ before_first byte (words more)
-words_next_byte byte more e h = words_byte byte more e ∙ ap (λ t. if t then (byte ∷ []) ∷ words more else before_first byte (words more)) h
+words_next_byte : (byte : ℕ) (more : List ℕ) → is_blank byte ≡ false → ends_word more ≡ false
+    → words (byte ∷ more) ≡ before_first byte (words more)
+words_next_byte byte more e h = words_byte byte more e
+    ∙ ap (λ t. if t then (byte ∷ []) ∷ words more else before_first byte (words more)) h
 
 -- a word that ends, here or at a blank
-pub words_end : (word more : List ℕ) → IsUnblank word → ends_word more ≡ true → words (word ++ more) ≡ begun word ++ words more
+pub words_end : (word more : List ℕ) → IsUnblank word → ends_word more ≡ true
+    → words (word ++ more) ≡ begun word ++ words more
 words_end [] more h e = refl
 words_end (byte ∷ []) more h e = words_last_byte byte more h.0 e
 words_end (byte ∷ next ∷ word) more h e =
@@ -38,13 +49,15 @@ take_more (suc n) [] ys = refl
 take_more (suc n) (x ∷ xs) ys = ap (λ t. x ∷ t) (take_more n xs ys)
 
 -- one more byte of a word that is kept
-pub last_more : (word kept next : List ℕ) (byte : ℕ) → length kept < 11 → kept ≡ take 11 word → next ≡ kept ++ byte ∷ [] → next ≡ take 11 (word ++ byte ∷ [])
+pub last_more : (word kept next : List ℕ) (byte : ℕ) → length kept < 11 → kept ≡ take 11 word → next ≡ kept ++ byte ∷ []
+    → next ≡ take 11 (word ++ byte ∷ [])
 last_more word kept next byte h e f =
     let n : length (kept ++ byte ∷ []) ≤ 11 = omega (arith, length-append kept (byte ∷ [])) in
     f ∙ sym (take_all 11 (kept ++ byte ∷ []) n) ∙ ap (λ k. take 11 (k ++ byte ∷ [])) e ∙ take_more 11 word (byte ∷ [])
 
 -- one more that is not
-pub last_full : (word kept : List ℕ) (byte : ℕ) → 11 ≤ length kept → kept ≡ take 11 word → kept ≡ take 11 (word ++ byte ∷ [])
+pub last_full : (word kept : List ℕ) (byte : ℕ) → 11 ≤ length kept → kept ≡ take 11 word
+    → kept ≡ take 11 (word ++ byte ∷ [])
 last_full word kept byte h e =
     let n : length kept ≡ min 11 (length word) = ap length e ∙ length-take 11 word in
     e ∙ sym (take-append-le 11 word (byte ∷ []) (omega arith))
@@ -61,19 +74,24 @@ gathers_none kept e f = record {
 }
 
 -- a byte of a word more
-pub gathers_push : (line : List ℕ) (old new : Words) (byte : ℕ) → is_blank byte ≡ false → new.ended.items ≡ old.ended.items → ((word : List ℕ) → old.last.items ≡ take 11 word → new.last.items ≡ take 11 (word ++ byte ∷ [])) →
+pub gathers_push : (line : List ℕ) (old new : Words) (byte : ℕ) → is_blank byte ≡ false
+    → new.ended.items ≡ old.ended.items
+    → ((word : List ℕ) → old.last.items ≡ take 11 word → new.last.items ≡ take 11 (word ++ byte ∷ [])) →
     Gathers line old → Gathers (line ++ byte ∷ []) new
 gathers_push line old new byte h e f g = record {
   ended = g.ended;
   last = g.last ++ byte ∷ [];
-  split = λ more. ap words (append_assoc line (byte ∷ []) more) ∙ g.split (byte ∷ more) ∙ ap (λ x. g.ended ++ words x) (sym (append_assoc g.last (byte ∷ []) more));
+  split = λ more. ap words (append_assoc line (byte ∷ []) more) ∙ g.split (byte ∷ more)
+      ∙ ap (λ x. g.ended ++ words x) (sym (append_assoc g.last (byte ∷ []) more));
   unblank = unblank_more g.last byte g.unblank h;
   kept_ended = ap texts e ∙ g.kept_ended;
   kept_last = f g.last g.kept_last;
 }
 
 -- the words and the one that has begun
-pub kept_words : (line : List ℕ) (old : Words) (kept : List (ArrayVec ℕ)) (g : Gathers line old) → texts kept ≡ take 4 (texts old.ended.items ++ begun old.last.items) → texts kept ≡ first_words (g.ended ++ begun g.last)
+pub kept_words : (line : List ℕ) (old : Words) (kept : List (ArrayVec ℕ)) (g : Gathers line old)
+    → texts kept ≡ take 4 (texts old.ended.items ++ begun old.last.items)
+    → texts kept ≡ first_words (g.ended ++ begun g.last)
 kept_words line old kept g e =
     let cut : begun (take 11 g.last) ≡ map (λ word. take 11 word) (begun g.last) = cut_begun g.last in
     e ∙ ap (λ x. take 4 (x ++ begun old.last.items)) g.kept_ended
@@ -86,28 +104,36 @@ kept_words line old kept g e =
     cut_begun (byte ∷ word) = refl
 
 -- a blank more
-pub gathers_blank : (line : List ℕ) (old new : Words) (byte : ℕ) → is_blank byte ≡ true → texts new.ended.items ≡ take 4 (texts old.ended.items ++ begun old.last.items) → new.last.items ≡ [] → Gathers line old → Gathers (line ++ byte ∷ []) new
+pub gathers_blank : (line : List ℕ) (old new : Words) (byte : ℕ) → is_blank byte ≡ true
+    → texts new.ended.items ≡ take 4 (texts old.ended.items ++ begun old.last.items) → new.last.items ≡ []
+    → Gathers line old → Gathers (line ++ byte ∷ []) new
 gathers_blank line old new byte h e f g = record {
   ended = g.ended ++ begun g.last;
   last = [];
-  split = λ more. ap words (append_assoc line (byte ∷ []) more) ∙ g.split (byte ∷ more) ∙ ap (λ x. g.ended ++ x) (words_end g.last (byte ∷ more) g.unblank h ∙ ap (λ x. begun g.last ++ x) (words_blank byte more h)) ∙ sym (append_assoc g.ended (begun g.last) (words more));
+  split = λ more. ap words (append_assoc line (byte ∷ []) more) ∙ g.split (byte ∷ more)
+      ∙ ap (λ x. g.ended ++ x) (words_end g.last (byte ∷ more) g.unblank h
+      ∙ ap (λ x. begun g.last ++ x) (words_blank byte more h)) ∙ sym (append_assoc g.ended (begun g.last) (words more));
   unblank = tt;
   kept_ended = kept_words line old new.ended.items g e;
   kept_last = f;
 }
 
 -- the end of a line
-pub first_of : (line : List ℕ) (old : Words) (kept : List (ArrayVec ℕ)) → texts kept ≡ take 4 (texts old.ended.items ++ begun old.last.items) → Gathers line old → AreFirst kept line
+pub first_of : (line : List ℕ) (old : Words) (kept : List (ArrayVec ℕ))
+    → texts kept ≡ take 4 (texts old.ended.items ++ begun old.last.items) → Gathers line old → AreFirst kept line
 first_of line old kept e g =
     kept_words line old kept g e
-    ∙ ap first_words (sym (ap words (sym (append-nil line)) ∙ g.split [] ∙ ap (λ x. g.ended ++ x) (words_end g.last [] g.unblank refl ∙ append-nil (begun g.last))))
+    ∙ ap first_words (sym (ap words (sym (append-nil line)) ∙ g.split []
+    ∙ ap (λ x. g.ended ++ x) (words_end g.last [] g.unblank refl ∙ append-nil (begun g.last))))
 
-pub texts_cut : (kept : List (ArrayVec ℕ)) (more : List (List ℕ)) → 4 ≤ length kept → length kept ≤ 4 → texts kept ≡ take 4 (texts kept ++ more)
+pub texts_cut : (kept : List (ArrayVec ℕ)) (more : List (List ℕ)) → 4 ≤ length kept → length kept ≤ 4
+    → texts kept ≡ take 4 (texts kept ++ more)
 texts_cut kept more h k =
     let n : length (texts kept) ≡ length kept = length-map kept (λ word. word.items) in
     sym (take-append-le 4 (texts kept) more (omega arith) ∙ take_all 4 (texts kept) (omega arith))
 
-pub texts_same : (kept : List (ArrayVec ℕ)) (word : List ℕ) → length kept ≤ 4 → length word ≡ 0 → texts kept ≡ take 4 (texts kept ++ begun word)
+pub texts_same : (kept : List (ArrayVec ℕ)) (word : List ℕ) → length kept ≤ 4 → length word ≡ 0
+    → texts kept ≡ take 4 (texts kept ++ begun word)
 texts_same kept [] k e =
     let n : length (texts kept) ≡ length kept = length-map kept (λ word. word.items) in
     sym (ap (take 4) (append-nil (texts kept)) ∙ take_all 4 (texts kept) (omega arith))

@@ -24,7 +24,8 @@ of_block = record {
   expected = [];
 }
 
-script : script_of (fed (codes "memory 20000000 16") ++ fed (codes "w 20000000 deadbeef") ++ fed (codes "rn 20000000 2") ++ codes "r 30000000") ≡
+script : script_of (fed (codes "memory 20000000 16") ++ fed (codes "w 20000000 deadbeef") ++ fed (codes "rn 20000000 2")
+    ++ codes "r 30000000") ≡
     Ok (record {
       base = 536870912;
       words = 16;
@@ -40,7 +41,8 @@ unfolding single
 memory_alone = refl
 
 -- blanks, a comment at a word's end, carriage returns before line feeds
-laid_out : script_of (fed (codes "# a script" ++ 13 ∷ []) ++ fed (9 ∷ codes "memory  20000000 1#6" ++ 13 ∷ []) ++ fed [] ++ codes "room 7 ") ≡
+laid_out : script_of (fed (codes "# a script" ++ 13 ∷ []) ++ fed (9 ∷ codes "memory  20000000 1#6" ++ 13 ∷ []) ++ fed []
+    ++ codes "room 7 ") ≡
     Ok (record { base = 536870912; words = 1; room = 7; batches = single [] ∷ [] })
 unfolding fed single
 laid_out = refl
@@ -94,7 +96,8 @@ unfolding fed
 block_after_a_write = refl
 
 second_block :
-    script_of (fed (codes "memory 20000000 2") ++ fed (codes "block 20000000 1") ++ codes "block 20000004 1") ≡ Err (Word 3)
+    script_of (fed (codes "memory 20000000 2") ++ fed (codes "block 20000000 1") ++ codes "block 20000004 1") ≡ Err
+    (Word 3)
 unfolding fed
 second_block = refl
 
@@ -106,7 +109,8 @@ block_before_the_memory : script_of (codes "block 20000000 1") ≡ Err (NoMemory
 block_before_the_memory = refl
 
 -- a further call, a block beside single accesses, and reads whose words are told
-calls : script_of (fed (codes "memory 20000000 4") ++ fed (codes "w 20000000 5") ++ fed (codes "next") ++ fed (codes "block 20000000 3")
+calls : script_of (fed (codes "memory 20000000 4") ++ fed (codes "w 20000000 5") ++ fed (codes "next")
+    ++ fed (codes "block 20000000 3")
     ++ fed (codes "next # and at the end") ++ fed (codes "r 20000004") ++ codes "verify 20000000 00000005") ≡
     Ok (record {
       base = 536870912;
@@ -137,7 +141,8 @@ unfolding fed
 verify_without_a_word = refl
 
 verify_beside_a_block :
-    script_of (fed (codes "memory 20000000 1") ++ fed (codes "block 20000000 1") ++ codes "verify 20000000 0") ≡ Err (Word 3)
+    script_of (fed (codes "memory 20000000 1") ++ fed (codes "block 20000000 1") ++ codes "verify 20000000 0") ≡ Err
+    (Word 3)
 unfolding fed
 verify_beside_a_block = refl
 
@@ -158,7 +163,8 @@ past_decimals : script_of (fed (codes "memory 0 1") ++ codes "rn 0 4294967296") 
 unfolding fed
 past_decimals = refl
 
-plan : plan_of (fed (codes ".") ++ fed (codes "wait # not now") ++ fed (codes "flip 32") ++ fed (codes "deaf") ++ codes "mute 2") ≡ Ok (Clean ∷ Wait ∷ Flip 32 ∷ Deaf ∷ Mute 2 ∷ [])
+plan : plan_of (fed (codes ".") ++ fed (codes "wait # not now") ++ fed (codes "flip 32") ++ fed (codes "deaf")
+    ++ codes "mute 2") ≡ Ok (Clean ∷ Wait ∷ Flip 32 ∷ Deaf ∷ Mute 2 ∷ [])
 unfolding fed
 plan = refl
 

@@ -3,7 +3,9 @@ use Rattle.std.specs.Prelude.{ℕ, suc, ◌+◌, ◌-◌, ◌^◌, min, List, []
 use Rattle.swd_script.specs.declared.fault.LineFault.{LineFault}
 use Rattle.swd_script.specs.declared.fault.LineFault.TheVariants.{Word, Number, Range, NoMemoryLine, Memory}
 use Rattle.swd_script.specs.declared.fault.ScriptFault.{ScriptFault}
-use Rattle.swd_script.specs.declared.fault.ScriptFault.TheVariants.{Word as WordAt, Number as NumberAt, Range as RangeAt, NoMemoryLine as NoMemoryLineAt, Memory as MemoryAt}
+use Rattle.swd_script.specs.declared.fault.ScriptFault.TheVariants.{Word as WordAt, Number as NumberAt}
+use Rattle.swd_script.specs.declared.fault.ScriptFault.TheVariants.{Range as RangeAt, NoMemoryLine as NoMemoryLineAt}
+use Rattle.swd_script.specs.declared.fault.ScriptFault.TheVariants.{Memory as MemoryAt}
 use Rattle.swd_script.specs.Lines.{line_words}
 
 -- the number, from 1, of the line after so many; more than 2^64 - 1 are told as that

@@ -7,7 +7,9 @@ use Rattle.swd_script.specs.declared.draft.Draft.{Draft}
 use Rattle.swd_script.specs.declared.fault.LineFault.{LineFault}
 use Rattle.swd_script.specs.declared.fault.LineFault.TheVariants.{Word, Number, Range, NoMemoryLine, Memory}
 use Rattle.swd_script.specs.declared.fault.ScriptFault.{ScriptFault}
-use Rattle.swd_script.specs.declared.fault.ScriptFault.TheVariants.{Word as WordAt, Number as NumberAt, Range as RangeAt, NoMemoryLine as NoMemoryLineAt, Memory as MemoryAt}
+use Rattle.swd_script.specs.declared.fault.ScriptFault.TheVariants.{Word as WordAt, Number as NumberAt}
+use Rattle.swd_script.specs.declared.fault.ScriptFault.TheVariants.{Range as RangeAt, NoMemoryLine as NoMemoryLineAt}
+use Rattle.swd_script.specs.declared.fault.ScriptFault.TheVariants.{Memory as MemoryAt}
 use Rattle.swd_script.specs.declared.line_reader.LineReader.{LineReader}
 use Rattle.swd_script.specs.declared.lines.Lines.{Lines}
 use Rattle.swd_script.specs.declared.script.Script.{Script}
@@ -72,13 +74,15 @@ LineStops took refuses number words old fault =
     → number ≡ line_number (length ended) → IsScanned line words → took ended old → refuses (fault_at fault number) text
 
 -- the reader has read these bytes, and met no fault
-pub record ReadsLines {S : Type 0} (took : List (List ℕ) → S → Type 0) (reader : LineReader S) (seen : List ℕ) : Type 0 where
-  pub ended : List (List ℕ)
-  pub splits : Splits seen ended reader.lines
-  pub so_far : took ended reader.sink
+pub record ReadsLines {S : Type 0} (took : List (List ℕ) → S → Type 0) (reader : LineReader S) (seen : List ℕ) : Type 0
+  where
+    pub ended : List (List ℕ)
+    pub splits : Splits seen ended reader.lines
+    pub so_far : took ended reader.sink
 
 -- these are the bytes that were taken
-abbrev pub HasReadLines : {S : Type 0} → (List (List ℕ) → S → Type 0) → Unit {0} → LineReader S × Unit {0} → List ℕ → Type 0
+abbrev pub HasReadLines : {S : Type 0} → (List (List ℕ) → S → Type 0) → Unit {0} → LineReader S × Unit {0} → List ℕ
+    → Type 0
 HasReadLines took u state seen = ReadsLines took state.0 seen
 
 -- whatever follows, the text has this fault

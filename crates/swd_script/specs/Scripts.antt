@@ -8,7 +8,8 @@ use Rattle.swd_port.specs.declared.access.Access.TheVariants.{Read as ReadAccess
 use Rattle.swd_port.specs.PlainMemory.{reads}
 use Rattle.swd_script.specs.declared.command.Command.{Command}
 use Rattle.swd_script.specs.declared.batch.Expected.{Expected}
-use Rattle.swd_script.specs.declared.command.Command.TheVariants.{Memory, Room, Read, Write, ReadMany, Block, Verify, Next}
+use Rattle.swd_script.specs.declared.command.Command.TheVariants.{Memory, Room, Read, Write, ReadMany, Block, Verify}
+use Rattle.swd_script.specs.declared.command.Command.TheVariants.{Next}
 use Rattle.swd_script.specs.declared.draft.Extent.{Extent}
 use Rattle.swd_script.specs.declared.fault.LineFault.{LineFault}
 use Rattle.swd_script.specs.declared.fault.LineFault.TheVariants.{Word, Number, Range, NoMemoryLine}
@@ -87,8 +88,8 @@ without_memory said = if is_none said.memory then Some NoMemoryLine else None
 abbrev pub beside_block : Sayings → Option LineFault
 beside_block said = if is_some said.batch.block then Some Word else without_memory said
 
--- why a command may not stand here: a second `memory`, a second `room` or one after an access or `next`, an access beside
--- a block, or no `memory` before it
+-- why a command may not stand here: a second `memory`, a second `room` or one after an access or `next`, an access
+-- beside a block, or no `memory` before it
 abbrev pub misplaced : Sayings → Command → Option LineFault
 misplaced said (Memory base words) = if is_some said.memory then Some Word else None
 misplaced said (Room count) = if is_some said.room || has_begun said then Some Word else without_memory said
@@ -129,7 +130,8 @@ as_block addr (Err fault) = Err fault
 
 -- an access whose word is told
 abbrev pub as_expected : Expected → Result Sayings LineFault → Result Sayings LineFault
-as_expected read (Ok said) = Ok (record said { batch = record said.batch { expected = said.batch.expected ++ read ∷ [] } })
+as_expected read (Ok said) = Ok
+    (record said { batch = record said.batch { expected = said.batch.expected ++ read ∷ [] } })
 as_expected read (Err fault) = Err fault
 
 -- a read whose word the line with this number tells

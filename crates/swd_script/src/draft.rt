@@ -38,7 +38,8 @@ impl<A: Allocator + Copy> Draft<A> {
     ghost use Rattle.swd_port.specs.PlainMemory.{reads};
     ghost use Rattle.swd_script.specs.declared.batch.Expected.{Expected as TheExpected};
     ghost use Rattle.swd_script.specs.Scripts.{as_block, as_expected, carried_out, has_begun, misplaced, nothing_said};
-    ghost use Rattle.swd_script.specs.Scripts.{script_line, script_meaning, with_accesses, with_memory, with_next, with_room};
+    ghost use Rattle.swd_script.specs.Scripts.{script_line, script_meaning, with_accesses, with_memory, with_next};
+    ghost use Rattle.swd_script.specs.Scripts.{with_room};
     ghost use Rattle.swd_script.specs.Scripts.{with_verified};
     ghost use Rattle.swd_script.specs.Readers.{IsEndFault, IsFaultOf, meaning, said};
     ghost use Rattle.swd_script.specs.Words.{texts_of};

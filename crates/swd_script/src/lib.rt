@@ -19,6 +19,3 @@ pub use fault::ScriptFault;
 pub use line_reader::LineReader;
 pub use plan::{PlanReader, read_plan};
 pub use script::{Script, ScriptReader, read_script};
-
-#[cfg(test)]
-mod tests;

@@ -1,5 +1,5 @@
 //! The lines of a script or a plan, a byte at a time.
-ghost use Rattle.std.specs.Prelude.{◌≡◌, ◌≢◌, ◌∷◌, ◌++◌, [], ℕ, List};
+ghost use Rattle.std.specs.Prelude.{◌≢◌, ◌∷◌, ◌++◌, [], ℕ, List};
 
 use crate::line_scan::LineScan;
 use crate::words::FirstWords;

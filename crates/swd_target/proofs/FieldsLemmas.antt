@@ -8,7 +8,8 @@ use Rattle.swd_port.specs.declared.state.PowerUp.TheVariants.{Unseen, Late, Seen
 use Rattle.swd_port.specs.declared.state.Reset.{Reset}
 use Rattle.swd_port.specs.declared.state.Reset.TheVariants.{Unreset, Fresh, Live}
 use Rattle.swd_target.specs.declared.target.Target.{Target}
-use Rattle.swd_target.specs.Fields.{fields_of, pending_fields, power_number, reset_number, read_flag, read_pending, read_power, read_reset, read_target}
+use Rattle.swd_target.specs.Fields.{fields_of, pending_fields, power_number, reset_number, read_flag, read_pending}
+use Rattle.swd_target.specs.Fields.{read_power, read_reset, read_target}
 
 pub flag_read : (b : Bool) → read_flag (bit b) ≡ bit b
 flag_read true = refl
@@ -31,6 +32,20 @@ power_read Seen = refl
 
 pub target_read : {A : Type 0} (t : Target A) → read_target (fields_of t) ≡ fields_of t
 target_read t =
-    rw (flag_read t.tar.known, flag_read t.buffer.known, flag_read t.last_returned.known, pending_read t.pending, flag_read t.quirks.wrap, flag_read t.quirks.late)
-    (rw (reset_read t.reset, power_read t.power_up, flag_read t.sticky_error, flag_read t.write_error, flag_read t.read_ok)
+    rw (
+      flag_read t.tar.known,
+      flag_read t.buffer.known,
+      flag_read t.last_returned.known,
+      pending_read t.pending,
+      flag_read t.quirks.wrap,
+      flag_read t.quirks.late,
+    )
+    (rw (
+      reset_read t.reset,
+      power_read t.power_up,
+      flag_read t.sticky_error,
+      flag_read t.write_error,
+      flag_read
+          t.read_ok,
+    )
     (rw (flag_read t.debug_power, flag_read t.system_power, flag_read t.increments) refl))

@@ -9,13 +9,16 @@ use Rattle.swd_port.specs.declared.state.Reply.{Reply}
 use Rattle.swd_port.specs.declared.state.Reply.TheVariants as reply
 use Rattle.swd_target.proofs.PhaseNumbers.{shifted_8}
 
-seen_muted : (r : Reply) (place : ℕ) → (r ≡ reply.Silent → ⊥) → bit_xor (driven r) (2 ^ place) ≡ seen_at (mark.Mute place) r
+seen_muted : (r : Reply) (place : ℕ) → (r ≡ reply.Silent → ⊥)
+    → bit_xor (driven r) (2 ^ place) ≡ seen_at (mark.Mute place) r
 seen_muted reply.Okay place n = refl
 seen_muted reply.Waits place n = refl
 seen_muted reply.Faults place n = refl
 seen_muted reply.Silent place n = absurd (n refl)
 
-pub muted : (m : Mark) (r : Reply) (place bits : ℕ) → m ≡ mark.Mute place → IsMark m → (r ≡ reply.Silent → ⊥) → bits ≡ driven r → bit_xor bits (1 * 2 ^ place % 256) ≡ seen_at m r
+pub muted : (m : Mark) (r : Reply) (place bits : ℕ) → m ≡ mark.Mute place → IsMark m → (r ≡ reply.Silent → ⊥)
+    → bits ≡ driven r → bit_xor bits (1 * 2 ^ place % 256) ≡ seen_at m r
 muted m r place bits is legal n e =
     let small : place < 3 = subst (λ x. IsMark x) is legal in
-    ap (bit_xor bits) (shifted_8 place small) ∙ (ap (λ b. bit_xor b (2 ^ place)) e ∙ (seen_muted r place n ∙ ap (λ x. seen_at x r) (sym is)))
+    ap (bit_xor bits) (shifted_8 place small)
+    ∙ (ap (λ b. bit_xor b (2 ^ place)) e ∙ (seen_muted r place n ∙ ap (λ x. seen_at x r) (sym is)))

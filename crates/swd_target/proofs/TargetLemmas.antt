@@ -1,5 +1,6 @@
 -- What a target chooses, as a choice of the port machine, and when its transfers take effect.
-use Rattle.std.proofs.Common.{◌≡◌, ◌<◌, ◌^◌, ◌||◌, Bool, true, false, Option, None, refl, sym, ap, subst, arith, if◌then◌else◌}
+use Rattle.std.proofs.Common.{◌≡◌, ◌<◌, ◌^◌, ◌||◌, Bool, true, false, Option, None, refl, sym, ap, subst, arith}
+use Rattle.std.proofs.Common.{if◌then◌else◌}
 use Rattle.std.specs.Prelude.{is_some}
 use Rattle.swd_port.specs.Port.{Target as State}
 use Rattle.swd_port.specs.declared.register.Register.{Register}
@@ -14,7 +15,8 @@ use Rattle.swd_port.specs.Completion.{completion_of, fails}
 use Rattle.swd_port.specs.Asking.{IsSettled, has_power}
 use Rattle.swd_target.specs.declared.target.Target.{Target}
 use Rattle.swd_target.specs.Simulations.{Simulation, is_owed, transferred}
-use Rattle.swd_target.specs.Targets.{state_of, simulation, stand_in, choice_for, answer_at, reply_when, settled_when, is_settling, IsChosen}
+use Rattle.swd_target.specs.Targets.{state_of, simulation, stand_in, choice_for, answer_at, reply_when, settled_when}
+use Rattle.swd_target.specs.Targets.{is_settling, IsChosen}
 
 stand_in-fits : {A : Type 0} (r : Register) (t : Target A) → stand_in r t < 2 ^ 32
 stand_in-fits ResendRead t = t.last_returned.fits
@@ -28,16 +30,21 @@ pub is_chosen : {A : Type 0} (r : Register) (t : Target A) → IsChosen t.quirks
 is_chosen r t = record { legal = is_choice r t; wraps = refl }
 
 -- the code settles exactly where that is owed by the reply that follows
-owed_by : (exempt : Bool) (waits : Bool) (r : Register) (reset : Reset) (sticky write unpowered failing : Bool) → is_exempt r ≡ exempt
-    → is_owed r (reply_when waits r (answer reset (sticky || failing) write unpowered r)) ≡ is_settling waits r (answer reset sticky write unpowered r) failing
+owed_by : (exempt : Bool) (waits : Bool) (r : Register) (reset : Reset) (sticky write unpowered failing : Bool)
+    → is_exempt r ≡ exempt
+    → is_owed r (reply_when waits r (answer reset (sticky || failing) write unpowered r)) ≡ is_settling waits r
+    (answer reset sticky write unpowered r) failing
 owed_by exempt waits r reset sticky write unpowered failing x = grind arith
 
 pub owed : {A : Type 0} (waits : Bool) (r : Register) (ap_ : Bool) (t : Target A)
-    → is_owed r (reply_when waits r (answer_at r ap_ (transferred (simulation t)).state)) ≡ is_settling waits r (answer_at r ap_ (state_of t)) (fails t.pending t.tar.word t.memory)
-owed waits r ap_ t = owed_by _ waits r t.reset t.sticky_error t.write_error (is_unpowered ap_ (has_power (state_of t))) (fails t.pending t.tar.word t.memory) refl
+    → is_owed r (reply_when waits r (answer_at r ap_ (transferred (simulation t)).state)) ≡ is_settling waits r
+    (answer_at r ap_ (state_of t)) (fails t.pending t.tar.word t.memory)
+owed waits r ap_ t = owed_by _ waits r t.reset t.sticky_error t.write_error (is_unpowered ap_ (has_power (state_of t)))
+    (fails t.pending t.tar.word t.memory) refl
 
 -- where the code does not settle, it need not
-pub settled_unless : (waits : Bool) (r : Register) (a : Reply) (failing : Bool) (pending : Option Drw) → is_settling waits r a failing ≡ false
+pub settled_unless : (waits : Bool) (r : Register) (a : Reply) (failing : Bool) (pending : Option Drw)
+    → is_settling waits r a failing ≡ false
     → IsSettled (reply_when waits r a) r pending
 settled_unless waits r a failing pending e = grind arith
 
@@ -49,8 +56,10 @@ settled_none r Waits = tt
 settled_none r Silent = tt
 
 -- after a completion nothing is pending
-pub settled_after : {A : Type 0} (r : Register) (reply : Reply) (c : Choice) (s : State) (u : Target A) → state_of u ≡ completion_of c s → IsSettled reply r u.pending
-settled_after r reply c s u e = subst (λ (p : Option Drw). IsSettled reply r p) (sym (ap (λ (s : State). s.pending) e)) (settled_none r reply)
+pub settled_after : {A : Type 0} (r : Register) (reply : Reply) (c : Choice) (s : State) (u : Target A)
+    → state_of u ≡ completion_of c s → IsSettled reply r u.pending
+settled_after r reply c s u e = subst (λ (p : Option Drw). IsSettled reply r p) (sym (ap (λ (s : State). s.pending) e))
+    (settled_none r reply)
 
 -- with nothing pending no completion changes anything
 pub at_rest : {A : Type 0} (t : Target A) → t.pending ≡ None → transferred (simulation t) ≡ simulation t

@@ -54,8 +54,8 @@ pub record Answers {A : Type 0} (waits : Bool) (q : Request) (s : Target A) (rep
   pub elsewhere : (m : PlainMemory) → IsUntouched s t → IsReadyIf waits m s
       → AnswersEach waits q (over m s) reply phase (over m t)
 
--- The data of a write: a step of the port machine, and exactly the step that the quirks choose. Nothing takes effect with
--- it where the write isn't done. Where transfers take effect late, it is the same over every memory.
+-- The data of a write: a step of the port machine, and exactly the step that the quirks choose. Nothing takes effect
+-- with it where the write isn't done. Where transfers take effect late, it is the same over every memory.
 pub record DataComes {A : Type 0} (a : Arrival) (s t : Target A) : Type 0 where
   pub later : Transfers (after_bits a (state_of s)) (state_of t)
   pub undone : is_done a ≡ false → state_of t ≡ after_bits a (state_of s)

@@ -78,7 +78,8 @@ abbrev pub phase_to : Mark → Request → Simulation → Line
 phase_to mark q s =
     let a = settled mark q s in
     let r = register a.state.select q in
-    line_after (reply_to mark q s) (phase_after q.read r (flip_of mark) (value_in (is_wait mark) r a.quirks.filler a.state)) Idle
+    line_after (reply_to mark q s)
+    (phase_after q.read r (flip_of mark) (value_in (is_wait mark) r a.quirks.filler a.state)) Idle
 
 -- what an OK accepted takes effect as the quirks say
 abbrev pub accepted_after : Reply → Simulation → Simulation

@@ -22,6 +22,3 @@ pub use fields::{ContentFields, PendingFields, TargetFields};
 pub use memory::{MakeFault, Memory};
 pub use quirks::Quirks;
 pub use swd_port::{Mark, Transfer};
-
-#[cfg(test)]
-mod tests;

@@ -110,8 +110,8 @@ impl<A: Allocator> Memory<A> {
         }
     }
 
-    // A transfer at this address would succeed.
-    pub(crate) fn is_ready(&self, addr: u32) -> bool
+    /// Whether a transfer at this address would succeed: a word is there, and the log has room for it.
+    pub fn is_ready(&self, addr: u32) -> bool
         ensures { result ≡ succeeds_at addr self.now }
     {
         match &self.kept {
@@ -120,8 +120,9 @@ impl<A: Allocator> Memory<A> {
         }
     }
 
-    // One transfer, as the access port makes it.
-    pub(crate) fn transfer(&mut self, access: Access) -> Answer
+    /// One transfer, as the access port makes it. Where no word is at the address, or the log is full, it is a bus
+    /// error, which changes nothing and isn't logged.
+    pub fn transfer(&mut self, access: Access) -> Answer
         ensures answer { result ≡ plain_answer access self.old }
         ensures after { self.new ≡ plain_after access self.old }
     {

@@ -1,5 +1,5 @@
 //! The plan of a simulated wire: the marks of its requests, and which of them were used.
-ghost use Rattle.std.specs.Prelude.{◌≡◌, ◌+◌, ◌≤◌, ℕ, true, length, min, take};
+ghost use Rattle.std.specs.Prelude.{◌≡◌, ◌+◌, true, length, min, take};
 ghost use Rattle.std.specs.List.{list_all};
 ghost use Rattle.swd_port.specs.Choices.{IsMark, disturbs, loses, disturbed_among, lost_among};
 ghost use Rattle.swd_target.specs.Marks.{is_legal, IsPlan};

@@ -18,8 +18,8 @@ impl<A: Allocator> Target<A> {
     ghost use Rattle.swd_target.specs.Targets.{state_of, simulation, stand_in, phase_in};
     ghost use Rattle.swd_target.specs.Requests.{Answers, AnswersUnder, DataComes, Transfers};
 
-    /// A request where WAIT is asked for or not: the reply, and the data phase that follows an OK. Where WAIT is asked for, a
-    /// read of CTRL/STAT, which never gets it, finds power late that wasn't seen to be there before.
+    /// A request where WAIT is asked for or not: the reply, and the data phase that follows an OK. Where WAIT is
+    /// asked for, a read of CTRL/STAT, which never gets it, finds power late that wasn't seen to be there before.
     pub fn request(&mut self, waits: bool, request: Request) -> (Reply, Line)
         ensures answers { Answers waits request self.old result.0 result.1 self.new }
         ensures quirks { (simulation self.new).quirks ≡ (simulation self.old).quirks }
@@ -50,7 +50,8 @@ impl<A: Allocator> Target<A> {
     fn phase(&self, waits: bool, reply: Reply, register: Register, read: bool) -> Line
         ensures phase { result ≡ phase_in waits reply read register (stand_in register self.now) (state_of self.now) }
         ensures exact { result ≡ phase_in waits reply read register self.now.quirks.filler (simulation self.now).state }
-        ensures word { IsWordRead reply read (value_in waits register (stand_in register self.now) (state_of self.now)) }
+        ensures word { IsWordRead reply read (value_in waits register (stand_in register self.now)
+            (state_of self.now)) }
         ensures driven { bits_driven result < 2 ^ 33 }
     {
         match reply {
@@ -78,7 +79,8 @@ impl<A: Allocator> Target<A> {
         requires { bits < 2 ^ 33 }
         ensures comes { DataComes (arrival_of register (word_in bits)) self.old self.new }
         ensures quirks { (simulation self.new).quirks ≡ (simulation self.old).quirks }
-        ensures quiet { (simulation self.old).quirks.late ≡ true → (state_of self.new).memory ≡ (state_of self.old).memory }
+        ensures quiet { (simulation self.old).quirks.late ≡ true
+            → (state_of self.new).memory ≡ (state_of self.old).memory }
     {
         match word_of(bits) {
             Some(word) => {

@@ -1,6 +1,5 @@
 //! The target behind a wire: a debug port with one memory access port.
-ghost use Rattle.std.specs.Prelude.{◌≡◌, ◌&&◌, ◌||◌, not, true, false, if◌then◌else◌};
-ghost use Rattle.std.specs.Option.{option_map};
+ghost use Rattle.std.specs.Prelude.{◌≡◌, ◌&&◌, ◌||◌, not, true, false};
 ghost use Rattle.swd_port.specs.Port.{made_target};
 ghost use Rattle.swd_port.specs.declared.state.Reset.TheVariants.{Fresh};
 ghost use Rattle.swd_port.specs.declared.register.Register.TheVariants.{DrwRead};
@@ -8,7 +7,7 @@ ghost use Rattle.swd_port.specs.Answers.{is_answered};
 ghost use Rattle.swd_port.specs.declared.state.Reply.TheVariants.{Okay, Waits};
 ghost use Rattle.swd_port.specs.Asking.{IsSettled, has_power, power_up_after, value_in, status_in};
 ghost use Rattle.swd_port.specs.Asking.{after_okay, after_wait, target_after};
-ghost use Rattle.swd_port.specs.Registers.{bit_of, csw_read};
+ghost use Rattle.swd_port.specs.Registers.{csw_read};
 ghost use Rattle.swd_port.specs.Moving.{Arrives, Damaged, after_bits};
 ghost use Rattle.swd_port.specs.Completion.{completion_of, fails, next_address};
 ghost use Rattle.swd_target.specs.Contents.{known_word};

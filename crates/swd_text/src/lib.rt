@@ -11,6 +11,3 @@ mod tx_line;
 pub use decoding::decode_text;
 pub use encoding::{encode_text, write_items};
 pub use fault::{EngineFault, TextFault};
-
-#[cfg(test)]
-mod tests;

@@ -667,6 +667,3 @@ impl Decoder {
         Item::Cut(cut)
     }
 }
-
-#[cfg(test)]
-mod tests;

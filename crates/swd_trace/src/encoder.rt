@@ -32,6 +32,3 @@ pub fn encode<W: Write>(item: &Item, writer: &mut W) -> io::Result<()>
         }
     }
 }
-
-#[cfg(test)]
-mod tests;

@@ -9,6 +9,3 @@ mod word;
 
 pub use fault::ListFault;
 pub use reader::read_list;
-
-#[cfg(test)]
-mod tests;

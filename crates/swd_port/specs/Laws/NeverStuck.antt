@@ -1,5 +1,5 @@
--- The port machine is never stuck: no state, request or mark is without a step, so that what is told of every step is told
--- of some.
+-- The port machine is never stuck: no state, request or mark is without a step, so that what is told of every step is
+-- told of some.
 use Rattle.std.specs.Prelude.{ℕ, ◌<◌, ◌^◌, IfSome}
 use Rattle.swd_bits.specs.declared.request.Request.{Request}
 use Rattle.swd_port.specs.PlainMemory.{word_at}

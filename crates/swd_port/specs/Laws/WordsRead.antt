@@ -16,18 +16,19 @@ abbrev pub holds : ℕ → ℕ → Bool
 holds mask word = bit_and (bit_and word ctrl_stat_mask) mask == mask
 
 -- STICKYERR, READOK, WDATAERR and the two power acknowledgements are read back, whatever the others are
-pub record StatusReads (sticky_error read_ok write_error debug_power system_power there : Bool) (word : ℕ) : Type 0 where
-  pub sticky_held : holds 0x20 word ≡ sticky_error
-  pub ok_held : holds 0x40 word ≡ read_ok
-  pub write_held : holds 0x80 word ≡ write_error
-  pub debug_held : holds 0x2000_0000 word ≡ (debug_power && there)
-  pub system_held : holds 0x8000_0000 word ≡ (system_power && there)
-  pub sticky_bit : bit_of 5 word ≡ sticky_error
-  pub ok_bit : bit_of 6 word ≡ read_ok
-  pub write_bit : bit_of 7 word ≡ write_error
-  pub debug_bit : bit_of 29 word ≡ (debug_power && there)
-  pub system_bit : bit_of 31 word ≡ (system_power && there)
-  pub range : word < 2 ^ 32
+pub record StatusReads (sticky_error read_ok write_error debug_power system_power there : Bool) (word : ℕ) : Type 0
+  where
+    pub sticky_held : holds 0x20 word ≡ sticky_error
+    pub ok_held : holds 0x40 word ≡ read_ok
+    pub write_held : holds 0x80 word ≡ write_error
+    pub debug_held : holds 0x2000_0000 word ≡ (debug_power && there)
+    pub system_held : holds 0x8000_0000 word ≡ (system_power && there)
+    pub sticky_bit : bit_of 5 word ≡ sticky_error
+    pub ok_bit : bit_of 6 word ≡ read_ok
+    pub write_bit : bit_of 7 word ≡ write_error
+    pub debug_bit : bit_of 29 word ≡ (debug_power && there)
+    pub system_bit : bit_of 31 word ≡ (system_power && there)
+    pub range : word < 2 ^ 32
 
 abbrev pub StatusWord : Type 0
 StatusWord = (sticky_error read_ok write_error debug_power system_power there : Bool) →

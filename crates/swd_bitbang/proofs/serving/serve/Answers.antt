@@ -18,16 +18,26 @@ unchanged None = tt
 unchanged (Some xs) = sym (append-nil xs)
 
 -- nothing was taken yet
-nothing : {A W : Type 0} (contents : W → Option (List ℕ)) (pins : Pins A) (writer : W) → HasTaken contents (pins, contents writer) (record { pins = pins; place = 0; written = 0 }, writer) []
-nothing contents pins writer = record { levels = []; session = (refl, refl); gone = unchanged (contents writer); written = refl; place = refl }
+nothing : {A W : Type 0} (contents : W → Option (List ℕ)) (pins : Pins A) (writer : W)
+    → HasTaken contents (pins, contents writer) (record { pins = pins; place = 0; written = 0 }, writer) []
+nothing contents pins writer =
+    record { levels = []; session = (refl, refl); gone = unchanged (contents writer); written = refl; place = refl }
 
-unread : {A W : Type 0} (contents : W → Option (List ℕ)) (fault : Unread Served) (text left : Option (List ℕ)) (begin : Begin A) (before after : Server A × W) →
+unread : {A W : Type 0} (contents : W → Option (List ℕ)) (fault : Unread Served) (text left : Option (List ℕ))
+    (begin : Begin A) (before after : Server A × W) →
     HasTaken contents begin before [] →
-    Reads (LeadsOn (HasTaken contents)) (LeadsToEnd (HasTaken contents) (Ends contents)) (Err fault) text left before after →
+    Reads (LeadsOn (HasTaken contents)) (LeadsToEnd (HasTaken contents) (Ends contents)) (Err fault) text left before
+    after →
     Serves (fault_or fault ends.Read) text left begin.1 (contents after.1) begin.0 after.0.pins
 unread contents Reader text left begin before after h r =
     let read = r.2 begin [] h in
-    record { read = r.0; consumed = r.1; whole = tt; ends = record { levels = read.levels; session = read.session; gone = read.gone } }
+    record {
+      read = r.0;
+      consumed = r.1;
+      whole = tt;
+      ends =
+          record { levels = read.levels; session = read.session; gone = read.gone };
+    }
 unread contents (Consumer served) text left begin before after h r =
     let stops = r.2 begin [] h in
     record { read = r.0; consumed = r.1; whole = stop_whole served left stops.0; ends = stops.1 }
@@ -47,9 +57,17 @@ returns g c =
           let r = w.in-Ok.ensures in
           let read = r.3 begin [] none in
           subst (λ (x : Served). Serves x text left begin.1 now pins after) (sym w.served-is)
-          (record { read = r.0; consumed = r.1; whole = r.2; ends = record { levels = read.levels; session = read.session; gone = read.gone } })
+          (record {
+            read = r.0;
+            consumed = r.1;
+            whole = r.2;
+            ends =
+                record { levels = read.levels; session = read.session; gone = read.gone };
+          })
       | in-Err w ↦
           subst (λ (x : Served). Serves x text left begin.1 now pins after) (sym w.served-is)
           (subst (λ (x : Served). Serves x text left begin.1 now pins after) (sym w.fault_or-served.ensures)
-          (unread contents w.in-Err.unread text left begin (record { pins = pins; place = 0; written = 0 }, c.args.writer.now) (c.read_pieces.new.consumer, c.read_pieces.new.writer) none w.in-Err.ensures))
+          (unread contents w.in-Err.unread text left begin
+          (record { pins = pins; place = 0; written = 0 }, c.args.writer.now)
+          (c.read_pieces.new.consumer, c.read_pieces.new.writer) none w.in-Err.ensures))
     ]

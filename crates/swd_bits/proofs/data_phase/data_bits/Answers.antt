@@ -12,7 +12,8 @@ joined w p h e =
     rw (whole, or_shifted p 32 w h, e) refl
 
 pub returns-clause-number : goal.returns-clause-number
-returns-clause-number c = rw c.from.ensures (joined c.args.word c.from-parity.result (omega arith) c.from-parity.ensures)
+returns-clause-number c = rw c.from.ensures
+    (joined c.args.word c.from-parity.result (omega arith) c.from-parity.ensures)
 
 pub returns-clause-bits : goal.returns-clause-bits
 returns-clause-bits c = ap (low_bits 33) (returns-clause-number c) ∙ bits_phase c.args.word c.ranges.word.fits

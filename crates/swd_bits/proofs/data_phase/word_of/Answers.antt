@@ -1,4 +1,5 @@
-use Rattle.std.proofs.Common.{◌≡◌, ℕ, ◌+◌, ◌-◌, ◌*◌, ◌/◌, ◌%◌, ◌^◌, ◌<◌, ◌∷◌, [], take, sym, ap, arith, ◌∙◌, bit_and}
+use Rattle.std.proofs.Common.{◌≡◌, ℕ, ◌+◌, ◌-◌, ◌*◌, ◌/◌, ◌%◌, ◌^◌, ◌<◌, ◌∷◌, [], take, sym, ap, arith}
+use Rattle.std.proofs.Common.{◌∙◌, bit_and}
 use Rattle.std.proofs.lemmas.List.{take_at}
 use Rattle.std.proofs.lemmas.Nat.{and_mask, shr_split, pow_pos}
 use Rattle.std.proofs.Math.Nat.{mod-lt}
@@ -22,9 +23,11 @@ word_is : (word sent : ℕ) → word < 2 ^ 32 → phase word ≡ low_bits 33 sen
 unfolding phase
 word_is word sent h e =
     same_bits 32 word (sent % 2 ^ 32) h (omega arith)
-    (sym (take_at (low_bits 32 word) (odd (low_bits 32 word) ∷ []) 32 (length-low_bits 32 word)) ∙ ap (take 32) e ∙ low_part 32 1 sent)
+    (sym (take_at (low_bits 32 word) (odd (low_bits 32 word) ∷ []) 32 (length-low_bits 32 word)) ∙ ap (take 32) e
+    ∙ low_part 32 1 sent)
 
-no_other : (sent made : ℕ) → sent < 2 ^ 33 → made < 2 ^ 33 → low_bits 33 made ≡ phase (bit_and sent (2 ^ 32 - 1)) → (made ≡ sent → ⊥) →
+no_other : (sent made : ℕ) → sent < 2 ^ 33 → made < 2 ^ 33 → low_bits 33 made ≡ phase (bit_and sent (2 ^ 32 - 1))
+    → (made ≡ sent → ⊥) →
     (word : ℕ) → word < 2 ^ 32 → phase word ≡ low_bits 33 sent → ⊥
 no_other sent made h k f g word j e =
     let n : bit_and sent (2 ^ 32 - 1) ≡ word = and_mask sent 32 ∙ sym (word_is word sent j e) in
@@ -40,11 +43,13 @@ returns-then-data_bits-sent-clause-number c =
 pub returns-else-data_bits-sent-clause-number : goal.returns-else-data_bits-sent-clause-number
 returns-else-data_bits-sent-clause-number c =
     sym (word_missing c.args.sent c.requires
-    (no_other c.args.sent c.data_bits.result c.requires c.data_bits.ensures.bound c.data_bits.ensures.bits c.if-data_bits-sent.false))
+    (no_other c.args.sent c.data_bits.result c.requires c.data_bits.ensures.bound c.data_bits.ensures.bits
+    c.if-data_bits-sent.false))
 
 pub returns-else-data_bits-sent-clause-none : goal.returns-else-data_bits-sent-clause-none
 returns-else-data_bits-sent-clause-none c =
-    no_other c.args.sent c.data_bits.result c.requires c.data_bits.ensures.bound c.data_bits.ensures.bits c.if-data_bits-sent.false
+    no_other c.args.sent c.data_bits.result c.requires c.data_bits.ensures.bound c.data_bits.ensures.bits
+    c.if-data_bits-sent.false
 
 pub returns-then-data_bits-sent-clause-only : goal.returns-then-data_bits-sent-clause-only
 returns-then-data_bits-sent-clause-only c = λ other h e. word_is other c.args.sent h e ∙ sym (and_mask c.args.sent 32)

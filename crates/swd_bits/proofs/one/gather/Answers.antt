@@ -4,7 +4,8 @@ use Rattle.std.proofs.KnownBytes.{Consumes-whole}
 use Rattle.swd_bits.specs.One.{Gathers, TellsBad}
 use Rattle.swd_bits.proofs.one.gather.Goals as goal
 
-told : (a b : Option (List ℕ)) (place : ℕ) (text : List ℕ) → Consumes a b text → ((more : List ℕ) → TellsBad place (text ++ more)) → IfSome a (TellsBad place)
+told : (a b : Option (List ℕ)) (place : ℕ) (text : List ℕ) → Consumes a b text
+    → ((more : List ℕ) → TellsBad place (text ++ more)) → IfSome a (TellsBad place)
 told None b place text h f = tt
 told (Some x) None place text h f = absurd h
 told (Some x) (Some rest) place text h f = subst (TellsBad place) (sym h) (f rest)
@@ -12,7 +13,8 @@ told (Some x) (Some rest) place text h f = subst (TellsBad place) (sym h) (f res
 pub returns-in-Ok : goal.returns-in-Ok
 returns-in-Ok g c =
     let read = c.in-Ok.ensures in
-    Consumes-whole _ _ read.0 (λ bytes. Gathers bytes c.read_pieces.new.consumer) read.1 read.2 (read.3 tt [] c.new-gathered.ensures).gathers
+    Consumes-whole _ _ read.0 (λ bytes. Gathers bytes c.read_pieces.new.consumer) read.1 read.2
+    (read.3 tt [] c.new-gathered.ensures).gathers
 
 pub returns-in-Err-Consumer : goal.returns-in-Err-Consumer
 returns-in-Err-Consumer g c =

@@ -1,4 +1,5 @@
-use Rattle.std.proofs.Common.{◌≡◌, ℕ, Bool, false, List, [], ◌∷◌, ◌++◌, ◌<◌, length, take, sym, ap, ◌∙◌, subst, arith, Option, None, Some, IfSome}
+use Rattle.std.proofs.Common.{◌≡◌, ℕ, Bool, false, List, [], ◌∷◌, ◌++◌, ◌<◌, length, take, sym, ap, ◌∙◌, subst, arith}
+use Rattle.std.proofs.Common.{Option, None, Some, IfSome}
 use Rattle.std.specs.Prelude.{IsSomeAnd}
 use Rattle.std.proofs.KnownBytes.{Appends-nil}
 use Rattle.std.specs.Io.KnownBytes.{Appends}
@@ -20,7 +21,8 @@ judged (Some bytes) g P h k = rw (reads_all bytes h.bits g.scan h.reads) (k h.bi
 
 pub returns-then-gathered : goal.returns-then-gathered
 returns-then-gathered g c = (
-  judged (g.R.Read.remaining c.args.reader.now) c.in_ok-gathered.gathered (λ bits. (tx : Tx) → Spells tx bits → ⊥) c.in_ok-gathered.ensures
+  judged (g.R.Read.remaining c.args.reader.now) c.in_ok-gathered.gathered (λ bits. (tx : Tx) → Spells tx bits → ⊥)
+      c.in_ok-gathered.ensures
       (λ bits k tx p.
       let k' = rw c.if-gathered.true at k in
       let n = short tx bits p in
@@ -30,7 +32,8 @@ returns-then-gathered g c = (
 
 pub returns-in_default : goal.returns-in_default
 returns-in_default g c = (
-  judged (g.R.Read.remaining c.args.reader.now) c.in_ok-gathered.gathered (λ bits. (tx : Tx) → Spells tx bits → ⊥) c.in_ok-gathered.ensures
+  judged (g.R.Read.remaining c.args.reader.now) c.in_ok-gathered.gathered (λ bits. (tx : Tx) → Spells tx bits → ⊥)
+      c.in_ok-gathered.ensures
       (λ bits k tx p.
       let k' = rw c.if-gathered.false at k in
       c.in_default.ensures.none tx (subst (Spells tx) (sym k'.1) p)),
@@ -38,21 +41,31 @@ returns-in_default g c = (
 )
 
 -- what the transaction that was found is in the text
-found : (text : Option (List ℕ)) (g : Gathered) (tx : Tx) → IfSome text (λ bytes. Gathers bytes g) → g.long ≡ false → Spells tx (bits_of g.held) →
+found : (text : Option (List ℕ)) (g : Gathered) (tx : Tx) → IfSome text (λ bytes. Gathers bytes g) → g.long ≡ false
+    → Spells tx (bits_of g.held) →
     IfSome text (λ bytes. IsSomeAnd (bits_of_text bytes) (Spells tx))
 found text g tx h e f = judged text g (Spells tx) h (λ bits k. let k' = rw e at k in subst (Spells tx) k'.1 f)
 
 pub returns-in-Ok : goal.returns-in-Ok
 returns-in-Ok g c =
-    let e = c.as_bytes.ensures.value ∙ c.as_str.ensures.value ∙ c.push_str.ensures.bytes ∙ ap (λ x. x ++ 10 ∷ []) c.line-line.ensures.bytes in
-    (c.in-Some.tx, found (g.R.Read.remaining c.args.reader.now) c.in_ok-gathered.gathered c.in-Some.tx c.in_ok-gathered.ensures c.if-gathered.false c.in-Some.ensures.found, subst (Appends (g.W.Write.contents c.args.writer.now) (g.W.Write.contents c.send.new.writer)) e c.in-Ok.ensures.ok)
+    let e = c.as_bytes.ensures.value ∙ c.as_str.ensures.value ∙ c.push_str.ensures.bytes
+    ∙ ap (λ x. x ++ 10 ∷ []) c.line-line.ensures.bytes in (
+      c.in-Some.tx,
+      found (g.R.Read.remaining c.args.reader.now) c.in_ok-gathered.gathered c.in-Some.tx
+          c.in_ok-gathered.ensures c.if-gathered.false c.in-Some.ensures.found,
+      subst (Appends (g.W.Write.contents c.args.writer.now) (g.W.Write.contents c.send.new.writer)) e
+          c.in-Ok.ensures.ok,
+    )
 
 pub returns-in-Err : goal.returns-in-Err
 returns-in-Err g c =
-    let e = c.as_bytes.ensures.value ∙ c.as_str.ensures.value ∙ c.push_str.ensures.bytes ∙ ap (λ x. x ++ 10 ∷ []) c.line-line.ensures.bytes in (
+    let e = c.as_bytes.ensures.value ∙ c.as_str.ensures.value ∙ c.push_str.ensures.bytes
+    ∙ ap (λ x. x ++ 10 ∷ []) c.line-line.ensures.bytes in (
       c.in-Some.tx,
       c.in-Err.field-0.sent,
       subst (λ x. c.in-Err.field-0.sent < length x) e c.in-Err.ensures.err.0,
-      found (g.R.Read.remaining c.args.reader.now) c.in_ok-gathered.gathered c.in-Some.tx c.in_ok-gathered.ensures c.if-gathered.false c.in-Some.ensures.found,
-      subst (λ x. Appends (g.W.Write.contents c.args.writer.now) (g.W.Write.contents c.send.new.writer) (take c.in-Err.field-0.sent x)) e c.in-Err.ensures.err.1,
+      found (g.R.Read.remaining c.args.reader.now) c.in_ok-gathered.gathered c.in-Some.tx c.in_ok-gathered.ensures
+          c.if-gathered.false c.in-Some.ensures.found,
+      subst (λ x. Appends (g.W.Write.contents c.args.writer.now) (g.W.Write.contents c.send.new.writer)
+          (take c.in-Err.field-0.sent x)) e c.in-Err.ensures.err.1,
     )

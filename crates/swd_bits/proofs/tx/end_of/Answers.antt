@@ -17,12 +17,18 @@ other_length a read seen len bits k n end u h e f =
     n (sym (length-low_bits len bits) ∙ ap length f ∙ length_after a read u end h (e ∙ sym k))
 
 pub returns-then-rest-eq0-clause-found : goal.returns-then-rest-eq0-clause-found
-returns-then-rest-eq0-clause-found c =
-    (no_ack c.args.seen c.requires.seen c.in-None.ensures.none, refl, true, no_bit (bits_of c.args.rest) (length-low_bits c.args.rest.len c.args.rest.bits ∙ c.if-rest-eq0.true))
+returns-then-rest-eq0-clause-found c = (
+  no_ack c.args.seen c.requires.seen c.in-None.ensures.none,
+  refl,
+  true,
+  no_bit (bits_of c.args.rest)
+      (length-low_bits c.args.rest.len c.args.rest.bits ∙ c.if-rest-eq0.true),
+)
 
 pub returns-else-rest-eq0-clause-none : goal.returns-else-rest-eq0-clause-none
 returns-else-rest-eq0-clause-none c = λ end u h e f.
-    c.if-rest-eq0.false (sym (length-low_bits c.args.rest.len c.args.rest.bits) ∙ ap length f ∙ ap length (nothing_after c.args.seen c.in-None.ensures.none c.args.read u end e))
+    c.if-rest-eq0.false (sym (length-low_bits c.args.rest.len c.args.rest.bits) ∙ ap length f
+    ∙ ap length (nothing_after c.args.seen c.in-None.ensures.none c.args.read u end e))
 
 pub returns-then-rest-eq1-clause-found : goal.returns-then-rest-eq1-clause-found
 returns-then-rest-eq1-clause-found c =
@@ -31,17 +37,21 @@ returns-then-rest-eq1-clause-found c =
 
 pub returns-else-rest-eq1-clause-none : goal.returns-else-rest-eq1-clause-none
 returns-else-rest-eq1-clause-none c =
-    other_length AckWait c.args.read c.args.seen c.args.rest.len c.args.rest.bits (rw c.in-Some-Wait.field-0-is at c.in-Some-Wait.ensures.found) c.if-rest-eq1.false
+    other_length AckWait c.args.read c.args.seen c.args.rest.len c.args.rest.bits
+    (rw c.in-Some-Wait.field-0-is at c.in-Some-Wait.ensures.found) c.if-rest-eq1.false
 
 pub returns-then-rest-eq1-2-clause-found : goal.returns-then-rest-eq1-2-clause-found
 returns-then-rest-eq1-2-clause-found c =
-    let last = one_bit (bits_of c.args.rest) (length-low_bits c.args.rest.len c.args.rest.bits ∙ c.if-rest-eq1-2.true) in
+    let last = one_bit (bits_of c.args.rest)
+    (length-low_bits c.args.rest.len c.args.rest.bits ∙ c.if-rest-eq1-2.true) in
     (tt, rw c.in-Some-Fault.field-0-is at c.in-Some-Fault.ensures.found, last.0, last.1)
 
 pub returns-else-rest-eq1-2-clause-none : goal.returns-else-rest-eq1-2-clause-none
 returns-else-rest-eq1-2-clause-none c =
-    other_length AckFault c.args.read c.args.seen c.args.rest.len c.args.rest.bits (rw c.in-Some-Fault.field-0-is at c.in-Some-Fault.ensures.found) c.if-rest-eq1-2.false
+    other_length AckFault c.args.read c.args.seen c.args.rest.len c.args.rest.bits
+    (rw c.in-Some-Fault.field-0-is at c.in-Some-Fault.ensures.found) c.if-rest-eq1-2.false
 
 pub returns-else-rest-eq34-clause-none : goal.returns-else-rest-eq34-clause-none
 returns-else-rest-eq34-clause-none c =
-    other_length AckOk c.args.read c.args.seen c.args.rest.len c.args.rest.bits (rw c.in-Some-Ok.field-0-is at c.in-Some-Ok.ensures.found) c.if-rest-eq34.false
+    other_length AckOk c.args.read c.args.seen c.args.rest.len c.args.rest.bits
+    (rw c.in-Some-Ok.field-0-is at c.in-Some-Ok.ensures.found) c.if-rest-eq34.false

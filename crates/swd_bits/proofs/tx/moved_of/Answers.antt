@@ -13,7 +13,8 @@ none [] h = refl
 none (b ∷ bits) h = absurd (omega arith)
 
 -- a read's phase comes before the turnaround, a write's after it
-parted : (read : Bool) (before phase after : List Bool) → length before ≡ bool_byte (not read) → length after + bool_byte (not read) ≡ 1 →
+parted : (read : Bool) (before phase after : List Bool) → length before ≡ bool_byte (not read)
+    → length after + bool_byte (not read) ≡ 1 →
     (u : Bool) × (before ++ (phase ++ after) ≡ moved read u phase)
 parted true before phase after b a =
     let h : length before ≡ 0 = b in
@@ -23,8 +24,11 @@ parted true before phase after b a =
 parted false before phase after b a =
     let one : length before ≡ 1 = b in
     let h : length after ≡ 0 = omega arith in
-    let u = one_bit before one in
-    (u.0, ap (λ x. x ++ (phase ++ after)) u.1 ∙ ap (λ x. u.0 ∷ (phase ++ x)) (none after h) ∙ ap (λ x. u.0 ∷ x) (append-nil phase))
+    let u = one_bit before one in (
+      u.0,
+      ap (λ x. x ++ (phase ++ after)) u.1 ∙ ap (λ x. u.0 ∷ (phase ++ x)) (none after h)
+          ∙ ap (λ x. u.0 ∷ x) (append-nil phase),
+    )
 
 pub returns : goal.returns
 returns c =
@@ -33,12 +37,14 @@ returns c =
     let after = bits_of c.split-phase.result.1 in
     let skips : skipped ≡ bool_byte (not c.args.read) = c.from.ensures in
     let b : length before ≡ skipped = length-low_bits skipped c.split.result.0 in
-    let a : length after ≡ c.split-phase.result.1.len = length-low_bits c.split-phase.result.1.len c.split-phase.result.1.bits in
+    let a : length after ≡ c.split-phase.result.1.len = length-low_bits c.split-phase.result.1.len
+    c.split-phase.result.1.bits in
     let first = c.split.ensures.len in
     let second = c.split-phase.ensures.len in
     let l = c.requires.len in
     let p = parted c.args.read before (low_bits 33 c.split-phase.result.0) after (b ∙ skips) (omega arith) in (
       c.phase_in-word.ensures.word,
       p.0,
-      c.split.ensures.bits ∙ ap (λ x. before ++ x) c.split-phase.ensures.bits ∙ p.1 ∙ ap (moved c.args.read p.0) c.phase_in-word.ensures.bits,
+      c.split.ensures.bits ∙ ap (λ x. before ++ x) c.split-phase.ensures.bits ∙ p.1
+          ∙ ap (moved c.args.read p.0) c.phase_in-word.ensures.bits,
     )

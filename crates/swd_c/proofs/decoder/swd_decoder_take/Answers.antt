@@ -15,7 +15,8 @@ due_is_decided readings after (Some item) some gives undecided = undecided item 
 pub returns-then-is_some-clause-takes : goal.returns-then-is_some-clause-takes
 returns-then-is_some-clause-takes c = λ is undecided some most room.
     let d = c.in-Some.now in
-    absurd (due_is_decided (rest d) (rest c.due.new.self) c.due.result (search (rules, c.if-is_some.true)) c.due.ensures.item
+    absurd (due_is_decided (rest d) (rest c.due.new.self) c.due.result (search (rules, c.if-is_some.true))
+    c.due.ensures.item
     (undecided_same (rest_in c.args.decoder.now) (rest d) (λ more. sym (c.in-Some.ensures.rest more)) undecided))
 
 pub returns-clause-is : goal.returns-clause-is

@@ -1,4 +1,5 @@
-use Rattle.std.proofs.Common.{◌≡◌, ◌==◌, Bool, true, false, Option, List, [], ◌∷◌, length, ap, refl, sym, subst, ◌∙◌, arith}
+use Rattle.std.proofs.Common.{◌≡◌, ◌==◌, Bool, true, false, Option, List, [], ◌∷◌, length, ap, refl, sym, subst, ◌∙◌}
+use Rattle.std.proofs.Common.{arith}
 use Rattle.swd_bits.specs.Bits.{bit}
 use Rattle.swd_port.specs.PlainMemory.{PlainMemory}
 use Rattle.swd_port.specs.declared.access.Transfer.{Transfer}
@@ -34,8 +35,10 @@ returns-then-not-is_empty-clause-wants c = λ yes.
         line,
         clocks,
         λ none.
-            let empty : c.log.result.now ≡ [] = c.log.ensures ∙ (ap (λ (m : PlainMemory). m.log) c.memory.ensures ∙ none) in
-            let is : c.is_empty.result ≡ true = c.is_empty.ensures ∙ ap (λ (xs : List Transfer). length xs == 0) empty in
+            let empty : c.log.result.now ≡ [] = c.log.ensures
+            ∙ (ap (λ (m : PlainMemory). m.log) c.memory.ensures ∙ none) in
+            let is : c.is_empty.result ≡ true = c.is_empty.ensures
+            ∙ ap (λ (xs : List Transfer). length xs == 0) empty in
             let not_is : c.is_empty.result ≡ false = c.if-not-is_empty.true in
             cc,
       ),
@@ -51,13 +54,19 @@ returns-clause-clocks c = λ yes m there.
     let here : memory_of before ≡ ready old = c.in-Some.ensures.same.1 ∙ c.window.ensures in
     let clocks : Clocks (drive_told c.args.drive) line before after =
     subst (λ (d : Option Bool). Clocks d line before after) c.driven.ensures c.cycle-line.ensures.clocks in
-    let empty : (after.target.memory).log ≡ [] = ap (λ (m : PlainMemory). m.log) (sym c.memory.ensures) ∙ (sym c.log.ensures ∙ nothing c.log.result.now (sym c.is_empty.ensures ∙ c.if-not-is_empty.false)) in
+    let empty : (after.target.memory).log ≡ [] = ap (λ (m : PlainMemory). m.log) (sym c.memory.ensures)
+    ∙ (sym c.log.ensures ∙ nothing c.log.result.now (sym c.is_empty.ensures ∙ c.if-not-is_empty.false)) in
     let untouched : IsUntouched before.target after.target = record {
       late = had.late;
       ready = ready_here old before had here;
       log = empty ∙ sym (ap (λ (m : PlainMemory). m.log) here);
     } in
-    let has : Numbers c.fields.result after = record { has = sym c.fields.ensures; late = ap (λ (q : Quirks). q.late) c.cycle-line.ensures.quirks ∙ had.late } in
+    let has : Numbers c.fields.result after =
+    record {
+      has = sym c.fields.ensures;
+      late = ap (λ (q : Quirks). q.late) c.cycle-line.ensures.quirks
+          ∙ had.late;
+    } in
     let told : (c.from.result == 1) ≡ line = ap (λ n. n == 1) c.from.ensures ∙ bit_back line in (
       over m before,
       numbers_over m old before had,
@@ -68,7 +77,9 @@ returns-clause-clocks c = λ yes m there.
         refl,
         record {
           clocks = subst (λ (b : Bool). Clocks (drive_told c.args.drive) b (over m before) (over m after)) (sym told)
-              (clocks_over m (drive_told c.args.drive) line before after untouched (λ held. ready_there old before m had (there (ap (λ (f : ClockedFields). f.waits) (sym had.has) ∙ ap bit held))) clocks);
+              (clocks_over m (drive_told c.args.drive) line before after untouched
+              (λ held. ready_there old before m had
+              (there (ap (λ (f : ClockedFields). f.waits) (sym had.has) ∙ ap bit held))) clocks);
           cycles = c.cycle-line.ensures.cycles;
         },
       ),
@@ -81,7 +92,8 @@ returns-then-not-is_empty-clause-pending c = λ yes none.
     let had = c.in-Some.ensures.same.0 in
     let here : memory_of before ≡ ready old = c.in-Some.ensures.same.1 ∙ c.window.ensures in
     let still = c.cycle-line.ensures.quiet had.late (none_pending old before had none) in
-    let empty : c.log.result.now ≡ [] = c.log.ensures ∙ ap (λ (m : PlainMemory). m.log) (c.memory.ensures ∙ (still ∙ here)) in
+    let empty : c.log.result.now ≡ [] = c.log.ensures
+    ∙ ap (λ (m : PlainMemory). m.log) (c.memory.ensures ∙ (still ∙ here)) in
     let is : c.is_empty.result ≡ true = c.is_empty.ensures ∙ ap (λ (xs : List Transfer). length xs == 0) empty in
     let not_is : c.is_empty.result ≡ false = c.if-not-is_empty.true in
     cc

@@ -18,5 +18,10 @@ returns-clause-holds c = λ yes m.
       over m before,
       numbers_over m c.args.target.now before had,
       refl,
-      (over m after, numbers_over m c.fields.result after has, refl, record { holds = holds_over m _ before after c.hold.ensures.holds; cycles = c.hold.ensures.cycles }),
+      (
+        over m after,
+        numbers_over m c.fields.result after has,
+        refl,
+        record { holds = holds_over m _ before after c.hold.ensures.holds; cycles = c.hold.ensures.cycles },
+      ),
     )

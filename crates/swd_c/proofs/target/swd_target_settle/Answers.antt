@@ -28,6 +28,9 @@ returns-clause-settles c = λ yes a m told.
         over last after,
         numbers_over last c.fields.result after has,
         after_is old before c.args.kind c.args.word a m had told,
-        record { settles = settles_over m before after same c.settle.ensures.settles; cycles = c.settle.ensures.cycles },
+        record {
+          settles = settles_over m before after same c.settle.ensures.settles;
+          cycles = c.settle.ensures.cycles;
+        },
       ),
     )

@@ -12,7 +12,10 @@ loop-place-preserved c =
     let level = c.in-Some.level in
     let e = from_bit level c.from.result c.from.ensures in
     record {
-      small = subst (λ n. c.loop-place.number * 2 + n < 2 ^ (c.loop-place.place + 1)) (sym e) (next_bound c.loop-place.place c.loop-place.number level i.small);
-      read = subst (λ n. levels (c.loop-place.place + 1) (c.loop-place.number * 2 + n) ≡ drop (length c.args.text.now - (c.loop-place.place + 1)) c.args.text.now) (sym e)
-          (next_level c.args.text.now c.loop-place.place c.loop-place.number level c.loop-place-test.true c.in-Some.ensures.level i.read);
+      small = subst (λ n. c.loop-place.number * 2 + n < 2 ^ (c.loop-place.place + 1)) (sym e)
+          (next_bound c.loop-place.place c.loop-place.number level i.small);
+      read = subst (λ n. levels (c.loop-place.place + 1) (c.loop-place.number * 2 + n) ≡ drop
+          (length c.args.text.now - (c.loop-place.place + 1)) c.args.text.now) (sym e)
+          (next_level c.args.text.now c.loop-place.place c.loop-place.number level c.loop-place-test.true
+          c.in-Some.ensures.level i.read);
     }

@@ -11,13 +11,16 @@ loop-place-preserved g c =
     let i = c.loop-place.invariant in
     let clock = driven_clock (c.loop-place.rest % 2 == 1) in
     let put : Lengthens g.W.Write.contents clock c.loop-place.outgoing c.put.new.self
-    = subst (λ (x : List ℕ). Lengthens g.W.Write.contents x c.loop-place.outgoing c.put.new.self) c.driven_clock.ensures c.put.ensures in (
+    = subst (λ (x : List ℕ). Lengthens g.W.Write.contents x c.loop-place.outgoing c.put.new.self) c.driven_clock.ensures
+    c.put.ensures in (
       i.0 ++ clock,
       longer_twice g.W.Write.contents i.0 clock _ c.loop-place.outgoing _ i.1 put,
-      append_assoc i.0 clock _ ∙ ap (λ x. i.0 ++ x) (sym (next_clock c.args.count c.loop-place.place c.loop-place.rest c.loop-place-test.true)) ∙ i.2,
+      append_assoc i.0 clock _ ∙ ap (λ x. i.0 ++ x)
+          (sym (next_clock c.args.count c.loop-place.place c.loop-place.rest c.loop-place-test.true)) ∙ i.2,
     )
 
 pub returns : goal.returns
 returns g c =
     let i = c.loop-place.invariant in
-    all_put g.W.Write.contents i.0 _ _ _ _ i.1 i.2 (none_left c.args.count c.loop-place.place c.loop-place.rest c.loop-place-test.false)
+    all_put g.W.Write.contents i.0 _ _ _ _ i.1 i.2
+    (none_left c.args.count c.loop-place.place c.loop-place.rest c.loop-place-test.false)

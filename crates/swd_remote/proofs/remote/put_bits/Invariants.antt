@@ -8,4 +8,5 @@ use Rattle.swd_remote.proofs.remote.put_bits.Given as goal
 abbrev pub invariant-loop-place : goal.invariant-loop-place
 invariant-loop-place g l = (done : List ℕ)
     × Lengthens g.W.Write.contents done l.fn.outgoing l.outgoing
-    × (done ++ joined (map driven_clock (low_bits (l.count - l.place) l.rest)) ≡ joined (map driven_clock (low_bits l.count l.bits)))
+    × (done ++ joined (map driven_clock (low_bits (l.count - l.place) l.rest)) ≡ joined
+    (map driven_clock (low_bits l.count l.bits)))

@@ -9,5 +9,6 @@ loop-place-preserved g c =
     let clock = c.args.clock.now in (
       i.0 ++ clock,
       longer_twice g.W.Write.contents i.0 clock _ c.loop-place.outgoing _ i.1 c.put.ensures,
-      append_assoc i.0 clock _ ∙ ap (λ x. i.0 ++ x) (sym (next_time c.args.count c.loop-place.place clock c.loop-place-test.true)) ∙ i.2,
+      append_assoc i.0 clock _ ∙ ap (λ x. i.0 ++ x)
+          (sym (next_time c.args.count c.loop-place.place clock c.loop-place-test.true)) ∙ i.2,
     )

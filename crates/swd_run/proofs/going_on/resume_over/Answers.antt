@@ -12,7 +12,8 @@ resume-requires-clause-accepted g c =
 
 pub resume-requires-clause-reported : goal.resume-requires-clause-reported
 resume-requires-clause-reported g c =
-    subst (λ (list : List Access). length (told_of c.args.report.now).answers ≤ length list) (sym c.as_slice.ensures.value)
+    subst (λ (list : List Access). length (told_of c.args.report.now).answers ≤ length list)
+    (sym c.as_slice.ensures.value)
     c.requires.reported
 
 pub returns-in-Ok-clause-continues : goal.returns-in-Ok-clause-continues

@@ -16,7 +16,8 @@ loop-done-init g c =
       count = ap length c.new-stops.ensures.items;
       number = ensures.closes.number;
       plan = ensures.plan;
-      went = subst (λ (stops : List Stop). Went g.W.Wire.port g.W.Wire.plan g.W.Wire.lawful (most_begun batch) batch.accesses c.args.tries c.args.wire.now stops told c.run_over.new.wire)
+      went = subst (λ (stops : List Stop). Went g.W.Wire.port g.W.Wire.plan g.W.Wire.lawful (most_begun batch)
+          batch.accesses c.args.tries c.args.wire.now stops told c.run_over.new.wire)
           (sym c.new-stops.ensures.items) (ran ensures.plan ensures.closes ensures.fits);
     }
 
@@ -31,9 +32,11 @@ loop-done-preserved g c =
     let items : c.push.new.self.items ≡ before ++ stop_of earlier ∷ [] =
     c.in-Ok.ensures.items ∙ ap (λ (stop : Stop). before ++ stop ∷ []) c.of.ensures in
     record {
-      count = ap length items ∙ length-append before (stop_of earlier ∷ []) ∙ ap (λ n. n + 1) c.loop-done.invariant.count;
+      count = ap length items ∙ length-append before (stop_of earlier ∷ [])
+          ∙ ap (λ n. n + 1) c.loop-done.invariant.count;
       number = ensures.continues.number;
       plan = plan;
-      went = subst (λ (stops : List Stop). Went g.W.Wire.port g.W.Wire.plan g.W.Wire.lawful (most_begun batch) batch.accesses c.args.tries c.args.wire.now stops told c.resume_over.new.wire)
+      went = subst (λ (stops : List Stop). Went g.W.Wire.port g.W.Wire.plan g.W.Wire.lawful (most_begun batch)
+          batch.accesses c.args.tries c.args.wire.now stops told c.resume_over.new.wire)
           (sym items) (resumed c.loop-done.invariant.went c.in-Lost.is plan ensures.continues ensures.fits);
     }

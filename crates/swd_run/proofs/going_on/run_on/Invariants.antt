@@ -12,5 +12,6 @@ invariant-loop-done g l =
       count : length l.stops.items ≡ l.done;
       number : length (told_of l.report).answers ≤ length batch.accesses;
       plan : g.W.Wire.plan l.wire ≡ g.W.Wire.plan l.fn.wire;
-      went : Went g.W.Wire.port g.W.Wire.plan g.W.Wire.lawful (most_begun batch) batch.accesses l.tries l.fn.wire l.stops.items (told_of l.report) l.wire;
+      went : Went g.W.Wire.port g.W.Wire.plan g.W.Wire.lawful (most_begun batch) batch.accesses l.tries l.fn.wire
+          l.stops.items (told_of l.report) l.wire;
     }

@@ -15,18 +15,25 @@ loop-access-preserved g c =
     let i = length c.loop-access.yielded in
     let first : iter_rest (zip_first c.into_iter-access-iterator.result) ≡ accesses = search in
     let second : iter_rest (zip_second c.into_iter-access-iterator.result) ≡ answers = search in
-    let turn = zip_turn accesses answers c.loop-access.yielded c.into_iter-access-iterator.result c.loop-access.access-iterator c.next.new.self c.next.result first second c.loop-access.yielded_by (c.in-Some.access, c.in-Some.answer) c.in-Some.is c.next.ensures.steps in
+    let turn = zip_turn accesses answers c.loop-access.yielded c.into_iter-access-iterator.result
+    c.loop-access.access-iterator c.next.new.self c.next.result first second c.loop-access.yielded_by
+    (c.in-Some.access, c.in-Some.answer) c.in-Some.is c.next.ensures.steps in
     let access = c.in-Some.access.now in
     let answer = c.in-Some.answer.now in
     let line : c.as_bytes.result.now ≡ answer_line (get_or accesses i access) (get_or answers i answer) =
-    c.as_bytes.ensures.value ∙ c.as_str.ensures.value ∙ c.answer_line.ensures.bytes ∙ ap (λ a. answer_line a answer) (turn.2 access) ∙ ap (answer_line (get_or accesses i access)) (turn.3 answer) in
-    let next : length (c.loop-access.yielded ++ (c.in-Some.access, c.in-Some.answer) ∷ []) ≡ i + 1 = length-append c.loop-access.yielded ((c.in-Some.access, c.in-Some.answer) ∷ []) in
+    c.as_bytes.ensures.value ∙ c.as_str.ensures.value ∙ c.answer_line.ensures.bytes
+    ∙ ap (λ a. answer_line a answer) (turn.2 access)
+    ∙ ap (answer_line (get_or accesses i access)) (turn.3 answer) in
+    let next : length (c.loop-access.yielded ++ (c.in-Some.access, c.in-Some.answer) ∷ []) ≡ i + 1 = length-append
+    c.loop-access.yielded ((c.in-Some.access, c.in-Some.answer) ∷ []) in
     let so_far = answer_lines (take i accesses) (take i answers) in
     record {
       sends = λ start all h.
           subst (λ x. Sends g.W.Write.contents start c.put_line.new.self x)
-          (ap (λ x. (all ++ so_far) ++ (x ++ 10 ∷ [])) line ∙ append_assoc all so_far (answer_line (get_or accesses i access) (get_or answers i answer) ++ 10 ∷ [])
-          ∙ ap (λ x. all ++ x) (sym (pairs_more answer_fed accesses answers i access answer turn.0 turn.1) ∙ ap (λ n. answer_lines (take n accesses) (take n answers)) (sym next)))
+          (ap (λ x. (all ++ so_far) ++ (x ++ 10 ∷ [])) line
+          ∙ append_assoc all so_far (answer_line (get_or accesses i access) (get_or answers i answer) ++ 10 ∷ [])
+          ∙ ap (λ x. all ++ x) (sym (pairs_more answer_fed accesses answers i access answer turn.0 turn.1)
+          ∙ ap (λ n. answer_lines (take n accesses) (take n answers)) (sym next)))
           (c.put_line.ensures.sends start (all ++ so_far) (c.loop-access.invariant.sends start all h));
       writer = c.put_line.ensures.writer ∙ c.loop-access.invariant.writer;
     }
@@ -38,8 +45,11 @@ returns-clause-sends g c = λ start all h.
     let i = length c.loop-access.yielded in
     let first : iter_rest (zip_first c.into_iter-access-iterator.result) ≡ accesses = search in
     let second : iter_rest (zip_second c.into_iter-access-iterator.result) ≡ answers = search in
-    let ended = zip_end accesses answers c.loop-access.yielded c.into_iter-access-iterator.result c.loop-access.access-iterator c.next.new.self c.next.result first second c.loop-access.yielded_by c.in-None.is c.next.ensures.steps in
-    subst (λ x. Sends g.W.Write.contents start c.loop-access.block (all ++ x)) (pairs_whole answer_fed accesses answers i ended)
+    let ended = zip_end accesses answers c.loop-access.yielded c.into_iter-access-iterator.result
+    c.loop-access.access-iterator c.next.new.self c.next.result first second c.loop-access.yielded_by
+    c.in-None.is c.next.ensures.steps in
+    subst (λ x. Sends g.W.Write.contents start c.loop-access.block (all ++ x))
+    (pairs_whole answer_fed accesses answers i ended)
     (c.loop-access.invariant.sends start all h)
 
 pub returns-clause-writer : goal.returns-clause-writer

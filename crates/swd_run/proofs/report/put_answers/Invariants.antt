@@ -7,6 +7,7 @@ abbrev pub invariant-loop-access : goal.invariant-loop-access
 invariant-loop-access g l =
     let so_far = answer_lines (take (length l.yielded) l.accesses) (take (length l.yielded) l.answers) in
     record {
-      sends : (start : Option (List ℕ)) (all : List ℕ) → Sends g.W.Write.contents start l.fn.block all → Sends g.W.Write.contents start l.block (all ++ so_far);
+      sends : (start : Option (List ℕ)) (all : List ℕ) → Sends g.W.Write.contents start l.fn.block all
+          → Sends g.W.Write.contents start l.block (all ++ so_far);
       writer : l.block.writer.ghost_name ≡ l.fn.block.writer.ghost_name;
     }

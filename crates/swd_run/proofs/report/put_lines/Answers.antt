@@ -25,10 +25,12 @@ loop-stop-preserved g c =
     record {
       lines = (
         text ++ (part ++ fed),
-        lines_next accesses answers stops i c.loop-stop.from _ text (lines_from 0 stops accesses answers) part c.as_bytes.result.now c.loop-stop-test.true lines line whole,
+        lines_next accesses answers stops i c.loop-stop.from _ text (lines_from 0 stops accesses answers) part
+            c.as_bytes.result.now c.loop-stop-test.true lines line whole,
         λ start all h.
             subst (Sends g.W.Write.contents start c.put_line.new.self) (text_next all text part fed)
-            (c.put_line.ensures.sends start ((all ++ text) ++ part) (c.put_answers.ensures.sends start (all ++ text) (sends start all h))),
+            (c.put_line.ensures.sends start ((all ++ text) ++ part)
+            (c.put_answers.ensures.sends start (all ++ text) (sends start all h))),
       );
       writer = c.put_line.ensures.writer ∙ c.put_answers.ensures.writer ∙ c.loop-stop.invariant.writer;
     }
@@ -42,5 +44,6 @@ returns-clause-sends g c = λ start all h.
     (c.between-last.ensures ∙ to_end c.loop-stop.from answers) in
     subst (λ x. Sends g.W.Write.contents start c.put_answers-2.new.block x)
     (append_assoc all text _ ∙ ap (λ x. all ++ (text ++ x)) lines
-    ∙ ap (λ x. all ++ x) (lines_end accesses answers c.args.stops.now c.loop-stop.stop-index c.loop-stop.from text _ c.loop-stop-test.false whole))
+    ∙ ap (λ x. all ++ x) (lines_end accesses answers c.args.stops.now c.loop-stop.stop-index c.loop-stop.from text _
+    c.loop-stop-test.false whole))
     (c.put_answers-2.ensures.sends start (all ++ text) (sends start all h))

@@ -12,8 +12,10 @@ returns-clause-sends g c = λ start all h.
     let answers = report.answers.items in
     let lines = lines_from 0 stops accesses answers in
     let last = last_line report.ended (length answers) report.begun in
-    let line : c.as_bytes.result.now ≡ last = c.as_bytes.ensures.value ∙ c.as_str.ensures.value ∙ c.last_line-last.ensures.bytes ∙ ap (λ n. last_line report.ended n report.begun) (search rules) in
-    let before = subst (λ (x : List Answer). Sends g.W.Write.contents start c.put_lines.new.block (all ++ lines_from 0 stops accesses x)) c.as_slice.ensures.value
+    let line : c.as_bytes.result.now ≡ last = c.as_bytes.ensures.value ∙ c.as_str.ensures.value
+    ∙ c.last_line-last.ensures.bytes ∙ ap (λ n. last_line report.ended n report.begun) (search rules) in
+    let before = subst (λ (x : List Answer). Sends g.W.Write.contents start c.put_lines.new.block
+    (all ++ lines_from 0 stops accesses x)) c.as_slice.ensures.value
     (c.put_lines.ensures.sends start all h) in
     subst (λ x. Sends g.W.Write.contents start c.put_line.new.self x)
     (ap (λ x. (all ++ lines) ++ (x ++ 10 ∷ [])) line ∙ append_assoc all lines (last ++ 10 ∷ []))

@@ -7,8 +7,10 @@ use Rattle.swd_run.specs.Reports.{report_text, WritesOn}
 use Rattle.swd_run.proofs.report.write_run.Goals as goal
 
 -- what went out, however the last of it was sent
-written_on : (P : Option (List ℕ) → List ℕ → Type 0) (sent : Result ℕ ℕ) (start now : Option (List ℕ)) (text : List ℕ) → P start text
-    → IfOk sent (λ told. (s : Option (List ℕ)) (a : List ℕ) → P s a → Appends s now a × (told ≡ min (length a) (2 ^ 64 - 1)))
+written_on : (P : Option (List ℕ) → List ℕ → Type 0) (sent : Result ℕ ℕ) (start now : Option (List ℕ)) (text : List ℕ)
+    → P start text
+    → IfOk sent (λ told. (s : Option (List ℕ)) (a : List ℕ) → P s a
+    → Appends s now a × (told ≡ min (length a) (2 ^ 64 - 1)))
     → IfErr sent (λ told. (s : Option (List ℕ)) (a : List ℕ) → P s a → Stopped told s now a)
     → WritesOn sent start now text
 written_on P (Ok told) start now text h ok err = let gone = ok start text h in record { gone = gone.0; count = gone.1 }
@@ -17,8 +19,10 @@ written_on P (Err told) start now text h ok err = err start text h
 pub returns : goal.returns
 returns g c = λ start all h.
     let text = all ++ report_text c.args.accesses.now c.args.stops.now (told_of c.args.report.now) in
-    let begun : Sends g.W.Write.contents start c.new-block.result all = c.new-block.ensures.sends start all h.gone h.count in
+    let begun : Sends g.W.Write.contents start c.new-block.result all = c.new-block.ensures.sends start all h.gone
+    h.count in
     let on : WritesOn c.flush.result start (g.W.Write.contents c.flush.new.self.writer.now) text =
-    written_on (λ s a. Sends g.W.Write.contents s c.put_report.new.block a) c.flush.result start (g.W.Write.contents c.flush.new.self.writer.now) text
+    written_on (λ s a. Sends g.W.Write.contents s c.put_report.new.block a) c.flush.result start
+    (g.W.Write.contents c.flush.new.self.writer.now) text
     (c.put_report.ensures.sends start all begun) c.flush.ensures.ok c.flush.ensures.err in
     search rules

@@ -34,7 +34,8 @@ returns-in-Ok-clause-fits g c = λ lawful.
     let start = g.W.Wire.port c.args.wire.now in
     elim c.match-batch.branch [
       | in-Some w ↦ subst (λ x. g.W.Wire.lawful c.args.wire.now
-          × RunsWithin (most_begun batch) batch.accesses c.args.tries (told_of c.in-Ok.report) start (g.W.Wire.port x)) (sym w.wire-is)
+          × RunsWithin (most_begun batch) batch.accesses c.args.tries (told_of c.in-Ok.report) start (g.W.Wire.port x))
+          (sym w.wire-is)
           (block_over batch (λ n list report. g.W.Wire.lawful w.run_block-outcome.new.wire
           → g.W.Wire.lawful c.args.wire.now × RunsWithin n list c.args.tries (told_of report) start
           (g.W.Wire.port w.run_block-outcome.new.wire)) w.run_block-outcome.result c.in-Ok.report
@@ -42,7 +43,8 @@ returns-in-Ok-clause-fits g c = λ lawful.
           (ap length c.as_slice-accesses.ensures.value) w.run_block-outcome.ensures.fits
           (subst (λ x. g.W.Wire.lawful x) w.wire-is lawful))
       | in-None w ↦ subst (λ x. g.W.Wire.lawful c.args.wire.now
-          × RunsWithin (most_begun batch) batch.accesses c.args.tries (told_of c.in-Ok.report) start (g.W.Wire.port x)) (sym w.wire-is)
+          × RunsWithin (most_begun batch) batch.accesses c.args.tries (told_of c.in-Ok.report) start (g.W.Wire.port x))
+          (sym w.wire-is)
           (list_over batch (λ n list report. g.W.Wire.lawful w.run-outcome.new.wire
           → g.W.Wire.lawful c.args.wire.now × RunsWithin n list c.args.tries (told_of report) start
           (g.W.Wire.port w.run-outcome.new.wire)) w.run-outcome.result c.in-Ok.report
@@ -58,9 +60,11 @@ returns-in-Ok-clause-accepted g c =
       | in-Some w ↦ block_over batch (λ n list report. AreAccesses list) w.run_block-outcome.result c.in-Ok.report
           (sym w.outcome-is ∙ c.in-Ok.is) w.in-Some.addr (length given) w.in-Some.is c.requires.batch.block
           (ap length c.as_slice-accesses.ensures.value)
-          (IfOk-weaker w.run_block-outcome.result _ (λ report. AreAccesses (reads w.in-Some.addr (length given))) (λ report h. h.1)
+          (IfOk-weaker w.run_block-outcome.result _ (λ report. AreAccesses (reads w.in-Some.addr (length given)))
+          (λ report h. h.1)
           w.run_block-outcome.ensures.accepted)
       | in-None w ↦ list_over batch (λ n list report. AreAccesses list) w.run-outcome.result c.in-Ok.report
           (sym w.outcome-is ∙ c.in-Ok.is) given w.in-None.is c.as_slice-accesses.ensures.value
-          (IfOk-weaker w.run-outcome.result _ (λ report. AreAccesses given) (λ report h. h.1) w.run-outcome.ensures.accepted)
+          (IfOk-weaker w.run-outcome.result _ (λ report. AreAccesses given) (λ report h. h.1)
+          w.run-outcome.ensures.accepted)
     ]

@@ -8,10 +8,12 @@ use Rattle.swd_run.proofs.RunLemmas.{ran_as, trace_of, of_trace, traced_runs}
 use Rattle.swd_run.proofs.tracing.run_traced.Goals as goal
 
 pub record_script-requires-clause-script : goal.record_script-requires-clause-script
-record_script-requires-clause-script g c = let read = c.in-Ok.ensures.read in is_runnable read.script_text (meaning c.in-Ok.texts.script) read.means
+record_script-requires-clause-script g c = let read = c.in-Ok.ensures.read in is_runnable read.script_text
+    (meaning c.in-Ok.texts.script) read.means
 
 pub record_script-requires-clause-plan : goal.record_script-requires-clause-plan
-record_script-requires-clause-plan g c = let read = c.in-Ok.ensures.read in is_plan read.plan_text c.in-Ok.texts.plan.items read.plans
+record_script-requires-clause-plan g c = let read = c.in-Ok.ensures.read in is_plan read.plan_text
+    c.in-Ok.texts.plan.items read.plans
 
 pub write_both-requires-clause-legal : goal.write_both-requires-clause-legal
 write_both-requires-clause-legal g c = c.items.ensures.legal
@@ -29,12 +31,15 @@ returns g c =
     let recorded = c.in-Some.ensures.recorded in
     traced_runs c.args.tries c.args.resumes (g.S.Read.remaining c.args.script.now) (g.P.Read.remaining c.args.plan.now)
     c.write_both.result c.is_cut-cut.result
-    (ran_as c.args.tries c.args.resumes (g.S.Read.remaining c.args.script.now) (g.P.Read.remaining c.args.plan.now) (meaning script)
+    (ran_as c.args.tries c.args.resumes (g.S.Read.remaining c.args.script.now) (g.P.Read.remaining c.args.plan.now)
+    (meaning script)
     c.in-Ok.texts.plan.items runs c.in-Ok.ensures.read c.in-Some.ensures.runs)
     items old new before after
     (of_trace (requests_of runs) (ended_of runs) port items recorded c.items.ensures.read c.items.ensures.most)
     (λ whole.
     let uncut = sym c.is_cut-cut.ensures ∙ whole in
-    trace_of (requests_of runs) (ended_of runs) port items recorded c.items.ensures.read (c.items.ensures.counted uncut) (c.items.ensures.lost uncut))
-    (subst (λ batches. WritesBoth c.is_cut-cut.result (map listed batches) runs c.write_both.result items old new before after)
+    trace_of (requests_of runs) (ended_of runs) port items recorded c.items.ensures.read (c.items.ensures.counted uncut)
+    (c.items.ensures.lost uncut))
+    (subst (λ batches. WritesBoth c.is_cut-cut.result (map listed batches) runs c.write_both.result items old new before
+    after)
     c.as_slice-batches.ensures.value c.write_both.ensures)

@@ -7,4 +7,5 @@ use Rattle.swd_run.proofs.verified.first_difference.Given as goal
 abbrev pub invariant-loop-batch : goal.invariant-loop-batch
 invariant-loop-batch g l =
     let i = length l.yielded in
-    first_difference (map listed l.batches) (map done_of l.runs) ≡ first_difference (map listed (drop i l.batches)) (map done_of (drop i l.runs))
+    first_difference (map listed l.batches) (map done_of l.runs) ≡ first_difference (map listed (drop i l.batches))
+    (map done_of (drop i l.runs))

@@ -8,7 +8,8 @@ returns-in-Ok-finish-clause-ok g c = λ t.
     let read = HasReadLines g.S.LineSink.took in
     some_text read (LeadsToEnd read (RefusesLines g.S.LineSink.refuses)) tt (g.R.Read.remaining c.args.reader.now)
     (g.R.Read.remaining c.read_pieces.new.reader) (c.over-lines.result, tt) (c.read_pieces.new.consumer, tt)
-    (λ text. g.S.LineSink.says text c.in-Ok-finish.whole) (c.over-lines.ensures t) c.in-Ok-finish.ensures.ok c.in-Ok.ensures
+    (λ text. g.S.LineSink.says text c.in-Ok-finish.whole) (c.over-lines.ensures t) c.in-Ok-finish.ensures.ok
+    c.in-Ok.ensures
 
 pub returns-in-Err-finish-clause-err : goal.returns-in-Err-finish-clause-err
 returns-in-Err-finish-clause-err g c = λ t.
@@ -20,6 +21,8 @@ returns-in-Err-finish-clause-err g c = λ t.
 pub returns-in-Err-clause-err : goal.returns-in-Err-clause-err
 returns-in-Err-clause-err g c = λ t.
     let refuses = g.S.LineSink.refuses in
-    text_unread (HasReadLines g.S.LineSink.took) (RefusesLines refuses) refuses tt (g.R.Read.remaining c.args.reader.now)
-    (g.R.Read.remaining c.read_pieces.new.reader) (c.over-lines.result, tt) (c.read_pieces.new.consumer, tt) c.in-Err.unread
+    text_unread (HasReadLines g.S.LineSink.took) (RefusesLines refuses) refuses tt
+    (g.R.Read.remaining c.args.reader.now)
+    (g.R.Read.remaining c.read_pieces.new.reader) (c.over-lines.result, tt) (c.read_pieces.new.consumer, tt)
+    c.in-Err.unread
     (c.over-lines.ensures t) (λ fault text more f. f more) c.in-Err.ensures

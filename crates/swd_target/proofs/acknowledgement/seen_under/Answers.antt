@@ -5,5 +5,6 @@ use Rattle.swd_target.proofs.acknowledgement.seen_under.Goals as goal
 
 pub returns-in-Mute-default : goal.returns-in-Mute-default
 returns-in-Mute-default c =
-    let value = muted c.args.mark c.args.reply c.in-Mute-default.place c.bits_of.result c.in-Mute-default.is-0 c.requires c.in-Mute-default.not-Silent-1 c.bits_of.ensures.value in
+    let value = muted c.args.mark c.args.reply c.in-Mute-default.place c.bits_of.result c.in-Mute-default.is-0
+    c.requires c.in-Mute-default.not-Silent-1 c.bits_of.ensures.value in
     record { value = value; range = subst (λ n. n < 8) (sym value) (seen_lt c.args.mark c.args.reply c.requires) }

@@ -9,7 +9,8 @@ use Rattle.swd_bitbang.proofs.serving.Server.byte.Goals as goal
 pub returns-in-Some-clause-err : goal.returns-in-Some-clause-err
 returns-in-Some-clause-err g c = λ begin seen h.
     let old = c.args.self.now in
-    let e = ended_by (character c.args.byte) old.place c.args.byte c.in-Some.served old.pins c.take-sign.new.self c.take-sign.result c.take-sign.ensures (sym c.end_at.ensures ∙ c.in-Some.is) in (
+    let e = ended_by (character c.args.byte) old.place c.args.byte c.in-Some.served old.pins c.take-sign.new.self
+    c.take-sign.result c.take-sign.ensures (sym c.end_at.ensures ∙ c.in-Some.is) in (
       e.why seen refl h.place,
       record {
         levels = h.levels;

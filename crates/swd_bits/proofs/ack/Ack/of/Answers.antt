@@ -49,4 +49,5 @@ number_of a seen h e = sym (number-low_bits 3 seen h) ∙ ap number (sym e)
 pub returns-in_default-clause-none : goal.returns-in_default-clause-none
 returns-in_default-clause-none c = λ a e.
     let n : c.args.seen ≡ number (ack a) = number_of a c.args.seen c.requires e in
-    elim a as (λ x. c.args.seen ≡ number (ack x) → ⊥) [ Ok ↦ λ k. search (rules, k) | Wait ↦ λ k. search (rules, k) | Fault ↦ λ k. search (rules, k) ] n
+    elim a as (λ x. c.args.seen ≡ number (ack x) → ⊥)
+    [ Ok ↦ λ k. search (rules, k) | Wait ↦ λ k. search (rules, k) | Fault ↦ λ k. search (rules, k) ] n

@@ -18,7 +18,9 @@ abbrev byte_of : ℕ → ℕ
 byte_of n = bit_or (bit_or 129 (n * 2 % 256)) (ones n % 2 * 32 % 256)
 
 -- each of the sixteen
-each : (ap read : Bool) (addr : Reg4) → low_bits 8 (byte_of (asked (bool_byte ap) (bool_byte read) (tag_of the_type addr))) ≡ request (record { ap = ap; read = read; addr = addr })
+each : (ap read : Bool) (addr : Reg4)
+    → low_bits 8 (byte_of (asked (bool_byte ap) (bool_byte read) (tag_of the_type addr))) ≡ request
+    (record { ap = ap; read = read; addr = addr })
 unfolding low_bits ones ones_in
 each true true R0 = refl
 each true true R4 = refl

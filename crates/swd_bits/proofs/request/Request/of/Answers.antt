@@ -33,7 +33,8 @@ again false false R8 = refl
 again false false RC = refl
 
 -- a request with these bits is the one that the code makes of them
-only_made : (byte : ℕ) (addr : Reg4) → byte < 2 ^ 8 → addr ≡ reg4_of (bit_and (byte / 8) 3) → (q : Request) → request q ≡ low_bits 8 byte →
+only_made : (byte : ℕ) (addr : Reg4) → byte < 2 ^ 8 → addr ≡ reg4_of (bit_and (byte / 8) 3) → (q : Request)
+    → request q ≡ low_bits 8 byte →
     q ≡ record { ap = bit_and (byte / 2) 1 == 1; read = bit_and (byte / 4) 1 == 1; addr = addr }
 only_made byte addr h a q e =
     let n : byte ≡ number (request q) = sym (number-low_bits 8 byte h) ∙ ap number (sym e) in
@@ -41,13 +42,16 @@ only_made byte addr h a q e =
 
 -- no request has these bits where the one that was made of them has others
 no_other : (byte code : ℕ) (addr : Reg4) → byte < 2 ^ 8 → code < 2 ^ 8 → addr ≡ reg4_of (bit_and (byte / 8) 3) →
-    low_bits 8 code ≡ request (record { ap = bit_and (byte / 2) 1 == 1; read = bit_and (byte / 4) 1 == 1; addr = addr }) →
+    low_bits 8 code ≡ request (record { ap = bit_and (byte / 2) 1 == 1; read = bit_and (byte / 4) 1 == 1; addr = addr })
+    →
     (code ≡ byte → ⊥) → (q : Request) → request q ≡ low_bits 8 byte → ⊥
-no_other byte code addr h k a f g q e = g (same_bits 8 code byte k h (f ∙ ap request (sym (only_made byte addr h a q e)) ∙ e))
+no_other byte code addr h k a f g q e = g
+    (same_bits 8 code byte k h (f ∙ ap request (sym (only_made byte addr h a q e)) ∙ e))
 
 pub returns-then-bits-byte-clause-only : goal.returns-then-bits-byte-clause-only
 returns-then-bits-byte-clause-only c = only_made c.args.byte c.of.result c.ranges.byte.fits c.of.ensures
 
 pub returns-else-bits-byte-clause-none : goal.returns-else-bits-byte-clause-none
 returns-else-bits-byte-clause-none c =
-    no_other c.args.byte c.bits.result c.of.result c.ranges.byte.fits c.bits.type_inv c.of.ensures c.bits.ensures c.if-bits-byte.false
+    no_other c.args.byte c.bits.result c.of.result c.ranges.byte.fits c.bits.type_inv c.of.ensures c.bits.ensures
+    c.if-bits-byte.false

@@ -3,8 +3,10 @@ use Rattle.swd_bits.proofs.tx_bits.TxBits.then.Goals as goal
 
 pub returns-clause-whole : goal.returns-clause-whole
 returns-clause-whole c =
-    join_lt c.args.self.len c.args.more.len c.args.more.bits c.args.self.bits c.requires.small c.requires.whole c.requires.room
+    join_lt c.args.self.len c.args.more.len c.args.more.bits c.args.self.bits c.requires.small c.requires.whole
+    c.requires.room
 
 pub returns-clause-bits : goal.returns-clause-bits
 returns-clause-bits c =
-    low_bits-join c.args.self.len c.args.more.len c.args.more.bits c.args.self.bits c.requires.small c.requires.whole c.requires.room
+    low_bits-join c.args.self.len c.args.more.len c.args.more.bits c.args.self.bits c.requires.small c.requires.whole
+    c.requires.room

@@ -14,7 +14,9 @@ equal_to_itself fields = simp same_number
 
 pub returns-else-eq-clause-found : goal.returns-else-eq-clause-found
 returns-else-eq-clause-found g c = λ e h.
-    let same : c.fields.result ≡ c.args.self.now = c.fields.ensures ∙ (c.read-clocked.ensures.numbers ∙ (ap read_clocked (sym h) ∙ (clocked_read e ∙ h))) in
-    let equal : c.eq.result ≡ true = c.eq.ensures ∙ (ap (λ f. ghosts.eq f c.args.self.now) same ∙ equal_to_itself c.args.self.now) in
+    let same : c.fields.result ≡ c.args.self.now = c.fields.ensures
+    ∙ (c.read-clocked.ensures.numbers ∙ (ap read_clocked (sym h) ∙ (clocked_read e ∙ h))) in
+    let equal : c.eq.result ≡ true = c.eq.ensures
+    ∙ (ap (λ f. ghosts.eq f c.args.self.now) same ∙ equal_to_itself c.args.self.now) in
     let differs : c.eq.result ≡ false = c.if-eq.false in
     cc

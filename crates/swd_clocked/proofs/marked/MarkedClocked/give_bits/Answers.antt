@@ -15,9 +15,17 @@ loop-place-init g c =
     let old = c.args.self.now in
     let r = frame_register old.clocked.frame in
     let got = flipped (flip_of old.mark) c.args.bits in
-    let x = step_at (Awaits r undriven 0) _ c.cycle.result old c.cycle.new.self c.cycle.ensures.cycles c.requires.heard c.requires.frame tt in
-    let goes = goes_on _ _ old old c.cycle.new.self (goes_none _ old c.requires.heard c.requires.frame) (x.turns.cycles.1.turn refl) x.keeps x.heard in
-    (undriven, omega arith, record { equation = omega arith; small = omega arith }, goes, c.cycle.ensures.count, stays_on _ _ _ _ refl c.cycle.ensures.contended refl)
+    let x = step_at (Awaits r undriven 0) _ c.cycle.result old c.cycle.new.self c.cycle.ensures.cycles c.requires.heard
+    c.requires.frame tt in
+    let goes = goes_on _ _ old old c.cycle.new.self (goes_none _ old c.requires.heard c.requires.frame)
+    (x.turns.cycles.1.turn refl) x.keeps x.heard in (
+      undriven,
+      omega arith,
+      record { equation = omega arith; small = omega arith },
+      goes,
+      c.cycle.ensures.count,
+      stays_on _ _ _ _ refl c.cycle.ensures.contended refl,
+    )
 
 pub loop-place-preserved : goal.loop-place-preserved
 loop-place-preserved g c =
@@ -27,7 +35,8 @@ loop-place-preserved g c =
     let k = c.loop-place.place in
     let r = frame_register start.clocked.frame in
     let cycle = c.cycle-in-loop-place in
-    let d = sent_step start.mark c.args.bits k r i.0 c.loop-place.rest cycle.result c.loop-place.self cycle.new.self i.3.keeps.mark i.1 cycle.ensures.cycles i.3.heard i.3.moved.frame in
+    let d = sent_step start.mark c.args.bits k r i.0 c.loop-place.rest cycle.result c.loop-place.self cycle.new.self
+    i.3.keeps.mark i.1 cycle.ensures.cycles i.3.heard i.3.moved.frame in
     let moved = d.awaits.more (λ e. absurd (omega arith)) (omega arith) in
     let next = shifted (2 ^ 32) i.0 (got / 2 ^ k % 2 == 1) in (
       next,
@@ -46,10 +55,12 @@ returns-clause-brings g c =
     let k = c.loop-place.place in
     let r = frame_register start.clocked.frame in
     let cycle = c.cycle-2 in
-    let d = sent_step start.mark c.args.bits k r i.0 c.loop-place.rest cycle.result c.loop-place.self cycle.new.self i.3.keeps.mark i.1 cycle.ensures.cycles i.3.heard i.3.moved.frame in
+    let d = sent_step start.mark c.args.bits k r i.0 c.loop-place.rest cycle.result c.loop-place.self cycle.new.self
+    i.3.keeps.mark i.1 cycle.ensures.cycles i.3.heard i.3.moved.frame in
     let last : k + 1 ≡ 33 = omega arith in
     let came = d.awaits.whole last in
-    let shift = subst (λ n. Shifts (2 ^ 33) (got * 2 ^ 33 + (2 ^ 33 - 1)) n (got / 2 ^ k / 2) (shifted (2 ^ 32) i.0 (got / 2 ^ k % 2 == 1))) last (shift_33 _ _ _ _ i.2) in
+    let shift = subst (λ n. Shifts (2 ^ 33) (got * 2 ^ 33 + (2 ^ 33 - 1)) n (got / 2 ^ k / 2)
+    (shifted (2 ^ 32) i.0 (got / 2 ^ k % 2 == 1))) last (shift_33 _ _ _ _ i.2) in
     let small = flipped_small start.mark c.args.bits (legal_mark start.mark start.legal) c.requires.bits in
     record {
       came = came_on _ _ _ _ _ _ _ _ i.3.moved (shifted_33 _ _ _ small shift) came;

@@ -12,5 +12,8 @@ use Rattle.swd_clocked.proofs.marked.MarkedClocked.give_bits.Given as goal
 abbrev pub invariant-loop-place : goal.invariant-loop-place
 invariant-loop-place g l =
     let got = flipped (flip_of l.fn.self.mark) l.bits in
-    (bits : ℕ) × (l.rest ≡ l.bits / 2 ^ l.place) × Shifts (2 ^ 33) (got * 2 ^ 33 + (2 ^ 33 - 1)) l.place (got / 2 ^ l.place) bits
-    × Goes (Awaits (frame_register (frame_in l.fn.self)) bits (l.place + 1)) l.fn.self l.self × (cycles_of l.self ≡ counted (l.place + 1) (cycles_of l.fn.self)) × (contended_of l.self ≡ contended_of l.fn.self)
+    (bits : ℕ) × (l.rest ≡ l.bits / 2 ^ l.place)
+    × Shifts (2 ^ 33) (got * 2 ^ 33 + (2 ^ 33 - 1)) l.place (got / 2 ^ l.place) bits
+    × Goes (Awaits (frame_register (frame_in l.fn.self)) bits (l.place + 1)) l.fn.self l.self
+    × (cycles_of l.self ≡ counted (l.place + 1) (cycles_of l.fn.self))
+    × (contended_of l.self ≡ contended_of l.fn.self)

@@ -8,19 +8,28 @@ use Rattle.swd_clocked.proofs.marked.MarkedClocked.send_one.Goals as goal
 pub returns-clause-leads : goal.returns-clause-leads
 returns-clause-leads g c =
     let old = c.args.self.now in
-    let x = one_step c.args.drive c.cycle.result old c.cycle.new.self (legal_mark old.mark old.legal) c.requires.frame old.clocked.place c.requires.heard c.requires.one c.requires.quiet c.cycle.ensures.cycles in
-    record { rises = one_rises old.clocked c.cycle.new.self.clocked x.bit c.requires.frame old.clocked.place x.cycles; keeps = x.keeps; heard = x.heard }
+    let x = one_step c.args.drive c.cycle.result old c.cycle.new.self (legal_mark old.mark old.legal) c.requires.frame
+    old.clocked.place c.requires.heard c.requires.one c.requires.quiet c.cycle.ensures.cycles in
+    record {
+      rises = one_rises old.clocked c.cycle.new.self.clocked x.bit c.requires.frame old.clocked.place x.cycles;
+      keeps = x.keeps;
+      heard = x.heard;
+    }
 
 pub returns-clause-frame : goal.returns-clause-frame
 returns-clause-frame g c =
     let old = c.args.self.now in
-    let x = one_step c.args.drive c.cycle.result old c.cycle.new.self (legal_mark old.mark old.legal) c.requires.frame old.clocked.place c.requires.heard c.requires.one c.requires.quiet c.cycle.ensures.cycles in
-    let r = one_frame old.clocked.frame x.bit old.clocked.target old.clocked.waits c.cycle.new.self.clocked c.requires.frame old.clocked.place x.cycles in
+    let x = one_step c.args.drive c.cycle.result old c.cycle.new.self (legal_mark old.mark old.legal) c.requires.frame
+    old.clocked.place c.requires.heard c.requires.one c.requires.quiet c.cycle.ensures.cycles in
+    let r = one_frame old.clocked.frame x.bit old.clocked.target old.clocked.waits c.cycle.new.self.clocked
+    c.requires.frame old.clocked.place x.cycles in
     subst IsRising (sym r.is) r.rising
 
 pub returns-clause-rise : goal.returns-clause-rise
 returns-clause-rise g c =
     let old = c.args.self.now in
-    let x = one_step c.args.drive c.cycle.result old c.cycle.new.self (legal_mark old.mark old.legal) c.requires.frame old.clocked.place c.requires.heard c.requires.one c.requires.quiet c.cycle.ensures.cycles in
-    let r = one_frame old.clocked.frame x.bit old.clocked.target old.clocked.waits c.cycle.new.self.clocked c.requires.frame old.clocked.place x.cycles in
+    let x = one_step c.args.drive c.cycle.result old c.cycle.new.self (legal_mark old.mark old.legal) c.requires.frame
+    old.clocked.place c.requires.heard c.requires.one c.requires.quiet c.cycle.ensures.cycles in
+    let r = one_frame old.clocked.frame x.bit old.clocked.target old.clocked.waits c.cycle.new.self.clocked
+    c.requires.frame old.clocked.place x.cycles in
     ap rise r.is ∙ r.less

@@ -8,4 +8,5 @@ use Rattle.swd_clocked.proofs.marked.MarkedClocked.send_request.Given as goal
 
 abbrev pub invariant-loop-place : goal.invariant-loop-place
 invariant-loop-place g l =
-    (bits : ℕ) × Shifts 256 (l.bits * 256 + 255) l.place l.rest bits × Goes (Asks bits l.place) l.fn.self l.self × (cycles_of l.self ≡ counted l.place (cycles_of l.fn.self)) × (contended_of l.self ≡ contended_of l.fn.self)
+    (bits : ℕ) × Shifts 256 (l.bits * 256 + 255) l.place l.rest bits × Goes (Asks bits l.place) l.fn.self l.self
+    × (cycles_of l.self ≡ counted l.place (cycles_of l.fn.self)) × (contended_of l.self ≡ contended_of l.fn.self)

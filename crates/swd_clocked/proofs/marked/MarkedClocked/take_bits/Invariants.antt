@@ -13,4 +13,6 @@ abbrev pub invariant-loop-place : goal.invariant-loop-place
 invariant-loop-place g l =
     let sent = frame_bits (frame_in l.fn.self) in
     let got = flipped (flip_of l.fn.self.mark) sent in
-    Shifts (2 ^ 33) (got * 2 ^ 33) l.place (got / 2 ^ l.place) l.bits × Goes (Drives (sent / 2 ^ l.place) (33 - l.place)) l.fn.self l.self × (cycles_of l.self ≡ counted l.place (cycles_of l.fn.self)) × (contended_of l.self ≡ contended_of l.fn.self)
+    Shifts (2 ^ 33) (got * 2 ^ 33) l.place (got / 2 ^ l.place) l.bits
+    × Goes (Drives (sent / 2 ^ l.place) (33 - l.place)) l.fn.self l.self
+    × (cycles_of l.self ≡ counted l.place (cycles_of l.fn.self)) × (contended_of l.self ≡ contended_of l.fn.self)

@@ -1,6 +1,9 @@
 -- `new` makes a value of no bytes.
 use Rattle.swd_port.proofs.count.Count.new.Statement.{statement}
-use Rattle.swd_port.proofs.CountSteps.{[], ◌∷◌, refl, proved, ftrue, Val, vstruct, vcons, vnil, tables, ‵, ◌⊛◌, ◌$◌, ◌∵◌, !, qed, done, move, keep, split, join, suffices, enter, returns, no_more, and_then, get, agg, alloc_all, pass_all, free_all, look_at, sets, nothing, Stays, walk_of, says, ends_at}
+use Rattle.swd_port.proofs.CountSteps.{[], ◌∷◌, refl, proved, ftrue, Val, vstruct, vcons, vnil, tables, ‵, ◌⊛◌, ◌$◌}
+use Rattle.swd_port.proofs.CountSteps.{◌∵◌, !, qed, done, move, keep, split, join, suffices, enter, returns, no_more}
+use Rattle.swd_port.proofs.CountSteps.{and_then, get, agg, alloc_all, pass_all, free_all, look_at, sets, nothing, Stays}
+use Rattle.swd_port.proofs.CountSteps.{walk_of, says, ends_at}
 use base.Fml.{Fml}
 use types.Kit.{use0}
 use denote.Shadow.{makes_shadow}
@@ -22,8 +25,10 @@ new_spec 𝓤 𝓛 𝓜 𝓡 wired =
     let y : W.Ghost = ((κs, qs, bounds, a, tt), tt) in
     qed 𝓛 ((‵ ftrue ⊛ ‵ ftrue) ∷ ‵ ftrue ∷ []) ∵ split ! $ keep ! (0 ∷ []) $
     enter ! _ _ _ _ _ $ alloc_all ! (λ l. pass_all ! refl tt $
-    sets ! (agg ! (no_more !)) refl (tt, tt) $ sets ! (agg ! (and_then ! (get ! refl) (no_more !))) refl (tt, (tt, tt)) $
+    sets ! (agg ! (no_more !)) refl (tt, tt) $ sets ! (agg ! (and_then ! (get ! refl) (no_more !))) refl (tt, (tt, tt))
+    $
     returns ! (look_at ! 0 refl) $ free_all ! refl $
-    use0 𝓛 (‵ O) (makes_shadow 𝓛 O ((λ vss. (tt, ((λ uss. (tt, tt)), tt))), tt) (((vstruct vnil ∷ [], tt), (refl, ((tt, (refl, tt)), tt))), tt)) $
+    use0 𝓛 (‵ O) (makes_shadow 𝓛 O ((λ vss. (tt, ((λ uss. (tt, tt)), tt))), tt)
+    (((vstruct vnil ∷ [], tt), (refl, ((tt, (refl, tt)), tt))), tt)) $
     suffices ! _ (ends_at 𝓛 f.ended stayed c y v r tt tt) $ says ! refl $
     nothing ! $ join ! $ move ! (1 ∷ 0 ∷ []) $ join ! $ done !))

@@ -1,5 +1,9 @@
 -- `tick` runs nothing, and the number goes up.
-use Rattle.swd_port.proofs.CountSteps.{◌+◌, [], ◌∷◌, refl, proved, ftrue, flft, named, vunit, tables, ‵, ◌⊛◌, ◌$◌, ◌∵◌, !, qed, done, move, keep, split, join, fsplit3, feq_i, suffices, frame, group, enter, of_opd, unit_lit, returns, alloc_all, pass_all, free_all, look_at, sets, MutRef, mut_vals, mut_Tells, plain, nothing, opens, closes, Stays, walk_of, says, stay_ref, Goes-ref, ends_at}
+use Rattle.swd_port.proofs.CountSteps.{◌+◌, [], ◌∷◌, refl, proved, ftrue, flft, named, vunit, tables, ‵, ◌⊛◌, ◌$◌, ◌∵◌}
+use Rattle.swd_port.proofs.CountSteps.{ !, qed, done, move, keep, split, join, fsplit3, feq_i, suffices, frame, group}
+use Rattle.swd_port.proofs.CountSteps.{enter, of_opd, unit_lit, returns, alloc_all, pass_all, free_all, look_at, sets}
+use Rattle.swd_port.proofs.CountSteps.{MutRef, mut_vals, mut_Tells, plain, nothing, opens, closes, Stays, walk_of, says}
+use Rattle.swd_port.proofs.CountSteps.{stay_ref, Goes-ref, ends_at}
 use Rattle.swd_port.specs.contracts.count.Count.tick as f
 use Rattle.swd_port.proofs.count.Count.tick.Statement.{statement}
 use Rattle.swd_port.proofs.count.Count.tick.Code as code
@@ -24,5 +28,6 @@ tick_spec 𝓤 𝓛 𝓜 𝓡 wired =
     closes ! tt R next us b o $ sets ! (of_opd ! (unit_lit !)) refl (tt, tt) $
     returns ! (look_at ! 0 refl) $ free_all ! refl $ move ! (3 ∷ []) $
     suffices ! _ (ends_at 𝓛 f.ended stayed c y vunit tt (next, tt) (tt, tt)) $ says ! refl $
-    group ! 3 $ nothing ! $ move ! (1 ∷ 0 ∷ []) $ join ! $ nothing ! $ move ! (2 ∷ 0 ∷ []) $ join ! $ frame ! $ frame ! $
+    group ! 3 $ nothing ! $ move ! (1 ∷ 0 ∷ []) $ join ! $ nothing ! $ move ! (2 ∷ 0 ∷ []) $ join ! $ frame ! $ frame !
+    $
     feq_i ! _ (vunit ∷ []) _ refl $ done !)))

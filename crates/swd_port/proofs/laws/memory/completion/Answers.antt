@@ -1,4 +1,5 @@
-use Rattle.swd_port.proofs.CompletionLaws.{done_not, none_done, twice, kept, may_become_stays, may_become_carried, may_become_of_none}
+use Rattle.swd_port.proofs.CompletionLaws.{done_not, none_done, twice, kept, may_become_stays, may_become_carried}
+use Rattle.swd_port.proofs.CompletionLaws.{may_become_of_none}
 use Rattle.swd_port.proofs.laws.memory.completion.Goals as goal
 
 pub returns-clause-not_yet : goal.returns-clause-not_yet

@@ -1,4 +1,7 @@
-use Rattle.swd_port.proofs.CompletionLaws.{read_begins, write_begins, sent_stays, sent_carried, sent_succeeds, sent_fails, sent_becomes, becomes_stays, becomes_carried, becomes_is, becomes_completed, sent_memory, aimed_carried, aimed_by_tar, aimed_by_transfer}
+use Rattle.swd_port.proofs.CompletionLaws.{read_begins, write_begins, sent_stays, sent_carried, sent_succeeds}
+use Rattle.swd_port.proofs.CompletionLaws.{sent_fails, sent_becomes, becomes_stays, becomes_carried, becomes_is}
+use Rattle.swd_port.proofs.CompletionLaws.{becomes_completed, sent_memory, aimed_carried, aimed_by_tar}
+use Rattle.swd_port.proofs.CompletionLaws.{aimed_by_transfer}
 use Rattle.swd_port.proofs.laws.memory.transfers.Goals as goal
 
 pub returns-clause-read_begins : goal.returns-clause-read_begins

@@ -1,4 +1,5 @@
-use Rattle.swd_port.proofs.CallLaws.{due_after_request, acknowledgement_seen, no_acknowledgement_seen, nothing_due, request_counted, others_uncounted, identification_kept, counted_apart}
+use Rattle.swd_port.proofs.CallLaws.{due_after_request, acknowledgement_seen, no_acknowledgement_seen, nothing_due}
+use Rattle.swd_port.proofs.CallLaws.{request_counted, others_uncounted, identification_kept, counted_apart}
 use Rattle.swd_port.proofs.laws.wire.calls.Goals as goal
 
 pub returns-clause-due : goal.returns-clause-due

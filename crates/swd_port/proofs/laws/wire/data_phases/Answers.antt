@@ -1,4 +1,6 @@
-use Rattle.swd_port.proofs.MovingLaws.{data_taken, take_moves_nothing, take_moves_nothing_at_rest, data_given, data_given_at_rest, data_given_exact, turnaround_passed, turnaround_passed_at_rest}
+use Rattle.swd_port.proofs.MovingLaws.{data_taken, take_moves_nothing, take_moves_nothing_at_rest, data_given}
+use Rattle.swd_port.proofs.MovingLaws.{data_given_at_rest, data_given_exact, turnaround_passed}
+use Rattle.swd_port.proofs.MovingLaws.{turnaround_passed_at_rest}
 use Rattle.swd_port.proofs.laws.wire.data_phases.Goals as goal
 
 pub returns-clause-taken : goal.returns-clause-taken

@@ -1,4 +1,8 @@
-use Rattle.swd_port.proofs.RequestLaws.{exempt_request, exempt_request_at_rest, identification_read, identification_read_at_rest, flagged_request, flagged_request_at_rest, unpowered_request_at_rest, free_request, free_request_at_rest, free_request_exact, lost_request, refused_with_power, unmoved_by_exempt, unmoved_by_free, unmoved_by_refused, confirming_request}
+use Rattle.swd_port.proofs.RequestLaws.{exempt_request, exempt_request_at_rest, identification_read}
+use Rattle.swd_port.proofs.RequestLaws.{identification_read_at_rest, flagged_request, flagged_request_at_rest}
+use Rattle.swd_port.proofs.RequestLaws.{unpowered_request_at_rest, free_request, free_request_at_rest}
+use Rattle.swd_port.proofs.RequestLaws.{free_request_exact, lost_request, refused_with_power, unmoved_by_exempt}
+use Rattle.swd_port.proofs.RequestLaws.{unmoved_by_free, unmoved_by_refused, confirming_request}
 use Rattle.swd_port.proofs.laws.wire.requests.Goals as goal
 
 pub returns-clause-exempt : goal.returns-clause-exempt

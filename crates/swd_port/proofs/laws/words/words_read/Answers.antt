@@ -1,4 +1,6 @@
-use Rattle.swd_port.proofs.StatusLaws.{status_word, identification_returned, status_returned, buffer_returned, value_resent, carried_by_request, carried_where_held, carried_where_refused, carried_where_passed, carried_by_reset, flags_cleared}
+use Rattle.swd_port.proofs.StatusLaws.{status_word, identification_returned, status_returned, buffer_returned}
+use Rattle.swd_port.proofs.StatusLaws.{value_resent, carried_by_request, carried_where_held, carried_where_refused}
+use Rattle.swd_port.proofs.StatusLaws.{carried_where_passed, carried_by_reset, flags_cleared}
 use Rattle.swd_port.proofs.laws.words.words_read.Goals as goal
 
 pub returns-clause-status : goal.returns-clause-status

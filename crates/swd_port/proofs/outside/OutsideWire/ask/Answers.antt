@@ -17,12 +17,16 @@ invariant_of-self g c =
     let goes = c.reply_on-reply.ensures.goes in
     let request = c.args.request in
     let had = old.fetched in
-    let one = subst (λ n. MakesBy old.gone (Asked request n) goes.more (is_lost reply) had (fetched_of reply had)) (sym c.seen_of-seen.ensures) (goes.makes had) in
-    let two = subst (λ b. MakesBy old.gone (Asked request c.seen_of-seen.result) goes.more b had (fetched_of reply had)) (sym c.is_lost-self.ensures) one in
-    let all = subst (λ n. MakesBy old.gone (Asked request c.seen_of-seen.result) goes.more c.is_lost-self.result had n) (sym c.fetched_of-self.ensures) two in
+    let one = subst (λ n. MakesBy old.gone (Asked request n) goes.more (is_lost reply) had (fetched_of reply had))
+    (sym c.seen_of-seen.ensures) (goes.makes had) in
+    let two = subst (λ b. MakesBy old.gone (Asked request c.seen_of-seen.result) goes.more b had (fetched_of reply had))
+    (sym c.is_lost-self.ensures) one in
+    let all = subst (λ n. MakesBy old.gone (Asked request c.seen_of-seen.result) goes.more c.is_lost-self.result had n)
+    (sym c.fetched_of-self.ensures) two in
     record {
       tracked = c.after-self.ensures ∙ sym (ap due_by c.and-self.ensures);
       range = subst (λ n. n < 2 ^ 33) (sym c.fetched_of-self.ensures) (c.reply_on-reply.ensures.data had old.range);
       went = λ ties. ∥∥₁_map (old.went ties)
-          (λ h. went_on g.T.Transport.tells _ _ (Asked request c.seen_of-seen.result) goes.more old.gone c.is_lost-self.result had c.fetched_of-self.result _ _ c.and-self.ensures goes.tells all h);
+          (λ h. went_on g.T.Transport.tells _ _ (Asked request c.seen_of-seen.result) goes.more old.gone
+          c.is_lost-self.result had c.fetched_of-self.result _ _ c.and-self.ensures goes.tells all h);
     }

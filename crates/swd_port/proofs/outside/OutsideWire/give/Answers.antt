@@ -15,5 +15,8 @@ invariant_of-self g c =
     record {
       tracked = sym (ap due_by c.and-self.ensures);
       range = old.range;
-      went = λ ties. ∥∥₁_map (old.went ties) (λ h. went_on _ _ _ (Gave c.args.bits) c.give_on-self.ensures.more old.gone c.give_on-self.result old.fetched old.fetched old.transport c.give_on-self.new.transport c.and-self.ensures c.give_on-self.ensures.tells (c.give_on-self.ensures.makes old.fetched) h);
+      went = λ ties. ∥∥₁_map (old.went ties)
+          (λ h. went_on _ _ _ (Gave c.args.bits) c.give_on-self.ensures.more old.gone c.give_on-self.result old.fetched
+          old.fetched old.transport c.give_on-self.new.transport c.and-self.ensures c.give_on-self.ensures.tells
+          (c.give_on-self.ensures.makes old.fetched) h);
     }

@@ -15,5 +15,8 @@ invariant_of-self g c =
     record {
       tracked = sym (ap due_by c.and-self.ensures);
       range = old.range;
-      went = λ ties. ∥∥₁_map (old.went ties) (λ h. went_on _ _ _ (Led c.args.ones) c.lead_on-self.ensures.more old.gone c.lead_on-self.result old.fetched old.fetched old.transport c.lead_on-self.new.transport c.and-self.ensures c.lead_on-self.ensures.tells (c.lead_on-self.ensures.makes old.fetched) h);
+      went = λ ties. ∥∥₁_map (old.went ties)
+          (λ h. went_on _ _ _ (Led c.args.ones) c.lead_on-self.ensures.more old.gone c.lead_on-self.result old.fetched
+          old.fetched old.transport c.lead_on-self.new.transport c.and-self.ensures c.lead_on-self.ensures.tells
+          (c.lead_on-self.ensures.makes old.fetched) h);
     }

@@ -15,5 +15,8 @@ invariant_of-self g c =
     record {
       tracked = sym (ap due_by c.and-self.ensures);
       range = old.range;
-      went = λ ties. ∥∥₁_map (old.went ties) (λ h. went_on g.T.Transport.tells _ _ (Took c.args.self.now.fetched) [] old.gone old.gone old.fetched old.fetched old.transport old.transport c.and-self.ensures (none_more g.T.Transport.tells old.transport) (takes_none old.gone old.fetched) h);
+      went = λ ties. ∥∥₁_map (old.went ties)
+          (λ h. went_on g.T.Transport.tells _ _ (Took c.args.self.now.fetched) [] old.gone old.gone old.fetched
+          old.fetched old.transport old.transport c.and-self.ensures (none_more g.T.Transport.tells old.transport)
+          (takes_none old.gone old.fetched) h);
     }

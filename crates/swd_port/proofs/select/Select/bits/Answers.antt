@@ -7,4 +7,6 @@ pub returns-clause-word : goal.returns-clause-word
 returns-clause-word c = select_joined c.args.self.now _ _ _ c.from.ensures c.from-2.ensures c.from-3.ensures
 
 pub returns-clause-same : goal.returns-clause-same
-returns-clause-same c = λ fits. ap select_of (select_joined c.args.self.now _ _ _ c.from.ensures c.from-2.ensures c.from-3.ensures) ∙ select_same c.args.self.now fits
+returns-clause-same c = λ fits. ap select_of
+    (select_joined c.args.self.now _ _ _ c.from.ensures c.from-2.ensures c.from-3.ensures)
+    ∙ select_same c.args.self.now fits

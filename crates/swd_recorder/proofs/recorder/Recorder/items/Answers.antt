@@ -20,7 +20,8 @@ returns-clause-legal g c =
 pub returns-clause-read : goal.returns-clause-read
 returns-clause-read g c =
     let kept = c.args.self.now.recording in
-    subst (λ (items : List Item). reading_of (bits_of_items items) ≡ items) (sym c.as_slice.ensures.value) (chained_read Clear kept.items.items kept.chained)
+    subst (λ (items : List Item). reading_of (bits_of_items items) ≡ items) (sym c.as_slice.ensures.value)
+    (chained_read Clear kept.items.items kept.chained)
 
 pub returns-clause-lost : goal.returns-clause-lost
 returns-clause-lost g c = λ uncut.
@@ -40,5 +41,6 @@ pub returns-clause-counted : goal.returns-clause-counted
 returns-clause-counted g c = λ uncut.
     let recorder = c.args.self.now in
     let due = (g.W.Wire.port recorder.wire).link.due in
-    subst (λ (items : List Item). transactions items + pending due ≡ recorder.asked.ticks) (sym c.as_slice.ensures.value)
+    subst (λ (items : List Item). transactions items + pending due ≡ recorder.asked.ticks)
+    (sym c.as_slice.ensures.value)
     (whole_of due (kept_of recorder.recording) recorder.asked.ticks recorder.counted uncut)

@@ -12,12 +12,15 @@ pub invariant_of-self : goal.invariant_of-self
 invariant_of-self g c =
     let old = c.args.self.now in
     let due = (g.W.Wire.port old.wire).link.due in
-    let before : InStep due (kept_of old.recording) old.asked.ticks = record { held = old.held; placed = old.placed; counted = old.counted } in
+    let before : InStep due (kept_of old.recording) old.asked.ticks =
+    record { held = old.held; placed = old.placed; counted = old.counted } in
     let resting = subst (λ (d : Due). InStep d (kept_of old.recording) old.asked.ticks) c.requires before in
     let seen = c.ask-seen.result in
-    let after = asked c.args.request seen (kept_of old.recording) (kept_of c.ask.new.self) old.asked.ticks resting c.ask.ensures in
+    let after = asked c.args.request seen (kept_of old.recording) (kept_of c.ask.new.self) old.asked.ticks resting
+    c.ask.ensures in
     let due_now = sym c.ask-seen.ensures.due in
-    let counted = subst (λ (n : ℕ). InStep (due_after c.args.request.read seen) (kept_of c.ask.new.self) n) (sym c.tick.ensures) after in
+    let counted = subst (λ (n : ℕ). InStep (due_after c.args.request.read seen) (kept_of c.ask.new.self) n)
+    (sym c.tick.ensures) after in
     let now = subst (λ (d : Due). InStep d (kept_of c.ask.new.self) c.tick.new.self.ticks) due_now counted in
     record { held = now.held; placed = now.placed; counted = now.counted }
 

@@ -9,9 +9,11 @@ pub invariant_of-self : goal.invariant_of-self
 invariant_of-self g c =
     let old = c.args.self.now in
     let due = (g.W.Wire.port old.wire).link.due in
-    let before : InStep due (kept_of old.recording) old.asked.ticks = record { held = old.held; placed = old.placed; counted = old.counted } in
+    let before : InStep due (kept_of old.recording) old.asked.ticks =
+    record { held = old.held; placed = old.placed; counted = old.counted } in
     let passing = subst (λ (d : Due). InStep d (kept_of old.recording) old.asked.ticks) c.requires before in
-    let after = refused (kept_of old.recording) (kept_of c.refusal.new.self) old.asked.ticks passing c.refusal.ensures in
+    let after = refused (kept_of old.recording) (kept_of c.refusal.new.self) old.asked.ticks passing
+    c.refusal.ensures in
     let rest = sym c.pass.ensures.due in
     let now = subst (λ (d : Due). InStep d (kept_of c.refusal.new.self) old.asked.ticks) rest after in
     record { held = now.held; placed = now.placed; counted = now.counted }

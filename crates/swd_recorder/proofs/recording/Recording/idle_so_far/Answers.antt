@@ -8,4 +8,5 @@ pub returns-in-Some : goal.returns-in-Some
 returns-in-Some g c =
     c.idle_cycles.ensures
     ∙ sym (last_is c.args.self.now.items.items c.in-Some.last.now
-    (ap (λ (items : List Item). slice_get items (length items - 1)) (sym c.deref.ensures.value) ∙ sym c.in-Some.ensures.value))
+    (ap (λ (items : List Item). slice_get items (length items - 1)) (sym c.deref.ensures.value)
+    ∙ sym c.in-Some.ensures.value))

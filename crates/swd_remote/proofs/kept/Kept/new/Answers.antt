@@ -18,7 +18,8 @@ returns g c =
         drives = ap (λ (r : Remote g.row.R.Denot g.row.W.Denot). r.drives) probe ∙ c.new.ensures.drives;
         owes = c.new-transport.ensures.owes;
         writer = subst (λ o. IsOnItsWay contents o c.new-transport.result.probe.outgoing []) (sym c.requires.sent)
-            (subst (λ (r : Remote g.row.R.Denot g.row.W.Denot). IsOnItsWay contents (contents c.args.writer) r.outgoing []) (sym probe) way);
+            (subst (λ (r : Remote g.row.R.Denot g.row.W.Denot). IsOnItsWay contents (contents c.args.writer) r.outgoing
+            []) (sym probe) way);
         reader = ap (λ (r : Remote g.row.R.Denot g.row.W.Denot). g.R.Read.remaining r.reader) probe
             ∙ ap g.R.Read.remaining c.new.ensures.reader ∙ sym c.requires.left;
       };

@@ -5,7 +5,8 @@ use Rattle.swd_script.proofs.line_reader.LineReader.byte.Goals as goal
 
 pub returns-in-Ok-clause-ok : goal.returns-in-Ok-clause-ok
 returns-in-Ok-clause-ok g c = λ seen r.
-    let fed : IsFed seen r.ended c.feed-words.result c.feed-words.new.self = c.feed-words.ensures seen r.ended r.splits in
+    let fed : IsFed seen r.ended c.feed-words.result c.feed-words.new.self = c.feed-words.ensures seen r.ended
+    r.splits in
     let feed : 10 ≡ c.args.byte = omega arith in
     record {
       ended = r.ended ++ fed.line ∷ [];
@@ -15,7 +16,8 @@ returns-in-Ok-clause-ok g c = λ seen r.
 
 pub returns-in-Err-clause-err : goal.returns-in-Err-clause-err
 returns-in-Err-clause-err g c = λ seen more r.
-    let fed : IsFed seen r.ended c.feed-words.result c.feed-words.new.self = c.feed-words.ensures seen r.ended r.splits in
+    let fed : IsFed seen r.ended c.feed-words.result c.feed-words.new.self = c.feed-words.ensures seen r.ended
+    r.splits in
     let feed : 10 ≡ c.args.byte = omega arith in
     subst (λ b. g.S.LineSink.refuses c.at.result (seen ++ b ∷ more)) feed
     (subst (λ f. g.S.LineSink.refuses f (seen ++ 10 ∷ more)) (sym c.at.ensures)

@@ -12,7 +12,8 @@ returns-in-Ok-clause-ok g c =
     (λ whole. (seen : List ℕ) → ReadsLines took c.args.self seen → g.S.LineSink.says seen whole)
     (λ whole h seen r.
     (let last : IsLast seen r.ended c.finish.result = c.finish.ensures seen r.ended r.splits in
-    h seen (subst (λ all. took all new) (sym last.law) (c.in-Ok.ensures.ok r.ended last.line r.splits.number last.scan r.so_far))))
+    h seen (subst (λ all. took all new) (sym last.law)
+    (c.in-Ok.ensures.ok r.ended last.line r.splits.number last.scan r.so_far))))
     c.whole.ensures.ok
 
 pub returns-in-Ok-clause-err : goal.returns-in-Ok-clause-err
@@ -21,16 +22,20 @@ returns-in-Ok-clause-err g c =
     let refuses = g.S.LineSink.refuses in
     let new = c.add_line.new.self in
     let number = c.args.self.lines.number in
-    IfErr-weaker c.whole.result (λ fault. (text : List ℕ) → HasLast text number → took (lines text) new → refuses fault text)
+    IfErr-weaker c.whole.result
+    (λ fault. (text : List ℕ) → HasLast text number → took (lines text) new → refuses fault text)
     (λ fault. (seen : List ℕ) → ReadsLines took c.args.self seen → refuses fault seen)
     (λ fault h seen r.
     (let last : IsLast seen r.ended c.finish.result = c.finish.ensures seen r.ended r.splits in
-    let ends : HasLast seen number = record { ended = r.ended; line = last.line; law = last.law; number_is = r.splits.number } in
-    h seen ends (subst (λ all. took all new) (sym last.law) (c.in-Ok.ensures.ok r.ended last.line r.splits.number last.scan r.so_far))))
+    let ends : HasLast seen number =
+    record { ended = r.ended; line = last.line; law = last.law; number_is = r.splits.number } in
+    h seen ends (subst (λ all. took all new) (sym last.law)
+    (c.in-Ok.ensures.ok r.ended last.line r.splits.number last.scan r.so_far))))
     c.whole.ensures.err
 
 pub returns-in-Err-clause-err : goal.returns-in-Err-clause-err
 returns-in-Err-clause-err g c = λ seen r.
     let last : IsLast seen r.ended c.finish.result = c.finish.ensures seen r.ended r.splits in
     subst (λ f. g.S.LineSink.refuses f seen) (sym c.at.ensures)
-    (c.in-Err.ensures.err seen r.ended last.line (record { rest = []; law = last.law }) r.splits.number last.scan r.so_far)
+    (c.in-Err.ensures.err seen r.ended last.line (record { rest = []; law = last.law }) r.splits.number last.scan
+    r.so_far)

@@ -10,7 +10,8 @@ not_spoiled place (inr (inl e)) = λ f. cc
 not_spoiled place (inr (inr e)) = λ f. cc
 
 pub returns-in-Code : goal.returns-in-Code
-returns-in-Code c = λ line h. fed_words line c.args.self.place c.args.self.words c.finish.result.items c.finish.ensures (not_spoiled c.args.self.place c.in-Code.is) h
+returns-in-Code c = λ line h. fed_words line c.args.self.place c.args.self.words c.finish.result.items c.finish.ensures
+    (not_spoiled c.args.self.place c.in-Code.is) h
 
 pub returns-in-Spoiled : goal.returns-in-Spoiled
 returns-in-Spoiled c = λ line h. fed_none line c.args.self.place c.args.self.words c.in-Spoiled.is h

@@ -11,7 +11,8 @@ pub returns-clause-ok : goal.returns-clause-ok
 returns-clause-ok g c =
     let old = c.args.self.now.items in
     on_ok_weaker c.add_mark.result
-    (λ e ended line n h t. after_line (λ number. plan_line) [] old c.add_mark.new.marks.items ended line c.args._number n t
+    (λ e ended line n h t. after_line (λ number. plan_line) [] old c.add_mark.new.marks.items ended line c.args._number
+    n t
     (sym (plan_words old line c.args.words h) ∙ e))
     c.add_mark.ensures.ok
 

@@ -23,6 +23,7 @@ returns-clause-err g c =
     IfErr-weaker c.line.result (λ fault. IsFaultOf fault (script_line number old (texts_of c.args.words)))
     (LineStops TookScript IsScriptFault number c.args.words c.args.self.now)
     (λ fault e text ended line l n h t.
-    text_fault script_of script_line nothing_said old (λ text at e. ap whole_script e) text ended line number fault l n t
+    text_fault script_of script_line nothing_said old (λ text at e. ap whole_script e) text ended line number fault l n
+    t
     (subst (IsFaultOf fault) (script_words number old line c.args.words h) e))
     c.line.ensures.err

@@ -9,8 +9,10 @@ invariant_of-self g c =
     record {
       legal = p.legal;
       counted = grind arith;
-      counted_disturbed = disturbed_used p.marks.items p.asked.ticks _ p.disturbed.ticks _ m.result m.ensures.mark c.tick.ensures p.counted_disturbed (grind arith);
-      counted_lost = lost_used p.marks.items p.asked.ticks _ p.lost.ticks _ m.result m.ensures.mark c.tick.ensures p.counted_lost (grind arith);
+      counted_disturbed = disturbed_used p.marks.items p.asked.ticks _ p.disturbed.ticks _ m.result m.ensures.mark
+          c.tick.ensures p.counted_disturbed (grind arith);
+      counted_lost = lost_used p.marks.items p.asked.ticks _ p.lost.ticks _ m.result m.ensures.mark c.tick.ensures
+          p.counted_lost (grind arith);
     }
 
 pub invariant_of-self-else-self-len : goal.invariant_of-self-else-self-len
@@ -20,6 +22,8 @@ invariant_of-self-else-self-len g c =
     record {
       legal = p.legal;
       counted = grind arith;
-      counted_disturbed = disturbed_used p.marks.items p.asked.ticks _ p.disturbed.ticks _ m.result m.ensures.mark c.tick.ensures p.counted_disturbed (grind arith);
-      counted_lost = lost_used p.marks.items p.asked.ticks _ p.lost.ticks _ m.result m.ensures.mark c.tick.ensures p.counted_lost (grind arith);
+      counted_disturbed = disturbed_used p.marks.items p.asked.ticks _ p.disturbed.ticks _ m.result m.ensures.mark
+          c.tick.ensures p.counted_disturbed (grind arith);
+      counted_lost = lost_used p.marks.items p.asked.ticks _ p.lost.ticks _ m.result m.ensures.mark c.tick.ensures
+          p.counted_lost (grind arith);
     }

@@ -20,10 +20,14 @@ returns-in-Some-clause-comes g c =
       undone = λ e. absurd cc;
       exact = c.accept.ensures.exact ∙ ap accepted c.write.ensures.exact;
       elsewhere = λ m late.
-          let kept : c.write.new.self.quirks.late ≡ s.quirks.late = ap (λ (x : Simulation). x.quirks.late) c.write.ensures.exact in
+          let kept : c.write.new.self.quirks.late ≡ s.quirks.late = ap (λ (x : Simulation). x.quirks.late)
+          c.write.ensures.exact in
           let last : t ≡ c.write.new.self = c.accept.ensures.late (kept ∙ late) in (
-            ap (λ (x : Target _). state_of (over m x)) last ∙ ap (λ (x : State). record x { memory = m }) c.write.ensures.state,
-            ap (λ (x : Target _). simulation (over m x)) last ∙ (ap (placed m) c.write.ensures.exact ∙ sym (arrives_late (Arrives c.args.register word) (simulation (over m s)) late)),
+            ap (λ (x : Target _). state_of (over m x)) last
+                ∙ ap (λ (x : State). record x { memory = m }) c.write.ensures.state,
+            ap (λ (x : Target _). simulation (over m x)) last
+                ∙ (ap (placed m) c.write.ensures.exact
+                ∙ sym (arrives_late (Arrives c.args.register word) (simulation (over m s)) late)),
           );
     } in
     subst (λ (o : Option ℕ). DataComes (arrival_of c.args.register o) s t) (sym found) comes
@@ -37,7 +41,11 @@ returns-in-None-clause-comes g c =
       later = inl c.refuse_write.ensures.state;
       undone = λ e. c.refuse_write.ensures.state;
       exact = c.refuse_write.ensures.exact;
-      elsewhere = λ m late. (ap (λ (x : State). record x { memory = m }) c.refuse_write.ensures.state, ap (placed m) c.refuse_write.ensures.exact);
+      elsewhere = λ m late. (
+        ap (λ (x : State). record x { memory = m }) c.refuse_write.ensures.state,
+        ap (placed m)
+            c.refuse_write.ensures.exact,
+      );
     } in
     subst (λ (o : Option ℕ). DataComes (arrival_of c.args.register o) s t) (sym found) comes
 
@@ -49,4 +57,5 @@ returns-in-Some-clause-quirks g c =
 pub returns-in-Some-clause-quiet : goal.returns-in-Some-clause-quiet
 returns-in-Some-clause-quiet g c = λ late.
     let kept = ap (λ (x : Simulation). x.quirks.late) c.write.ensures.exact in
-    ap (λ (x : Target _). x.memory) (c.accept.ensures.late (kept ∙ late)) ∙ ap (λ (x : State). x.memory) c.write.ensures.state
+    ap (λ (x : Target _). x.memory) (c.accept.ensures.late (kept ∙ late))
+    ∙ ap (λ (x : State). x.memory) c.write.ensures.state

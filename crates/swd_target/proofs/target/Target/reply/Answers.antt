@@ -25,7 +25,9 @@ returns-clause-settled g c =
       | then-is_some w ↦ subst P (sym w.self-is) w.settle.ensures.settled
       | else-is_some w ↦
           let none = none_pending t.pending (sym c.is_some.ensures ∙ w.if-is_some.false) in
-          subst P (sym w.self-is) (subst (λ p. IsSettled (reply_when c.args.waits r (answer_at r c.args.ap (state_of t))) r p) (sym none) (settled_none r _))
+          subst P (sym w.self-is) (subst
+          (λ p. IsSettled (reply_when c.args.waits r (answer_at r c.args.ap (state_of t))) r p) (sym none)
+          (settled_none r _))
     ] in
     subst (λ x. IsSettled x r c.if-is_some.self.pending) (sym c.reply_now.ensures) is
 
@@ -36,5 +38,6 @@ returns-clause-exact g c =
     elim c.if-is_some.branch [
       | then-is_some w ↦ subst P (sym w.self-is) w.settle.ensures.exact
       | else-is_some w ↦
-          subst P (sym w.self-is) (settled_at_rest c.args.waits c.args.register c.args.ap t (none_pending t.pending (sym c.is_some.ensures ∙ w.if-is_some.false)))
+          subst P (sym w.self-is) (settled_at_rest c.args.waits c.args.register c.args.ap t
+          (none_pending t.pending (sym c.is_some.ensures ∙ w.if-is_some.false)))
     ]

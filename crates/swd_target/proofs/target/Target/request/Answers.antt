@@ -19,25 +19,34 @@ returns-clause-answers g c =
     let r = c.register_named-register.result in
     let before = c.reply-reply.ensures in
     let after = c.apply.ensures in
-    let same : register c.reply-reply.new.self.select q ≡ r = ap (λ (s : Select). register s q) before.select ∙ sym c.register_named-register.ensures in
+    let same : register c.reply-reply.new.self.select q ≡ r = ap (λ (s : Select). register s q) before.select
+    ∙ sym c.register_named-register.ensures in
     record {
-      under = λ mark legal deaf wait. answers_under mark c.args.waits q c.args.self.now c.reply-reply.new.self c.apply.new.self c.accept_after.new.self r c.reply-reply.result c.phase-phase.result
-          legal deaf wait (sym c.register_named-register.ensures) same before.settles before.exact before.reply before.settled c.phase-phase.ensures.word c.phase-phase.ensures.phase c.phase-phase.ensures.exact
+      under = λ mark legal deaf wait. answers_under mark c.args.waits q c.args.self.now c.reply-reply.new.self
+          c.apply.new.self c.accept_after.new.self r c.reply-reply.result c.phase-phase.result
+          legal deaf wait (sym c.register_named-register.ensures) same before.settles before.exact before.reply
+          before.settled c.phase-phase.ensures.word c.phase-phase.ensures.phase c.phase-phase.ensures.exact
           after.state after.exact c.accept_after.ensures.effect c.accept_after.ensures.exact;
       elsewhere = λ m untouched ready mark legal deaf wait.
           let s = c.args.self.now in
-          let late = late_after c.args.waits c.reply-reply.result r q.ap s c.reply-reply.new.self c.apply.new.self untouched.late before.exact after.exact in
+          let late = late_after c.args.waits c.reply-reply.result r q.ap s c.reply-reply.new.self c.apply.new.self
+          untouched.late before.exact after.exact in
           let last : c.accept_after.new.self ≡ c.apply.new.self = c.accept_after.ensures.late late in
-          let log = log_before c.args.waits c.reply-reply.result r q.ap s c.reply-reply.new.self c.apply.new.self c.accept_after.new.self after.state last untouched.log in
-          subst (λ (t : Target _). AnswersUnder mark q (over m s) c.reply-reply.result (line_under mark c.phase-phase.result) (over m t)) (sym last)
-          (answers_over m mark c.args.waits q s c.reply-reply.new.self c.apply.new.self r c.reply-reply.result c.phase-phase.result
-          legal deaf wait (sym c.register_named-register.ensures) same (before.untouched untouched.ready log) ready untouched.late before.reply before.settled
+          let log = log_before c.args.waits c.reply-reply.result r q.ap s c.reply-reply.new.self c.apply.new.self
+          c.accept_after.new.self after.state last untouched.log in
+          subst (λ (t : Target _). AnswersUnder mark q (over m s) c.reply-reply.result
+          (line_under mark c.phase-phase.result) (over m t)) (sym last)
+          (answers_over m mark c.args.waits q s c.reply-reply.new.self c.apply.new.self r c.reply-reply.result
+          c.phase-phase.result
+          legal deaf wait (sym c.register_named-register.ensures) same (before.untouched untouched.ready log) ready
+          untouched.late before.reply before.settled
           c.phase-phase.ensures.word c.phase-phase.ensures.phase c.phase-phase.ensures.exact after.state after.exact);
     }
 
 pub returns-clause-quirks : goal.returns-clause-quirks
 returns-clause-quirks g c =
-    quirks_after c.args.waits c.reply-reply.result c.register_named-register.result c.args.request.ap c.args.self.now c.reply-reply.new.self c.apply.new.self c.accept_after.new.self
+    quirks_after c.args.waits c.reply-reply.result c.register_named-register.result c.args.request.ap c.args.self.now
+    c.reply-reply.new.self c.apply.new.self c.accept_after.new.self
     c.reply-reply.ensures.exact c.apply.ensures.exact c.accept_after.ensures.exact
 
 pub returns-clause-quiet : goal.returns-clause-quiet
@@ -48,7 +57,10 @@ returns-clause-quiet g c = λ late none.
     let r = c.register_named-register.result in
     let q = c.args.request in
     let exact = c.reply-reply.ensures.exact in
-    let kept : a.memory ≡ s.memory = ap (λ (x : Simulation). x.state.memory) (exact ∙ sym (settled_at_rest c.args.waits r q.ap s none)) in
-    let next : after.memory ≡ a.memory = ap (λ (x : State). x.memory) c.apply.ensures.state ∙ memory_kept c.args.waits c.reply-reply.result r q.ap (state_of a) in
-    let last = c.accept_after.ensures.late (late_after c.args.waits c.reply-reply.result r q.ap s a after late exact c.apply.ensures.exact) in
+    let kept : a.memory ≡ s.memory = ap (λ (x : Simulation). x.state.memory)
+    (exact ∙ sym (settled_at_rest c.args.waits r q.ap s none)) in
+    let next : after.memory ≡ a.memory = ap (λ (x : State). x.memory) c.apply.ensures.state
+    ∙ memory_kept c.args.waits c.reply-reply.result r q.ap (state_of a) in
+    let last = c.accept_after.ensures.late
+    (late_after c.args.waits c.reply-reply.result r q.ap s a after late exact c.apply.ensures.exact) in
     ap (λ (x : Target _). x.memory) last ∙ (next ∙ kept)

@@ -25,15 +25,20 @@ returns-else-settles_before-clause-settled g c =
 pub returns-then-settles_before-clause-exact : goal.returns-then-settles_before-clause-exact
 returns-then-settles_before-clause-exact g c =
     let t = c.args.self.now in
-    let Q = λ (b : Bool). (if b then transferred (simulation t) else simulation t) ≡ settled_when c.args.waits c.args.register c.args.ap (simulation t) in
+    let Q = λ (b : Bool). (if b then transferred (simulation t) else simulation t) ≡ settled_when c.args.waits
+    c.args.register c.args.ap (simulation t) in
     c.complete.ensures.exact
-    ∙ subst Q (owed c.args.waits c.args.register c.args.ap t ∙ sym c.settles_before.ensures ∙ c.if-settles_before.true) refl
+    ∙ subst Q (owed c.args.waits c.args.register c.args.ap t ∙ sym c.settles_before.ensures ∙ c.if-settles_before.true)
+    refl
 
 pub returns-else-settles_before-clause-exact : goal.returns-else-settles_before-clause-exact
 returns-else-settles_before-clause-exact g c =
     let t = c.args.self.now in
-    let Q = λ (b : Bool). (if b then transferred (simulation t) else simulation t) ≡ settled_when c.args.waits c.args.register c.args.ap (simulation t) in
-    subst Q (owed c.args.waits c.args.register c.args.ap t ∙ sym c.settles_before.ensures ∙ c.if-settles_before.false) refl
+    let Q = λ (b : Bool). (if b then transferred (simulation t) else simulation t) ≡ settled_when c.args.waits
+    c.args.register c.args.ap (simulation t) in
+    subst Q (owed c.args.waits c.args.register c.args.ap t ∙ sym c.settles_before.ensures ∙ c.if-settles_before.false)
+    refl
 
 pub returns-then-settles_before-clause-untouched : goal.returns-then-settles_before-clause-untouched
-returns-then-settles_before-clause-untouched g c = λ ready same. stays c.args.self.now c.complete.new.self c.complete.ensures ready same
+returns-then-settles_before-clause-untouched g c = λ ready same. stays c.args.self.now c.complete.new.self
+    c.complete.ensures ready same

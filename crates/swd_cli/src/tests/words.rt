@@ -1,0 +1,192 @@
+//! What words ask for, and what is said of words that ask for nothing.
+use std::alloc::Global;
+use std::test::Fail;
+use swd_words::{Line, LineFault, line};
+
+// What `clap` says of the words: its help, or what is wrong with them.
+fn said_of(alloc: Global, words: &[&str]) -> Result<String, Fail> {
+    match line(alloc, words) {
+        Err(LineFault::Clap(error)) => Ok(format!(in alloc; "{error}")?),
+        _ => Err(Fail::from("clap said nothing")),
+    }
+}
+
+// A number below 0 is refused for its range, as one that is too large is.
+#[test]
+fn negative_numbers_are_refused_for_their_range(rt: HostRuntime) -> Result<(), Fail> {
+    for words in [
+        ["swd", "run", "script", "--tries", "-1"].as_slice(),
+        ["swd", "run", "script", "--tries=-1"].as_slice(),
+        ["swd", "run", "script", "--tries=1001"].as_slice(),
+        ["swd", "run", "script", "--resume", "-1"].as_slice(),
+        ["swd", "run", "script", "--resume=-1"].as_slice(),
+        ["swd", "run", "script", "--resume=1001"].as_slice(),
+    ] {
+        let said = said_of(rt.alloc(), words)?;
+        assert!(rt; said.contains("is not in 0..=1000\n"));
+    }
+    Ok(())
+}
+
+// Whether a text has a line that begins with these words, behind blanks.
+fn has_line(text: &str, start: &str) -> bool {
+    text.split('\n')
+        .any(|line| line.trim_start().starts_with(start))
+}
+
+// The help of a run names each line of scripts, plans and reports, and stays within 80 columns.
+#[test]
+fn help_tells_each_word(rt: HostRuntime) -> Result<(), Fail> {
+    for words in [
+        ["swd", "--help"].as_slice(),
+        ["swd", "run", "--help"].as_slice(),
+        ["swd", "one", "--help"].as_slice(),
+    ] {
+        let said = said_of(rt.alloc(), words)?;
+        let is_narrow = said.split('\n').all(|line| line.len() <= 80);
+        assert!(rt; is_narrow);
+    }
+    let said = said_of(rt.alloc(), ["swd", "run", "--help"].as_slice())?;
+    for start in [
+        "memory ",
+        "room ",
+        "w ADDR VALUE ",
+        "r ADDR ",
+        "rn ",
+        "block ",
+        ". ",
+        "wait ",
+        "flip ",
+        "deaf ",
+        "mute ",
+        "r ADDR WORD ",
+        "w ADDR written ",
+        "r ADDR busfault ",
+        "w ADDR busfault ",
+        "resume K begun B ",
+        "end all ",
+        "end lost ",
+        "end tries ",
+        "end id ",
+        "end confused ",
+        "word ",
+        "number ",
+        "range ",
+        "no memory line ",
+        "memory  ",
+        "--plan ",
+        "--tries ",
+        "--resume ",
+        "--trace ",
+        "--strict ",
+    ] {
+        assert!(rt; has_line(said.as_str(), start));
+    }
+    Ok(())
+}
+
+#[test]
+fn words_without_a_file(rt: HostRuntime) {
+    let one = line(rt.alloc(), ["swd", "one"].as_slice());
+    assert!(rt; matches!(one, Ok(Line::One(None))));
+    let decode = line(rt.alloc(), ["swd", "decode"].as_slice());
+    assert!(rt; matches!(decode, Ok(Line::Decode(None))));
+    let encode = line(rt.alloc(), ["swd", "encode"].as_slice());
+    assert!(rt; matches!(encode, Ok(Line::Encode(None))));
+}
+
+#[test]
+fn words_with_a_file(rt: HostRuntime) -> Result<(), Fail> {
+    for command in ["one", "decode", "encode"] {
+        let words = ["swd", command, "a"];
+        let file = match (command, line(rt.alloc(), words.as_slice())) {
+            ("one", Ok(Line::One(file))) => file,
+            ("decode", Ok(Line::Decode(file))) => file,
+            ("encode", Ok(Line::Encode(file))) => file,
+            _ => None,
+        };
+        let name = file.ok_or("no name")?;
+        assert_eq!(rt; name.as_str(), "a");
+    }
+    Ok(())
+}
+
+fn resumes_in(alloc: Global, words: &[&str]) -> Option<u32> {
+    match line(alloc, words) {
+        Ok(Line::Run(run)) => Some(run.resumes),
+        _ => None,
+    }
+}
+
+fn tries_in(alloc: Global, words: &[&str]) -> Option<u32> {
+    match line(alloc, words) {
+        Ok(Line::Run(run)) => Some(run.tries),
+        _ => None,
+    }
+}
+
+#[test]
+fn words_of_a_run(rt: HostRuntime) -> Result<(), Fail> {
+    let words = ["swd", "run", "s", "--plan", "p"];
+    let Ok(Line::Run(run)) = line(rt.alloc(), words.as_slice()) else {
+        return Err(Fail::from("no run"));
+    };
+    assert_eq!(rt; run.script.as_str(), "s");
+    assert_eq!(rt; run.plan.ok_or("no plan")?.as_str(), "p");
+    assert_eq!(rt; run.tries, 8);
+    assert!(rt; run.trace.is_none());
+    let words = ["swd", "run", "s", "--plan", "p", "--trace", "t"];
+    let Ok(Line::Run(run)) = line(rt.alloc(), words.as_slice()) else {
+        return Err(Fail::from("no run"));
+    };
+    assert_eq!(rt; run.script.as_str(), "s");
+    assert_eq!(rt; run.plan.ok_or("no plan")?.as_str(), "p");
+    assert_eq!(rt; run.tries, 8);
+    assert_eq!(rt; run.trace.ok_or("no trace")?.as_str(), "t");
+    assert!(rt; !run.strict);
+    let words = ["swd", "run", "--strict", "s"];
+    let Ok(Line::Run(run)) = line(rt.alloc(), words.as_slice()) else {
+        return Err(Fail::from("no run"));
+    };
+    assert!(rt; run.strict);
+    for (text, tries) in [
+        ("0", Some(0)),
+        ("3", Some(3)),
+        ("1000", Some(1000)),
+        ("1001", None),
+        ("-1", None),
+        ("x", None),
+        ("", None),
+    ] {
+        let words = ["swd", "run", "s", "--tries", text];
+        assert_eq!(rt; tries_in(rt.alloc(), words.as_slice()), tries);
+        let words = ["swd", "run", "s", "--resume", text];
+        assert_eq!(rt; resumes_in(rt.alloc(), words.as_slice()), tries);
+    }
+    assert_eq!(rt;
+        resumes_in(rt.alloc(), ["swd", "run", "s"].as_slice()),
+        Some(0)
+    );
+    let words = ["swd", "run", "s", "--tries", "5", "--resume", "7"];
+    assert_eq!(rt; tries_in(rt.alloc(), words.as_slice()), Some(5));
+    assert_eq!(rt; resumes_in(rt.alloc(), words.as_slice()), Some(7));
+    Ok(())
+}
+
+#[test]
+fn words_that_are_no_command(rt: HostRuntime) {
+    for words in [
+        ["swd", "two"].as_slice(),
+        ["swd"].as_slice(),
+        ["swd", "one", "a", "b"].as_slice(),
+        ["swd", "one", "--tries", "3"].as_slice(),
+        ["swd", "run"].as_slice(),
+        ["swd", "run", "a", "b"].as_slice(),
+        ["swd", "run", "a", "--plan"].as_slice(),
+        ["swd", "run", "a", "--trace"].as_slice(),
+        ["swd", "run", "a", "--strict=yes"].as_slice(),
+    ] {
+        let refused = matches!(line(rt.alloc(), words), Err(LineFault::Clap(_)));
+        assert!(rt; refused);
+    }
+}

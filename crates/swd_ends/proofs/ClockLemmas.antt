@@ -1,0 +1,101 @@
+-- Laws of clocks that go by, and of the levels that wait.
+use Rattle.std.proofs.Common.{◌≡◌, ℕ, zero, suc, ◌+◌, ◌-◌, ◌*◌, ◌/◌, ◌%◌, ◌^◌, ◌<◌, ◌≤◌, Bool, true, false, List, []}
+use Rattle.std.proofs.Common.{◌∷◌, ◌++◌, length, take, map, Option, Some, refl, sym, ap, ◌∙◌, subst, arith, append-nil}
+use Rattle.std.specs.Prelude.{◌==◌, replicate}
+use Rattle.std.proofs.lemmas.Nat.{one_shl}
+use Rattle.std.proofs.lemmas.List.{length-append, take-append-le, take_all}
+use Rattle.swd_bits.specs.Bits.{low_bits, bit}
+use Rattle.swd_bits.proofs.BitsLemmas.{low_bits-cat, length-low_bits}
+use Rattle.swd_clocked.specs.declared.marked.MarkedClocked.{MarkedClocked}
+use Rattle.swd_ends.specs.ClockedProbes.{GoBy, GoesBy}
+
+-- the clocks that are left, of which one goes by
+pub next_driven : (count place rest : ℕ) → place < count
+    → map Some (low_bits (count - place) rest) ≡ Some (rest % 2 == 1) ∷ map Some
+    (low_bits (count - (place + 1)) (rest / 2))
+unfolding low_bits
+next_driven count place rest l =
+    let n = count - (place + 1) in
+    let e : count - place ≡ suc n = omega arith in
+    ap (λ k. map Some (low_bits k rest)) e
+
+pub next_alike : {A : Type 0} (count place : ℕ) (drive : A) → place < count
+    → replicate (count - place) drive ≡ drive ∷ replicate (count - (place + 1)) drive
+next_alike count place drive l =
+    let n = count - (place + 1) in
+    let e : count - place ≡ suc n = omega arith in
+    ap (λ k. replicate k drive) e
+
+pub no_driven : (count place rest : ℕ) → count ≤ place → map Some (low_bits (count - place) rest) ≡ []
+unfolding low_bits
+no_driven count place rest l =
+    let e : count - place ≡ 0 = omega arith in
+    ap (λ k. map Some (low_bits k rest)) e
+
+pub none_alike : {A : Type 0} (count place : ℕ) (drive : A) → count ≤ place → replicate (count - place) drive ≡ []
+none_alike count place drive l =
+    let e : count - place ≡ 0 = omega arith in
+    ap (λ k. replicate k drive) e
+
+-- all clocks are left at first
+pub all_driven : (count bits : ℕ) → map Some (low_bits (count - 0) bits) ≡ map Some (low_bits count bits)
+all_driven count bits =
+    let e : count - 0 ≡ count = omega arith in
+    ap (λ k. map Some (low_bits k bits)) e
+
+pub all_alike : {A : Type 0} (count : ℕ) (drive : A) → replicate (count - 0) drive ≡ replicate count drive
+all_alike count drive =
+    let e : count - 0 ≡ count = omega arith in
+    ap (λ k. replicate k drive) e
+
+-- a clock, and those behind it
+pub one_by : {A : Type 0} (all left : List (Option Bool)) (drive : Option Bool) (level : Bool) (seen : List Bool)
+    (s m t : MarkedClocked A)
+    → all ≡ drive ∷ left → GoesBy drive level s m → GoBy left seen m t → GoBy all (level ∷ seen) s t
+one_by all left drive level seen s m t e one more = subst (λ x. GoBy x (level ∷ seen) s t) (sym e) (m, one, more)
+
+pub none_by : {A : Type 0} (all : List (Option Bool)) (s : MarkedClocked A) → all ≡ [] → GoBy all [] s s
+none_by all s e = subst (λ x. GoBy x [] s s) (sym e) refl
+
+-- one level more above those that wait
+level_above : (n levels : ℕ) (b : Bool) → n < 64 → levels < 2 ^ n
+    → low_bits (n + 1) (levels + bit b * 2 ^ n % 2 ^ 64) ≡ low_bits n levels ++ b ∷ []
+unfolding low_bits
+level_above n levels true l h =
+    let e : 1 * 2 ^ n % 2 ^ 64 ≡ 2 ^ n = one_shl n 64 l in
+    let f : levels + 2 ^ n ≡ 1 * 2 ^ n + levels = omega arith in
+    ap (λ x. low_bits (n + 1) (levels + x)) e ∙ ap (low_bits (n + 1)) f ∙ low_bits-cat n 1 1 levels h
+level_above n levels false l h =
+    let z : 0 * 2 ^ n ≡ 0 = omega arith in
+    let e : 0 * 2 ^ n % 2 ^ 64 ≡ 0 = ap (λ x. x % 2 ^ 64) z in
+    let f : levels + 0 ≡ 0 * 2 ^ n + levels = omega arith in
+    ap (λ x. low_bits (n + 1) (levels + x)) e ∙ ap (low_bits (n + 1)) f ∙ low_bits-cat n 1 0 levels h
+
+pub take_twice : {A : Type 0} (n : ℕ) (xs ys : List A) → take n (take n xs ++ ys) ≡ take n (xs ++ ys)
+take_twice zero xs ys = refl
+take_twice (suc n) [] ys = refl
+take_twice (suc n) (x ∷ xs) ys = ap (λ r. x ∷ r) (take_twice n xs ys)
+
+-- a level that is kept, and one for which there is no room
+pub kept : (n levels : ℕ) (b : Bool) → n < 64 → levels < 2 ^ n
+    → low_bits (n + 1) (levels + bit b * 2 ^ n % 2 ^ 64) ≡ take 64 (low_bits n levels ++ b ∷ [])
+kept n levels b l h =
+    let long : length (low_bits n levels ++ b ∷ []) ≡ length (low_bits n levels) + 1 = length-append (low_bits n levels)
+    (b ∷ []) in
+    let few : length (low_bits n levels) ≡ n = length-low_bits n levels in
+    level_above n levels b l h ∙ sym (take_all 64 _ (omega arith))
+
+pub left_out : (n levels : ℕ) (b : Bool) → 64 ≤ n → n ≤ 64 → low_bits n levels ≡ take 64 (low_bits n levels ++ b ∷ [])
+left_out n levels b l h =
+    let few : length (low_bits n levels) ≡ n = length-low_bits n levels in
+    sym (take-append-le 64 (low_bits n levels) (b ∷ []) (omega arith) ∙ take_all 64 (low_bits n levels) (omega arith))
+
+-- what waits, and nothing more
+pub waits_on : (n levels : ℕ) → n ≤ 64 → low_bits n levels ≡ take 64 (low_bits n levels ++ [])
+waits_on n levels h =
+    let few : length (low_bits n levels) ≡ n = length-low_bits n levels in
+    sym (ap (take 64) (append-nil (low_bits n levels)) ∙ take_all 64 (low_bits n levels) (omega arith))
+
+pub none_wait : (levels : ℕ) → low_bits 0 levels ≡ []
+unfolding low_bits
+none_wait levels = refl

@@ -1,0 +1,60 @@
+use Rattle.std.proofs.Common.{◌≡◌, Bool, true, false, map, sym, ap, ◌∙◌, subst}
+use Rattle.swd_port.specs.Port.{made_target}
+use Rattle.swd_port.specs.PlainMemory.{PlainMemory}
+use Rattle.swd_clocked.specs.declared.marked.MarkedClocked.{MarkedClocked}
+use Rattle.swd_script.specs.Readers.{listed, meaning}
+use Rattle.swd_script.proofs.TextLaws.{is_runnable, is_plan}
+use Rattle.swd_ends.specs.Serving.{IsBare, IsMade}
+use Rattle.swd_ends.proofs.serving.read_target.Goals as goal
+
+pub zero_memory-requires : goal.zero_memory-requires
+zero_memory-requires g c = let read = c.in-Ok.ensures.read in is_runnable read.script_text
+    (meaning c.in-Ok.texts.script) read.means
+
+pub new-target-requires : goal.new-target-requires
+new-target-requires g c = let read = c.in-Ok.ensures.read in is_plan read.plan_text c.in-Ok.texts.plan.items read.plans
+
+apart : (b : Bool) → b ≡ true → b ≡ false → ⊥
+apart b e f = absurd cc
+
+pub returns-then-not-is_bare-clause-fault : goal.returns-then-not-is_bare-clause-fault
+returns-then-not-is_bare-clause-fault g c =
+    let script = c.in-Ok.texts.script in
+    record {
+      meaning = meaning script;
+      marks = c.in-Ok.texts.plan.items;
+      read = c.in-Ok.ensures.read;
+      access = λ bare. apart c.is_bare.result
+          (c.is_bare.ensures.1 (subst (λ batches. IsBare (map listed batches)) (sym c.as_slice.ensures.value) bare))
+          c.if-not-is_bare.true;
+    }
+
+pub returns-clause-made : goal.returns-clause-made
+returns-clause-made g c =
+    let script = c.in-Ok.texts.script in
+    let target = c.new-target.ensures in
+    let marks = c.in-Ok.texts.plan.items in
+    let made : IsMade (meaning script) marks c.new-target.result = record {
+      state = target.state ∙ ap (λ (m : PlainMemory). made_target 731911287 m) c.in-Some.ensures;
+      frame = target.frame;
+      unseen = target.unseen;
+      plan = target.plan;
+      asked = target.requests;
+      cycles = target.cycles;
+    } in
+    let pins = c.new.ensures in
+    record {
+      meaning = meaning script;
+      marks = marks;
+      read = c.in-Ok.ensures.read;
+      no_access = subst (λ batches. IsBare (map listed batches)) c.as_slice.ensures.value
+          (c.is_bare.ensures.0 c.if-not-is_bare.false);
+      made = subst (λ (t : MarkedClocked _). IsMade (meaning script) marks t) (sym pins.target) made;
+      rests = record {
+        clock = pins.clock;
+        level = pins.level;
+        drives = pins.drives;
+        seen = pins.seen;
+        kept = pins.trace;
+      };
+    }

@@ -1,0 +1,4 @@
+pub mod ClockedProbes
+pub mod RemoteRuns
+pub mod Serving
+pub mod TargetLogs

@@ -1,0 +1,58 @@
+-- What a script and a plan say of a simulated target that a host outside drives.
+use Rattle.std.specs.Prelude.{ℕ, ◌≡◌, List, [], ◌∷◌, Option, None, true, false}
+use Rattle.swd_port.specs.declared.mark.Mark.{Mark}
+use Rattle.swd_port.specs.Port.{made_target}
+use Rattle.swd_clocked.specs.declared.marked.MarkedClocked.{MarkedClocked}
+use Rattle.swd_clocked.specs.Frames.{idle}
+use Rattle.swd_clocked.specs.Marked.{state_of, frame_in, unseen_of, plan_of, tally_of, cycles_of}
+use Rattle.swd_bitbang.specs.declared.trace.Trace.{Trace}
+use Rattle.swd_bitbang.specs.declared.pins.Pins.{Pins}
+use Rattle.swd_script.specs.Scripts.{Listed, Meaning}
+use Rattle.swd_text.specs.declared.fault.EngineFault.TheVariants.{Memory}
+use Rattle.swd_ends.specs.declared.serving.TargetFault.{TargetFault}
+use Rattle.swd_ends.specs.declared.serving.TargetFault.TheVariants.{Texts, Accesses}
+use Rattle.swd_run.specs.Running.{AreRead, AreUnread, IsScript, IsPlan, memory_of}
+
+-- a target before its first cycle, with the memory of a script and the marks of a plan
+pub record IsMade {A : Type 0} (script : Meaning) (marks : List Mark) (target : MarkedClocked A) : Type 0 where
+  pub state : state_of target ≡ made_target 0x2ba0_1477 (memory_of script)
+  pub frame : frame_in target ≡ idle
+  pub unseen : unseen_of target ≡ 0
+  pub plan : plan_of target ≡ marks
+  pub asked : (tally_of target).asked ≡ 0
+  pub cycles : cycles_of target ≡ 0
+
+-- the pins of a host that has moved none
+pub record IsAtRest {A : Type 0} (trace : Trace A) (pins : Pins A) : Type 0 where
+  pub clock : pins.clock ≡ false
+  pub level : pins.level ≡ true
+  pub drives : pins.drives ≡ true
+  pub seen : pins.seen ≡ None
+  pub kept : pins.trace ≡ trace
+
+-- a script without accesses and without further calls
+abbrev pub IsBare : List Listed → Type 0
+IsBare [] = ⊥
+IsBare (batch ∷ []) = batch.accesses ≡ []
+IsBare (batch ∷ next ∷ batches) = ⊥
+
+-- the readers' texts are a script without accesses and a plan, and behind the pins is their target
+pub record Simulates {A : Type 0} (script plan : Option (List ℕ)) (trace : Trace A) (pins : Pins A) : Type 0 where
+  pub meaning : Meaning
+  pub marks : List Mark
+  pub read : AreRead script plan meaning marks
+  pub no_access : IsBare meaning.batches
+  pub made : IsMade meaning marks pins.target
+  pub rests : IsAtRest trace pins
+
+-- the script has an access, or further calls
+pub record HasAccesses (script plan : Option (List ℕ)) : Type 0 where
+  pub meaning : Meaning
+  pub marks : List Mark
+  pub read : AreRead script plan meaning marks
+  pub access : IsBare meaning.batches → ⊥
+
+abbrev pub IsTargetFault : TargetFault → Option (List ℕ) → Option (List ℕ) → Type 0
+IsTargetFault Accesses script plan = HasAccesses script plan
+IsTargetFault (Texts Memory) script plan = IsScript script × IsPlan plan
+IsTargetFault (Texts fault) script plan = AreUnread fault script plan

@@ -1,0 +1,109 @@
+//! A simulated target's single clocks as a probe: what the pins of a microcontroller do.
+ghost use Rattle.std.specs.Prelude.{◌≡◌, ◌<◌, ◌≤◌, ◌^◌, ◌++◌, ◌∷◌, [], None, Some, map, replicate, take};
+ghost use Rattle.swd_bits.specs.Bits.{low_bits};
+
+use std::alloc::{Allocator, Global};
+use swd_clocked::MarkedClocked;
+use swd_port::Gone;
+use swd_remote::{Probe, Stretch};
+
+// How many levels are kept for an exchange.
+const MOST: u8 = 64;
+
+/// A probe over the single clocks of a simulated target. Nothing waits but the levels: each stretch goes by at
+/// once. Of more than 64 levels from one exchange to the next the first 64 are kept.
+#[derive(Drop)]
+pub struct ClockedProbe<A: Allocator = Global> {
+    pub(crate) target: MarkedClocked<A>,
+    // The levels since the last exchange, the first one least significant, and how many there are.
+    pub(crate) levels: u64,
+    pub(crate) sampled: u8,
+    ghost few: { sampled ≤ 64 },
+    ghost range: { levels < 2 ^ sampled },
+}
+
+impl<A: Allocator> ClockedProbe<A> {
+    ghost use Rattle.swd_ends.specs.ClockedProbes.{target_of, waiting, GoBy, PassesBy, Clocked};
+
+    /// A probe at this target.
+    pub fn new(target: MarkedClocked<A>) -> ClockedProbe<A>
+        ensures target { target_of result ≡ target }
+        ensures waits { waiting result ≡ [] }
+    {
+        ClockedProbe {
+            target,
+            levels: 0,
+            sampled: 0,
+        }
+    }
+
+    /// The target, once no more clocks come.
+    pub fn into_target(self) -> MarkedClocked<A>
+        ensures { result ≡ target_of self }
+    {
+        let ClockedProbe { target, .. } = self;
+        target
+    }
+
+    fn drive(&mut self, bits: u64, count: u8)
+        ensures { PassesBy (map Some (low_bits count bits)) self.old self.new }
+    {
+        let mut rest = bits;
+        for place in 0..count {
+            let _ = self.target.cycle(Some(rest % 2 == 1));
+            rest /= 2;
+        }
+    }
+
+    fn hold(&mut self, drive: Option<bool>, count: u32)
+        ensures { PassesBy (replicate count drive) self.old self.new }
+    {
+        for place in 0..count {
+            let _ = self.target.cycle(drive);
+        }
+    }
+
+    fn sample(&mut self, count: u8)
+        ensures { Clocked (Stretch.Sample count) self.old self.new }
+    {
+        for place in 0..count {
+            let level = self.target.cycle(None);
+            self.keep(level);
+        }
+    }
+
+    // One level more, where there is room for it.
+    fn keep(&mut self, level: bool)
+        ensures waits { waiting self.new ≡ take 64 (waiting self.old ++ level ∷ []) }
+        ensures target { target_of self.new ≡ target_of self.old }
+    {
+        if self.sampled < MOST {
+            self.levels += u64::from(level) << self.sampled;
+            self.sampled += 1;
+        }
+    }
+}
+
+impl<A: Allocator> Probe for ClockedProbe<A> {
+    ghost use Rattle.swd_ends.specs.ClockedProbes.{Clocked, HandsOut};
+
+    ghost queues = { λ stretch s t. Clocked stretch s t };
+
+    ghost exchanges = { λ result s t. HandsOut result s t };
+
+    fn queue(&mut self, stretch: Stretch) {
+        match stretch {
+            Stretch::Drive { bits, count } => self.drive(bits, count),
+            Stretch::Hold { level, count } => self.hold(Some(level), count),
+            Stretch::Release { count } => self.hold(None, count),
+            Stretch::Sample { count } => self.sample(count),
+        }
+    }
+
+    fn exchange(&mut self) -> Result<u64, Gone> {
+        let levels = self.levels;
+        self.levels = 0;
+        self.sampled = 0;
+        Ok(levels)
+    }
+}

@@ -1,0 +1,191 @@
+//! Runs on heaps of each size: where memory ended is told, and nothing has been written but what was
+//! decided before.
+use super::ended;
+use linked_list_allocator::LocalHeap;
+use std::alloc::Allocator;
+use std::process::Abort;
+use std::test::Fail;
+use swd_host::End;
+use swd_run::{Finished, run_text, run_traced};
+use swd_script::ScriptFault;
+use swd_text::EngineFault;
+
+const TRIES: u32 = 8;
+
+// The list of accesses grows at lines 3 and 4.
+const SCRIPT: &[u8] =
+    b"memory 20000000 16\nroom 8\nw 20000000 deadbeef\nrn 20000000 6\nr 30000000\n";
+
+// The list of marks grows at lines 1 and 9.
+const PLAN: &[u8] = b".\n.\n.\n.\n.\n.\n.\n.\n.\n.\nwait\nwait\nwait\n";
+
+const REPORT: &[u8] = b"w 20000000 written\nr 20000000 deadbeef\nr 20000004 00000000\n\
+    r 20000008 00000000\nr 2000000c 00000000\nr 20000010 00000000\nr 20000014 00000000\n\
+    r 30000000 busfault\nend all 8\n";
+
+// The step from one heap to the next, in bytes.
+const STEP: usize = 16;
+
+// Sixteen words of 4 bytes, room for eight transfers of 12, and eight answers of 8.
+const RUN_BYTES: usize = 16 * 4 + 8 * 12 + 8 * 8;
+
+// Where memory ended, in the order of a run.
+#[derive(Clone, Copy, Debug, PartialEq, Eq, PartialOrd, Ord)]
+enum Stage {
+    Script,
+    Plan,
+    // The words, the log or the answers.
+    Run,
+    Trace,
+    // It was enough.
+    Whole,
+}
+
+fn stage_of(answer: Result<Finished, EngineFault>) -> Option<Stage> {
+    match answer {
+        Err(EngineFault::Script(ScriptFault::Memory { line: 3 | 4 | 6 })) => Some(Stage::Script),
+        Err(EngineFault::Plan(ScriptFault::Memory { line: 1 | 9 })) => Some(Stage::Plan),
+        Err(EngineFault::Memory) => Some(Stage::Run),
+        Err(EngineFault::TraceCut) => Some(Stage::Trace),
+        Ok(
+            Finished {
+                ended: End::All,
+                ..
+            },
+        ) => Some(Stage::Whole),
+        _ => None,
+    }
+}
+
+const STAGES: [Stage; 4] = [Stage::Script, Stage::Plan, Stage::Run, Stage::Whole];
+
+const TRACED_STAGES: [Stage; 5] = [
+    Stage::Script,
+    Stage::Plan,
+    Stage::Run,
+    Stage::Trace,
+    Stage::Whole,
+];
+
+// The stages of heaps, each larger than the one before.
+#[derive(Drop)]
+struct Stages {
+    seen: Vec<Stage>,
+    // How many heaps ended at the words, the log or the answers.
+    run: usize,
+}
+
+impl Stages {
+    fn new(rt: &HostRuntime) -> Stages {
+        Stages {
+            seen: Vec::new(rt.alloc()),
+            run: 0,
+        }
+    }
+
+    // One more, which is no earlier.
+    fn add<R: Abort>(&mut self, rt: &R, stage: Stage) -> Result<(), Fail> {
+        if stage == Stage::Run {
+            self.run = self.run.saturating_add(1);
+        }
+        let last = self.seen.last().copied();
+        if last != Some(stage) {
+            assert!(rt; last < Some(stage));
+            self.seen.push(stage)?;
+        }
+        Ok(())
+    }
+
+    // These and no others, and each part of the run was refused.
+    fn are<R: Abort>(&self, rt: &R, stages: &[Stage]) {
+        assert_eq!(rt; self.seen.as_slice(), stages);
+        assert!(rt; self.run >= RUN_BYTES / STEP);
+    }
+}
+
+#[test]
+fn a_run_where_memory_ends(rt: HostRuntime) -> Result<(), Fail> {
+    let mut stages = Stages::new(&rt);
+    for size in 1..80usize {
+        let heap = LocalHeap::new(rt.alloc(), size * STEP)?;
+        let mut script = SCRIPT;
+        let mut plan = PLAN;
+        let mut report = Vec::new(rt.alloc());
+        let answer = run_text(&heap, &mut script, &mut plan, TRIES, 0, &mut report);
+        let Some(stage) = stage_of(answer) else {
+            panic!(rt; "{size}: {answer:?}");
+        };
+        let written = if stage == Stage::Whole { REPORT } else { b"" };
+        assert_eq!(rt; report.as_slice(), written, "{size}");
+        assert_eq!(rt; heap.used(), 0);
+        stages.add(&rt, stage)?;
+    }
+    stages.are(&rt, &STAGES);
+    Ok(())
+}
+
+// What a traced run answers, what it reports, and its trace.
+#[derive(Drop)]
+struct Traced {
+    answer: Result<Finished, EngineFault>,
+    report: Vec<u8>,
+    trace: Vec<u8>,
+}
+
+fn traced_on<A: Allocator + Copy>(rt: &HostRuntime, alloc: A) -> Traced {
+    let mut script = SCRIPT;
+    let mut plan = PLAN;
+    let mut report = Vec::new(rt.alloc());
+    let mut trace = Vec::new(rt.alloc());
+    let answer = run_traced(
+        alloc,
+        &mut script,
+        &mut plan,
+        TRIES,
+        0,
+        &mut report,
+        &mut trace,
+    );
+    Traced {
+        answer,
+        report,
+        trace,
+    }
+}
+
+// The items of a trace are refused while the run goes on, and change nothing in it.
+#[test]
+fn a_traced_run_where_memory_ends(rt: HostRuntime) -> Result<(), Fail> {
+    let whole = traced_on(&rt, rt.alloc());
+    assert_eq!(rt; whole.answer, ended(End::All));
+    assert_eq!(rt; whole.report.as_slice(), REPORT);
+    let whole = whole.trace;
+    let mut stages = Stages::new(&rt);
+    let mut most = 0usize;
+    let mut longest_cut = 0usize;
+    for size in 1..300usize {
+        let heap = LocalHeap::new(rt.alloc(), size * STEP)?;
+        let run = traced_on(&rt, &heap);
+        let Some(stage) = stage_of(run.answer) else {
+            panic!(rt; "{size}: {:?}", run.answer);
+        };
+        let written = if stage >= Stage::Trace { REPORT } else { b"" };
+        assert_eq!(rt; run.report.as_slice(), written, "{size}");
+        // Whole lines from the beginning, and no fewer of them from a larger heap.
+        let trace = run.trace.as_slice();
+        assert!(rt; whole.as_slice().starts_with(trace));
+        assert!(rt; trace.is_empty() || trace.last() == Some(&b'\n'));
+        assert!(rt; most <= trace.len());
+        assert_eq!(rt; trace.len() == whole.len(), stage == Stage::Whole);
+        assert_eq!(rt; heap.used(), 0);
+        stages.add(&rt, stage)?;
+        most = trace.len();
+        if stage == Stage::Trace {
+            longest_cut = most;
+        }
+    }
+    stages.are(&rt, &TRACED_STAGES);
+    // What was kept before memory was refused has been written: more than the opening.
+    assert!(rt; longest_cut > 14 * 47);
+    Ok(())
+}

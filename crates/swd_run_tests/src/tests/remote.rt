@@ -1,0 +1,214 @@
+//! A script at a target outside: a recorded session of a host in another language against a target in another
+//! language. The levels go in, and the characters and the report have to come out.
+ghost use Rattle.std.specs.Prelude.{[]};
+ghost use Rattle.std.specs.FinMap.{empty};
+ghost use Rattle.swd_port.specs.Port.{made};
+
+use super::ended;
+use super::recorded::UNDISTURBED;
+use swd_ends::{run_remote, run_remote_traced};
+use swd_fakes::ShortWriter;
+use swd_host::End;
+use swd_port::{Answer, Story};
+use swd_remote::Fault;
+use swd_run::{Difference, Finished, run_traced};
+use swd_text::EngineFault;
+
+// Any story.
+struct Untold;
+
+impl Story for Untold {
+    ghost at = { λ _. made 0 (record { words = empty; log = []; room = 0 }) };
+}
+
+const SCRIPT: &[u8] = b"memory 20000000 16\nw 20000000 deadbeef\nr 20000000\n";
+
+const REPORT: &[u8] = b"w 20000000 written\nr 20000000 deadbeef\nend all 2\n";
+
+#[test]
+fn a_script_sends_what_was_recorded(rt: HostRuntime) {
+    let mut sent = Vec::new(rt.alloc());
+    let mut report = Vec::new(rt.alloc());
+    let mut script = SCRIPT;
+    let (answer, line) = run_remote::<Untold, _, _, _, _, _>(
+        rt.alloc(),
+        &mut script,
+        UNDISTURBED.levels,
+        &mut sent,
+        8,
+        0,
+        &mut report,
+    );
+    let finished = Finished {
+        ended: End::All,
+        differs: None,
+    };
+    assert_eq!(rt; answer, Ok(finished));
+    assert_eq!(rt; line.fault, None);
+    assert_eq!(rt; report.as_slice(), REPORT);
+    assert_eq!(rt; sent.as_slice(), UNDISTURBED.characters);
+}
+
+// The trace is that of a run over the simulated target, which shows the same words.
+#[test]
+fn a_remote_run_is_traced(rt: HostRuntime) {
+    let mut sent = Vec::new(rt.alloc());
+    let mut report = Vec::new(rt.alloc());
+    let mut trace = Vec::new(rt.alloc());
+    let mut script = SCRIPT;
+    let (answer, line) = run_remote_traced::<Untold, _, _, _, _, _, _>(
+        rt.alloc(),
+        &mut script,
+        UNDISTURBED.levels,
+        &mut sent,
+        8,
+        0,
+        &mut report,
+        &mut trace,
+    );
+    let finished = Finished {
+        ended: End::All,
+        differs: None,
+    };
+    assert_eq!(rt; answer, Ok(finished));
+    assert_eq!(rt; line.fault, None);
+    assert_eq!(rt; report.as_slice(), REPORT);
+    assert_eq!(rt; sent.as_slice(), UNDISTURBED.characters);
+    let mut script = SCRIPT;
+    let mut plan = b"".as_slice();
+    let mut told = Vec::new(rt.alloc());
+    let mut simulated = Vec::new(rt.alloc());
+    let answer = run_traced(
+        rt.alloc(),
+        &mut script,
+        &mut plan,
+        8,
+        0,
+        &mut told,
+        &mut simulated,
+    );
+    assert_eq!(rt; answer, ended(End::All));
+    assert_eq!(rt; trace.as_slice(), simulated.as_slice());
+}
+
+// Where the report or the trace can't be written the other end is told all the same that the host is done.
+#[test]
+fn a_failed_write_ends_the_session(rt: HostRuntime) {
+    for (report_room, trace_room) in [(3usize, 100usize), (REPORT.len(), 100), (REPORT.len(), 0)] {
+        let mut sent = Vec::new(rt.alloc());
+        let mut report = ShortWriter::new(rt.alloc(), report_room, true);
+        let mut trace = ShortWriter::new(rt.alloc(), trace_room, false);
+        let mut script = SCRIPT;
+        let (answer, _) = run_remote_traced::<Untold, _, _, _, _, _, _>(
+            rt.alloc(),
+            &mut script,
+            UNDISTURBED.levels,
+            &mut sent,
+            8,
+            0,
+            &mut report,
+            &mut trace,
+        );
+        let whole = report_room == REPORT.len();
+        let written = if whole { trace_room } else { report_room };
+        assert_eq!(rt;
+            answer,
+            Err(EngineFault::Write {
+                written: written as u64
+            })
+        );
+        assert_eq!(rt; report.taken(), &REPORT[..report_room]);
+        assert_eq!(rt; trace.taken().len(), if whole { trace_room } else { 0 });
+        assert_eq!(rt; sent.as_slice(), UNDISTURBED.characters);
+    }
+}
+
+// The same list as two calls, of which the second opens anew: it isn't what was recorded, so that nothing comes back.
+#[test]
+fn a_call_that_is_lost_is_the_last_one(rt: HostRuntime) {
+    let mut sent = Vec::new(rt.alloc());
+    let mut report = Vec::new(rt.alloc());
+    let mut script =
+        b"memory 20000000 16\nw 20000000 deadbeef\nverify 20000000 5\nnext\nr 20000000\nnext\nr 20000000\n".as_slice();
+    let (answer, line) = run_remote::<Untold, _, _, _, _, _>(
+        rt.alloc(),
+        &mut script,
+        UNDISTURBED.levels,
+        &mut sent,
+        8,
+        0,
+        &mut report,
+    );
+    let differs = Difference {
+        line: 3,
+        addr: 0x2000_0000,
+        expected: 5,
+        found: Answer::Value(0xdead_beef),
+    };
+    let finished = Finished {
+        ended: End::Lost,
+        differs: Some(differs),
+    };
+    assert_eq!(rt; answer, Ok(finished));
+    assert_eq!(rt; line.fault, Some(Fault::Ended));
+    assert_eq!(rt;
+        report.as_slice(),
+        b"w 20000000 written\nr 20000000 deadbeef\nend all 2\nend lost 0 begun 0\n".as_slice()
+    );
+}
+
+#[test]
+fn a_target_that_goes_away_is_told(rt: HostRuntime) {
+    // The last levels of the data phase that reads the word are missing, or none comes at all.
+    for (levels, text) in [
+        (
+            &UNDISTURBED.levels[..100],
+            b"end lost 0 begun 0\n".as_slice(),
+        ),
+        (
+            &UNDISTURBED.levels[..UNDISTURBED.levels.len() - 9],
+            b"w 20000000 written\nend lost 1 begun 1\n".as_slice(),
+        ),
+        (b"".as_slice(), b"end lost 0 begun 0\n".as_slice()),
+    ] {
+        let mut sent = Vec::new(rt.alloc());
+        let mut report = Vec::new(rt.alloc());
+        let mut script = SCRIPT;
+        let (answer, line) = run_remote::<Untold, _, _, _, _, _>(
+            rt.alloc(),
+            &mut script,
+            levels,
+            &mut sent,
+            8,
+            0,
+            &mut report,
+        );
+        let finished = Finished {
+            ended: End::Lost,
+            differs: None,
+        };
+        assert_eq!(rt; answer, Ok(finished));
+        assert_eq!(rt; line.fault, Some(Fault::Ended));
+        assert_eq!(rt; report.as_slice(), text);
+        assert!(rt; UNDISTURBED.characters.starts_with(sent.as_slice()));
+    }
+}
+
+#[test]
+fn a_script_at_fault_sends_nothing(rt: HostRuntime) {
+    let mut sent = Vec::new(rt.alloc());
+    let mut report = Vec::new(rt.alloc());
+    let mut script = b"w 20000000 deadbeef\n".as_slice();
+    let (answer, line) = run_remote::<Untold, _, _, _, _, _>(
+        rt.alloc(),
+        &mut script,
+        UNDISTURBED.levels,
+        &mut sent,
+        8,
+        0,
+        &mut report,
+    );
+    assert!(rt; matches!(&answer, Err(EngineFault::Script(_))));
+    assert_eq!(rt; line.fault, None);
+    assert!(rt; sent.as_slice().is_empty() && report.as_slice().is_empty());
+}

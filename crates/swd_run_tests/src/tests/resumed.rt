@@ -1,0 +1,194 @@
+//! Runs that are resumed at a lost acknowledgement.
+use super::{
+    NO_ACCESS, ONE_READ, ONE_WRITE, Ran, THREE_WAITS, TRIES, WORKED, WORKED_REPORT, ended,
+    resumed_on,
+};
+use linked_list_allocator::LocalHeap;
+use std::process::Abort;
+use std::test::Fail;
+use swd_host::End;
+use swd_run::{Finished, run_text, run_traced};
+use swd_text::{EngineFault, decode_text};
+
+// The DRW request of a first access is the eleventh: nine requests are the opening's, and one is TAR's.
+const LOST_WRITE: &[u8] = b".\n.\n.\n.\n.\n.\n.\n.\n.\n.\nmute 0\n";
+
+// A run ends so, after this report.
+fn comes_to<R: Abort>(rt: &R, run: &Ran, end: End, report: &[u8]) {
+    assert_eq!(rt; run.answer, ended(end));
+    assert_eq!(rt; run.text.as_slice(), report);
+}
+
+#[test]
+fn a_lost_write_is_resumed(rt: HostRuntime) {
+    let run = resumed_on(&rt, ONE_WRITE, LOST_WRITE, TRIES, 1);
+    let report = b"resume 0 begun 1\nw 20000000 written\nend all 1\n".as_slice();
+    comes_to(&rt, &run, End::All, report);
+    let run = resumed_on(&rt, ONE_WRITE, b"deaf\n".as_slice(), TRIES, 1);
+    let report = b"resume 0 begun 0\nw 20000000 written\nend all 1\n".as_slice();
+    comes_to(&rt, &run, End::All, report);
+    let run = resumed_on(&rt, NO_ACCESS, b"deaf\n".as_slice(), TRIES, 1);
+    comes_to(
+        &rt,
+        &run,
+        End::All,
+        b"resume 0 begun 0\nend all 0\n".as_slice(),
+    );
+}
+
+// The write is confirmed at the twelfth request, TAR is the thirteenth, and the read the fourteenth.
+#[test]
+fn a_run_goes_on_in_the_middle_of_its_list(rt: HostRuntime) {
+    for mark in [b"mute 0\n".as_slice(), b"mute 1\n", b"mute 2\n", b"deaf\n"] {
+        let mut plan = Vec::new(rt.alloc());
+        for _ in 0..13u8 {
+            assert!(rt; plan.extend_from_slice(b".\n").is_ok());
+        }
+        assert!(rt; plan.extend_from_slice(mark).is_ok());
+        let run = resumed_on(&rt, WORKED, plan.as_slice(), TRIES, 1);
+        let report = b"w 20000000 written\nresume 1 begun 1\nr 20000000 deadbeef\n\
+            r 20000004 00000000\nr 30000000 busfault\nend all 4\n"
+            .as_slice();
+        comes_to(&rt, &run, End::All, report);
+        let run = resumed_on(&rt, WORKED, plan.as_slice(), TRIES, 0);
+        let report = b"w 20000000 written\nend lost 1 begun 1\n".as_slice();
+        comes_to(&rt, &run, End::Lost, report);
+    }
+}
+
+// The first request of each of the two calls is lost.
+#[test]
+fn a_run_is_resumed_no_more_than_told(rt: HostRuntime) {
+    let plan = b"deaf\ndeaf\n".as_slice();
+    let run = resumed_on(&rt, ONE_WRITE, plan, TRIES, 0);
+    comes_to(&rt, &run, End::Lost, b"end lost 0 begun 0\n".as_slice());
+    let run = resumed_on(&rt, ONE_WRITE, plan, TRIES, 1);
+    let report = b"resume 0 begun 0\nend lost 0 begun 0\n".as_slice();
+    comes_to(&rt, &run, End::Lost, report);
+    for resumes in [2, 3, 1000, u32::MAX] {
+        let run = resumed_on(&rt, ONE_WRITE, plan, TRIES, resumes);
+        let report =
+            b"resume 0 begun 0\nresume 0 begun 0\nw 20000000 written\nend all 1\n".as_slice();
+        comes_to(&rt, &run, End::All, report);
+    }
+    // The write stays begun until it is answered.
+    let plan = b".\n.\n.\n.\n.\n.\n.\n.\n.\n.\nmute 0\ndeaf\n".as_slice();
+    let run = resumed_on(&rt, ONE_WRITE, plan, TRIES, 1);
+    let report = b"resume 0 begun 1\nend lost 0 begun 1\n".as_slice();
+    comes_to(&rt, &run, End::Lost, report);
+}
+
+// The twelfth request is the DRW read of the second word, and the thirteenth the RDBUFF read that brings it.
+#[test]
+fn a_lost_block_goes_on_with_its_reads(rt: HostRuntime) {
+    let script = b"memory 20000000 16\nblock 20000000 2\n".as_slice();
+    let plan = b".\n.\n.\n.\n.\n.\n.\n.\n.\n.\n.\nmute 0\n".as_slice();
+    let run = resumed_on(&rt, script, plan, TRIES, 1);
+    let report =
+        b"resume 0 begun 2\nr 20000000 00000000\nr 20000004 00000000\nend all 2\n".as_slice();
+    comes_to(&rt, &run, End::All, report);
+    let plan = b".\n.\n.\n.\n.\n.\n.\n.\n.\n.\n.\n.\ndeaf\n".as_slice();
+    let run = resumed_on(&rt, script, plan, TRIES, 1);
+    let report =
+        b"r 20000000 00000000\nresume 1 begun 1\nr 20000004 00000000\nend all 2\n".as_slice();
+    comes_to(&rt, &run, End::All, report);
+}
+
+#[test]
+fn only_a_lost_acknowledgement_is_resumed(rt: HostRuntime) {
+    let run = resumed_on(&rt, ONE_READ, THREE_WAITS, 2, 5);
+    comes_to(
+        &rt,
+        &run,
+        End::TriesOut,
+        b"end tries 0 begun 1\n".as_slice(),
+    );
+    let run = resumed_on(&rt, WORKED, b"".as_slice(), TRIES, 1000);
+    comes_to(&rt, &run, End::All, WORKED_REPORT);
+    // WAIT at a request that is never answered so does nothing; at the DRW read it is one event too many.
+    let run = resumed_on(&rt, ONE_READ, b"deaf\nwait\n".as_slice(), 0, 5);
+    comes_to(
+        &rt,
+        &run,
+        End::All,
+        b"resume 0 begun 0\nr 20000000 00000000\nend all 1\n".as_slice(),
+    );
+    let plan = b"deaf\n.\n.\n.\n.\n.\n.\n.\n.\n.\n.\nwait\n".as_slice();
+    let run = resumed_on(&rt, ONE_READ, plan, 0, 5);
+    let report = b"resume 0 begun 0\nend tries 0 begun 1\n".as_slice();
+    comes_to(&rt, &run, End::TriesOut, report);
+}
+
+// How many lines begin with one of these.
+fn lines_with(listing: &[u8], first: &[u8]) -> usize {
+    listing
+        .split(|byte| *byte == b'\n')
+        .filter(|line| line.starts_with(first))
+        .count()
+}
+
+// Eleven requests and twelve: the opening is done again, and TAR and the write are sent again, and confirmed.
+#[test]
+fn a_resumed_run_is_traced_whole(rt: HostRuntime) {
+    let mut script = ONE_WRITE;
+    let mut plan = LOST_WRITE;
+    let mut report = Vec::new(rt.alloc());
+    let mut trace = Vec::new(rt.alloc());
+    let answer = run_traced(
+        rt.alloc(),
+        &mut script,
+        &mut plan,
+        TRIES,
+        1,
+        &mut report,
+        &mut trace,
+    );
+    assert_eq!(rt; answer, ended(End::All));
+    assert_eq!(rt;
+        report.as_slice(),
+        b"resume 0 begun 1\nw 20000000 written\nend all 1\n".as_slice()
+    );
+    let mut text = trace.as_slice();
+    let mut listing = Vec::new(rt.alloc());
+    assert_eq!(rt; decode_text(&mut text, &mut listing), Ok(()));
+    let listing = listing.as_slice();
+    let transactions = lines_with(listing, b"dp ").saturating_add(lines_with(listing, b"ap "));
+    assert_eq!(rt; transactions, 23);
+    assert_eq!(rt; lines_with(listing, b"reset 100"), 1);
+    assert_eq!(rt; lines_with(listing, b"ap c write none 0"), 1);
+    assert_eq!(rt; lines_with(listing, b"ap c write ok deadbeef"), 1);
+}
+
+// Nothing is written where memory is refused, also where it is for a resumed run.
+#[test]
+fn a_resumed_run_where_memory_ends(rt: HostRuntime) -> Result<(), Fail> {
+    let whole = b"resume 0 begun 1\nw 20000000 written\nend all 1\n".as_slice();
+    let mut refused = false;
+    let mut done = false;
+    for size in 1..400usize {
+        let heap = LocalHeap::new(rt.alloc(), size * 16)?;
+        let mut script = b"memory 20000000 16\nroom 8\nw 20000000 deadbeef\n".as_slice();
+        let mut plan = LOST_WRITE;
+        let mut report = Vec::new(rt.alloc());
+        let answer = run_text(&heap, &mut script, &mut plan, TRIES, 1, &mut report);
+        match answer {
+            Ok(
+                Finished {
+                    ended: End::All,
+                    ..
+                },
+            ) => {
+                assert_eq!(rt; report.as_slice(), whole);
+                done = true;
+            }
+            Err(EngineFault::Memory) => {
+                assert!(rt; report.is_empty());
+                refused = true;
+            }
+            Err(_) | Ok(_) => assert!(rt; report.is_empty()),
+        }
+        assert_eq!(rt; heap.used(), 0);
+    }
+    assert!(rt; refused && done);
+    Ok(())
+}

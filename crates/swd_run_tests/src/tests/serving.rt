@@ -1,0 +1,203 @@
+use super::recorded::{DEAF, FLIPPED_READ, FLIPPED_WRITE, MUTE, Recorded, UNDISTURBED, WAITS};
+use std::alloc::Global;
+use std::cell::Cell;
+use std::io;
+use std::io::{Read, Write};
+use std::process::Abort;
+use std::test::Fail;
+use swd_bitbang::{Pins, Served, Trace, serve};
+use swd_clocked::MarkedClocked;
+use swd_fakes::{CountingWriter, FailingReader, ShortWriter, WatchingReader};
+use swd_port::Mark;
+use swd_target::{Memory, Quirks};
+
+const QUIRKS: Quirks = Quirks {
+    wrap: true,
+    late: false,
+    filler: 0,
+};
+
+// Takes one byte at a write.
+#[derive(Drop)]
+struct SlowWriter {
+    taken: Vec<u8>,
+}
+
+impl Write for SlowWriter {
+    fn write(&mut self, buf: &[u8]) -> io::Result<usize> {
+        match buf.first() {
+            Some(byte) => {
+                self.taken.push(*byte)?;
+                Ok(1)
+            }
+            None => Ok(0),
+        }
+    }
+
+    fn flush(&mut self) -> io::Result<()> {
+        Ok(())
+    }
+}
+
+// The pins at a target of sixteen words from 20000000, of whose requests this one meets the mark.
+fn pins_under(alloc: Global, request: usize, mark: Mark) -> Result<Pins, Fail> {
+    let memory = Memory::new(alloc, 0x2000_0000, 16, 16)?;
+    let mut plan = Vec::new(alloc);
+    for _ in 0..request {
+        plan.push(Mark::Clean)?;
+    }
+    if mark.legal() {
+        plan.push(mark)?;
+    }
+    if !plan.iter().all(|mark| mark.legal()) {
+        return Err(Fail::from("a mark is not legal"));
+    }
+    let target = MarkedClocked::new(memory, QUIRKS, plan);
+    Ok(Pins::new(target, Trace::new(alloc)))
+}
+
+fn plain_pins(alloc: Global) -> Result<Pins, Fail> {
+    pins_under(alloc, 0, Mark::Clean)
+}
+
+// What comes of a recorded session, through this reader.
+fn comes_out<R: Read>(
+    rt: &impl Abort,
+    alloc: Global,
+    session: &Recorded,
+    reader: &mut R,
+    served: Served,
+) -> Result<(), Fail> {
+    let pins = pins_under(alloc, session.request, session.mark)?;
+    let mut writer = SlowWriter {
+        taken: Vec::new(alloc),
+    };
+    let (ended, pins) = serve(reader, &mut writer, pins);
+    assert_eq!(rt; ended, served, "{}", session.name);
+    assert_eq!(rt; writer.taken.as_slice(), session.levels, "{}", session.name);
+    let (target, trace) = pins.into_parts();
+    assert_eq!(rt; target.cycles(), session.cycles, "{}", session.name);
+    assert_eq!(rt; target.requests(), session.requests, "{}", session.name);
+    assert_eq!(rt;
+        trace.text().len() as u64,
+        session.cycles,
+        "{}",
+        session.name
+    );
+    assert!(rt; !trace.is_cut());
+    Ok(())
+}
+
+// The same through each reader: whole, byte by byte, and without its end.
+fn comes_out_however_read(rt: &impl Abort, alloc: Global, session: &Recorded) -> Result<(), Fail> {
+    let mut whole = session.characters;
+    comes_out(rt, alloc, session, &mut whole, Served::Quit)?;
+    let mut bytes = FailingReader::new(session.characters, usize::MAX);
+    comes_out(rt, alloc, session, &mut bytes, Served::Quit)?;
+    let Some((_, begun)) = session.characters.split_last() else {
+        return Err(Fail::from("the session is empty"));
+    };
+    let mut begun = begun;
+    comes_out(rt, alloc, session, &mut begun, Served::Ended)
+}
+
+#[test]
+fn recorded_sessions_are_answered_as_they_were(rt: HostRuntime) -> Result<(), Fail> {
+    comes_out_however_read(&rt, rt.alloc(), &UNDISTURBED)?;
+    comes_out_however_read(&rt, rt.alloc(), &WAITS)?;
+    comes_out_however_read(&rt, rt.alloc(), &FLIPPED_READ)?;
+    comes_out_however_read(&rt, rt.alloc(), &FLIPPED_WRITE)?;
+    comes_out_however_read(&rt, rt.alloc(), &DEAF)?;
+    comes_out_however_read(&rt, rt.alloc(), &MUTE)
+}
+
+// What a text is answered by, and how it ends.
+fn answered(rt: &HostRuntime, text: &[u8]) -> Result<(Served, Vec<u8>, u64), Fail> {
+    let mut text = text;
+    let mut answers = Vec::new(rt.alloc());
+    let (served, pins) = serve(&mut text, &mut answers, plain_pins(rt.alloc())?);
+    let (target, _) = pins.into_parts();
+    Ok((served, answers, target.cycles()))
+}
+
+#[test]
+fn a_clock_goes_by_once(rt: HostRuntime) -> Result<(), Fail> {
+    // Each text, what is answered, and how many clocks went by.
+    let rows: [(&[u8], &[u8], u64); 9] = [
+        (b"", b"", 0),
+        // A host that drives sees its own level, and a look is no clock.
+        (b"cdcec", b"101", 0),
+        (b"ccegcdcec", b"11101", 1),
+        // One that leaves the line alone: at the first look, which stays until the clock falls.
+        (b"odccfccdf", b"1111", 2),
+        (b"odcfdcf", b"11", 2),
+        // Where it doesn't look first, at the rising edge.
+        (b"odfcdf", b"1", 2),
+        // A low level after a low level is no edge, nor a high one after a high one.
+        (b"odcececf", b"111", 1),
+        (b"egggdg", b"", 2),
+        // The lamp, the reset lines and the waits.
+        (b"BbrstuZz", b"", 0),
+    ];
+    for (text, levels, cycles) in rows {
+        let (served, answers, went_by) = answered(&rt, text)?;
+        assert_eq!(rt; served, Served::Ended);
+        assert_eq!(rt; answers.as_slice(), levels);
+        assert_eq!(rt; went_by, cycles);
+    }
+    Ok(())
+}
+
+#[test]
+fn a_session_ends_at_quit_and_at_a_bad_byte(rt: HostRuntime) -> Result<(), Fail> {
+    let (served, answers, _) = answered(&rt, b"cdcQcx")?;
+    assert_eq!(rt; served, Served::Quit);
+    assert_eq!(rt; answers.as_slice(), b"10".as_slice());
+    for byte in [b'0', b'7', b'R', b'x', b'\n', 0, 255] {
+        let text = [b'c', b'd', b'c', byte, b'c', b'Q'];
+        let (served, answers, _) = answered(&rt, text.as_slice())?;
+        assert_eq!(rt; served, Served::Bad { place: 3, byte });
+        assert_eq!(rt; answers.as_slice(), b"10".as_slice());
+    }
+    Ok(())
+}
+
+#[test]
+fn a_level_is_told_before_more_is_read(rt: HostRuntime) -> Result<(), Fail> {
+    let text = b"codcfdcfOeg".as_slice();
+    let taken = Cell::new(0);
+    let mut reader = WatchingReader::new(rt.alloc(), text, &taken);
+    let mut writer = CountingWriter { taken: &taken };
+    let (served, _) = serve(&mut reader, &mut writer, plain_pins(rt.alloc())?);
+    assert_eq!(rt; served, Served::Ended);
+    let noted = [0usize, 1, 1, 1, 2, 2, 2, 3, 3, 3, 3, 3];
+    assert_eq!(rt; reader.noted.as_slice(), noted.as_slice());
+    Ok(())
+}
+
+#[test]
+fn a_failed_read_ends_a_session(rt: HostRuntime) -> Result<(), Fail> {
+    for fails_at in 0..6usize {
+        let mut reader = FailingReader::new(b"cdcec", fails_at);
+        let mut answers = Vec::new(rt.alloc());
+        let (served, _) = serve(&mut reader, &mut answers, plain_pins(rt.alloc())?);
+        assert_eq!(rt; served, Served::Read);
+        assert_eq!(rt; answers.as_slice().len(), fails_at.div_ceil(2));
+    }
+    Ok(())
+}
+
+#[test]
+fn a_failed_write_ends_a_session(rt: HostRuntime) -> Result<(), Fail> {
+    for room in 0..3usize {
+        for fails in [false, true] {
+            let mut text = b"cdcec".as_slice();
+            let mut writer = ShortWriter::new(rt.alloc(), room, fails);
+            let (served, _) = serve(&mut text, &mut writer, plain_pins(rt.alloc())?);
+            let written = room as u64;
+            assert_eq!(rt; served, Served::Write { written });
+            assert_eq!(rt; writer.taken().len(), room);
+        }
+    }
+    Ok(())
+}

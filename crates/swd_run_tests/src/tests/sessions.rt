@@ -1,0 +1,177 @@
+//! Scripts of several calls, and reads whose words the script tells.
+use super::{Ran, TRIES, ended, resumed_on, run_on};
+use std::process::Abort;
+use swd_fakes::ShortWriter;
+use swd_host::End;
+use swd_port::Answer;
+use swd_run::{Difference, Finished, run_text, run_traced};
+use swd_text::{EngineFault, decode_text};
+
+// A write, the same word read by a block, and the word told.
+const CALLS: &[u8] = b"memory 20000000 16\nw 20000004 deadbeef\nnext\nblock 20000000 3\nnext\n\
+    verify 20000004 deadbeef\nr 30000000\n";
+
+const REPORTS: &[u8] = b"w 20000004 written\nend all 1\nr 20000000 00000000\nr 20000004 deadbeef\n\
+    r 20000008 00000000\nend all 3\nr 20000004 deadbeef\nr 30000000 busfault\nend all 2\n";
+
+// A run ends so, with this difference, after this report.
+fn differs<R: Abort>(rt: &R, run: &Ran, end: End, difference: Difference, report: &[u8]) {
+    let finished = Finished {
+        ended: end,
+        differs: Some(difference),
+    };
+    assert_eq!(rt; run.answer, Ok(finished));
+    assert_eq!(rt; run.text.as_slice(), report);
+}
+
+#[test]
+fn calls_follow_each_other_over_one_target(rt: HostRuntime) {
+    let run = run_on(&rt, CALLS, b"".as_slice(), TRIES);
+    assert_eq!(rt; run.answer, ended(End::All));
+    assert_eq!(rt; run.text.as_slice(), REPORTS);
+    // Power late, a WAIT and a changed bit in the first call, and a WAIT in each of the others.
+    let plan =
+        b".\n.\n.\n.\n.\nwait\n.\n.\n.\n.\nwait\nflip 7\n.\n.\n.\n.\n.\n.\n.\n.\n.\n.\n.\n.\n.\n.\nwait\n\
+        .\n.\n.\n.\n.\n.\n.\n.\n.\n.\n.\nwait\nwait\n"
+            .as_slice();
+    let run = run_on(&rt, CALLS, plan, TRIES);
+    assert_eq!(rt; run.answer, ended(End::All));
+    assert_eq!(rt; run.text.as_slice(), REPORTS);
+}
+
+// A call of no accesses is its opening.
+#[test]
+fn a_call_may_be_empty(rt: HostRuntime) {
+    let script = b"memory 20000000 1\nnext\nnext\nr 20000000\nnext\n".as_slice();
+    let run = run_on(&rt, script, b"".as_slice(), TRIES);
+    assert_eq!(rt; run.answer, ended(End::All));
+    assert_eq!(rt;
+        run.text.as_slice(),
+        b"end all 0\nend all 0\nr 20000000 00000000\nend all 1\nend all 0\n".as_slice()
+    );
+}
+
+// The opening is nine requests, and eleven end the first call. The first request of the second is lost.
+#[test]
+fn a_call_that_stops_is_the_last_one(rt: HostRuntime) {
+    let lost = b".\n.\n.\n.\n.\n.\n.\n.\n.\n.\n.\n.\ndeaf\n".as_slice();
+    let run = run_on(&rt, CALLS, lost, TRIES);
+    assert_eq!(rt; run.answer, ended(End::Lost));
+    assert_eq!(rt;
+        run.text.as_slice(),
+        b"w 20000004 written\nend all 1\nend lost 0 begun 0\n".as_slice()
+    );
+    let run = resumed_on(&rt, CALLS, lost, TRIES, 1);
+    assert_eq!(rt; run.answer, ended(End::All));
+    assert_eq!(rt;
+        run.text.as_slice(),
+        b"w 20000004 written\nend all 1\nresume 0 begun 0\nr 20000000 00000000\nr 20000004 deadbeef\n\
+        r 20000008 00000000\nend all 3\nr 20000004 deadbeef\nr 30000000 busfault\nend all 2\n"
+            .as_slice()
+    );
+    let waits = b"wait\nwait\nwait\nwait\nwait\nwait\nwait\nwait\nwait\nwait\n\
+        wait\nwait\nwait\nwait\nwait\nwait\nwait\nwait\nwait\nwait\n"
+        .as_slice();
+    let run = run_on(&rt, CALLS, waits, 1);
+    assert_eq!(rt; run.answer, ended(End::TriesOut));
+    assert_eq!(rt; run.text.as_slice(), b"end tries 0 begun 0\n".as_slice());
+}
+
+// Each call may be resumed as often as is told.
+#[test]
+fn each_call_is_resumed_by_itself(rt: HostRuntime) {
+    let script = b"memory 20000000 1\nnext\n".as_slice();
+    let plan = b"deaf\n.\n.\n.\n.\n.\n.\n.\n.\n.\ndeaf\n".as_slice();
+    let run = resumed_on(&rt, script, plan, TRIES, 1);
+    assert_eq!(rt; run.answer, ended(End::All));
+    assert_eq!(rt;
+        run.text.as_slice(),
+        b"resume 0 begun 0\nend all 0\nresume 0 begun 0\nend all 0\n".as_slice()
+    );
+}
+
+#[test]
+fn the_first_word_that_differs_is_told(rt: HostRuntime) {
+    let script = b"memory 20000000 16\n# words\nw 20000000 5\nverify 20000000 5\nnext\n\
+        verify 20000004 0\nverify 20000000 6\nnext\nverify 20000000 7\n"
+        .as_slice();
+    let run = run_on(&rt, script, b"".as_slice(), TRIES);
+    let report = b"w 20000000 written\nr 20000000 00000005\nend all 2\nr 20000004 00000000\n\
+        r 20000000 00000005\nend all 2\nr 20000000 00000005\nend all 1\n"
+        .as_slice();
+    let difference = Difference {
+        line: 7,
+        addr: 0x2000_0000,
+        expected: 6,
+        found: Answer::Value(5),
+    };
+    differs(&rt, &run, End::All, difference, report);
+}
+
+#[test]
+fn a_bus_error_is_not_the_word(rt: HostRuntime) {
+    let script = b"memory 20000000 1\nverify 30000000 0\n".as_slice();
+    let run = run_on(&rt, script, b"".as_slice(), TRIES);
+    let difference = Difference {
+        line: 2,
+        addr: 0x3000_0000,
+        expected: 0,
+        found: Answer::BusFault,
+    };
+    let report = b"r 30000000 busfault\nend all 1\n".as_slice();
+    differs(&rt, &run, End::All, difference, report);
+}
+
+// A word that wasn't read differs from none; the run tells that it wasn't.
+#[test]
+fn a_read_without_an_answer_does_not_differ(rt: HostRuntime) {
+    let script = b"memory 20000000 1\nr 20000000\nverify 20000000 5\n".as_slice();
+    let run = run_on(&rt, script, b"deaf\n".as_slice(), TRIES);
+    assert_eq!(rt; run.answer, ended(End::Lost));
+    assert_eq!(rt; run.text.as_slice(), b"end lost 0 begun 0\n".as_slice());
+}
+
+// The trace goes on from call to call: each has its opening.
+#[test]
+fn the_trace_is_that_of_all_calls(rt: HostRuntime) {
+    let mut script = CALLS;
+    let mut plan = b"".as_slice();
+    let mut report = Vec::new(rt.alloc());
+    let mut trace = Vec::new(rt.alloc());
+    let answer = run_traced(
+        rt.alloc(),
+        &mut script,
+        &mut plan,
+        TRIES,
+        0,
+        &mut report,
+        &mut trace,
+    );
+    assert_eq!(rt; answer, ended(End::All));
+    assert_eq!(rt; report.as_slice(), REPORTS);
+    let mut text = trace.as_slice();
+    let mut listing = Vec::new(rt.alloc());
+    assert_eq!(rt; decode_text(&mut text, &mut listing), Ok(()));
+    let openings = listing
+        .as_slice()
+        .split(|byte| *byte == b'\n')
+        .filter(|line| line.starts_with(b"switch"))
+        .count();
+    assert_eq!(rt; openings, 3);
+}
+
+// A writer that takes so many bytes, and then none, in whichever call's report.
+#[test]
+fn a_writer_that_fails_has_the_first_bytes_of_all_reports(rt: HostRuntime) {
+    for fails in [false, true] {
+        for room in 0..REPORTS.len() {
+            let mut script = CALLS;
+            let mut plan = b"".as_slice();
+            let mut writer = ShortWriter::new(rt.alloc(), room, fails);
+            let answer = run_text(rt.alloc(), &mut script, &mut plan, TRIES, 0, &mut writer);
+            let written = room as u64;
+            assert_eq!(rt; answer, Err(EngineFault::Write { written }));
+            assert_eq!(rt; writer.taken(), &REPORTS[..room]);
+        }
+    }
+}

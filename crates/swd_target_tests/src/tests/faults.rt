@@ -1,0 +1,157 @@
+//! Cycles with FAULT, with damaged data, and with ones where they are no line reset of their own.
+use super::parts::{Part, failing};
+use std::alloc::Global;
+use std::test::Fail;
+use swd_clocked::Clocked;
+use swd_target::{Memory, Quirks};
+
+// A new target with one word.
+fn target(alloc: Global) -> Result<Clocked, Fail> {
+    let quirks = Quirks {
+        wrap: true,
+        late: false,
+        filler: 0,
+    };
+    Ok(Clocked::new(Memory::new(alloc, 0x2000_0000, 1, 1)?, quirks))
+}
+
+// A DPIDR read, and its answer.
+const DPIDR: Part = Part::Sent(b"10100101");
+
+const IDENTIFIED: Part = Part::Seen(b"11001110111000101000000001011101010001");
+
+// A turnaround, OK, and the turnaround before a write's data; a turnaround, FAULT and a turnaround; and an
+// undriven line.
+const OKAY: Part = Part::Seen(b"11001");
+
+const FAULT: Part = Part::Seen(b"10011");
+
+const SILENCE: Part = Part::Seen(b"1111");
+
+const CTRL_STAT: Part = Part::Sent(b"10110001");
+
+const ABORT: Part = Part::Sent(b"10000001");
+
+const SELECT: Part = Part::Sent(b"10001101");
+
+const LOW: Part = Part::Sent(b"0");
+
+// Without power an access port faults, which sets STICKYERR; every request that isn't exempt faults then,
+// until ABORT clears it.
+const FAULTS: [Part; 17] = [
+    Part::Ones(50),
+    LOW,
+    DPIDR,
+    IDENTIFIED,
+    // CSW's read.
+    Part::Sent(b"11100001"),
+    FAULT,
+    CTRL_STAT,
+    Part::Seen(b"11000000010000000000000000000000000011"),
+    // RDBUFF's read.
+    Part::Sent(b"10111101"),
+    FAULT,
+    SELECT,
+    FAULT,
+    ABORT,
+    OKAY,
+    Part::Sent(b"001000000000000000000000000000001"),
+    CTRL_STAT,
+    Part::Seen(b"11000000000000000000000000000000000001"),
+];
+
+// A write whose parity is wrong isn't done, and sets WDATAERR, ABORT's too.
+const DAMAGED: [Part; 20] = [
+    Part::Ones(50),
+    LOW,
+    DPIDR,
+    IDENTIFIED,
+    SELECT,
+    OKAY,
+    // 00000001, which would leave CTRL/STAT's bank.
+    Part::Sent(b"100000000000000000000000000000000"),
+    CTRL_STAT,
+    Part::Seen(b"11000000000100000000000000000000000011"),
+    SELECT,
+    FAULT,
+    ABORT,
+    OKAY,
+    Part::Sent(b"000100000000000000000000000000000"),
+    CTRL_STAT,
+    Part::Seen(b"11000000000100000000000000000000000011"),
+    ABORT,
+    OKAY,
+    Part::Sent(b"000100000000000000000000000000001"),
+    CTRL_STAT,
+];
+
+#[test]
+fn a_fault_is_driven_until_it_is_cleared(rt: HostRuntime) -> Result<(), Fail> {
+    let mut target = target(rt.alloc())?;
+    assert_eq!(rt; failing(&mut target, &FAULTS), None);
+    Ok(())
+}
+
+#[test]
+fn damaged_data_is_not_written(rt: HostRuntime) -> Result<(), Fail> {
+    let mut target = target(rt.alloc())?;
+    assert_eq!(rt; failing(&mut target, &DAMAGED), None);
+    let cleared = [Part::Seen(b"11000000000000000000000000000000000001")];
+    assert_eq!(rt; failing(&mut target, &cleared), None);
+    Ok(())
+}
+
+// What a host sends after a line reset, and the least number of ones behind it that are a line reset again.
+const BEFORE: [(&[Part], u32); 7] = [
+    (&[LOW], 50),
+    // The switch is passed over, with its last three ones.
+    (&[Part::Sent(b"0111100111100111")], 50),
+    // Its last bit, or its tenth, is another one. The first nine are idle and a broken request, whose two
+    // last ones count.
+    (&[Part::Sent(b"0111100111100110")], 50),
+    (&[Part::Sent(b"011110011")], 48),
+    // DPIDR's request with wrong parity: its last bit counts.
+    (&[LOW, Part::Sent(b"10100001")], 49),
+    // Eight ones are a broken request.
+    (&[LOW, Part::Sent(b"11111111")], 42),
+    // A request that isn't answered: its last bit counts, and so do four cycles that nobody drives.
+    (&[LOW, CTRL_STAT, SILENCE], 45),
+];
+
+// One less, and DPIDR isn't answered.
+#[test]
+fn ones_of_broken_requests_count(rt: HostRuntime) -> Result<(), Fail> {
+    for (before, least) in BEFORE {
+        for ones in [least - 1, least] {
+            let mut target = target(rt.alloc())?;
+            assert_eq!(rt; failing(&mut target, &[Part::Ones(50)]), None);
+            assert_eq!(rt; failing(&mut target, before), None, "{least}");
+            let answer = if ones == least { IDENTIFIED } else { SILENCE };
+            let after = [Part::Ones(ones), LOW, DPIDR, answer];
+            assert_eq!(rt; failing(&mut target, &after), None, "{least} {ones}");
+        }
+    }
+    Ok(())
+}
+
+// Write data that is awaited is taken from the ones of a line reset: 33 of them, whose parity is wrong.
+#[test]
+fn ones_fill_a_write_that_is_awaited(rt: HostRuntime) -> Result<(), Fail> {
+    let begun = [Part::Ones(50), LOW, DPIDR, IDENTIFIED, SELECT, OKAY];
+    let damaged = [
+        LOW,
+        DPIDR,
+        IDENTIFIED,
+        CTRL_STAT,
+        Part::Seen(b"11000000000100000000000000000000000011"),
+    ];
+    let mut short = target(rt.alloc())?;
+    assert_eq!(rt; failing(&mut short, &begun), None);
+    let after = [Part::Ones(82), LOW, DPIDR, SILENCE];
+    assert_eq!(rt; failing(&mut short, &after), None);
+    let mut long = target(rt.alloc())?;
+    assert_eq!(rt; failing(&mut long, &begun), None);
+    assert_eq!(rt; failing(&mut long, &[Part::Ones(83)]), None);
+    assert_eq!(rt; failing(&mut long, &damaged), None);
+    Ok(())
+}

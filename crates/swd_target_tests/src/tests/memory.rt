@@ -1,0 +1,215 @@
+//! A memory is made, or refused.
+use linked_list_allocator::LocalHeap;
+use std::alloc::Global;
+use std::test::Fail;
+use swd_bits::data_bits;
+use swd_port::{Access, Answer, Register, Transfer};
+use swd_target::port::Target;
+use swd_target::{MakeFault, Memory, Quirks};
+
+#[test]
+fn a_memory_is_made_or_refused_in_order(rt: HostRuntime) {
+    let cases = [
+        (0x2000_0002, 0, Some(MakeFault::Base)),
+        (0xffff_fffe, 16, Some(MakeFault::Base)),
+        (0xffff_fffc, 0, Some(MakeFault::Empty)),
+        (0x2000_0000, 0, Some(MakeFault::Empty)),
+        (0xffff_fffc, 2, Some(MakeFault::Range)),
+        (0x0000_0004, 0x4000_0000, Some(MakeFault::Range)),
+        (0xffff_fffc, 1, None),
+        (0x2000_0000, 16, None),
+    ];
+    for (base, words, fault) in cases {
+        let made = Memory::new(rt.alloc(), base, words, 0).err();
+        assert_eq!(rt; made, fault);
+    }
+}
+
+#[test]
+fn a_memory_begins_with_zero_words_and_an_empty_log(rt: HostRuntime) {
+    let Ok(memory) = Memory::new(rt.alloc(), 0x2000_0000, 16, 16) else {
+        panic!(rt; "no memory");
+    };
+    for (addr, word) in [
+        (0x2000_0000, Some(0)),
+        (0x2000_003c, Some(0)),
+        (0x2000_0002, None),
+        (0x2000_0040, None),
+        (0x1fff_fffc, None),
+    ] {
+        assert_eq!(rt; memory.word(addr), word);
+    }
+    assert!(rt; memory.log().is_empty());
+}
+
+#[test]
+fn a_memory_is_made_at_its_greatest_use(rt: HostRuntime) {
+    let Ok(memory) = Memory::new(rt.alloc(), 0x2000_0000, 65_536, 65_536) else {
+        panic!(rt; "no memory");
+    };
+    for (addr, word) in [(0x2003_fffc, Some(0)), (0x2004_0000, None)] {
+        assert_eq!(rt; memory.word(addr), word);
+    }
+}
+
+// A memory may be larger than a script's: each of these words is written, and there is no room for more.
+#[test]
+fn a_memory_of_more_than_65536_words_and_transfers(rt: HostRuntime) -> Result<(), Fail> {
+    let memory = Memory::new(rt.alloc(), 0x2000_0000, 70_000, 70_000)?;
+    let quirks = Quirks {
+        wrap: false,
+        late: false,
+        filler: 0,
+    };
+    let mut target = Target::new(memory, quirks);
+    target.arrive(Register::CswWrite, data_bits(0x2300_0012));
+    target.arrive(Register::TarWrite, data_bits(0x2000_0000));
+    for word in 1..=70_000u32 {
+        target.arrive(Register::DrwWrite, data_bits(word));
+    }
+    target.arrive(Register::TarWrite, data_bits(0x2000_0000));
+    target.arrive(Register::DrwWrite, data_bits(7));
+    let memory = target.memory();
+    assert_eq!(rt; memory.log().len(), 70_000);
+    for (addr, word) in [
+        (0x2000_0000, Some(1)),
+        (0x2003_fffc, Some(65_536)),
+        (0x2004_0000, Some(65_537)),
+        (0x2004_45bc, Some(70_000)),
+        (0x2004_45c0, None),
+    ] {
+        assert_eq!(rt; memory.word(addr), word);
+    }
+    Ok(())
+}
+
+// The words have 64 bytes, and the log more: a small heap refuses the words, a larger one the log
+// alone, and what a refused memory took is given back.
+#[test]
+fn each_part_of_a_memory_is_refused(rt: HostRuntime) -> Result<(), Fail> {
+    let mut refused = 0u32;
+    for size in 1..60usize {
+        let heap = LocalHeap::new(rt.alloc(), size * 16)?;
+        match Memory::new(&heap, 0x2000_0000, 16, 16) {
+            Ok(memory) => {
+                assert_eq!(rt; memory.word(0x2000_003c), Some(0));
+                assert!(rt; memory.log().is_empty());
+            }
+            Err(fault) => {
+                assert_eq!(rt; fault, MakeFault::Memory);
+                assert_eq!(rt; heap.used(), 0);
+                refused = refused.saturating_add(1);
+            }
+        }
+    }
+    assert!(rt; refused > 4);
+    assert!(rt; refused < 59);
+    Ok(())
+}
+
+// What is wrong with the numbers is told before any memory is taken.
+#[test]
+fn numbers_are_refused_before_memory(rt: HostRuntime) -> Result<(), Fail> {
+    let heap = LocalHeap::new(rt.alloc(), 16)?;
+    for (base, words, fault) in [
+        (0x2000_0002, 16, MakeFault::Base),
+        (0x2000_0000, 0, MakeFault::Empty),
+        (0xffff_fffc, 2, MakeFault::Range),
+        (0x2000_0000, 16, MakeFault::Memory),
+    ] {
+        assert_eq!(rt; Memory::new(&heap, base, words, 16).err(), Some(fault));
+    }
+    Ok(())
+}
+
+// Elsewhere there is one word, and room for one transfer.
+#[test]
+fn a_window_makes_one_transfer(rt: HostRuntime) {
+    let mut window = Memory::<Global>::window(0x2000_0004, Some(7));
+    for (addr, word) in [
+        (0x2000_0004, Some(7)),
+        (0x2000_0000, None),
+        (0x2000_0008, None),
+    ] {
+        assert_eq!(rt; window.word(addr), word);
+    }
+    assert_eq!(rt;
+        window.transfer(Access::Read(0x2000_0000)),
+        Answer::BusFault
+    );
+    assert!(rt; window.log().is_empty());
+    assert!(rt; window.is_ready(0x2000_0004));
+    assert_eq!(rt;
+        window.transfer(Access::Write(0x2000_0004, 9)),
+        Answer::Written
+    );
+    assert_eq!(rt; window.word(0x2000_0004), Some(9));
+    let done = Transfer {
+        read: false,
+        addr: 0x2000_0004,
+        word: 9,
+    };
+    assert_eq!(rt; window.log(), [done].as_slice());
+    assert!(rt; !window.is_ready(0x2000_0004));
+    assert_eq!(rt;
+        window.transfer(Access::Read(0x2000_0004)),
+        Answer::BusFault
+    );
+
+    let mut window = Memory::<Global>::window(0x2000_0004, Some(7));
+    assert_eq!(rt;
+        window.transfer(Access::Read(0x2000_0004)),
+        Answer::Value(7)
+    );
+    assert_eq!(rt; window.log().len(), 1);
+
+    let mut none = Memory::<Global>::window(0x2000_0004, None);
+    assert!(rt; !none.is_ready(0x2000_0004));
+    assert_eq!(rt;
+        none.transfer(Access::Write(0x2000_0004, 9)),
+        Answer::BusFault
+    );
+}
+
+// The numbers of a target give it back, over any memory, and zeros are those of none.
+#[test]
+fn a_target_is_given_back_by_its_numbers(rt: HostRuntime) {
+    let quirks = Quirks {
+        wrap: true,
+        late: true,
+        filler: 0xa5a5_a5a5,
+    };
+    let mut target = Target::new(Memory::<Global>::window(0, None), quirks);
+    let fresh = target.fields();
+    target.line_reset(false);
+    target.arrive(Register::CtrlStatWrite, data_bits(0x5000_0000));
+    target.arrive(Register::SelectWrite, data_bits(0xab00_00cd));
+    target.arrive(Register::CswWrite, data_bits(0x2300_0012));
+    target.arrive(Register::TarWrite, data_bits(0x2000_0004));
+    target.arrive(Register::DrwWrite, data_bits(0x1234_5678));
+    let fields = target.fields();
+    assert!(rt; fields != fresh);
+    let mut again = fields.target(Memory::<Global>::window(0x2000_0004, Some(0)));
+    assert_eq!(rt; again.fields(), fields);
+    again.complete();
+    let memory = again.memory();
+    assert_eq!(rt; memory.word(0x2000_0004), Some(0x1234_5678));
+    assert_eq!(rt; again.fields().tar.word, 0x2000_0008);
+
+    let mut none = fresh;
+    none.reset = 0;
+    assert!(rt; none.target(Memory::<Global>::window(0, None)).fields() != none);
+}
+
+#[test]
+fn faults_say_why_there_is_no_memory(rt: HostRuntime) -> Result<(), Fail> {
+    for (fault, words) in [
+        (MakeFault::Memory, "out of memory for the words or the log"),
+        (MakeFault::Base, "the first address is no multiple of 4"),
+        (MakeFault::Range, "the words go past 2^32"),
+        (MakeFault::Empty, "no words"),
+    ] {
+        assert_eq!(rt; format!(in rt.alloc(); "{fault}")?.as_str(), words);
+    }
+    Ok(())
+}

@@ -1,0 +1,27 @@
+//! Worked values of the wire and of traces, what simulated targets do, and what hosts do over them.
+mod accesses;
+mod bits;
+mod blocks;
+mod bursts;
+mod damage;
+mod decoder;
+mod encoder;
+mod engine;
+mod host_words;
+mod hostile;
+mod items;
+mod late_power;
+mod listing;
+mod losses;
+mod order;
+mod recorder;
+mod refusals;
+mod replies;
+mod resume;
+mod resumed;
+mod row;
+mod sessions;
+mod steps;
+mod tables;
+mod target;
+mod unlawful;

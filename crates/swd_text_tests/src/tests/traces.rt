@@ -1,0 +1,380 @@
+//! The engines on worked texts, with failing readers and writers, and with memory refused.
+use linked_list_allocator::LocalHeap;
+use std::cell::Cell;
+use std::io::Read;
+use std::test::Fail;
+use swd_bits::{OneFault, one_text};
+use swd_fakes::{CountingWriter, FailingReader, ShortWriter, WatchingReader};
+use swd_text::{EngineFault, TextFault, decode_text, encode_text};
+use swd_trace::ListFault;
+
+// Forty-nine ones and a zero; fifty ones and a zero; a line reset, the switch, and a line reset again.
+const FORTY_NINE: &[u8] = b"11111111111111111111111111111111111111111111111110";
+
+const FIFTY: &[u8] = b"111111111111111111111111111111111111111111111111110";
+
+const BRING_UP: &[u8] = b"11111111111111111111111111111111111111111111111111111111\
+    0111100111100111\
+    11111111111111111111111111111111111111111111111111111111\
+    00";
+
+pub(super) const DPIDR_READ: &[u8] = b"10100101 1 100 11101110001010000000010111010100 0 1";
+
+pub(super) const DPIDR_LINE: &[u8] = b"dp 0 read ok 2ba01477\n";
+
+// Traces and their listings.
+const LISTED: [(&[u8], &[u8]); 9] = [
+    (b"", b""),
+    (DPIDR_READ, DPIDR_LINE),
+    (
+        b"11111111111111111111111111111111111111111111111111 0111",
+        b"reset 50\nidle 1\ncut 111\n",
+    ),
+    (
+        b"10100101 1 100 11101110001010000000010111010100 0",
+        b"cut 101001011100111011100010100000000101110101000\n",
+    ),
+    (
+        b"10100101 1 100 01101110001010000000010111010100 0 1",
+        b"dp 0 read bad 2ba01476\n",
+    ),
+    (
+        b"10100101 1 111 000",
+        b"dp 0 read none 7\njunk 0\njunk 0\njunk 0\n",
+    ),
+    (
+        b"11111111111111111111111111111111111111111111111111111111 0111100111100111\n\
+          11111111111111111111111111111111111111111111111111111111 00 # up",
+        b"reset 56\nswitch\nreset 56\nidle 2\n",
+    ),
+    (
+        b"10100101 1 010 1 10000001 1 001 1 00",
+        b"dp 0 read wait\ndp 0 write fault\nidle 2\n",
+    ),
+    // Long enough that digits are taken many at once, up to a comment of digits and after it.
+    (
+        b"1010010111001110111000101000000001011101010001\
+          1010010111001110111000101000000001011101010001#\
+          1111111111111111111111111111111111111111111111111111111111111111\n\
+          0000000000000000000000000000000000000000000000000000000000000000\
+          000000101001011100",
+        b"dp 0 read ok 2ba01477\ndp 0 read ok 2ba01477\nidle 70\ncut 101001011100\n",
+    ),
+];
+
+#[test]
+fn traces_have_their_listings(rt: HostRuntime) -> Result<(), Fail> {
+    for (trace, listing) in LISTED {
+        let mut reader = trace;
+        let mut out = Vec::new(rt.alloc());
+        assert_eq!(rt; decode_text(&mut reader, &mut out), Ok(()));
+        assert_eq!(rt; out.as_slice(), listing);
+        // The listing's own trace is listed so again.
+        let mut reader = listing;
+        let mut again = Vec::new(rt.alloc());
+        assert_eq!(rt; encode_text(rt.alloc(), &mut reader, &mut again), Ok(()));
+        let mut reader = again.as_slice();
+        let mut out = Vec::new(rt.alloc());
+        assert_eq!(rt; decode_text(&mut reader, &mut out), Ok(()));
+        assert_eq!(rt; out.as_slice(), listing);
+    }
+    Ok(())
+}
+
+#[test]
+fn listings_have_their_traces(rt: HostRuntime) {
+    for (listing, trace) in [
+        (b"idle 2\ncut 1".as_slice(), b"00\n1\n".as_slice()),
+        (
+            DPIDR_LINE,
+            b"1010010111001110111000101000000001011101010001\n",
+        ),
+        (
+            b"dp 0 write ok 0000001e\n",
+            b"1000000111001011110000000000000000000000000000\n",
+        ),
+    ] {
+        let mut reader = listing;
+        let mut out = Vec::new(rt.alloc());
+        assert_eq!(rt; encode_text(rt.alloc(), &mut reader, &mut out), Ok(()));
+        assert_eq!(rt; out.as_slice(), trace);
+    }
+}
+
+#[test]
+fn listings_at_fault_write_nothing(rt: HostRuntime) {
+    for (listing, fault) in [
+        (
+            b"cut 1\nidle 1\n".as_slice(),
+            ListFault::NotNormal { line: 1 },
+        ),
+        (
+            b"dp 0 read none 7\nidle 1\n",
+            ListFault::NotNormal { line: 2 },
+        ),
+        (
+            b"reset 50\nswitch\nidle 1\n",
+            ListFault::NotNormal { line: 3 },
+        ),
+        (b"idle 01\n", ListFault::BadLine { line: 1 }),
+        (b"idle 1\n\n", ListFault::BadLine { line: 2 }),
+    ] {
+        let mut reader = listing;
+        let mut out = Vec::new(rt.alloc());
+        let answer = encode_text(rt.alloc(), &mut reader, &mut out);
+        assert_eq!(rt; answer, Err(EngineFault::List(fault)));
+        assert!(rt; out.is_empty());
+    }
+}
+
+#[test]
+fn a_bad_character_ends_a_listing(rt: HostRuntime) -> Result<(), Fail> {
+    for (trace, place, listing) in [
+        (b"10x".as_slice(), 2, b"".as_slice()),
+        (
+            b"11111111111111111111111111111111111111111111111111 0x",
+            52,
+            b"reset 50\n",
+        ),
+        (b"# x\n2", 4, b""),
+    ] {
+        let mut reader = trace;
+        let mut out = Vec::new(rt.alloc());
+        let answer = decode_text(&mut reader, &mut out);
+        assert_eq!(rt;
+            answer,
+            Err(EngineFault::Text(TextFault::BadChar { place }))
+        );
+        assert_eq!(rt; out.as_slice(), listing);
+    }
+    Ok(())
+}
+
+#[test]
+fn one_transaction_at_each_read_that_fails(rt: HostRuntime) {
+    for i in 0..=DPIDR_READ.len() {
+        let mut reader = FailingReader::new(DPIDR_READ, i);
+        let mut out = Vec::new(rt.alloc());
+        assert_eq!(rt;
+            one_text(&mut reader, &mut out),
+            Err(OneFault::Read),
+            "at read {i}"
+        );
+        assert!(rt; out.is_empty());
+    }
+    let mut reader = FailingReader::new(b"x", 1);
+    let mut out = Vec::new(rt.alloc());
+    assert_eq!(rt;
+        one_text(&mut reader, &mut out),
+        Err(OneFault::BadChar { place: 0 })
+    );
+}
+
+#[test]
+fn one_transaction_at_each_write_that_fails(rt: HostRuntime) {
+    for fails in [false, true] {
+        for room in 0..DPIDR_LINE.len() {
+            let mut writer = ShortWriter::new(rt.alloc(), room, fails);
+            let mut reader = DPIDR_READ;
+            let answer = one_text(&mut reader, &mut writer);
+            assert_eq!(rt; answer, Err(OneFault::Write), "after {room} bytes");
+            assert_eq!(rt; writer.taken(), &DPIDR_LINE[..room]);
+        }
+    }
+}
+
+// A reset, a zero that ends it, and the beginning of a request.
+const RESET: &[u8] = b"111111111111111111111111111111111111111111111111110101";
+
+#[test]
+fn decoding_at_each_read_that_fails(rt: HostRuntime) {
+    for i in 0..=RESET.len() {
+        let mut reader = FailingReader::new(RESET, i);
+        let mut out = Vec::new(rt.alloc());
+        assert_eq!(rt;
+            decode_text(&mut reader, &mut out),
+            Err(EngineFault::Read),
+            "at read {i}"
+        );
+        // The zero ends the reset. Directly after it 01 may go on as a switch, and 010 not.
+        let lines = match i {
+            0..=50 => b"".as_slice(),
+            51 | 52 => b"reset 50\n".as_slice(),
+            _ => b"reset 50\nidle 1\n".as_slice(),
+        };
+        assert_eq!(rt; out.as_slice(), lines, "at read {i}");
+    }
+}
+
+#[test]
+fn encoding_at_each_read_that_fails(rt: HostRuntime) {
+    let listing = b"reset 50\nidle 2\n";
+    for i in 0..=listing.len() {
+        let mut reader = FailingReader::new(listing, i);
+        let mut out = Vec::new(rt.alloc());
+        let answer = encode_text(rt.alloc(), &mut reader, &mut out);
+        assert_eq!(rt; answer, Err(EngineFault::Read), "at read {i}");
+        assert!(rt; out.is_empty());
+    }
+}
+
+#[test]
+fn decoding_at_each_write_that_fails(rt: HostRuntime) {
+    let lines = b"reset 50\nidle 1\ncut 101\n";
+    for fails in [false, true] {
+        for room in 0..lines.len() {
+            let mut writer = ShortWriter::new(rt.alloc(), room, fails);
+            let mut reader = RESET;
+            let answer = decode_text(&mut reader, &mut writer);
+            let written = room as u64;
+            assert_eq!(rt; answer, Err(EngineFault::Write { written }));
+            assert_eq!(rt; writer.taken(), &lines[..room]);
+        }
+    }
+}
+
+#[test]
+fn decoding_more_than_a_block_where_a_write_fails(rt: HostRuntime) -> Result<(), Fail> {
+    // More lines than a block holds.
+    let mut trace = Vec::new(rt.alloc());
+    trace.extend_from_slice(b"10100101 1 111 ")?;
+    let mut lines = Vec::new(rt.alloc());
+    lines.extend_from_slice(b"dp 0 read none 7\n")?;
+    for _ in 0..5000u16 {
+        trace.extend_from_slice(b"0")?;
+        lines.extend_from_slice(b"junk 0\n")?;
+    }
+    for fails in [false, true] {
+        for room in [0, 1, 16, 17, 18, 7000, 32767, 32768, 32769, 35016] {
+            let mut writer = ShortWriter::new(rt.alloc(), room, fails);
+            let mut reader = trace.as_slice();
+            let answer = decode_text(&mut reader, &mut writer);
+            let written = room as u64;
+            assert_eq!(rt; answer, Err(EngineFault::Write { written }));
+            assert!(rt; room <= lines.len());
+            assert_eq!(rt; writer.taken(), &lines.as_slice()[..room]);
+        }
+    }
+    assert_eq!(rt; lines.len(), 35017);
+    Ok(())
+}
+
+#[test]
+fn encoding_at_each_write_that_fails(rt: HostRuntime) {
+    let trace = b"1111111111111111111111111111111111111111111111111111111111\n0\n\
+                  1010010111001110111000101000000001011101010001\n";
+    for fails in [false, true] {
+        for room in 0..trace.len() {
+            let mut writer = ShortWriter::new(rt.alloc(), room, fails);
+            let mut reader = b"reset 58\nidle 1\ndp 0 read ok 2ba01477\n".as_slice();
+            let answer = encode_text(rt.alloc(), &mut reader, &mut writer);
+            let written = room as u64;
+            assert_eq!(rt; answer, Err(EngineFault::Write { written }));
+            assert_eq!(rt; writer.taken(), &trace[..room]);
+        }
+    }
+}
+
+#[test]
+fn encoding_with_memory_refused(rt: HostRuntime) -> Result<(), Fail> {
+    let mut listing = Vec::new(rt.alloc());
+    listing.extend_from_slice(b"reset 50\nidle 1\n")?;
+    for _ in 0..40u8 {
+        listing.extend_from_slice(DPIDR_LINE)?;
+    }
+    let mut refused = 0u32;
+    let mut done = 0u32;
+    for size in 1..100usize {
+        let heap = LocalHeap::new(rt.alloc(), size * 64)?;
+        let mut reader = listing.as_slice();
+        let mut out = Vec::new(rt.alloc());
+        match encode_text(&heap, &mut reader, &mut out) {
+            Ok(()) => done = done.saturating_add(1),
+            Err(fault) => {
+                assert_eq!(rt; fault, EngineFault::Memory);
+                assert!(rt; out.is_empty());
+                refused = refused.saturating_add(1);
+            }
+        }
+    }
+    assert!(rt; refused > 3);
+    assert!(rt; done > 3);
+    Ok(())
+}
+
+#[test]
+fn lines_go_out_before_the_next_read(rt: HostRuntime) -> Result<(), Fail> {
+    // Two transactions, and how many bytes of their lines have been written before each read.
+    let mut trace = Vec::new(rt.alloc());
+    trace.extend_from_slice(DPIDR_READ)?;
+    trace.extend_from_slice(b"\n")?;
+    trace.extend_from_slice(DPIDR_READ)?;
+    let taken = Cell::new(0);
+    let mut reader = WatchingReader::new(rt.alloc(), trace.as_slice(), &taken);
+    let mut writer = CountingWriter { taken: &taken };
+    assert_eq!(rt; decode_text(&mut reader, &mut writer), Ok(()));
+    assert_eq!(rt; reader.noted.len(), trace.len() + 1);
+    let first = DPIDR_READ.len();
+    for (read, noted) in reader.noted.iter().enumerate() {
+        let lines = if read < first {
+            0
+        } else if read < trace.len() {
+            1
+        } else {
+            2
+        };
+        assert_eq!(rt; *noted, lines * DPIDR_LINE.len(), "before read {read}");
+    }
+    Ok(())
+}
+
+// A text in two pieces, each of which a read gives whole.
+fn listed_in_two(
+    rt: &HostRuntime,
+    text: &[u8],
+    cut: usize,
+) -> Result<(Result<(), EngineFault>, Vec<u8>), Fail> {
+    let (first, second) = text.split_at_checked(cut).ok_or("cut")?;
+    let mut reader = first.chain(second);
+    let mut out = Vec::new(rt.alloc());
+    let answer = decode_text(&mut reader, &mut out);
+    Ok((answer, out))
+}
+
+#[test]
+fn a_cut_between_two_reads_makes_no_difference(rt: HostRuntime) -> Result<(), Fail> {
+    let mut ones = Vec::new(rt.alloc());
+    for _ in 0..49u8 {
+        ones.extend_from_slice(b"junk 1\n")?;
+    }
+    ones.extend_from_slice(b"junk 0\n")?;
+    for (text, listing) in [
+        (FORTY_NINE, ones.as_slice()),
+        (FIFTY, b"reset 50\nidle 1\n".as_slice()),
+        (BRING_UP, b"reset 56\nswitch\nreset 56\nidle 2\n".as_slice()),
+    ] {
+        for cut in 0..=text.len() {
+            let (answer, out) = listed_in_two(&rt, text, cut)?;
+            assert_eq!(rt; answer, Ok(()));
+            assert_eq!(rt; out.as_slice(), listing, "cut at {cut}");
+        }
+    }
+    Ok(())
+}
+
+#[test]
+fn a_cut_past_a_piece_makes_no_difference(rt: HostRuntime) -> Result<(), Fail> {
+    // Blanks up to the end of a piece, and past it, inside the transaction.
+    for blanks in [4090, 65520] {
+        let mut text = Vec::new(rt.alloc());
+        for _ in 0..blanks {
+            text.extend_from_slice(b" ")?;
+        }
+        text.extend_from_slice(DPIDR_READ)?;
+        let mut reader = text.as_slice();
+        let mut out = Vec::new(rt.alloc());
+        assert_eq!(rt; decode_text(&mut reader, &mut out), Ok(()));
+        assert_eq!(rt; out.as_slice(), DPIDR_LINE);
+    }
+    Ok(())
+}

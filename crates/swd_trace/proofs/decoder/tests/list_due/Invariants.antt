@@ -1,5 +1,0 @@
-use Rattle.swd_trace.specs.Held.{places}
-use Rattle.swd_trace.proofs.decoder.tests.list_due.Given as goal
-
-abbrev pub decreases-loop-item : goal.decreases-loop-item
-decreases-loop-item l = places l.decoder

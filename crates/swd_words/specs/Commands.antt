@@ -1,0 +1,157 @@
+-- The program's command, as a parse reads it, and what its words mean.
+use Rattle.std.specs.Prelude.{ℕ, ◌≡◌, ◌≤◌, ◌↔◌, ◌⊎◌, List, [], ◌∷◌, Option, Some, None, IsSomeAnd, true, codes, pos}
+use Rattle.std.specs.Option.{option_map}
+use Rattle.std.specs.String.{string_bytes}
+use Rattle.std.specs.Str.Parse.{signed_digits_value}
+use Rattle.clap.specs.Words.{App, HasKind, Kinds, kind_of, Row, first_of, Rule, Text, new_app, new_rule, with_rule}
+use Rattle.clap.specs.Words.{with_subcommand}
+use Rattle.swd_words.specs.declared.command.Line.{Line}
+use Rattle.swd_words.specs.declared.command.Line.TheVariants.{One, Decode, Encode, Run, Target}
+use Rattle.swd_words.specs.declared.command.RunLine.{RunLine}
+use Rattle.swd_words.specs.declared.command.TargetLine.{TargetLine}
+use Rattle.swd_words.specs.declared.command.LineFault.{LineFault}
+use Rattle.swd_words.specs.declared.command.LineFault.TheVariants.{Clap, Memory}
+use Rattle.clap.specs.declared.error.kind.ErrorKind.{ErrorKind}
+use Rattle.clap.specs.declared.builder.action.ArgAction.TheVariants.{SetTrue}
+use Rattle.clap.specs.declared.builder.value_parser.ValueParser.TheVariants.{Signed}
+
+-- the file, which may be left out
+abbrev pub file_rule : Rule
+file_rule = new_rule (codes "FILE")
+
+-- a command over a file
+abbrev pub over_file : Text → App
+over_file name = with_rule (new_app name) file_rule
+
+-- the program without its commands: one of them is required
+abbrev pub bare_app : App
+bare_app =
+    let named = new_app (codes "swd") in
+    record named { top = record named.top { subcommand_required = true; has_version = true } }
+
+-- the script, which has to be there
+abbrev pub script_rule : Rule
+script_rule = let rule = new_rule (codes "SCRIPT") in record rule { required = true }
+
+-- the plan, after --plan
+abbrev pub plan_rule : Rule
+plan_rule = let rule = new_rule (codes "plan") in record rule { long = Some (codes "plan"); value_names = 1 }
+
+-- the number of tries, after --tries: 0 to 1,000, and 8 without it
+abbrev pub tries_rule : Rule
+tries_rule =
+    let rule = new_rule (codes "tries") in
+    record rule {
+      long = Some (codes "tries");
+      value_names = 1;
+      parser = Some (Signed (pos 0) (pos 1000));
+      defaults = codes "8" ∷ [];
+    }
+
+-- how often the run is resumed, after --resume: 0 to 1,000, and 0 without it
+abbrev pub resume_rule : Rule
+resume_rule =
+    let rule = new_rule (codes "resume") in
+    record rule {
+      long = Some (codes "resume");
+      value_names = 1;
+      parser = Some (Signed (pos 0) (pos 1000));
+      defaults = codes "0" ∷ [];
+    }
+
+-- the trace, after --trace
+abbrev pub trace_rule : Rule
+trace_rule = let rule = new_rule (codes "trace") in record rule { long = Some (codes "trace"); value_names = 1 }
+
+-- whether bus faults fail the run, by --strict
+abbrev pub strict_rule : Rule
+strict_rule = let rule = new_rule (codes "strict") in record rule
+    { long = Some (codes "strict"); action = Some SetTrue }
+
+-- whether the target is behind the standard streams, by --remote
+abbrev pub remote_rule : Rule
+remote_rule = let rule = new_rule (codes "remote") in record rule
+    { long = Some (codes "remote"); action = Some SetTrue }
+
+-- the report then, after --report
+abbrev pub report_rule : Rule
+report_rule = let rule = new_rule (codes "report") in record rule { long = Some (codes "report"); value_names = 1 }
+
+-- the command that runs a script, with the texts that it reads
+abbrev pub over_a_script : App
+over_a_script = with_rule (with_rule (new_app (codes "run")) script_rule) plan_rule
+
+-- and with what else it is given
+abbrev pub run_here_app : App
+run_here_app = with_rule (with_rule (with_rule (with_rule over_a_script tries_rule) resume_rule) trace_rule) strict_rule
+
+-- also for a target that is elsewhere
+abbrev pub run_app : App
+run_app = with_rule (with_rule run_here_app remote_rule) report_rule
+
+-- the log, after --log
+abbrev pub log_rule : Rule
+log_rule = let rule = new_rule (codes "log") in record rule { long = Some (codes "log"); value_names = 1 }
+
+-- the command that serves a target
+abbrev pub target_app : App
+target_app = with_rule (with_rule (with_rule (with_rule (new_app (codes "target")) script_rule) plan_rule) log_rule)
+    trace_rule
+
+-- the whole command
+abbrev pub swd_app : App
+swd_app =
+    with_subcommand (with_subcommand
+    (with_subcommand (with_subcommand (with_subcommand bare_app (over_file (codes "one")).top)
+    (over_file (codes "decode")).top) (over_file (codes "encode")).top) run_app.top) target_app.top
+
+-- the words have this command, and this file or none
+abbrev pub HasFile : Text → Option Text → Option (Text × List Row) → Type 0
+HasFile name file rows = IsSomeAnd rows (λ p. (p.0 ≡ name) × (file ≡ first_of (codes "FILE") p.1))
+
+-- the number of tries, at most 1,000, is the one that the word stands for; 8 without a word
+abbrev pub AreTries : ℕ → Option Text → Type 0
+AreTries tries None = tries ≡ 8
+AreTries tries (Some text) = (tries ≤ 1000) × (pos tries ≡ signed_digits_value 10 text)
+
+-- and so is the number of times that the run is resumed; 0 without a word
+abbrev pub AreResumes : ℕ → Option Text → Type 0
+AreResumes resumes None = resumes ≡ 0
+AreResumes resumes (Some text) = (resumes ≤ 1000) × (pos resumes ≡ signed_digits_value 10 text)
+
+-- the script, the plan, the two numbers, the trace and the report that the words name, and whether they ask for a
+-- strict run and for one at a target elsewhere
+pub record IsRunOf (run : RunLine) (rows : List Row) : Type 0 where
+  pub script : Some (string_bytes run.script) ≡ first_of (codes "SCRIPT") rows
+  pub plan : option_map string_bytes run.plan ≡ first_of (codes "plan") rows
+  pub tries : AreTries run.tries (first_of (codes "tries") rows)
+  pub resumes : AreResumes run.resumes (first_of (codes "resume") rows)
+  pub trace : option_map string_bytes run.trace ≡ first_of (codes "trace") rows
+  pub strict : (run.strict ≡ true) ↔ (first_of (codes "strict") rows ≡ Some (codes "true"))
+  pub remote : (run.remote ≡ true) ↔ (first_of (codes "remote") rows ≡ Some (codes "true"))
+  pub report : option_map string_bytes run.report ≡ first_of (codes "report") rows
+
+-- the script, the plan, the log and the trace that the words name
+pub record IsTargetOf (target : TargetLine) (rows : List Row) : Type 0 where
+  pub script : Some (string_bytes target.script) ≡ first_of (codes "SCRIPT") rows
+  pub plan : option_map string_bytes target.plan ≡ first_of (codes "plan") rows
+  pub log : option_map string_bytes target.log ≡ first_of (codes "log") rows
+  pub trace : option_map string_bytes target.trace ≡ first_of (codes "trace") rows
+
+-- a fault of this kind, or out of memory
+abbrev pub IsOfKind : ErrorKind → LineFault → Type 0
+IsOfKind kind Memory = Unit {0}
+IsOfKind kind (Clap error) = kind_of error ≡ kind
+
+-- Words are refused for a mistake of one of these kinds, where they have one, or when out of memory.
+abbrev pub IsRefusal : Kinds → LineFault → Type 0
+IsRefusal kinds Memory = Unit {0}
+IsRefusal kinds (Clap error) = HasKind kinds error ⊎ (kinds ≡ [])
+
+-- the line is the command that the words have
+abbrev pub IsLineOf : Line → Option (Text × List Row) → Type 0
+IsLineOf (One file) rows = HasFile (codes "one") (option_map string_bytes file) rows
+IsLineOf (Decode file) rows = HasFile (codes "decode") (option_map string_bytes file) rows
+IsLineOf (Encode file) rows = HasFile (codes "encode") (option_map string_bytes file) rows
+IsLineOf (Run run) rows = IsSomeAnd rows (λ p. (p.0 ≡ codes "run") × IsRunOf run p.1)
+IsLineOf (Target target) rows = IsSomeAnd rows (λ p. (p.0 ≡ codes "target") × IsTargetOf target p.1)

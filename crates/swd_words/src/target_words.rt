@@ -1,0 +1,74 @@
+//! The words of `swd target`.
+ghost use Rattle.std.specs.Prelude.{◌≡◌, IfOk, false};
+ghost use Rattle.clap.specs.Words.{app_of, found_of, rows_of, rule_of};
+ghost use Rattle.clap.specs.declared.builder.command.Command.TheViews.{out-Command};
+ghost use Rattle.swd_words.specs.Commands.{log_rule, target_app, IsTargetOf};
+
+use crate::command::{LineFault, TargetLine};
+use crate::words::{owned, plan_arg, script_arg, trace_arg, with_arg};
+use clap::{Arg, ArgMatches, Command};
+use std::alloc::{AllocError, Global};
+
+const TARGET_ABOUT: &str = "Is a simulated target, to a debugger on the standard streams";
+
+const TARGET_AFTER: &str = "\
+The debugger speaks OpenOCD's remote_bitbang characters for serial wire: d to g move the pins, c
+asks for a level, O and o drive SWDIO or leave it alone, Q ends. A socket comes from outside:
+  socat TCP-LISTEN:4711,nodelay EXEC:'swd target memory.script'
+
+The script has the lines memory and room alone, as for swd run, and is no standard input. The plan
+is that of swd run: each request meets its next mark.
+
+The log has a line for each transfer that took effect, and how many cycles and requests there were;
+the trace has each bit that went over the line. Both are written at the end.
+
+Status: 0 where the debugger said that it is done or closed its end, 2 at a fault.";
+
+// The file that the log is written to.
+fn log_arg<'a>(alloc: Global) -> Arg<'a>
+    ensures rule { rule_of result ≡ log_rule }
+    ensures local { result.global ≡ false }
+{
+    Arg::new(alloc, "log")
+        .long("log")
+        .value_name("FILE")
+        .help("The file to write the log to; what it held is cut off")
+}
+
+/// The command that serves a target.
+pub(crate) fn target_command<'a>(alloc: Global) -> Result<Command<'a>, AllocError>
+    ensures app { IfOk result (λ c. app_of c ≡ target_app) }
+    ensures local { IfOk result (λ c. (out-Command c).has_globals ≡ false) }
+{
+    let bare = Command::new(alloc, "target")
+        .about(TARGET_ABOUT)
+        .after_help(TARGET_AFTER);
+    let script = with_arg(bare, script_arg(alloc))?;
+    let plan = with_arg(script, plan_arg(alloc))?;
+    let log = with_arg(plan, log_arg(alloc))?;
+    with_arg(log, trace_arg(alloc))
+}
+
+/// What `swd target` is given.
+pub(crate) fn target_line(alloc: Global, matches: &ArgMatches<'_>) -> Result<TargetLine, LineFault>
+    ensures { IfOk result (λ target. IsTargetOf target (rows_of (found_of matches.now))) }
+{
+    let Ok(Some(script)) = owned(alloc, matches.get_str("SCRIPT")) else {
+        return Err(LineFault::Memory);
+    };
+    let Ok(plan) = owned(alloc, matches.get_str("plan")) else {
+        return Err(LineFault::Memory);
+    };
+    let Ok(log) = owned(alloc, matches.get_str("log")) else {
+        return Err(LineFault::Memory);
+    };
+    let Ok(trace) = owned(alloc, matches.get_str("trace")) else {
+        return Err(LineFault::Memory);
+    };
+    Ok(TargetLine {
+        script,
+        plan,
+        log,
+        trace,
+    })
+}
