@@ -1,4 +1,4 @@
-//! The reads of `swd_bench` over the plain-Rust host, one by one and as a block.
+//! The reads of `swd_workloads` over the plain-Rust host, one by one and as a block.
 #[allow(dead_code)]
 #[path = "../run/host.rs"]
 mod host;

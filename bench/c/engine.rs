@@ -1,4 +1,4 @@
-//! The workload of `swd_bench`, by the engine that libswd_c.a exports, over the plain-Rust target.
+//! The workload of `swd_workloads`, by the engine that libswd_c.a exports, over the plain-Rust target.
 #[path = "../run/host.rs"]
 #[allow(dead_code)]
 mod host;

@@ -1,4 +1,4 @@
-//! The workloads of `swd_bench cycles` and `swd_bench accesses` over the plain-Rust clocked target.
+//! The workloads of `swd_workloads cycles` and `swd_workloads accesses` over the plain-Rust clocked target.
 mod clocked;
 #[path = "../run/host.rs"]
 mod host;

@@ -1,4 +1,4 @@
-//! The workload of `swd_bench` over the plain-Rust host.
+//! The workload of `swd_workloads` over the plain-Rust host.
 mod host;
 mod workload;
 
