@@ -291,7 +291,7 @@ impl Engine {
         };
         self.requests = self.requests.saturating_add(1);
         self.begun = self.begun.max(job.begins(self.task));
-        self.state = acknowledged(job, seen);
+        self.state = after_ack(job, seen);
     }
 
     /// What the cue said was sent: a lead, the data phase of a write, or a turnaround.
@@ -307,9 +307,9 @@ impl Engine {
             return;
         };
         match phase {
-            Phase::Data => self.sent(job),
-            Phase::Waited => self.waited(job),
-            Phase::Faulted => self.faulted(job),
+            Phase::Data => self.follow_write(job),
+            Phase::Waited => self.take_wait(job),
+            Phase::Faulted => self.take_fault(job),
             Phase::Ask => unreachable!(),
         }
     }
@@ -327,8 +327,8 @@ impl Engine {
             unreachable!()
         };
         match word_of(bits) {
-            Some(word) => self.told(job, word),
-            None => self.garbled(job),
+            Some(word) => self.take_word(job, word),
+            None => self.take_damage(job),
         }
     }
 }
@@ -347,7 +347,7 @@ fn lead(inside: bool) -> Cue
 }
 
 // Where a request is once its acknowledgement was seen.
-fn acknowledged(job: Job, seen: u8) -> State
+fn after_ack(job: Job, seen: u8) -> State
     requires { seen < 8 }
     ensures { result ≡ state_seen job seen }
 {

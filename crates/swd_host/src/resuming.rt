@@ -9,7 +9,7 @@ ghost use Rattle.swd_host.specs.declared.outcome.Refused.TheVariants.{Memory};
 
 use crate::engine::Engine;
 use crate::outcome::{End, Refused, Report};
-use crate::running::{open, perform, reported};
+use crate::running::{open, perform, report_of};
 use std::alloc::Allocator;
 use swd_port::{Access, Answer, Wire};
 
@@ -44,20 +44,20 @@ pub fn resume<W: Wire, A: Allocator>(
     ensures untouched { IfErr result (λ refused. wire.new ≡ wire.old) }
     ensures plan { W.plan wire.new ≡ W.plan wire.old }
 {
-    let Some(mut answers) = kept(alloc, &report.answers, accesses.len()) else {
+    let Some(mut answers) = copy_answers(alloc, &report.answers, accesses.len()) else {
         return Err(Refused::Memory);
     };
     let mut engine = Engine::again(tries);
     if let Err(end) = open(wire, &mut engine) {
-        return Ok(since(reported(answers, &engine, end), report));
+        return Ok(since(report_of(answers, &engine, end), report));
     }
     let rest = &accesses[report.answers.len()..];
     let ended = perform(wire, &mut engine, rest, &mut answers);
-    Ok(since(reported(answers, &engine, ended), report))
+    Ok(since(report_of(answers, &engine, ended), report))
 }
 
 // The answers that are there, in a list with room for so many.
-fn kept<A: Allocator>(alloc: A, answers: &[Answer], most: usize) -> Option<Vec<Answer, A>>
+fn copy_answers<A: Allocator>(alloc: A, answers: &[Answer], most: usize) -> Option<Vec<Answer, A>>
     requires { length answers.now ≤ most }
     ensures kept { IfSome result (λ kept. kept.items ≡ answers.now) }
     ensures room { IfSome result (λ kept. most ≤ vec_capacity kept) }

@@ -277,13 +277,13 @@ pub(crate) fn conduct<W: Wire, A: Allocator>(
     let mut engine = engine;
     let mut answers = answers;
     if let Err(end) = open(wire, &mut engine) {
-        return reported(answers, &engine, end);
+        return report_of(answers, &engine, end);
     }
     let ended = perform(wire, &mut engine, accesses, &mut answers);
-    reported(answers, &engine, ended)
+    report_of(answers, &engine, ended)
 }
 
-pub(crate) fn reported<A: Allocator>(
+pub(crate) fn report_of<A: Allocator>(
     answers: Vec<Answer, A>,
     engine: &Engine,
     ended: End,

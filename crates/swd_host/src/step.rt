@@ -52,7 +52,7 @@ impl Engine {
     {
         if !now.error && !now.damaged {
             if owed.error {
-                self.cleared(place, owed);
+                self.finish_clear(place, owed);
             } else {
                 let again = place.confirms(self.task, self.aims).unwrap_or(place);
                 self.state = State::Doing(Job::At(again), Phase::Ask);
@@ -66,7 +66,7 @@ impl Engine {
 
     // The flag of a bus error is cleared: it answers the access in hand; where it was the next one's, RESEND
     // gives the word; where an earlier run left the transfer pending, the request that met it comes again.
-    fn cleared(&mut self, place: Place, owed: Flags)
+    fn finish_clear(&mut self, place: Place, owed: Flags)
         requires { owed.error ≡ true }
         ensures tracks { Comes (Cleared place) self.old self.new }
         ensures early { ShownEarly no_flags (EarlyBefore (Job.Check place owed)) self.old self.new }
@@ -98,7 +98,7 @@ impl Engine {
     }
 
     // The data phase of a write was sent.
-    pub(crate) fn sent(&mut self, job: Job)
+    pub(crate) fn follow_write(&mut self, job: Job)
         requires { is_write job self.old.task ≡ true }
         ensures tracks { Comes (WasSent job) self.old self.new }
         ensures early { ComesEarly (EarlySent job) self.old self.new }
@@ -114,7 +114,7 @@ impl Engine {
     }
 
     // The request was answered WAIT.
-    pub(crate) fn waited(&mut self, job: Job)
+    pub(crate) fn take_wait(&mut self, job: Job)
         ensures tracks { Comes (Waiting job) self.old self.new }
         ensures early { ComesEarly (EarlyWaiting job) self.old self.new }
         ensures lands { LandsFrom job Phase.Waited self.old self.new }
@@ -128,7 +128,7 @@ impl Engine {
     }
 
     // The request was answered FAULT.
-    pub(crate) fn faulted(&mut self, job: Job)
+    pub(crate) fn take_fault(&mut self, job: Job)
         ensures tracks { Comes (FaultedAt job) self.old self.new }
         ensures early { ComesEarly (EarlyFaulted job) self.old self.new }
         ensures lands { LandsFrom job Phase.Faulted self.old self.new }
@@ -149,7 +149,7 @@ impl Engine {
     }
 
     // The word that was read had wrong parity.
-    pub(crate) fn garbled(&mut self, job: Job)
+    pub(crate) fn take_damage(&mut self, job: Job)
         requires { is_write job self.old.task ≡ false }
         ensures tracks { Comes (TakenFor job None) self.old self.new }
         ensures early { ComesEarly (EarlyAgain job) self.old self.new }
@@ -164,7 +164,7 @@ impl Engine {
     }
 
     // This word was read.
-    pub(crate) fn told(&mut self, job: Job, word: u32)
+    pub(crate) fn take_word(&mut self, job: Job, word: u32)
         requires { is_write job self.old.task ≡ false }
         ensures tracks { Comes (TakenFor job (Some word)) self.old self.new }
         ensures early { ComesEarly (EarlyTold job word) self.old self.new }
@@ -175,7 +175,7 @@ impl Engine {
         match job {
             Job::At(place) if self.is_unread(place) => self.pass_over(place),
             Job::At(place) => self.value(place, word),
-            Job::Resend(place) => self.resent(place, word),
+            Job::Resend(place) => self.take_resent(place, word),
             Job::Status(place) => self.status(place, flags_of(word)),
             Job::Check(place, owed) => self.check(place, owed, flags_of(word)),
             Job::LastStatus | Job::Clear(_, _) => {
@@ -216,31 +216,31 @@ impl Engine {
         ensures meets { Meets (is_event_at place word self.old.stray) (wrong_id place word) self.old self.new }
     {
         match place {
-            Place::Identify => self.identified(word),
-            Place::Inspect => self.inspected(flags_of(word)),
-            Place::Powered => self.powered(flags_of(word), is_powered(word)),
-            Place::Configured => self.configured(is_configured(word)),
-            Place::Confirm => self.given(word),
+            Place::Identify => self.identify(word),
+            Place::Inspect => self.inspect(flags_of(word)),
+            Place::Powered => self.check_power(flags_of(word), is_powered(word)),
+            Place::Configured => self.check_csw(is_configured(word)),
+            Place::Confirm => self.give_word(word),
             _ => self.state = State::Resting(Outcome::Stopped(End::Confused)),
         }
     }
 
     // RESEND gave this word.
-    fn resent(&mut self, place: Place, word: u32)
+    fn take_resent(&mut self, place: Place, word: u32)
         ensures tracks { Comes (Resent place word) self.old self.new }
         ensures lands { LandsFrom (Job.Resend place) Phase.Data self.old self.new }
         ensures meets { Meets false None self.old self.new }
     {
         match place {
-            Place::Configured => self.configured(is_configured(word)),
-            Place::Confirm => self.given(word),
+            Place::Configured => self.check_csw(is_configured(word)),
+            Place::Confirm => self.give_word(word),
             Place::Behind => self.answer(Answer::Value(word), Ahead::Failed),
             _ => self.state = State::Resting(Outcome::Stopped(End::Confused)),
         }
     }
 
     // The word of a read: by RDBUFF, or in a block by the DRW read of the next one.
-    fn given(&mut self, word: u32)
+    fn give_word(&mut self, word: u32)
         ensures tracks { Comes (Taken Place.Confirm word) self.old self.new }
         ensures lands { LandsAnswered self.old self.new }
         ensures meets { Meets false None self.old self.new }
@@ -254,7 +254,7 @@ impl Engine {
     }
 
     // DPIDR was read.
-    fn identified(&mut self, word: u32)
+    fn identify(&mut self, word: u32)
         ensures tracks { Comes (Taken Place.Identify word) self.old self.new }
         ensures early { ComesEarly (EarlyTold (Job.At Place.Identify) word) self.old self.new }
         ensures lands { LandsFrom (Job.At Place.Identify) Phase.Data self.old self.new }
@@ -268,7 +268,7 @@ impl Engine {
     }
 
     // CTRL/STAT was read after the flags were cleared.
-    fn inspected(&mut self, flags: Flags)
+    fn inspect(&mut self, flags: Flags)
         ensures tracks { ComesWith flags (Before (Job.At Place.Inspect)) self.old self.new }
         ensures early { GlimpsedEarly flags (EarlyBefore (Job.At Place.Inspect)) self.old self.new }
         ensures lands { LandsFrom (Job.At Place.Inspect) Phase.Data self.old self.new }
@@ -284,7 +284,7 @@ impl Engine {
     }
 
     // CTRL/STAT was read after power was asked for.
-    fn powered(&mut self, flags: Flags, powered: bool)
+    fn check_power(&mut self, flags: Flags, powered: bool)
         ensures tracks { ComesWith flags (HasAsked powered) self.old self.new }
         ensures lands { LandsFrom (Job.At Place.Powered) Phase.Data self.old self.new }
         ensures meets { Meets (is_unpowered flags powered) None self.old self.new }
@@ -301,7 +301,7 @@ impl Engine {
     }
 
     // CSW was read back. TAR isn't known yet, and no access was sent.
-    fn configured(&mut self, right: bool)
+    fn check_csw(&mut self, right: bool)
         ensures tracks { (word : ℕ) → right ≡ is_configured word
             → Comes (Taken Place.Configured word) self.old self.new }
         ensures lands { LandsFrom (Job.At Place.Configured) Phase.Data self.old self.new }

@@ -1,22 +1,27 @@
 -- Laws of a trace text that is listed as it is read.
-use Rattle.std.proofs.Common.{◌≡◌, ℕ, zero, suc, ◌+◌, ◌<◌, ◌^◌, Bool, false, List, [], ◌∷◌, ◌++◌, length, Option}
+use Rattle.std.proofs.Common.{◌≡◌, ℕ, zero, suc, ◌+◌, ◌-◌, ◌*◌, ◌/◌, ◌%◌, ◌<◌, ◌≤◌, ◌^◌, Bool, true, false, List, []}
+use Rattle.std.proofs.Common.{◌∷◌, ◌++◌, length, map, take, Option}
 use Rattle.std.proofs.Common.{Result, Ok, Err}
 use Rattle.std.proofs.Common.{refl, sym, ap, ◌∙◌, subst, append_assoc, arith, inl}
 use Rattle.std.specs.Prelude.{OnOk, OnErr, IfErr}
 use Rattle.std.proofs.KnownBytes.{Appends-nil}
-use Rattle.std.proofs.lemmas.List.{length-append, append-nil}
+use Rattle.std.proofs.Math.Seq.{take-append_seam}
+use Rattle.std.proofs.lemmas.List.{length-append, append-nil, map-append}
 use Rattle.swd_io.specs.Blocks.{Sends}
 use Rattle.swd_io.specs.declared.block.Block.{Block}
+use Rattle.swd_bits.specs.Bits.{low_bits}
+use Rattle.swd_bits.proofs.BitsLemmas.{length-low_bits}
 use Rattle.swd_bits.proofs.ScanLemmas.{reads_none}
 use Rattle.swd_bits.specs.Listing.{tx_line}
 use Rattle.swd_bits.specs.declared.tx.Tx.{Tx as Transaction}
 use Rattle.swd_trace.specs.declared.item.Item.{Item}
-use Rattle.swd_trace.specs.declared.item.Item.TheVariants.{Tx, Idle}
+use Rattle.swd_trace.specs.declared.item.Item.TheVariants.{Tx, Idle, Junk}
 use Rattle.swd_trace.specs.declared.decoder.Decoder.{Decoder}
 use Rattle.swd_trace.specs.Reading.{items_after, reading_of}
 use Rattle.swd_trace.specs.Decided.{IsUndecided}
 use Rattle.swd_trace.specs.Texts.{item_line, listing}
 use Rattle.swd_trace.specs.Held.{rest, fed_of, idle_items}
+use Rattle.swd_trace.proofs.NumberLemmas.{low_mod, parted}
 use Rattle.swd_text.specs.Listers.{Lists, Listed, HasRead}
 use Rattle.swd_text.specs.declared.lister.Lister.{Lister}
 
@@ -147,3 +152,44 @@ found_more contents start before after old new bits items next n idle tx law fed
       counted = omega arith;
       sends = subst (λ all. Sends contents start new all) (sym lines) (sends (listing items) h.sends);
     }
+
+-- ---- bits that belong to nothing
+
+pub junk_length : (bits : List Bool) → length (listing (map Junk bits)) ≡ 7 * length bits
+junk_length [] = refl
+junk_length (true ∷ bits) = let more = junk_length bits in omega arith
+junk_length (false ∷ bits) = let more = junk_length bits in omega arith
+
+-- the lines of some of four bits stand first
+pub junk_taken : (k v : ℕ) → k ≤ 4
+    → take (7 * k) (listing (map Junk (low_bits 4 (v % 16)))) ≡ listing (map Junk (low_bits k v))
+junk_taken k v h =
+    let first = listing (map Junk (low_bits k v)) in
+    let others = listing (map Junk (low_bits (4 - k) (v / 2 ^ k))) in
+    let long : length first ≡ 7 * k = junk_length (low_bits k v) ∙ ap (λ n. 7 * n) (length-low_bits k v) in
+    ap (λ bits. take (7 * k) (listing (map Junk bits))) (low_mod 4 v ∙ parted k 4 v h)
+    ∙ ap (λ items. take (7 * k) (listing items)) (map-append Junk (low_bits k v) (low_bits (4 - k) (v / 2 ^ k)))
+    ∙ ap (take (7 * k)) (listing_append (map Junk (low_bits k v)) (map Junk (low_bits (4 - k) (v / 2 ^ k))))
+    ∙ ap (λ n. take n (first ++ others)) (sym long)
+    ∙ take-append_seam first others
+
+-- the lines of the first bits, and those of the others
+pub junk_parted : (k n v : ℕ) → k ≤ n → listing (map Junk (low_bits n v))
+    ≡ listing (map Junk (low_bits k v)) ++ listing (map Junk (low_bits (n - k) (v / 2 ^ k)))
+junk_parted k n v h =
+    ap (λ bits. listing (map Junk bits)) (parted k n v h)
+    ∙ ap listing (map-append Junk (low_bits k v) (low_bits (n - k) (v / 2 ^ k)))
+    ∙ listing_append (map Junk (low_bits k v)) (map Junk (low_bits (n - k) (v / 2 ^ k)))
+
+-- more items are given, and their lines are under way
+pub many_more : {W : Type 0} (contents : W → Option (List ℕ)) (start : Option (List ℕ)) (before after : Decoder)
+    (old new : Block W) (bits : List Bool) (items next : List Item) →
+    ((more : List Bool) → rest before more ≡ next ++ rest after more) → fed_of after ≡ fed_of before →
+    ((all : List ℕ) → Sends contents start old all → Sends contents start new (all ++ listing next)) →
+    Lists contents start before old bits items → Lists contents start after new bits (items ++ next)
+many_more contents start before after old new bits items next law fed sends h = record {
+  law = λ more. append_assoc items next (rest after more) ∙ ap (λ x. items ++ x) (sym (law more)) ∙ h.law more;
+  count = fed ∙ h.count;
+  counted = h.counted;
+  sends = subst (λ all. Sends contents start new all) (sym (listing_append items next)) (sends (listing items) h.sends);
+}

@@ -1,6 +1,6 @@
 //! A trace text on its way to its listing.
 ghost use Rattle.std.specs.Prelude.{◌≡◌, ℕ, ◌+◌, ◌-◌, ◌^◌, ◌<◌, ◌≤◌, min, List, Bool, false, true, ◌∷◌, ◌++◌};
-ghost use Rattle.std.specs.Prelude.{◌≢◌, slice_index, [], length, take, Option, OnOk, OnErr, IfErr};
+ghost use Rattle.std.specs.Prelude.{◌≢◌, slice_index, [], length, map, take, Option, OnOk, OnErr, IfErr};
 ghost use Rattle.swd_io.specs.Blocks.{Sends};
 ghost use Rattle.swd_io.specs.Pieces.{LeadsOn, LeadsToEnd};
 ghost use Rattle.swd_io.proofs.PieceLemmas.{leads_nowhere, leads_further, leads_to_later_end};
@@ -66,7 +66,50 @@ fn junk_line(bit: bool) -> &'static [u8; 7]
     if bit { b"junk 1\n" } else { b"junk 0\n" }
 }
 
-// The line of a transaction that was found whole is under way, too, and before it that of idle cycles, where there are any.
+// The lines of four bits that belong to nothing, the first of them least significant.
+fn junk_lines(bits: u8) -> &'static [u8; 28]
+    requires { bits < 16 }
+    ensures { result.now ≡ listing (map Item.Junk (low_bits 4 bits)) }
+{
+    match bits {
+        0 => b"junk 0\njunk 0\njunk 0\njunk 0\n",
+        1 => b"junk 1\njunk 0\njunk 0\njunk 0\n",
+        2 => b"junk 0\njunk 1\njunk 0\njunk 0\n",
+        3 => b"junk 1\njunk 1\njunk 0\njunk 0\n",
+        4 => b"junk 0\njunk 0\njunk 1\njunk 0\n",
+        5 => b"junk 1\njunk 0\njunk 1\njunk 0\n",
+        6 => b"junk 0\njunk 1\njunk 1\njunk 0\n",
+        7 => b"junk 1\njunk 1\njunk 1\njunk 0\n",
+        8 => b"junk 0\njunk 0\njunk 0\njunk 1\n",
+        9 => b"junk 1\njunk 0\njunk 0\njunk 1\n",
+        10 => b"junk 0\njunk 1\njunk 0\njunk 1\n",
+        11 => b"junk 1\njunk 1\njunk 0\njunk 1\n",
+        12 => b"junk 0\njunk 0\njunk 1\njunk 1\n",
+        13 => b"junk 1\njunk 0\njunk 1\njunk 1\n",
+        14 => b"junk 0\njunk 1\njunk 1\njunk 1\n",
+        _ => b"junk 1\njunk 1\njunk 1\njunk 1\n",
+    }
+}
+
+// The lines of bits that belong to nothing are under way, too.
+#[inline(never)]
+fn put_junk<W: Write>(block: &mut Block<'_, W>, junk: TxBits)
+    ensures sends { (start : Option (List ℕ)) (all : List ℕ) → Sends W.contents start block.old all
+        → Sends W.contents start block.new (all ++ listing (map Item.Junk (bits_of junk))) }
+    ensures writer { block.new.writer.ghost_name ≡ block.old.writer.ghost_name }
+{
+    let mut bits = junk.bits;
+    let mut left = junk.len;
+    while left > 0 {
+        let count = left.min(4);
+        block.put_first(junk_lines((bits % 16) as u8), 7 * usize::from(count));
+        bits >>= count;
+        left -= count;
+    }
+}
+
+// The line of a transaction that was found whole is under way, too, and before it that of idle cycles, where there are
+// any.
 #[inline(always)]
 fn put_found<W: Write>(block: &mut Block<'_, W>, line: &mut ArrayString<ROOM>, found: FoundTx)
     requires whole { IsSpelled found.tx }
@@ -81,8 +124,8 @@ fn put_found<W: Write>(block: &mut Block<'_, W>, line: &mut ArrayString<ROOM>, f
     put_tx(block, found.tx);
 }
 
-// The line of a transaction that was held is under way, too. Most are found whole, so this is kept out of the way of bits that
-// belong to nothing.
+// The line of a transaction that was held is under way, too. Most are found whole, so this is kept out of the way of
+// bits that belong to nothing.
 #[inline(never)]
 fn put_held_tx<W: Write>(block: &mut Block<'_, W>, spelled: TxBits)
     requires whole { IsSpelled spelled }
@@ -179,6 +222,21 @@ impl Lister {
         }
     }
 
+    // The lines of the bits that are due and belong to nothing are under way, too.
+    #[inline(always)]
+    fn put_lost<W: Write>(&mut self, block: &mut Block<'_, W>)
+        ensures lists { (start : Option (List ℕ)) (bits : List Bool) (items : List Item)
+            → Lists W.contents start self.old.decoder block.old bits items
+            → (more : List Item) × Lists W.contents start self.new.decoder block.new bits more }
+        ensures scan { self.new.scan ≡ self.old.scan }
+        ensures place { self.new.place ≡ self.old.place }
+        ensures writer { block.new.writer.ghost_name ≡ block.old.writer.ghost_name }
+    {
+        if let Some(junk) = self.decoder.due_junk() {
+            put_junk(block, junk);
+        }
+    }
+
     // The lines of the items that are due are under way, too.
     fn put_due<W: Write>(&mut self, block: &mut Block<'_, W>)
         ensures lists { (start : Option (List ℕ)) (bits : List Bool) (items : List Item)
@@ -191,6 +249,7 @@ impl Lister {
         ensures writer { block.new.writer.ghost_name ≡ block.old.writer.ghost_name }
     {
         self.put_txs(block);
+        self.put_lost(block);
         while let Some(item) = self.decoder.due() {
             put_line(block, &mut self.line, &item);
         }
@@ -257,7 +316,8 @@ impl Lister {
         ensures most { result ≤ count }
         ensures lists { (start : Option (List ℕ)) (before : List Bool) (items : List Item)
             → Lists W.contents start self.old.decoder block.old before items
-            → (more : List Item) × Lists W.contents start self.new.decoder block.new (before ++ low_bits result bits) more }
+            → (more : List Item)
+            × Lists W.contents start self.new.decoder block.new (before ++ low_bits result bits) more }
         ensures settled { IsSettled self.new.decoder }
         ensures scan { self.new.scan ≡ self.old.scan }
         ensures place { self.new.place ≡ self.old.place }
@@ -280,7 +340,8 @@ impl Lister {
         ensures most { result ≤ count }
         ensures lists { (start : Option (List ℕ)) (before : List Bool) (items : List Item)
             → Lists W.contents start self.old.decoder block.old before items
-            → (more : List Item) × Lists W.contents start self.new.decoder block.new (before ++ low_bits result bits) more }
+            → (more : List Item)
+            × Lists W.contents start self.new.decoder block.new (before ++ low_bits result bits) more }
         ensures settled { IsSettled self.new.decoder }
         ensures scan { self.new.scan ≡ self.old.scan }
         ensures place { self.new.place ≡ self.old.place }

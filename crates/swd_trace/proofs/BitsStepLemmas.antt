@@ -1,9 +1,11 @@
 -- Laws of the steps on held bits without a run.
 use Rattle.std.proofs.Common.{◌≡◌, ℕ, zero, suc, ◌+◌, ◌-◌, ◌/◌, ◌%◌, ◌^◌, ◌<◌, ◌≤◌, Bool, true, false, List, []}
-use Rattle.std.proofs.Common.{◌∷◌}
+use Rattle.std.proofs.Common.{◌∷◌, ◌*◌, map}
 use Rattle.std.proofs.Common.{◌++◌, length, drop, replicate, append_assoc, refl, sym, ap, ◌∙◌, subst, arith}
 use Rattle.std.specs.Prelude.{◌==◌}
 use Rattle.std.proofs.lemmas.List.{drop_at}
+use Rattle.std.proofs.lemmas.Nat.{one_shl, pow_pos, shr-shr}
+use Rattle.std.proofs.Math.Nat.{pow-suc}
 use lib.Count.{count_trailing_zeros}
 use Rattle.swd_bits.specs.Bits.{low_bits}
 use Rattle.swd_bits.proofs.BitsLemmas.{length-low_bits}
@@ -17,7 +19,7 @@ use Rattle.swd_trace.specs.Reading.{ones, all_ones, first, junk, mode_after, rea
 use Rattle.swd_trace.specs.Decided.{IsUndecided}
 use Rattle.swd_trace.specs.Holding.{Holds}
 use Rattle.swd_trace.specs.Held.{IsCut, IsOpenAt}
-use Rattle.swd_trace.proofs.NumberLemmas.{next_bit, parted, Trailing, trailing}
+use Rattle.swd_trace.proofs.NumberLemmas.{next_bit, parted, zero_among, Trailing, trailing}
 use Rattle.swd_trace.proofs.ReadingLemmas.{idle_law, junk_law, junk_synced, junk_lost, junk_after_switch, cut_begun}
 use Rattle.swd_trace.proofs.ReadingLemmas.{tx_law, ones_end}
 use Rattle.swd_trace.proofs.StandLemmas.{whole_stays, broken_stays, whole_fits}
@@ -72,6 +74,52 @@ lost_junk mode len bits m h k z more =
     (bits_first len bits more h) r.0 in
     ap (λ d. reading d (low_bits len bits ++ more)) m
     ∙ junk_by Lost len bits more h (junk_lost (bits % 2 == 1) (low_bits (len - 1) (bits / 2) ++ more) few)
+
+-- a number with a zero
+zero_below : (i len v : ℕ) → len ≤ 50 → v + 2 ^ i < 2 ^ len → all_ones (low_bits len v) ≡ false
+zero_below i len v k h =
+    let some : 0 < 2 ^ i = pow_pos i in
+    zero_among len v (omega arith) (omega arith)
+    (λ same. let e : v ≡ 2 ^ len - 1 = same ∙ ap (λ n. n - 1) (one_shl len 64 (omega arith)) in absurd (omega arith))
+
+-- bits up to a zero
+pub lost_junks : (i len v : ℕ) → len ≤ 50 → v + 2 ^ i < 2 ^ len → (more : List Bool)
+    → reading Lost (low_bits len v ++ more)
+    ≡ map Junk (low_bits (suc i) v) ++ reading Lost (low_bits (len - suc i) (v / 2 ^ suc i) ++ more)
+unfolding low_bits
+lost_junks i zero v k h more = let some : 0 < 2 ^ i = pow_pos i in let none : v + 2 ^ i < 1 = h in absurd (omega arith)
+lost_junks zero (suc len) v k h more =
+    lost_junk Lost (suc len) v refl (omega arith) k (zero_below zero (suc len) v k h) more
+lost_junks (suc i) (suc len) v k h more =
+    let d : 2 ^ suc i ≡ 2 ^ i * 2 = pow-suc 2 i in
+    let e : 2 ^ suc len ≡ 2 ^ len * 2 = pow-suc 2 len in
+    let less : v / 2 + 2 ^ i < 2 ^ len = omega arith in
+    let one : suc len - 1 ≡ len = omega arith in
+    let left : suc len - suc (suc i) ≡ len - suc i = omega arith in
+    let two : 1 + suc i ≡ suc (suc i) = omega arith in
+    lost_junk Lost (suc len) v refl (omega arith) k (zero_below (suc i) (suc len) v k h) more
+    ∙ ap (λ n. Junk (v % 2 == 1) ∷ reading Lost (low_bits n (v / 2) ++ more)) one
+    ∙ ap (λ x. Junk (v % 2 == 1) ∷ x) (lost_junks i len (v / 2) (omega arith) less more
+    ∙ ap (λ b. map Junk (low_bits (suc i) (v / 2)) ++ reading Lost (low_bits (len - suc i) b ++ more))
+    (shr-shr v 1 (suc i) ∙ ap (λ n. v / 2 ^ n) two)
+    ∙ ap (λ n. map Junk (low_bits (suc i) (v / 2)) ++ reading Lost (low_bits n (v / 2 ^ suc (suc i)) ++ more))
+    (sym left))
+
+pub junks_law : (mode : Mode) (one : Bool) (run len v n : ℕ) → mode ≡ Lost → run ≡ 0 → len ≤ 50 → 0 < n
+    → v + 2 ^ (n - 1) < 2 ^ len → (more : List Bool)
+    → reading mode (replicate run one ++ (low_bits len v ++ more))
+    ≡ map Junk (low_bits n v) ++ reading mode (replicate run one ++ (low_bits (len - n) (v / 2 ^ n) ++ more))
+junks_law mode one run len v zero lost none k some z more = absurd (omega arith)
+junks_law mode one run len v (suc i) lost none k some z more =
+    let e : suc i - 1 ≡ i = omega arith in
+    let junk = map Junk (low_bits (suc i) v) in
+    let x = low_bits len v ++ more in
+    let y = low_bits (len - suc i) (v / 2 ^ suc i) ++ more in
+    ap (λ r. reading mode (replicate r one ++ x)) none
+    ∙ ap (λ d. reading d x) lost
+    ∙ lost_junks i len v k (subst (λ n. v + 2 ^ n < 2 ^ len) e z) more
+    ∙ ap (λ d. junk ++ reading d y) (sym lost)
+    ∙ ap (λ r. junk ++ reading mode (replicate r one ++ y)) (sym none)
 
 pub switched_junk : (mode : Mode) (len bits : ℕ) → mode ≡ AfterSwitch → 0 < len → len ≤ 50
     → all_ones (low_bits len bits) ≡ false → IsJunkFirst mode len bits

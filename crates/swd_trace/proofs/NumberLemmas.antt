@@ -2,11 +2,11 @@
 use Rattle.std.proofs.Common.{◌≡◌, ℕ, zero, suc, ◌+◌, ◌-◌, ◌*◌, ◌/◌, ◌%◌, ◌^◌, ◌<◌, ◌≤◌, Bool, true, false, List, []}
 use Rattle.std.proofs.Common.{◌∷◌, ◌++◌, replicate, arith, refl, sym, ap, ◌∙◌, subst, bit_and, inl, inr}
 use Rattle.std.specs.Prelude.{◌==◌}
-use Rattle.std.proofs.Math.Pow.{shr_lt}
+use Rattle.std.proofs.Math.Pow.{shr_lt, pow-lt}
 use Rattle.std.proofs.lemmas.Bool.{eqb-true}
-use Rattle.std.proofs.lemmas.Nat.{one_shl, and_mask, pow_pos, shr-shr}
+use Rattle.std.proofs.lemmas.Nat.{one_shl, and_mask, leading_top, pow_pos, shr-shr}
 use Rattle.std.proofs.Math.Nat.{pow-suc}
-use lib.Count.{count_trailing_zeros, under}
+use lib.Count.{count_leading_zeros, count_trailing_zeros, leading_of_zero, under}
 use Rattle.std.proofs.lemmas.List.{append-nil}
 use Rattle.swd_bits.specs.Bits.{low_bits}
 use Rattle.swd_bits.proofs.BitsLemmas.{low_bits-split, length-low_bits, same_bits}
@@ -206,3 +206,34 @@ ones_most (suc k) (suc n) v s h e =
         → suc n ≤ under d (count_trailing_zeros k (2 ^ k - 1 - v / 2))
     step zero e g = omega arith
     step (suc d) e g = absurd (omega arith)
+
+-- ---- the last zero among some bits
+
+below : (i len : ℕ) → 2 ^ i < 2 ^ len → i < len
+below i zero h = let some : 0 < 2 ^ i = pow_pos i in let none : 2 ^ i < 1 = h in absurd (omega arith)
+below zero (suc len) h = omega arith
+below (suc i) (suc len) h =
+    let d : 2 ^ suc i ≡ 2 ^ i * 2 = pow-suc 2 i in
+    let e : 2 ^ suc len ≡ 2 ^ len * 2 = pow-suc 2 len in
+    let less : i < len = below i len (omega arith) in
+    omega arith
+
+pub last_zero : (len v : ℕ) → len < 64 → v < 2 ^ len
+    → (64 - count_leading_zeros 64 (2 ^ len - 1 - v) ≤ len)
+    × (0 < 64 - count_leading_zeros 64 (2 ^ len - 1 - v)
+    → v + 2 ^ (64 - count_leading_zeros 64 (2 ^ len - 1 - v) - 1) < 2 ^ len)
+last_zero len v h k = by (2 ^ len - 1 - v) refl
+  where
+    by : (a : ℕ) → 2 ^ len - 1 - v ≡ a → (64 - count_leading_zeros 64 a ≤ len)
+        × (0 < 64 - count_leading_zeros 64 a → v + 2 ^ (64 - count_leading_zeros 64 a - 1) < 2 ^ len)
+    by zero e =
+        let all : count_leading_zeros 64 zero ≡ 64 = leading_of_zero 64 in
+        (omega arith, λ some. absurd (omega arith))
+    by (suc a) e =
+        let wide : 2 ^ len < 2 ^ 64 = pow-lt h in
+        let top = leading_top 64 (suc a) (omega arith) (omega arith) in
+        let sum : count_leading_zeros 64 (suc a) + suc top.0 ≡ 64 = top.1 in
+        let low : 2 ^ top.0 ≤ suc a = top.2 in
+        let less : top.0 < len = below top.0 len (omega arith) in
+        let last : 64 - count_leading_zeros 64 (suc a) - 1 ≡ top.0 = omega arith in
+        (omega arith, λ some. subst (λ n. v + 2 ^ n < 2 ^ len) (sym last) (omega arith))

@@ -1,6 +1,6 @@
 -- What a decoder holds.
 use Rattle.std.specs.Prelude.{◌≡◌, ℕ, zero, suc, ◌+◌, ◌-◌, ◌<◌, ◌≤◌, Bool, List, [], ◌∷◌, ◌++◌, length, replicate}
-use Rattle.std.specs.Prelude.{min, Option}
+use Rattle.std.specs.Prelude.{min, map, Option}
 use Rattle.std.specs.Prelude.{Some, None}
 use Rattle.swd_bits.specs.Bits.{low_bits}
 use Rattle.swd_bits.specs.BitLists.{bits_of, IsSpelled}
@@ -8,7 +8,7 @@ use Rattle.swd_bits.specs.Transactions.{Spells}
 use Rattle.swd_bits.specs.declared.tx.Tx.{Tx as Transaction}
 use Rattle.swd_bits.specs.declared.tx_bits.TxBits.{TxBits}
 use Rattle.swd_trace.specs.declared.item.Item.{Item}
-use Rattle.swd_trace.specs.declared.item.Item.TheVariants.{Tx, Idle}
+use Rattle.swd_trace.specs.declared.item.Item.TheVariants.{Tx, Idle, Junk}
 use Rattle.swd_trace.specs.declared.mode.Mode.{Mode}
 use Rattle.swd_trace.specs.declared.mode.Mode.TheVariants.{Synced, AfterReset, AfterSwitch, Lost}
 use Rattle.swd_trace.specs.declared.decoder.Decoder.{Decoder}
@@ -78,6 +78,14 @@ pub record GivesTx (old new : Decoder) (spelled : TxBits) : Type 0 where
   pub short : spelled.len ≤ 46
   pub found : (tx : Transaction) × Spells tx (bits_of spelled)
   pub gives : (tx : Transaction) → Spells tx (bits_of spelled) → Gives old new (Tx tx)
+
+-- bits come that belong to nothing, each an item
+pub record GivesJunk (old new : Decoder) (found : TxBits) : Type 0 where
+  pub whole : IsSpelled found
+  pub short : found.len ≤ 50
+  pub law : (more : List Bool) → rest old more ≡ map Junk (bits_of found) ++ rest new more
+  pub fewer : places new < places old
+  pub fed : fed_of new ≡ fed_of old
 
 -- no item comes before the next bit
 pub record Waits (old new : Decoder) : Type 0 where

@@ -63,7 +63,7 @@ impl Decoder {
     ghost use Rattle.swd_trace.specs.declared.item.Item;
     ghost use Rattle.swd_trace.specs.Held.{rest, HasRead, held, fed_of, held_len, places, IsSettled, IsOpen, IsOpenAt};
     ghost use Rattle.swd_trace.specs.Held.{Gives, GivesTx, Waits, Decides, Closes, ClosesWith, TakesMany, TakesTx};
-    ghost use Rattle.swd_trace.specs.Held.{idle_items};
+    ghost use Rattle.swd_trace.specs.Held.{GivesJunk, idle_items};
 
     /// A decoder that was fed no bit.
     pub fn new() -> Decoder
@@ -317,7 +317,8 @@ impl Decoder {
         ensures tx { IfSome result (λ found. TakesTx self.old self.new bits count found) }
         ensures read { IfSome result (λ found. (tx : Tx) (before : List Bool) (items : List Item)
             → Spells tx (bits_of found.tx) → HasRead self.old before items
-            → HasRead self.new (before ++ low_bits found.taken bits) (items ++ (idle_items found.idle ++ Item.Tx tx ∷ []))) }
+            → HasRead self.new (before ++ low_bits found.taken bits)
+            (items ++ (idle_items found.idle ++ Item.Tx tx ∷ []))) }
         ensures none { IfNone result (self.new ≡ self.old) }
     {
         if bits == 0 || !self.holds_idle_alone() {
@@ -359,7 +360,8 @@ impl Decoder {
     pub fn due_tx(&mut self) -> Option<TxBits>
         ensures tx { IfSome result (λ spelled. GivesTx self.old self.new spelled) }
         ensures read { IfSome result (λ spelled. (tx : Tx) (bits : List Bool) (items : List Item)
-            → Spells tx (bits_of spelled) → HasRead self.old bits items → HasRead self.new bits (items ++ Item.Tx tx ∷ [])) }
+            → Spells tx (bits_of spelled) → HasRead self.old bits items
+            → HasRead self.new bits (items ++ Item.Tx tx ∷ [])) }
         ensures none { IfNone result (self.new ≡ self.old) }
     {
         if self.len < self.next || self.run > 0 || self.bits % 2 == 0 {
@@ -394,6 +396,47 @@ impl Decoder {
         if let TxEnd::NoAck(_) = tx.result {
             self.mode = Mode::Lost;
         }
+    }
+
+    /// The held bits that are decided where the place in the trace is lost, each of which belongs to nothing: all but
+    /// the ones at their end, with which a line reset may begin. `None` says nothing of what is due.
+    ///
+    /// `due` gives these items one by one: where many come, this takes less time.
+    #[inline(always)]
+    pub fn due_junk(&mut self) -> Option<TxBits>
+        ensures junk { IfSome result (λ found. GivesJunk self.old self.new found) }
+        ensures read { IfSome result (λ found. (bits : List Bool) (items : List Item) → HasRead self.old bits items
+            → HasRead self.new bits (items ++ map Item.Junk (bits_of found))) }
+        ensures none { IfNone result (self.new ≡ self.old) }
+    {
+        let Mode::Lost = self.mode else {
+            return None;
+        };
+        if self.run > 0 {
+            return None;
+        }
+        let count = self.before_ones();
+        if count == 0 {
+            return None;
+        }
+        let found = TxBits {
+            len: count,
+            bits: self.bits & ((1 << count) - 1),
+        };
+        self.bits >>= count;
+        self.len -= count;
+        self.next = 1;
+        Some(found)
+    }
+
+    // How many of the bits that are held beside a run stand before the ones at their end.
+    #[inline(always)]
+    fn before_ones(&self) -> u8
+        ensures within { result ≤ self.now.len }
+        ensures zero { 0 < result → self.now.bits + 2 ^ (result - 1) < 2 ^ self.now.len }
+    {
+        let zeros = (1 << self.len) - 1 - self.bits;
+        (u64::BITS - zeros.leading_zeros()) as u8
     }
 
     /// The next item that is decided, whatever bits may follow. `None` where none is.

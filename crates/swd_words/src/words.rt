@@ -351,7 +351,7 @@ fn asks_for_negative(words: &[&str], option: &str) -> bool {
 }
 
 // A mistake that `clap` found. Negative numbers are told by their range.
-fn told(alloc: Global, words: &[&str], fault: Error) -> LineFault
+fn line_fault(alloc: Global, words: &[&str], fault: Error) -> LineFault
     ensures { IsOfKind (kind_of fault) result }
 {
     if fault.kind() == ErrorKind::UnknownArgument && asks_for_negative(words, "--tries") {
@@ -508,6 +508,6 @@ pub fn line<'a>(alloc: Global, words: &'a [&'a str]) -> Result<Line, LineFault>
     };
     match command.try_get_matches_from(words) {
         Ok(matches) => line_of(alloc, &matches),
-        Err(fault) => Err(told(alloc, words, fault)),
+        Err(fault) => Err(line_fault(alloc, words, fault)),
     }
 }

@@ -1,6 +1,6 @@
 //! Reads one by one, and the same reads as a block.
 use crate::random::{Random, SEED};
-use crate::workload::{ACCESSES, BASE, QUIRKS, ROUNDS, TRIES, added, are_legal, plan};
+use crate::workload::{ACCESSES, BASE, QUIRKS, ROUNDS, TRIES, add_report, are_legal, plan};
 use std::alloc::{AllocError, Global};
 use swd_host::{Report, run, run_block};
 use swd_port::Access;
@@ -39,7 +39,7 @@ pub fn checksum(alloc: Global, block: bool) -> Option<u64> {
     for _ in 0..ROUNDS {
         let plan = plan(alloc, &mut random).ok()?;
         let report = one_run(alloc, plan, block)?;
-        sum = added(sum, &report);
+        sum = add_report(sum, &report);
     }
     Some(sum)
 }

@@ -129,8 +129,8 @@ fn number(answer: Answer) -> u64 {
     }
 }
 
-/// A report added to a sum.
-pub fn added(sum: u64, report: &Report) -> u64 {
+/// Adds a report to a sum.
+pub fn add_report(sum: u64, report: &Report) -> u64 {
     let mut sum = sum.wrapping_mul(31).wrapping_add(report.requests);
     for answer in report.answers.iter() {
         sum = sum.wrapping_mul(31).wrapping_add(number(*answer));
@@ -145,7 +145,7 @@ pub fn checksum(alloc: Global) -> Option<u64> {
     let mut sum = 0;
     for _ in 0..ROUNDS {
         let report = one_run(alloc, &accesses, &mut random)?;
-        sum = added(sum, &report);
+        sum = add_report(sum, &report);
     }
     Some(sum)
 }
@@ -157,7 +157,7 @@ pub fn clocked_checksum(alloc: Global) -> Option<u64> {
     let mut sum = 0;
     for _ in 0..CLOCKED_ROUNDS {
         let report = one_clocked_run(alloc, &accesses, &mut random)?;
-        sum = added(sum, &report);
+        sum = add_report(sum, &report);
     }
     Some(sum)
 }

@@ -10,7 +10,7 @@ pub returns-in-Err-clause-continues : goal.returns-in-Err-clause-continues
 returns-in-Err-clause-continues g c =
     let earlier = told_of c.args.report.now in
     continues c.args.accesses.now c.args.tries (told_by c.in-Some.answers.items c.open.new.engine c.in-Err.end) earlier
-    _ [] _ c.requires.reported (c.since.ensures ∙ ap (λ x. since x earlier) c.reported.ensures)
+    _ [] _ c.requires.reported (c.since.ensures ∙ ap (λ x. since x earlier) c.report_of.ensures)
     (c.in-Some.ensures.kept ∙ c.deref.ensures.value ∙ sym (append-nil earlier.answers))
     (opening_closes Writes true c.args.tries c.again-engine.result c.open.new.engine c.ranges.tries.fits
     c.again-engine.ensures.again c.open.ensures.works _ c.in-Err.end _ c.in-Err.ensures.finished c.open.ensures.due)
@@ -28,7 +28,7 @@ returns-clause-continues g c =
     c.perform-ended.ensures.performs in
     continues c.args.accesses.now c.args.tries
     (told_by c.perform-ended.new.answers.items c.perform-ended.new.engine c.perform-ended.result) earlier
-    _ p.answers _ c.requires.reported (c.since-2.ensures ∙ ap (λ x. since x earlier) c.reported-2.ensures)
+    _ p.answers _ c.requires.reported (c.since-2.ensures ∙ ap (λ x. since x earlier) c.report_of-2.ensures)
     (p.added ∙ ap (λ l. l ++ p.answers) (c.in-Some.ensures.kept ∙ c.deref.ensures.value))
     (list_closes Writes true c.args.tries c.again-engine.result c.open.new.engine c.ranges.tries.fits
     c.again-engine.ensures.again c.open.ensures.works rest c.perform-ended.new.engine c.perform-ended.result _
@@ -41,7 +41,7 @@ returns-in-Err-clause-fits g c = λ lawful.
       opened.0,
       λ known.
           resumed_as c.args.accesses.now c.args.tries earlier _ _ _ _
-          (c.since.ensures ∙ ap (λ x. since x earlier) c.reported.ensures)
+          (c.since.ensures ∙ ap (λ x. since x earlier) c.report_of.ensures)
           (resume_stops c.args.accesses.now c.args.tries earlier c.again-engine.result c.open.new.engine
           c.in-Some.answers.items (g.W.Wire.port c.args.wire.now) (g.W.Wire.port c.open.new.wire) c.ranges.tries.fits
           c.again-engine.ensures.again c.requires.accepted.1 c.requires.reported known opened.1 c.open.ensures.due
@@ -56,7 +56,7 @@ returns-clause-fits g c = λ lawful.
       opened.0,
       λ known.
           resumed_as c.args.accesses.now c.args.tries earlier _ _ _ _
-          (c.since-2.ensures ∙ ap (λ x. since x earlier) c.reported-2.ensures)
+          (c.since-2.ensures ∙ ap (λ x. since x earlier) c.report_of-2.ensures)
           (resume_performs c.args.accesses.now c.args.tries earlier c.again-engine.result c.open.new.engine
           c.in-Some.answers.items (g.W.Wire.port c.args.wire.now) (g.W.Wire.port c.open.new.wire) c.ranges.tries.fits
           c.again-engine.ensures.again c.requires.accepted.1 c.requires.reported known opened.1 c.open.ensures.due

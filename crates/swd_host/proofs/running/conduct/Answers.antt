@@ -9,7 +9,7 @@ returns-in-Err-clause-fits g c = λ lawful.
     let opened = c.open.ensures.goes lawful in (
       opened.0,
       λ rest.
-          told_as _ _ _ _ _ _ _ _ c.reported.ensures
+          told_as _ _ _ _ _ _ _ _ c.report_of.ensures
           (opening_stops c.args.engine.bursts c.args.accesses.now c.args.engine.tries c.args.engine c.open.new.engine
           c.args.answers.items
           (g.W.Wire.port c.args.wire.now) (g.W.Wire.port c.open.new.wire) (search rules) c.requires.new
@@ -22,7 +22,7 @@ returns-clause-fits g c = λ lawful.
     let opened = c.open.ensures.goes does.0 in (
       opened.0,
       λ rest.
-          told_as _ _ _ _ _ _ _ _ c.reported-2.ensures
+          told_as _ _ _ _ _ _ _ _ c.report_of-2.ensures
           (list_fits c.args.engine.bursts c.args.accesses.now c.args.engine.tries c.args.engine c.open.new.engine
           c.args.answers.items
           (g.W.Wire.port c.args.wire.now) (g.W.Wire.port c.open.new.wire) (search rules) c.requires.new
@@ -33,14 +33,14 @@ returns-clause-fits g c = λ lawful.
 
 pub returns-in-Err-clause-closes : goal.returns-in-Err-clause-closes
 returns-in-Err-clause-closes g c =
-    closes_told 0 _ _ _ _ _ _ (c.reported.ensures ∙ ap (λ l. told_by l c.open.new.engine c.in-Err.end) c.requires.none)
+    closes_told 0 _ _ _ _ _ _ (c.report_of.ensures ∙ ap (λ l. told_by l c.open.new.engine c.in-Err.end) c.requires.none)
     (opening_closes c.args.engine.bursts false c.args.engine.tries c.args.engine c.open.new.engine (search rules)
     c.requires.new c.open.ensures.works c.args.accesses.now c.in-Err.end _ c.in-Err.ensures.finished c.open.ensures.due)
 
 pub returns-clause-closes : goal.returns-clause-closes
 returns-clause-closes g c =
     let p = c.perform-ended.ensures.performs in
-    closes_told 0 _ _ _ _ _ _ (c.reported-2.ensures
+    closes_told 0 _ _ _ _ _ _ (c.report_of-2.ensures
     ∙ ap (λ l. told_by l c.perform-ended.new.engine c.perform-ended.result)
     (p.added ∙ ap (λ l. l ++ p.answers) c.requires.none))
     (list_closes c.args.engine.bursts false c.args.engine.tries c.args.engine c.open.new.engine (search rules)

@@ -32,4 +32,4 @@ returns-in-Err-clause-wrong c =
     let kinds = subst (λ (app : App). is_simple_and_free app ≡ true → HasKind (fault_of app words) c.in-Err.fault)
     c.in-Ok.ensures.app
     c.in-Err.ensures.kinds in
-    refused_alike (fault_of swd_app words) c.in-Err.fault c.told.result (kinds simple_and_free) c.told.ensures
+    refused_alike (fault_of swd_app words) c.in-Err.fault c.line_fault.result (kinds simple_and_free) c.line_fault.ensures

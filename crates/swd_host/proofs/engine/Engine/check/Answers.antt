@@ -9,5 +9,5 @@ returns-then-now-owed-clause-lands c =
 
 pub returns-then-owed-clause-tracks : goal.returns-then-owed-clause-tracks
 returns-then-owed-clause-tracks c base m t task error damaged h =
-    c.cleared.ensures.tracks base m t task
+    c.finish_clear.ensures.tracks base m t task
     (checks_cleared c.args.place c.args.owed c.args.now.damaged _ _ _ t c.if-owed.true c.if-not-now-2.true damaged h)

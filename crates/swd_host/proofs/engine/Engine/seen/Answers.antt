@@ -15,4 +15,4 @@ returns-clause-tracks c base m t h =
     subst (λ j. Saw j c.args.seen n base c.max-self.result (hand_of e m) t) is
     (subst (λ b. Saw (job_in e.state) c.args.seen n base b (hand_of e m) t) begun h) in
     subst (λ x. Tracks x n e.tries base c.max-self.result (hand_of e m) t)
-    (sym c.acknowledged-self.ensures) (saw_tracks job c.args.seen n e.tries base _ _ t saw)
+    (sym c.after_ack-self.ensures) (saw_tracks job c.args.seen n e.tries base _ _ t saw)

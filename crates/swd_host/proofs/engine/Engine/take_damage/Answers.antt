@@ -1,6 +1,6 @@
 use Rattle.swd_host.proofs.Words.{◌-◌, ◌+◌, sym, subst, Ask, Data, Doing, left_for, least_for, Lands}
 use Rattle.swd_host.proofs.StepLemmas.{again_lands}
-use Rattle.swd_host.proofs.engine.Engine.garbled.Goals as goal
+use Rattle.swd_host.proofs.engine.Engine.take_damage.Goals as goal
 
 pub returns-in-At-2-clause-lands : goal.returns-in-At-2-clause-lands
 returns-in-At-2-clause-lands c =

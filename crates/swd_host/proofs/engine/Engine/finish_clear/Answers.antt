@@ -1,6 +1,6 @@
 use Rattle.swd_host.proofs.Words.{ap, is_behind}
 use Rattle.swd_host.proofs.StepLemmas.{own_error_cleared}
-use Rattle.swd_host.proofs.engine.Engine.cleared.Goals as goal
+use Rattle.swd_host.proofs.engine.Engine.finish_clear.Goals as goal
 
 pub returns-in-Confirm-clause-tracks : goal.returns-in-Confirm-clause-tracks
 returns-in-Confirm-clause-tracks c base m t task h =

@@ -3,7 +3,7 @@ use Rattle.swd_bits.specs.declared.ack.Ack.{Ack}
 use Rattle.swd_bits.specs.Bits.{number}
 use Rattle.swd_bits.specs.Wire.{ack}
 use Rattle.swd_port.proofs.CallLaws.{acknowledgement_seen, no_acknowledgement_seen}
-use Rattle.swd_host.proofs.engine.acknowledged.Goals as goal
+use Rattle.swd_host.proofs.engine.after_ack.Goals as goal
 
 -- what was seen is the number of the acknowledgement that was found
 number_seen : (seen : ℕ) (found a : Ack) → seen < 8 → found ≡ a → ack found ≡ low_bits 3 seen → number (ack a) ≡ seen

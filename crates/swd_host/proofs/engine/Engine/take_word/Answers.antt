@@ -1,7 +1,7 @@
 use Rattle.swd_host.proofs.Words.{◌≡◌, ◌+◌, ◌∙◌, Some, ap, sym, subst, At, is_unread, TakenFor, hand_of, EarlyTold}
 use Rattle.swd_host.proofs.Words.{Shows}
 use Rattle.swd_host.proofs.StepLemmas.{told_check, took_taken}
-use Rattle.swd_host.proofs.engine.Engine.told.Goals as goal
+use Rattle.swd_host.proofs.engine.Engine.take_word.Goals as goal
 
 pub returns-in-At-2-clause-tracks : goal.returns-in-At-2-clause-tracks
 returns-in-At-2-clause-tracks c base m t task h =
