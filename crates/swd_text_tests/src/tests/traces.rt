@@ -23,7 +23,7 @@ pub(super) const DPIDR_READ: &[u8] = b"10100101 1 100 11101110001010000000010111
 pub(super) const DPIDR_LINE: &[u8] = b"dp 0 read ok 2ba01477\n";
 
 // Traces and their listings.
-const LISTED: [(&[u8], &[u8]); 9] = [
+const LISTED: [(&[u8], &[u8]); 10] = [
     (b"", b""),
     (DPIDR_READ, DPIDR_LINE),
     (
@@ -59,6 +59,32 @@ const LISTED: [(&[u8], &[u8]); 9] = [
           0000000000000000000000000000000000000000000000000000000000000000\
           000000101001011100",
         b"dp 0 read ok 2ba01477\ndp 0 read ok 2ba01477\nidle 70\ncut 101001011100\n",
+    ),
+    // Each list of four bits, after a transaction that isn't acknowledged, up to a line reset.
+    (
+        b"101001011111\
+          0000100001001100001010100110111000011001010111010011101101111111\
+          0\
+          11111111111111111111111111111111111111111111111111\
+          0",
+        b"dp 0 read none 7\n\
+          junk 0\njunk 0\njunk 0\njunk 0\n\
+          junk 1\njunk 0\njunk 0\njunk 0\n\
+          junk 0\njunk 1\njunk 0\njunk 0\n\
+          junk 1\njunk 1\njunk 0\njunk 0\n\
+          junk 0\njunk 0\njunk 1\njunk 0\n\
+          junk 1\njunk 0\njunk 1\njunk 0\n\
+          junk 0\njunk 1\njunk 1\njunk 0\n\
+          junk 1\njunk 1\njunk 1\njunk 0\n\
+          junk 0\njunk 0\njunk 0\njunk 1\n\
+          junk 1\njunk 0\njunk 0\njunk 1\n\
+          junk 0\njunk 1\njunk 0\njunk 1\n\
+          junk 1\njunk 1\njunk 0\njunk 1\n\
+          junk 0\njunk 0\njunk 1\njunk 1\n\
+          junk 1\njunk 0\njunk 1\njunk 1\n\
+          junk 0\njunk 1\njunk 1\njunk 1\n\
+          junk 1\njunk 1\njunk 1\njunk 1\n\
+          junk 0\nreset 50\nidle 1\n",
     ),
 ];
 
