@@ -117,6 +117,7 @@ impl<A: Allocator> Clocked<A> {
 
     // One clock, with the bit that the line has where the target doesn't drive, and whether the host
     // drives it.
+    #[inline(always)]
     pub(crate) fn clock(&mut self, bit: bool, driven: bool) -> bool
         ensures clocks { Cycles self.old.frame bit result self.old.target self.old.waits self.new }
         ensures cycles { cycles_of self.new ≡ counted 1 (cycles_of self.old) }
@@ -192,6 +193,7 @@ impl<A: Allocator> Clocked<A> {
     }
 
     // Eight bits that begin with Start.
+    #[inline(never)]
     fn byte(&mut self, bits: u8)
         ensures came { ByteCame bits self.old.target self.old.waits self.new }
         ensures cycles { self.new.cycles ≡ self.old.cycles }
@@ -218,6 +220,7 @@ impl<A: Allocator> Clocked<A> {
         self.frame = Frame::replied(reply, phase);
     }
 
+    #[inline(never)]
     fn lost_bit(&mut self, ones: u8, bit: bool)
         requires { ones < 50 }
         ensures hears { LostBit ones bit self.old.target self.old.waits self.new }
@@ -237,6 +240,7 @@ impl<A: Allocator> Clocked<A> {
         }
     }
 
+    #[inline(never)]
     fn switch_bit(&mut self, place: u8, bit: bool)
         requires { place < 16 }
         ensures switches { SwitchesBit place bit self.old.target self.old.waits self.new }
@@ -286,6 +290,7 @@ impl<A: Allocator> Clocked<A> {
         }
     }
 
+    #[inline(always)]
     fn reply_bit(&mut self, reply: Reply, line: Line, place: u8, bit: bool) -> bool
         requires frame { self.old.frame ≡ Frame.Replies reply line place }
         requires place { place < 4 }
@@ -308,6 +313,7 @@ impl<A: Allocator> Clocked<A> {
         }
     }
 
+    #[inline(always)]
     fn drive_bit(&mut self, bits: u64, left: u8, bit: bool) -> bool
         requires bits { bits < 2 ^ 33 }
         requires left { left < 34 }
@@ -326,6 +332,7 @@ impl<A: Allocator> Clocked<A> {
         bits % 2 == 1
     }
 
+    #[inline(always)]
     fn await_bit(&mut self, register: Register, bits: u64, place: u8, bit: bool)
         requires bits { bits < 2 ^ 33 }
         requires place { place < 34 }
@@ -349,6 +356,7 @@ impl<A: Allocator> Clocked<A> {
     }
 
     // The 33 bits of a write came.
+    #[inline(never)]
     fn arrive(&mut self, register: Register, bits: u64)
         requires { bits < 2 ^ 33 }
         ensures came { DataCame register bits self.old.target self.old.waits self.new }

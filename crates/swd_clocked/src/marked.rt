@@ -131,6 +131,7 @@ impl<A: Allocator> MarkedClocked<A> {
 
     /// One clock, with the bit that the host drives, or none. Gives the bit that the host sees: its
     /// own where it drives what the target awaits, and 1 where nobody drives.
+    #[inline(always)]
     pub fn cycle(&mut self, drive: Option<bool>) -> bool
         ensures cycles { MarkedCycles drive result self.old self.new }
         ensures count { cycles_of self.new ≡ counted 1 (cycles_of self.old) }
@@ -158,6 +159,7 @@ impl<A: Allocator> MarkedClocked<A> {
     }
 
     // The last bit of a request.
+    #[inline(never)]
     fn last_bit(&mut self, drive: Option<bool>) -> bool
         requires { self.old.unseen ≡ 0 }
         ensures meets { Meets drive result self.old self.new }
@@ -183,6 +185,7 @@ impl<A: Allocator> MarkedClocked<A> {
     }
 
     // A cycle that doesn't reach the target, and so many more won't.
+    #[inline(never)]
     fn miss(&mut self, more: u8, drive: Option<bool>) -> bool
         ensures misses { Misses more drive result self.old self.new }
         ensures keeps { Keeps self.old self.new }
@@ -196,6 +199,7 @@ impl<A: Allocator> MarkedClocked<A> {
     }
 
     // A cycle that reaches the target.
+    #[inline(always)]
     fn reach(&mut self, drive: Option<bool>) -> bool
         requires { self.old.unseen ≡ 0 }
         ensures reaches { Reaches self.old.mark self.old.clocked.waits drive result self.old self.new }

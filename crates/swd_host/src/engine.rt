@@ -295,6 +295,7 @@ impl Engine {
     }
 
     /// What the cue said was sent: a lead, the data phase of a write, or a turnaround.
+    #[inline(always)]
     pub fn done(&mut self)
         requires { is_send (cue_of self.old) ≡ true }
         ensures lands { lands_from self.old self.new }

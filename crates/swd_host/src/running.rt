@@ -50,6 +50,7 @@ impl Engine {
 }
 
 // One call of the wire, as the engine asks for it.
+#[inline(always)]
 fn turn<W: Wire>(wire: &mut W, engine: &mut Engine)
     requires due { DueFits engine.old (W.port wire.old) }
     requires goes_on { is_resting engine.old ≡ false }
@@ -90,6 +91,7 @@ fn turn<W: Wire>(wire: &mut W, engine: &mut Engine)
 }
 
 // Goes on to the engine's next outcome.
+#[inline(always)]
 fn drive<W: Wire>(wire: &mut W, engine: &mut Engine) -> Outcome
     requires { DueFits engine.old (W.port wire.old) }
     ensures due { DueFits engine.new (W.port wire.new) }
@@ -158,6 +160,7 @@ fn following(accesses: &[Access], index: usize) -> Option<Access>
 }
 
 // One access.
+#[inline(always)]
 fn access<W: Wire>(
     wire: &mut W,
     engine: &mut Engine,

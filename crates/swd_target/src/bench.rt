@@ -13,7 +13,7 @@ ghost use Rattle.swd_target.specs.Targets.{IsChosen};
 
 use crate::acknowledgement::seen_under;
 use crate::memory::Memory;
-use crate::phase::{bits_on, is_awaiting, line_after_reply};
+use crate::phase::{bits_on, enter_phase, is_awaiting};
 use crate::plan::Plan;
 use crate::quirks::Quirks;
 use crate::target::Target;
@@ -120,6 +120,7 @@ impl<A: Allocator> Wire for Bench<A> {
     }
 
     /// The mark of the request is the one in the plan with the number of requests before it.
+    #[inline(always)]
     fn ask(&mut self, request: Request) -> u8
         requires { (port_of self.old).link.due ≡ Nothing }
         ensures range { result < 8 }
@@ -134,10 +135,11 @@ impl<A: Allocator> Wire for Bench<A> {
         let (reply, phase) = self.target.request_under(mark, request);
         let seen = seen_under(mark, reply);
         self.due = Due::after(request.read, seen);
-        self.line = line_after_reply(reply, phase, self.line);
+        enter_phase(&mut self.line, reply, phase);
         seen
     }
 
+    #[inline(always)]
     fn take(&mut self) -> u64
         requires { (port_of self.old).link.due ≡ Take }
         ensures range { result < 2 ^ 33 }
@@ -152,6 +154,7 @@ impl<A: Allocator> Wire for Bench<A> {
         bits
     }
 
+    #[inline(always)]
     fn give(&mut self, bits: u64)
         requires due { (port_of self.old).link.due ≡ Give }
         requires range { bits < 2 ^ 33 }

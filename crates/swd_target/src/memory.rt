@@ -122,6 +122,7 @@ impl<A: Allocator> Memory<A> {
 
     /// One transfer, as the access port makes it. Where no word is at the address, or the log is full, it is a bus
     /// error, which changes nothing and isn't logged.
+    #[inline(always)]
     pub fn transfer(&mut self, access: Access) -> Answer
         ensures answer { result ≡ plain_answer access self.old }
         ensures after { self.new ≡ plain_after access self.old }

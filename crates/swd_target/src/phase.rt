@@ -47,19 +47,18 @@ pub(crate) fn flip_line(flip: Option<u8>, line: Line) -> Line
     }
 }
 
-// The data phase that the target is in after a reply.
-pub(crate) fn line_after_reply(reply: Reply, phase: Line, line: Line) -> Line
+// After an OK the target is in the data phase that follows, after any other reply where it was.
+pub(crate) fn enter_phase(line: &mut Line, reply: Reply, phase: Line)
     requires phase_bits { bits_driven phase < 2 ^ 33 }
     requires phase_flip { flip_place (awaited_flip phase) < 33 }
-    requires line_bits { bits_driven line < 2 ^ 33 }
-    requires line_flip { flip_place (awaited_flip line) < 33 }
-    ensures line { result ≡ line_after reply phase line }
-    ensures bits { bits_driven result < 2 ^ 33 }
-    ensures flip { flip_place (awaited_flip result) < 33 }
+    requires line_bits { bits_driven line.old < 2 ^ 33 }
+    requires line_flip { flip_place (awaited_flip line.old) < 33 }
+    ensures line { line.new ≡ line_after reply phase line.old }
+    ensures bits { bits_driven line.new < 2 ^ 33 }
+    ensures flip { flip_place (awaited_flip line.new) < 33 }
 {
-    match reply {
-        Reply::Okay => phase,
-        _ => line,
+    if let Reply::Okay = reply {
+        *line = phase;
     }
 }
 

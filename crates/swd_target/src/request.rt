@@ -1,7 +1,7 @@
 //! A request at a simulated target, and the data of a write: the port that each bench stands on.
-ghost use Rattle.std.specs.Prelude.{◌≡◌, ◌<◌, ◌^◌, true};
+ghost use Rattle.std.specs.Prelude.{◌≡◌, ◌<◌, ◌^◌, false, true};
 ghost use Rattle.swd_bits.specs.Phases.{word_in};
-ghost use Rattle.swd_port.specs.Choices.{IsMark};
+ghost use Rattle.swd_port.specs.Choices.{IsMark, is_deaf};
 ghost use Rattle.swd_port.specs.Asking.{IsWordRead, value_in};
 ghost use Rattle.swd_port.specs.Moving.{arrival, arrival_of, bits_driven};
 ghost use Rattle.swd_target.specs.Flips.{flip_place, awaited_flip};
@@ -20,6 +20,7 @@ impl<A: Allocator> Target<A> {
 
     /// A request where WAIT is asked for or not: the reply, and the data phase that follows an OK. Where WAIT is
     /// asked for, a read of CTRL/STAT, which never gets it, finds power late that wasn't seen to be there before.
+    #[inline(always)]
     pub fn request(&mut self, waits: bool, request: Request) -> (Reply, Line)
         ensures answers { Answers waits request self.old result.0 result.1 self.new }
         ensures quirks { (simulation self.new).quirks ≡ (simulation self.old).quirks }
@@ -61,17 +62,43 @@ impl<A: Allocator> Target<A> {
     }
 
     // A request under a mark: the reply, and the data phase that follows an OK, as it arrives.
+    #[inline(always)]
     pub(crate) fn request_under(&mut self, mark: Mark, request: Request) -> (Reply, Line)
         requires { IsMark mark }
         ensures answers { AnswersUnder mark request self.old result.0 result.1 self.new }
         ensures driven { bits_driven result.1 < 2 ^ 33 }
         ensures flipped { flip_place (awaited_flip result.1) < 33 }
     {
-        if let Mark::Deaf = mark {
-            return (Reply::Silent, Line::Idle);
+        match mark {
+            Mark::Clean => self.request_heard(Mark::Clean, request),
+            Mark::Deaf => (Reply::Silent, Line::Idle),
+            _ => self.request_disturbed(mark, request),
         }
+    }
+
+    // The same under a mark at which the target hears the request.
+    #[inline(always)]
+    fn request_heard(&mut self, mark: Mark, request: Request) -> (Reply, Line)
+        requires mark { IsMark mark }
+        requires heard { is_deaf mark ≡ false }
+        ensures answers { AnswersUnder mark request self.old result.0 result.1 self.new }
+        ensures driven { bits_driven result.1 < 2 ^ 33 }
+        ensures flipped { flip_place (awaited_flip result.1) < 33 }
+    {
         let (reply, phase) = self.request(matches!(&mark, Mark::Wait), request);
         (reply, flip_line(flip_under(mark), phase))
+    }
+
+    // Apart: nearly every mark is `Clean`, and where that is known the compiler leaves out what the others need.
+    #[inline(never)]
+    fn request_disturbed(&mut self, mark: Mark, request: Request) -> (Reply, Line)
+        requires mark { IsMark mark }
+        requires heard { is_deaf mark ≡ false }
+        ensures answers { AnswersUnder mark request self.old result.0 result.1 self.new }
+        ensures driven { bits_driven result.1 < 2 ^ 33 }
+        ensures flipped { flip_place (awaited_flip result.1) < 33 }
+    {
+        self.request_heard(mark, request)
     }
 
     /// The 33 bits of a write reach the target, and their parity says whether it is done.

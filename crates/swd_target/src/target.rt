@@ -101,6 +101,7 @@ impl<A: Allocator> Target<A> {
 
     /// The DRW transfer that was accepted and has not taken effect yet takes effect, where there is
     /// one.
+    #[inline(always)]
     pub fn complete(&mut self)
         ensures { Steps completion_of self.old self.new }
     {
@@ -189,6 +190,7 @@ impl<A: Allocator> Target<A> {
     }
 
     // The reply to a request where WAIT is asked for or not.
+    #[inline(always)]
     pub(crate) fn reply(&mut self, waits: bool, register: Register, ap: bool) -> Reply
         ensures reply { result ≡ reply_when waits register (answer_at register ap (state_of self.new)) }
         ensures settles { Transfers (state_of self.old) (state_of self.new) }
@@ -417,6 +419,7 @@ impl<A: Allocator> Target<A> {
     }
 
     // A transfer was accepted: it takes effect now, unless it does so as late as is allowed.
+    #[inline(always)]
     pub(crate) fn accept(&mut self)
         ensures effect { Transfers (state_of self.old) (state_of self.new) }
         ensures exact { simulation self.new ≡ accepted (simulation self.old) }

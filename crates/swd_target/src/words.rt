@@ -125,6 +125,7 @@ impl<A: Allocator> Words<A> {
     }
 
     // One transfer, as the access port makes it.
+    #[inline(always)]
     pub(crate) fn transfer(&mut self, access: Access) -> Answer
         ensures answer { result ≡ plain_answer access self.old }
         ensures after { self.new ≡ plain_after access self.old }
@@ -135,6 +136,7 @@ impl<A: Allocator> Words<A> {
         }
     }
 
+    #[inline(always)]
     fn read(&mut self, addr: u32) -> Answer
         ensures answer { result ≡ plain_answer (Access.Read addr) self.old }
         ensures after { self.new ≡ plain_after (Access.Read addr) self.old }
@@ -155,6 +157,7 @@ impl<A: Allocator> Words<A> {
         Answer::Value(word)
     }
 
+    #[inline(always)]
     fn write(&mut self, addr: u32, word: u32) -> Answer
         ensures answer { result ≡ plain_answer (Access.Write addr word) self.old }
         ensures after { self.new ≡ plain_after (Access.Write addr word) self.old }

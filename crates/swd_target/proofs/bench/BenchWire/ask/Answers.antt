@@ -8,5 +8,5 @@ returns-clause-step g c =
     let used = c.use_mark-mark.ensures in
     asks_lawful _ _ _ _ _ (asks_wired c.use_mark-mark.result c.args.request old.target c.request_under-reply.new.self _
     _ (link_of old) (tally_of old) _ _ _ _ _ _ c.request_under-reply.ensures.answers
-    c.seen_under-seen.ensures.value c.after-self.ensures c.line_after_reply-self.ensures.line used.asked used.disturbed
+    c.seen_under-seen.ensures.value c.after-self.ensures c.enter_phase.ensures.line used.asked used.disturbed
     used.lost)
