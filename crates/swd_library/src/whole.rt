@@ -1,7 +1,7 @@
 //! The host over a wire: words are written by `run`, and read back by `run_block`.
 use std::alloc::{AllocError, Global};
 use swd_host::{End, Refused, run, run_block};
-use swd_port::{Access, Answer, Due, Wire};
+use swd_port::{Access, Answer};
 use swd_target::{Bench, MakeFault, Memory, Quirks};
 use thiserror::Error;
 
@@ -89,11 +89,11 @@ pub fn load(alloc: Global) -> Result<(), Failure> {
     // The wire: here a simulated target. A probe's is an `impl Wire` of your own, or a `Transport` under `run_outside`.
     let memory = Memory::new(alloc, BASE, 64, 65_536)?;
     let mut wire = Bench::new(memory, QUIRKS, Vec::new(alloc));
-    let report = run(alloc, &mut wire, writes(alloc)?.as_slice(), TRIES)?;
-    if report.ended != End::All {
-        return Err(Failure::Stopped(report.ended));
+    let written = run(alloc, &mut wire, writes(alloc)?.as_slice(), TRIES)?;
+    if written.ended != End::All {
+        return Err(Failure::Stopped(written.ended));
     }
-    if let Some(index) = report
+    if let Some(index) = written
         .answers
         .iter()
         .position(|answer| *answer == Answer::BusFault)
@@ -101,12 +101,9 @@ pub fn load(alloc: Global) -> Result<(), Failure> {
         return Err(Failure::BusFault(index));
     }
     // The next call asks for a wire that rests, as it does after a whole run.
-    let Due::Nothing = wire.due() else {
-        return Err(Failure::Stopped(report.ended));
-    };
-    let report = run_block(alloc, &mut wire, BASE, 4, TRIES)?;
-    if report.ended != End::All {
-        return Err(Failure::Stopped(report.ended));
+    let read = run_block(alloc, &mut wire, BASE, 4, TRIES)?;
+    if read.ended != End::All {
+        return Err(Failure::Stopped(read.ended));
     }
-    compare(report.answers.as_slice())
+    compare(read.answers.as_slice())
 }
