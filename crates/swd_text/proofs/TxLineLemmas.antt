@@ -22,34 +22,38 @@ use Rattle.swd_trace.proofs.SpellingLemmas.{spelled_stands, length_of, length_sp
 use Rattle.swd_text.specs.TxLines.{asked_at, request_line}
 use Rattle.swd_text.specs.declared.tx_line.TheConstants.{DIGITS}
 
--- ---- the table of digits
+-- ---- the tables
 
-abbrev are_digits : ℕ → Bool
-are_digits zero = true
-are_digits (suc b) =
-    (eqb (get_or DIGITS (2 * b) 0) (hex_digit (b / 16)) && eqb (get_or DIGITS (2 * b + 1) 0) (hex_digit (b % 16)))
-    && are_digits b
+-- these are the two digits of a byte
+abbrev are_digits : List ℕ → ℕ → Bool
+are_digits (x ∷ y ∷ []) byte = eqb x (hex_digit (byte / 16)) && eqb y (hex_digit (byte % 16))
+are_digits other byte = false
 
-below : (n b : ℕ) → T (are_digits n) → b < n →
-    (get_or DIGITS (2 * b) 0 ≡ hex_digit (b / 16)) × (get_or DIGITS (2 * b + 1) 0 ≡ hex_digit (b % 16))
-below zero b t h = absurd (omega arith)
-below (suc n) b t h =
-    elim (eq-zero-or-pos (n - b)) [
-      | inl z ↦
-          let e : b ≡ n = omega arith in
-          let a = and_l _ (are_digits n) t in
-          rw e (eqb→eq _ _ (and_l _ _ a), eqb→eq _ _ (and_r _ _ a))
-      | inr g ↦ below n b (and_r _ (are_digits n) t) (omega arith)
-    ]
+digits_are : (pair : List ℕ) (byte : ℕ) → T (are_digits pair byte) → pair ≡ hex2 byte
+unfolding hex2
+digits_are [] byte t = elim t [ ]
+digits_are (x ∷ []) byte t = elim t [ ]
+digits_are (x ∷ y ∷ []) byte t =
+    ap (λ x. x ∷ y ∷ []) (eqb→eq x (hex_digit (byte / 16)) (and_l _ _ t))
+    ∙ ap (λ y. hex_digit (byte / 16) ∷ y ∷ []) (eqb→eq y (hex_digit (byte % 16)) (and_r _ _ t))
+digits_are (x ∷ y ∷ z ∷ pair) byte t = elim t [ ]
+
+-- the pairs of a table are the digits of the bytes from one on
+abbrev hold_digits : List (List ℕ) → ℕ → Bool
+hold_digits [] first = true
+hold_digits (pair ∷ pairs) first = are_digits pair first && hold_digits pairs (suc first)
+
+digits_in : (pairs : List (List ℕ)) (first place : ℕ) (other : List ℕ) → T (hold_digits pairs first) →
+    place < length pairs → get_or pairs place other ≡ hex2 (place + first)
+digits_in [] first place other t h = absurd (omega arith)
+digits_in (pair ∷ pairs) first zero other t h =
+    digits_are pair first (and_l _ _ t) ∙ ap hex2 (omega arith)
+digits_in (pair ∷ pairs) first (suc place) other t h =
+    digits_in pairs (suc first) place other (and_r (are_digits pair first) _ t) (omega arith) ∙ ap hex2 (omega arith)
 
 -- what the table holds at a byte
-pub digits_of_byte : (byte place : ℕ) → place ≡ byte → byte < 256 →
-    get_or DIGITS (2 * place) 0 ∷ get_or DIGITS (2 * place + 1) 0 ∷ [] ≡ hex2 byte
-unfolding hex2
-digits_of_byte byte place e h =
-    let p = below 256 byte tt h in
-    ap (λ k. get_or DIGITS (2 * k) 0 ∷ get_or DIGITS (2 * k + 1) 0 ∷ []) e
-    ∙ ap (λ x. x ∷ get_or DIGITS (2 * byte + 1) 0 ∷ []) p.0 ∙ ap (λ x. hex_digit (byte / 16) ∷ x ∷ []) p.1
+pub digits_of_byte : (byte : ℕ) (other : List ℕ) → byte < 256 → get_or DIGITS byte other ≡ hex2 byte
+digits_of_byte byte other h = digits_in DIGITS 0 byte other tt h ∙ ap hex2 (omega arith)
 
 -- ---- the transaction in some bits
 

@@ -16,23 +16,62 @@ use std::io::Write;
 use swd_bits::{MOVED_BITS, REFUSED_BITS, Tx, TxBits};
 use swd_io::Block;
 
-// The two hexadecimal digits of each byte.
-static DIGITS: [u8; 512] = *b"000102030405060708090a0b0c0d0e0f101112131415161718191a1b1c1d1e1f\
-      202122232425262728292a2b2c2d2e2f303132333435363738393a3b3c3d3e3f\
-      404142434445464748494a4b4c4d4e4f505152535455565758595a5b5c5d5e5f\
-      606162636465666768696a6b6c6d6e6f707172737475767778797a7b7c7d7e7f\
-      808182838485868788898a8b8c8d8e8f909192939495969798999a9b9c9d9e9f\
-      a0a1a2a3a4a5a6a7a8a9aaabacadaeafb0b1b2b3b4b5b6b7b8b9babbbcbdbebf\
-      c0c1c2c3c4c5c6c7c8c9cacbcccdcecfd0d1d2d3d4d5d6d7d8d9dadbdcdddedf\
-      e0e1e2e3e4e5e6e7e8e9eaebecedeeeff0f1f2f3f4f5f6f7f8f9fafbfcfdfeff";
+// The two hexadecimal digits of each byte. A pair is loaded at once.
+static DIGITS: [[u8; 2]; 256] = [
+    *b"00", *b"01", *b"02", *b"03", *b"04", *b"05", *b"06", *b"07", *b"08", *b"09", *b"0a", *b"0b",
+    *b"0c", *b"0d", *b"0e", *b"0f", *b"10", *b"11", *b"12", *b"13", *b"14", *b"15", *b"16", *b"17",
+    *b"18", *b"19", *b"1a", *b"1b", *b"1c", *b"1d", *b"1e", *b"1f", *b"20", *b"21", *b"22", *b"23",
+    *b"24", *b"25", *b"26", *b"27", *b"28", *b"29", *b"2a", *b"2b", *b"2c", *b"2d", *b"2e", *b"2f",
+    *b"30", *b"31", *b"32", *b"33", *b"34", *b"35", *b"36", *b"37", *b"38", *b"39", *b"3a", *b"3b",
+    *b"3c", *b"3d", *b"3e", *b"3f", *b"40", *b"41", *b"42", *b"43", *b"44", *b"45", *b"46", *b"47",
+    *b"48", *b"49", *b"4a", *b"4b", *b"4c", *b"4d", *b"4e", *b"4f", *b"50", *b"51", *b"52", *b"53",
+    *b"54", *b"55", *b"56", *b"57", *b"58", *b"59", *b"5a", *b"5b", *b"5c", *b"5d", *b"5e", *b"5f",
+    *b"60", *b"61", *b"62", *b"63", *b"64", *b"65", *b"66", *b"67", *b"68", *b"69", *b"6a", *b"6b",
+    *b"6c", *b"6d", *b"6e", *b"6f", *b"70", *b"71", *b"72", *b"73", *b"74", *b"75", *b"76", *b"77",
+    *b"78", *b"79", *b"7a", *b"7b", *b"7c", *b"7d", *b"7e", *b"7f", *b"80", *b"81", *b"82", *b"83",
+    *b"84", *b"85", *b"86", *b"87", *b"88", *b"89", *b"8a", *b"8b", *b"8c", *b"8d", *b"8e", *b"8f",
+    *b"90", *b"91", *b"92", *b"93", *b"94", *b"95", *b"96", *b"97", *b"98", *b"99", *b"9a", *b"9b",
+    *b"9c", *b"9d", *b"9e", *b"9f", *b"a0", *b"a1", *b"a2", *b"a3", *b"a4", *b"a5", *b"a6", *b"a7",
+    *b"a8", *b"a9", *b"aa", *b"ab", *b"ac", *b"ad", *b"ae", *b"af", *b"b0", *b"b1", *b"b2", *b"b3",
+    *b"b4", *b"b5", *b"b6", *b"b7", *b"b8", *b"b9", *b"ba", *b"bb", *b"bc", *b"bd", *b"be", *b"bf",
+    *b"c0", *b"c1", *b"c2", *b"c3", *b"c4", *b"c5", *b"c6", *b"c7", *b"c8", *b"c9", *b"ca", *b"cb",
+    *b"cc", *b"cd", *b"ce", *b"cf", *b"d0", *b"d1", *b"d2", *b"d3", *b"d4", *b"d5", *b"d6", *b"d7",
+    *b"d8", *b"d9", *b"da", *b"db", *b"dc", *b"dd", *b"de", *b"df", *b"e0", *b"e1", *b"e2", *b"e3",
+    *b"e4", *b"e5", *b"e6", *b"e7", *b"e8", *b"e9", *b"ea", *b"eb", *b"ec", *b"ed", *b"ee", *b"ef",
+    *b"f0", *b"f1", *b"f2", *b"f3", *b"f4", *b"f5", *b"f6", *b"f7", *b"f8", *b"f9", *b"fa", *b"fb",
+    *b"fc", *b"fd", *b"fe", *b"ff",
+];
+
+// What a request is listed as, by its port, direction and address bits, and one character more where it reads.
+static REQUESTS: [[u8; 12]; 16] = [
+    *b"dp 0 write  ",
+    *b"ap 0 write  ",
+    *b"dp 0 read   ",
+    *b"ap 0 read   ",
+    *b"dp 4 write  ",
+    *b"ap 4 write  ",
+    *b"dp 4 read   ",
+    *b"ap 4 read   ",
+    *b"dp 8 write  ",
+    *b"ap 8 write  ",
+    *b"dp 8 read   ",
+    *b"ap 8 read   ",
+    *b"dp c write  ",
+    *b"ap c write  ",
+    *b"dp c read   ",
+    *b"ap c read   ",
+];
+
+// How the parity of a data phase is listed, where it has an even number of ones and where it has an odd one, and one
+// character more where it is even.
+static PARITIES: [[u8; 4]; 2] = [*b"ok  ", *b"bad "];
 
 // The two digits of a byte.
 #[inline(always)]
 fn digits(byte: u8) -> [u8; 2]
     ensures { result ≡ hex2 byte }
 {
-    let place = 2 * usize::from(byte);
-    [DIGITS[place], DIGITS[place + 1]]
+    DIGITS[usize::from(byte)]
 }
 
 // The eight digits of a word, and a line end.
@@ -49,30 +88,12 @@ fn word_line(word: u32) -> [u8; 9]
     ]
 }
 
-// What a request is listed as, and one character more where it reads.
 #[inline(always)]
 fn request_text(asked: usize) -> &'static [u8; 12]
     requires { asked < 16 }
     ensures { take (11 - asked / 2 % 2) result.now ≡ request_line (asked_at asked) }
 {
-    match asked {
-        0 => b"dp 0 write  ",
-        1 => b"ap 0 write  ",
-        2 => b"dp 0 read   ",
-        3 => b"ap 0 read   ",
-        4 => b"dp 4 write  ",
-        5 => b"ap 4 write  ",
-        6 => b"dp 4 read   ",
-        7 => b"ap 4 read   ",
-        8 => b"dp 8 write  ",
-        9 => b"ap 8 write  ",
-        10 => b"dp 8 read   ",
-        11 => b"ap 8 read   ",
-        12 => b"dp c write  ",
-        13 => b"ap c write  ",
-        14 => b"dp c read   ",
-        _ => b"ap c read   ",
-    }
+    &REQUESTS[asked]
 }
 
 #[inline(always)]
@@ -80,7 +101,7 @@ fn parity_text(odd: usize) -> &'static [u8; 4]
     requires { odd < 2 }
     ensures { take (3 + odd) result.now ≡ parity (odd == 0) }
 {
-    if odd == 0 { b"ok  " } else { b"bad " }
+    &PARITIES[odd]
 }
 
 // The line of the transaction with these 46 bits, which moved a word, is under way, too.
