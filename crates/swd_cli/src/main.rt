@@ -1,20 +1,12 @@
 //! The program `swd`.
 #![tactic(auto)]
 
-mod files;
-mod program;
-mod remote_command;
-mod report;
-mod target_command;
-mod trace;
-mod watch;
+mod disk;
 
-use files::Disk;
-use program::run_words;
-use report::tell;
+use disk::Disk;
 use std::process::ExitCode;
 use std::{env, io};
-use watch::Watch;
+use swd_commands::{Watch, run_words, tell};
 
 // The status of the program, with its words, its standard streams and the machine's files.
 fn status(rt: &HostRuntime) -> io::Result<u8> {
@@ -44,6 +36,3 @@ fn main(rt: HostRuntime) -> ExitCode {
         Err(_) => ExitCode::from(tell(&mut rt.stderr(), "no memory")),
     }
 }
-
-#[cfg(test)]
-mod tests;

@@ -9,7 +9,7 @@ use Rattle.swd_remote.specs.WholeRuns.{GoesOver, IsUnused}
 use Rattle.swd_run.specs.declared.closing.Finished.{Finished}
 use Rattle.swd_ends.specs.RemoteRuns.{RunsRecorded, RunsRemote}
 use Rattle.swd_words.specs.declared.command.RunLine.{RunLine}
-use Rattle.swd_cli.specs.Statuses.{status_of_run}
+use Rattle.swd_commands.specs.Statuses.{status_of_run}
 
 -- where the other end went away, the status is 1; else it is that of the run
 abbrev pub status_at : Bool → Option Fault → Result Finished EngineFault → ℕ

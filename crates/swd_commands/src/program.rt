@@ -1,14 +1,14 @@
 //! What the program does with its words.
 ghost use Rattle.std.specs.Prelude.{◌≡◌, ◌≢◌, IfNone, IfSome, Some, codes};
-ghost use Rattle.swd_cli.specs.Inputs.{IsStandard, named};
-ghost use Rattle.swd_cli.specs.Statuses.{Performs, PerformsRun, PerformsUnder};
+ghost use Rattle.swd_commands.specs.Inputs.{IsStandard, named};
+ghost use Rattle.swd_commands.specs.Statuses.{Performs, PerformsRun, PerformsUnder};
 
-use crate::files::{Files, Identity};
+use crate::bus_faults::Watch;
+use crate::open_files::{Files, Identity};
 use crate::remote_command::{Untold, perform_remote};
 use crate::report::{DONE, FAULT, cannot_open, engine_status, one_status, run_status, tell};
 use crate::target_command::perform_target;
 use crate::trace::{Sources, open_plan, open_trace};
-use crate::watch::Watch;
 use clap::Error;
 use std::alloc::Global;
 use std::io::{Read, Write};

@@ -1,4 +1,5 @@
 //! What words ask for, and what is said of words that ask for nothing.
+use super::expect::expect_eq;
 use std::alloc::Global;
 use std::test::Fail;
 use swd_words::{Line, LineFault, line};
@@ -106,7 +107,7 @@ fn words_with_a_file(rt: HostRuntime) -> Result<(), Fail> {
             _ => None,
         };
         let name = file.ok_or("no name")?;
-        assert_eq!(rt; name.as_str(), "a");
+        expect_eq(&rt, &name.as_str(), &"a");
     }
     Ok(())
 }
@@ -131,18 +132,18 @@ fn words_of_a_run(rt: HostRuntime) -> Result<(), Fail> {
     let Ok(Line::Run(run)) = line(rt.alloc(), words.as_slice()) else {
         return Err(Fail::from("no run"));
     };
-    assert_eq!(rt; run.script.as_str(), "s");
-    assert_eq!(rt; run.plan.ok_or("no plan")?.as_str(), "p");
-    assert_eq!(rt; run.tries, 8);
+    expect_eq(&rt, &run.script.as_str(), &"s");
+    expect_eq(&rt, &run.plan.ok_or("no plan")?.as_str(), &"p");
+    expect_eq(&rt, &run.tries, &8);
     assert!(rt; run.trace.is_none());
     let words = ["swd", "run", "s", "--plan", "p", "--trace", "t"];
     let Ok(Line::Run(run)) = line(rt.alloc(), words.as_slice()) else {
         return Err(Fail::from("no run"));
     };
-    assert_eq!(rt; run.script.as_str(), "s");
-    assert_eq!(rt; run.plan.ok_or("no plan")?.as_str(), "p");
-    assert_eq!(rt; run.tries, 8);
-    assert_eq!(rt; run.trace.ok_or("no trace")?.as_str(), "t");
+    expect_eq(&rt, &run.script.as_str(), &"s");
+    expect_eq(&rt, &run.plan.ok_or("no plan")?.as_str(), &"p");
+    expect_eq(&rt, &run.tries, &8);
+    expect_eq(&rt, &run.trace.ok_or("no trace")?.as_str(), &"t");
     assert!(rt; !run.strict);
     let words = ["swd", "run", "--strict", "s"];
     let Ok(Line::Run(run)) = line(rt.alloc(), words.as_slice()) else {
@@ -159,17 +160,18 @@ fn words_of_a_run(rt: HostRuntime) -> Result<(), Fail> {
         ("", None),
     ] {
         let words = ["swd", "run", "s", "--tries", text];
-        assert_eq!(rt; tries_in(rt.alloc(), words.as_slice()), tries);
+        expect_eq(&rt, &tries_in(rt.alloc(), words.as_slice()), &tries);
         let words = ["swd", "run", "s", "--resume", text];
-        assert_eq!(rt; resumes_in(rt.alloc(), words.as_slice()), tries);
+        expect_eq(&rt, &resumes_in(rt.alloc(), words.as_slice()), &tries);
     }
-    assert_eq!(rt;
-        resumes_in(rt.alloc(), ["swd", "run", "s"].as_slice()),
-        Some(0)
+    expect_eq(
+        &rt,
+        &resumes_in(rt.alloc(), ["swd", "run", "s"].as_slice()),
+        &Some(0),
     );
     let words = ["swd", "run", "s", "--tries", "5", "--resume", "7"];
-    assert_eq!(rt; tries_in(rt.alloc(), words.as_slice()), Some(5));
-    assert_eq!(rt; resumes_in(rt.alloc(), words.as_slice()), Some(7));
+    expect_eq(&rt, &tries_in(rt.alloc(), words.as_slice()), &Some(5));
+    expect_eq(&rt, &resumes_in(rt.alloc(), words.as_slice()), &Some(7));
     Ok(())
 }
 

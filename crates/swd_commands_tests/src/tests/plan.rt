@@ -1,4 +1,5 @@
 //! The file of a plan, beside what else is read.
+use super::expect::expect_eq;
 use super::{SCRIPT, run_on};
 
 // A plan that is read from where the script is would be empty, and the run as if nothing happened to its requests.
@@ -12,16 +13,17 @@ fn a_plan_is_another_file_than_the_script(rt: HostRuntime) {
     ] {
         let words = ["swd", "run", script, "--plan", plan];
         let ran = run_on(rt.alloc(), words.as_slice(), SCRIPT);
-        assert_eq!(rt; ran.status, if refused { 2 } else { 0 });
-        assert_eq!(rt; ran.output.is_empty(), refused);
-        assert_eq!(rt; ran.errors.starts_with(b"swd: cannot open "), refused);
+        expect_eq(&rt, &ran.status, &if refused { 2 } else { 0 });
+        expect_eq(&rt, &ran.output.is_empty(), &refused);
+        expect_eq(&rt, &ran.errors.starts_with(b"swd: cannot open "), &refused);
     }
     // Standard input is the debugger's.
     let words = ["swd", "target", "memory", "--plan", "input"];
     let ran = run_on(rt.alloc(), words.as_slice(), b"Q".as_slice());
-    assert_eq!(rt; ran.status, 2);
-    assert_eq!(rt;
-        ran.errors.as_slice(),
-        b"swd: cannot open input\n".as_slice()
+    expect_eq(&rt, &ran.status, &2);
+    expect_eq(
+        &rt,
+        &ran.errors.as_slice(),
+        &b"swd: cannot open input\n".as_slice(),
     );
 }

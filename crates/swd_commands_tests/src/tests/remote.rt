@@ -1,4 +1,5 @@
 //! A run at a target behind the standard streams: what words make of it.
+use super::expect::expect_eq;
 use super::run_on;
 
 // The report of a run that was lost before its first access.
@@ -20,9 +21,9 @@ fn a_target_that_goes_away_takes_one_line(rt: HostRuntime) {
     ];
     for (levels, errors) in rows {
         let ran = run_on(rt.alloc(), WORDS.as_slice(), levels);
-        assert_eq!(rt; ran.errors.as_slice(), errors);
-        assert_eq!(rt; ran.status, 1);
-        assert_eq!(rt; ran.traced, LOST.len());
+        expect_eq(&rt, &ran.errors.as_slice(), &errors);
+        expect_eq(&rt, &ran.status, &1);
+        expect_eq(&rt, &ran.traced, &LOST.len());
         assert!(rt; ran.output.starts_with(b"egeg"));
         // Nothing is sent after it.
         assert!(rt; ran.output.ends_with(b"dcf"));
@@ -33,8 +34,8 @@ fn a_target_that_goes_away_takes_one_line(rt: HostRuntime) {
 fn a_lost_acknowledgement_is_no_fault_of_the_line(rt: HostRuntime) {
     let ran = run_on(rt.alloc(), WORDS.as_slice(), b"111".as_slice());
     assert!(rt; ran.errors.is_empty());
-    assert_eq!(rt; ran.status, 1);
-    assert_eq!(rt; ran.traced, LOST.len());
+    expect_eq(&rt, &ran.status, &1);
+    expect_eq(&rt, &ran.traced, &LOST.len());
     assert!(rt; ran.output.ends_with(b"dcfQ"));
 }
 
@@ -45,12 +46,13 @@ fn its_trace_goes_to_a_file_of_its_own(rt: HostRuntime) {
         "1",
     ];
     let ran = run_on(rt.alloc(), words.as_slice(), b"111".as_slice());
-    assert_eq!(rt;
-        ran.errors.as_slice(),
-        b"swd: the other end went away\n".as_slice()
+    expect_eq(
+        &rt,
+        &ran.errors.as_slice(),
+        &b"swd: the other end went away\n".as_slice(),
     );
-    assert_eq!(rt; ran.status, 1);
-    assert_eq!(rt; ran.cuts, 2);
+    expect_eq(&rt, &ran.status, &1);
+    expect_eq(&rt, &ran.cuts, &2);
     assert!(rt; ran.traced > b"resume 0 begun 0\n".len() + LOST.len());
     // The report's file is none for the trace.
     for trace in ["traced", "script", "output", "-", "locked"] {
@@ -58,10 +60,10 @@ fn its_trace_goes_to_a_file_of_its_own(rt: HostRuntime) {
             "swd", "run", "script", "--remote", "--report", "traced", "--trace", trace,
         ];
         let ran = run_on(rt.alloc(), words.as_slice(), b"111".as_slice());
-        assert_eq!(rt; ran.status, 2);
+        expect_eq(&rt, &ran.status, &2);
         assert!(rt; ran.errors.starts_with(b"swd: cannot open "));
         assert!(rt; ran.output.is_empty());
-        assert_eq!(rt; ran.cuts, 1);
+        expect_eq(&rt, &ran.cuts, &1);
     }
 }
 
@@ -82,7 +84,7 @@ fn what_does_not_go_with_it_is_refused(rt: HostRuntime) {
         let ran = run_on(rt.alloc(), words, b"".as_slice());
         assert!(rt; ran.output.is_empty());
         assert!(rt; !ran.errors.is_empty());
-        assert_eq!(rt; ran.status, 2);
-        assert_eq!(rt; ran.traced, 0);
+        expect_eq(&rt, &ran.status, &2);
+        expect_eq(&rt, &ran.traced, &0);
     }
 }

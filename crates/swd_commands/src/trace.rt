@@ -1,8 +1,8 @@
 //! The files of a plan and of a trace, which may be none of the others.
 ghost use Rattle.std.specs.Prelude.{◌≢◌, IfOk, Some};
-ghost use Rattle.swd_cli.specs.Traces.{IsBeside};
+ghost use Rattle.swd_commands.specs.Traces.{IsBeside};
 
-use crate::files::{Files, Identity, Opened};
+use crate::open_files::{Files, Identity, Opened};
 use std::io;
 use std::io::ErrorKind;
 

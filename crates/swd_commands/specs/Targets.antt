@@ -6,7 +6,7 @@ use Rattle.swd_bitbang.specs.declared.trace.Trace.{Trace}
 use Rattle.swd_bitbang.specs.declared.pins.Pins.{Pins}
 use Rattle.swd_bitbang.specs.Sessions.{Serves}
 use Rattle.swd_ends.specs.Serving.{Simulates}
-use Rattle.swd_cli.specs.Statuses.{NotOpened}
+use Rattle.swd_commands.specs.Statuses.{NotOpened}
 
 -- 0 where the host was served to its end and log and trace were written, 2 else
 abbrev pub IsServedStatus : Served → ℕ → Type 0

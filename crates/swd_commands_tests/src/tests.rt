@@ -1,18 +1,17 @@
 //! What the program does with its words.
-use crate::files::{Files, Identity, Opened};
-use crate::program::run_words;
-use crate::report::{cannot_open, engine_status};
-use crate::watch::Watch;
+use expect::expect_eq;
 use std::alloc::Global;
 use std::cell::Cell;
 use std::io;
 use std::io::{Read, Write};
 use std::test::Fail;
+use swd_commands::{Files, Identity, Opened, Watch, cannot_open, engine_status, run_words};
 use swd_fakes::CountingWriter;
 use swd_script::ScriptFault;
 use swd_text::{EngineFault, TextFault};
 use swd_trace::ListFault;
 
+mod expect;
 mod plan;
 mod remote;
 mod target;
@@ -153,9 +152,9 @@ fn each_command_reads_standard_input(rt: HostRuntime) {
             ["swd", command, "-"].as_slice(),
         ] {
             let ran = run_on(rt.alloc(), words, input);
-            assert_eq!(rt; ran.output.as_slice(), output);
+            expect_eq(&rt, &ran.output.as_slice(), &output);
             assert!(rt; ran.errors.is_empty());
-            assert_eq!(rt; ran.status, 0);
+            expect_eq(&rt, &ran.status, &0);
         }
     }
 }
@@ -173,9 +172,9 @@ fn each_command_reads_a_file(rt: HostRuntime) {
             ["swd", command, name].as_slice(),
             b"x".as_slice(),
         );
-        assert_eq!(rt; ran.output.as_slice(), output);
+        expect_eq(&rt, &ran.output.as_slice(), &output);
         assert!(rt; ran.errors.is_empty());
-        assert_eq!(rt; ran.status, 0);
+        expect_eq(&rt, &ran.status, &0);
     }
 }
 
@@ -187,13 +186,13 @@ fn a_script_is_run(rt: HostRuntime) {
         ["swd", "run", "--tries", "0", "--plan=quiet", "script"].as_slice(),
     ] {
         let ran = run_on(rt.alloc(), words, b"x".as_slice());
-        assert_eq!(rt; ran.output.as_slice(), REPORT);
+        expect_eq(&rt, &ran.output.as_slice(), &REPORT);
         assert!(rt; ran.errors.is_empty());
-        assert_eq!(rt; ran.status, 0);
+        expect_eq(&rt, &ran.status, &0);
     }
     let ran = run_on(rt.alloc(), ["swd", "run", "-"].as_slice(), SCRIPT);
-    assert_eq!(rt; ran.output.as_slice(), REPORT);
-    assert_eq!(rt; ran.status, 0);
+    expect_eq(&rt, &ran.output.as_slice(), &REPORT);
+    expect_eq(&rt, &ran.status, &0);
 }
 
 // A lost run is resumed, and done whole.
@@ -204,25 +203,29 @@ fn a_lost_run_is_resumed(rt: HostRuntime) {
     let report = b"resume 0 begun 1\nw 20000000 written\nr 20000000 deadbeef\n\
         r 20000004 00000000\nr 30000000 busfault\nend all 4\n"
         .as_slice();
-    assert_eq!(rt; ran.output.as_slice(), report);
+    expect_eq(&rt, &ran.output.as_slice(), &report);
     assert!(rt; ran.errors.is_empty());
-    assert_eq!(rt; ran.status, 0);
+    expect_eq(&rt, &ran.status, &0);
     let words = [
         "swd", "run", "script", "--plan", "cut", "--resume", "1", "--strict", "--trace", "traced",
     ];
     let ran = run_on(rt.alloc(), words.as_slice(), b"".as_slice());
-    assert_eq!(rt; ran.output.as_slice(), report);
+    expect_eq(&rt, &ran.output.as_slice(), &report);
     assert!(rt; ran.traced > 0);
-    assert_eq!(rt; ran.status, 1);
+    expect_eq(&rt, &ran.status, &1);
 }
 
 #[test]
 fn a_run_that_ends_early_has_a_status(rt: HostRuntime) {
     let words = ["swd", "run", "script", "--plan", "cut"];
     let ran = run_on(rt.alloc(), words.as_slice(), b"".as_slice());
-    assert_eq!(rt; ran.output.as_slice(), b"end lost 0 begun 1\n".as_slice());
+    expect_eq(
+        &rt,
+        &ran.output.as_slice(),
+        &b"end lost 0 begun 1\n".as_slice(),
+    );
     assert!(rt; ran.errors.is_empty());
-    assert_eq!(rt; ran.status, 1);
+    expect_eq(&rt, &ran.status, &1);
 }
 
 // The file of the trace is made before anything is read, and so stands there, empty, where the script is at fault.
@@ -239,9 +242,9 @@ fn a_run_is_traced(rt: HostRuntime) {
             words.as_slice(),
             b"memory 20000000 1\n".as_slice(),
         );
-        assert_eq!(rt; ran.output.as_slice(), output);
-        assert_eq!(rt; ran.traced, traced);
-        assert_eq!(rt; ran.status, status);
+        expect_eq(&rt, &ran.output.as_slice(), &output);
+        expect_eq(&rt, &ran.traced, &traced);
+        expect_eq(&rt, &ran.status, &status);
     }
     // Without the option nothing is made.
     let ran = run_on(
@@ -249,7 +252,7 @@ fn a_run_is_traced(rt: HostRuntime) {
         ["swd", "run", "-"].as_slice(),
         b"memory 20000000 1\n".as_slice(),
     );
-    assert_eq!(rt; ran.traced, 0);
+    expect_eq(&rt, &ran.traced, &0);
 }
 
 // A trace that is one of the other files, under whatever name, is refused with nothing written or cut off.
@@ -270,11 +273,11 @@ fn a_trace_is_none_of_the_other_files(rt: HostRuntime) {
     ] {
         let words = ["swd", "run", script, "--plan", plan, "--trace", trace];
         let ran = run_on(rt.alloc(), words.as_slice(), SCRIPT);
-        assert_eq!(rt; ran.status, if refused { 2 } else { 0 });
-        assert_eq!(rt; ran.cuts, usize::from(!refused));
-        assert_eq!(rt; ran.output.is_empty(), refused);
-        assert_eq!(rt; ran.traced == 0, refused);
-        assert_eq!(rt; ran.errors.starts_with(b"swd: cannot open "), refused);
+        expect_eq(&rt, &ran.status, &if refused { 2 } else { 0 });
+        expect_eq(&rt, &ran.cuts, &usize::from(!refused));
+        expect_eq(&rt, &ran.output.is_empty(), &refused);
+        expect_eq(&rt, &(ran.traced == 0), &refused);
+        expect_eq(&rt, &ran.errors.starts_with(b"swd: cannot open "), &refused);
     }
 }
 
@@ -327,10 +330,14 @@ fn a_trace_that_may_be_standard_output_is_refused(rt: HostRuntime) {
         &mut output,
         &mut errors,
     );
-    assert_eq!(rt; status, 2);
-    assert_eq!(rt; errors.as_slice(), b"swd: cannot open traced\n".as_slice());
+    expect_eq(&rt, &status, &2);
+    expect_eq(
+        &rt,
+        &errors.as_slice(),
+        &b"swd: cannot open traced\n".as_slice(),
+    );
     assert!(rt; output.writer.is_empty());
-    assert_eq!(rt; cuts.get(), 0);
+    expect_eq(&rt, &cuts.get(), &0);
 }
 
 // A strict run fails where a bus fault was answered. Its report is that of any run.
@@ -361,14 +368,14 @@ fn a_bus_fault_fails_a_strict_run(rt: HostRuntime) {
         ),
         (["swd", "run", "-", "--strict"].as_slice(), b"r 0\n", 2),
     ] {
-        assert_eq!(rt; run_on(rt.alloc(), words, input).status, status);
+        expect_eq(&rt, &run_on(rt.alloc(), words, input).status, &status);
     }
     let ran = run_on(
         rt.alloc(),
         ["swd", "run", "-", "--strict"].as_slice(),
         SCRIPT,
     );
-    assert_eq!(rt; ran.output.as_slice(), REPORT);
+    expect_eq(&rt, &ran.output.as_slice(), &REPORT);
     assert!(rt; ran.errors.is_empty());
 }
 
@@ -407,8 +414,8 @@ fn a_bus_fault_is_found_in_pieces(rt: HostRuntime) -> Result<(), Fail> {
             let mut watch = Watch::new(ByteByByte(Vec::new(rt.alloc())));
             watch.look(looks);
             watch.write_all(text)?;
-            assert_eq!(rt; watch.has_found(), found && looks);
-            assert_eq!(rt; watch.writer.0.as_slice(), text);
+            expect_eq(&rt, &watch.has_found(), &(found && looks));
+            expect_eq(&rt, &watch.writer.0.as_slice(), &text);
         }
     }
     Ok(())
@@ -450,8 +457,8 @@ fn a_run_that_is_at_fault_takes_a_line(rt: HostRuntime) {
     ] {
         let ran = run_on(rt.alloc(), words, input);
         assert!(rt; ran.output.is_empty());
-        assert_eq!(rt; ran.errors.as_slice(), errors);
-        assert_eq!(rt; ran.status, 2);
+        expect_eq(&rt, &ran.errors.as_slice(), &errors);
+        expect_eq(&rt, &ran.status, &2);
     }
 }
 
@@ -474,8 +481,8 @@ fn each_fault_takes_its_line(rt: HostRuntime) {
     ] {
         let ran = run_on(rt.alloc(), ["swd", command].as_slice(), input);
         assert!(rt; ran.output.is_empty());
-        assert_eq!(rt; ran.errors.as_slice(), errors);
-        assert_eq!(rt; ran.status, 2);
+        expect_eq(&rt, &ran.errors.as_slice(), &errors);
+        expect_eq(&rt, &ran.status, &2);
     }
 }
 
@@ -509,8 +516,12 @@ fn ends_that_fail_take_their_lines(rt: HostRuntime) {
         let words = ["swd", command];
         let ran = run_on(rt.alloc(), words.as_slice(), Broken);
         assert!(rt; ran.output.is_empty());
-        assert_eq!(rt; ran.errors.as_slice(), b"swd: read failed\n".as_slice());
-        assert_eq!(rt; ran.status, 2);
+        expect_eq(
+            &rt,
+            &ran.errors.as_slice(),
+            &b"swd: read failed\n".as_slice(),
+        );
+        expect_eq(&rt, &ran.status, &2);
         let mut input = input;
         let mut errors = Vec::new(rt.alloc());
         let status = run_words(
@@ -524,8 +535,8 @@ fn ends_that_fail_take_their_lines(rt: HostRuntime) {
             &mut Watch::new(Broken),
             &mut errors,
         );
-        assert_eq!(rt; errors.as_slice(), b"swd: write failed\n".as_slice());
-        assert_eq!(rt; status, 2);
+        expect_eq(&rt, &errors.as_slice(), &b"swd: write failed\n".as_slice());
+        expect_eq(&rt, &status, &2);
     }
 }
 
@@ -541,11 +552,11 @@ fn a_file_that_is_not_there_takes_one_line(rt: HostRuntime) {
             b"".as_slice(),
         );
         assert!(rt; ran.output.is_empty());
-        assert_eq!(rt; ran.errors.as_slice(), errors);
-        assert_eq!(rt; ran.status, 2);
+        expect_eq(&rt, &ran.errors.as_slice(), &errors);
+        expect_eq(&rt, &ran.status, &2);
     }
     let mut errors = Vec::new(rt.alloc());
-    assert_eq!(rt; cannot_open(&mut errors, "b"), 2);
+    expect_eq(&rt, &cannot_open(&mut errors, "b"), &2);
 }
 
 #[test]
@@ -585,22 +596,22 @@ fn each_fault_of_an_engine_has_its_words(rt: HostRuntime) {
         (EngineFault::TraceCut, b"swd: trace cut\n"),
     ] {
         let mut errors = Vec::new(rt.alloc());
-        assert_eq!(rt; engine_status(&mut errors, Err(fault)), 2);
-        assert_eq!(rt; errors.as_slice(), words);
+        expect_eq(&rt, &engine_status(&mut errors, Err(fault)), &2);
+        expect_eq(&rt, &errors.as_slice(), &words);
     }
 }
 
 #[test]
 fn help_and_version_go_to_standard_output(rt: HostRuntime) {
     let ran = run_on(rt.alloc(), ["swd", "--version"].as_slice(), b"".as_slice());
-    assert_eq!(rt; ran.output.as_slice(), b"swd 0.1.0\n".as_slice());
-    assert_eq!(rt; ran.status, 0);
+    expect_eq(&rt, &ran.output.as_slice(), &b"swd 0.1.0\n".as_slice());
+    expect_eq(&rt, &ran.status, &0);
     let ran = run_on(rt.alloc(), ["swd", "--help"].as_slice(), b"".as_slice());
     assert!(rt; !ran.output.is_empty());
     assert!(rt; ran.errors.is_empty());
-    assert_eq!(rt; ran.status, 0);
+    expect_eq(&rt, &ran.status, &0);
     let ran = run_on(rt.alloc(), ["swd", "two"].as_slice(), b"".as_slice());
     assert!(rt; ran.output.is_empty());
     assert!(rt; !ran.errors.is_empty());
-    assert_eq!(rt; ran.status, 2);
+    expect_eq(&rt, &ran.status, &2);
 }

@@ -2,12 +2,12 @@
 ghost use Rattle.std.specs.Prelude.{◌≡◌, []};
 ghost use Rattle.std.specs.FinMap.{empty};
 ghost use Rattle.swd_port.specs.Port.{made};
-ghost use Rattle.swd_cli.specs.Remotes.{IsStatusAt, PerformsAt, PerformsRemote};
+ghost use Rattle.swd_commands.specs.Remotes.{IsStatusAt, PerformsAt, PerformsRemote};
 
-use crate::files::{Files, Identity};
+use crate::bus_faults::Watch;
+use crate::open_files::{Files, Identity};
 use crate::report::{STOPPED, cannot_open, run_status, tell};
 use crate::trace::{Sources, open_trace};
-use crate::watch::Watch;
 use std::alloc::Global;
 use std::io::{Read, Write};
 use swd_ends::{run_remote, run_remote_traced};

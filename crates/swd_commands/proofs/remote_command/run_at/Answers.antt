@@ -1,6 +1,6 @@
 use Rattle.std.proofs.Common.{inr, sym, subst}
-use Rattle.swd_cli.specs.Remotes.{PerformsAt}
-use Rattle.swd_cli.proofs.remote_command.run_at.Goals as goal
+use Rattle.swd_commands.specs.Remotes.{PerformsAt}
+use Rattle.swd_commands.proofs.remote_command.run_at.Goals as goal
 
 pub returns-in_default : goal.returns-in_default
 returns-in_default g c =

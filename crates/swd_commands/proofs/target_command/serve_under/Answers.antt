@@ -1,5 +1,5 @@
 use Rattle.std.proofs.Common.{inr}
-use Rattle.swd_cli.proofs.target_command.serve_under.Goals as goal
+use Rattle.swd_commands.proofs.target_command.serve_under.Goals as goal
 
 pub returns-in-Ok-read_target : goal.returns-in-Ok-read_target
 returns-in-Ok-read_target g c =

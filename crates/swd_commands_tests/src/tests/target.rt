@@ -1,4 +1,5 @@
 //! A target on the standard streams: what words make of it.
+use super::expect::expect_eq;
 use super::run_on;
 
 // A host in another language, against a target in another language: a line reset, and DPIDR read.
@@ -19,10 +20,10 @@ fn a_host_is_served(rt: HostRuntime) {
         ["swd", "target", "memory", "--plan", "quiet"].as_slice(),
     ] {
         let ran = run_on(rt.alloc(), words, SESSION);
-        assert_eq!(rt; ran.output.as_slice(), LEVELS);
+        expect_eq(&rt, &ran.output.as_slice(), &LEVELS);
         assert!(rt; ran.errors.is_empty());
-        assert_eq!(rt; ran.status, 0);
-        assert_eq!(rt; ran.traced, 0);
+        expect_eq(&rt, &ran.status, &0);
+        expect_eq(&rt, &ran.traced, &0);
     }
 }
 
@@ -30,12 +31,12 @@ fn a_host_is_served(rt: HostRuntime) {
 fn log_and_trace_are_written(rt: HostRuntime) {
     let words = ["swd", "target", "memory", "--log", "traced"];
     let ran = run_on(rt.alloc(), words.as_slice(), SESSION);
-    assert_eq!(rt; ran.status, 0);
-    assert_eq!(rt; ran.traced, LOG.len());
+    expect_eq(&rt, &ran.status, &0);
+    expect_eq(&rt, &ran.traced, &LOG.len());
     let words = ["swd", "target", "memory", "--trace", "traced"];
     let ran = run_on(rt.alloc(), words.as_slice(), SESSION);
-    assert_eq!(rt; ran.status, 0);
-    assert_eq!(rt; ran.traced, 104 + 1);
+    expect_eq(&rt, &ran.status, &0);
+    expect_eq(&rt, &ran.traced, &(104 + 1));
 }
 
 #[test]
@@ -82,7 +83,7 @@ fn a_fault_of_a_target_takes_one_line(rt: HostRuntime) {
     for (words, input, errors) in rows {
         let ran = run_on(rt.alloc(), words, input);
         assert!(rt; ran.output.is_empty());
-        assert_eq!(rt; ran.errors.as_slice(), errors);
-        assert_eq!(rt; ran.status, 2);
+        expect_eq(&rt, &ran.errors.as_slice(), &errors);
+        expect_eq(&rt, &ran.status, &2);
     }
 }

@@ -1,4 +1,5 @@
 //! Words that a script tells, and scripts of several calls.
+use super::expect::expect_eq;
 use super::run_on;
 
 #[test]
@@ -21,12 +22,12 @@ fn a_word_that_differs_takes_one_line(rt: HostRuntime) {
         ),
     ] {
         let ran = run_on(rt.alloc(), ["swd", "run", "-"].as_slice(), script);
-        assert_eq!(rt; ran.errors.as_slice(), errors);
-        assert_eq!(rt; ran.status, status);
+        expect_eq(&rt, &ran.errors.as_slice(), &errors);
+        expect_eq(&rt, &ran.status, &status);
         let words = ["swd", "run", "-", "--trace", "traced", "--strict"];
         let ran = run_on(rt.alloc(), words.as_slice(), script);
-        assert_eq!(rt; ran.errors.as_slice(), errors);
-        assert_eq!(rt; ran.status, status);
+        expect_eq(&rt, &ran.errors.as_slice(), &errors);
+        expect_eq(&rt, &ran.status, &status);
     }
 }
 
@@ -36,12 +37,13 @@ fn calls_report_one_after_the_other(rt: HostRuntime) {
         b"memory 20000000 2\nw 20000000 deadbeef\nnext\nblock 20000000 2\nnext\nr 20000004\n".as_slice();
     let ran = run_on(rt.alloc(), ["swd", "run", "-"].as_slice(), script);
     assert!(rt; ran.errors.is_empty());
-    assert_eq!(rt; ran.status, 0);
-    assert_eq!(rt;
-        ran.output.as_slice(),
-        b"w 20000000 written\nend all 1\nr 20000000 deadbeef\nr 20000004 00000000\nend all 2\n\
+    expect_eq(&rt, &ran.status, &0);
+    expect_eq(
+        &rt,
+        &ran.output.as_slice(),
+        &b"w 20000000 written\nend all 1\nr 20000000 deadbeef\nr 20000004 00000000\nend all 2\n\
         r 20000004 00000000\nend all 1\n"
-            .as_slice()
+            .as_slice(),
     );
     // The first call is lost, and there is no other.
     let ran = run_on(
@@ -49,6 +51,6 @@ fn calls_report_one_after_the_other(rt: HostRuntime) {
         ["swd", "run", "-", "--plan", "cut"].as_slice(),
         script,
     );
-    assert_eq!(rt; ran.status, 1);
+    expect_eq(&rt, &ran.status, &1);
     assert!(rt; ran.output.as_slice().starts_with(b"end lost "));
 }

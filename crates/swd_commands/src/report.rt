@@ -1,6 +1,6 @@
 //! What the program says of a fault, and the status that it ends with.
 ghost use Rattle.std.specs.Prelude.{◌≡◌, ◌||◌, is_ok, is_some};
-ghost use Rattle.swd_cli.specs.Statuses.{status_of, status_of_end, status_of_run};
+ghost use Rattle.swd_commands.specs.Statuses.{status_of, status_of_end, status_of_run};
 
 use std::fmt;
 use std::fmt::{Display, Formatter};

@@ -1,7 +1,7 @@
 -- Which file a trace goes to.
 use Rattle.std.specs.Prelude.{◌≢◌, ℕ, List, Some, codes}
-use Rattle.swd_cli.specs.declared.files.Identity.{Identity}
-use Rattle.swd_cli.specs.declared.trace.Sources.{Sources}
+use Rattle.swd_commands.specs.declared.open_files.Identity.{Identity}
+use Rattle.swd_commands.specs.declared.trace.Sources.{Sources}
 
 -- the trace's file is neither the script's, nor the plan's, nor another that is written, and has a name: `-` would be
 -- standard output

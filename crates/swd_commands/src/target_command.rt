@@ -1,8 +1,8 @@
 //! A simulated target on the standard streams.
 ghost use Rattle.std.specs.Prelude.{◌≡◌, ℕ, List, Option};
-ghost use Rattle.swd_cli.specs.Targets.{IsServedStatus, ServesHost};
+ghost use Rattle.swd_commands.specs.Targets.{IsServedStatus, ServesHost};
 
-use crate::files::{Files, Identity, Opened};
+use crate::open_files::{Files, Identity, Opened};
 use crate::report::{DONE, FAULT, cannot_open, engine_status, tell};
 use crate::trace::{Sources, open_plan, open_trace};
 use std::alloc::Allocator;

@@ -1,0 +1,10 @@
+//! Assertions as calls. An `assert_eq!` is its whole code at each place, with the text for a failure, and the prover goes
+//! through that each time anew.
+
+use std::fmt::Debug;
+use std::process::Abort;
+
+/// Ends the test where it found another value than it wanted.
+pub(super) fn expect_eq<R: Abort, T: PartialEq + Debug>(rt: &R, found: &T, wanted: &T) {
+    assert_eq!(rt; found, wanted);
+}
