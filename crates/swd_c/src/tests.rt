@@ -1,6 +1,7 @@
 //! The exports as a program in C calls them.
 mod cues;
 mod driver;
+mod expect;
 mod items;
 mod refusals;
 mod rows;

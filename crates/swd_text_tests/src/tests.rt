@@ -1,5 +1,6 @@
 //! Worked texts, cut in pieces, at ends that fail and on heaps of each size.
 mod cuts;
+mod expect;
 mod pieces;
 mod scripts;
 mod slow;

@@ -1,5 +1,6 @@
 //! An engine driven by hand.
 use super::driver::{ASK, CONFUSED, LOST, PASS, REST, TAKE, WRONG_ID, ZEROS, plain, read, write};
+use super::expect::expect_eq;
 use crate::{
     SwdCue, swd_engine_again, swd_engine_blocks, swd_engine_cue, swd_engine_new, swd_engine_next,
     swd_engine_start,
@@ -41,19 +42,23 @@ fn an_engine_begins_with_a_lead_and_the_identification(rt: HostRuntime) {
     lead.ones = 56;
     lead.zeros = 2;
     lead.with_switch = 1;
-    assert_eq!(rt; swd_engine_cue(&fields), lead);
+    expect_eq(&rt, &swd_engine_cue(&fields), &lead);
     let mut ask = cue(ASK);
     ask.request = 0xa5;
-    assert_eq!(rt; swd_engine_next(&mut fields, 0), ask);
-    assert_eq!(rt; swd_engine_cue(&fields), ask);
-    assert_eq!(rt; swd_engine_next(&mut fields, 1), cue(TAKE));
+    expect_eq(&rt, &swd_engine_next(&mut fields, 0), &ask);
+    expect_eq(&rt, &swd_engine_cue(&fields), &ask);
+    expect_eq(&rt, &swd_engine_next(&mut fields, 1), &cue(TAKE));
     // ABORT is written, with 0000001e.
     ask.request = 0x81;
-    assert_eq!(rt; swd_engine_next(&mut fields, data_bits(0x2ba0_1477)), ask);
+    expect_eq(
+        &rt,
+        &swd_engine_next(&mut fields, data_bits(0x2ba0_1477)),
+        &ask,
+    );
     let mut give = cue(4);
     give.bits = 0x1e;
-    assert_eq!(rt; swd_engine_next(&mut fields, 1), give);
-    assert_eq!(rt; fields.requests, 2);
+    expect_eq(&rt, &swd_engine_next(&mut fields, 1), &give);
+    expect_eq(&rt, &fields.requests, &2);
 }
 
 #[test]
@@ -64,7 +69,7 @@ fn going_on_begins_with_a_longer_lead(rt: HostRuntime) {
     lead.ones = 100;
     lead.zeros = 2;
     lead.undriven = 34;
-    assert_eq!(rt; swd_engine_cue(&fields), lead);
+    expect_eq(&rt, &swd_engine_cue(&fields), &lead);
 }
 
 #[test]
@@ -73,17 +78,17 @@ fn an_engine_stops_at_each_first_answer_but_ok(rt: HostRuntime) {
         let mut fields = led();
         let mut rest = cue(REST);
         rest.outcome = plain(LOST);
-        assert_eq!(rt; swd_engine_next(&mut fields, seen), rest);
-        assert_eq!(rt; fields.requests, 1);
-        assert_eq!(rt; swd_engine_next(&mut fields, seen), rest);
+        expect_eq(&rt, &swd_engine_next(&mut fields, seen), &rest);
+        expect_eq(&rt, &fields.requests, &1);
+        expect_eq(&rt, &swd_engine_next(&mut fields, seen), &rest);
     }
     for seen in [2, 4] {
         let mut fields = led();
-        assert_eq!(rt; swd_engine_next(&mut fields, seen), cue(PASS));
+        expect_eq(&rt, &swd_engine_next(&mut fields, seen), &cue(PASS));
         let mut rest = cue(REST);
         rest.outcome = plain(CONFUSED);
-        assert_eq!(rt; swd_engine_next(&mut fields, 0), rest);
-        assert_eq!(rt; fields.requests, 1);
+        expect_eq(&rt, &swd_engine_next(&mut fields, 0), &rest);
+        expect_eq(&rt, &fields.requests, &1);
     }
     let mut fields = led();
     let _ = swd_engine_next(&mut fields, 1);
@@ -92,18 +97,22 @@ fn an_engine_stops_at_each_first_answer_but_ok(rt: HostRuntime) {
         word: 0x2ba0_1476,
         kind: WRONG_ID,
     };
-    assert_eq!(rt; swd_engine_next(&mut fields, data_bits(0x2ba0_1476)), rest);
+    expect_eq(
+        &rt,
+        &swd_engine_next(&mut fields, data_bits(0x2ba0_1476)),
+        &rest,
+    );
 }
 
 // The caller's memory holds exactly what the library's engine is.
 #[test]
 fn exports_keep_an_engine_of_the_library(rt: HostRuntime) {
     let mut fields = new_engine();
-    assert_eq!(rt; fields.engine(), Some(Engine::new(8)));
+    expect_eq(&rt, &fields.engine(), &Some(Engine::new(8)));
     swd_engine_blocks(&mut fields, 3);
-    assert_eq!(rt; fields.engine(), Some(Engine::blocks(3)));
+    expect_eq(&rt, &fields.engine(), &Some(Engine::blocks(3)));
     swd_engine_again(&mut fields, 0);
-    assert_eq!(rt; fields.engine(), Some(Engine::again(0)));
+    expect_eq(&rt, &fields.engine(), &Some(Engine::again(0)));
 }
 
 /// An engine once its opening was answered OK.
@@ -125,17 +134,17 @@ fn a_burst_is_gone_on_with(rt: HostRuntime) {
         read(0x2000_0000),
     ];
     let mut fields = opened();
-    assert_eq!(rt; swd_engine_cue(&fields).outcome, plain(1));
+    expect_eq(&rt, &swd_engine_cue(&fields).outcome, &plain(1));
     assert!(rt; swd_engine_start(&mut fields, accesses.as_slice(), 0));
     // TAR, DRW, and DRW of the next one, whose data is due.
     for reply in [1, 0, 1, 0, 1] {
         let _ = swd_engine_next(&mut fields, reply);
     }
-    assert_eq!(rt; swd_engine_cue(&fields).outcome, plain(3));
+    expect_eq(&rt, &swd_engine_cue(&fields).outcome, &plain(3));
     let before = fields;
     assert!(rt; !swd_engine_start(&mut fields, accesses.as_slice(), 0));
     assert!(rt; !swd_engine_start(&mut fields, accesses.as_slice(), 2));
-    assert_eq!(rt; fields, before);
+    expect_eq(&rt, &fields, &before);
     assert!(rt; swd_engine_start(&mut fields, accesses.as_slice(), 1));
-    assert_eq!(rt; swd_engine_cue(&fields).bits, data_bits(2));
+    expect_eq(&rt, &swd_engine_cue(&fields).bits, &data_bits(2));
 }

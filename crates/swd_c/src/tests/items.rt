@@ -1,4 +1,5 @@
 //! The decoder by the exports, by worked traces, bit by bit and many bits at once.
+use super::expect::expect_eq;
 use crate::{SwdItem, swd_decoder_due, swd_decoder_last, swd_decoder_new, swd_decoder_take};
 use std::alloc::{AllocError, Global};
 use std::process::Abort;
@@ -102,7 +103,7 @@ fn reads<R: Abort>(
             add_bits(&mut decoder, &mut items, *bits, *count, most)?;
         }
         add_last(&mut decoder, &mut items)?;
-        assert_eq!(rt; items.as_slice(), wanted);
+        expect_eq(rt, &items.as_slice(), &wanted);
     }
     Ok(())
 }
@@ -154,7 +155,7 @@ fn worked_traces_are_read(rt: HostRuntime) -> Result<(), Fail> {
 fn fields_of_no_decoder_are_refused(rt: HostRuntime) {
     let mut decoder = ZEROS;
     swd_decoder_new(&mut decoder);
-    assert_eq!(rt; decoder, Decoder::new().fields());
+    expect_eq(&rt, &decoder, &Decoder::new().fields());
     for place in 0..7u8 {
         let mut fields = decoder;
         match place {
@@ -168,11 +169,11 @@ fn fields_of_no_decoder_are_refused(rt: HostRuntime) {
         }
         let before = fields;
         let mut item = NONE;
-        assert_eq!(rt; swd_decoder_take(&mut fields, 1, 1), 0);
+        expect_eq(&rt, &swd_decoder_take(&mut fields, 1, 1), &0);
         assert!(rt; !swd_decoder_due(&mut fields, &mut item));
         assert!(rt; !swd_decoder_last(&mut fields, &mut item));
-        assert_eq!(rt; fields, before);
-        assert_eq!(rt; item, NONE);
+        expect_eq(&rt, &fields, &before);
+        expect_eq(&rt, &item, &NONE);
     }
 }
 
@@ -180,16 +181,16 @@ fn fields_of_no_decoder_are_refused(rt: HostRuntime) {
 fn bits_that_may_not_be_taken_are_refused(rt: HostRuntime) {
     let mut decoder = ZEROS;
     swd_decoder_new(&mut decoder);
-    assert_eq!(rt; swd_decoder_take(&mut decoder, 1, 0), 0);
-    assert_eq!(rt; swd_decoder_take(&mut decoder, 1, 65), 0);
+    expect_eq(&rt, &swd_decoder_take(&mut decoder, 1, 0), &0);
+    expect_eq(&rt, &swd_decoder_take(&mut decoder, 1, 65), &0);
     // A zero, and the one that ends it: an item is due.
-    assert_eq!(rt; swd_decoder_take(&mut decoder, 2, 2), 2);
+    expect_eq(&rt, &swd_decoder_take(&mut decoder, 2, 2), &2);
     let before = decoder;
-    assert_eq!(rt; swd_decoder_take(&mut decoder, 1, 1), 0);
-    assert_eq!(rt; decoder, before);
+    expect_eq(&rt, &swd_decoder_take(&mut decoder, 1, 1), &0);
+    expect_eq(&rt, &decoder, &before);
     let mut item = NONE;
     assert!(rt; swd_decoder_due(&mut decoder, &mut item));
-    assert_eq!(rt; item, counted(3, 1));
+    expect_eq(&rt, &item, &counted(3, 1));
     decoder.fed = u64::MAX;
-    assert_eq!(rt; swd_decoder_take(&mut decoder, 1, 1), 0);
+    expect_eq(&rt, &swd_decoder_take(&mut decoder, 1, 1), &0);
 }

@@ -1,17 +1,18 @@
 //! What the exports refuse, with the caller's memory as it was.
 use super::cues::opened;
 use super::driver::{REFUSED, ZEROS, read};
+use super::expect::expect_eq;
 use crate::{SwdCue, swd_engine_cue, swd_engine_new, swd_engine_next, swd_engine_start};
 use std::process::Abort;
 use swd_host::EngineFields;
 
 fn is_refused<R: Abort>(rt: &R, fields: EngineFields) {
-    assert_eq!(rt; swd_engine_cue(&fields), SwdCue::refusal());
-    assert_eq!(rt; SwdCue::refusal().kind, REFUSED);
+    expect_eq(rt, &swd_engine_cue(&fields), &SwdCue::refusal());
+    expect_eq(rt, &SwdCue::refusal().kind, &REFUSED);
     let mut now = fields;
-    assert_eq!(rt; swd_engine_next(&mut now, 0), SwdCue::refusal());
+    expect_eq(rt, &swd_engine_next(&mut now, 0), &SwdCue::refusal());
     assert!(rt; !swd_engine_start(&mut now, [read(0x2000_0000)].as_slice(), 0));
-    assert_eq!(rt; now, fields);
+    expect_eq(rt, &now, &fields);
 }
 
 fn new_engine() -> EngineFields {
@@ -68,16 +69,24 @@ fn replies_that_no_bits_are_are_refused(rt: HostRuntime) {
     let _ = swd_engine_next(&mut fields, u64::MAX);
     let before = fields;
     for reply in [8, 255, 256, u64::MAX] {
-        assert_eq!(rt; swd_engine_next(&mut fields, reply), SwdCue::refusal());
-        assert_eq!(rt; fields, before);
+        expect_eq(
+            &rt,
+            &swd_engine_next(&mut fields, reply),
+            &SwdCue::refusal(),
+        );
+        expect_eq(&rt, &fields, &before);
     }
     let _ = swd_engine_next(&mut fields, 1);
     let before = fields;
     for reply in [0x2_0000_0000, u64::MAX] {
-        assert_eq!(rt; swd_engine_next(&mut fields, reply), SwdCue::refusal());
-        assert_eq!(rt; fields, before);
+        expect_eq(
+            &rt,
+            &swd_engine_next(&mut fields, reply),
+            &SwdCue::refusal(),
+        );
+        expect_eq(&rt, &fields, &before);
     }
-    assert_eq!(rt; swd_engine_next(&mut fields, 0x1_ffff_ffff).kind, 2);
+    expect_eq(&rt, &swd_engine_next(&mut fields, 0x1_ffff_ffff).kind, &2);
 }
 
 #[test]
@@ -88,10 +97,10 @@ fn accesses_that_may_not_begin_are_refused(rt: HostRuntime) {
     assert!(rt; !swd_engine_start(&mut fields, accesses.as_slice(), 0));
     assert!(rt; !swd_engine_start(&mut fields, accesses.as_slice(), 2));
     assert!(rt; !swd_engine_start(&mut fields, accesses.as_slice(), usize::MAX));
-    assert_eq!(rt; fields, before);
+    expect_eq(&rt, &fields, &before);
     assert!(rt; swd_engine_start(&mut fields, accesses.as_slice(), 1));
     // It is under way.
     let before = fields;
     assert!(rt; !swd_engine_start(&mut fields, accesses.as_slice(), 1));
-    assert_eq!(rt; fields, before);
+    expect_eq(&rt, &fields, &before);
 }

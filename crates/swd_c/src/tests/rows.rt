@@ -5,6 +5,7 @@ ghost use Rattle.swd_target.specs.Marks.{IsPlan};
 use super::driver::{
     ALL, BUS_FAULT, LOST, TRIES_OUT, Told, WRITTEN, ZEROS, plain, read, run_from, value, write,
 };
+use super::expect::{expect_eq, expect_eq_at};
 use crate::{SwdAccess, swd_engine_again, swd_engine_blocks, swd_engine_new};
 use std::alloc::Global;
 use std::process::Abort;
@@ -92,10 +93,10 @@ fn is_told<R: Abort>(rt: &R, name: &str, told: Option<Told>, wanted: Wanted) {
     let Some(told) = told else {
         panic!(rt; "{name}: the wire may not be given that");
     };
-    assert_eq!(rt; told.ended, wanted.ended, "{name}");
-    assert_eq!(rt; told.requests, wanted.requests, "{name}");
-    assert_eq!(rt; told.begun, wanted.begun, "{name}");
-    assert_eq!(rt; told.answers.as_slice(), wanted.answers, "{name}");
+    expect_eq_at(rt, &name, &told.ended, &wanted.ended);
+    expect_eq_at(rt, &name, &told.requests, &wanted.requests);
+    expect_eq_at(rt, &name, &told.begun, &wanted.begun);
+    expect_eq_at(rt, &name, &told.answers.as_slice(), &wanted.answers);
 }
 
 // The engine in the caller's memory, and where the list is resumed.
@@ -118,7 +119,7 @@ fn comes_to<R: Abort>(
     let told = run_from(alloc, &mut bench, &mut fields, run.accesses, 0)?;
     is_told(rt, name, told, wanted);
     bench.settle();
-    assert_eq!(rt; bench.memory().log(), wanted.log, "{name}");
+    expect_eq_at(rt, &name, &bench.memory().log(), &wanted.log);
 
     let memory = Memory::new(alloc, BASE, run.words, run.room)?;
     let Ok(mut clocked) = ClockedBench::new(alloc, memory, run.quirks, clocked_plan) else {
@@ -128,7 +129,7 @@ fn comes_to<R: Abort>(
     let told = run_from(alloc, &mut clocked, &mut fields, run.accesses, 0)?;
     is_told(rt, name, told, wanted);
     clocked.settle();
-    assert_eq!(rt; clocked.memory().log(), wanted.log, "{name}");
+    expect_eq_at(rt, &name, &clocked.memory().log(), &wanted.log);
     Ok(())
 }
 
@@ -403,6 +404,6 @@ fn going_on_after_a_lost_acknowledgement(rt: HostRuntime) -> Result<(), Fail> {
         write_of(0x2000_0010, 1),
         write_of(0x2000_0010, 1),
     ];
-    assert_eq!(rt; clocked.memory().log(), log.as_slice());
+    expect_eq(&rt, &clocked.memory().log(), &log.as_slice());
     Ok(())
 }

@@ -1,6 +1,7 @@
 //! The clocked target over the border beside that of Rattle, cycle by cycle: a host goes by the exports alone, and its
 //! caller has a bus of sixteen words.
 use super::driver::{BUS_FAULT, REFUSED, REST, VALUE, WRITTEN, ZEROS, plain, read, value, write};
+use super::expect::{expect_at, expect_eq, expect_eq_at};
 use crate::{
     SwdCue, swd_engine_cue, swd_engine_new, swd_engine_next, swd_engine_start, swd_target_cycle,
     swd_target_hold, swd_target_new, swd_target_settle, swd_target_wants,
@@ -189,11 +190,16 @@ impl Pair {
 }
 
 fn is_alike<R: Abort>(rt: &R, name: &str, pair: &Pair) {
-    assert!(rt; pair.alike, "{name}");
+    expect_at(rt, &name, pair.alike);
     let memory = pair.twin.memory();
-    assert_eq!(rt; memory.log().len(), pair.transfers as usize, "{name}");
+    expect_eq_at(rt, &name, &memory.log().len(), &(pair.transfers as usize));
     for (place, word) in pair.words.iter().enumerate() {
-        assert_eq!(rt; memory.word(BASE + 4 * place as u32), Some(*word), "{name}");
+        expect_eq_at(
+            rt,
+            &name,
+            &memory.word(BASE + 4 * place as u32),
+            &Some(*word),
+        );
     }
 }
 
@@ -237,13 +243,14 @@ fn accesses_over_the_exported_target(rt: HostRuntime) -> Result<(), Fail> {
         };
         let mut engine = ZEROS;
         swd_engine_new(&mut engine, 8);
-        assert_eq!(rt; pair.drive(&mut engine), plain(1), "{name}");
+        expect_eq_at(&rt, &name, &pair.drive(&mut engine), &plain(1));
         for (index, answer) in answers.iter().enumerate() {
-            assert!(rt;
+            expect_at(
+                &rt,
+                &name,
                 swd_engine_start(&mut engine, accesses.as_slice(), index),
-                "{name}"
             );
-            assert_eq!(rt; pair.drive(&mut engine), *answer, "{name} {index}");
+            expect_eq_at(&rt, &(name, index), &pair.drive(&mut engine), &*answer);
         }
         is_alike(&rt, name, &pair);
     }
@@ -269,13 +276,13 @@ fn a_slow_bus_is_waited_for(rt: HostRuntime) -> Result<(), Fail> {
     };
     let mut engine = ZEROS;
     swd_engine_new(&mut engine, 8);
-    assert_eq!(rt; pair.drive(&mut engine), plain(1));
+    expect_eq(&rt, &pair.drive(&mut engine), &plain(1));
     assert!(rt; !swd_target_settle(&mut pair.target, VALUE, 7));
     // TAR, and a read of DRW.
     for (request, data) in [(0x8b, Some(0x2000_0004u64)), (0x9f, None)] {
         pair.send(request, 8);
         pair.leave(1);
-        assert_eq!(rt; pair.see(3) >> 61, 1);
+        expect_eq(&rt, &(pair.see(3) >> 61), &1);
         pair.leave(1);
         match data {
             Some(word) => pair.send(word | (u64::from(word.count_ones()) % 2) << 32, 33),
@@ -283,16 +290,17 @@ fn a_slow_bus_is_waited_for(rt: HostRuntime) -> Result<(), Fail> {
         }
     }
     let wanted = swd_target_wants(&pair.target);
-    assert_eq!(rt;
-        (wanted.kind, wanted.addr, wanted.word),
-        (1, 0x2000_0004, 0)
+    expect_eq(
+        &rt,
+        &(wanted.kind, wanted.addr, wanted.word),
+        &(1, 0x2000_0004, 0),
     );
     // RDBUFF waits for it while the target is busy.
     assert!(rt; swd_target_hold(&mut pair.target, 1));
     pair.twin.hold(true);
     pair.send(0xbd, 8);
     pair.leave(1);
-    assert_eq!(rt; pair.see(3) >> 61, 2);
+    expect_eq(&rt, &(pair.see(3) >> 61), &2);
     pair.leave(1);
     assert!(rt; swd_target_hold(&mut pair.target, 0));
     pair.twin.hold(false);
@@ -301,22 +309,22 @@ fn a_slow_bus_is_waited_for(rt: HostRuntime) -> Result<(), Fail> {
         assert!(rt; !swd_target_settle(&mut pair.target, kind, 7));
     }
     assert!(rt; swd_target_settle(&mut pair.target, VALUE, 0));
-    assert_eq!(rt; swd_target_wants(&pair.target).kind, 0);
+    expect_eq(&rt, &swd_target_wants(&pair.target).kind, &0);
     pair.twin.settle();
     pair.send(0xbd, 8);
     pair.leave(1);
-    assert_eq!(rt; pair.see(3) >> 61, 1);
-    assert_eq!(rt; pair.see(33) >> 31, 0);
+    expect_eq(&rt, &(pair.see(3) >> 61), &1);
+    expect_eq(&rt, &(pair.see(33) >> 31), &0);
     assert!(rt; pair.alike);
     Ok(())
 }
 
 fn refuses<R: Abort>(rt: &R, fields: ClockedFields) {
     let mut now = fields;
-    assert_eq!(rt; swd_target_cycle(&mut now, 1), 255);
+    expect_eq(rt, &swd_target_cycle(&mut now, 1), &255);
     assert!(rt; !swd_target_hold(&mut now, 1));
     assert!(rt; !swd_target_settle(&mut now, BUS_FAULT, 0));
-    assert_eq!(rt; now, fields);
+    expect_eq(rt, &now, &fields);
 }
 
 // What the exports refuse, with the caller's memory as it was.
@@ -326,9 +334,9 @@ fn numbers_of_no_target_are_refused(rt: HostRuntime) {
     let mut now = new_target();
     let whole = now;
     for drive in [3, 4, 255] {
-        assert_eq!(rt; swd_target_cycle(&mut now, drive), 255);
+        expect_eq(&rt, &swd_target_cycle(&mut now, drive), &255);
     }
-    assert_eq!(rt; now, whole);
+    expect_eq(&rt, &now, &whole);
     now.target.late = 0;
     refuses(&rt, now);
     let mut now = whole;

@@ -1,4 +1,5 @@
 //! Traces cut off at each bit, and each list of twelve bits: no bit is lost, and none is made up.
+use super::expect::{expect_at, expect_eq};
 use std::alloc::Global;
 use std::io;
 use std::io::Read;
@@ -53,20 +54,20 @@ fn listing_of(alloc: Global, bits: &[u8]) -> Result<Vec<u8>, Fail> {
 #[test]
 fn a_trace_cut_off_at_each_bit(rt: HostRuntime) -> Result<(), Fail> {
     let whole = bits_of(rt.alloc(), RUN)?;
-    assert_eq!(rt; whole.len(), 552);
+    expect_eq(&rt, &whole.len(), &552);
     for len in 0..=552usize {
         let Some(bits) = whole.as_slice().get(..len) else {
             panic!(rt; "no {len} bits");
         };
         let listing = listing_of(rt.alloc(), bits)?;
         let again = bits_of(rt.alloc(), listing.as_slice())?;
-        assert!(rt; again.as_slice() == bits, "after {len} bits");
+        expect_at(&rt, &len, again.as_slice() == bits);
         // What has been written at a failed read is decided: the beginning of every continuation's listing.
         let mut reader = CutReader { text: bits };
         let mut decided = Vec::new(rt.alloc());
         let answer = decode_text(&mut reader, &mut decided);
-        assert_eq!(rt; answer, Err(EngineFault::Read));
-        assert!(rt; RUN.starts_with(decided.as_slice()), "after {len} bits");
+        expect_eq(&rt, &answer, &Err(EngineFault::Read));
+        expect_at(&rt, &len, RUN.starts_with(decided.as_slice()));
     }
     Ok(())
 }
@@ -97,14 +98,14 @@ fn each_list_of_twelve_bits(rt: HostRuntime) -> Result<(), Fail> {
         push_bits(&mut same, number | turned)?;
         let listing = listing_of(rt.alloc(), bits.as_slice())?;
         let again = bits_of(rt.alloc(), listing.as_slice())?;
-        assert!(rt; again.as_slice() == same.as_slice(), "{number}");
+        expect_at(&rt, &number, again.as_slice() == same.as_slice());
         // After fifty ones no transaction has room: one that stands there begins after a zero.
         let mut after = Vec::new(rt.alloc());
         after.resize(50, b'1')?;
         push_bits(&mut after, number)?;
         let listing = listing_of(rt.alloc(), after.as_slice())?;
         let again = bits_of(rt.alloc(), listing.as_slice())?;
-        assert!(rt; again.as_slice() == after.as_slice(), "{number}");
+        expect_at(&rt, &number, again.as_slice() == after.as_slice());
     }
     Ok(())
 }

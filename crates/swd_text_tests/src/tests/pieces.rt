@@ -1,4 +1,5 @@
 //! A text read and sent, with ends that fail once and then go on.
+use super::expect::expect_eq;
 use std::io;
 use std::test::Fail;
 use swd_fakes::{FailingReader, OneByteReader, OneByteWriter, ShortWriter};
@@ -49,11 +50,11 @@ fn a_text_is_read_up_to_a_fault(rt: HostRuntime) {
     for fails_at in 0..9usize {
         let (answer, text) = read_of(&rt, fails_at);
         if fails_at < 4 {
-            assert_eq!(rt; answer, Err(Unread::Reader));
-            assert_eq!(rt; text.as_slice().len(), fails_at);
+            expect_eq(&rt, &answer, &Err(Unread::Reader));
+            expect_eq(&rt, &text.as_slice().len(), &fails_at);
         } else {
-            assert_eq!(rt; answer, Err(Unread::Consumer(3)));
-            assert_eq!(rt; text.as_slice(), b"one".as_slice());
+            expect_eq(&rt, &answer, &Err(Unread::Consumer(3)));
+            expect_eq(&rt, &text.as_slice(), &b"one".as_slice());
         }
     }
 }
@@ -61,8 +62,8 @@ fn a_text_is_read_up_to_a_fault(rt: HostRuntime) {
 #[test]
 fn a_consumer_has_its_own_fault(rt: HostRuntime) {
     let reader: Unread<u8> = Unread::Reader;
-    assert_eq!(rt; reader.fault_or(7), 7);
-    assert_eq!(rt; Unread::Consumer(3u8).fault_or(7), 3);
+    expect_eq(&rt, &reader.fault_or(7), &7);
+    expect_eq(&rt, &Unread::Consumer(3u8).fault_or(7), &3);
 }
 
 #[test]
@@ -76,9 +77,9 @@ fn the_error_that_is_told_is_the_writers(rt: HostRuntime) -> Result<(), Fail> {
             } else {
                 io::ErrorKind::WriteZero
             };
-            assert_eq!(rt; unsent.sent, room);
+            expect_eq(&rt, &unsent.sent, &room);
             assert!(rt; unsent.error.kind() == kind);
-            assert_eq!(rt; writer.taken().len(), room);
+            expect_eq(&rt, &writer.taken().len(), &room);
         }
     }
     Ok(())
@@ -93,7 +94,7 @@ fn a_million_bytes_go_one_by_one(rt: HostRuntime) -> Result<(), Fail> {
         text: Vec::new(rt.alloc()),
     };
     let answer = read_pieces(&mut reader, &mut (), &mut sentence);
-    assert_eq!(rt; answer, Ok(()));
+    expect_eq(&rt, &answer, &Ok(()));
     assert!(rt; sentence.text == text);
     let mut writer = OneByteWriter::new(rt.alloc());
     assert!(rt; send(&mut writer, &text).is_ok());
@@ -105,7 +106,7 @@ fn a_million_bytes_go_one_by_one(rt: HostRuntime) -> Result<(), Fail> {
 fn faults_say_what_failed(rt: HostRuntime) -> Result<(), Fail> {
     let unread: [Unread<usize>; 2] = [Unread::Reader, Unread::Consumer(7)];
     for (fault, words) in unread.iter().zip(["read failed", "7"].iter()) {
-        assert_eq!(rt; format!(in rt.alloc(); "{fault}")?.as_str(), *words);
+        expect_eq(&rt, &format!(in rt.alloc(); "{fault}")?.as_str(), &*words);
     }
     let unsent = Unsent {
         sent: 3,

@@ -1,4 +1,5 @@
 //! Scripts and plans on worked texts, for every cut, and with memory refused.
+use super::expect::expect_eq;
 use linked_list_allocator::LocalHeap;
 use std::alloc::{Allocator, Global};
 use std::test::Fail;
@@ -63,10 +64,10 @@ const WORKED_ACCESSES: [Access; 4] = [
 fn a_script_is_read_however_it_is_cut(rt: HostRuntime) -> Result<(), Fail> {
     for cut in 0..=WORKED.len() {
         let script = script_in(rt.alloc(), WORKED, cut)?;
-        assert_eq!(rt; script.base, 0x2000_0000);
-        assert_eq!(rt; script.words, 16);
-        assert_eq!(rt; script.room, 65536);
-        assert_eq!(rt; accesses(&script), WORKED_ACCESSES.as_slice());
+        expect_eq(&rt, &script.base, &0x2000_0000);
+        expect_eq(&rt, &script.words, &16);
+        expect_eq(&rt, &script.room, &65536);
+        expect_eq(&rt, &accesses(&script), &WORKED_ACCESSES.as_slice());
     }
     Ok(())
 }
@@ -75,9 +76,10 @@ fn a_script_is_read_however_it_is_cut(rt: HostRuntime) -> Result<(), Fail> {
 fn blanks_comments_and_line_ends_are_passed_over(rt: HostRuntime) -> Result<(), Fail> {
     let text =
         b"# a script\r\n\r\n \t \n\tmemory \t20000000  16# of sixteen words\r\nroom 5 \xff\n".as_slice();
-    assert_eq!(rt;
-        script_fault(rt.alloc(), text),
-        Some(ScriptFault::Word { line: 5 })
+    expect_eq(
+        &rt,
+        &script_fault(rt.alloc(), text),
+        &Some(ScriptFault::Word { line: 5 }),
     );
     let text =
         b"# a script \xff\x00\r\n\r\n \t \n\tmemory \t20000000  16# of sixteen words\r\nroom 5 #\xff\r\r\n\
@@ -85,11 +87,11 @@ fn blanks_comments_and_line_ends_are_passed_over(rt: HostRuntime) -> Result<(), 
             .as_slice();
     for cut in 0..=text.len() {
         let script = script_in(rt.alloc(), text, cut)?;
-        assert_eq!(rt; script.base, 0x2000_0000);
-        assert_eq!(rt; script.words, 16);
-        assert_eq!(rt; script.room, 5);
+        expect_eq(&rt, &script.base, &0x2000_0000);
+        expect_eq(&rt, &script.words, &16);
+        expect_eq(&rt, &script.room, &5);
         let told = [Access::Write(0x2000_000c, 0xdead_beef), Access::Read(0)];
-        assert_eq!(rt; accesses(&script), told.as_slice());
+        expect_eq(&rt, &accesses(&script), &told.as_slice());
     }
     Ok(())
 }
@@ -108,7 +110,7 @@ fn numbers_of_every_length_are_read(rt: HostRuntime) -> Result<(), Fail> {
         Access::Read(0x10),
         Access::Read(0x14),
     ];
-    assert_eq!(rt; accesses(&script), told.as_slice());
+    expect_eq(&rt, &accesses(&script), &told.as_slice());
     Ok(())
 }
 
@@ -119,19 +121,24 @@ fn the_greatest_numbers_are_in_range(rt: HostRuntime) -> Result<(), Fail> {
         b"memory fffc0000 65536\nroom 65536\nr fffffffc".as_slice(),
         0,
     )?;
-    assert_eq!(rt; script.base, 0xfffc_0000);
-    assert_eq!(rt; script.words, 65536);
-    assert_eq!(rt; script.room, 65536);
-    assert_eq!(rt; accesses(&script), [Access::Read(0xffff_fffc)].as_slice());
+    expect_eq(&rt, &script.base, &0xfffc_0000);
+    expect_eq(&rt, &script.words, &65536);
+    expect_eq(&rt, &script.room, &65536);
+    expect_eq(
+        &rt,
+        &accesses(&script),
+        &[Access::Read(0xffff_fffc)].as_slice(),
+    );
     let script = script_in(
         rt.alloc(),
         b"memory 0 1\nroom 0\nrn fffffff8 2".as_slice(),
         0,
     )?;
-    assert_eq!(rt; script.room, 0);
-    assert_eq!(rt;
-        accesses(&script),
-        [Access::Read(0xffff_fff8), Access::Read(0xffff_fffc)].as_slice()
+    expect_eq(&rt, &script.room, &0);
+    expect_eq(
+        &rt,
+        &accesses(&script),
+        &[Access::Read(0xffff_fff8), Access::Read(0xffff_fffc)].as_slice(),
     );
     Ok(())
 }
@@ -140,28 +147,30 @@ fn the_greatest_numbers_are_in_range(rt: HostRuntime) -> Result<(), Fail> {
 fn a_block_is_the_only_access_line(rt: HostRuntime) -> Result<(), Fail> {
     let text = b"memory 20000000 2\nroom 9\n# all of it\nblock 20000000 3\n\n".as_slice();
     let script = script_in(rt.alloc(), text, 0)?;
-    assert_eq!(rt; script.batches.len(), 1);
-    assert_eq!(rt;
-        call(&script, 0).and_then(|(_, block)| block),
-        Some(0x2000_0000)
+    expect_eq(&rt, &script.batches.len(), &1);
+    expect_eq(
+        &rt,
+        &call(&script, 0).and_then(|(_, block)| block),
+        &Some(0x2000_0000),
     );
-    assert_eq!(rt; script.room, 9);
-    assert_eq!(rt;
-        accesses(&script),
-        [
+    expect_eq(&rt, &script.room, &9);
+    expect_eq(
+        &rt,
+        &accesses(&script),
+        &[
             Access::Read(0x2000_0000),
             Access::Read(0x2000_0004),
-            Access::Read(0x2000_0008)
+            Access::Read(0x2000_0008),
         ]
-        .as_slice()
+        .as_slice(),
     );
     let apart = script_in(
         rt.alloc(),
         b"memory 20000000 2\nrn 20000000 3\n".as_slice(),
         0,
     )?;
-    assert_eq!(rt; call(&apart, 0).and_then(|(_, block)| block), None);
-    assert_eq!(rt; accesses(&apart), accesses(&script));
+    expect_eq(&rt, &call(&apart, 0).and_then(|(_, block)| block), &None);
+    expect_eq(&rt, &accesses(&apart), &accesses(&script));
     Ok(())
 }
 
@@ -171,20 +180,23 @@ fn next_begins_a_further_call(rt: HostRuntime) -> Result<(), Fail> {
         b"memory 20000000 4\nroom 9\nw 20000000 5\nnext\nblock 20000000 2 # read back\n next\t#\nnext\nrn 20000004 1\n";
     for cut in 0..=text.len() {
         let script = script_in(rt.alloc(), text.as_slice(), cut)?;
-        assert_eq!(rt; script.batches.len(), 4);
-        assert_eq!(rt;
-            call(&script, 0),
-            Some(([Access::Write(0x2000_0000, 5)].as_slice(), None))
+        expect_eq(&rt, &script.batches.len(), &4);
+        expect_eq(
+            &rt,
+            &call(&script, 0),
+            &Some(([Access::Write(0x2000_0000, 5)].as_slice(), None)),
         );
         let block = [Access::Read(0x2000_0000), Access::Read(0x2000_0004)];
-        assert_eq!(rt;
-            call(&script, 1),
-            Some((block.as_slice(), Some(0x2000_0000)))
+        expect_eq(
+            &rt,
+            &call(&script, 1),
+            &Some((block.as_slice(), Some(0x2000_0000))),
         );
-        assert_eq!(rt; call(&script, 2), Some(([].as_slice(), None)));
-        assert_eq!(rt;
-            call(&script, 3),
-            Some(([Access::Read(0x2000_0004)].as_slice(), None))
+        expect_eq(&rt, &call(&script, 2), &Some(([].as_slice(), None)));
+        expect_eq(
+            &rt,
+            &call(&script, 3),
+            &Some(([Access::Read(0x2000_0004)].as_slice(), None)),
         );
         for batch in script.batches.as_slice() {
             assert!(rt; batch.expected.is_empty());
@@ -202,10 +214,10 @@ fn a_script_has_more_than_65536_accesses_in_several_calls(rt: HostRuntime) -> Re
         .as_slice()
         .iter()
         .map(|batch| batch.accesses.len());
-    assert_eq!(rt; lengths.next(), Some(65536));
-    assert_eq!(rt; lengths.next(), Some(34464));
-    assert_eq!(rt; lengths.next(), Some(65536));
-    assert_eq!(rt; lengths.next(), None);
+    expect_eq(&rt, &lengths.next(), &Some(65536));
+    expect_eq(&rt, &lengths.next(), &Some(34464));
+    expect_eq(&rt, &lengths.next(), &Some(65536));
+    expect_eq(&rt, &lengths.next(), &None);
     Ok(())
 }
 
@@ -214,15 +226,16 @@ fn verify_is_a_read_with_its_word(rt: HostRuntime) -> Result<(), Fail> {
     let text =
         b"memory 20000000 4\nw 20000000 5\nverify 20000000 5\n\nr 20000004\nverify 2000000C DeadBeef\nnext\nverify 20000008 0\n";
     let script = script_in(rt.alloc(), text.as_slice(), 0)?;
-    assert_eq!(rt;
-        accesses(&script),
-        [
+    expect_eq(
+        &rt,
+        &accesses(&script),
+        &[
             Access::Write(0x2000_0000, 5),
             Access::Read(0x2000_0000),
             Access::Read(0x2000_0004),
             Access::Read(0x2000_000c),
         ]
-        .as_slice()
+        .as_slice(),
     );
     let mut told = script
         .batches
@@ -241,15 +254,15 @@ fn verify_is_a_read_with_its_word(rt: HostRuntime) -> Result<(), Fail> {
         addr: 0x2000_000c,
         word: 0xdead_beef,
     };
-    assert_eq!(rt; told.next(), Some([here, there].as_slice()));
+    expect_eq(&rt, &told.next(), &Some([here, there].as_slice()));
     let further = Expected {
         line: 8,
         place: 0,
         addr: 0x2000_0008,
         word: 0,
     };
-    assert_eq!(rt; told.next(), Some([further].as_slice()));
-    assert_eq!(rt; told.next(), None);
+    expect_eq(&rt, &told.next(), &Some([further].as_slice()));
+    expect_eq(&rt, &told.next(), &None);
     Ok(())
 }
 
@@ -288,9 +301,10 @@ fn a_line_is_wrong_in_its_words(rt: HostRuntime) {
         b"memory 0 1\nr 0\r",
         b"memory 0 1\n\r",
     ] {
-        assert_eq!(rt;
-            script_fault(rt.alloc(), text),
-            Some(ScriptFault::Word { line: 2 })
+        expect_eq(
+            &rt,
+            &script_fault(rt.alloc(), text),
+            &Some(ScriptFault::Word { line: 2 }),
         );
     }
     for text in [
@@ -308,9 +322,10 @@ fn a_line_is_wrong_in_its_words(rt: HostRuntime) {
         b"memory 0 1\nw 0 0\nblock g g\n",
         b"memory 0 1\nblock 0 1\nr g\n",
     ] {
-        assert_eq!(rt;
-            script_fault(rt.alloc(), text),
-            Some(ScriptFault::Word { line: 3 })
+        expect_eq(
+            &rt,
+            &script_fault(rt.alloc(), text),
+            &Some(ScriptFault::Word { line: 3 }),
         );
     }
     for text in [
@@ -319,9 +334,10 @@ fn a_line_is_wrong_in_its_words(rt: HostRuntime) {
         b"memory 0 1 1\n",
         b"memory 0 1 1 1\n",
     ] {
-        assert_eq!(rt;
-            script_fault(rt.alloc(), text),
-            Some(ScriptFault::Word { line: 1 })
+        expect_eq(
+            &rt,
+            &script_fault(rt.alloc(), text),
+            &Some(ScriptFault::Word { line: 1 }),
         );
     }
 }
@@ -343,9 +359,10 @@ fn a_line_is_wrong_in_a_number(rt: HostRuntime) {
         b"memory 0 1\nrn 0 1a\n",
         b"memory 0 1\nrn 0 4294967296\n",
     ] {
-        assert_eq!(rt;
-            script_fault(rt.alloc(), text),
-            Some(ScriptFault::Number { line: 2 })
+        expect_eq(
+            &rt,
+            &script_fault(rt.alloc(), text),
+            &Some(ScriptFault::Number { line: 2 }),
         );
     }
     for text in [
@@ -353,9 +370,10 @@ fn a_line_is_wrong_in_a_number(rt: HostRuntime) {
         b"memory 0 0x1\n",
         b"memory 0 00000000001\n",
     ] {
-        assert_eq!(rt;
-            script_fault(rt.alloc(), text),
-            Some(ScriptFault::Number { line: 1 })
+        expect_eq(
+            &rt,
+            &script_fault(rt.alloc(), text),
+            &Some(ScriptFault::Number { line: 1 }),
         );
     }
 }
@@ -370,9 +388,10 @@ fn a_line_is_wrong_in_a_range(rt: HostRuntime) {
         b"memory fffffffc 2\n",
         b"memory fffc0004 65536\n",
     ] {
-        assert_eq!(rt;
-            script_fault(rt.alloc(), text),
-            Some(ScriptFault::Range { line: 1 })
+        expect_eq(
+            &rt,
+            &script_fault(rt.alloc(), text),
+            &Some(ScriptFault::Range { line: 1 }),
         );
     }
     for text in [
@@ -390,9 +409,10 @@ fn a_line_is_wrong_in_a_range(rt: HostRuntime) {
         b"memory 0 1\nblock 0 0\n",
         b"memory 0 1\nblock 0 65537\n",
     ] {
-        assert_eq!(rt;
-            script_fault(rt.alloc(), text),
-            Some(ScriptFault::Range { line: 2 })
+        expect_eq(
+            &rt,
+            &script_fault(rt.alloc(), text),
+            &Some(ScriptFault::Range { line: 2 }),
         );
     }
 }
@@ -409,14 +429,16 @@ fn memory_comes_first(rt: HostRuntime) {
         b"rn 0 1\n",
         b"block 0 1\n",
     ] {
-        assert_eq!(rt;
-            script_fault(rt.alloc(), text),
-            Some(ScriptFault::NoMemoryLine { line: 1 })
+        expect_eq(
+            &rt,
+            &script_fault(rt.alloc(), text),
+            &Some(ScriptFault::NoMemoryLine { line: 1 }),
         );
     }
-    assert_eq!(rt;
-        script_fault(rt.alloc(), b"\n#\nr 0\nmemory 0 1\n".as_slice()),
-        Some(ScriptFault::NoMemoryLine { line: 3 })
+    expect_eq(
+        &rt,
+        &script_fault(rt.alloc(), b"\n#\nr 0\nmemory 0 1\n".as_slice()),
+        &Some(ScriptFault::NoMemoryLine { line: 3 }),
     );
 }
 
@@ -478,34 +500,38 @@ fn the_first_fault_of_a_line_is_told(rt: HostRuntime) {
             Some(ScriptFault::Number { line: 2 }),
         ),
     ] {
-        assert_eq!(rt; script_fault(rt.alloc(), text), fault);
+        expect_eq(&rt, &script_fault(rt.alloc(), text), &fault);
     }
 }
 
 #[test]
 fn a_call_has_at_most_65536_accesses(rt: HostRuntime) -> Result<(), Fail> {
     let script = script_in(rt.alloc(), b"memory 0 1\nrn 0 65536\n".as_slice(), 0)?;
-    assert_eq!(rt; accesses(&script).len(), 65536);
-    assert_eq!(rt;
-        accesses(&script).last().copied(),
-        Some(Access::Read(0x3_fffc))
+    expect_eq(&rt, &accesses(&script).len(), &65536);
+    expect_eq(
+        &rt,
+        &accesses(&script).last().copied(),
+        &Some(Access::Read(0x3_fffc)),
     );
-    assert_eq!(rt;
-        script_fault(rt.alloc(), b"memory 0 1\nrn 0 65536\nr 0\n".as_slice()),
-        Some(ScriptFault::Range { line: 3 })
+    expect_eq(
+        &rt,
+        &script_fault(rt.alloc(), b"memory 0 1\nrn 0 65536\nr 0\n".as_slice()),
+        &Some(ScriptFault::Range { line: 3 }),
     );
-    assert_eq!(rt;
-        script_fault(rt.alloc(), b"memory 0 1\nw 0 0\nrn 0 65536\n".as_slice()),
-        Some(ScriptFault::Range { line: 3 })
+    expect_eq(
+        &rt,
+        &script_fault(rt.alloc(), b"memory 0 1\nw 0 0\nrn 0 65536\n".as_slice()),
+        &Some(ScriptFault::Range { line: 3 }),
     );
     let mut reader = ScriptReader::new(rt.alloc());
     reader.take(&mut (), b"memory 0 1\n".as_slice())?;
     for _ in 0..65536u32 {
         reader.take(&mut (), b"r 4\n".as_slice())?;
     }
-    assert_eq!(rt;
-        reader.take(&mut (), b"w 0 0\n".as_slice()),
-        Err(ScriptFault::Range { line: 65538 })
+    expect_eq(
+        &rt,
+        &reader.take(&mut (), b"w 0 0\n".as_slice()),
+        &Err(ScriptFault::Range { line: 65538 }),
     );
     Ok(())
 }
@@ -523,7 +549,7 @@ fn a_long_line_is_read(rt: HostRuntime) -> Result<(), Fail> {
     }
     reader.take(&mut (), b"8".as_slice())?;
     let script = reader.finish()?;
-    assert_eq!(rt; accesses(&script), [Access::Read(8)].as_slice());
+    expect_eq(&rt, &accesses(&script), &[Access::Read(8)].as_slice());
     Ok(())
 }
 
@@ -542,7 +568,7 @@ fn a_plan_is_read_however_it_is_cut(rt: HostRuntime) -> Result<(), Fail> {
     ];
     for cut in 0..=text.len() {
         let plan = plan_in(rt.alloc(), text, cut)?;
-        assert_eq!(rt; plan.as_slice(), marks.as_slice());
+        expect_eq(&rt, &plan.as_slice(), &marks.as_slice());
     }
     let plan = plan_in(rt.alloc(), b"".as_slice(), 0)?;
     assert!(rt; plan.is_empty());
@@ -551,8 +577,8 @@ fn a_plan_is_read_however_it_is_cut(rt: HostRuntime) -> Result<(), Fail> {
         b".\n.\n.\n.\n.\n.\n.\n.\n.\n.\nmute 0\n".as_slice(),
         0,
     )?;
-    assert_eq!(rt; plan.len(), 11);
-    assert_eq!(rt; plan.as_slice().last().copied(), Some(Mark::Mute(0)));
+    expect_eq(&rt, &plan.len(), &11);
+    expect_eq(&rt, &plan.as_slice().last().copied(), &Some(Mark::Mute(0)));
     Ok(())
 }
 
@@ -573,9 +599,10 @@ fn a_plan_is_at_fault(rt: HostRuntime) {
         b".\nwait\r",
         b".\nr 0\n",
     ] {
-        assert_eq!(rt;
-            plan_fault(rt.alloc(), text),
-            Some(ScriptFault::Word { line: 2 })
+        expect_eq(
+            &rt,
+            &plan_fault(rt.alloc(), text),
+            &Some(ScriptFault::Word { line: 2 }),
         );
     }
     for text in [
@@ -584,9 +611,10 @@ fn a_plan_is_at_fault(rt: HostRuntime) {
         b"mute 00000000000\n",
         b"mute -1\n",
     ] {
-        assert_eq!(rt;
-            plan_fault(rt.alloc(), text),
-            Some(ScriptFault::Number { line: 1 })
+        expect_eq(
+            &rt,
+            &plan_fault(rt.alloc(), text),
+            &Some(ScriptFault::Number { line: 1 }),
         );
     }
     for text in [
@@ -595,9 +623,10 @@ fn a_plan_is_at_fault(rt: HostRuntime) {
         b"mute 3\n",
         b"mute 256\n",
     ] {
-        assert_eq!(rt;
-            plan_fault(rt.alloc(), text),
-            Some(ScriptFault::Range { line: 1 })
+        expect_eq(
+            &rt,
+            &plan_fault(rt.alloc(), text),
+            &Some(ScriptFault::Range { line: 1 }),
         );
     }
 }
@@ -613,8 +642,8 @@ fn each_growth_of_a_script_is_refused(rt: HostRuntime) -> Result<(), Fail> {
             3,
         ) {
             Ok(script) => {
-                assert_eq!(rt; accesses(&script).len(), 202);
-                assert_eq!(rt; script.batches.len(), 2);
+                expect_eq(&rt, &accesses(&script).len(), &202);
+                expect_eq(&rt, &script.batches.len(), &2);
             }
             Err(ScriptFault::Memory { line: 3..=8 }) => refused = refused.saturating_add(1),
             Err(_) => assert!(rt; false),
@@ -640,7 +669,7 @@ fn each_growth_of_a_plan_is_refused(rt: HostRuntime) -> Result<(), Fail> {
     for size in 1..100usize {
         let heap = LocalHeap::new(rt.alloc(), size * 16)?;
         match quiet_plan(&heap, 40) {
-            Ok(marks) => assert_eq!(rt; marks.len(), 40),
+            Ok(marks) => expect_eq(&rt, &marks.len(), &40),
             Err(ScriptFault::Memory { line }) => {
                 assert!(rt; line <= 40);
                 refused = refused.saturating_add(1);
@@ -666,7 +695,7 @@ fn faults_are_told_with_their_lines(rt: HostRuntime) -> Result<(), Fail> {
         (ScriptFault::Memory { line: 4 }, "line 4: memory"),
     ] {
         let told = format!(in rt.alloc(); "{fault}")?;
-        assert_eq!(rt; told.as_str(), text);
+        expect_eq(&rt, &told.as_str(), &text);
     }
     Ok(())
 }

@@ -1,4 +1,5 @@
 //! Long texts, one byte at a read and one at a write: nothing gives up before the end.
+use super::expect::{expect_at, expect_eq};
 use super::traces::{DPIDR_LINE, DPIDR_READ};
 use std::alloc::Global;
 use std::io::ErrorKind;
@@ -26,7 +27,7 @@ fn a_long_trace_is_decoded_byte_by_byte(rt: HostRuntime) -> Result<(), Fail> {
     let listing = repeated(rt.alloc(), DPIDR_LINE, 22_000)?;
     let mut reader = OneByteReader::new(&trace);
     let mut writer = OneByteWriter::new(rt.alloc());
-    assert_eq!(rt; decode_text(&mut reader, &mut writer), Ok(()));
+    expect_eq(&rt, &decode_text(&mut reader, &mut writer), &Ok(()));
     assert!(rt; writer.taken == listing);
     Ok(())
 }
@@ -37,7 +38,11 @@ fn a_long_listing_is_encoded_byte_by_byte(rt: HostRuntime) -> Result<(), Fail> {
     let listing = repeated(rt.alloc(), DPIDR_LINE, 46_000)?;
     let mut reader = OneByteReader::new(&listing);
     let mut writer = OneByteWriter::new(rt.alloc());
-    assert_eq!(rt; encode_text(rt.alloc(), &mut reader, &mut writer), Ok(()));
+    expect_eq(
+        &rt,
+        &encode_text(rt.alloc(), &mut reader, &mut writer),
+        &Ok(()),
+    );
     assert!(rt; writer.taken == trace);
     Ok(())
 }
@@ -48,8 +53,8 @@ fn a_transaction_behind_a_long_comment(rt: HostRuntime) -> Result<(), Fail> {
     text.extend_from_slice(DPIDR_READ)?;
     let mut reader = OneByteReader::new(&text);
     let mut writer = OneByteWriter::new(rt.alloc());
-    assert_eq!(rt; one_text(&mut reader, &mut writer), Ok(()));
-    assert_eq!(rt; writer.taken.as_slice(), DPIDR_LINE);
+    expect_eq(&rt, &one_text(&mut reader, &mut writer), &Ok(()));
+    expect_eq(&rt, &writer.taken.as_slice(), &DPIDR_LINE);
     Ok(())
 }
 
@@ -72,8 +77,8 @@ fn an_item_whose_writer_fails(rt: HostRuntime) -> Result<(), Fail> {
             let error = encode(&Item::Idle(1030), &mut writer)
                 .err()
                 .ok_or("all went out")?;
-            assert!(rt; error.kind() == kind, "after {room} bytes");
-            assert_eq!(rt; writer.taken().len(), room);
+            expect_at(&rt, &room, error.kind() == kind);
+            expect_eq(&rt, &writer.taken().len(), &room);
         }
     }
     Ok(())

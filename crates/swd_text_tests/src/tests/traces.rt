@@ -1,4 +1,5 @@
 //! The engines on worked texts, with failing readers and writers, and with memory refused.
+use super::expect::{expect_eq, expect_eq_at};
 use linked_list_allocator::LocalHeap;
 use std::cell::Cell;
 use std::io::Read;
@@ -93,16 +94,20 @@ fn traces_have_their_listings(rt: HostRuntime) -> Result<(), Fail> {
     for (trace, listing) in LISTED {
         let mut reader = trace;
         let mut out = Vec::new(rt.alloc());
-        assert_eq!(rt; decode_text(&mut reader, &mut out), Ok(()));
-        assert_eq!(rt; out.as_slice(), listing);
+        expect_eq(&rt, &decode_text(&mut reader, &mut out), &Ok(()));
+        expect_eq(&rt, &out.as_slice(), &listing);
         // The listing's own trace is listed so again.
         let mut reader = listing;
         let mut again = Vec::new(rt.alloc());
-        assert_eq!(rt; encode_text(rt.alloc(), &mut reader, &mut again), Ok(()));
+        expect_eq(
+            &rt,
+            &encode_text(rt.alloc(), &mut reader, &mut again),
+            &Ok(()),
+        );
         let mut reader = again.as_slice();
         let mut out = Vec::new(rt.alloc());
-        assert_eq!(rt; decode_text(&mut reader, &mut out), Ok(()));
-        assert_eq!(rt; out.as_slice(), listing);
+        expect_eq(&rt, &decode_text(&mut reader, &mut out), &Ok(()));
+        expect_eq(&rt, &out.as_slice(), &listing);
     }
     Ok(())
 }
@@ -122,8 +127,12 @@ fn listings_have_their_traces(rt: HostRuntime) {
     ] {
         let mut reader = listing;
         let mut out = Vec::new(rt.alloc());
-        assert_eq!(rt; encode_text(rt.alloc(), &mut reader, &mut out), Ok(()));
-        assert_eq!(rt; out.as_slice(), trace);
+        expect_eq(
+            &rt,
+            &encode_text(rt.alloc(), &mut reader, &mut out),
+            &Ok(()),
+        );
+        expect_eq(&rt, &out.as_slice(), &trace);
     }
 }
 
@@ -148,7 +157,7 @@ fn listings_at_fault_write_nothing(rt: HostRuntime) {
         let mut reader = listing;
         let mut out = Vec::new(rt.alloc());
         let answer = encode_text(rt.alloc(), &mut reader, &mut out);
-        assert_eq!(rt; answer, Err(EngineFault::List(fault)));
+        expect_eq(&rt, &answer, &Err(EngineFault::List(fault)));
         assert!(rt; out.is_empty());
     }
 }
@@ -167,11 +176,12 @@ fn a_bad_character_ends_a_listing(rt: HostRuntime) -> Result<(), Fail> {
         let mut reader = trace;
         let mut out = Vec::new(rt.alloc());
         let answer = decode_text(&mut reader, &mut out);
-        assert_eq!(rt;
-            answer,
-            Err(EngineFault::Text(TextFault::BadChar { place }))
+        expect_eq(
+            &rt,
+            &answer,
+            &Err(EngineFault::Text(TextFault::BadChar { place })),
         );
-        assert_eq!(rt; out.as_slice(), listing);
+        expect_eq(&rt, &out.as_slice(), &listing);
     }
     Ok(())
 }
@@ -181,18 +191,20 @@ fn one_transaction_at_each_read_that_fails(rt: HostRuntime) {
     for i in 0..=DPIDR_READ.len() {
         let mut reader = FailingReader::new(DPIDR_READ, i);
         let mut out = Vec::new(rt.alloc());
-        assert_eq!(rt;
-            one_text(&mut reader, &mut out),
-            Err(OneFault::Read),
-            "at read {i}"
+        expect_eq_at(
+            &rt,
+            &i,
+            &one_text(&mut reader, &mut out),
+            &Err(OneFault::Read),
         );
         assert!(rt; out.is_empty());
     }
     let mut reader = FailingReader::new(b"x", 1);
     let mut out = Vec::new(rt.alloc());
-    assert_eq!(rt;
-        one_text(&mut reader, &mut out),
-        Err(OneFault::BadChar { place: 0 })
+    expect_eq(
+        &rt,
+        &one_text(&mut reader, &mut out),
+        &Err(OneFault::BadChar { place: 0 }),
     );
 }
 
@@ -203,8 +215,8 @@ fn one_transaction_at_each_write_that_fails(rt: HostRuntime) {
             let mut writer = ShortWriter::new(rt.alloc(), room, fails);
             let mut reader = DPIDR_READ;
             let answer = one_text(&mut reader, &mut writer);
-            assert_eq!(rt; answer, Err(OneFault::Write), "after {room} bytes");
-            assert_eq!(rt; writer.taken(), &DPIDR_LINE[..room]);
+            expect_eq_at(&rt, &room, &answer, &Err(OneFault::Write));
+            expect_eq(&rt, &writer.taken(), &&DPIDR_LINE[..room]);
         }
     }
 }
@@ -217,10 +229,11 @@ fn decoding_at_each_read_that_fails(rt: HostRuntime) {
     for i in 0..=RESET.len() {
         let mut reader = FailingReader::new(RESET, i);
         let mut out = Vec::new(rt.alloc());
-        assert_eq!(rt;
-            decode_text(&mut reader, &mut out),
-            Err(EngineFault::Read),
-            "at read {i}"
+        expect_eq_at(
+            &rt,
+            &i,
+            &decode_text(&mut reader, &mut out),
+            &Err(EngineFault::Read),
         );
         // The zero ends the reset. Directly after it 01 may go on as a switch, and 010 not.
         let lines = match i {
@@ -228,7 +241,7 @@ fn decoding_at_each_read_that_fails(rt: HostRuntime) {
             51 | 52 => b"reset 50\n".as_slice(),
             _ => b"reset 50\nidle 1\n".as_slice(),
         };
-        assert_eq!(rt; out.as_slice(), lines, "at read {i}");
+        expect_eq_at(&rt, &i, &out.as_slice(), &lines);
     }
 }
 
@@ -239,7 +252,7 @@ fn encoding_at_each_read_that_fails(rt: HostRuntime) {
         let mut reader = FailingReader::new(listing, i);
         let mut out = Vec::new(rt.alloc());
         let answer = encode_text(rt.alloc(), &mut reader, &mut out);
-        assert_eq!(rt; answer, Err(EngineFault::Read), "at read {i}");
+        expect_eq_at(&rt, &i, &answer, &Err(EngineFault::Read));
         assert!(rt; out.is_empty());
     }
 }
@@ -253,8 +266,8 @@ fn decoding_at_each_write_that_fails(rt: HostRuntime) {
             let mut reader = RESET;
             let answer = decode_text(&mut reader, &mut writer);
             let written = room as u64;
-            assert_eq!(rt; answer, Err(EngineFault::Write { written }));
-            assert_eq!(rt; writer.taken(), &lines[..room]);
+            expect_eq(&rt, &answer, &Err(EngineFault::Write { written }));
+            expect_eq(&rt, &writer.taken(), &&lines[..room]);
         }
     }
 }
@@ -276,12 +289,12 @@ fn decoding_more_than_a_block_where_a_write_fails(rt: HostRuntime) -> Result<(),
             let mut reader = trace.as_slice();
             let answer = decode_text(&mut reader, &mut writer);
             let written = room as u64;
-            assert_eq!(rt; answer, Err(EngineFault::Write { written }));
+            expect_eq(&rt, &answer, &Err(EngineFault::Write { written }));
             assert!(rt; room <= lines.len());
-            assert_eq!(rt; writer.taken(), &lines.as_slice()[..room]);
+            expect_eq(&rt, &writer.taken(), &&lines.as_slice()[..room]);
         }
     }
-    assert_eq!(rt; lines.len(), 35017);
+    expect_eq(&rt, &lines.len(), &35017);
     Ok(())
 }
 
@@ -295,8 +308,8 @@ fn encoding_at_each_write_that_fails(rt: HostRuntime) {
             let mut reader = b"reset 58\nidle 1\ndp 0 read ok 2ba01477\n".as_slice();
             let answer = encode_text(rt.alloc(), &mut reader, &mut writer);
             let written = room as u64;
-            assert_eq!(rt; answer, Err(EngineFault::Write { written }));
-            assert_eq!(rt; writer.taken(), &trace[..room]);
+            expect_eq(&rt, &answer, &Err(EngineFault::Write { written }));
+            expect_eq(&rt, &writer.taken(), &&trace[..room]);
         }
     }
 }
@@ -317,7 +330,7 @@ fn encoding_with_memory_refused(rt: HostRuntime) -> Result<(), Fail> {
         match encode_text(&heap, &mut reader, &mut out) {
             Ok(()) => done = done.saturating_add(1),
             Err(fault) => {
-                assert_eq!(rt; fault, EngineFault::Memory);
+                expect_eq(&rt, &fault, &EngineFault::Memory);
                 assert!(rt; out.is_empty());
                 refused = refused.saturating_add(1);
             }
@@ -338,8 +351,8 @@ fn lines_go_out_before_the_next_read(rt: HostRuntime) -> Result<(), Fail> {
     let taken = Cell::new(0);
     let mut reader = WatchingReader::new(rt.alloc(), trace.as_slice(), &taken);
     let mut writer = CountingWriter { taken: &taken };
-    assert_eq!(rt; decode_text(&mut reader, &mut writer), Ok(()));
-    assert_eq!(rt; reader.noted.len(), trace.len() + 1);
+    expect_eq(&rt, &decode_text(&mut reader, &mut writer), &Ok(()));
+    expect_eq(&rt, &reader.noted.len(), &(trace.len() + 1));
     let first = DPIDR_READ.len();
     for (read, noted) in reader.noted.iter().enumerate() {
         let lines = if read < first {
@@ -349,7 +362,7 @@ fn lines_go_out_before_the_next_read(rt: HostRuntime) -> Result<(), Fail> {
         } else {
             2
         };
-        assert_eq!(rt; *noted, lines * DPIDR_LINE.len(), "before read {read}");
+        expect_eq_at(&rt, &read, &*noted, &(lines * DPIDR_LINE.len()));
     }
     Ok(())
 }
@@ -381,8 +394,8 @@ fn a_cut_between_two_reads_makes_no_difference(rt: HostRuntime) -> Result<(), Fa
     ] {
         for cut in 0..=text.len() {
             let (answer, out) = listed_in_two(&rt, text, cut)?;
-            assert_eq!(rt; answer, Ok(()));
-            assert_eq!(rt; out.as_slice(), listing, "cut at {cut}");
+            expect_eq(&rt, &answer, &Ok(()));
+            expect_eq_at(&rt, &cut, &out.as_slice(), &listing);
         }
     }
     Ok(())
@@ -399,8 +412,8 @@ fn a_cut_past_a_piece_makes_no_difference(rt: HostRuntime) -> Result<(), Fail> {
         text.extend_from_slice(DPIDR_READ)?;
         let mut reader = text.as_slice();
         let mut out = Vec::new(rt.alloc());
-        assert_eq!(rt; decode_text(&mut reader, &mut out), Ok(()));
-        assert_eq!(rt; out.as_slice(), DPIDR_LINE);
+        expect_eq(&rt, &decode_text(&mut reader, &mut out), &Ok(()));
+        expect_eq(&rt, &out.as_slice(), &DPIDR_LINE);
     }
     Ok(())
 }
