@@ -4,8 +4,11 @@ ghost use Rattle.swd_port.specs.declared.state.Line.TheVariants.{Idle};
 ghost use Rattle.swd_port.specs.declared.wire.Due.TheVariants.{Nothing};
 ghost use Rattle.swd_port.specs.Port.{made_target, made};
 
+mod expect;
+
 use super::*;
 use bitflags::Flags;
+use expect::{expect_at, expect_eq, expect_eq_at};
 use std::test::Fail;
 use swd_bits::{Request, word_of};
 
@@ -77,11 +80,11 @@ fn identification<W: Wire>(wire: &mut W) -> Option<u32>
 
 #[test]
 fn a_register_keeps_the_bits_that_it_names(rt: HostRuntime) {
-    assert_eq!(rt; Abort::of(0xffff_ffff).bits(), 0x0000_001f);
-    assert_eq!(rt; CtrlStat::of(0xffff_ffff).bits(), 0xfcff_ffff);
-    assert_eq!(rt; Select::of(0x1234_5678).bits(), 0x1200_0078);
+    expect_eq(&rt, &Abort::of(0xffff_ffff).bits(), &0x0000_001f);
+    expect_eq(&rt, &CtrlStat::of(0xffff_ffff).bits(), &0xfcff_ffff);
+    expect_eq(&rt, &Select::of(0x1234_5678).bits(), &0x1200_0078);
     for (word, kept) in [(0x2300_0052, 0x2300_0052), (0xffff_ffff, 0x7f00_00f7)] {
-        assert_eq!(rt; Csw::of(word).bits(), kept);
+        expect_eq(&rt, &Csw::of(word).bits(), &kept);
     }
 }
 
@@ -95,7 +98,7 @@ fn a_named_bit_is_where_the_standard_has_it(rt: HostRuntime) {
         (Abort::ORUNERRCLR, 16),
         (Abort::STKERRCLR | Abort::WDERRCLR, 12),
     ] {
-        assert_eq!(rt; flag.bits(), word);
+        expect_eq(&rt, &flag.bits(), &word);
     }
     for (flag, word) in [
         (CtrlStat::STICKYERR, 0x20),
@@ -106,7 +109,7 @@ fn a_named_bit_is_where_the_standard_has_it(rt: HostRuntime) {
         (CtrlStat::CSYSPWRUPREQ, 0x4000_0000),
         (CtrlStat::CSYSPWRUPACK, 0x8000_0000),
     ] {
-        assert_eq!(rt; flag.bits(), word);
+        expect_eq(&rt, &flag.bits(), &word);
     }
     assert!(rt; CtrlStat::of(0xf000_0080).contains(CtrlStat::WDATAERR));
     assert!(rt; !CtrlStat::of(0xf000_0040).contains(CtrlStat::WDATAERR));
@@ -119,8 +122,8 @@ fn fields_stand_at_their_places(rt: HostRuntime) {
         apbanksel: 0x7,
         dpbanksel: 0x8,
     };
-    assert_eq!(rt; Select::of(0x1234_5678), select);
-    assert_eq!(rt; select.bits(), 0x1200_0078);
+    expect_eq(&rt, &Select::of(0x1234_5678), &select);
+    expect_eq(&rt, &select.bits(), &0x1200_0078);
     let csw = Csw {
         size: 2,
         addr_inc: 1,
@@ -128,8 +131,8 @@ fn fields_stand_at_their_places(rt: HostRuntime) {
         tr_in_prog: false,
         upper: 0x23,
     };
-    assert_eq!(rt; Csw::of(0x2300_0052), csw);
-    assert_eq!(rt; csw.bits(), 0x2300_0052);
+    expect_eq(&rt, &Csw::of(0x2300_0052), &csw);
+    expect_eq(&rt, &csw.bits(), &0x2300_0052);
 }
 
 #[test]
@@ -153,7 +156,7 @@ fn a_register_is_named_by_its_byte(rt: HostRuntime) {
         (Register::ApZeroRead, 0xb7),
         (Register::ApIgnoredWrite, 0x93),
     ] {
-        assert_eq!(rt; register.request().bits(), byte);
+        expect_eq(&rt, &register.request().bits(), &byte);
     }
 }
 
@@ -164,10 +167,10 @@ fn nobody_answers_on_an_open_wire(rt: HostRuntime) {
         reset: Reset::Unreset,
         asked: Count::new(),
     };
-    assert_eq!(rt; identification(&mut &mut wire), None);
-    assert_eq!(rt; wire.due(), Due::Lost);
+    expect_eq(&rt, &identification(&mut &mut wire), &None);
+    expect_eq(&rt, &wire.due(), &Due::Lost);
     wire.lead(100, false, 2);
-    assert_eq!(rt; wire.due(), Due::Nothing);
+    expect_eq(&rt, &wire.due(), &Due::Nothing);
 }
 
 // A way that answers OK to all, and reads zeros.
@@ -256,11 +259,11 @@ impl Story for Untold {
 #[test]
 fn a_wire_to_the_outside_says_what_came_back(rt: HostRuntime) {
     let mut wire: Outside<Agreeing, Untold> = Outside::new(Agreeing { failing: false });
-    assert_eq!(rt; identification(&mut &mut wire), Some(0));
-    assert_eq!(rt; wire.due(), Due::Nothing);
+    expect_eq(&rt, &identification(&mut &mut wire), &Some(0));
+    expect_eq(&rt, &wire.due(), &Due::Nothing);
     let mut wire: Outside<Agreeing, Untold> = Outside::new(Agreeing { failing: true });
-    assert_eq!(rt; identification(&mut &mut wire), None);
-    assert_eq!(rt; wire.due(), Due::Lost);
+    expect_eq(&rt, &identification(&mut &mut wire), &None);
+    expect_eq(&rt, &wire.due(), &Due::Lost);
 }
 
 // DPIDR is read, ABORT is written, and DPIDR is read again. What was seen after the last request.
@@ -291,18 +294,18 @@ fn nothing_is_sent_once_the_other_end_went_away(rt: HostRuntime) {
     for fails_at in 1..=6u8 {
         let way = Breaking { calls: 0, fails_at };
         let mut wire: Outside<Breaking, Untold> = Outside::new(way);
-        assert_eq!(rt; three_requests(&mut wire), 7, "{fails_at}");
-        assert!(rt; wire.is_gone(), "{fails_at}");
-        assert_eq!(rt; wire.into_transport().calls, fails_at);
+        expect_eq_at(&rt, &fails_at, &three_requests(&mut wire), &7);
+        expect_at(&rt, &fails_at, wire.is_gone());
+        expect_eq(&rt, &wire.into_transport().calls, &fails_at);
     }
     let way = Breaking {
         calls: 0,
         fails_at: 7,
     };
     let mut wire: Outside<Breaking, Untold> = Outside::new(way);
-    assert_eq!(rt; three_requests(&mut wire), 1);
+    expect_eq(&rt, &three_requests(&mut wire), &1);
     assert!(rt; !wire.is_gone());
-    assert_eq!(rt; wire.into_transport().calls, 6);
+    expect_eq(&rt, &wire.into_transport().calls, &6);
 }
 
 #[test]
@@ -311,7 +314,7 @@ fn accesses_and_marks_are_lines_of_a_script_and_a_plan(rt: HostRuntime) -> Resul
         (Access::Read(0x2000_0000), "r 20000000"),
         (Access::Write(0x10, 0xdead_beef), "w 00000010 deadbeef"),
     ] {
-        assert_eq!(rt; format!(in rt.alloc(); "{access}")?.as_str(), line);
+        expect_eq(&rt, &format!(in rt.alloc(); "{access}")?.as_str(), &line);
     }
     for (mark, line) in [
         (Mark::Clean, "."),
@@ -320,7 +323,7 @@ fn accesses_and_marks_are_lines_of_a_script_and_a_plan(rt: HostRuntime) -> Resul
         (Mark::Deaf, "deaf"),
         (Mark::Mute(2), "mute 2"),
     ] {
-        assert_eq!(rt; format!(in rt.alloc(); "{mark}")?.as_str(), line);
+        expect_eq(&rt, &format!(in rt.alloc(); "{mark}")?.as_str(), &line);
     }
     Ok(())
 }
@@ -332,7 +335,7 @@ fn answers_have_the_words_of_a_report(rt: HostRuntime) -> Result<(), Fail> {
         (Answer::Written, "written"),
         (Answer::BusFault, "busfault"),
     ] {
-        assert_eq!(rt; format!(in rt.alloc(); "{answer}")?.as_str(), words);
+        expect_eq(&rt, &format!(in rt.alloc(); "{answer}")?.as_str(), &words);
     }
     Ok(())
 }

@@ -1,5 +1,6 @@
 //! Worked requests at a target, and worked cycles at a clocked target and at its bench.
 mod cycles;
+mod expect;
 mod faults;
 mod fields;
 mod lists;

@@ -1,4 +1,5 @@
 //! Cycles, one after the other.
+use super::expect::expect_eq;
 use super::parts::{Part, failing};
 use super::recorded::RUN;
 use std::alloc::Global;
@@ -79,14 +80,14 @@ const HELD: [Part; 4] = [
 #[test]
 fn dpidr_is_read_after_a_line_reset(rt: HostRuntime) -> Result<(), Fail> {
     let mut target = target(rt.alloc())?;
-    assert_eq!(rt; failing(&mut target, &IDENTIFICATION), None);
+    expect_eq(&rt, &failing(&mut target, &IDENTIFICATION), &None);
     Ok(())
 }
 
 #[test]
 fn forty_nine_ones_are_no_line_reset(rt: HostRuntime) -> Result<(), Fail> {
     let mut target = target(rt.alloc())?;
-    assert_eq!(rt; failing(&mut target, &FEW), None);
+    expect_eq(&rt, &failing(&mut target, &FEW), &None);
     Ok(())
 }
 
@@ -94,31 +95,31 @@ fn forty_nine_ones_are_no_line_reset(rt: HostRuntime) -> Result<(), Fail> {
 #[test]
 fn an_idle_line_writes_a_word(rt: HostRuntime) -> Result<(), Fail> {
     let mut target = target(rt.alloc())?;
-    assert_eq!(rt; failing(&mut target, &UP), None);
+    expect_eq(&rt, &failing(&mut target, &UP), &None);
     assert!(rt; target.memory().log().is_empty());
-    assert_eq!(rt; failing(&mut target, &IDLE_WRITE), None);
+    expect_eq(&rt, &failing(&mut target, &IDLE_WRITE), &None);
     let written = Transfer {
         read: false,
         addr: 0x2000_0000,
         word: 0,
     };
-    assert_eq!(rt; target.memory().log(), [written].as_slice());
+    expect_eq(&rt, &target.memory().log(), &[written].as_slice());
     Ok(())
 }
 
 #[test]
 fn a_held_target_answers_wait(rt: HostRuntime) -> Result<(), Fail> {
     let mut target = target(rt.alloc())?;
-    assert_eq!(rt; failing(&mut target, &IDENTIFICATION), None);
+    expect_eq(&rt, &failing(&mut target, &IDENTIFICATION), &None);
     target.hold(true);
-    assert_eq!(rt; failing(&mut target, &HELD), None);
+    expect_eq(&rt, &failing(&mut target, &HELD), &None);
     Ok(())
 }
 
 #[test]
 fn a_recorded_run_is_answered_as_it_was_recorded(rt: HostRuntime) -> Result<(), Fail> {
     let mut target = target(rt.alloc())?;
-    assert_eq!(rt; failing(&mut target, &RUN), None);
+    expect_eq(&rt, &failing(&mut target, &RUN), &None);
     Ok(())
 }
 
@@ -129,14 +130,14 @@ fn a_bench_counts_the_cycles_that_it_drives(rt: HostRuntime) -> Result<(), Fail>
         panic!(rt; "no memory");
     };
     bench.lead(56, true, 2);
-    assert_eq!(rt; bench.cycles(), 130);
-    assert_eq!(rt; bench.ask(Register::DpidrRead.request()), 1);
-    assert_eq!(rt; bench.cycles(), 142);
+    expect_eq(&rt, &bench.cycles(), &130);
+    expect_eq(&rt, &bench.ask(Register::DpidrRead.request()), &1);
+    expect_eq(&rt, &bench.cycles(), &142);
     let Due::Take = bench.due() else {
         panic!(rt; "no data phase");
     };
-    assert_eq!(rt; word_of(bench.take()), Some(0x2ba0_1477));
-    assert_eq!(rt; bench.cycles(), 176);
+    expect_eq(&rt, &word_of(bench.take()), &Some(0x2ba0_1477));
+    expect_eq(&rt, &bench.cycles(), &176);
     bench.settle();
     assert!(rt; bench.memory().log().is_empty());
     Ok(())

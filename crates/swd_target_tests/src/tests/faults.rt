@@ -1,4 +1,5 @@
 //! Cycles with FAULT, with damaged data, and with ones where they are no line reset of their own.
+use super::expect::{expect_eq, expect_eq_at};
 use super::parts::{Part, failing};
 use std::alloc::Global;
 use std::test::Fail;
@@ -88,16 +89,16 @@ const DAMAGED: [Part; 20] = [
 #[test]
 fn a_fault_is_driven_until_it_is_cleared(rt: HostRuntime) -> Result<(), Fail> {
     let mut target = target(rt.alloc())?;
-    assert_eq!(rt; failing(&mut target, &FAULTS), None);
+    expect_eq(&rt, &failing(&mut target, &FAULTS), &None);
     Ok(())
 }
 
 #[test]
 fn damaged_data_is_not_written(rt: HostRuntime) -> Result<(), Fail> {
     let mut target = target(rt.alloc())?;
-    assert_eq!(rt; failing(&mut target, &DAMAGED), None);
+    expect_eq(&rt, &failing(&mut target, &DAMAGED), &None);
     let cleared = [Part::Seen(b"11000000000000000000000000000000000001")];
-    assert_eq!(rt; failing(&mut target, &cleared), None);
+    expect_eq(&rt, &failing(&mut target, &cleared), &None);
     Ok(())
 }
 
@@ -124,11 +125,11 @@ fn ones_of_broken_requests_count(rt: HostRuntime) -> Result<(), Fail> {
     for (before, least) in BEFORE {
         for ones in [least - 1, least] {
             let mut target = target(rt.alloc())?;
-            assert_eq!(rt; failing(&mut target, &[Part::Ones(50)]), None);
-            assert_eq!(rt; failing(&mut target, before), None, "{least}");
+            expect_eq(&rt, &failing(&mut target, &[Part::Ones(50)]), &None);
+            expect_eq_at(&rt, &least, &failing(&mut target, before), &None);
             let answer = if ones == least { IDENTIFIED } else { SILENCE };
             let after = [Part::Ones(ones), LOW, DPIDR, answer];
-            assert_eq!(rt; failing(&mut target, &after), None, "{least} {ones}");
+            expect_eq_at(&rt, &(least, ones), &failing(&mut target, &after), &None);
         }
     }
     Ok(())
@@ -146,12 +147,12 @@ fn ones_fill_a_write_that_is_awaited(rt: HostRuntime) -> Result<(), Fail> {
         Part::Seen(b"11000000000100000000000000000000000011"),
     ];
     let mut short = target(rt.alloc())?;
-    assert_eq!(rt; failing(&mut short, &begun), None);
+    expect_eq(&rt, &failing(&mut short, &begun), &None);
     let after = [Part::Ones(82), LOW, DPIDR, SILENCE];
-    assert_eq!(rt; failing(&mut short, &after), None);
+    expect_eq(&rt, &failing(&mut short, &after), &None);
     let mut long = target(rt.alloc())?;
-    assert_eq!(rt; failing(&mut long, &begun), None);
-    assert_eq!(rt; failing(&mut long, &[Part::Ones(83)]), None);
-    assert_eq!(rt; failing(&mut long, &damaged), None);
+    expect_eq(&rt, &failing(&mut long, &begun), &None);
+    expect_eq(&rt, &failing(&mut long, &[Part::Ones(83)]), &None);
+    expect_eq(&rt, &failing(&mut long, &damaged), &None);
     Ok(())
 }

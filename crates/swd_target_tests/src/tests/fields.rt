@@ -1,4 +1,5 @@
 //! A clocked target goes by its numbers alone.
+use super::expect::expect_eq;
 use super::parts::{Part, failing};
 use super::recorded::RUN;
 use std::alloc::Global;
@@ -20,7 +21,7 @@ fn again<R: Abort>(rt: &R, fields: ClockedFields) -> Clocked {
     let Some(target) = fields.clocked(Memory::<Global>::window(0, None)) else {
         panic!(rt; "these are the numbers of no target");
     };
-    assert_eq!(rt; target.fields(), fields);
+    expect_eq(rt, &target.fields(), &fields);
     target
 }
 
@@ -29,7 +30,7 @@ fn again<R: Abort>(rt: &R, fields: ClockedFields) -> Clocked {
 fn a_run_goes_on_by_numbers(rt: HostRuntime) {
     let mut target = new_target();
     for part in RUN {
-        assert_eq!(rt; failing(&mut target, [part].as_slice()), None);
+        expect_eq(&rt, &failing(&mut target, [part].as_slice()), &None);
         target = again(&rt, target.fields());
     }
 }
@@ -41,13 +42,13 @@ fn every_frame_has_numbers_of_its_own(rt: HostRuntime) {
     for part in RUN {
         if let Part::Sent(bits) = part {
             for bit in bits {
-                assert_eq!(rt; target.cycle(Some(*bit == b'1')), *bit == b'1');
+                expect_eq(&rt, &target.cycle(Some(*bit == b'1')), &(*bit == b'1'));
                 target = again(&rt, target.fields());
             }
         }
         if let Part::Seen(bits) = part {
             for bit in bits {
-                assert_eq!(rt; target.cycle(None), *bit == b'1');
+                expect_eq(&rt, &target.cycle(None), &(*bit == b'1'));
                 target = again(&rt, target.fields());
             }
         }

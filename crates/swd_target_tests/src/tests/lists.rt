@@ -1,4 +1,5 @@
 //! All short lists of bits.
+use super::expect::expect_eq;
 use std::alloc::Global;
 use std::test::Fail;
 use swd_clocked::Clocked;
@@ -42,9 +43,9 @@ fn each_list_of_twelve_bits_is_taken(rt: HostRuntime) -> Result<(), Fail> {
         late: false,
         filler: 0,
     };
-    assert_eq!(rt; answered(rt.alloc(), 37, quirks)?, 0);
-    assert_eq!(rt; answered(rt.alloc(), 0, quirks)?, 0);
-    assert_eq!(rt; answered(rt.alloc(), 49, quirks)?, 2);
-    assert_eq!(rt; answered(rt.alloc(), 50, quirks)?, 10);
+    expect_eq(&rt, &answered(rt.alloc(), 37, quirks)?, &0);
+    expect_eq(&rt, &answered(rt.alloc(), 0, quirks)?, &0);
+    expect_eq(&rt, &answered(rt.alloc(), 49, quirks)?, &2);
+    expect_eq(&rt, &answered(rt.alloc(), 50, quirks)?, &10);
     Ok(())
 }

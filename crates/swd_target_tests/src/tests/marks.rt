@@ -2,6 +2,7 @@
 ghost use Rattle.std.specs.Prelude.{IsTrue};
 ghost use Rattle.swd_target.specs.Marks.{IsPlan};
 
+use super::expect::expect_eq;
 use std::alloc::Global;
 use std::test::Fail;
 use swd_bits::word_of;
@@ -59,11 +60,11 @@ fn the_last_of_many_marks_is_met(rt: HostRuntime) -> Result<(), Fail> {
     };
     reset(&mut bench);
     for _ in 0..70_000u32 {
-        assert_eq!(rt; identification(&mut bench), Some(0x2ba0_1477));
+        expect_eq(&rt, &identification(&mut bench), &Some(0x2ba0_1477));
     }
-    assert_eq!(rt; identification(&mut bench), None);
-    assert_eq!(rt; bench.due(), Due::Nothing);
-    assert_eq!(rt; identification(&mut bench), None);
-    assert_eq!(rt; bench.due(), Due::Lost);
+    expect_eq(&rt, &identification(&mut bench), &None);
+    expect_eq(&rt, &bench.due(), &Due::Nothing);
+    expect_eq(&rt, &identification(&mut bench), &None);
+    expect_eq(&rt, &bench.due(), &Due::Lost);
     Ok(())
 }

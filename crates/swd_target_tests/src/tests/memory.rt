@@ -1,4 +1,5 @@
 //! A memory is made, or refused.
+use super::expect::expect_eq;
 use linked_list_allocator::LocalHeap;
 use std::alloc::Global;
 use std::test::Fail;
@@ -21,7 +22,7 @@ fn a_memory_is_made_or_refused_in_order(rt: HostRuntime) {
     ];
     for (base, words, fault) in cases {
         let made = Memory::new(rt.alloc(), base, words, 0).err();
-        assert_eq!(rt; made, fault);
+        expect_eq(&rt, &made, &fault);
     }
 }
 
@@ -37,7 +38,7 @@ fn a_memory_begins_with_zero_words_and_an_empty_log(rt: HostRuntime) {
         (0x2000_0040, None),
         (0x1fff_fffc, None),
     ] {
-        assert_eq!(rt; memory.word(addr), word);
+        expect_eq(&rt, &memory.word(addr), &word);
     }
     assert!(rt; memory.log().is_empty());
 }
@@ -48,7 +49,7 @@ fn a_memory_is_made_at_its_greatest_use(rt: HostRuntime) {
         panic!(rt; "no memory");
     };
     for (addr, word) in [(0x2003_fffc, Some(0)), (0x2004_0000, None)] {
-        assert_eq!(rt; memory.word(addr), word);
+        expect_eq(&rt, &memory.word(addr), &word);
     }
 }
 
@@ -70,7 +71,7 @@ fn a_memory_of_more_than_65536_words_and_transfers(rt: HostRuntime) -> Result<()
     target.arrive(Register::TarWrite, data_bits(0x2000_0000));
     target.arrive(Register::DrwWrite, data_bits(7));
     let memory = target.memory();
-    assert_eq!(rt; memory.log().len(), 70_000);
+    expect_eq(&rt, &memory.log().len(), &70_000);
     for (addr, word) in [
         (0x2000_0000, Some(1)),
         (0x2003_fffc, Some(65_536)),
@@ -78,7 +79,7 @@ fn a_memory_of_more_than_65536_words_and_transfers(rt: HostRuntime) -> Result<()
         (0x2004_45bc, Some(70_000)),
         (0x2004_45c0, None),
     ] {
-        assert_eq!(rt; memory.word(addr), word);
+        expect_eq(&rt, &memory.word(addr), &word);
     }
     Ok(())
 }
@@ -92,12 +93,12 @@ fn each_part_of_a_memory_is_refused(rt: HostRuntime) -> Result<(), Fail> {
         let heap = LocalHeap::new(rt.alloc(), size * 16)?;
         match Memory::new(&heap, 0x2000_0000, 16, 16) {
             Ok(memory) => {
-                assert_eq!(rt; memory.word(0x2000_003c), Some(0));
+                expect_eq(&rt, &memory.word(0x2000_003c), &Some(0));
                 assert!(rt; memory.log().is_empty());
             }
             Err(fault) => {
-                assert_eq!(rt; fault, MakeFault::Memory);
-                assert_eq!(rt; heap.used(), 0);
+                expect_eq(&rt, &fault, &MakeFault::Memory);
+                expect_eq(&rt, &heap.used(), &0);
                 refused = refused.saturating_add(1);
             }
         }
@@ -117,7 +118,11 @@ fn numbers_are_refused_before_memory(rt: HostRuntime) -> Result<(), Fail> {
         (0xffff_fffc, 2, MakeFault::Range),
         (0x2000_0000, 16, MakeFault::Memory),
     ] {
-        assert_eq!(rt; Memory::new(&heap, base, words, 16).err(), Some(fault));
+        expect_eq(
+            &rt,
+            &Memory::new(&heap, base, words, 16).err(),
+            &Some(fault),
+        );
     }
     Ok(())
 }
@@ -131,43 +136,48 @@ fn a_window_makes_one_transfer(rt: HostRuntime) {
         (0x2000_0000, None),
         (0x2000_0008, None),
     ] {
-        assert_eq!(rt; window.word(addr), word);
+        expect_eq(&rt, &window.word(addr), &word);
     }
-    assert_eq!(rt;
-        window.transfer(Access::Read(0x2000_0000)),
-        Answer::BusFault
+    expect_eq(
+        &rt,
+        &window.transfer(Access::Read(0x2000_0000)),
+        &Answer::BusFault,
     );
     assert!(rt; window.log().is_empty());
     assert!(rt; window.is_ready(0x2000_0004));
-    assert_eq!(rt;
-        window.transfer(Access::Write(0x2000_0004, 9)),
-        Answer::Written
+    expect_eq(
+        &rt,
+        &window.transfer(Access::Write(0x2000_0004, 9)),
+        &Answer::Written,
     );
-    assert_eq!(rt; window.word(0x2000_0004), Some(9));
+    expect_eq(&rt, &window.word(0x2000_0004), &Some(9));
     let done = Transfer {
         read: false,
         addr: 0x2000_0004,
         word: 9,
     };
-    assert_eq!(rt; window.log(), [done].as_slice());
+    expect_eq(&rt, &window.log(), &[done].as_slice());
     assert!(rt; !window.is_ready(0x2000_0004));
-    assert_eq!(rt;
-        window.transfer(Access::Read(0x2000_0004)),
-        Answer::BusFault
+    expect_eq(
+        &rt,
+        &window.transfer(Access::Read(0x2000_0004)),
+        &Answer::BusFault,
     );
 
     let mut window = Memory::<Global>::window(0x2000_0004, Some(7));
-    assert_eq!(rt;
-        window.transfer(Access::Read(0x2000_0004)),
-        Answer::Value(7)
+    expect_eq(
+        &rt,
+        &window.transfer(Access::Read(0x2000_0004)),
+        &Answer::Value(7),
     );
-    assert_eq!(rt; window.log().len(), 1);
+    expect_eq(&rt, &window.log().len(), &1);
 
     let mut none = Memory::<Global>::window(0x2000_0004, None);
     assert!(rt; !none.is_ready(0x2000_0004));
-    assert_eq!(rt;
-        none.transfer(Access::Write(0x2000_0004, 9)),
-        Answer::BusFault
+    expect_eq(
+        &rt,
+        &none.transfer(Access::Write(0x2000_0004, 9)),
+        &Answer::BusFault,
     );
 }
 
@@ -190,11 +200,11 @@ fn a_target_is_given_back_by_its_numbers(rt: HostRuntime) {
     let fields = target.fields();
     assert!(rt; fields != fresh);
     let mut again = fields.target(Memory::<Global>::window(0x2000_0004, Some(0)));
-    assert_eq!(rt; again.fields(), fields);
+    expect_eq(&rt, &again.fields(), &fields);
     again.complete();
     let memory = again.memory();
-    assert_eq!(rt; memory.word(0x2000_0004), Some(0x1234_5678));
-    assert_eq!(rt; again.fields().tar.word, 0x2000_0008);
+    expect_eq(&rt, &memory.word(0x2000_0004), &Some(0x1234_5678));
+    expect_eq(&rt, &again.fields().tar.word, &0x2000_0008);
 
     let mut none = fresh;
     none.reset = 0;
@@ -209,7 +219,7 @@ fn faults_say_why_there_is_no_memory(rt: HostRuntime) -> Result<(), Fail> {
         (MakeFault::Range, "the words go past 2^32"),
         (MakeFault::Empty, "no words"),
     ] {
-        assert_eq!(rt; format!(in rt.alloc(); "{fault}")?.as_str(), words);
+        expect_eq(&rt, &format!(in rt.alloc(); "{fault}")?.as_str(), &words);
     }
     Ok(())
 }

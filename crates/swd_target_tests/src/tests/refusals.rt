@@ -1,4 +1,5 @@
 //! Out of memory: a clocked bench.
+use super::expect::expect_eq;
 use super::marks::are_legal;
 use linked_list_allocator::LocalHeap;
 use std::alloc::Allocator;
@@ -37,13 +38,13 @@ fn is_written<R: Abort, A: Allocator>(rt: &R, memory: &Memory<A>) {
         addr: BASE,
         word: WORD,
     }];
-    assert_eq!(rt; memory.log(), log.as_slice());
+    expect_eq(rt, &memory.log(), &log.as_slice());
     for (addr, word) in [
         (BASE, Some(WORD)),
         (0x2000_003c, Some(0)),
         (0x2000_0040, None),
     ] {
-        assert_eq!(rt; memory.word(addr), word);
+        expect_eq(rt, &memory.word(addr), &word);
     }
 }
 
@@ -63,12 +64,12 @@ fn memory_and_plan_come_back(rt: HostRuntime) -> Result<(), Fail> {
         match ClockedBench::new(&heap, memory, QUIRKS, plan) {
             Ok(bench) => {
                 is_written(&rt, bench.memory());
-                assert_eq!(rt; bench.cycles(), 0);
+                expect_eq(&rt, &bench.cycles(), &0);
                 made = made.saturating_add(1);
             }
             Err((memory, plan)) => {
                 is_written(&rt, &memory);
-                assert_eq!(rt; plan.as_slice(), MARKS.as_slice());
+                expect_eq(&rt, &plan.as_slice(), &MARKS.as_slice());
                 refused = refused.saturating_add(1);
             }
         }

@@ -1,4 +1,5 @@
 //! Registers by worked values: requests at a target, one after the other.
+use super::expect::{expect_at, expect_eq};
 use std::alloc::Global;
 use std::process::Abort;
 use std::test::Fail;
@@ -119,7 +120,7 @@ fn goes(target: &mut Target, step: Step) -> bool {
 // All steps go as they say.
 fn all_go<R: Abort>(rt: &R, target: &mut Target, steps: &[Step]) {
     for (index, step) in steps.iter().enumerate() {
-        assert!(rt; goes(target, *step), "step {index}");
+        expect_at(rt, &index, goes(target, *step));
     }
 }
 
@@ -349,7 +350,7 @@ fn only_the_single_increment_counts(rt: HostRuntime) -> Result<(), Fail> {
             Step::Read(RDBUFF, tar),
         ];
         all_go(&rt, &mut target, &steps);
-        assert_eq!(rt; target.memory().word(0x2000_0000), Some(1));
+        expect_eq(&rt, &target.memory().word(0x2000_0000), &Some(1));
     }
     Ok(())
 }
@@ -403,7 +404,7 @@ fn tar_carries_over_the_end_of_all_addresses(rt: HostRuntime) -> Result<(), Fail
         ];
         all_go(&rt, &mut target, &steps);
         for (addr, word) in [(0xffff_fff8, Some(1)), (0xffff_fffc, Some(2))] {
-            assert_eq!(rt; target.memory().word(addr), word);
+            expect_eq(&rt, &target.memory().word(addr), &word);
         }
     }
     Ok(())
