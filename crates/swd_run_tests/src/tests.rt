@@ -1,4 +1,5 @@
 //! Scripts run under plans: worked texts, texts at fault, and readers and writers that fail; and the two ends of a line.
+use expect::{expect_eq, expect_eq_at};
 use std::test::Fail;
 use swd_fakes::{FailingReader, ShortWriter};
 use swd_host::End;
@@ -7,6 +8,7 @@ use swd_run::{Finished, Stop, answer_line, last_line, resume_line, run_text};
 use swd_script::ScriptFault;
 use swd_text::EngineFault;
 
+mod expect;
 mod faults;
 mod line;
 mod pair;
@@ -74,26 +76,27 @@ const THREE_WAITS: &[u8] = b".\n.\n.\n.\n.\n.\n.\n.\n.\n.\n.\nwait\nwait\nwait\n
 #[test]
 fn a_script_is_run(rt: HostRuntime) {
     let run = run_on(&rt, WORKED, b"".as_slice(), TRIES);
-    assert_eq!(rt; run.answer, ended(End::All));
-    assert_eq!(rt; run.text.as_slice(), WORKED_REPORT);
+    expect_eq(&rt, &run.answer, &ended(End::All));
+    expect_eq(&rt, &run.text.as_slice(), &WORKED_REPORT);
     let run = run_on(&rt, NO_ACCESS, b"".as_slice(), TRIES);
-    assert_eq!(rt; run.answer, ended(End::All));
-    assert_eq!(rt; run.text.as_slice(), b"end all 0\n".as_slice());
+    expect_eq(&rt, &run.answer, &ended(End::All));
+    expect_eq(&rt, &run.text.as_slice(), &b"end all 0\n".as_slice());
 }
 
 #[test]
 fn a_block_is_run(rt: HostRuntime) {
     let script = b"memory 20000000 2\nblock 20000000 3\n".as_slice();
     let run = run_on(&rt, script, b"".as_slice(), TRIES);
-    assert_eq!(rt; run.answer, ended(End::All));
+    expect_eq(&rt, &run.answer, &ended(End::All));
     let report =
         b"r 20000000 00000000\nr 20000004 00000000\nr 20000008 busfault\nend all 3\n".as_slice();
-    assert_eq!(rt; run.text.as_slice(), report);
+    expect_eq(&rt, &run.text.as_slice(), &report);
     let script = b"memory 20000000 2\nblock 20000000 3\nr 20000000".as_slice();
     let run = run_on(&rt, script, b"".as_slice(), TRIES);
-    assert_eq!(rt;
-        run.answer,
-        Err(EngineFault::Script(ScriptFault::Word { line: 3 }))
+    expect_eq(
+        &rt,
+        &run.answer,
+        &Err(EngineFault::Script(ScriptFault::Word { line: 3 })),
     );
     assert!(rt; run.text.is_empty());
 }
@@ -123,22 +126,27 @@ fn a_block_that_stops_has_two_accesses_begun(rt: HostRuntime) {
         ),
     ] {
         let run = run_on(&rt, script, plan, tries);
-        assert_eq!(rt; run.answer, ended(answer));
-        assert_eq!(rt; run.text.as_slice(), report);
+        expect_eq(&rt, &run.answer, &ended(answer));
+        expect_eq(&rt, &run.text.as_slice(), &report);
     }
 }
 
 #[test]
 fn waits_count_against_the_tries(rt: HostRuntime) {
     let run = run_on(&rt, ONE_READ, THREE_WAITS, 3);
-    assert_eq!(rt; run.answer, ended(End::All));
-    assert_eq!(rt;
-        run.text.as_slice(),
-        b"r 20000000 00000000\nend all 1\n".as_slice()
+    expect_eq(&rt, &run.answer, &ended(End::All));
+    expect_eq(
+        &rt,
+        &run.text.as_slice(),
+        &b"r 20000000 00000000\nend all 1\n".as_slice(),
     );
     let run = run_on(&rt, ONE_READ, THREE_WAITS, 2);
-    assert_eq!(rt; run.answer, ended(End::TriesOut));
-    assert_eq!(rt; run.text.as_slice(), b"end tries 0 begun 1\n".as_slice());
+    expect_eq(&rt, &run.answer, &ended(End::TriesOut));
+    expect_eq(
+        &rt,
+        &run.text.as_slice(),
+        &b"end tries 0 begun 1\n".as_slice(),
+    );
 }
 
 // The request and its acknowledgement are on a wire: a body that asks the memory alone would answer.
@@ -146,11 +154,19 @@ fn waits_count_against_the_tries(rt: HostRuntime) {
 fn a_lost_acknowledgement_ends_a_run(rt: HostRuntime) {
     let plan = b".\n.\n.\n.\n.\n.\n.\n.\n.\n.\nmute 0\n".as_slice();
     let run = run_on(&rt, ONE_WRITE, plan, TRIES);
-    assert_eq!(rt; run.answer, ended(End::Lost));
-    assert_eq!(rt; run.text.as_slice(), b"end lost 0 begun 1\n".as_slice());
+    expect_eq(&rt, &run.answer, &ended(End::Lost));
+    expect_eq(
+        &rt,
+        &run.text.as_slice(),
+        &b"end lost 0 begun 1\n".as_slice(),
+    );
     let run = run_on(&rt, ONE_WRITE, b"deaf\n".as_slice(), TRIES);
-    assert_eq!(rt; run.answer, ended(End::Lost));
-    assert_eq!(rt; run.text.as_slice(), b"end lost 0 begun 0\n".as_slice());
+    expect_eq(&rt, &run.answer, &ended(End::Lost));
+    expect_eq(
+        &rt,
+        &run.text.as_slice(),
+        &b"end lost 0 begun 0\n".as_slice(),
+    );
 }
 
 // The data of the write, and of the RDBUFF read that gives the word, arrive changed.
@@ -158,16 +174,18 @@ fn a_lost_acknowledgement_ends_a_run(rt: HostRuntime) {
 fn damaged_data_is_sent_again(rt: HostRuntime) {
     let plan = b".\n.\n.\n.\n.\n.\n.\n.\n.\n.\nflip 17\n".as_slice();
     let run = run_on(&rt, ONE_WRITE, plan, TRIES);
-    assert_eq!(rt; run.answer, ended(End::All));
-    assert_eq!(rt;
-        run.text.as_slice(),
-        b"w 20000000 written\nend all 1\n".as_slice()
+    expect_eq(&rt, &run.answer, &ended(End::All));
+    expect_eq(
+        &rt,
+        &run.text.as_slice(),
+        &b"w 20000000 written\nend all 1\n".as_slice(),
     );
     let plan = b".\n.\n.\n.\n.\n.\n.\n.\n.\n.\n.\nflip 0\n".as_slice();
     let run = run_on(&rt, ONE_READ, plan, TRIES);
-    assert_eq!(rt;
-        run.text.as_slice(),
-        b"r 20000000 00000000\nend all 1\n".as_slice()
+    expect_eq(
+        &rt,
+        &run.text.as_slice(),
+        &b"r 20000000 00000000\nend all 1\n".as_slice(),
     );
 }
 
@@ -175,10 +193,10 @@ fn damaged_data_is_sent_again(rt: HostRuntime) {
 fn transfers_without_room_are_bus_errors(rt: HostRuntime) {
     let script = b"memory 20000000 2\nroom 1\nw 20000000 1\nr 20000000\nw 20000008 1\n".as_slice();
     let run = run_on(&rt, script, b"".as_slice(), TRIES);
-    assert_eq!(rt; run.answer, ended(End::All));
+    expect_eq(&rt, &run.answer, &ended(End::All));
     let report =
         b"w 20000000 written\nr 20000000 busfault\nw 20000008 busfault\nend all 3\n".as_slice();
-    assert_eq!(rt; run.text.as_slice(), report);
+    expect_eq(&rt, &run.text.as_slice(), &report);
 }
 
 #[test]
@@ -209,13 +227,14 @@ fn texts_at_fault_are_not_run(rt: HostRuntime) {
     ] {
         // The plan is at fault, too.
         let run = run_on(&rt, script, b"flip 33".as_slice(), TRIES);
-        assert_eq!(rt; run.answer, Err(EngineFault::Script(fault)));
+        expect_eq(&rt, &run.answer, &Err(EngineFault::Script(fault)));
         assert!(rt; run.text.is_empty());
     }
     let run = run_on(&rt, WORKED, b"flip 33".as_slice(), TRIES);
-    assert_eq!(rt;
-        run.answer,
-        Err(EngineFault::Plan(ScriptFault::Range { line: 1 }))
+    expect_eq(
+        &rt,
+        &run.answer,
+        &Err(EngineFault::Plan(ScriptFault::Range { line: 1 })),
     );
     assert!(rt; run.text.is_empty());
 }
@@ -227,7 +246,7 @@ fn a_run_at_each_read_that_fails(rt: HostRuntime) {
         let mut plan = b"flip 33".as_slice();
         let mut text = Vec::new(rt.alloc());
         let answer = run_text(rt.alloc(), &mut script, &mut plan, TRIES, 0, &mut text);
-        assert_eq!(rt; answer, Err(EngineFault::Read), "at read {i}");
+        expect_eq_at(&rt, &i, &answer, &Err(EngineFault::Read));
         assert!(rt; text.is_empty());
     }
     for i in 0..=THREE_WAITS.len() {
@@ -235,7 +254,7 @@ fn a_run_at_each_read_that_fails(rt: HostRuntime) {
         let mut plan = FailingReader::new(THREE_WAITS, i);
         let mut text = Vec::new(rt.alloc());
         let answer = run_text(rt.alloc(), &mut script, &mut plan, TRIES, 0, &mut text);
-        assert_eq!(rt; answer, Err(EngineFault::Read), "at read {i}");
+        expect_eq_at(&rt, &i, &answer, &Err(EngineFault::Read));
         assert!(rt; text.is_empty());
     }
 }
@@ -249,8 +268,8 @@ fn a_run_at_each_write_that_fails(rt: HostRuntime) {
             let mut writer = ShortWriter::new(rt.alloc(), room, fails);
             let answer = run_text(rt.alloc(), &mut script, &mut plan, TRIES, 0, &mut writer);
             let written = room as u64;
-            assert_eq!(rt; answer, Err(EngineFault::Write { written }));
-            assert_eq!(rt; writer.taken(), &WORKED_REPORT[..room]);
+            expect_eq(&rt, &answer, &Err(EngineFault::Write { written }));
+            expect_eq(&rt, &writer.taken(), &&WORKED_REPORT[..room]);
         }
     }
 }
@@ -269,7 +288,7 @@ fn a_long_report_where_a_write_fails(rt: HostRuntime) -> Result<(), Fail> {
         line.extend_from_slice(b"r 0\n")?;
     }
     let run = run_on(&rt, line.as_slice(), b"".as_slice(), TRIES);
-    assert_eq!(rt; run.answer, ended(End::All));
+    expect_eq(&rt, &run.answer, &ended(End::All));
     assert!(rt; run.text.as_slice() == report.as_slice());
     for room in [0, 1, 19, 20, 21, 7000, 32767, 32768, 32769, 40012] {
         let mut script = line.as_slice();
@@ -277,7 +296,7 @@ fn a_long_report_where_a_write_fails(rt: HostRuntime) -> Result<(), Fail> {
         let mut writer = ShortWriter::new(rt.alloc(), room, true);
         let answer = run_text(rt.alloc(), &mut script, &mut plan, TRIES, 0, &mut writer);
         let written = room as u64;
-        assert_eq!(rt; answer, Err(EngineFault::Write { written }));
+        expect_eq(&rt, &answer, &Err(EngineFault::Write { written }));
         assert!(rt; room <= report.len());
         assert!(rt; writer.taken() == &report.as_slice()[..room]);
     }
@@ -292,9 +311,9 @@ fn a_run_has_at_most_65536_accesses(rt: HostRuntime) {
         b"".as_slice(),
         0,
     );
-    assert_eq!(rt; run.answer, ended(End::All));
+    expect_eq(&rt, &run.answer, &ended(End::All));
     // Each line of an answer has 20 bytes.
-    assert_eq!(rt; run.text.len(), 65536 * 20 + 14);
+    expect_eq(&rt, &run.text.len(), &(65536 * 20 + 14));
     assert!(rt;
         run.text
             .as_slice()
@@ -312,7 +331,7 @@ fn a_run_has_at_most_65536_accesses(rt: HostRuntime) {
         0,
     );
     let fault = ScriptFault::Range { line: 3 };
-    assert_eq!(rt; run.answer, Err(EngineFault::Script(fault)));
+    expect_eq(&rt, &run.answer, &Err(EngineFault::Script(fault)));
 }
 
 #[test]
@@ -344,7 +363,7 @@ fn answers_and_ends_have_their_lines(rt: HostRuntime) {
             "w 30000000 busfault",
         ),
     ] {
-        assert_eq!(rt; answer_line(&access, &answer).as_str(), text);
+        expect_eq(&rt, &answer_line(&access, &answer).as_str(), &text);
     }
     for (ended, answered, begun, text) in [
         (End::All, 4, 0, "end all 4"),
@@ -353,12 +372,12 @@ fn answers_and_ends_have_their_lines(rt: HostRuntime) {
         (End::WrongId(0x2ba0_1476), 0, 0, "end id 2ba01476"),
         (End::Confused, 65536, 2, "end confused 65536 begun 2"),
     ] {
-        assert_eq!(rt; last_line(ended, answered, begun).as_str(), text);
+        expect_eq(&rt, &last_line(ended, answered, begun).as_str(), &text);
     }
     let stop = Stop {
         answered: 65535,
         begun: 1,
         requests: 12,
     };
-    assert_eq!(rt; resume_line(&stop).as_str(), "resume 65535 begun 1");
+    expect_eq(&rt, &resume_line(&stop).as_str(), &"resume 65535 begun 1");
 }

@@ -1,4 +1,5 @@
 //! Lines that fail at each place.
+use super::expect::expect_eq;
 use super::line::{BASE, Cut, End, over, plain, server_of};
 use std::alloc::Global;
 use std::process::Abort;
@@ -27,13 +28,13 @@ fn is_cut<R: Abort>(rt: &R, alloc: Global, cut: Cut, wanted: Fault) -> Result<bo
     let (report, fault) = over(alloc, End { server: &server }, &task)?;
     let answers = report.answers.as_slice();
     assert!(rt; ANSWERS.starts_with(answers));
-    assert_eq!(rt; server.into_inner().calls_after, 0);
+    expect_eq(rt, &server.into_inner().calls_after, &0);
     let Some(fault) = fault else {
-        assert_eq!(rt; report.ended, host::End::All);
-        assert_eq!(rt; answers, ANSWERS.as_slice());
+        expect_eq(rt, &report.ended, &host::End::All);
+        expect_eq(rt, &answers, &ANSWERS.as_slice());
         return Ok(false);
     };
-    assert_eq!(rt; fault, wanted);
+    expect_eq(rt, &fault, &wanted);
     Ok(true)
 }
 
@@ -74,10 +75,10 @@ fn places<R: Abort>(rt: &R, alloc: Global, kind: Kind) -> Result<usize, Fail> {
 fn a_line_fails_at_each_level(rt: HostRuntime) -> Result<(), Fail> {
     let ends = places(&rt, rt.alloc(), Kind::Ends)?;
     assert!(rt; ends > 9 * 3 + 4 * 33);
-    assert_eq!(rt; places(&rt, rt.alloc(), Kind::Says(b'x'))?, ends);
-    assert_eq!(rt; places(&rt, rt.alloc(), Kind::Says(b'2'))?, ends);
-    assert_eq!(rt; places(&rt, rt.alloc(), Kind::Says(b'/'))?, ends);
-    assert_eq!(rt; places(&rt, rt.alloc(), Kind::Unread)?, ends);
+    expect_eq(&rt, &places(&rt, rt.alloc(), Kind::Says(b'x'))?, &ends);
+    expect_eq(&rt, &places(&rt, rt.alloc(), Kind::Says(b'2'))?, &ends);
+    expect_eq(&rt, &places(&rt, rt.alloc(), Kind::Says(b'/'))?, &ends);
+    expect_eq(&rt, &places(&rt, rt.alloc(), Kind::Unread)?, &ends);
     Ok(())
 }
 
@@ -85,6 +86,6 @@ fn a_line_fails_at_each_level(rt: HostRuntime) -> Result<(), Fail> {
 fn a_line_fails_at_each_character(rt: HostRuntime) -> Result<(), Fail> {
     let unsent = places(&rt, rt.alloc(), Kind::Unsent)?;
     assert!(rt; unsent > 1000);
-    assert_eq!(rt; places(&rt, rt.alloc(), Kind::Full)?, unsent);
+    expect_eq(&rt, &places(&rt, rt.alloc(), Kind::Full)?, &unsent);
     Ok(())
 }

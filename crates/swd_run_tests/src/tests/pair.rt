@@ -1,4 +1,5 @@
 //! The same reports over characters and over single clocks as over a simulated wire.
+use super::expect::{expect_at, expect_eq, expect_eq_at};
 use super::line::{
     BASE, Cut, End, Task, clocked, over, plain, server_of, simulated, transfers, whole,
 };
@@ -40,13 +41,14 @@ fn block(marks: &[(usize, Mark)], count: u32) -> Task<'_> {
 }
 
 fn same<R: Abort>(rt: &R, row: usize, report: &Report, wanted: &Report) {
-    assert_eq!(rt; report.ended, wanted.ended, "{row}");
-    assert_eq!(rt; report.begun, wanted.begun, "{row}");
-    assert_eq!(rt; report.requests, wanted.requests, "{row}");
-    assert_eq!(rt;
-        report.answers.as_slice(),
-        wanted.answers.as_slice(),
-        "{row}"
+    expect_eq_at(rt, &row, &report.ended, &wanted.ended);
+    expect_eq_at(rt, &row, &report.begun, &wanted.begun);
+    expect_eq_at(rt, &row, &report.requests, &wanted.requests);
+    expect_eq_at(
+        rt,
+        &row,
+        &report.answers.as_slice(),
+        &wanted.answers.as_slice(),
     );
 }
 
@@ -54,13 +56,13 @@ fn comes_out<R: Abort>(rt: &R, alloc: Global, row: usize, task: &Task) -> Result
     let (wanted, log) = simulated(alloc, task)?;
     let (report, moved) = clocked(alloc, task)?;
     same(rt, row, &report, &wanted);
-    assert!(rt; moved == log, "{row}");
+    expect_at(rt, &row, moved == log);
     for piece in [usize::MAX, 7, 1] {
         let server = server_of(alloc, task, Cut::Never, piece)?;
         let (report, fault) = over(alloc, End { server: &server }, task)?;
-        assert_eq!(rt; fault, None, "{row}");
+        expect_eq_at(rt, &row, &fault, &None);
         same(rt, row, &report, &wanted);
-        assert!(rt; transfers(alloc, server)? == log, "{row}");
+        expect_at(rt, &row, transfers(alloc, server)? == log);
     }
     Ok(())
 }
@@ -137,13 +139,25 @@ fn characters_are_sent_where_an_answer_is_needed(rt: HostRuntime) -> Result<(), 
     ];
     // A word that is written, a read, a word of a block.
     let four = flushes(alloc, &plain(&writes[..4]))?;
-    assert_eq!(rt; flushes(alloc, &plain(&writes))?, four.saturating_add(1));
+    expect_eq(
+        &rt,
+        &flushes(alloc, &plain(&writes))?,
+        &four.saturating_add(1),
+    );
     let four = flushes(alloc, &plain(&reads[..4]))?;
-    assert_eq!(rt; flushes(alloc, &plain(&reads))?, four.saturating_add(4));
+    expect_eq(
+        &rt,
+        &flushes(alloc, &plain(&reads))?,
+        &four.saturating_add(4),
+    );
     let four = flushes(alloc, &block(&[], 4))?;
-    assert_eq!(rt; flushes(alloc, &block(&[], 5))?, four.saturating_add(2));
+    expect_eq(
+        &rt,
+        &flushes(alloc, &block(&[], 5))?,
+        &four.saturating_add(2),
+    );
     // The opening has nine requests, and five of them read; then what waits is sent at the end.
-    assert_eq!(rt; flushes(alloc, &plain(&[]))?, 9 + 5 + 1);
+    expect_eq(&rt, &flushes(alloc, &plain(&[]))?, &(9 + 5 + 1));
     Ok(())
 }
 
@@ -154,12 +168,12 @@ fn a_whole_line_comes_to_the_same_report(rt: HostRuntime) -> Result<(), Fail> {
     let (wanted, log) = simulated(alloc, &task)?;
     let server = server_of(alloc, &task, Cut::Never, 7)?;
     let (report, fault) = whole(alloc, End { server: &server }, &task)?;
-    assert_eq!(rt; fault, None);
+    expect_eq(&rt, &fault, &None);
     same(&rt, 0, &report, &wanted);
     assert!(rt; transfers(alloc, server)? == log);
     let server = server_of(alloc, &task, Cut::Ends(20), 7)?;
     let (report, fault) = whole(alloc, End { server: &server }, &task)?;
-    assert_eq!(rt; fault, Some(Fault::Ended));
-    assert_eq!(rt; report.ended, swd_host::End::Lost);
+    expect_eq(&rt, &fault, &Some(Fault::Ended));
+    expect_eq(&rt, &report.ended, &swd_host::End::Lost);
     Ok(())
 }

@@ -1,6 +1,7 @@
 //! Runs on heaps of each size: where memory ended is told, and nothing has been written but what was
 //! decided before.
 use super::ended;
+use super::expect::{expect_eq, expect_eq_at};
 use linked_list_allocator::LocalHeap;
 use std::alloc::Allocator;
 use std::process::Abort;
@@ -98,7 +99,7 @@ impl Stages {
 
     // These and no others, and each part of the run was refused.
     fn are<R: Abort>(&self, rt: &R, stages: &[Stage]) {
-        assert_eq!(rt; self.seen.as_slice(), stages);
+        expect_eq(rt, &self.seen.as_slice(), &stages);
         assert!(rt; self.run >= RUN_BYTES / STEP);
     }
 }
@@ -116,8 +117,8 @@ fn a_run_where_memory_ends(rt: HostRuntime) -> Result<(), Fail> {
             panic!(rt; "{size}: {answer:?}");
         };
         let written = if stage == Stage::Whole { REPORT } else { b"" };
-        assert_eq!(rt; report.as_slice(), written, "{size}");
-        assert_eq!(rt; heap.used(), 0);
+        expect_eq_at(&rt, &size, &report.as_slice(), &written);
+        expect_eq(&rt, &heap.used(), &0);
         stages.add(&rt, stage)?;
     }
     stages.are(&rt, &STAGES);
@@ -157,8 +158,8 @@ fn traced_on<A: Allocator + Copy>(rt: &HostRuntime, alloc: A) -> Traced {
 #[test]
 fn a_traced_run_where_memory_ends(rt: HostRuntime) -> Result<(), Fail> {
     let whole = traced_on(&rt, rt.alloc());
-    assert_eq!(rt; whole.answer, ended(End::All));
-    assert_eq!(rt; whole.report.as_slice(), REPORT);
+    expect_eq(&rt, &whole.answer, &ended(End::All));
+    expect_eq(&rt, &whole.report.as_slice(), &REPORT);
     let whole = whole.trace;
     let mut stages = Stages::new(&rt);
     let mut most = 0usize;
@@ -170,14 +171,14 @@ fn a_traced_run_where_memory_ends(rt: HostRuntime) -> Result<(), Fail> {
             panic!(rt; "{size}: {:?}", run.answer);
         };
         let written = if stage >= Stage::Trace { REPORT } else { b"" };
-        assert_eq!(rt; run.report.as_slice(), written, "{size}");
+        expect_eq_at(&rt, &size, &run.report.as_slice(), &written);
         // Whole lines from the beginning, and no fewer of them from a larger heap.
         let trace = run.trace.as_slice();
         assert!(rt; whole.as_slice().starts_with(trace));
         assert!(rt; trace.is_empty() || trace.last() == Some(&b'\n'));
         assert!(rt; most <= trace.len());
-        assert_eq!(rt; trace.len() == whole.len(), stage == Stage::Whole);
-        assert_eq!(rt; heap.used(), 0);
+        expect_eq(&rt, &(trace.len() == whole.len()), &(stage == Stage::Whole));
+        expect_eq(&rt, &heap.used(), &0);
         stages.add(&rt, stage)?;
         most = trace.len();
         if stage == Stage::Trace {

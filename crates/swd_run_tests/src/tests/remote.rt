@@ -5,6 +5,7 @@ ghost use Rattle.std.specs.FinMap.{empty};
 ghost use Rattle.swd_port.specs.Port.{made};
 
 use super::ended;
+use super::expect::expect_eq;
 use super::recorded::UNDISTURBED;
 use swd_ends::{run_remote, run_remote_traced};
 use swd_fakes::ShortWriter;
@@ -43,10 +44,10 @@ fn a_script_sends_what_was_recorded(rt: HostRuntime) {
         ended: End::All,
         differs: None,
     };
-    assert_eq!(rt; answer, Ok(finished));
-    assert_eq!(rt; line.fault, None);
-    assert_eq!(rt; report.as_slice(), REPORT);
-    assert_eq!(rt; sent.as_slice(), UNDISTURBED.characters);
+    expect_eq(&rt, &answer, &Ok(finished));
+    expect_eq(&rt, &line.fault, &None);
+    expect_eq(&rt, &report.as_slice(), &REPORT);
+    expect_eq(&rt, &sent.as_slice(), &UNDISTURBED.characters);
 }
 
 // The trace is that of a run over the simulated target, which shows the same words.
@@ -70,10 +71,10 @@ fn a_remote_run_is_traced(rt: HostRuntime) {
         ended: End::All,
         differs: None,
     };
-    assert_eq!(rt; answer, Ok(finished));
-    assert_eq!(rt; line.fault, None);
-    assert_eq!(rt; report.as_slice(), REPORT);
-    assert_eq!(rt; sent.as_slice(), UNDISTURBED.characters);
+    expect_eq(&rt, &answer, &Ok(finished));
+    expect_eq(&rt, &line.fault, &None);
+    expect_eq(&rt, &report.as_slice(), &REPORT);
+    expect_eq(&rt, &sent.as_slice(), &UNDISTURBED.characters);
     let mut script = SCRIPT;
     let mut plan = b"".as_slice();
     let mut told = Vec::new(rt.alloc());
@@ -87,8 +88,8 @@ fn a_remote_run_is_traced(rt: HostRuntime) {
         &mut told,
         &mut simulated,
     );
-    assert_eq!(rt; answer, ended(End::All));
-    assert_eq!(rt; trace.as_slice(), simulated.as_slice());
+    expect_eq(&rt, &answer, &ended(End::All));
+    expect_eq(&rt, &trace.as_slice(), &simulated.as_slice());
 }
 
 // Where the report or the trace can't be written the other end is told all the same that the host is done.
@@ -111,15 +112,20 @@ fn a_failed_write_ends_the_session(rt: HostRuntime) {
         );
         let whole = report_room == REPORT.len();
         let written = if whole { trace_room } else { report_room };
-        assert_eq!(rt;
-            answer,
-            Err(EngineFault::Write {
-                written: written as u64
-            })
+        expect_eq(
+            &rt,
+            &answer,
+            &Err(EngineFault::Write {
+                written: written as u64,
+            }),
         );
-        assert_eq!(rt; report.taken(), &REPORT[..report_room]);
-        assert_eq!(rt; trace.taken().len(), if whole { trace_room } else { 0 });
-        assert_eq!(rt; sent.as_slice(), UNDISTURBED.characters);
+        expect_eq(&rt, &report.taken(), &&REPORT[..report_room]);
+        expect_eq(
+            &rt,
+            &trace.taken().len(),
+            &if whole { trace_room } else { 0 },
+        );
+        expect_eq(&rt, &sent.as_slice(), &UNDISTURBED.characters);
     }
 }
 
@@ -149,11 +155,12 @@ fn a_call_that_is_lost_is_the_last_one(rt: HostRuntime) {
         ended: End::Lost,
         differs: Some(differs),
     };
-    assert_eq!(rt; answer, Ok(finished));
-    assert_eq!(rt; line.fault, Some(Fault::Ended));
-    assert_eq!(rt;
-        report.as_slice(),
-        b"w 20000000 written\nr 20000000 deadbeef\nend all 2\nend lost 0 begun 0\n".as_slice()
+    expect_eq(&rt, &answer, &Ok(finished));
+    expect_eq(&rt, &line.fault, &Some(Fault::Ended));
+    expect_eq(
+        &rt,
+        &report.as_slice(),
+        &b"w 20000000 written\nr 20000000 deadbeef\nend all 2\nend lost 0 begun 0\n".as_slice(),
     );
 }
 
@@ -187,9 +194,9 @@ fn a_target_that_goes_away_is_told(rt: HostRuntime) {
             ended: End::Lost,
             differs: None,
         };
-        assert_eq!(rt; answer, Ok(finished));
-        assert_eq!(rt; line.fault, Some(Fault::Ended));
-        assert_eq!(rt; report.as_slice(), text);
+        expect_eq(&rt, &answer, &Ok(finished));
+        expect_eq(&rt, &line.fault, &Some(Fault::Ended));
+        expect_eq(&rt, &report.as_slice(), &text);
         assert!(rt; UNDISTURBED.characters.starts_with(sent.as_slice()));
     }
 }
@@ -209,6 +216,6 @@ fn a_script_at_fault_sends_nothing(rt: HostRuntime) {
         &mut report,
     );
     assert!(rt; matches!(&answer, Err(EngineFault::Script(_))));
-    assert_eq!(rt; line.fault, None);
+    expect_eq(&rt, &line.fault, &None);
     assert!(rt; sent.as_slice().is_empty() && report.as_slice().is_empty());
 }

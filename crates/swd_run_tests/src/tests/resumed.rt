@@ -1,4 +1,5 @@
 //! Runs that are resumed at a lost acknowledgement.
+use super::expect::expect_eq;
 use super::{
     NO_ACCESS, ONE_READ, ONE_WRITE, Ran, THREE_WAITS, TRIES, WORKED, WORKED_REPORT, ended,
     resumed_on,
@@ -15,8 +16,8 @@ const LOST_WRITE: &[u8] = b".\n.\n.\n.\n.\n.\n.\n.\n.\n.\nmute 0\n";
 
 // A run ends so, after this report.
 fn comes_to<R: Abort>(rt: &R, run: &Ran, end: End, report: &[u8]) {
-    assert_eq!(rt; run.answer, ended(end));
-    assert_eq!(rt; run.text.as_slice(), report);
+    expect_eq(rt, &run.answer, &ended(end));
+    expect_eq(rt, &run.text.as_slice(), &report);
 }
 
 #[test]
@@ -143,20 +144,21 @@ fn a_resumed_run_is_traced_whole(rt: HostRuntime) {
         &mut report,
         &mut trace,
     );
-    assert_eq!(rt; answer, ended(End::All));
-    assert_eq!(rt;
-        report.as_slice(),
-        b"resume 0 begun 1\nw 20000000 written\nend all 1\n".as_slice()
+    expect_eq(&rt, &answer, &ended(End::All));
+    expect_eq(
+        &rt,
+        &report.as_slice(),
+        &b"resume 0 begun 1\nw 20000000 written\nend all 1\n".as_slice(),
     );
     let mut text = trace.as_slice();
     let mut listing = Vec::new(rt.alloc());
-    assert_eq!(rt; decode_text(&mut text, &mut listing), Ok(()));
+    expect_eq(&rt, &decode_text(&mut text, &mut listing), &Ok(()));
     let listing = listing.as_slice();
     let transactions = lines_with(listing, b"dp ").saturating_add(lines_with(listing, b"ap "));
-    assert_eq!(rt; transactions, 23);
-    assert_eq!(rt; lines_with(listing, b"reset 100"), 1);
-    assert_eq!(rt; lines_with(listing, b"ap c write none 0"), 1);
-    assert_eq!(rt; lines_with(listing, b"ap c write ok deadbeef"), 1);
+    expect_eq(&rt, &transactions, &23);
+    expect_eq(&rt, &lines_with(listing, b"reset 100"), &1);
+    expect_eq(&rt, &lines_with(listing, b"ap c write none 0"), &1);
+    expect_eq(&rt, &lines_with(listing, b"ap c write ok deadbeef"), &1);
 }
 
 // Nothing is written where memory is refused, also where it is for a resumed run.
@@ -178,7 +180,7 @@ fn a_resumed_run_where_memory_ends(rt: HostRuntime) -> Result<(), Fail> {
                     ..
                 },
             ) => {
-                assert_eq!(rt; report.as_slice(), whole);
+                expect_eq(&rt, &report.as_slice(), &whole);
                 done = true;
             }
             Err(EngineFault::Memory) => {
@@ -187,7 +189,7 @@ fn a_resumed_run_where_memory_ends(rt: HostRuntime) -> Result<(), Fail> {
             }
             Err(_) | Ok(_) => assert!(rt; report.is_empty()),
         }
-        assert_eq!(rt; heap.used(), 0);
+        expect_eq(&rt, &heap.used(), &0);
     }
     assert!(rt; refused && done);
     Ok(())

@@ -1,3 +1,4 @@
+use super::expect::{expect_eq, expect_eq_at};
 use super::recorded::{DEAF, FLIPPED_READ, FLIPPED_WRITE, MUTE, Recorded, UNDISTURBED, WAITS};
 use std::alloc::Global;
 use std::cell::Cell;
@@ -73,16 +74,16 @@ fn comes_out<R: Read>(
         taken: Vec::new(alloc),
     };
     let (ended, pins) = serve(reader, &mut writer, pins);
-    assert_eq!(rt; ended, served, "{}", session.name);
-    assert_eq!(rt; writer.taken.as_slice(), session.levels, "{}", session.name);
+    expect_eq_at(rt, &session.name, &ended, &served);
+    expect_eq_at(rt, &session.name, &writer.taken.as_slice(), &session.levels);
     let (target, trace) = pins.into_parts();
-    assert_eq!(rt; target.cycles(), session.cycles, "{}", session.name);
-    assert_eq!(rt; target.requests(), session.requests, "{}", session.name);
-    assert_eq!(rt;
-        trace.text().len() as u64,
-        session.cycles,
-        "{}",
-        session.name
+    expect_eq_at(rt, &session.name, &target.cycles(), &session.cycles);
+    expect_eq_at(rt, &session.name, &target.requests(), &session.requests);
+    expect_eq_at(
+        rt,
+        &session.name,
+        &(trace.text().len() as u64),
+        &session.cycles,
     );
     assert!(rt; !trace.is_cut());
     Ok(())
@@ -141,9 +142,9 @@ fn a_clock_goes_by_once(rt: HostRuntime) -> Result<(), Fail> {
     ];
     for (text, levels, cycles) in rows {
         let (served, answers, went_by) = answered(&rt, text)?;
-        assert_eq!(rt; served, Served::Ended);
-        assert_eq!(rt; answers.as_slice(), levels);
-        assert_eq!(rt; went_by, cycles);
+        expect_eq(&rt, &served, &Served::Ended);
+        expect_eq(&rt, &answers.as_slice(), &levels);
+        expect_eq(&rt, &went_by, &cycles);
     }
     Ok(())
 }
@@ -151,13 +152,13 @@ fn a_clock_goes_by_once(rt: HostRuntime) -> Result<(), Fail> {
 #[test]
 fn a_session_ends_at_quit_and_at_a_bad_byte(rt: HostRuntime) -> Result<(), Fail> {
     let (served, answers, _) = answered(&rt, b"cdcQcx")?;
-    assert_eq!(rt; served, Served::Quit);
-    assert_eq!(rt; answers.as_slice(), b"10".as_slice());
+    expect_eq(&rt, &served, &Served::Quit);
+    expect_eq(&rt, &answers.as_slice(), &b"10".as_slice());
     for byte in [b'0', b'7', b'R', b'x', b'\n', 0, 255] {
         let text = [b'c', b'd', b'c', byte, b'c', b'Q'];
         let (served, answers, _) = answered(&rt, text.as_slice())?;
-        assert_eq!(rt; served, Served::Bad { place: 3, byte });
-        assert_eq!(rt; answers.as_slice(), b"10".as_slice());
+        expect_eq(&rt, &served, &Served::Bad { place: 3, byte });
+        expect_eq(&rt, &answers.as_slice(), &b"10".as_slice());
     }
     Ok(())
 }
@@ -169,9 +170,9 @@ fn a_level_is_told_before_more_is_read(rt: HostRuntime) -> Result<(), Fail> {
     let mut reader = WatchingReader::new(rt.alloc(), text, &taken);
     let mut writer = CountingWriter { taken: &taken };
     let (served, _) = serve(&mut reader, &mut writer, plain_pins(rt.alloc())?);
-    assert_eq!(rt; served, Served::Ended);
+    expect_eq(&rt, &served, &Served::Ended);
     let noted = [0usize, 1, 1, 1, 2, 2, 2, 3, 3, 3, 3, 3];
-    assert_eq!(rt; reader.noted.as_slice(), noted.as_slice());
+    expect_eq(&rt, &reader.noted.as_slice(), &noted.as_slice());
     Ok(())
 }
 
@@ -181,8 +182,8 @@ fn a_failed_read_ends_a_session(rt: HostRuntime) -> Result<(), Fail> {
         let mut reader = FailingReader::new(b"cdcec", fails_at);
         let mut answers = Vec::new(rt.alloc());
         let (served, _) = serve(&mut reader, &mut answers, plain_pins(rt.alloc())?);
-        assert_eq!(rt; served, Served::Read);
-        assert_eq!(rt; answers.as_slice().len(), fails_at.div_ceil(2));
+        expect_eq(&rt, &served, &Served::Read);
+        expect_eq(&rt, &answers.as_slice().len(), &fails_at.div_ceil(2));
     }
     Ok(())
 }
@@ -195,8 +196,8 @@ fn a_failed_write_ends_a_session(rt: HostRuntime) -> Result<(), Fail> {
             let mut writer = ShortWriter::new(rt.alloc(), room, fails);
             let (served, _) = serve(&mut text, &mut writer, plain_pins(rt.alloc())?);
             let written = room as u64;
-            assert_eq!(rt; served, Served::Write { written });
-            assert_eq!(rt; writer.taken().len(), room);
+            expect_eq(&rt, &served, &Served::Write { written });
+            expect_eq(&rt, &writer.taken().len(), &room);
         }
     }
     Ok(())

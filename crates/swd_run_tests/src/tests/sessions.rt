@@ -1,4 +1,5 @@
 //! Scripts of several calls, and reads whose words the script tells.
+use super::expect::expect_eq;
 use super::{Ran, TRIES, ended, resumed_on, run_on};
 use std::process::Abort;
 use swd_fakes::ShortWriter;
@@ -20,23 +21,23 @@ fn differs<R: Abort>(rt: &R, run: &Ran, end: End, difference: Difference, report
         ended: end,
         differs: Some(difference),
     };
-    assert_eq!(rt; run.answer, Ok(finished));
-    assert_eq!(rt; run.text.as_slice(), report);
+    expect_eq(rt, &run.answer, &Ok(finished));
+    expect_eq(rt, &run.text.as_slice(), &report);
 }
 
 #[test]
 fn calls_follow_each_other_over_one_target(rt: HostRuntime) {
     let run = run_on(&rt, CALLS, b"".as_slice(), TRIES);
-    assert_eq!(rt; run.answer, ended(End::All));
-    assert_eq!(rt; run.text.as_slice(), REPORTS);
+    expect_eq(&rt, &run.answer, &ended(End::All));
+    expect_eq(&rt, &run.text.as_slice(), &REPORTS);
     // Power late, a WAIT and a changed bit in the first call, and a WAIT in each of the others.
     let plan =
         b".\n.\n.\n.\n.\nwait\n.\n.\n.\n.\nwait\nflip 7\n.\n.\n.\n.\n.\n.\n.\n.\n.\n.\n.\n.\n.\n.\nwait\n\
         .\n.\n.\n.\n.\n.\n.\n.\n.\n.\n.\nwait\nwait\n"
             .as_slice();
     let run = run_on(&rt, CALLS, plan, TRIES);
-    assert_eq!(rt; run.answer, ended(End::All));
-    assert_eq!(rt; run.text.as_slice(), REPORTS);
+    expect_eq(&rt, &run.answer, &ended(End::All));
+    expect_eq(&rt, &run.text.as_slice(), &REPORTS);
 }
 
 // A call of no accesses is its opening.
@@ -44,10 +45,11 @@ fn calls_follow_each_other_over_one_target(rt: HostRuntime) {
 fn a_call_may_be_empty(rt: HostRuntime) {
     let script = b"memory 20000000 1\nnext\nnext\nr 20000000\nnext\n".as_slice();
     let run = run_on(&rt, script, b"".as_slice(), TRIES);
-    assert_eq!(rt; run.answer, ended(End::All));
-    assert_eq!(rt;
-        run.text.as_slice(),
-        b"end all 0\nend all 0\nr 20000000 00000000\nend all 1\nend all 0\n".as_slice()
+    expect_eq(&rt, &run.answer, &ended(End::All));
+    expect_eq(
+        &rt,
+        &run.text.as_slice(),
+        &b"end all 0\nend all 0\nr 20000000 00000000\nend all 1\nend all 0\n".as_slice(),
     );
 }
 
@@ -56,25 +58,31 @@ fn a_call_may_be_empty(rt: HostRuntime) {
 fn a_call_that_stops_is_the_last_one(rt: HostRuntime) {
     let lost = b".\n.\n.\n.\n.\n.\n.\n.\n.\n.\n.\n.\ndeaf\n".as_slice();
     let run = run_on(&rt, CALLS, lost, TRIES);
-    assert_eq!(rt; run.answer, ended(End::Lost));
-    assert_eq!(rt;
-        run.text.as_slice(),
-        b"w 20000004 written\nend all 1\nend lost 0 begun 0\n".as_slice()
+    expect_eq(&rt, &run.answer, &ended(End::Lost));
+    expect_eq(
+        &rt,
+        &run.text.as_slice(),
+        &b"w 20000004 written\nend all 1\nend lost 0 begun 0\n".as_slice(),
     );
     let run = resumed_on(&rt, CALLS, lost, TRIES, 1);
-    assert_eq!(rt; run.answer, ended(End::All));
-    assert_eq!(rt;
-        run.text.as_slice(),
-        b"w 20000004 written\nend all 1\nresume 0 begun 0\nr 20000000 00000000\nr 20000004 deadbeef\n\
+    expect_eq(&rt, &run.answer, &ended(End::All));
+    expect_eq(
+        &rt,
+        &run.text.as_slice(),
+        &b"w 20000004 written\nend all 1\nresume 0 begun 0\nr 20000000 00000000\nr 20000004 deadbeef\n\
         r 20000008 00000000\nend all 3\nr 20000004 deadbeef\nr 30000000 busfault\nend all 2\n"
-            .as_slice()
+            .as_slice(),
     );
     let waits = b"wait\nwait\nwait\nwait\nwait\nwait\nwait\nwait\nwait\nwait\n\
         wait\nwait\nwait\nwait\nwait\nwait\nwait\nwait\nwait\nwait\n"
         .as_slice();
     let run = run_on(&rt, CALLS, waits, 1);
-    assert_eq!(rt; run.answer, ended(End::TriesOut));
-    assert_eq!(rt; run.text.as_slice(), b"end tries 0 begun 0\n".as_slice());
+    expect_eq(&rt, &run.answer, &ended(End::TriesOut));
+    expect_eq(
+        &rt,
+        &run.text.as_slice(),
+        &b"end tries 0 begun 0\n".as_slice(),
+    );
 }
 
 // Each call may be resumed as often as is told.
@@ -83,10 +91,11 @@ fn each_call_is_resumed_by_itself(rt: HostRuntime) {
     let script = b"memory 20000000 1\nnext\n".as_slice();
     let plan = b"deaf\n.\n.\n.\n.\n.\n.\n.\n.\n.\ndeaf\n".as_slice();
     let run = resumed_on(&rt, script, plan, TRIES, 1);
-    assert_eq!(rt; run.answer, ended(End::All));
-    assert_eq!(rt;
-        run.text.as_slice(),
-        b"resume 0 begun 0\nend all 0\nresume 0 begun 0\nend all 0\n".as_slice()
+    expect_eq(&rt, &run.answer, &ended(End::All));
+    expect_eq(
+        &rt,
+        &run.text.as_slice(),
+        &b"resume 0 begun 0\nend all 0\nresume 0 begun 0\nend all 0\n".as_slice(),
     );
 }
 
@@ -127,8 +136,12 @@ fn a_bus_error_is_not_the_word(rt: HostRuntime) {
 fn a_read_without_an_answer_does_not_differ(rt: HostRuntime) {
     let script = b"memory 20000000 1\nr 20000000\nverify 20000000 5\n".as_slice();
     let run = run_on(&rt, script, b"deaf\n".as_slice(), TRIES);
-    assert_eq!(rt; run.answer, ended(End::Lost));
-    assert_eq!(rt; run.text.as_slice(), b"end lost 0 begun 0\n".as_slice());
+    expect_eq(&rt, &run.answer, &ended(End::Lost));
+    expect_eq(
+        &rt,
+        &run.text.as_slice(),
+        &b"end lost 0 begun 0\n".as_slice(),
+    );
 }
 
 // The trace goes on from call to call: each has its opening.
@@ -147,17 +160,17 @@ fn the_trace_is_that_of_all_calls(rt: HostRuntime) {
         &mut report,
         &mut trace,
     );
-    assert_eq!(rt; answer, ended(End::All));
-    assert_eq!(rt; report.as_slice(), REPORTS);
+    expect_eq(&rt, &answer, &ended(End::All));
+    expect_eq(&rt, &report.as_slice(), &REPORTS);
     let mut text = trace.as_slice();
     let mut listing = Vec::new(rt.alloc());
-    assert_eq!(rt; decode_text(&mut text, &mut listing), Ok(()));
+    expect_eq(&rt, &decode_text(&mut text, &mut listing), &Ok(()));
     let openings = listing
         .as_slice()
         .split(|byte| *byte == b'\n')
         .filter(|line| line.starts_with(b"switch"))
         .count();
-    assert_eq!(rt; openings, 3);
+    expect_eq(&rt, &openings, &3);
 }
 
 // A writer that takes so many bytes, and then none, in whichever call's report.
@@ -170,8 +183,8 @@ fn a_writer_that_fails_has_the_first_bytes_of_all_reports(rt: HostRuntime) {
             let mut writer = ShortWriter::new(rt.alloc(), room, fails);
             let answer = run_text(rt.alloc(), &mut script, &mut plan, TRIES, 0, &mut writer);
             let written = room as u64;
-            assert_eq!(rt; answer, Err(EngineFault::Write { written }));
-            assert_eq!(rt; writer.taken(), &REPORTS[..room]);
+            expect_eq(&rt, &answer, &Err(EngineFault::Write { written }));
+            expect_eq(&rt, &writer.taken(), &&REPORTS[..room]);
         }
     }
 }

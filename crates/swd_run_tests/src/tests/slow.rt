@@ -1,4 +1,5 @@
 //! Long texts, one byte at a read and one at a write: nothing gives up before the end. And long traces.
+use super::expect::expect_eq;
 use super::{TRIES, ended};
 use std::alloc::Global;
 use std::test::Fail;
@@ -39,7 +40,7 @@ fn long_texts_are_run_byte_by_byte(rt: HostRuntime) -> Result<(), Fail> {
     let mut plan = OneByteReader::new(&plan);
     let mut report = OneByteWriter::new(rt.alloc());
     let answer = run_text(rt.alloc(), &mut script, &mut plan, TRIES, 0, &mut report);
-    assert_eq!(rt; answer, ended(End::All));
+    expect_eq(&rt, &answer, &ended(End::All));
     assert!(rt; report.taken == report_of(rt.alloc(), 50_000)?);
     Ok(())
 }
@@ -81,11 +82,11 @@ fn a_long_run_is_traced_byte_by_byte(rt: HostRuntime) -> Result<(), Fail> {
         &mut report,
         &mut trace,
     );
-    assert_eq!(rt; answer, ended(End::All));
+    expect_eq(&rt, &answer, &ended(End::All));
     assert!(rt; report.taken == report_of(rt.alloc(), count)?);
     let mut trace = trace.taken.as_slice();
     let mut listing = Vec::new(rt.alloc());
-    assert_eq!(rt; decode_text(&mut trace, &mut listing), Ok(()));
+    expect_eq(&rt, &decode_text(&mut trace, &mut listing), &Ok(()));
     assert!(rt; listing == listing_of(rt.alloc(), count)?);
     Ok(())
 }

@@ -1,5 +1,6 @@
 //! Runs with their traces: worked ones, and writers and memory that fail.
 use super::ended;
+use super::expect::expect_eq;
 use std::test::Fail;
 use swd_fakes::ShortWriter;
 use swd_host::End;
@@ -72,21 +73,26 @@ fn after_opening(rt: &HostRuntime, lines: &[u8]) -> Result<Vec<u8>, Fail> {
 #[test]
 fn a_run_without_accesses_is_traced(rt: HostRuntime) -> Result<(), Fail> {
     let run = run_on(&rt, NO_ACCESS, b"".as_slice());
-    assert_eq!(rt; run.answer, ended(End::All));
-    assert_eq!(rt; run.report.as_slice(), NO_ACCESS_REPORT);
+    expect_eq(&rt, &run.answer, &ended(End::All));
+    expect_eq(&rt, &run.report.as_slice(), &NO_ACCESS_REPORT);
     // 552 bits and fourteen line ends.
-    assert_eq!(rt; run.trace.len(), 566);
+    expect_eq(&rt, &run.trace.len(), &566);
     let bits = run.trace.iter().filter(|byte| **byte != b'\n').count();
-    assert_eq!(rt; bits, 552);
+    expect_eq(&rt, &bits, &552);
     let listing = after_opening(&rt, b"idle 8\n".as_slice())?;
-    assert_eq!(rt;
-        listed(&rt, run.trace.as_slice()).as_slice(),
-        listing.as_slice()
+    expect_eq(
+        &rt,
+        &listed(&rt, run.trace.as_slice()).as_slice(),
+        &listing.as_slice(),
     );
     // And the listing's trace is the same text.
     let mut lines = listing.as_slice();
     let mut again = Vec::new(rt.alloc());
-    assert_eq!(rt; encode_text(rt.alloc(), &mut lines, &mut again), Ok(()));
+    expect_eq(
+        &rt,
+        &encode_text(rt.alloc(), &mut lines, &mut again),
+        &Ok(()),
+    );
     assert!(rt; again.as_slice() == run.trace.as_slice());
     Ok(())
 }
@@ -96,20 +102,26 @@ fn a_run_without_accesses_is_traced(rt: HostRuntime) -> Result<(), Fail> {
 fn a_lost_acknowledgement_is_traced(rt: HostRuntime) -> Result<(), Fail> {
     let plan = b".\n.\n.\n.\n.\n.\n.\n.\n.\n.\nmute 0\n".as_slice();
     let run = run_on(&rt, ONE_WRITE, plan);
-    assert_eq!(rt; run.answer, ended(End::Lost));
-    assert_eq!(rt; run.report.as_slice(), b"end lost 0 begun 1\n".as_slice());
+    expect_eq(&rt, &run.answer, &ended(End::Lost));
+    expect_eq(
+        &rt,
+        &run.report.as_slice(),
+        &b"end lost 0 begun 1\n".as_slice(),
+    );
     let listing = after_opening(
         &rt,
         b"ap 4 write ok 20000000\nap c write none 0\n".as_slice(),
     )?;
-    assert_eq!(rt;
-        listed(&rt, run.trace.as_slice()).as_slice(),
-        listing.as_slice()
+    expect_eq(
+        &rt,
+        &listed(&rt, run.trace.as_slice()).as_slice(),
+        &listing.as_slice(),
     );
     let run = run_on(&rt, ONE_WRITE, b"deaf\n".as_slice());
-    assert_eq!(rt;
-        listed(&rt, run.trace.as_slice()).as_slice(),
-        b"reset 56\nswitch\nreset 56\nidle 2\ndp 0 read none 7\n".as_slice()
+    expect_eq(
+        &rt,
+        &listed(&rt, run.trace.as_slice()).as_slice(),
+        &b"reset 56\nswitch\nreset 56\nidle 2\ndp 0 read none 7\n".as_slice(),
     );
     Ok(())
 }
@@ -119,16 +131,17 @@ fn a_lost_acknowledgement_is_traced(rt: HostRuntime) -> Result<(), Fail> {
 fn a_block_is_traced(rt: HostRuntime) -> Result<(), Fail> {
     let script = b"memory 20000000 2\nblock 20000000 2\n".as_slice();
     let run = run_on(&rt, script, b"".as_slice());
-    assert_eq!(rt; run.answer, ended(End::All));
+    expect_eq(&rt, &run.answer, &ended(End::All));
     let listing = after_opening(
         &rt,
         b"ap 4 write ok 20000000\nap c read ok 00000000\nap c read ok 00000000\n\
             dp c read ok 00000000\nidle 8\n"
             .as_slice(),
     )?;
-    assert_eq!(rt;
-        listed(&rt, run.trace.as_slice()).as_slice(),
-        listing.as_slice()
+    expect_eq(
+        &rt,
+        &listed(&rt, run.trace.as_slice()).as_slice(),
+        &listing.as_slice(),
     );
     Ok(())
 }
@@ -138,20 +151,21 @@ fn a_block_is_traced(rt: HostRuntime) -> Result<(), Fail> {
 fn damage_is_traced_as_the_host_sees_it(rt: HostRuntime) -> Result<(), Fail> {
     let plan = b".\n.\n.\n.\n.\n.\n.\n.\n.\n.\n.\nflip 0\n".as_slice();
     let run = run_on(&rt, ONE_READ, plan);
-    assert_eq!(rt; run.answer, ended(End::All));
+    expect_eq(&rt, &run.answer, &ended(End::All));
     let listing = after_opening(
         &rt,
         b"ap 4 write ok 20000000\nap c read ok 00000000\ndp c read bad 00000001\n\
             dp 8 read ok 00000000\nidle 8\n"
             .as_slice(),
     )?;
-    assert_eq!(rt;
-        listed(&rt, run.trace.as_slice()).as_slice(),
-        listing.as_slice()
+    expect_eq(
+        &rt,
+        &listed(&rt, run.trace.as_slice()).as_slice(),
+        &listing.as_slice(),
     );
     let plan = b".\n.\n.\n.\n.\n.\n.\n.\n.\n.\nflip 17\nwait\n".as_slice();
     let run = run_on(&rt, ONE_WRITE, plan);
-    assert_eq!(rt; run.answer, ended(End::All));
+    expect_eq(&rt, &run.answer, &ended(End::All));
     let listing = after_opening(
         &rt,
         b"ap 4 write ok 20000000\nap c write ok deadbeef\ndp c read fault\n\
@@ -159,9 +173,10 @@ fn damage_is_traced_as_the_host_sees_it(rt: HostRuntime) -> Result<(), Fail> {
             ap c write ok deadbeef\ndp c read ok 00000000\nidle 8\n"
             .as_slice(),
     )?;
-    assert_eq!(rt;
-        listed(&rt, run.trace.as_slice()).as_slice(),
-        listing.as_slice()
+    expect_eq(
+        &rt,
+        &listed(&rt, run.trace.as_slice()).as_slice(),
+        &listing.as_slice(),
     );
     Ok(())
 }
@@ -170,11 +185,11 @@ fn damage_is_traced_as_the_host_sees_it(rt: HostRuntime) -> Result<(), Fail> {
 fn texts_at_fault_leave_both_empty(rt: HostRuntime) {
     let run = run_on(&rt, b"r 20000000\n".as_slice(), b"".as_slice());
     let fault = ScriptFault::NoMemoryLine { line: 1 };
-    assert_eq!(rt; run.answer, Err(EngineFault::Script(fault)));
+    expect_eq(&rt, &run.answer, &Err(EngineFault::Script(fault)));
     assert!(rt; run.report.is_empty() && run.trace.is_empty());
     let run = run_on(&rt, NO_ACCESS, b"flip 33\n".as_slice());
     let fault = ScriptFault::Range { line: 1 };
-    assert_eq!(rt; run.answer, Err(EngineFault::Plan(fault)));
+    expect_eq(&rt, &run.answer, &Err(EngineFault::Plan(fault)));
     assert!(rt; run.report.is_empty() && run.trace.is_empty());
 }
 
@@ -182,7 +197,7 @@ fn texts_at_fault_leave_both_empty(rt: HostRuntime) {
 #[test]
 fn traces_at_each_write_that_fails(rt: HostRuntime) {
     let whole = run_on(&rt, NO_ACCESS, b"".as_slice());
-    assert_eq!(rt; whole.trace.len(), 566);
+    expect_eq(&rt, &whole.trace.len(), &566);
     for fails in [false, true] {
         for room in 0..566usize {
             let mut script = NO_ACCESS;
@@ -199,8 +214,8 @@ fn traces_at_each_write_that_fails(rt: HostRuntime) {
                 &mut trace,
             );
             let written = room as u64;
-            assert_eq!(rt; answer, Err(EngineFault::Write { written }));
-            assert_eq!(rt; report.as_slice(), NO_ACCESS_REPORT);
+            expect_eq(&rt, &answer, &Err(EngineFault::Write { written }));
+            expect_eq(&rt, &report.as_slice(), &NO_ACCESS_REPORT);
             assert!(rt; room <= whole.trace.len());
             assert!(rt; trace.taken() == &whole.trace.as_slice()[..room]);
         }
@@ -226,8 +241,8 @@ fn a_report_that_fails_leaves_no_trace(rt: HostRuntime) {
                 &mut trace,
             );
             let written = room as u64;
-            assert_eq!(rt; answer, Err(EngineFault::Write { written }));
-            assert_eq!(rt; report.taken(), &NO_ACCESS_REPORT[..room]);
+            expect_eq(&rt, &answer, &Err(EngineFault::Write { written }));
+            expect_eq(&rt, &report.taken(), &&NO_ACCESS_REPORT[..room]);
             assert!(rt; trace.is_empty());
         }
     }
