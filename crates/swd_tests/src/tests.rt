@@ -7,6 +7,7 @@ mod damage;
 mod decoder;
 mod encoder;
 mod engine;
+mod expect;
 mod host_words;
 mod hostile;
 mod items;

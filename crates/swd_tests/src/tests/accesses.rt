@@ -1,4 +1,5 @@
 //! Runs over wires that damage and lose nothing.
+use super::expect::expect_eq;
 use super::row::{
     BASE, QUIRKS, READ, WORD, WRITE, all_come_out, read, report_of, run_of, stopped, target_of,
     whole, written,
@@ -46,9 +47,9 @@ fn the_address_is_written_anew_at_a_kilobyte(rt: HostRuntime) -> Result<(), Fail
             panic!(rt; "no target");
         };
         let _ = report_of(rt.alloc(), &mut bench, &run)?;
-        assert_eq!(rt; bench.memory().word(0x2000_03fc), Some(0x1111_1111));
-        assert_eq!(rt; bench.memory().word(0x2000_0400), Some(0x2222_2222));
-        assert_eq!(rt; bench.memory().word(BASE), Some(0));
+        expect_eq(&rt, &bench.memory().word(0x2000_03fc), &Some(0x1111_1111));
+        expect_eq(&rt, &bench.memory().word(0x2000_0400), &Some(0x2222_2222));
+        expect_eq(&rt, &bench.memory().word(BASE), &Some(0));
     }
     Ok(())
 }

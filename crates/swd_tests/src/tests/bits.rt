@@ -1,4 +1,5 @@
 //! Worked values of the wire. Failing readers and writers are tried with all engines, in `swd_text`.
+use super::expect::expect_eq;
 use std::test::Fail;
 use swd_bits::*;
 
@@ -32,8 +33,8 @@ fn requests_have_their_bytes(rt: HostRuntime) {
             let addr = *addr;
             let request = Request { ap, read, addr };
             let byte = bytes.get(i).copied().unwrap_or(0);
-            assert_eq!(rt; request.bits(), byte);
-            assert_eq!(rt; Request::of(byte), Some(request));
+            expect_eq(&rt, &request.bits(), &byte);
+            expect_eq(&rt, &Request::of(byte), &Some(request));
         }
     }
 }
@@ -42,13 +43,13 @@ fn requests_have_their_bytes(rt: HostRuntime) {
 fn bytes_that_are_no_requests(rt: HostRuntime) {
     // The wrong Start, Park, Stop and Parity.
     for byte in [0xa4, 0x25, 0xe5, 0x85] {
-        assert_eq!(rt; Request::of(byte), None);
+        expect_eq(&rt, &Request::of(byte), &None);
     }
     let count = (0..=255u8)
         .filter(|byte| Request::of(*byte).is_some())
         .count();
-    assert_eq!(rt; count, 16);
-    assert_eq!(rt; read_request(false, Reg4::R0).bits(), 0xa5);
+    expect_eq(&rt, &count, &16);
+    expect_eq(&rt, &read_request(false, Reg4::R0).bits(), &0xa5);
 }
 
 #[test]
@@ -64,7 +65,7 @@ fn acknowledgements_by_number(rt: HostRuntime) {
         None,
     ];
     for seen in 0..8u8 {
-        assert_eq!(rt; Ack::of(seen), expected[seen as usize]);
+        expect_eq(&rt, &Ack::of(seen), &expected[seen as usize]);
     }
 }
 
@@ -87,10 +88,10 @@ fn data_phases_of_words(rt: HostRuntime) {
         (0x00000001, b"100000000000000000000000000000001"),
         (0x00000000, b"000000000000000000000000000000000"),
     ] {
-        assert_eq!(rt; phase_text(data_bits(word)), *bits);
-        assert_eq!(rt; word_of(data_bits(word)), Some(word));
+        expect_eq(&rt, &phase_text(data_bits(word)), &*bits);
+        expect_eq(&rt, &word_of(data_bits(word)), &Some(word));
     }
-    assert_eq!(rt; word_of((1 << 33) - 1), None);
+    expect_eq(&rt, &word_of((1 << 33) - 1), &None);
 }
 
 // What `one_text` answers, and what it wrote.
@@ -127,8 +128,8 @@ fn one_transaction_has_its_line(rt: HostRuntime) -> Result<(), Fail> {
         ),
     ] {
         let (answer, out) = one(&rt, text)?;
-        assert_eq!(rt; answer, Ok(()));
-        assert_eq!(rt; out.as_slice(), line);
+        expect_eq(&rt, &answer, &Ok(()));
+        expect_eq(&rt, &out.as_slice(), &line);
     }
     Ok(())
 }
@@ -155,7 +156,7 @@ fn other_texts_are_refused(rt: HostRuntime) -> Result<(), Fail> {
         ),
     ] {
         let (answer, out) = one(&rt, text)?;
-        assert_eq!(rt; answer, Err(fault));
+        expect_eq(&rt, &answer, &Err(fault));
         assert!(rt; out.is_empty());
     }
     Ok(())
@@ -174,7 +175,7 @@ fn faults_have_their_messages(rt: HostRuntime) -> Result<(), Fail> {
         (OneFault::Read, "read failed"),
         (OneFault::Write, "write failed"),
     ] {
-        assert_eq!(rt; format!(in rt.alloc(); "{fault}")?.as_str(), message);
+        expect_eq(&rt, &format!(in rt.alloc(); "{fault}")?.as_str(), &message);
     }
     Ok(())
 }
@@ -182,7 +183,7 @@ fn faults_have_their_messages(rt: HostRuntime) -> Result<(), Fail> {
 #[test]
 fn acknowledgements_have_their_names(rt: HostRuntime) -> Result<(), Fail> {
     for (ack, name) in [(Ack::Ok, "OK"), (Ack::Wait, "WAIT"), (Ack::Fault, "FAULT")] {
-        assert_eq!(rt; format!(in rt.alloc(); "{ack}")?.as_str(), name);
+        expect_eq(&rt, &format!(in rt.alloc(); "{ack}")?.as_str(), &name);
     }
     Ok(())
 }

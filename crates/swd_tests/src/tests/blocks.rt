@@ -1,5 +1,6 @@
 //! Blocks of reads: each word comes with the request for the next one.
 use super::engine::{opened, passed, seen, taken};
+use super::expect::expect_eq;
 use super::row::{
     ALL_QUIRKS, BASE, QUIRKS, Run, Wanted, leaves, read, run_of, stopped, target_of, whole,
 };
@@ -302,19 +303,21 @@ fn a_resend_meets_one_bus_error_in_each_access(rt: HostRuntime) {
         for reply in MISSED {
             replied(&mut engine, reply);
         }
-        assert_eq!(rt;
-            engine.finished(),
-            Some(Outcome::Answered(Answer::Value(5)))
+        expect_eq(
+            &rt,
+            &engine.finished(),
+            &Some(Outcome::Answered(Answer::Value(5))),
         );
-        assert_eq!(rt; engine.begun(), 1);
+        expect_eq(&rt, &engine.begun(), &1);
         begins(&mut engine, reads[pair + 1], reads.get(pair + 2).copied());
-        assert_eq!(rt;
-            engine.finished(),
-            Some(Outcome::Answered(Answer::BusFault))
+        expect_eq(
+            &rt,
+            &engine.finished(),
+            &Some(Outcome::Answered(Answer::BusFault)),
         );
-        assert_eq!(rt; engine.begun(), 0);
+        expect_eq(&rt, &engine.begun(), &0);
     }
-    assert_eq!(rt; engine.requests(), 25);
+    expect_eq(&rt, &engine.requests(), &25);
 }
 
 #[test]
@@ -330,5 +333,9 @@ fn a_second_fault_for_a_resend_confuses_an_engine(rt: HostRuntime) {
     }
     replied(&mut engine, Reply::Fault);
     replied(&mut engine, Reply::Okay(0xf000_0060));
-    assert_eq!(rt; engine.finished(), Some(Outcome::Stopped(End::Confused)));
+    expect_eq(
+        &rt,
+        &engine.finished(),
+        &Some(Outcome::Stopped(End::Confused)),
+    );
 }

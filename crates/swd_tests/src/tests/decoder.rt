@@ -2,6 +2,7 @@
 ghost use Rattle.std.specs.Prelude.{OnOk};
 ghost use Rattle.swd_trace.specs.Held.{IsSettled};
 
+use super::expect::expect_eq;
 use std::alloc::{AllocError, Global};
 use std::test::Fail;
 use swd_bits::{Request, Tx, TxBits, TxEnd};
@@ -89,9 +90,9 @@ fn worked_traces_bit_by_bit(rt: HostRuntime) -> Result<(), Fail> {
         let mut text = String::new(alloc);
         let mut decoder = Decoder::new();
         feed(&mut decoder, &bits, &mut text)?;
-        assert_eq!(rt; decoder.fed(), bits.len() as u64);
+        expect_eq(&rt, &decoder.fed(), &(bits.len() as u64));
         finish(decoder, &mut text)?;
-        assert_eq!(rt; text.as_str(), listing);
+        expect_eq(&rt, &text.as_str(), &listing);
     }
     Ok(())
 }
@@ -140,9 +141,9 @@ fn worked_traces_in_two_pieces_at_every_cut(rt: HostRuntime) -> Result<(), Fail>
             let (front, back) = bits.as_slice().split_at(cut);
             take_piece(&mut decoder, front, &mut text)?;
             take_piece(&mut decoder, back, &mut text)?;
-            assert_eq!(rt; decoder.fed(), bits.len() as u64);
+            expect_eq(&rt, &decoder.fed(), &(bits.len() as u64));
             finish(decoder, &mut text)?;
-            assert_eq!(rt; text.as_str(), listing);
+            expect_eq(&rt, &text.as_str(), &listing);
         }
     }
     Ok(())
@@ -161,7 +162,7 @@ fn forty_nine_ones_are_no_reset(rt: HostRuntime) -> Result<(), Fail> {
         expected.push_str("junk 1\n")?;
     }
     expected.push_str("junk 0\n")?;
-    assert_eq!(rt; text.as_str(), expected.as_str());
+    expect_eq(&rt, &text.as_str(), &expected.as_str());
     Ok(())
 }
 
@@ -235,7 +236,7 @@ fn every_list_of_twelve_bits(rt: HostRuntime) {
             if ones == 0 && is_unanswered(list) {
                 fed.bits |= 0x100;
             }
-            assert_eq!(rt; joined, fed);
+            expect_eq(&rt, &joined, &fed);
         }
     }
 }
@@ -248,10 +249,10 @@ fn a_huge_run_is_taken_at_once(rt: HostRuntime) {
         assert!(rt; false, "one zero decides nothing");
         return;
     }
-    assert_eq!(rt; decoder.take_run(false, u64::MAX - 1), u64::MAX - 1);
-    assert_eq!(rt; decoder.due(), None);
-    assert_eq!(rt; decoder.last(), Some(Item::Idle(u64::MAX)));
-    assert_eq!(rt; decoder.last(), None);
+    expect_eq(&rt, &decoder.take_run(false, u64::MAX - 1), &(u64::MAX - 1));
+    expect_eq(&rt, &decoder.due(), &None);
+    expect_eq(&rt, &decoder.last(), &Some(Item::Idle(u64::MAX)));
+    expect_eq(&rt, &decoder.last(), &None);
 }
 
 #[test]
@@ -260,7 +261,11 @@ fn a_bit_that_ends_a_run_decides_it(rt: HostRuntime) {
     let none = decoder.feed(false);
     assert!(rt; none.is_empty());
     let idle = decoder.feed(true);
-    assert_eq!(rt; idle.as_slice(), [Item::Idle(1)].as_slice());
+    expect_eq(&rt, &idle.as_slice(), &[Item::Idle(1)].as_slice());
     let cut = TxBits { len: 1, bits: 1 };
-    assert_eq!(rt; decoder.finish().as_slice(), [Item::Cut(cut)].as_slice());
+    expect_eq(
+        &rt,
+        &decoder.finish().as_slice(),
+        &[Item::Cut(cut)].as_slice(),
+    );
 }

@@ -1,4 +1,5 @@
 //! Items and their trace texts.
+use super::expect::expect_eq;
 use std::io::ErrorKind;
 use std::test::Fail;
 use swd_bits::{Reg4, Request, Tx, TxBits, TxEnd};
@@ -31,7 +32,7 @@ fn items_have_their_texts(rt: HostRuntime) -> Result<(), Fail> {
     ] {
         let mut out = Vec::new(rt.alloc());
         encode(&item, &mut out)?;
-        assert_eq!(rt; out.as_slice(), text);
+        expect_eq(&rt, &out.as_slice(), &text);
     }
     Ok(())
 }
@@ -41,6 +42,6 @@ fn a_writer_that_is_full_is_told(rt: HostRuntime) {
     let mut room = [0u8; 5];
     let mut writer = room.as_mut_slice();
     let answer = encode(&Item::Idle(9), &mut writer).map_err(|error| error.kind());
-    assert_eq!(rt; answer, Err(ErrorKind::WriteZero));
-    assert_eq!(rt; room, *b"00000");
+    expect_eq(&rt, &answer, &Err(ErrorKind::WriteZero));
+    expect_eq(&rt, &room, &*b"00000");
 }

@@ -1,4 +1,5 @@
 //! An engine driven by hand.
+use super::expect::expect_eq;
 use super::row::{QUIRKS, READ, WRITE, run_of, target_of};
 use std::alloc::Global;
 use std::test::Fail;
@@ -56,11 +57,11 @@ fn an_engine_begins_with_the_lead_and_dpidr(rt: HostRuntime) {
         switch: true,
         zeros: 2,
     };
-    assert_eq!(rt; Engine::new(8).cue(), lead);
+    expect_eq(&rt, &Engine::new(8).cue(), &lead);
     let engine = led();
-    assert_eq!(rt; engine.cue(), Cue::Ask(debug_port(true, Reg4::R0)));
-    assert_eq!(rt; engine.finished(), None);
-    assert_eq!(rt; engine.requests(), 0);
+    expect_eq(&rt, &engine.cue(), &Cue::Ask(debug_port(true, Reg4::R0)));
+    expect_eq(&rt, &engine.finished(), &None);
+    expect_eq(&rt, &engine.requests(), &0);
 }
 
 #[test]
@@ -68,27 +69,31 @@ fn an_engine_stops_at_each_first_answer_but_ok(rt: HostRuntime) {
     for number in [0, 3, 5, 6, 7] {
         let mut engine = led();
         seen(&mut engine, number);
-        assert_eq!(rt; engine.finished(), Some(Outcome::Stopped(End::Lost)));
-        assert_eq!(rt; engine.cue(), Cue::Rest);
-        assert_eq!(rt; engine.begun(), 0);
-        assert_eq!(rt; engine.requests(), 1);
+        expect_eq(&rt, &engine.finished(), &Some(Outcome::Stopped(End::Lost)));
+        expect_eq(&rt, &engine.cue(), &Cue::Rest);
+        expect_eq(&rt, &engine.begun(), &0);
+        expect_eq(&rt, &engine.requests(), &1);
     }
     for number in [2, 4] {
         let mut engine = led();
         seen(&mut engine, number);
-        assert_eq!(rt; engine.cue(), Cue::Pass);
-        assert_eq!(rt; engine.finished(), None);
+        expect_eq(&rt, &engine.cue(), &Cue::Pass);
+        expect_eq(&rt, &engine.finished(), &None);
         passed(&mut engine);
-        assert_eq!(rt; engine.finished(), Some(Outcome::Stopped(End::Confused)));
-        assert_eq!(rt; engine.cue(), Cue::Rest);
-        assert_eq!(rt; engine.begun(), 0);
-        assert_eq!(rt; engine.requests(), 1);
+        expect_eq(
+            &rt,
+            &engine.finished(),
+            &Some(Outcome::Stopped(End::Confused)),
+        );
+        expect_eq(&rt, &engine.cue(), &Cue::Rest);
+        expect_eq(&rt, &engine.begun(), &0);
+        expect_eq(&rt, &engine.requests(), &1);
     }
     let mut engine = led();
     seen(&mut engine, 1);
-    assert_eq!(rt; engine.cue(), Cue::Take);
-    assert_eq!(rt; engine.finished(), None);
-    assert_eq!(rt; engine.requests(), 1);
+    expect_eq(&rt, &engine.cue(), &Cue::Take);
+    expect_eq(&rt, &engine.finished(), &None);
+    expect_eq(&rt, &engine.requests(), &1);
 }
 
 #[test]
@@ -97,15 +102,15 @@ fn bit_0_of_an_identification_is_1(rt: HostRuntime) {
     seen(&mut engine, 1);
     taken(&mut engine, 0x2ba0_1476);
     let wrong = Outcome::Stopped(End::WrongId(0x2ba0_1476));
-    assert_eq!(rt; engine.finished(), Some(wrong));
-    assert_eq!(rt; engine.cue(), Cue::Rest);
-    assert_eq!(rt; engine.begun(), 0);
-    assert_eq!(rt; engine.requests(), 1);
+    expect_eq(&rt, &engine.finished(), &Some(wrong));
+    expect_eq(&rt, &engine.cue(), &Cue::Rest);
+    expect_eq(&rt, &engine.begun(), &0);
+    expect_eq(&rt, &engine.requests(), &1);
     let mut engine = led();
     seen(&mut engine, 1);
     taken(&mut engine, 0x2ba0_1477);
-    assert_eq!(rt; engine.finished(), None);
-    assert_eq!(rt; engine.cue(), Cue::Ask(debug_port(false, Reg4::R0)));
+    expect_eq(&rt, &engine.finished(), &None);
+    expect_eq(&rt, &engine.cue(), &Cue::Ask(debug_port(false, Reg4::R0)));
 }
 
 // The request that is its cue is answered OK, a read with this word.
@@ -140,8 +145,8 @@ fn an_opening_ends_by_the_fields_of_csw(rt: HostRuntime) {
         (0x2300_0012, confused),
     ] {
         let engine = opened(Engine::new(8), csw);
-        assert_eq!(rt; engine.finished(), Some(outcome));
-        assert_eq!(rt; engine.requests(), 9);
+        expect_eq(&rt, &engine.finished(), &Some(outcome));
+        expect_eq(&rt, &engine.requests(), &9);
     }
 }
 
@@ -163,15 +168,19 @@ fn refused(status: u32) -> Engine {
 fn a_fault_of_both_flags_or_none_confuses(rt: HostRuntime) {
     for status in [0xf000_0000, 0xf000_00a0] {
         let engine = refused(status);
-        assert_eq!(rt; engine.finished(), Some(Outcome::Stopped(End::Confused)));
-        assert_eq!(rt; engine.cue(), Cue::Rest);
-        assert_eq!(rt; engine.begun(), 1);
+        expect_eq(
+            &rt,
+            &engine.finished(),
+            &Some(Outcome::Stopped(End::Confused)),
+        );
+        expect_eq(&rt, &engine.cue(), &Cue::Rest);
+        expect_eq(&rt, &engine.begun(), &1);
     }
     for status in [0xf000_0020, 0xf000_0080] {
         let engine = refused(status);
-        assert_eq!(rt; engine.finished(), None);
-        assert_eq!(rt; engine.cue(), Cue::Ask(debug_port(false, Reg4::R0)));
-        assert_eq!(rt; engine.begun(), 1);
+        expect_eq(&rt, &engine.finished(), &None);
+        expect_eq(&rt, &engine.cue(), &Cue::Ask(debug_port(false, Reg4::R0)));
+        expect_eq(&rt, &engine.begun(), &1);
     }
 }
 
@@ -244,21 +253,21 @@ fn an_access_is_begun_from_its_drw_request_to_its_answer(rt: HostRuntime) -> Res
     let mut engine = Engine::new(8);
     let opening = changes(rt.alloc(), &mut bench, &mut engine)?;
     assert!(rt; opening.is_empty());
-    assert_eq!(rt; engine.finished(), Some(Outcome::Opened));
-    assert_eq!(rt; (engine.requests(), engine.begun()), (9, 0));
+    expect_eq(&rt, &engine.finished(), &Some(Outcome::Opened));
+    expect_eq(&rt, &(engine.requests(), engine.begun()), &(9, 0));
 
     assert!(rt; starts(&mut engine, WRITE, Some(READ)));
-    assert_eq!(rt; (engine.requests(), engine.begun()), (9, 0));
+    expect_eq(&rt, &(engine.requests(), engine.begun()), &(9, 0));
     let write = changes(rt.alloc(), &mut bench, &mut engine)?;
-    assert_eq!(rt; write.as_slice(), [(11, 1), (12, 0)].as_slice());
+    expect_eq(&rt, &write.as_slice(), &[(11, 1), (12, 0)].as_slice());
     let written = Outcome::Answered(Answer::Written);
-    assert_eq!(rt; engine.finished(), Some(written));
+    expect_eq(&rt, &engine.finished(), &Some(written));
 
     assert!(rt; starts(&mut engine, READ, None));
-    assert_eq!(rt; (engine.requests(), engine.begun()), (12, 0));
+    expect_eq(&rt, &(engine.requests(), engine.begun()), &(12, 0));
     let read = changes(rt.alloc(), &mut bench, &mut engine)?;
-    assert_eq!(rt; read.as_slice(), [(14, 1), (15, 0)].as_slice());
+    expect_eq(&rt, &read.as_slice(), &[(14, 1), (15, 0)].as_slice());
     let value = Outcome::Answered(Answer::Value(0xdead_beef));
-    assert_eq!(rt; engine.finished(), Some(value));
+    expect_eq(&rt, &engine.finished(), &Some(value));
     Ok(())
 }

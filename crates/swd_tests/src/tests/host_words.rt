@@ -1,4 +1,5 @@
 //! What is said of ends and refusals.
+use super::expect::expect_eq;
 use std::test::Fail;
 use swd_host::{End, Refused};
 
@@ -11,7 +12,7 @@ fn ends_have_the_words_of_a_report(rt: HostRuntime) -> Result<(), Fail> {
         (End::WrongId(0x0ba0_1476), "id 0ba01476"),
         (End::Confused, "confused"),
     ] {
-        assert_eq!(rt; format!(in rt.alloc(); "{end}")?.as_str(), words);
+        expect_eq(&rt, &format!(in rt.alloc(); "{end}")?.as_str(), &words);
     }
     Ok(())
 }
@@ -26,7 +27,7 @@ fn refusals_say_what_is_wrong(rt: HostRuntime) -> Result<(), Fail> {
         ),
         (Refused::TooMany, "more than 65536 accesses"),
     ] {
-        assert_eq!(rt; format!(in rt.alloc(); "{refused}")?.as_str(), words);
+        expect_eq(&rt, &format!(in rt.alloc(); "{refused}")?.as_str(), &words);
     }
     Ok(())
 }

@@ -1,5 +1,6 @@
 //! Every changed bit, every pair of them and every lost acknowledgement, at each request of two lists: a
 //! write and a read of a word, and a burst of four writes.
+use super::expect::{expect_eq, expect_eq_at};
 use super::row::{
     BASE, QUIRKS, READ, Run, WORD, WRITE, Wanted, read, report_of, run_of, stopped, target_of,
     whole, written,
@@ -50,9 +51,9 @@ fn fits<R: Abort>(rt: &R, run: &Run, report: &Report, wanted: &Wanted) {
         panic!(rt; "no mark");
     };
     let place = first.0;
-    assert_eq!(rt; report.ended, wanted.ended, "{place}");
-    assert_eq!(rt; report.answers.as_slice(), wanted.answers, "{place}");
-    assert_eq!(rt; report.begun, wanted.begun, "{place}");
+    expect_eq_at(rt, &place, &report.ended, &wanted.ended);
+    expect_eq_at(rt, &place, &report.answers.as_slice(), &wanted.answers);
+    expect_eq_at(rt, &place, &report.begun, &wanted.begun);
 }
 
 // A run is as it is wanted, but that one which is whole may have sent fewer requests.
@@ -71,7 +72,7 @@ fn comes_out<S: Simulated + Drop, R: Abort>(
     fits(rt, run, &report, wanted);
     assert!(rt; report.requests <= wanted.requests);
     assert!(rt; wanted.ended == End::All || report.requests == wanted.requests);
-    assert_eq!(rt; target.memory().log(), wanted.log);
+    expect_eq(rt, &target.memory().log(), &wanted.log);
     Ok(())
 }
 

@@ -1,3 +1,4 @@
+use super::expect::{expect_at, expect_eq, expect_eq_at};
 use linked_list_allocator::LocalHeap;
 use std::io;
 use std::io::Read;
@@ -59,7 +60,7 @@ fn listings_that_are_normal_are_read_as_they_are_printed(rt: HostRuntime) -> Res
             again.push_str(item.line().as_str())?;
             again.push_str("\n")?;
         }
-        assert_eq!(rt; again.as_str(), text);
+        expect_eq(&rt, &again.as_str(), &text);
     }
     Ok(())
 }
@@ -69,7 +70,7 @@ fn a_last_line_may_lack_its_end(rt: HostRuntime) -> Result<(), Fail> {
     let mut reader = "idle 2\ncut 1".as_bytes();
     let items = read_list(rt.alloc(), &mut reader)?;
     let cut = Item::Cut(TxBits { len: 1, bits: 1 });
-    assert_eq!(rt; items.as_slice(), [Item::Idle(2), cut].as_slice());
+    expect_eq(&rt, &items.as_slice(), &[Item::Idle(2), cut].as_slice());
     Ok(())
 }
 
@@ -94,10 +95,11 @@ fn the_first_item_that_is_read_otherwise_is_told(rt: HostRuntime) {
         ("reset 50\nidle 1\nidle 1\n", 2),
     ];
     for (text, line) in listings {
-        assert_eq!(rt;
-            fault_of(&rt, text),
-            Some(ListFault::NotNormal { line }),
-            "{text}"
+        expect_eq_at(
+            &rt,
+            &text,
+            &fault_of(&rt, text),
+            &Some(ListFault::NotNormal { line }),
         );
     }
 }
@@ -137,10 +139,11 @@ fn the_first_bad_line_is_told(rt: HostRuntime) {
         ("idle 1\nidle 1\nidle 01\n", 3),
     ];
     for (text, line) in listings {
-        assert_eq!(rt;
-            fault_of(&rt, text),
-            Some(ListFault::BadLine { line }),
-            "{text}"
+        expect_eq_at(
+            &rt,
+            &text,
+            &fault_of(&rt, text),
+            &Some(ListFault::BadLine { line }),
         );
     }
 }
@@ -155,8 +158,8 @@ fn each_read_fails(rt: HostRuntime) {
             fails_at,
         };
         match read_list(rt.alloc(), &mut reader) {
-            Ok(_) => assert!(rt; false, "at read {fails_at}"),
-            Err(fault) => assert_eq!(rt; fault, ListFault::Read),
+            Ok(_) => expect_at(&rt, &fails_at, false),
+            Err(fault) => expect_eq(&rt, &fault, &ListFault::Read),
         }
     }
 }
@@ -172,9 +175,9 @@ fn each_growth_is_refused(rt: HostRuntime) -> Result<(), Fail> {
         let heap = LocalHeap::new(rt.alloc(), size * 64)?;
         let mut reader = text.as_str().as_bytes();
         match read_list(&heap, &mut reader) {
-            Ok(items) => assert_eq!(rt; items.len(), 80),
+            Ok(items) => expect_eq(&rt, &items.len(), &80),
             Err(fault) => {
-                assert_eq!(rt; fault, ListFault::Memory);
+                expect_eq(&rt, &fault, &ListFault::Memory);
                 refused = refused.saturating_add(1);
             }
         }

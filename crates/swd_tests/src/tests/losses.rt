@@ -1,4 +1,5 @@
 //! Runs over wires that lose an acknowledgement.
+use super::expect::expect_eq;
 use super::items::{lost, recorder_over};
 use super::row::{
     BASE, QUIRKS, WORD, WRITE, all_come_out, report_of, run_of, stopped, target_of, written,
@@ -53,7 +54,7 @@ fn takes_effect_late<S: Simulated + Drop, R: Abort>(rt: &R, alloc: Global) -> Re
     let _ = report_of(alloc, &mut bench, &run)?;
     assert!(rt; bench.memory().log().is_empty());
     bench.settle();
-    assert_eq!(rt; bench.memory().log(), [written(BASE, WORD)].as_slice());
+    expect_eq(rt, &bench.memory().log(), &[written(BASE, WORD)].as_slice());
     Ok(())
 }
 
@@ -81,8 +82,8 @@ fn a_changed_bit_makes_no_acknowledgement_of_another(rt: HostRuntime) -> Result<
             let Some(report) = report_of(rt.alloc(), &mut wire, &run)? else {
                 panic!(rt; "no new target");
             };
-            assert_eq!(rt; report.ended, End::Lost);
-            assert_eq!(rt; wire.items().last().copied(), Some(lost(asked, seen)));
+            expect_eq(&rt, &report.ended, &End::Lost);
+            expect_eq(&rt, &wire.items().last().copied(), &Some(lost(asked, seen)));
         }
     }
     Ok(())

@@ -1,4 +1,5 @@
 //! What a host sends, request by request.
+use super::expect::expect_eq;
 use super::items::{bits, damaged, faulted, lost, moved, recorder_over, waited};
 use super::row::{
     BASE, BURST, FILLER, QUIRKS, READ, Run, WORD, WRITE, report_of, run_of, target_of,
@@ -87,7 +88,7 @@ fn sends_over<S: Simulated + Drop, R: Abort>(
     let _ = report_of(alloc, &mut wire, run)?;
     let opening = opening(quirks.filler);
     assert!(rt; wire.items().starts_with(&opening));
-    assert_eq!(rt; wire.items().get(13..), Some(after));
+    expect_eq(rt, &wire.items().get(13..), &Some(after));
     Ok(())
 }
 
@@ -99,12 +100,12 @@ fn a_run_of_nothing_is_552_bits(rt: HostRuntime) -> Result<(), Fail> {
     for item in opening(FILLER) {
         sum = sum.saturating_add(bits(item));
     }
-    assert_eq!(rt; sum, 552);
+    expect_eq(&rt, &sum, &552);
     let Some(mut bench) = target_of::<ClockedBench>(rt.alloc(), &run, QUIRKS)? else {
         panic!(rt; "no target");
     };
     let _ = report_of(rt.alloc(), &mut bench, &run)?;
-    assert_eq!(rt; bench.cycles(), 552);
+    expect_eq(&rt, &bench.cycles(), &552);
     Ok(())
 }
 

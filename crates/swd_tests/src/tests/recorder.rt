@@ -1,4 +1,5 @@
 //! A recorder over a simulated target, call by call.
+use super::expect::expect_eq;
 use super::items::{lost, moved, recorder_over};
 use super::row::{QUIRKS, run_of, target_of};
 use crate::Simulated;
@@ -61,7 +62,7 @@ fn a_recorded_wire_has_the_cycles_of_a_bare_one(rt: HostRuntime) -> Result<(), F
             panic!(rt; "no target");
         };
         lead_with(&mut bare, ones, switch, zeros);
-        assert_eq!(rt; bare.cycles(), cycles);
+        expect_eq(&rt, &bare.cycles(), &cycles);
         let Some(target) = target_of::<ClockedBench>(rt.alloc(), &run, QUIRKS)? else {
             panic!(rt; "no target");
         };
@@ -69,7 +70,7 @@ fn a_recorded_wire_has_the_cycles_of_a_bare_one(rt: HostRuntime) -> Result<(), F
             panic!(rt; "something is due");
         };
         lead_with(&mut wire, ones, switch, zeros);
-        assert_eq!(rt; wire.into_wire().cycles(), cycles);
+        expect_eq(&rt, &wire.into_wire().cycles(), &cycles);
     }
     Ok(())
 }
@@ -86,12 +87,12 @@ fn a_recorded_wire_goes_on_inside_a_transaction(rt: HostRuntime) -> Result<(), F
     };
     let request = Register::DpidrRead.request();
     lead(&mut wire, 56, 2);
-    assert_eq!(rt; ask(&mut wire, request), 1);
+    expect_eq(&rt, &ask(&mut wire, request), &1);
     lead(&mut wire, 101, 5);
-    assert_eq!(rt; ask(&mut wire, request), 1);
+    expect_eq(&rt, &ask(&mut wire, request), &1);
     assert!(rt; take(&mut wire).is_some());
     assert!(rt; wire.is_cut());
-    assert_eq!(rt; wire.into_wire().cycles(), 58 + 12 + 106 + 46);
+    expect_eq(&rt, &wire.into_wire().cycles(), &(58 + 12 + 106 + 46));
     Ok(())
 }
 
@@ -110,7 +111,7 @@ fn zeros_after_zeros_are_one_item(rt: HostRuntime) -> Result<(), Fail> {
     lead(&mut wire, 50, 2);
     lead(&mut wire, 0, 5);
     let items = [Item::Idle(7), Item::Reset(50), Item::Idle(7)];
-    assert_eq!(rt; wire.items(), items.as_slice());
+    expect_eq(&rt, &wire.items(), &items.as_slice());
     assert!(rt; !wire.is_cut());
     Ok(())
 }
@@ -126,16 +127,16 @@ fn a_line_reset_inside_a_transaction_cuts_the_items(rt: HostRuntime) -> Result<(
     };
     let request = Register::DpidrRead.request();
     lead(&mut wire, 56, 2);
-    assert_eq!(rt; ask(&mut wire, request), 1);
+    expect_eq(&rt, &ask(&mut wire, request), &1);
     // A transaction is an item once it is whole.
     let items = [Item::Reset(56), Item::Idle(2)];
-    assert_eq!(rt; wire.items(), items.as_slice());
+    expect_eq(&rt, &wire.items(), &items.as_slice());
     lead(&mut wire, 100, 2);
     assert!(rt; wire.is_cut());
-    assert_eq!(rt; wire.due(), Due::Nothing);
-    assert_eq!(rt; ask(&mut wire, request), 1);
+    expect_eq(&rt, &wire.due(), &Due::Nothing);
+    expect_eq(&rt, &ask(&mut wire, request), &1);
     assert!(rt; take(&mut wire).is_some());
-    assert_eq!(rt; wire.items(), items.as_slice());
+    expect_eq(&rt, &wire.items(), &items.as_slice());
     Ok(())
 }
 
@@ -151,10 +152,10 @@ fn items_go_on_after_a_lost_acknowledgement(rt: HostRuntime) -> Result<(), Fail>
     };
     let request = Register::DpidrRead.request();
     lead(&mut wire, 56, 2);
-    assert_eq!(rt; ask(&mut wire, request), 7);
-    assert_eq!(rt; wire.due(), Due::Lost);
+    expect_eq(&rt, &ask(&mut wire, request), &7);
+    expect_eq(&rt, &wire.due(), &Due::Lost);
     lead(&mut wire, 100, 2);
-    assert_eq!(rt; ask(&mut wire, request), 1);
+    expect_eq(&rt, &ask(&mut wire, request), &1);
     assert!(rt; take(&mut wire).is_some());
     let items = [
         Item::Reset(56),
@@ -164,7 +165,7 @@ fn items_go_on_after_a_lost_acknowledgement(rt: HostRuntime) -> Result<(), Fail>
         Item::Idle(2),
         moved(DPIDR, 0x2ba0_1477),
     ];
-    assert_eq!(rt; wire.items(), items.as_slice());
+    expect_eq(&rt, &wire.items(), &items.as_slice());
     let bench = wire.into_wire();
     assert!(rt; Simulated::memory(&bench).log().is_empty());
     Ok(())

@@ -1,4 +1,5 @@
 //! Lists that a host doesn't do, and out of memory.
+use super::expect::{expect_eq, expect_eq_at};
 use super::items::recorder_over;
 use super::row::{
     BASE, QUIRKS, READ, Run, WORD, WRITE, read, report_of, run_of, target_of, written,
@@ -31,9 +32,9 @@ fn is_as_new<R: Abort, W: Wire>(rt: &R, alloc: Global, wire: &mut W) -> Result<(
         panic!(rt; "something is due");
     };
     let answers = [Answer::Written, Answer::Value(WORD)];
-    assert_eq!(rt; report.answers.as_slice(), answers.as_slice());
-    assert_eq!(rt; report.requests, 15);
-    assert_eq!(rt; report.ended, End::All);
+    expect_eq(rt, &report.answers.as_slice(), &answers.as_slice());
+    expect_eq(rt, &report.requests, &15);
+    expect_eq(rt, &report.ended, &End::All);
     Ok(())
 }
 
@@ -63,7 +64,7 @@ fn a_list_is_refused_before_anything_is_sent(rt: HostRuntime) -> Result<(), Fail
         let Some(Err(fault)) = tried(rt.alloc(), &mut wire, accesses) else {
             panic!(rt; "it is not refused");
         };
-        assert_eq!(rt; fault, refused);
+        expect_eq(&rt, &fault, &refused);
         assert!(rt; wire.items().is_empty());
         is_as_new(&rt, rt.alloc(), &mut wire)?;
     }
@@ -108,18 +109,18 @@ fn is_refused<S: Simulated + Drop, R: Abort, A: Allocator + Copy>(
     };
     match sixteen(alloc, &mut wire, call) {
         Some(Ok(report)) => {
-            assert_eq!(rt; report.ended, End::All);
+            expect_eq(rt, &report.ended, &End::All);
             let answers = [Answer::Value(0); 16];
-            assert_eq!(rt; report.answers.as_slice(), answers.as_slice());
+            expect_eq(rt, &report.answers.as_slice(), &answers.as_slice());
             return Ok(false);
         }
-        Some(Err(fault)) => assert_eq!(rt; fault, Refused::Memory),
+        Some(Err(fault)) => expect_eq(rt, &fault, &Refused::Memory),
         None => panic!(rt; "something is due"),
     }
     assert!(rt; wire.items().is_empty());
     is_as_new(rt, global, &mut wire)?;
     let log = [written(BASE, WORD), read(BASE, WORD)];
-    assert_eq!(rt; wire.into_wire().memory().log(), log.as_slice());
+    expect_eq(rt, &wire.into_wire().memory().log(), &log.as_slice());
     Ok(true)
 }
 
@@ -134,9 +135,9 @@ fn refusals<S: Simulated + Drop, R: Abort>(
         let heap = LocalHeap::new(global, size * 16)?;
         if is_refused::<S, R, &LocalHeap>(rt, global, &heap, call)? {
             refused = refused.saturating_add(1);
-            assert_eq!(rt; refused, size);
+            expect_eq(rt, &refused, &size);
         }
-        assert_eq!(rt; heap.used(), 0);
+        expect_eq(rt, &heap.used(), &0);
     }
     Ok(refused)
 }
@@ -147,14 +148,10 @@ fn want_of_memory_is_told_before_anything_is_sent(rt: HostRuntime) -> Result<(),
     let run = refusals::<Bench, _>(&rt, rt.alloc(), Call::Run)?;
     let block = refusals::<Bench, _>(&rt, rt.alloc(), Call::Block)?;
     assert!(rt; 3 < run && run < block && block < 56);
-    assert_eq!(rt;
-        refusals::<ClockedBench, _>(&rt, rt.alloc(), Call::Run)?,
-        run
-    );
-    assert_eq!(rt;
-        refusals::<ClockedBench, _>(&rt, rt.alloc(), Call::Block)?,
-        block
-    );
+    let clocked = refusals::<ClockedBench, _>(&rt, rt.alloc(), Call::Run)?;
+    expect_eq(&rt, &clocked, &run);
+    let clocked = refusals::<ClockedBench, _>(&rt, rt.alloc(), Call::Block)?;
+    expect_eq(&rt, &clocked, &block);
     Ok(())
 }
 
@@ -168,9 +165,9 @@ fn as_many_accesses_as_a_list_may_have(rt: HostRuntime) -> Result<(), Fail> {
     let Some(report) = report_of(rt.alloc(), &mut bench, &run)? else {
         panic!(rt; "something is due");
     };
-    assert_eq!(rt; report.ended, End::All);
-    assert_eq!(rt; report.answers.len(), 65_536);
+    expect_eq(&rt, &report.ended, &End::All);
+    expect_eq(&rt, &report.answers.len(), &65_536);
     // The opening, and then TAR, DRW and RDBUFF for each.
-    assert_eq!(rt; report.requests, 9 + 3 * 65_536);
+    expect_eq(&rt, &report.requests, &(9 + 3 * 65_536));
     Ok(())
 }

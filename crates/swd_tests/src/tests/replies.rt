@@ -1,5 +1,6 @@
 //! An engine driven through a write and a read, and given each other reply at each of their requests.
 use super::engine::{goes_on, passed, seen, starts, taken};
+use super::expect::expect_eq;
 use super::row::{QUIRKS, READ, WRITE, run_of, target_of};
 use std::alloc::Global;
 use std::test::Fail;
@@ -46,9 +47,9 @@ fn no_acknowledgement_stops_an_engine_at_each_request(rt: HostRuntime) -> Result
                 panic!(rt; "no request {place}");
             };
             seen(&mut engine, number);
-            assert_eq!(rt; engine.finished(), Some(Outcome::Stopped(End::Lost)));
-            assert_eq!(rt; engine.requests(), place);
-            assert_eq!(rt; engine.cue(), Cue::Rest);
+            expect_eq(&rt, &engine.finished(), &Some(Outcome::Stopped(End::Lost)));
+            expect_eq(&rt, &engine.requests(), &place);
+            expect_eq(&rt, &engine.cue(), &Cue::Rest);
         }
     }
     Ok(())
@@ -68,7 +69,7 @@ fn replies_that_no_target_gives_confuse_an_engine(rt: HostRuntime) -> Result<(),
             seen(&mut engine, number);
             passed(&mut engine);
             if !is_exempt(place) {
-                assert_eq!(rt; engine.finished(), None);
+                expect_eq(&rt, &engine.finished(), &None);
                 seen(&mut engine, 1);
                 taken(&mut engine, 0xf000_0000);
             }
@@ -77,9 +78,13 @@ fn replies_that_no_target_gives_confuse_an_engine(rt: HostRuntime) -> Result<(),
             } else {
                 place.saturating_add(1)
             };
-            assert_eq!(rt; engine.finished(), Some(Outcome::Stopped(End::Confused)));
-            assert_eq!(rt; engine.requests(), requests);
-            assert_eq!(rt; engine.cue(), Cue::Rest);
+            expect_eq(
+                &rt,
+                &engine.finished(),
+                &Some(Outcome::Stopped(End::Confused)),
+            );
+            expect_eq(&rt, &engine.requests(), &requests);
+            expect_eq(&rt, &engine.cue(), &Cue::Rest);
         }
     }
     Ok(())

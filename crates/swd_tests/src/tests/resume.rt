@@ -3,6 +3,7 @@ ghost use Rattle.std.specs.Prelude.{◌≤◌, IfOk, IfSome, length};
 ghost use Rattle.swd_host.specs.Plain.{AreAccesses};
 ghost use Rattle.swd_host.specs.Reports.{told_of};
 
+use super::expect::{expect_at, expect_eq, expect_eq_at};
 use super::row::{
     BASE, QUIRKS, READ, Run, WORD, WRITE, Wanted, read, run_of, stopped, target_of, whole, written,
 };
@@ -78,10 +79,10 @@ fn gone_on<S: Simulated + Drop>(
 
 // What was reported.
 fn tells<R: Abort, A: Allocator>(rt: &R, name: usize, report: &Report<A>, wanted: Wanted) {
-    assert_eq!(rt; report.ended, wanted.ended, "{name}");
-    assert_eq!(rt; report.requests, wanted.requests, "{name}");
-    assert_eq!(rt; report.begun, wanted.begun, "{name}");
-    assert_eq!(rt; report.answers.as_slice(), wanted.answers, "{name}");
+    expect_eq_at(rt, &name, &report.ended, &wanted.ended);
+    expect_eq_at(rt, &name, &report.requests, &wanted.requests);
+    expect_eq_at(rt, &name, &report.begun, &wanted.begun);
+    expect_eq_at(rt, &name, &report.answers.as_slice(), &wanted.answers);
 }
 
 // A run that ends at a lost acknowledgement, and what comes of going on once, and twice where it ended so again.
@@ -98,7 +99,7 @@ struct Row<'a, 'm, 'l> {
 fn leaves<S: Simulated + Drop, R: Abort>(rt: &R, name: usize, target: S, log: &[Transfer]) {
     let mut target = target;
     target.settle();
-    assert_eq!(rt; target.memory().log(), log, "{name}");
+    expect_eq_at(rt, &name, &target.memory().log(), &log);
 }
 
 fn goes_on<S: Simulated + Drop, R: Abort>(
@@ -110,7 +111,7 @@ fn goes_on<S: Simulated + Drop, R: Abort>(
     let Some(stage) = begun::<S>(alloc, &row.run, row.late)? else {
         panic!(rt; "{name}: a mark isn't legal");
     };
-    assert_eq!(rt; stage.report.ended, End::Lost, "{name}");
+    expect_eq_at(rt, &name, &stage.report.ended, &End::Lost);
     let stage = gone_on(alloc, row.run.accesses, stage, row.tries)?;
     tells(rt, name, &stage.report, row.once);
     let Some(twice) = row.twice else {
@@ -192,20 +193,26 @@ fn each_is_gone_on_with<S: Simulated + Drop, R: Abort>(
             let Some(stage) = begun::<S>(alloc, &run, late)? else {
                 panic!(rt; "{place}: a mark isn't legal");
             };
-            assert_eq!(rt; stage.report.ended, End::Lost, "{place}");
+            expect_eq_at(rt, &place, &stage.report.ended, &End::Lost);
             let mut stage = gone_on(alloc, run.accesses, stage, 8)?;
-            assert_eq!(rt; stage.report.ended, End::All, "{place}");
-            assert_eq!(rt; stage.report.begun, 0, "{place}");
-            assert_eq!(rt;
-                stage.report.answers.as_slice(),
-                answers.as_slice(),
-                "{place}"
+            expect_eq_at(rt, &place, &stage.report.ended, &End::All);
+            expect_eq_at(rt, &place, &stage.report.begun, &0);
+            expect_eq_at(
+                rt,
+                &place,
+                &stage.report.answers.as_slice(),
+                &answers.as_slice(),
             );
             stage.target.settle();
             let log = stage.target.memory().log();
-            assert_eq!(rt; log.first().copied(), Some(written(BASE, WORD)), "{place}");
-            assert_eq!(rt; log.last().copied(), Some(read(BASE, WORD)), "{place}");
-            assert!(rt; log.len() <= 3, "{place}");
+            expect_eq_at(
+                rt,
+                &place,
+                &log.first().copied(),
+                &Some(written(BASE, WORD)),
+            );
+            expect_eq_at(rt, &place, &log.last().copied(), &Some(read(BASE, WORD)));
+            expect_at(rt, &place, log.len() <= 3);
         }
     }
     Ok(())
@@ -254,14 +261,19 @@ fn two_are_lost<R: Abort>(
     let marks = [(earlier, Mark::Deaf), (later, Mark::Mute(0)), flip];
     let run = run_of(&marks, &accesses).tries(1);
     let mut stage = gone_on_twice::<Bench, R>(rt, alloc, &run, late)?;
-    assert_eq!(rt; stage.report.ended, End::All, "{earlier} {later}");
-    assert_eq!(rt;
-        stage.report.answers.as_slice(),
-        answers.as_slice(),
-        "{earlier} {later}"
+    expect_eq_at(rt, &(earlier, later), &stage.report.ended, &End::All);
+    expect_eq_at(
+        rt,
+        &(earlier, later),
+        &stage.report.answers.as_slice(),
+        &answers.as_slice(),
     );
     stage.target.settle();
-    assert!(rt; stage.target.memory().log().len() <= 5, "{earlier} {later}");
+    expect_at(
+        rt,
+        &(earlier, later),
+        stage.target.memory().log().len() <= 5,
+    );
     Ok(())
 }
 
@@ -312,14 +324,14 @@ fn is_refused<S: Simulated + Drop, R: Abort>(
     let Some(stage) = begun_on::<S, &LocalHeap>(global, &large, &run, false)? else {
         panic!(rt; "a mark isn't legal");
     };
-    assert_eq!(rt; stage.report.ended, End::Lost);
+    expect_eq(rt, &stage.report.ended, &End::Lost);
     let (stage, refused) = tried_on(&small, run.accesses, stage);
     let stage = match refused {
         Some(fault) => {
-            assert_eq!(rt; fault, Refused::Memory);
-            assert_eq!(rt; small.used(), 0);
+            expect_eq(rt, &fault, &Refused::Memory);
+            expect_eq(rt, &small.used(), &0);
             let (stage, again) = tried_on(&large, run.accesses, stage);
-            assert_eq!(rt; again, None);
+            expect_eq(rt, &again, &None);
             stage
         }
         None => stage,
@@ -339,13 +351,11 @@ fn want_of_memory_is_told_before_anything_is_sent(rt: HostRuntime) -> Result<(),
     for step in 1..40usize {
         let size = step * 16;
         let is = is_refused::<Bench, HostRuntime>(&rt, rt.alloc(), size)?;
-        assert_eq!(rt;
-            is_refused::<ClockedBench, HostRuntime>(&rt, rt.alloc(), size)?,
-            is
-        );
+        let clocked = is_refused::<ClockedBench, HostRuntime>(&rt, rt.alloc(), size)?;
+        expect_eq(&rt, &clocked, &is);
         if is {
             refused = refused.saturating_add(1);
-            assert_eq!(rt; refused, step);
+            expect_eq(&rt, &refused, &step);
         }
     }
     assert!(rt; 3 < refused && refused < 36);

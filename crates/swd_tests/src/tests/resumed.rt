@@ -1,4 +1,5 @@
 //! What going on sends, request by request.
+use super::expect::expect_eq;
 use super::items::{faulted, lost, moved, recorder_over, waited};
 use super::order::{
     ABORT, CSW, CSW_WRITE, CTRL_STAT, CTRL_STAT_WRITE, DPIDR, DRW_WRITE, IDLE, RDBUFF, SELECT, TAR,
@@ -45,10 +46,10 @@ fn sends_over<S: Simulated + Drop, R: Abort>(rt: &R, alloc: Global, row: Row) ->
         panic!(rt; "something is due");
     }
     let report = swd_host::run(alloc, &mut wire, row.run.accesses, row.run.tries)?;
-    assert_eq!(rt; wire.items().len(), row.before);
+    expect_eq(rt, &wire.items().len(), &row.before);
     let report = resume(alloc, &mut wire, row.run.accesses, &report, row.tries)?;
-    assert_eq!(rt; report.ended, row.ended);
-    assert_eq!(rt; wire.items().get(row.before..), Some(row.after));
+    expect_eq(rt, &report.ended, &row.ended);
+    expect_eq(rt, &wire.items().get(row.before..), &Some(row.after));
     Ok(())
 }
 

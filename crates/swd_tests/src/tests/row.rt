@@ -4,6 +4,7 @@ ghost use Rattle.swd_port.specs.PlainMemory.{PlainMemory};
 ghost use Rattle.swd_port.specs.Port.{made};
 ghost use Rattle.swd_target.specs.Marks.{IsPlan};
 
+use super::expect::{expect_at, expect_eq_at};
 use crate::Simulated;
 use std::alloc::Global;
 use std::process::Abort;
@@ -227,28 +228,32 @@ pub fn leaves<S: Simulated + Drop, R: Abort>(
     quirks: Quirks,
 ) {
     let Quirks { wrap, late, filler } = quirks;
-    assert_eq!(rt; report.ended, wanted.ended, "{row} {wrap} {late} {filler}");
-    assert_eq!(rt;
-        report.requests,
-        wanted.requests,
-        "{row} {wrap} {late} {filler}"
+    expect_eq_at(rt, &(row, wrap, late, filler), &report.ended, &wanted.ended);
+    expect_eq_at(
+        rt,
+        &(row, wrap, late, filler),
+        &report.requests,
+        &wanted.requests,
     );
-    assert_eq!(rt; report.begun, wanted.begun, "{row} {wrap} {late} {filler}");
-    assert_eq!(rt;
-        report.answers.as_slice(),
-        wanted.answers,
-        "{row} {wrap} {late} {filler}"
+    expect_eq_at(rt, &(row, wrap, late, filler), &report.begun, &wanted.begun);
+    expect_eq_at(
+        rt,
+        &(row, wrap, late, filler),
+        &report.answers.as_slice(),
+        &wanted.answers,
     );
     // Only a late transfer is still pending where a run has ended.
-    assert!(rt;
+    expect_at(
+        rt,
+        &(row, wrap, filler),
         late || target.memory().log() == wanted.log,
-        "{row} {wrap} {filler}"
     );
     target.settle();
-    assert_eq!(rt;
-        target.memory().log(),
-        wanted.log,
-        "{row} {wrap} {late} {filler}"
+    expect_eq_at(
+        rt,
+        &(row, wrap, late, filler),
+        &target.memory().log(),
+        &wanted.log,
     );
 }
 

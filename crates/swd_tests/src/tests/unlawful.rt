@@ -1,5 +1,6 @@
 //! Which request follows a reply that no target gives that keeps the law: an engine driven by hand.
 use super::engine::{opened, passed, seen, starts, taken};
+use super::expect::{expect_eq, expect_eq_at};
 use super::order::{ABORT, CSW_WRITE, CTRL_STAT, DRW, DRW_WRITE, RDBUFF, RESEND, TAR};
 use super::row::{BASE, READ, WORD, WRITE};
 use std::process::Abort;
@@ -33,7 +34,7 @@ fn moves<R: Abort>(rt: &R, place: usize, engine: &mut Engine, word: u32) {
     match engine.cue() {
         Cue::Take => engine.taken(data_bits(word)),
         Cue::Give(bits) => {
-            assert_eq!(rt; bits, data_bits(word), "{place}");
+            expect_eq_at(rt, &place, &bits, &data_bits(word));
             engine.done();
         }
         _ => panic!(rt; "{place}: no data phase is due"),
@@ -44,7 +45,7 @@ fn turns<R: Abort>(rt: &R, engine: &mut Engine, list: &[Turn]) {
     for (place, turn) in list.iter().enumerate() {
         let (Turn::Moves(byte, _) | Turn::Damaged(byte) | Turn::Faults(byte) | Turn::Waits(byte)) =
             *turn;
-        assert_eq!(rt; asked(engine), byte, "{place}");
+        expect_eq_at(rt, &place, &asked(engine), &byte);
         match *turn {
             Turn::Moves(_, word) => {
                 seen(engine, 1);
@@ -95,14 +96,14 @@ fn power_that_is_not_there_yet_is_looked_for_again(rt: HostRuntime) {
     for late in [0x5000_0000, 0x7000_0000, 0xd000_0000] {
         let mut engine = powering(1);
         turns(&rt, &mut engine, &[Turn::Moves(CTRL_STAT, late)]);
-        assert_eq!(rt; engine.finished(), None);
+        expect_eq(&rt, &engine.finished(), &None);
         turns(&rt, &mut engine, &[Turn::Moves(CTRL_STAT, 0xf000_0000)]);
-        assert_eq!(rt; asked(&engine), CSW_WRITE);
+        expect_eq(&rt, &asked(&engine), &CSW_WRITE);
         let mut engine = powering(1);
         let twice = [Turn::Moves(CTRL_STAT, late), Turn::Moves(CTRL_STAT, late)];
         turns(&rt, &mut engine, &twice);
-        assert_eq!(rt; engine.finished(), TRIES_OUT);
-        assert_eq!(rt; engine.begun(), 0);
+        expect_eq(&rt, &engine.finished(), &TRIES_OUT);
+        expect_eq(&rt, &engine.begun(), &0);
     }
 }
 
@@ -111,7 +112,7 @@ fn a_bus_error_after_the_power_request_confuses(rt: HostRuntime) {
     for flags in [0xf000_0020, 0xf000_00a0, 0x0000_0020] {
         let mut engine = powering(8);
         turns(&rt, &mut engine, &[Turn::Moves(CTRL_STAT, flags)]);
-        assert_eq!(rt; engine.finished(), CONFUSED);
+        expect_eq(&rt, &engine.finished(), &CONFUSED);
     }
 }
 
@@ -141,14 +142,14 @@ fn another_flag_after_a_clearing_confuses(rt: HostRuntime) {
         let mut engine = sent(&rt, 8, WRITE);
         turns(&rt, &mut engine, &owed(flags));
         turns(&rt, &mut engine, &[Turn::Moves(CTRL_STAT, 0xf000_0020)]);
-        assert_eq!(rt; engine.finished(), CONFUSED);
-        assert_eq!(rt; engine.begun(), 1);
+        expect_eq(&rt, &engine.finished(), &CONFUSED);
+        expect_eq(&rt, &engine.begun(), &1);
     }
     // Damaged data where a bus error was cleared is none of what is owed.
     let mut engine = sent(&rt, 8, WRITE);
     turns(&rt, &mut engine, &owed(0xf000_0020));
     turns(&rt, &mut engine, &[Turn::Moves(CTRL_STAT, 0xf000_0080)]);
-    assert_eq!(rt; engine.finished(), CONFUSED);
+    expect_eq(&rt, &engine.finished(), &CONFUSED);
     // Both flags where a bus error was cleared: the clearing was damaged, and both are owed.
     let mut engine = sent(&rt, 8, WRITE);
     turns(&rt, &mut engine, &owed(0xf000_0020));
@@ -158,11 +159,12 @@ fn another_flag_after_a_clearing_confuses(rt: HostRuntime) {
         Turn::Moves(CTRL_STAT, 0xf000_0000),
     ];
     turns(&rt, &mut engine, &both);
-    assert_eq!(rt;
-        engine.finished(),
-        Some(Outcome::Answered(Answer::BusFault))
+    expect_eq(
+        &rt,
+        &engine.finished(),
+        &Some(Outcome::Answered(Answer::BusFault)),
     );
-    assert_eq!(rt; engine.begun(), 0);
+    expect_eq(&rt, &engine.begun(), &0);
 }
 
 #[test]
@@ -183,7 +185,11 @@ fn a_write_that_is_sent_again_may_meet_the_write_before_it(rt: HostRuntime) {
     ];
     let mut engine = sent(&rt, 8, WRITE);
     turns(&rt, &mut engine, &again);
-    assert_eq!(rt; engine.finished(), Some(Outcome::Answered(Answer::Written)));
+    expect_eq(
+        &rt,
+        &engine.finished(),
+        &Some(Outcome::Answered(Answer::Written)),
+    );
     // Where TAR was known, no write stands before it.
     let next = Access::Write(BASE + 4, 7);
     assert!(rt; starts(&mut engine, next, None));
@@ -197,8 +203,8 @@ fn a_write_that_is_sent_again_may_meet_the_write_before_it(rt: HostRuntime) {
         Turn::Moves(CTRL_STAT, 0xf000_0080),
     ];
     turns(&rt, &mut engine, &known);
-    assert_eq!(rt; engine.finished(), CONFUSED);
-    assert_eq!(rt; engine.begun(), 1);
+    expect_eq(&rt, &engine.finished(), &CONFUSED);
+    expect_eq(&rt, &engine.begun(), &1);
 }
 
 #[test]
@@ -211,13 +217,13 @@ fn resend_that_is_refused_confuses_once_the_flags_were_read(rt: HostRuntime) {
     let mut engine = sent(&rt, 8, READ);
     turns(&rt, &mut engine, &refused);
     turns(&rt, &mut engine, &[Turn::Moves(CTRL_STAT, 0xf000_0020)]);
-    assert_eq!(rt; engine.finished(), CONFUSED);
-    assert_eq!(rt; engine.begun(), 1);
+    expect_eq(&rt, &engine.finished(), &CONFUSED);
+    expect_eq(&rt, &engine.begun(), &1);
     // The second damaged word is one event too many.
     let mut engine = sent(&rt, 1, READ);
     turns(&rt, &mut engine, &refused);
-    assert_eq!(rt; engine.finished(), TRIES_OUT);
-    assert_eq!(rt; engine.begun(), 1);
+    expect_eq(&rt, &engine.finished(), &TRIES_OUT);
+    expect_eq(&rt, &engine.begun(), &1);
 }
 
 #[test]
@@ -228,8 +234,8 @@ fn wait_for_a_request_that_never_gets_it_confuses(rt: HostRuntime) {
         &mut engine,
         &[Turn::Faults(RDBUFF), Turn::Waits(CTRL_STAT)],
     );
-    assert_eq!(rt; engine.finished(), CONFUSED);
-    assert_eq!(rt; engine.begun(), 1);
+    expect_eq(&rt, &engine.finished(), &CONFUSED);
+    expect_eq(&rt, &engine.begun(), &1);
     let mut engine = sent(&rt, 8, READ);
     let flagged = [
         Turn::Faults(RDBUFF),
@@ -237,7 +243,7 @@ fn wait_for_a_request_that_never_gets_it_confuses(rt: HostRuntime) {
         Turn::Waits(ABORT),
     ];
     turns(&rt, &mut engine, &flagged);
-    assert_eq!(rt; engine.finished(), CONFUSED);
+    expect_eq(&rt, &engine.finished(), &CONFUSED);
 }
 
 #[test]
@@ -250,7 +256,7 @@ fn flags_that_no_write_explains_confuse(rt: HostRuntime) {
             &mut engine,
             &[Turn::Faults(RDBUFF), Turn::Moves(CTRL_STAT, flags)],
         );
-        assert_eq!(rt; engine.finished(), CONFUSED, "{flags:08x}");
-        assert_eq!(rt; engine.begun(), 1, "{flags:08x}");
+        expect_eq_at(&rt, &flags, &engine.finished(), &CONFUSED);
+        expect_eq_at(&rt, &flags, &engine.begun(), &1);
     }
 }
