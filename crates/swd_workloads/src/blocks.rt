@@ -1,6 +1,8 @@
 //! Reads one by one, and the same reads as a block.
+ghost use Rattle.swd_target.specs.Marks.{IsPlan};
+
 use crate::random::{Random, SEED};
-use crate::workload::{ACCESSES, BASE, QUIRKS, ROUNDS, TRIES, add_report, are_legal, plan};
+use crate::workload::{ACCESSES, BASE, QUIRKS, ROUNDS, TRIES, add_report, plan};
 use std::alloc::{AllocError, Global};
 use swd_host::{Report, run, run_block};
 use swd_port::Access;
@@ -18,10 +20,9 @@ fn reads(alloc: Global) -> Result<Vec<Access>, AllocError> {
 }
 
 // One run under these marks. None when out of memory.
-fn one_run(alloc: Global, plan: Vec<Mark>, block: bool) -> Option<Report> {
-    if !are_legal(&plan) {
-        return None;
-    }
+fn one_run(alloc: Global, plan: Vec<Mark>, block: bool) -> Option<Report>
+    requires { IsPlan plan.items }
+{
     let memory = Memory::new(alloc, BASE, WORDS, ACCESSES).ok()?;
     let mut bench = Bench::new(memory, QUIRKS, plan);
     if block {

@@ -1,5 +1,6 @@
 //! What is measured.
-ghost use Rattle.std.specs.Prelude.{IsTrue};
+ghost use Rattle.std.specs.Prelude.{IfOk};
+ghost use Rattle.swd_port.specs.Choices.{IsMark};
 ghost use Rattle.swd_target.specs.Marks.{IsPlan};
 
 use crate::random::{Random, SEED};
@@ -75,7 +76,9 @@ fn accesses(alloc: Global, random: Random) -> Result<Vec<Access>, AllocError> {
 }
 
 // The mark of a request: mostly none.
-fn next_mark(random: &mut Random) -> Mark {
+fn next_mark(random: &mut Random) -> Mark
+    ensures { IsMark result }
+{
     match random.below(128) {
         0 | 1 => Mark::Wait,
         2 => Mark::Flip(random.below(33) as u8),
@@ -84,7 +87,9 @@ fn next_mark(random: &mut Random) -> Mark {
 }
 
 /// The marks of a run.
-pub fn plan(alloc: Global, random: &mut Random) -> Result<Vec<Mark>, AllocError> {
+pub fn plan(alloc: Global, random: &mut Random) -> Result<Vec<Mark>, AllocError>
+    ensures { IfOk result (λ plan. IsPlan plan.items) }
+{
     let mut plan = Vec::with_capacity(alloc, MARKS as usize)?;
     for _ in 0..MARKS {
         plan.push(next_mark(random))?;
@@ -92,19 +97,9 @@ pub fn plan(alloc: Global, random: &mut Random) -> Result<Vec<Mark>, AllocError>
     Ok(plan)
 }
 
-/// The marks may stand in a plan.
-pub fn are_legal(marks: &[Mark]) -> bool
-    ensures { IsTrue result → IsPlan marks.now }
-{
-    marks.iter().all(|mark| mark.legal())
-}
-
 // One run of the list under other marks. None when out of memory.
 fn one_run(alloc: Global, accesses: &[Access], random: &mut Random) -> Option<Report> {
     let plan = plan(alloc, random).ok()?;
-    if !are_legal(&plan) {
-        return None;
-    }
     let memory = Memory::new(alloc, BASE, WORDS, ACCESSES).ok()?;
     let mut bench = Bench::new(memory, QUIRKS, plan);
     run(alloc, &mut bench, accesses, TRIES).ok()
@@ -113,9 +108,6 @@ fn one_run(alloc: Global, accesses: &[Access], random: &mut Random) -> Option<Re
 // The same clock by clock.
 fn one_clocked_run(alloc: Global, accesses: &[Access], random: &mut Random) -> Option<Report> {
     let plan = plan(alloc, random).ok()?;
-    if !are_legal(&plan) {
-        return None;
-    }
     let memory = Memory::new(alloc, BASE, WORDS, ACCESSES).ok()?;
     let mut bench = ClockedBench::new(alloc, memory, QUIRKS, plan).ok()?;
     run(alloc, &mut bench, accesses, TRIES).ok()
