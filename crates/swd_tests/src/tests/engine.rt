@@ -22,21 +22,21 @@ fn led_by(new: Engine) -> Engine {
 }
 
 /// What is seen after the request that is its cue.
-pub fn seen(engine: &mut Engine, seen: u8) {
+pub(super) fn seen(engine: &mut Engine, seen: u8) {
     if let Cue::Ask(_) = engine.cue() {
         engine.seen(seen % 8);
     }
 }
 
 /// The word that is read, where its cue is to take one.
-pub fn taken(engine: &mut Engine, word: u32) {
+pub(super) fn taken(engine: &mut Engine, word: u32) {
     if let Cue::Take = engine.cue() {
         engine.taken(data_bits(word));
     }
 }
 
 /// The turnaround, where that is its cue.
-pub fn passed(engine: &mut Engine) {
+pub(super) fn passed(engine: &mut Engine) {
     if let Cue::Pass = engine.cue() {
         engine.done();
     }
@@ -124,7 +124,7 @@ fn answered(engine: &mut Engine, word: u32) {
 }
 
 /// The engine once its opening was answered OK, with this word for CSW.
-pub fn opened(new: Engine, csw: u32) -> Engine {
+pub(super) fn opened(new: Engine, csw: u32) -> Engine {
     let mut engine = led_by(new);
     for word in [0x2ba0_1477, 0, 0, 0, 0, 0xf000_0000, 0, 0, csw] {
         answered(&mut engine, word);
@@ -185,7 +185,7 @@ fn a_fault_of_both_flags_or_none_confuses(rt: HostRuntime) {
 }
 
 /// One call of the wire, as the engine asks for it. False where it asks for none.
-pub fn goes_on(wire: &mut Bench, engine: &mut Engine) -> bool {
+pub(super) fn goes_on(wire: &mut Bench, engine: &mut Engine) -> bool {
     match (engine.cue(), wire.due()) {
         (
             Cue::Lead {
@@ -220,7 +220,7 @@ pub fn goes_on(wire: &mut Bench, engine: &mut Engine) -> bool {
 }
 
 /// Begins the access, where the engine may.
-pub fn starts(engine: &mut Engine, access: Access, following: Option<Access>) -> bool {
+pub(super) fn starts(engine: &mut Engine, access: Access, following: Option<Access>) -> bool {
     match engine.finished() {
         Some(Outcome::Opened | Outcome::Answered(_)) => {
             engine.start(access, following);

@@ -6,7 +6,7 @@ use swd_recorder::Recorder;
 use swd_trace::Item;
 
 /// A recorder over a wire. `None` where something is due there.
-pub fn recorder_over<W: Wire + Drop>(alloc: Global, wire: W) -> Option<Recorder<W>> {
+pub(super) fn recorder_over<W: Wire + Drop>(alloc: Global, wire: W) -> Option<Recorder<W>> {
     if wire.due() != Due::Nothing {
         return None;
     }
@@ -34,34 +34,34 @@ fn ended(byte: u8, end: TxEnd) -> Item {
 }
 
 /// The request was answered OK, and this word was read or written.
-pub fn moved(byte: u8, word: u32) -> Item {
+pub(super) fn moved(byte: u8, word: u32) -> Item {
     let parity_ok = true;
     ended(byte, TxEnd::Moved { word, parity_ok })
 }
 
 /// The request was answered OK, and this word was read, with wrong parity.
-pub fn damaged(byte: u8, word: u32) -> Item {
+pub(super) fn damaged(byte: u8, word: u32) -> Item {
     let parity_ok = false;
     ended(byte, TxEnd::Moved { word, parity_ok })
 }
 
 /// The request was answered WAIT.
-pub fn waited(byte: u8) -> Item {
+pub(super) fn waited(byte: u8) -> Item {
     ended(byte, TxEnd::Wait)
 }
 
 /// The request was answered FAULT.
-pub fn faulted(byte: u8) -> Item {
+pub(super) fn faulted(byte: u8) -> Item {
     ended(byte, TxEnd::Fault)
 }
 
 /// No acknowledgement was seen.
-pub fn lost(byte: u8, seen: u8) -> Item {
+pub(super) fn lost(byte: u8, seen: u8) -> Item {
     ended(byte, TxEnd::NoAck(seen))
 }
 
 /// How many bits an item was on the wire.
-pub fn bits(item: Item) -> u64 {
+pub(super) fn bits(item: Item) -> u64 {
     match item {
         Item::Reset(count) | Item::Idle(count) => count,
         Item::Switch => 16,

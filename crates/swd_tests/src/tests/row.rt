@@ -74,7 +74,7 @@ pub struct Run<'m, 'a> {
 
 /// These accesses under these marks, with a memory of sixteen words, room for sixteen transfers, and
 /// eight tries.
-pub fn run_of<'m, 'a>(marks: &'m [(usize, Mark)], accesses: &'a [Access]) -> Run<'m, 'a> {
+pub(super) fn run_of<'m, 'a>(marks: &'m [(usize, Mark)], accesses: &'a [Access]) -> Run<'m, 'a> {
     Run {
         words: 16,
         room: 16,
@@ -86,21 +86,21 @@ pub fn run_of<'m, 'a>(marks: &'m [(usize, Mark)], accesses: &'a [Access]) -> Run
 
 impl<'m, 'a> Run<'m, 'a> {
     /// The run with so many tries.
-    pub fn tries(self, tries: u32) -> Run<'m, 'a> {
+    pub(super) fn tries(self, tries: u32) -> Run<'m, 'a> {
         let mut run = self;
         run.tries = tries;
         run
     }
 
     /// The run over so many words.
-    pub fn words(self, words: u32) -> Run<'m, 'a> {
+    pub(super) fn words(self, words: u32) -> Run<'m, 'a> {
         let mut run = self;
         run.words = words;
         run
     }
 
     /// The run with room for so many transfers.
-    pub fn room(self, room: u32) -> Run<'m, 'a> {
+    pub(super) fn room(self, room: u32) -> Run<'m, 'a> {
         let mut run = self;
         run.room = room;
         run
@@ -118,7 +118,11 @@ pub struct Wanted<'a, 'l> {
 }
 
 /// Every access is answered so, with so many requests.
-pub fn whole<'a, 'l>(answers: &'a [Answer], requests: u64, log: &'l [Transfer]) -> Wanted<'a, 'l> {
+pub(super) fn whole<'a, 'l>(
+    answers: &'a [Answer],
+    requests: u64,
+    log: &'l [Transfer],
+) -> Wanted<'a, 'l> {
     Wanted {
         answers,
         begun: 0,
@@ -129,7 +133,7 @@ pub fn whole<'a, 'l>(answers: &'a [Answer], requests: u64, log: &'l [Transfer]) 
 }
 
 /// The run stops after these answers.
-pub fn stopped<'a, 'l>(
+pub(super) fn stopped<'a, 'l>(
     ended: End,
     answers: &'a [Answer],
     begun: u8,
@@ -145,7 +149,7 @@ pub fn stopped<'a, 'l>(
     }
 }
 
-pub fn read(addr: u32, word: u32) -> Transfer {
+pub(super) fn read(addr: u32, word: u32) -> Transfer {
     Transfer {
         read: true,
         addr,
@@ -153,7 +157,7 @@ pub fn read(addr: u32, word: u32) -> Transfer {
     }
 }
 
-pub fn written(addr: u32, word: u32) -> Transfer {
+pub(super) fn written(addr: u32, word: u32) -> Transfer {
     Transfer {
         read: false,
         addr,
@@ -162,7 +166,7 @@ pub fn written(addr: u32, word: u32) -> Transfer {
 }
 
 /// Each mark is legal.
-pub fn are_legal(marks: &[Mark]) -> bool
+pub(super) fn are_legal(marks: &[Mark]) -> bool
     ensures { IsTrue result → IsPlan marks.now }
 {
     marks.iter().all(|mark| mark.legal())
@@ -179,7 +183,11 @@ fn plan_of(alloc: Global, marks: &[(usize, Mark)]) -> Result<Vec<Mark>, Fail> {
 }
 
 /// The target of a run. None where a mark isn't legal.
-pub fn target_of<S: Simulated>(alloc: Global, run: &Run, quirks: Quirks) -> Result<Option<S>, Fail>
+pub(super) fn target_of<S: Simulated>(
+    alloc: Global,
+    run: &Run,
+    quirks: Quirks,
+) -> Result<Option<S>, Fail>
     ensures { IfOk result (λ found. IfSome found (λ target.
         (m : PlainMemory) × (S.Wire.port target ≡ made 0x2ba0_1477 m))) }
 {
@@ -193,7 +201,11 @@ pub fn target_of<S: Simulated>(alloc: Global, run: &Run, quirks: Quirks) -> Resu
 }
 
 /// The report of a run over a wire. None where something is due on it.
-pub fn report_of<W: Wire>(alloc: Global, wire: &mut W, run: &Run) -> Result<Option<Report>, Fail> {
+pub(super) fn report_of<W: Wire>(
+    alloc: Global,
+    wire: &mut W,
+    run: &Run,
+) -> Result<Option<Report>, Fail> {
     match wire.due() {
         Due::Nothing => Ok(Some(swd_host::run(alloc, wire, run.accesses, run.tries)?)),
         _ => Ok(None),
@@ -219,7 +231,7 @@ fn comes_out<S: Simulated + Drop, R: Abort>(
 }
 
 /// The report is as wanted, and so is what the target's memory logged.
-pub fn leaves<S: Simulated + Drop, R: Abort>(
+pub(super) fn leaves<S: Simulated + Drop, R: Abort>(
     rt: &R,
     row: usize,
     target: &mut S,
@@ -270,7 +282,11 @@ fn each_comes_out<S: Simulated + Drop, R: Abort>(
 }
 
 /// Each run comes out as it has to, over each simulated target, and with each choice of its quirks.
-pub fn all_come_out<R: Abort>(rt: &R, alloc: Global, rows: &[(Run, Wanted)]) -> Result<(), Fail> {
+pub(super) fn all_come_out<R: Abort>(
+    rt: &R,
+    alloc: Global,
+    rows: &[(Run, Wanted)],
+) -> Result<(), Fail> {
     for quirks in ALL_QUIRKS {
         each_comes_out::<Bench, R>(rt, alloc, rows, quirks)?;
         each_comes_out::<ClockedBench, R>(rt, alloc, rows, quirks)?;
