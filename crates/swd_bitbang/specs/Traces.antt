@@ -1,5 +1,5 @@
 -- The bits that went over a line, as they are kept. All of it is this project's choice.
-use Rattle.std.specs.Prelude.{ℕ, ◌≡◌, ◌≢◌, ◌⊎◌, Bool, true, false, List, [], ◌∷◌, ◌++◌}
+use Rattle.std.specs.Prelude.{ℕ, ◌≡◌, ◌⊎◌, Bool, true, false, List, [], ◌∷◌, ◌++◌}
 use Rattle.swd_bitbang.specs.declared.trace.Trace.{Trace}
 
 -- a level as a character: 0 or 1

@@ -1,5 +1,5 @@
 //! Transactions, and their bits.
-ghost use Rattle.std.specs.Prelude.{◌≡◌, ◌≢◌, ℕ, ◌^◌, ◌<◌, ◌≤◌, true, false, Bool, List, ◌++◌, [], IfSome, IfNone};
+ghost use Rattle.std.specs.Prelude.{◌≡◌, ◌^◌, ◌<◌, ◌≤◌, true, Bool, List, ◌++◌, [], IfSome, IfNone};
 ghost use Rattle.swd_bits.specs.Bits.{low_bits};
 ghost use Rattle.swd_bits.specs.BitLists.{bits_of, IsSpelled};
 ghost use Rattle.swd_bits.specs.Transactions.{spelling, ending, phase_with, Spells, IsTx, IsEnd, HasMoved, head, tail};

@@ -1,11 +1,10 @@
 -- In which cycles of a host nobody else drives the line.
 use Rattle.std.proofs.Common.{◌≡◌, ℕ, ◌+◌, Bool, true, false, refl, ap, ◌∙◌, arith, if◌then◌else◌}
-use Rattle.std.specs.Prelude.{◌==◌}
 use Rattle.std.proofs.lemmas.Bool.Decides.{nat_tests}
 use Rattle.swd_port.specs.declared.register.Register.{Register}
 use Rattle.swd_clocked.specs.declared.frame.Frame.{Frame}
 use Rattle.swd_clocked.specs.declared.frame.Frame.TheVariants.{Asks, Lost, High, Switches, Awaits}
-use Rattle.swd_clocked.specs.Frames.{contends, switching}
+use Rattle.swd_clocked.specs.Frames.{contends}
 
 -- a count that a cycle leaves as it was
 pub stays_on : (n m k a : ℕ) → m ≡ n → k ≡ m + a → a ≡ 0 → k ≡ n

@@ -15,7 +15,7 @@ use Rattle.swd_clocked.specs.declared.frame.Frame.{Frame}
 use Rattle.swd_clocked.specs.declared.frame.Frame.TheVariants.{Drives}
 use Rattle.swd_clocked.specs.declared.clocked.Clocked.{Clocked}
 use Rattle.swd_clocked.specs.Frames.{shifted, counted}
-use Rattle.swd_clocked.specs.Cycles.{Moved, DataCame, ByteCame}
+use Rattle.swd_clocked.specs.Cycles.{Moved, DataCame}
 
 -- eight ones are no request
 no_request_at : (ap read : Bool) (addr : Reg4) → request (record { ap = ap; read = read; addr = addr }) ≡ low_bits 8 255

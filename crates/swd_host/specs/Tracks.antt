@@ -27,7 +27,7 @@
 --     Checks    ABORT was written, or its data was damaged; CTRL/STAT is read again (Check)
 --     Resent    a word's parity was wrong; RESEND gives the word again (Resend)
 --     Within    the engine stopped: the memory is one that the accesses that are begun allow, now and later
-use Rattle.std.specs.Prelude.{ℕ, ◌≡◌, ◌≢◌, ◌+◌, ◌%◌, ◌^◌, ◌<◌, ◌≤◌, ◌⊎◌, ◌&&◌, ◌==◌, Bool, true}
+use Rattle.std.specs.Prelude.{ℕ, ◌≡◌, ◌≢◌, ◌+◌, ◌%◌, ◌^◌, ◌<◌, ◌≤◌, ◌⊎◌, ◌==◌, Bool, true}
 use Rattle.std.specs.Prelude.{false, if◌then◌else◌, Option, Some, None, max}
 use Rattle.swd_bits.specs.Bits.{bit}
 use Rattle.swd_port.specs.declared.access.Access.{Access}
@@ -603,10 +603,6 @@ TakenFor (Check p owed) (Some word) n b k s = Tells word s.target × Checks p ow
 TakenFor LastStatus (Some word) n b k s = ⊥
 TakenFor (Clear p owed) word n b k s = ⊥
 TakenFor job None n b k s = Before job (n + 1) b k s
-
-abbrev pub ValueOr : Place → Job → Option ℕ → ℕ → ℕ → Hand → Port → Type 0
-ValueOr p job (Some word) n b k s = Taken p word n b k s
-ValueOr p job None n b k s = Before job (n + 1) b k s
 
 -- the accesses that are begun once the request of a state is sent
 abbrev pub begun_once : State → Task → ℕ → ℕ

@@ -1,5 +1,5 @@
 //! The engine: what has to be sent next, from what was seen so far. It sends nothing itself.
-ghost use Rattle.std.specs.Prelude.{◌≡◌, ◌+◌, ◌<◌, ◌≤◌, ◌*◌, ◌^◌, ◌||◌, ℕ, true, false, None};
+ghost use Rattle.std.specs.Prelude.{◌≡◌, ◌+◌, ◌<◌, ◌≤◌, ◌*◌, ◌^◌, true, false, None};
 ghost use Rattle.swd_port.specs.declared.wire.Due.TheVariants.{Nothing};
 ghost use Rattle.swd_bits.specs.Phases.{word_in};
 ghost use Rattle.swd_port.specs.Port.{Port};
@@ -7,9 +7,8 @@ ghost use Rattle.swd_host.specs.Events.{Meets, MeetsRead, MeetsSent};
 ghost use Rattle.swd_host.specs.Early.{HearsEarly, ReadsEarly, SendsEarly};
 ghost use Rattle.swd_host.specs.Engines.{lead_cue, cue_of, finished_of, is_ahead, begun_of, is_ask, is_take, is_send};
 ghost use Rattle.swd_host.specs.Engines.{may_start, one_more, requests_of, tries_of, IsPhaseCue};
-ghost use Rattle.swd_host.specs.Tasks.{task_for};
 ghost use Rattle.swd_host.specs.Progress.{open_requests};
-ghost use Rattle.swd_host.specs.Turns.{IsNew, Starts, Sees, Lands, first_state, lands_from};
+ghost use Rattle.swd_host.specs.Turns.{IsNew, Starts, Sees, first_state, lands_from};
 ghost use Rattle.swd_host.specs.Tracks.{DueFits, HasRead, HasSent, Hears, Keeps, state_seen};
 
 use crate::outcome::{End, Outcome};

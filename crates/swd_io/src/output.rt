@@ -1,5 +1,5 @@
 //! Writing a text whole, and counting what went out.
-ghost use Rattle.std.specs.Prelude.{◌≡◌, ◌<◌, length, take, OnOk, IfErr};
+ghost use Rattle.std.specs.Prelude.{◌<◌, length, take, OnOk, IfErr};
 ghost use Rattle.std.specs.Io.KnownBytes.{Appends};
 
 use std::io;

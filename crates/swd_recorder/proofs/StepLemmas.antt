@@ -20,7 +20,7 @@ use Rattle.swd_recorder.specs.Chains.{place_behind, place_of, may_ask, may_reset
 use Rattle.swd_recorder.specs.Chains.{is_chained}
 use Rattle.swd_recorder.specs.Recordings.{Kept, with_items, Adds, lead_items, answered, ack_seen, unanswered, Refuses}
 use Rattle.swd_recorder.specs.Recordings.{RecordsLead, RecordsAsk, RecordsPhase, RecordsRefusal}
-use Rattle.swd_recorder.specs.Steps.{is_held, is_at, transactions, pending, is_placed, is_counted, is_refused}
+use Rattle.swd_recorder.specs.Steps.{is_held, is_at, transactions, pending, is_placed, is_counted}
 use Rattle.swd_recorder.specs.Steps.{EndsUnacknowledged}
 use Rattle.swd_recorder.proofs.ChainLemmas.{both, both_are, place_with, count_with, not_zero}
 use Rattle.swd_recorder.proofs.AddLemmas.{placed_one, counted, place_lead, count_lead, adds_most, adds_nothing}

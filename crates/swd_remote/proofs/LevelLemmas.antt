@@ -5,7 +5,7 @@ use Rattle.std.proofs.Common.{◌++◌, length, drop, get_or, map, sym, ap, ◌�
 use mir.Val.{bool_byte}
 use Rattle.std.specs.Prelude.{◌==◌, replicate}
 use Rattle.std.proofs.Math.Seq.{drop-cons, drop-length}
-use Rattle.std.proofs.Math.Nat.{pow-suc, pow-le-pow_right}
+use Rattle.std.proofs.Math.Nat.{pow-suc}
 use Rattle.swd_bits.specs.Bits.{low_bits, bit}
 use Rattle.swd_remote.specs.Characters.{levels, level_character, driven_clock, joined}
 

@@ -1,5 +1,5 @@
 -- Laws of a text on its way to a writer.
-use Rattle.std.proofs.Common.{◌≡◌, ℕ, ◌+◌, ◌<◌, Bool, true, false, List, [], ◌++◌, length, take, Option, sym, ap, ◌∙◌}
+use Rattle.std.proofs.Common.{◌≡◌, ℕ, ◌+◌, ◌<◌, Bool, false, List, [], ◌++◌, length, take, Option, sym, ap, ◌∙◌}
 use Rattle.std.proofs.Common.{subst, arith}
 use Rattle.std.proofs.Common.{append_assoc, append-nil}
 use Rattle.std.specs.Io.KnownBytes.{Appends}
@@ -64,16 +64,6 @@ pub of_carries : {W : Type 0} (contents : W → Option (List ℕ)) (flag : Bool)
     (text : List ℕ)
     → flag ≡ false → Carries contents start s text → OnItsWayBy flag contents start s text
 of_carries contents flag start s text e h = rw e h
-
-pub to_broken : {W : Type 0} (contents : W → Option (List ℕ)) (flag : Bool) (start : Option (List ℕ)) (s : Outgoing W)
-    (text : List ℕ)
-    → flag ≡ true → OnItsWayBy flag contents start s text → Breaks start (contents s.writer) text
-to_broken contents flag start s text e h = rw e at h
-
-pub of_broken : {W : Type 0} (contents : W → Option (List ℕ)) (flag : Bool) (start : Option (List ℕ)) (s : Outgoing W)
-    (text : List ℕ)
-    → flag ≡ true → Breaks start (contents s.writer) text → OnItsWayBy flag contents start s text
-of_broken contents flag start s text e h = rw e h
 
 -- nothing more
 pub no_longer : {W : Type 0} (contents : W → Option (List ℕ)) (start : Option (List ℕ)) (s : Outgoing W) (text : List ℕ)

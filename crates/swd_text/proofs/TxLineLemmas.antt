@@ -1,8 +1,8 @@
 -- The line of a transaction, by the number that holds its bits.
-use Rattle.std.proofs.Common.{◌≡◌, ℕ, zero, suc, ◌+◌, ◌-◌, ◌*◌, ◌/◌, ◌%◌, ◌^◌, ◌<◌, ◌≤◌, Bool, true, false}
+use Rattle.std.proofs.Common.{◌≡◌, ℕ, zero, suc, ◌+◌, ◌-◌, ◌/◌, ◌%◌, ◌^◌, ◌<◌, ◌≤◌, Bool, true, false}
 use Rattle.std.proofs.Common.{not, List, [], ◌∷◌}
 use Rattle.std.proofs.Common.{◌++◌, ◌&&◌, T, eqb, eqb→eq, length, take, get_or, nat_le, count_ones, refl, sym, ap, ◌∙◌}
-use Rattle.std.proofs.Common.{append_assoc, take_all, arith, inl, inr, eq-zero-or-pos}
+use Rattle.std.proofs.Common.{append_assoc, take_all, arith}
 use Rattle.std.specs.Prelude.{◌==◌, if◌then◌else◌}
 use Rattle.std.proofs.lemmas.List.{take_at, append-nil}
 use lib.Ieee.Fits.{and_l, and_r}

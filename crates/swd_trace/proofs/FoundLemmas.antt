@@ -21,7 +21,7 @@ use Rattle.swd_trace.specs.Stands.{Whole, stands, len_of}
 use Rattle.swd_trace.specs.Reading.{mode_after, reading, reading_of}
 use Rattle.swd_trace.specs.Held.{idle_items}
 use Rattle.swd_trace.specs.Spelled.{IsAcknowledged}
-use Rattle.swd_trace.proofs.NumberLemmas.{parted, low_mod, zeros_front, no_bits, trailing}
+use Rattle.swd_trace.proofs.NumberLemmas.{parted, low_mod, zeros_front, no_bits}
 use Rattle.swd_trace.proofs.GrammarLemmas.{ack_of, AfterRequest, len_of_least, len_of_most, whole_by_len, front_spelled}
 use Rattle.swd_trace.proofs.ReadingLemmas.{tx_law, idle_law}
 use Rattle.swd_trace.proofs.SpellingLemmas.{asked, spelled_stands, length_of, length_spelling}
@@ -108,10 +108,6 @@ more_zeros (suc m) n x =
 zeros_of : (one : Bool) (run : ℕ) → (0 < run → one ≡ false) → replicate run one ≡ replicate run false
 zeros_of one zero h = refl
 zeros_of one (suc run) h = ap (replicate (suc run)) (h (omega arith))
-
--- fewer than 64 zeros are at the front of a number that is not zero
-pub few_zeros : (v : ℕ) → 0 < v → v < 2 ^ 64 → count_trailing_zeros 64 v < 64
-few_zeros v h k = let r = trailing 64 64 v (omega arith) h k in r.within
 
 -- idle cycles, held and new, and a transaction
 pub found_read : (mode : Mode) (one : Bool) (run len held bits n : ℕ) (tx : Transaction) (spelled : List Bool) →

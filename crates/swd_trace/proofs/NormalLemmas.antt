@@ -2,11 +2,11 @@
 use Rattle.std.proofs.Common.{◌≡◌, ◌≢◌, ℕ, zero, suc, ◌+◌, ◌-◌, ◌<◌, ◌≤◌, Bool, List, [], ◌∷◌, ◌++◌, length}
 use Rattle.std.proofs.Common.{take, drop}
 use Rattle.std.proofs.Common.{drop-cons, get_or, append_assoc, sym, ap, ◌∙◌, subst, arith}
-use Rattle.std.proofs.lemmas.List.{append-nil, length-append, length-take, length-take-le, take_all, take_at, take-take}
+use Rattle.std.proofs.lemmas.List.{append-nil, length-append, length-take, length-take-le, take_at, take-take}
 use Rattle.swd_trace.specs.declared.item.Item.{Item}
 use Rattle.swd_trace.specs.declared.decoder.Decoder.{Decoder}
 use Rattle.swd_trace.specs.Held.{rest}
-use Rattle.swd_trace.specs.Listed.{IsLegal, AreLegal, IsNormal, DiffersFirst}
+use Rattle.swd_trace.specs.Listed.{IsLegal, AreLegal, DiffersFirst}
 use Rattle.swd_trace.specs.Normality.{Agrees, Differs, HasNext}
 use Rattle.swd_trace.specs.Reading.{reading_of}
 use Rattle.swd_trace.specs.Texts.{item_bits, bits_of_items}

@@ -1,5 +1,5 @@
 -- Laws of a decoder over a whole run.
-use Rattle.std.proofs.Common.{◌≡◌, List, Bool, [], ◌∷◌, ◌++◌, append_assoc, sym, ap, ◌∙◌}
+use Rattle.std.proofs.Common.{◌≡◌, List, Bool, [], ◌++◌, append_assoc, sym, ap, ◌∙◌}
 use Rattle.swd_trace.specs.declared.item.Item.{Item}
 use Rattle.swd_trace.specs.declared.decoder.Decoder.{Decoder}
 use Rattle.swd_trace.specs.Reading.{reading_of}

@@ -1,5 +1,5 @@
 //! Runs by the exports over both simulated targets, by worked values.
-ghost use Rattle.std.specs.Prelude.{◌≡◌, IsTrue};
+ghost use Rattle.std.specs.Prelude.{IsTrue};
 ghost use Rattle.swd_target.specs.Marks.{IsPlan};
 
 use super::driver::{

@@ -1,4 +1,4 @@
-use Rattle.std.proofs.Common.{◌<◌, ◌++◌, ◌∷◌, [], ap, ◌∙◌, subst, arith}
+use Rattle.std.proofs.Common.{◌<◌, ◌++◌, ap, ◌∙◌, subst, arith}
 use Rattle.swd_io.specs.Blocks.{Sends}
 use Rattle.swd_text.proofs.ListerLemmas.{idle_listed, no_idle_listed}
 use Rattle.swd_text.proofs.lister.put_idle.Goals as goal
