@@ -13,11 +13,8 @@ fn main(rt: HostRuntime) -> anyhow::Result<()> {
         filler: 0,
     };
     // The wire: here a simulated target. A probe's is a `Transport` of your own, under `swd_host::run_outside`.
-    let mut wire = Bench::new(
-        Memory::new(alloc, 0x2000_0000, 16, 16)?,
-        quirks,
-        Vec::new(alloc),
-    );
+    let memory = Memory::new(alloc, 0x2000_0000, 16, 16)?;
+    let mut wire = Bench::new(memory, quirks, Vec::new(alloc));
     let accesses = [
         Access::Write(0x2000_0000, 0xdead_beef),
         Access::Read(0x2000_0000),
