@@ -3,6 +3,7 @@ ghost use Rattle.std.specs.Prelude.{◌≤◌};
 
 use crate::whole::{BASE, Failure, IMAGE, writes};
 use std::alloc::Global;
+use swd_bits::{SWITCH, SWITCH_BITS};
 use swd_clocked::Clocked;
 use swd_host::{Cue, End, Engine, Outcome};
 use swd_port::{Access, Answer};
@@ -68,7 +69,7 @@ impl Pins {
             } => {
                 self.hold(true, ones);
                 if switch {
-                    self.send(0xe79e, 16);
+                    self.send(SWITCH, u32::from(SWITCH_BITS));
                     self.hold(true, ones);
                 }
                 self.hold(false, zeros);

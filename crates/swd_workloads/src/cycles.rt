@@ -3,7 +3,7 @@ ghost use Rattle.std.specs.Prelude.{◌≤◌};
 
 use crate::random::{Random, SEED};
 use std::alloc::Global;
-use swd_bits::data_bits;
+use swd_bits::{SWITCH, SWITCH_BITS, data_bits};
 use swd_clocked::Clocked;
 use swd_port::Register;
 use swd_target::{Memory, Quirks};
@@ -60,7 +60,7 @@ impl Host {
 
     fn open(&mut self) {
         self.send(0xff_ffff_ffff_ffff, 56);
-        self.send(0xe79e, 16);
+        self.send(SWITCH, u32::from(SWITCH_BITS));
         self.send(0xff_ffff_ffff_ffff, 56);
         self.send(0, 2);
         self.read(Register::DpidrRead);
