@@ -15,5 +15,4 @@ pub mod CallLaws
 pub mod AccessLaws
 mod NeverStuckLaws
 pub mod ReadLists
-mod WorkedLaws
-mod OpenWires
+pub mod WorkedLaws

@@ -29,6 +29,3 @@ pub use register::Register;
 pub use select::Select;
 pub use state::{Drw, Line, PowerUp, Reply, Reset};
 pub use wire::{Due, Wire};
-
-#[cfg(test)]
-mod tests;

@@ -5,9 +5,12 @@ use Rattle.std.specs.FinMap.{empty}
 use Rattle.swd_bits.specs.declared.request.Request.{Request}
 use Rattle.swd_port.specs.declared.wire.Due.{Due}
 use Rattle.swd_port.specs.declared.wire.Due.TheVariants.{Nothing, Lost}
-use Rattle.swd_port.specs.Port.{Port, Reset, Fresh, Idle, made_target}
+use Rattle.swd_port.specs.declared.state.Reset.{Reset}
+use Rattle.swd_port.specs.declared.state.Reset.TheVariants.{Fresh}
+use Rattle.swd_port.specs.declared.state.Line.TheVariants.{Idle}
+use Rattle.swd_port.specs.Port.{Port, made_target}
 use Rattle.swd_port.specs.Phases.{undriven}
-use Rattle.swd_port.specs.Choices.{Deaf}
+use Rattle.swd_port.specs.declared.mark.Mark.TheVariants.{Deaf}
 use Rattle.swd_port.specs.Asking.{Asks}
 use Rattle.swd_port.specs.Moving.{Takes, Gives, Passes}
 use Rattle.swd_port.specs.Leading.{Leads}

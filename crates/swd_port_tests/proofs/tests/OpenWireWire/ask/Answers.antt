@@ -1,8 +1,8 @@
 use Rattle.std.proofs.Common.{subst, sym}
 use Rattle.swd_port.specs.declared.wire.Due.TheVariants.{Lost}
 use Rattle.swd_port.specs.Asking.{Asks}
-use Rattle.swd_port.proofs.OpenWires.{open_port, open_asked}
-use Rattle.swd_port.proofs.tests.OpenWireWire.ask.Goals as goal
+use Rattle.swd_port_tests.proofs.OpenWires.{open_port, open_asked}
+use Rattle.swd_port_tests.proofs.tests.OpenWireWire.ask.Goals as goal
 
 pub returns-clause-step : goal.returns-clause-step
 returns-clause-step c = λ lawful.

@@ -1,6 +1,6 @@
 use Rattle.std.proofs.Common.{arith}
-use Rattle.swd_port.proofs.OpenWires.{open_reset, open_idle}
-use Rattle.swd_port.proofs.tests.OpenWireWire.lead.Goals as goal
+use Rattle.swd_port_tests.proofs.OpenWires.{open_reset, open_idle}
+use Rattle.swd_port_tests.proofs.tests.OpenWireWire.lead.Goals as goal
 
 pub returns-then-ones-ne0-clause-step : goal.returns-then-ones-ne0-clause-step
 returns-then-ones-ne0-clause-step c = λ lawful.

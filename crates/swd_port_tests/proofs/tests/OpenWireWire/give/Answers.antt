@@ -1,5 +1,5 @@
-use Rattle.swd_port.proofs.OpenWires.{open_given}
-use Rattle.swd_port.proofs.tests.OpenWireWire.give.Goals as goal
+use Rattle.swd_port_tests.proofs.OpenWires.{open_given}
+use Rattle.swd_port_tests.proofs.tests.OpenWireWire.give.Goals as goal
 
 pub returns-clause-step : goal.returns-clause-step
 returns-clause-step c = λ lawful.

@@ -1,3 +1,5 @@
+//! Registers by worked words, a wire with nothing at its other end, wires to the outside, and how accesses, marks and
+//! answers are written.
 ghost use Rattle.std.specs.Prelude.{◌≡◌, []};
 ghost use Rattle.std.specs.FinMap.{empty};
 ghost use Rattle.swd_port.specs.declared.state.Line.TheVariants.{Idle};
@@ -6,11 +8,14 @@ ghost use Rattle.swd_port.specs.Port.{made_target, made};
 
 mod expect;
 
-use super::*;
 use bitflags::Flags;
 use expect::{expect_at, expect_eq, expect_eq_at};
 use std::test::Fail;
 use swd_bits::{Request, word_of};
+use swd_port::{
+    Abort, Access, Answer, Count, Csw, CtrlStat, Due, Gone, Mark, Outside, Register, Reset, Select,
+    Story, Transport, Wire,
+};
 
 // A wire with nothing at its other end, where every bit reads 1. It keeps the law: no request is
 // seen.
@@ -79,51 +84,12 @@ fn identification<W: Wire>(wire: &mut W) -> Option<u32>
 }
 
 #[test]
-fn a_register_keeps_the_bits_that_it_names(rt: HostRuntime) {
-    expect_eq(&rt, &Abort::of(0xffff_ffff).bits(), &0x0000_001f);
-    expect_eq(&rt, &CtrlStat::of(0xffff_ffff).bits(), &0xfcff_ffff);
-    expect_eq(&rt, &Select::of(0x1234_5678).bits(), &0x1200_0078);
-    for (word, kept) in [(0x2300_0052, 0x2300_0052), (0xffff_ffff, 0x7f00_00f7)] {
-        expect_eq(&rt, &Csw::of(word).bits(), &kept);
-    }
-}
-
-#[test]
-fn a_named_bit_is_where_the_standard_has_it(rt: HostRuntime) {
-    for (flag, word) in [
-        (Abort::DAPABORT, 1),
-        (Abort::STKCMPCLR, 2),
-        (Abort::STKERRCLR, 4),
-        (Abort::WDERRCLR, 8),
-        (Abort::ORUNERRCLR, 16),
-        (Abort::STKERRCLR | Abort::WDERRCLR, 12),
-    ] {
-        expect_eq(&rt, &flag.bits(), &word);
-    }
-    for (flag, word) in [
-        (CtrlStat::STICKYERR, 0x20),
-        (CtrlStat::READOK, 0x40),
-        (CtrlStat::WDATAERR, 0x80),
-        (CtrlStat::CDBGPWRUPREQ, 0x1000_0000),
-        (CtrlStat::CDBGPWRUPACK, 0x2000_0000),
-        (CtrlStat::CSYSPWRUPREQ, 0x4000_0000),
-        (CtrlStat::CSYSPWRUPACK, 0x8000_0000),
-    ] {
-        expect_eq(&rt, &flag.bits(), &word);
-    }
-    assert!(rt; CtrlStat::of(0xf000_0080).contains(CtrlStat::WDATAERR));
-    assert!(rt; !CtrlStat::of(0xf000_0040).contains(CtrlStat::WDATAERR));
-}
-
-#[test]
-fn fields_stand_at_their_places(rt: HostRuntime) {
+fn registers_have_the_bits_of_the_standard(rt: HostRuntime) {
     let select = Select {
         apsel: 0x12,
         apbanksel: 0x7,
         dpbanksel: 0x8,
     };
-    expect_eq(&rt, &Select::of(0x1234_5678), &select);
-    expect_eq(&rt, &select.bits(), &0x1200_0078);
     let csw = Csw {
         size: 2,
         addr_inc: 1,
@@ -131,8 +97,45 @@ fn fields_stand_at_their_places(rt: HostRuntime) {
         tr_in_prog: false,
         upper: 0x23,
     };
+    for (name, bits, wanted) in [
+        // What is kept of a word.
+        ("ABORT of ones", Abort::of(0xffff_ffff).bits(), 0x0000_001f),
+        (
+            "CTRL/STAT of ones",
+            CtrlStat::of(0xffff_ffff).bits(),
+            0xfcff_ffff,
+        ),
+        ("SELECT", Select::of(0x1234_5678).bits(), 0x1200_0078),
+        ("CSW", Csw::of(0x2300_0052).bits(), 0x2300_0052),
+        ("CSW of ones", Csw::of(0xffff_ffff).bits(), 0x7f00_00f7),
+        // Where a named bit is.
+        ("DAPABORT", Abort::DAPABORT.bits(), 1),
+        ("STKCMPCLR", Abort::STKCMPCLR.bits(), 2),
+        ("STKERRCLR", Abort::STKERRCLR.bits(), 4),
+        ("WDERRCLR", Abort::WDERRCLR.bits(), 8),
+        ("ORUNERRCLR", Abort::ORUNERRCLR.bits(), 16),
+        (
+            "both clearings",
+            (Abort::STKERRCLR | Abort::WDERRCLR).bits(),
+            12,
+        ),
+        ("STICKYERR", CtrlStat::STICKYERR.bits(), 0x20),
+        ("READOK", CtrlStat::READOK.bits(), 0x40),
+        ("WDATAERR", CtrlStat::WDATAERR.bits(), 0x80),
+        ("CDBGPWRUPREQ", CtrlStat::CDBGPWRUPREQ.bits(), 0x1000_0000),
+        ("CDBGPWRUPACK", CtrlStat::CDBGPWRUPACK.bits(), 0x2000_0000),
+        ("CSYSPWRUPREQ", CtrlStat::CSYSPWRUPREQ.bits(), 0x4000_0000),
+        ("CSYSPWRUPACK", CtrlStat::CSYSPWRUPACK.bits(), 0x8000_0000),
+        // Where a field is.
+        ("SELECT of its fields", select.bits(), 0x1200_0078),
+        ("CSW of its fields", csw.bits(), 0x2300_0052),
+    ] {
+        expect_eq_at(&rt, &name, &bits, &wanted);
+    }
+    assert!(rt; CtrlStat::of(0xf000_0080).contains(CtrlStat::WDATAERR));
+    assert!(rt; !CtrlStat::of(0xf000_0040).contains(CtrlStat::WDATAERR));
+    expect_eq(&rt, &Select::of(0x1234_5678), &select);
     expect_eq(&rt, &Csw::of(0x2300_0052), &csw);
-    expect_eq(&rt, &csw.bits(), &0x2300_0052);
 }
 
 #[test]
@@ -309,7 +312,7 @@ fn nothing_is_sent_once_the_other_end_went_away(rt: HostRuntime) {
 }
 
 #[test]
-fn accesses_and_marks_are_lines_of_a_script_and_a_plan(rt: HostRuntime) -> Result<(), Fail> {
+fn accesses_marks_and_answers_are_written_as_in_texts(rt: HostRuntime) -> Result<(), Fail> {
     for (access, line) in [
         (Access::Read(0x2000_0000), "r 20000000"),
         (Access::Write(0x10, 0xdead_beef), "w 00000010 deadbeef"),
@@ -325,11 +328,6 @@ fn accesses_and_marks_are_lines_of_a_script_and_a_plan(rt: HostRuntime) -> Resul
     ] {
         expect_eq(&rt, &format!(in rt.alloc(); "{mark}")?.as_str(), &line);
     }
-    Ok(())
-}
-
-#[test]
-fn answers_have_the_words_of_a_report(rt: HostRuntime) -> Result<(), Fail> {
     for (answer, words) in [
         (Answer::Value(0x0000_00ff), "000000ff"),
         (Answer::Written, "written"),
