@@ -35,6 +35,7 @@ pub(super) fn plan_in<A: Allocator>(
 }
 
 // A call of a script: its accesses, the address of its block, and the words that are told of its reads.
+#[derive(Clone, Copy)]
 struct Call {
     accesses: &'static [Access],
     block: Option<u32>,
@@ -42,6 +43,7 @@ struct Call {
 }
 
 // What a text says.
+#[derive(Clone, Copy)]
 struct Said {
     name: &'static str,
     text: &'static [u8],
@@ -249,10 +251,10 @@ fn is_said<R: Abort>(rt: &R, row: &Said, cut: usize, script: &Script<Global>) {
 
 #[test]
 fn a_script_is_read_however_it_is_cut(rt: HostRuntime) {
-    for row in &SCRIPTS {
+    for row in SCRIPTS {
         for cut in 0..=row.text.len() {
             match script_in(rt.alloc(), row.text, cut) {
-                Ok(script) => is_said(&rt, row, cut, &script),
+                Ok(script) => is_said(&rt, &row, cut, &script),
                 Err(fault) => panic!(rt; "{}, cut at {cut}: {fault:?}", row.name),
             }
         }
@@ -291,6 +293,14 @@ fn a_script_has_long_calls(rt: HostRuntime) -> Result<(), Fail> {
     Ok(())
 }
 
+// The accesses of a script's first call.
+fn accesses<A: Allocator>(script: &Script<A>) -> &[Access] {
+    match script.batches.as_slice().first() {
+        Some(batch) => batch.accesses.as_slice(),
+        None => &[],
+    }
+}
+
 // Pieces of a text, each so many times over.
 fn take_all(reader: &mut ScriptReader<Global>, pieces: &[(&[u8], u32)]) -> Result<(), ScriptFault> {
     for (piece, times) in pieces {
@@ -316,13 +326,7 @@ fn a_script_comes_in_many_pieces(rt: HostRuntime) -> Result<(), Fail> {
     let mut reader = ScriptReader::new(rt.alloc());
     take_all(&mut reader, &LONG_LINE)?;
     let script = reader.finish()?;
-    let told = script
-        .batches
-        .as_slice()
-        .iter()
-        .map(|batch| batch.accesses.as_slice())
-        .next();
-    expect_eq(&rt, &told, &Some([Access::Read(8)].as_slice()));
+    expect_eq(&rt, &accesses(&script), &[Access::Read(8)].as_slice());
     // A further access is one too many.
     let mut reader = ScriptReader::new(rt.alloc());
     take_all(&mut reader, &MANY_LINES)?;
@@ -390,15 +394,7 @@ fn each_growth_of_a_script_is_refused(rt: HostRuntime) -> Result<(), Fail> {
             3,
         ) {
             Ok(script) => {
-                expect_eq(
-                    &rt,
-                    &script
-                        .batches
-                        .as_slice()
-                        .first()
-                        .map(|batch| batch.accesses.len()),
-                    &Some(202),
-                );
+                expect_eq(&rt, &accesses(&script).len(), &202);
                 expect_eq(&rt, &script.batches.len(), &2);
             }
             Err(ScriptFault::Memory { line: 3..=8 }) => refused = refused.saturating_add(1),
