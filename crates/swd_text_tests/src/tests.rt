@@ -2,6 +2,7 @@
 mod cuts;
 mod expect;
 mod pieces;
+mod refused;
 mod scripts;
 mod slow;
 mod traces;

@@ -1,5 +1,5 @@
 //! Cycles, one after the other.
-use super::expect::expect_eq;
+use super::expect::{expect_eq, expect_eq_at};
 use super::parts::{Part, failing};
 use super::recorded::RUN;
 use std::alloc::Global;
@@ -77,17 +77,19 @@ const HELD: [Part; 4] = [
     Part::Seen(b"1100"),
 ];
 
-#[test]
-fn dpidr_is_read_after_a_line_reset(rt: HostRuntime) -> Result<(), Fail> {
-    let mut target = target(rt.alloc())?;
-    expect_eq(&rt, &failing(&mut target, &IDENTIFICATION), &None);
-    Ok(())
-}
+// What stands on the line of a new target.
+const RUNS: [(&str, &[Part]); 3] = [
+    ("DPIDR is read after a line reset", &IDENTIFICATION),
+    ("forty-nine ones are no line reset", &FEW),
+    ("a recorded run is answered as it was recorded", &RUN),
+];
 
 #[test]
-fn forty_nine_ones_are_no_line_reset(rt: HostRuntime) -> Result<(), Fail> {
-    let mut target = target(rt.alloc())?;
-    expect_eq(&rt, &failing(&mut target, &FEW), &None);
+fn a_new_target_answers_each_run(rt: HostRuntime) -> Result<(), Fail> {
+    for (name, parts) in RUNS {
+        let mut target = target(rt.alloc())?;
+        expect_eq_at(&rt, &name, &failing(&mut target, parts), &None);
+    }
     Ok(())
 }
 
@@ -113,13 +115,6 @@ fn a_held_target_answers_wait(rt: HostRuntime) -> Result<(), Fail> {
     expect_eq(&rt, &failing(&mut target, &IDENTIFICATION), &None);
     target.hold(true);
     expect_eq(&rt, &failing(&mut target, &HELD), &None);
-    Ok(())
-}
-
-#[test]
-fn a_recorded_run_is_answered_as_it_was_recorded(rt: HostRuntime) -> Result<(), Fail> {
-    let mut target = target(rt.alloc())?;
-    expect_eq(&rt, &failing(&mut target, &RUN), &None);
     Ok(())
 }
 

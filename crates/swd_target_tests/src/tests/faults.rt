@@ -86,19 +86,48 @@ const DAMAGED: [Part; 20] = [
     CTRL_STAT,
 ];
 
-#[test]
-fn a_fault_is_driven_until_it_is_cleared(rt: HostRuntime) -> Result<(), Fail> {
-    let mut target = target(rt.alloc())?;
-    expect_eq(&rt, &failing(&mut target, &FAULTS), &None);
-    Ok(())
-}
+// A write of SELECT whose data is awaited.
+const BEGUN: [Part; 6] = [Part::Ones(50), LOW, DPIDR, IDENTIFIED, SELECT, OKAY];
+
+// What stands on the line of a new target, in stretches.
+const RUNS: [(&str, &[&[Part]]); 4] = [
+    ("a fault is driven until it is cleared", &[&FAULTS]),
+    (
+        "damaged data is not written",
+        &[
+            &DAMAGED,
+            &[Part::Seen(b"11000000000000000000000000000000000001")],
+        ],
+    ),
+    // Write data that is awaited is taken from the ones of a line reset: 33 of them, whose parity is wrong.
+    (
+        "too few ones are left behind the data",
+        &[&BEGUN, &[Part::Ones(82), LOW, DPIDR, SILENCE]],
+    ),
+    (
+        "ones fill a write that is awaited",
+        &[
+            &BEGUN,
+            &[Part::Ones(83)],
+            &[
+                LOW,
+                DPIDR,
+                IDENTIFIED,
+                CTRL_STAT,
+                Part::Seen(b"11000000000100000000000000000000000011"),
+            ],
+        ],
+    ),
+];
 
 #[test]
-fn damaged_data_is_not_written(rt: HostRuntime) -> Result<(), Fail> {
-    let mut target = target(rt.alloc())?;
-    expect_eq(&rt, &failing(&mut target, &DAMAGED), &None);
-    let cleared = [Part::Seen(b"11000000000000000000000000000000000001")];
-    expect_eq(&rt, &failing(&mut target, &cleared), &None);
+fn a_new_target_answers_each_run_with_a_fault(rt: HostRuntime) -> Result<(), Fail> {
+    for (name, stretches) in RUNS {
+        let mut target = target(rt.alloc())?;
+        for (index, parts) in stretches.iter().enumerate() {
+            expect_eq_at(&rt, &(name, index), &failing(&mut target, parts), &None);
+        }
+    }
     Ok(())
 }
 
@@ -132,27 +161,5 @@ fn ones_of_broken_requests_count(rt: HostRuntime) -> Result<(), Fail> {
             expect_eq_at(&rt, &(least, ones), &failing(&mut target, &after), &None);
         }
     }
-    Ok(())
-}
-
-// Write data that is awaited is taken from the ones of a line reset: 33 of them, whose parity is wrong.
-#[test]
-fn ones_fill_a_write_that_is_awaited(rt: HostRuntime) -> Result<(), Fail> {
-    let begun = [Part::Ones(50), LOW, DPIDR, IDENTIFIED, SELECT, OKAY];
-    let damaged = [
-        LOW,
-        DPIDR,
-        IDENTIFIED,
-        CTRL_STAT,
-        Part::Seen(b"11000000000100000000000000000000000011"),
-    ];
-    let mut short = target(rt.alloc())?;
-    expect_eq(&rt, &failing(&mut short, &begun), &None);
-    let after = [Part::Ones(82), LOW, DPIDR, SILENCE];
-    expect_eq(&rt, &failing(&mut short, &after), &None);
-    let mut long = target(rt.alloc())?;
-    expect_eq(&rt, &failing(&mut long, &begun), &None);
-    expect_eq(&rt, &failing(&mut long, &[Part::Ones(83)]), &None);
-    expect_eq(&rt, &failing(&mut long, &damaged), &None);
     Ok(())
 }

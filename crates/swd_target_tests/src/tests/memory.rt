@@ -1,5 +1,5 @@
 //! A memory is made, or refused.
-use super::expect::expect_eq;
+use super::expect::{expect_eq, expect_eq_at};
 use linked_list_allocator::LocalHeap;
 use std::alloc::Global;
 use std::test::Fail;
@@ -8,48 +8,118 @@ use swd_port::{Access, Answer, Register, Transfer};
 use swd_target::port::Target;
 use swd_target::{MakeFault, Memory, Quirks};
 
+// A memory that is made, and the words that it has then, or is refused.
+struct Making {
+    name: &'static str,
+    base: u32,
+    words: u32,
+    room: u32,
+    fault: Option<MakeFault>,
+    found: &'static [(u32, Option<u32>)],
+}
+
+const MADE: [Making; 10] = [
+    Making {
+        name: "no multiple of four, and no words",
+        base: 0x2000_0002,
+        words: 0,
+        room: 0,
+        fault: Some(MakeFault::Base),
+        found: &[],
+    },
+    Making {
+        name: "no multiple of four, and words past the end",
+        base: 0xffff_fffe,
+        words: 16,
+        room: 0,
+        fault: Some(MakeFault::Base),
+        found: &[],
+    },
+    Making {
+        name: "no words at the last address",
+        base: 0xffff_fffc,
+        words: 0,
+        room: 0,
+        fault: Some(MakeFault::Empty),
+        found: &[],
+    },
+    Making {
+        name: "no words",
+        base: 0x2000_0000,
+        words: 0,
+        room: 0,
+        fault: Some(MakeFault::Empty),
+        found: &[],
+    },
+    Making {
+        name: "a word behind the last",
+        base: 0xffff_fffc,
+        words: 2,
+        room: 0,
+        fault: Some(MakeFault::Range),
+        found: &[],
+    },
+    Making {
+        name: "2^30 words that don't begin at 0",
+        base: 0x0000_0004,
+        words: 0x4000_0000,
+        room: 0,
+        fault: Some(MakeFault::Range),
+        found: &[],
+    },
+    Making {
+        name: "the last word",
+        base: 0xffff_fffc,
+        words: 1,
+        room: 0,
+        fault: None,
+        found: &[],
+    },
+    Making {
+        name: "sixteen words",
+        base: 0x2000_0000,
+        words: 16,
+        room: 0,
+        fault: None,
+        found: &[],
+    },
+    Making {
+        name: "sixteen zero words and an empty log",
+        base: 0x2000_0000,
+        words: 16,
+        room: 16,
+        fault: None,
+        found: &[
+            (0x2000_0000, Some(0)),
+            (0x2000_003c, Some(0)),
+            (0x2000_0002, None),
+            (0x2000_0040, None),
+            (0x1fff_fffc, None),
+        ],
+    },
+    Making {
+        name: "a script's greatest memory",
+        base: 0x2000_0000,
+        words: 65_536,
+        room: 65_536,
+        fault: None,
+        found: &[(0x2003_fffc, Some(0)), (0x2004_0000, None)],
+    },
+];
+
 #[test]
 fn a_memory_is_made_or_refused_in_order(rt: HostRuntime) {
-    let cases = [
-        (0x2000_0002, 0, Some(MakeFault::Base)),
-        (0xffff_fffe, 16, Some(MakeFault::Base)),
-        (0xffff_fffc, 0, Some(MakeFault::Empty)),
-        (0x2000_0000, 0, Some(MakeFault::Empty)),
-        (0xffff_fffc, 2, Some(MakeFault::Range)),
-        (0x0000_0004, 0x4000_0000, Some(MakeFault::Range)),
-        (0xffff_fffc, 1, None),
-        (0x2000_0000, 16, None),
-    ];
-    for (base, words, fault) in cases {
-        let made = Memory::new(rt.alloc(), base, words, 0).err();
-        expect_eq(&rt, &made, &fault);
-    }
-}
-
-#[test]
-fn a_memory_begins_with_zero_words_and_an_empty_log(rt: HostRuntime) {
-    let Ok(memory) = Memory::new(rt.alloc(), 0x2000_0000, 16, 16) else {
-        panic!(rt; "no memory");
-    };
-    for (addr, word) in [
-        (0x2000_0000, Some(0)),
-        (0x2000_003c, Some(0)),
-        (0x2000_0002, None),
-        (0x2000_0040, None),
-        (0x1fff_fffc, None),
-    ] {
-        expect_eq(&rt, &memory.word(addr), &word);
-    }
-    assert!(rt; memory.log().is_empty());
-}
-
-#[test]
-fn a_memory_is_made_at_its_greatest_use(rt: HostRuntime) {
-    let Ok(memory) = Memory::new(rt.alloc(), 0x2000_0000, 65_536, 65_536) else {
-        panic!(rt; "no memory");
-    };
-    for (addr, word) in [(0x2003_fffc, Some(0)), (0x2004_0000, None)] {
-        expect_eq(&rt, &memory.word(addr), &word);
+    for row in &MADE {
+        match Memory::new(rt.alloc(), row.base, row.words, row.room) {
+            Ok(memory) => {
+                expect_eq_at(&rt, &row.name, &None, &row.fault);
+                for (addr, word) in row.found {
+                    expect_eq_at(&rt, &(row.name, *addr), &memory.word(*addr), word);
+                }
+                expect_eq_at(&rt, &row.name, &memory.log().is_empty(), &true);
+            }
+            Err(fault) => expect_eq_at(&rt, &row.name, &Some(fault), &row.fault),
+        }
     }
 }
 

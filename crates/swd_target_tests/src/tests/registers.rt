@@ -1,6 +1,7 @@
 //! Registers by worked values: requests at a target, one after the other.
-use super::expect::{expect_at, expect_eq};
+use super::expect::expect_at;
 use std::alloc::Global;
+use std::fmt::Debug;
 use std::process::Abort;
 use std::test::Fail;
 use swd_bits::{Request, data_bits, word_of};
@@ -60,6 +61,12 @@ enum Step {
     Replied(u8, Reply),
     // It is answered so where WAIT is asked for.
     Held(u8, Reply),
+    // The memory has this word there.
+    Word(u32, u32),
+    // No transfer was logged.
+    NoTransfer,
+    // The steps of the case that is tried.
+    Case,
 }
 
 // A line reset, a DPIDR read, power, and a CSW with auto-increment.
@@ -102,7 +109,7 @@ fn write(target: &mut Target, byte: u8, word: u32, flip: Option<u8>) -> bool {
     true
 }
 
-// Whether a step goes as it says.
+// Whether a step goes as it says. A case's own steps are others.
 fn goes(target: &mut Target, step: Step) -> bool {
     match step {
         Step::LineReset => {
@@ -114,53 +121,502 @@ fn goes(target: &mut Target, step: Step) -> bool {
         Step::Damaged(byte) => write(target, byte, 0, Some(5)),
         Step::Replied(byte, wanted) => reply(target, byte, false) == Some(wanted),
         Step::Held(byte, wanted) => reply(target, byte, true) == Some(wanted),
+        Step::Word(addr, word) => target.memory().word(addr) == Some(word),
+        Step::NoTransfer => target.memory().log().is_empty(),
+        Step::Case => false,
     }
 }
 
-// All steps go as they say.
-fn all_go<R: Abort>(rt: &R, target: &mut Target, steps: &[Step]) {
+// All steps go as they say, at a place that is told with the first that doesn't.
+fn all_go<R: Abort, P: Debug>(rt: &R, place: &P, target: &mut Target, steps: &[Step]) {
     for (index, step) in steps.iter().enumerate() {
-        expect_at(rt, &index, goes(target, *step));
+        expect_at(rt, &(place, index), goes(target, *step));
     }
 }
 
-// A target with so many words from this address, before any line reset.
-fn made(alloc: Global, base: u32, words: u32, wrap: bool) -> Result<Target, Fail> {
-    let memory = Memory::new(alloc, base, words, 16)?;
+// So many words from this address.
+#[derive(Clone, Copy)]
+struct Words {
+    base: u32,
+    words: u32,
+    wrap: bool,
+}
+
+const SIXTEEN_WORDS: Words = Words {
+    base: 0x2000_0000,
+    words: 16,
+    wrap: true,
+};
+
+// A target with these words, before any line reset.
+fn made(alloc: Global, words: Words) -> Result<Target, Fail> {
+    let memory = Memory::new(alloc, words.base, words.words, 16)?;
     let quirks = Quirks {
-        wrap,
+        wrap: words.wrap,
         late: false,
         filler: FILLER,
     };
     Ok(Target::new(memory, quirks))
 }
 
-fn sixteen_words(alloc: Global) -> Result<Target, Fail> {
-    made(alloc, 0x2000_0000, 16, true)
+// Steps at a new target, once for each case.
+struct Row {
+    name: &'static str,
+    made: Words,
+    opening: &'static [Step],
+    steps: &'static [Step],
+    cases: &'static [&'static [Step]],
 }
 
-// With power and auto-increment.
-fn up<R: Abort>(rt: &R, alloc: Global) -> Result<Target, Fail> {
-    let mut target = sixteen_words(alloc)?;
-    all_go(rt, &mut target, &UP);
-    Ok(target)
-}
+// No step differs: one case.
+const ONE: &[&[Step]] = &[&[]];
+
+const OVER_THE_END: [Step; 9] = [
+    Step::Write(TAR, 0xffff_fff8),
+    Step::Write(DRW, 0x0000_0001),
+    Step::Read(TAR_READ, FILLER),
+    Step::Read(RDBUFF, 0xffff_fffc),
+    Step::Write(DRW, 0x0000_0002),
+    Step::Read(TAR_READ, FILLER),
+    Step::Case,
+    Step::Word(0xffff_fff8, 1),
+    Step::Word(0xffff_fffc, 2),
+];
+
+const ROWS: [Row; 16] = [
+    Row {
+        name: "only DPIDR is answered after a line reset",
+        made: SIXTEEN_WORDS,
+        opening: &[],
+        steps: &[
+            Step::Replied(DP_READ[0], Reply::Silent),
+            Step::Replied(DP_READ[1], Reply::Silent),
+            Step::Replied(DP_READ[2], Reply::Silent),
+            Step::Replied(DP_READ[3], Reply::Silent),
+            Step::LineReset,
+            Step::Replied(STATUS, Reply::Silent),
+            Step::Replied(RESEND, Reply::Silent),
+            Step::Replied(RDBUFF, Reply::Silent),
+            Step::Replied(ABORT, Reply::Silent),
+            Step::Replied(CONTROL, Reply::Silent),
+            Step::Replied(SELECT, Reply::Silent),
+            Step::Replied(CSW_READ, Reply::Silent),
+            Step::Read(DPIDR, IDENTIFICATION),
+            Step::Read(STATUS, 0x0000_0000),
+        ],
+        cases: ONE,
+    },
+    // What stands at address 4 of another bank may get WAIT and FAULT; CTRL/STAT may not.
+    Row {
+        name: "exempt requests are those of bank 0",
+        made: SIXTEEN_WORDS,
+        opening: &[],
+        steps: &[
+            Step::LineReset,
+            Step::Read(DPIDR, IDENTIFICATION),
+            Step::Held(STATUS, Reply::Okay),
+            Step::Held(CONTROL, Reply::Waits),
+            Step::Write(SELECT, 0x0000_0001),
+            Step::Held(STATUS, Reply::Waits),
+            Step::Held(CONTROL, Reply::Waits),
+            Step::Held(DPIDR, Reply::Okay),
+            Step::Held(ABORT, Reply::Okay),
+            // An access port's request without power sets STICKYERR.
+            Step::Replied(CSW_READ, Reply::Faults),
+            Step::Replied(STATUS, Reply::Faults),
+            Step::Replied(CONTROL, Reply::Faults),
+            Step::Held(STATUS, Reply::Faults),
+            Step::Replied(SELECT, Reply::Faults),
+            Step::Replied(RESEND, Reply::Faults),
+            Step::Write(ABORT, 0x0000_0004),
+            Step::Read(STATUS, 0x0000_0000),
+            Step::Write(SELECT, 0x0000_0000),
+            Step::Read(STATUS, 0x0000_0000),
+        ],
+        cases: ONE,
+    },
+    Row {
+        name: "a write of the debug port's address c is ignored",
+        made: SIXTEEN_WORDS,
+        opening: &UP,
+        steps: &[
+            Step::Read(CSW_READ, FILLER),
+            Step::Read(RDBUFF, 0x2300_0052),
+            Step::Case,
+            Step::Held(DP_WRITE[3], Reply::Waits),
+            Step::Write(DP_WRITE[3], 0xffff_ffff),
+            // It is no access port's write: the last returned value stays.
+            Step::Read(RESEND, 0x2300_0052),
+            Step::Write(SELECT, 0x0000_0000),
+            Step::Read(STATUS, 0xf000_0040),
+            Step::Read(CSW_READ, FILLER),
+            Step::Write(DP_WRITE[3], 0x0000_0000),
+            // So does the read buffer.
+            Step::Read(TAR_READ, 0x2300_0052),
+            Step::Read(RDBUFF, 0x0000_0000),
+            Step::Write(CONTROL, 0x0000_0000),
+            Step::Replied(CSW_READ, Reply::Faults),
+            Step::Replied(DP_WRITE[3], Reply::Faults),
+        ],
+        cases: &[
+            &[Step::Write(SELECT, 0x0000_0000)],
+            &[Step::Write(SELECT, 0x0000_000f)],
+        ],
+    },
+    // Another access port, and another bank of this one, read 0 and ignore what is written.
+    Row {
+        name: "other access ports and banks are nothing",
+        made: SIXTEEN_WORDS,
+        opening: &UP,
+        steps: &[
+            Step::Write(TAR, 0x2000_0004),
+            Step::Case,
+            Step::Read(AP_READ[0], FILLER),
+            Step::Read(AP_READ[0], 0x0000_0000),
+            Step::Read(AP_READ[1], 0x0000_0000),
+            Step::Read(AP_READ[2], 0x0000_0000),
+            Step::Read(AP_READ[3], 0x0000_0000),
+            Step::Read(RDBUFF, 0x0000_0000),
+            Step::Write(AP_WRITE[0], 0x2000_0008),
+            Step::Write(AP_WRITE[1], 0x2000_0008),
+            Step::Write(AP_WRITE[2], 0x2000_0008),
+            Step::Write(AP_WRITE[3], 0x2000_0008),
+            Step::Write(SELECT, 0x0000_0000),
+            Step::Read(STATUS, 0xf000_0040),
+            Step::Read(CSW_READ, FILLER),
+            Step::Read(TAR_READ, 0x2300_0052),
+            Step::Read(RDBUFF, 0x2000_0004),
+            Step::NoTransfer,
+        ],
+        cases: &[
+            &[Step::Write(SELECT, 0x0000_0010)],
+            &[Step::Write(SELECT, 0x0000_00f0)],
+            &[Step::Write(SELECT, 0x0100_0000)],
+            &[Step::Write(SELECT, 0xff00_0000)],
+            &[Step::Write(SELECT, 0x8000_0010)],
+        ],
+    },
+    // An access port's write makes the read buffer and the last returned value unknown, also where it is
+    // ignored.
+    Row {
+        name: "an ignored write makes values unknown",
+        made: SIXTEEN_WORDS,
+        opening: &UP,
+        steps: &[
+            Step::Read(CSW_READ, FILLER),
+            Step::Read(RDBUFF, 0x2300_0052),
+            Step::Case,
+            Step::Read(RESEND, FILLER),
+            Step::Write(SELECT, 0x0000_0000),
+            Step::Read(CSW_READ, FILLER),
+            Step::Case,
+            Step::Read(RDBUFF, FILLER),
+            Step::NoTransfer,
+        ],
+        cases: &[
+            &[
+                Step::Write(SELECT, 0x0000_0000),
+                Step::Write(AP_WRITE[2], 0x1234_5678),
+            ],
+            &[
+                Step::Write(SELECT, 0x0000_0010),
+                Step::Write(AP_WRITE[0], 0x1234_5678),
+            ],
+            &[
+                Step::Write(SELECT, 0x0100_0000),
+                Step::Write(AP_WRITE[1], 0x1234_5678),
+            ],
+            &[
+                Step::Write(SELECT, 0x0000_0020),
+                Step::Write(AP_WRITE[3], 0x1234_5678),
+            ],
+        ],
+    },
+    Row {
+        name: "nothing stands at the access port's address 8",
+        made: SIXTEEN_WORDS,
+        opening: &UP,
+        steps: &[
+            Step::Write(TAR, 0x2000_0004),
+            Step::Read(CSW_READ, FILLER),
+            Step::Read(AP_READ[2], 0x2300_0052),
+            Step::Read(RDBUFF, 0x0000_0000),
+            Step::Write(AP_WRITE[2], 0xffff_ffff),
+            Step::Read(CSW_READ, FILLER),
+            Step::Read(TAR_READ, 0x2300_0052),
+            Step::Read(AP_READ[2], 0x2000_0004),
+            Step::Read(RDBUFF, 0x0000_0000),
+            Step::Read(STATUS, 0xf000_0040),
+        ],
+        cases: ONE,
+    },
+    // TAR grows where AddrInc is 01, and CSW reads 00 there otherwise.
+    Row {
+        name: "only the single increment counts",
+        made: SIXTEEN_WORDS,
+        opening: &UP,
+        steps: &[Step::Case, Step::Word(0x2000_0000, 1)],
+        cases: &[
+            &[
+                Step::Write(CSW, 0x2300_0002),
+                Step::Write(TAR, 0x2000_0000),
+                Step::Write(DRW, 0x0000_0001),
+                Step::Read(CSW_READ, FILLER),
+                Step::Read(TAR_READ, 0x2300_0042),
+                Step::Read(RDBUFF, 0x2000_0000),
+            ],
+            &[
+                Step::Write(CSW, 0x2300_0012),
+                Step::Write(TAR, 0x2000_0000),
+                Step::Write(DRW, 0x0000_0001),
+                Step::Read(CSW_READ, FILLER),
+                Step::Read(TAR_READ, 0x2300_0052),
+                Step::Read(RDBUFF, 0x2000_0004),
+            ],
+            &[
+                Step::Write(CSW, 0x2300_0022),
+                Step::Write(TAR, 0x2000_0000),
+                Step::Write(DRW, 0x0000_0001),
+                Step::Read(CSW_READ, FILLER),
+                Step::Read(TAR_READ, 0x2300_0042),
+                Step::Read(RDBUFF, 0x2000_0000),
+            ],
+            &[
+                Step::Write(CSW, 0x2300_0032),
+                Step::Write(TAR, 0x2000_0000),
+                Step::Write(DRW, 0x0000_0001),
+                Step::Read(CSW_READ, FILLER),
+                Step::Read(TAR_READ, 0x2300_0042),
+                Step::Read(RDBUFF, 0x2000_0000),
+            ],
+        ],
+    },
+    // Size, DeviceEn and TrInProg are fixed, and bits [30:24] are those that were written.
+    Row {
+        name: "CSW keeps its upper bits",
+        made: SIXTEEN_WORDS,
+        opening: &UP,
+        steps: &[Step::Case],
+        cases: &[
+            &[
+                Step::Write(CSW, 0x0000_0000),
+                Step::Read(CSW_READ, FILLER),
+                Step::Read(RDBUFF, 0x0000_0042),
+            ],
+            &[
+                Step::Write(CSW, 0x7f00_0012),
+                Step::Read(CSW_READ, FILLER),
+                Step::Read(RDBUFF, 0x7f00_0052),
+            ],
+            &[
+                Step::Write(CSW, 0x5500_0011),
+                Step::Read(CSW_READ, FILLER),
+                Step::Read(RDBUFF, 0x5500_0052),
+            ],
+            &[
+                Step::Write(CSW, 0x2a00_0080),
+                Step::Read(CSW_READ, FILLER),
+                Step::Read(RDBUFF, 0x2a00_0042),
+            ],
+            &[
+                Step::Write(CSW, 0xffff_ffff),
+                Step::Read(CSW_READ, FILLER),
+                Step::Read(RDBUFF, 0x7f00_0042),
+            ],
+            &[
+                Step::Write(CSW, 0x8000_0f10),
+                Step::Read(CSW_READ, FILLER),
+                Step::Read(RDBUFF, 0x0000_0052),
+            ],
+        ],
+    },
+    Row {
+        name: "CSW as it was made",
+        made: SIXTEEN_WORDS,
+        opening: &[],
+        steps: &[
+            Step::LineReset,
+            Step::Read(DPIDR, IDENTIFICATION),
+            Step::Write(CONTROL, 0x5000_0000),
+            Step::Read(CSW_READ, FILLER),
+            Step::Read(RDBUFF, 0x0000_0042),
+        ],
+        cases: ONE,
+    },
+    // TAR carries modulo 2^32, or wraps inside its last kilobyte.
+    Row {
+        name: "TAR carries over the end of all addresses",
+        made: Words {
+            base: 0xffff_fff8,
+            words: 2,
+            wrap: false,
+        },
+        opening: &UP,
+        steps: &OVER_THE_END,
+        cases: &[&[Step::Read(RDBUFF, 0x0000_0000)]],
+    },
+    Row {
+        name: "TAR wraps inside its last kilobyte",
+        made: Words {
+            base: 0xffff_fff8,
+            words: 2,
+            wrap: true,
+        },
+        opening: &UP,
+        steps: &OVER_THE_END,
+        cases: &[&[Step::Read(RDBUFF, 0xffff_fc00)]],
+    },
+    // TAR is stored as it is written. A transfer at an address that is no multiple of four is a bus error.
+    Row {
+        name: "TAR keeps its low bits",
+        made: SIXTEEN_WORDS,
+        opening: &UP,
+        steps: &[
+            Step::Case,
+            Step::Write(DRW, 0x0000_0001),
+            Step::Read(STATUS, 0xf000_0060),
+            Step::Replied(RDBUFF, Reply::Faults),
+            Step::Read(STATUS, 0xf000_0020),
+            Step::NoTransfer,
+        ],
+        cases: &[
+            &[
+                Step::Write(TAR, 0x2000_0001),
+                Step::Read(TAR_READ, FILLER),
+                Step::Read(RDBUFF, 0x2000_0001),
+            ],
+            &[
+                Step::Write(TAR, 0x2000_0002),
+                Step::Read(TAR_READ, FILLER),
+                Step::Read(RDBUFF, 0x2000_0002),
+            ],
+            &[
+                Step::Write(TAR, 0x2000_0003),
+                Step::Read(TAR_READ, FILLER),
+                Step::Read(RDBUFF, 0x2000_0003),
+            ],
+        ],
+    },
+    // Bits 28 and 30 are stored, and bits 29 and 31 read as they do.
+    Row {
+        name: "CTRL/STAT keeps the power requests alone",
+        made: SIXTEEN_WORDS,
+        opening: &UP,
+        steps: &[Step::Case],
+        cases: &[
+            &[
+                Step::Write(CONTROL, 0xffff_ffff),
+                Step::Read(STATUS, 0xf000_0000),
+            ],
+            &[
+                Step::Write(CONTROL, 0x1000_0000),
+                Step::Read(STATUS, 0x3000_0000),
+            ],
+            &[
+                Step::Write(CONTROL, 0x4000_0000),
+                Step::Read(STATUS, 0xc000_0000),
+            ],
+            &[
+                Step::Write(CONTROL, 0xafff_ffff),
+                Step::Read(STATUS, 0x0000_0000),
+            ],
+        ],
+    },
+    // Bits 2 and 3 of ABORT clear STICKYERR and WDATAERR, and the others nothing. Damaged data is not
+    // done, ABORT's neither.
+    Row {
+        name: "ABORT clears what its bits name",
+        made: SIXTEEN_WORDS,
+        opening: &[],
+        steps: &[
+            Step::LineReset,
+            Step::Read(DPIDR, IDENTIFICATION),
+            Step::Replied(CSW_READ, Reply::Faults),
+            Step::Damaged(ABORT),
+            Step::Read(STATUS, 0x0000_00a0),
+            Step::Write(ABORT, 0xffff_fff3),
+            Step::Read(STATUS, 0x0000_00a0),
+            Step::Case,
+            Step::Read(STATUS, 0x0000_0000),
+        ],
+        cases: &[
+            &[
+                Step::Write(ABORT, 0x0000_0004),
+                Step::Read(STATUS, 0x0000_0080),
+                Step::Write(ABORT, 0x0000_0008),
+            ],
+            &[
+                Step::Write(ABORT, 0x0000_0008),
+                Step::Read(STATUS, 0x0000_0020),
+                Step::Write(ABORT, 0x0000_0004),
+            ],
+        ],
+    },
+    // An access port's write whose data was damaged leaves the values that were read.
+    Row {
+        name: "a damaged write is no write",
+        made: SIXTEEN_WORDS,
+        opening: &UP,
+        steps: &[
+            Step::Read(CSW_READ, FILLER),
+            Step::Read(RDBUFF, 0x2300_0052),
+            Step::Case,
+            Step::Read(STATUS, 0xf000_00c0),
+            Step::Write(ABORT, 0x0000_0008),
+            Step::Read(RESEND, 0x2300_0052),
+            Step::Read(CSW_READ, FILLER),
+            Step::Read(TAR_READ, 0x2300_0052),
+            Step::Read(RDBUFF, 0x0000_0000),
+            Step::NoTransfer,
+        ],
+        cases: &[
+            &[Step::Damaged(AP_WRITE[0])],
+            &[Step::Damaged(AP_WRITE[1])],
+            &[Step::Damaged(AP_WRITE[2])],
+            &[Step::Damaged(AP_WRITE[3])],
+        ],
+    },
+    Row {
+        name: "a line reset leaves the registers",
+        made: SIXTEEN_WORDS,
+        opening: &UP,
+        steps: &[
+            Step::Write(TAR, 0x2000_0008),
+            Step::Read(CSW_READ, FILLER),
+            Step::Read(RDBUFF, 0x2300_0052),
+            Step::Write(SELECT, 0x0000_0003),
+            Step::LineReset,
+            Step::Replied(STATUS, Reply::Silent),
+            Step::Read(DPIDR, IDENTIFICATION),
+            // SELECT still names bank 3.
+            Step::Read(STATUS, 0x0000_0000),
+            Step::Read(RESEND, 0x2300_0052),
+            Step::Write(SELECT, 0x0000_0000),
+            Step::Read(STATUS, 0xf000_0040),
+            Step::Read(TAR_READ, FILLER),
+            Step::Read(CSW_READ, 0x2000_0008),
+            Step::Read(RDBUFF, 0x2300_0052),
+        ],
+        cases: ONE,
+    },
+];
 
 #[test]
-fn only_dpidr_is_answered_after_a_line_reset(rt: HostRuntime) -> Result<(), Fail> {
-    let mut target = sixteen_words(rt.alloc())?;
-    for byte in DP_READ {
-        all_go(&rt, &mut target, &[Step::Replied(byte, Reply::Silent)]);
+fn registers_go_as_their_rows_say(rt: HostRuntime) -> Result<(), Fail> {
+    for row in &ROWS {
+        expect_at(&rt, &row.name, !row.cases.is_empty());
+        for (number, case) in row.cases.iter().enumerate() {
+            let place = (row.name, number);
+            let mut target = made(rt.alloc(), row.made)?;
+            all_go(&rt, &place, &mut target, row.opening);
+            for (index, step) in row.steps.iter().enumerate() {
+                match *step {
+                    Step::Case => all_go(&rt, &place, &mut target, case),
+                    step => expect_at(&rt, &(place, index), goes(&mut target, step)),
+                }
+            }
+        }
     }
-    target.line_reset(false);
-    for byte in [STATUS, RESEND, RDBUFF, ABORT, CONTROL, SELECT, CSW_READ] {
-        all_go(&rt, &mut target, &[Step::Replied(byte, Reply::Silent)]);
-    }
-    let steps = [
-        Step::Read(DPIDR, IDENTIFICATION),
-        Step::Read(STATUS, 0x0000_0000),
-    ];
-    all_go(&rt, &mut target, &steps);
     Ok(())
 }
 
@@ -168,7 +624,8 @@ fn only_dpidr_is_answered_after_a_line_reset(rt: HostRuntime) -> Result<(), Fail
 #[test]
 fn control_and_status_stand_in_bank_0(rt: HostRuntime) -> Result<(), Fail> {
     for bank in 1..16u32 {
-        let mut target = up(&rt, rt.alloc())?;
+        let mut target = made(rt.alloc(), SIXTEEN_WORDS)?;
+        all_go(&rt, &bank, &mut target, &UP);
         let steps = [
             Step::Read(STATUS, 0xf000_0000),
             Step::Write(SELECT, bank),
@@ -182,266 +639,7 @@ fn control_and_status_stand_in_bank_0(rt: HostRuntime) -> Result<(), Fail> {
             Step::Write(SELECT, 0x0000_0000),
             Step::Read(STATUS, 0xf000_0040),
         ];
-        all_go(&rt, &mut target, &steps);
-    }
-    Ok(())
-}
-
-// What stands at address 4 of another bank may get WAIT and FAULT; CTRL/STAT may not.
-#[test]
-fn exempt_requests_are_those_of_bank_0(rt: HostRuntime) -> Result<(), Fail> {
-    let mut target = sixteen_words(rt.alloc())?;
-    let steps = [
-        Step::LineReset,
-        Step::Read(DPIDR, IDENTIFICATION),
-        Step::Held(STATUS, Reply::Okay),
-        Step::Held(CONTROL, Reply::Waits),
-        Step::Write(SELECT, 0x0000_0001),
-        Step::Held(STATUS, Reply::Waits),
-        Step::Held(CONTROL, Reply::Waits),
-        Step::Held(DPIDR, Reply::Okay),
-        Step::Held(ABORT, Reply::Okay),
-        // An access port's request without power sets STICKYERR.
-        Step::Replied(CSW_READ, Reply::Faults),
-        Step::Replied(STATUS, Reply::Faults),
-        Step::Replied(CONTROL, Reply::Faults),
-        Step::Held(STATUS, Reply::Faults),
-        Step::Replied(SELECT, Reply::Faults),
-        Step::Replied(RESEND, Reply::Faults),
-        Step::Write(ABORT, 0x0000_0004),
-        Step::Read(STATUS, 0x0000_0000),
-        Step::Write(SELECT, 0x0000_0000),
-        Step::Read(STATUS, 0x0000_0000),
-    ];
-    all_go(&rt, &mut target, &steps);
-    Ok(())
-}
-
-#[test]
-fn a_write_of_the_debug_ports_address_c_is_ignored(rt: HostRuntime) -> Result<(), Fail> {
-    let [.., ignored] = DP_WRITE;
-    for select in [0x0000_0000, 0x0000_000f] {
-        let mut target = up(&rt, rt.alloc())?;
-        let steps = [
-            Step::Read(CSW_READ, FILLER),
-            Step::Read(RDBUFF, 0x2300_0052),
-            Step::Write(SELECT, select),
-            Step::Held(ignored, Reply::Waits),
-            Step::Write(ignored, 0xffff_ffff),
-            // It is no access port's write: the last returned value stays.
-            Step::Read(RESEND, 0x2300_0052),
-            Step::Write(SELECT, 0x0000_0000),
-            Step::Read(STATUS, 0xf000_0040),
-            Step::Read(CSW_READ, FILLER),
-            Step::Write(ignored, 0x0000_0000),
-            // So does the read buffer.
-            Step::Read(TAR_READ, 0x2300_0052),
-            Step::Read(RDBUFF, 0x0000_0000),
-            Step::Write(CONTROL, 0x0000_0000),
-            Step::Replied(CSW_READ, Reply::Faults),
-            Step::Replied(ignored, Reply::Faults),
-        ];
-        all_go(&rt, &mut target, &steps);
-    }
-    Ok(())
-}
-
-// Another access port, and another bank of this one, read 0 and ignore what is written.
-#[test]
-fn other_access_ports_and_banks_are_nothing(rt: HostRuntime) -> Result<(), Fail> {
-    for select in [
-        0x0000_0010,
-        0x0000_00f0,
-        0x0100_0000,
-        0xff00_0000,
-        0x8000_0010,
-    ] {
-        let mut target = up(&rt, rt.alloc())?;
-        let before = [
-            Step::Write(TAR, 0x2000_0004),
-            Step::Write(SELECT, select),
-            Step::Read(AP_READ[0], FILLER),
-        ];
-        all_go(&rt, &mut target, &before);
-        for byte in AP_READ {
-            all_go(&rt, &mut target, &[Step::Read(byte, 0x0000_0000)]);
-        }
-        all_go(&rt, &mut target, &[Step::Read(RDBUFF, 0x0000_0000)]);
-        for byte in AP_WRITE {
-            all_go(&rt, &mut target, &[Step::Write(byte, 0x2000_0008)]);
-        }
-        let after = [
-            Step::Write(SELECT, 0x0000_0000),
-            Step::Read(STATUS, 0xf000_0040),
-            Step::Read(CSW_READ, FILLER),
-            Step::Read(TAR_READ, 0x2300_0052),
-            Step::Read(RDBUFF, 0x2000_0004),
-        ];
-        all_go(&rt, &mut target, &after);
-        assert!(rt; target.memory().log().is_empty());
-    }
-    Ok(())
-}
-
-// An access port's write makes the read buffer and the last returned value unknown, also where it is
-// ignored.
-#[test]
-fn an_ignored_write_makes_values_unknown(rt: HostRuntime) -> Result<(), Fail> {
-    for (select, byte) in [
-        (0x0000_0000, AP_WRITE[2]),
-        (0x0000_0010, AP_WRITE[0]),
-        (0x0100_0000, AP_WRITE[1]),
-        (0x0000_0020, AP_WRITE[3]),
-    ] {
-        let mut target = up(&rt, rt.alloc())?;
-        let steps = [
-            Step::Read(CSW_READ, FILLER),
-            Step::Read(RDBUFF, 0x2300_0052),
-            Step::Write(SELECT, select),
-            Step::Write(byte, 0x1234_5678),
-            Step::Read(RESEND, FILLER),
-            Step::Write(SELECT, 0x0000_0000),
-            Step::Read(CSW_READ, FILLER),
-            Step::Write(SELECT, select),
-            Step::Write(byte, 0x1234_5678),
-            Step::Read(RDBUFF, FILLER),
-        ];
-        all_go(&rt, &mut target, &steps);
-        assert!(rt; target.memory().log().is_empty());
-    }
-    Ok(())
-}
-
-#[test]
-fn nothing_stands_at_the_access_ports_address_8(rt: HostRuntime) -> Result<(), Fail> {
-    let mut target = up(&rt, rt.alloc())?;
-    let steps = [
-        Step::Write(TAR, 0x2000_0004),
-        Step::Read(CSW_READ, FILLER),
-        Step::Read(AP_READ[2], 0x2300_0052),
-        Step::Read(RDBUFF, 0x0000_0000),
-        Step::Write(AP_WRITE[2], 0xffff_ffff),
-        Step::Read(CSW_READ, FILLER),
-        Step::Read(TAR_READ, 0x2300_0052),
-        Step::Read(AP_READ[2], 0x2000_0004),
-        Step::Read(RDBUFF, 0x0000_0000),
-        Step::Read(STATUS, 0xf000_0040),
-    ];
-    all_go(&rt, &mut target, &steps);
-    Ok(())
-}
-
-// TAR grows where AddrInc is 01, and CSW reads 00 there otherwise.
-#[test]
-fn only_the_single_increment_counts(rt: HostRuntime) -> Result<(), Fail> {
-    for (written, read, tar) in [
-        (0x2300_0002, 0x2300_0042, 0x2000_0000),
-        (0x2300_0012, 0x2300_0052, 0x2000_0004),
-        (0x2300_0022, 0x2300_0042, 0x2000_0000),
-        (0x2300_0032, 0x2300_0042, 0x2000_0000),
-    ] {
-        let mut target = up(&rt, rt.alloc())?;
-        let steps = [
-            Step::Write(CSW, written),
-            Step::Write(TAR, 0x2000_0000),
-            Step::Write(DRW, 0x0000_0001),
-            Step::Read(CSW_READ, FILLER),
-            Step::Read(TAR_READ, read),
-            Step::Read(RDBUFF, tar),
-        ];
-        all_go(&rt, &mut target, &steps);
-        expect_eq(&rt, &target.memory().word(0x2000_0000), &Some(1));
-    }
-    Ok(())
-}
-
-// Size, DeviceEn and TrInProg are fixed, and bits [30:24] are those that were written.
-#[test]
-fn csw_keeps_its_upper_bits(rt: HostRuntime) -> Result<(), Fail> {
-    for (written, read) in [
-        (0x0000_0000, 0x0000_0042),
-        (0x7f00_0012, 0x7f00_0052),
-        (0x5500_0011, 0x5500_0052),
-        (0x2a00_0080, 0x2a00_0042),
-        (0xffff_ffff, 0x7f00_0042),
-        (0x8000_0f10, 0x0000_0052),
-    ] {
-        let mut target = up(&rt, rt.alloc())?;
-        let steps = [
-            Step::Write(CSW, written),
-            Step::Read(CSW_READ, FILLER),
-            Step::Read(RDBUFF, read),
-        ];
-        all_go(&rt, &mut target, &steps);
-    }
-    // As it was made.
-    let mut target = sixteen_words(rt.alloc())?;
-    let steps = [
-        Step::LineReset,
-        Step::Read(DPIDR, IDENTIFICATION),
-        Step::Write(CONTROL, 0x5000_0000),
-        Step::Read(CSW_READ, FILLER),
-        Step::Read(RDBUFF, 0x0000_0042),
-    ];
-    all_go(&rt, &mut target, &steps);
-    Ok(())
-}
-
-// TAR carries modulo 2^32, or wraps inside its last kilobyte.
-#[test]
-fn tar_carries_over_the_end_of_all_addresses(rt: HostRuntime) -> Result<(), Fail> {
-    for (wrap, after) in [(false, 0x0000_0000), (true, 0xffff_fc00)] {
-        let mut target = made(rt.alloc(), 0xffff_fff8, 2, wrap)?;
-        all_go(&rt, &mut target, &UP);
-        let steps = [
-            Step::Write(TAR, 0xffff_fff8),
-            Step::Write(DRW, 0x0000_0001),
-            Step::Read(TAR_READ, FILLER),
-            Step::Read(RDBUFF, 0xffff_fffc),
-            Step::Write(DRW, 0x0000_0002),
-            Step::Read(TAR_READ, FILLER),
-            Step::Read(RDBUFF, after),
-        ];
-        all_go(&rt, &mut target, &steps);
-        for (addr, word) in [(0xffff_fff8, Some(1)), (0xffff_fffc, Some(2))] {
-            expect_eq(&rt, &target.memory().word(addr), &word);
-        }
-    }
-    Ok(())
-}
-
-// TAR is stored as it is written. A transfer at an address that is no multiple of four is a bus error.
-#[test]
-fn tar_keeps_its_low_bits(rt: HostRuntime) -> Result<(), Fail> {
-    for addr in [0x2000_0001, 0x2000_0002, 0x2000_0003] {
-        let mut target = up(&rt, rt.alloc())?;
-        let steps = [
-            Step::Write(TAR, addr),
-            Step::Read(TAR_READ, FILLER),
-            Step::Read(RDBUFF, addr),
-            Step::Write(DRW, 0x0000_0001),
-            Step::Read(STATUS, 0xf000_0060),
-            Step::Replied(RDBUFF, Reply::Faults),
-            Step::Read(STATUS, 0xf000_0020),
-        ];
-        all_go(&rt, &mut target, &steps);
-        assert!(rt; target.memory().log().is_empty());
-    }
-    Ok(())
-}
-
-// Bits 28 and 30 are stored, and bits 29 and 31 read as they do.
-#[test]
-fn control_keeps_the_power_requests_alone(rt: HostRuntime) -> Result<(), Fail> {
-    for (written, read) in [
-        (0xffff_ffff, 0xf000_0000),
-        (0x1000_0000, 0x3000_0000),
-        (0x4000_0000, 0xc000_0000),
-        (0xafff_ffff, 0x0000_0000),
-    ] {
-        let mut target = up(&rt, rt.alloc())?;
-        let steps = [Step::Write(CONTROL, written), Step::Read(STATUS, read)];
-        all_go(&rt, &mut target, &steps);
+        all_go(&rt, &bank, &mut target, &steps);
     }
     Ok(())
 }
@@ -451,7 +649,9 @@ fn control_keeps_the_power_requests_alone(rt: HostRuntime) -> Result<(), Fail> {
 fn access_ports_fault_without_debug_power(rt: HostRuntime) -> Result<(), Fail> {
     for select in [0x0000_0000, 0x0000_0010, 0x0100_0000] {
         for byte in [AP_READ[1], AP_READ[2], AP_WRITE[0], AP_WRITE[3]] {
-            let mut target = up(&rt, rt.alloc())?;
+            let place = (select, byte);
+            let mut target = made(rt.alloc(), SIXTEEN_WORDS)?;
+            all_go(&rt, &place, &mut target, &UP);
             let steps = [
                 Step::Write(SELECT, select),
                 Step::Write(CONTROL, 0x4000_0000),
@@ -461,81 +661,8 @@ fn access_ports_fault_without_debug_power(rt: HostRuntime) -> Result<(), Fail> {
                 Step::Write(CONTROL, 0x1000_0000),
                 Step::Replied(byte, Reply::Okay),
             ];
-            all_go(&rt, &mut target, &steps);
+            all_go(&rt, &place, &mut target, &steps);
         }
     }
-    Ok(())
-}
-
-// Bits 2 and 3 of ABORT clear STICKYERR and WDATAERR, and the others nothing. Damaged data is not
-// done, ABORT's neither.
-#[test]
-fn abort_clears_what_its_bits_name(rt: HostRuntime) -> Result<(), Fail> {
-    for (first, between, second) in [
-        (0x0000_0004, 0x0000_0080, 0x0000_0008),
-        (0x0000_0008, 0x0000_0020, 0x0000_0004),
-    ] {
-        let mut target = sixteen_words(rt.alloc())?;
-        let steps = [
-            Step::LineReset,
-            Step::Read(DPIDR, IDENTIFICATION),
-            Step::Replied(CSW_READ, Reply::Faults),
-            Step::Damaged(ABORT),
-            Step::Read(STATUS, 0x0000_00a0),
-            Step::Write(ABORT, 0xffff_fff3),
-            Step::Read(STATUS, 0x0000_00a0),
-            Step::Write(ABORT, first),
-            Step::Read(STATUS, between),
-            Step::Write(ABORT, second),
-            Step::Read(STATUS, 0x0000_0000),
-        ];
-        all_go(&rt, &mut target, &steps);
-    }
-    Ok(())
-}
-
-// An access port's write whose data was damaged leaves the values that were read.
-#[test]
-fn a_damaged_write_is_no_write(rt: HostRuntime) -> Result<(), Fail> {
-    for byte in AP_WRITE {
-        let mut target = up(&rt, rt.alloc())?;
-        let steps = [
-            Step::Read(CSW_READ, FILLER),
-            Step::Read(RDBUFF, 0x2300_0052),
-            Step::Damaged(byte),
-            Step::Read(STATUS, 0xf000_00c0),
-            Step::Write(ABORT, 0x0000_0008),
-            Step::Read(RESEND, 0x2300_0052),
-            Step::Read(CSW_READ, FILLER),
-            Step::Read(TAR_READ, 0x2300_0052),
-            Step::Read(RDBUFF, 0x0000_0000),
-        ];
-        all_go(&rt, &mut target, &steps);
-        assert!(rt; target.memory().log().is_empty());
-    }
-    Ok(())
-}
-
-#[test]
-fn a_line_reset_leaves_the_registers(rt: HostRuntime) -> Result<(), Fail> {
-    let mut target = up(&rt, rt.alloc())?;
-    let steps = [
-        Step::Write(TAR, 0x2000_0008),
-        Step::Read(CSW_READ, FILLER),
-        Step::Read(RDBUFF, 0x2300_0052),
-        Step::Write(SELECT, 0x0000_0003),
-        Step::LineReset,
-        Step::Replied(STATUS, Reply::Silent),
-        Step::Read(DPIDR, IDENTIFICATION),
-        // SELECT still names bank 3.
-        Step::Read(STATUS, 0x0000_0000),
-        Step::Read(RESEND, 0x2300_0052),
-        Step::Write(SELECT, 0x0000_0000),
-        Step::Read(STATUS, 0xf000_0040),
-        Step::Read(TAR_READ, FILLER),
-        Step::Read(CSW_READ, 0x2000_0008),
-        Step::Read(RDBUFF, 0x2300_0052),
-    ];
-    all_go(&rt, &mut target, &steps);
     Ok(())
 }

@@ -1,8 +1,10 @@
 //! The engines on worked texts, with failing readers and writers, and with memory refused.
 use super::expect::{expect_eq, expect_eq_at};
 use linked_list_allocator::LocalHeap;
+use std::alloc::Global;
 use std::cell::Cell;
 use std::io::Read;
+use std::process::Abort;
 use std::test::Fail;
 use swd_bits::{OneFault, one_text};
 use swd_fakes::{CountingWriter, FailingReader, ShortWriter, WatchingReader};
@@ -23,46 +25,61 @@ pub(super) const DPIDR_READ: &[u8] = b"10100101 1 100 11101110001010000000010111
 
 pub(super) const DPIDR_LINE: &[u8] = b"dp 0 read ok 2ba01477\n";
 
-// Traces and their listings.
-const LISTED: [(&[u8], &[u8]); 10] = [
-    (b"", b""),
-    (DPIDR_READ, DPIDR_LINE),
+// Traces with their listings. One at fault is listed up to its bad character.
+const DECODED: [(&str, &[u8], &[u8], Option<TextFault>); 16] = [
+    ("nothing", b"", b"", None),
+    ("a read of DPIDR", DPIDR_READ, DPIDR_LINE, None),
     (
+        "ones that cut off a switch",
         b"11111111111111111111111111111111111111111111111111 0111",
         b"reset 50\nidle 1\ncut 111\n",
+        None,
     ),
     (
+        "a read that is cut off",
         b"10100101 1 100 11101110001010000000010111010100 0",
         b"cut 101001011100111011100010100000000101110101000\n",
+        None,
     ),
     (
+        "a read with wrong parity",
         b"10100101 1 100 01101110001010000000010111010100 0 1",
         b"dp 0 read bad 2ba01476\n",
+        None,
     ),
     (
+        "a read that isn't acknowledged",
         b"10100101 1 111 000",
         b"dp 0 read none 7\njunk 0\njunk 0\njunk 0\n",
+        None,
     ),
     (
+        "a bring-up",
         b"11111111111111111111111111111111111111111111111111111111 0111100111100111\n\
           11111111111111111111111111111111111111111111111111111111 00 # up",
         b"reset 56\nswitch\nreset 56\nidle 2\n",
+        None,
     ),
     (
+        "WAIT, and FAULT",
         b"10100101 1 010 1 10000001 1 001 1 00",
         b"dp 0 read wait\ndp 0 write fault\nidle 2\n",
+        None,
     ),
     // Long enough that digits are taken many at once, up to a comment of digits and after it.
     (
+        "many digits at once",
         b"1010010111001110111000101000000001011101010001\
           1010010111001110111000101000000001011101010001#\
           1111111111111111111111111111111111111111111111111111111111111111\n\
           0000000000000000000000000000000000000000000000000000000000000000\
           000000101001011100",
         b"dp 0 read ok 2ba01477\ndp 0 read ok 2ba01477\nidle 70\ncut 101001011100\n",
+        None,
     ),
     // Each list of four bits, after a transaction that isn't acknowledged, up to a line reset.
     (
+        "each list of four bits after a transaction that isn't acknowledged",
         b"101001011111\
           0000100001001100001010100110111000011001010111010011101101111111\
           0\
@@ -86,104 +103,163 @@ const LISTED: [(&[u8], &[u8]); 10] = [
           junk 0\njunk 1\njunk 1\njunk 1\n\
           junk 1\njunk 1\njunk 1\njunk 1\n\
           junk 0\nreset 50\nidle 1\n",
+        None,
+    ),
+    (
+        "forty-nine ones and a zero",
+        FORTY_NINE,
+        b"junk 1\njunk 1\njunk 1\njunk 1\njunk 1\njunk 1\njunk 1\n\
+          junk 1\njunk 1\njunk 1\njunk 1\njunk 1\njunk 1\njunk 1\n\
+          junk 1\njunk 1\njunk 1\njunk 1\njunk 1\njunk 1\njunk 1\n\
+          junk 1\njunk 1\njunk 1\njunk 1\njunk 1\njunk 1\njunk 1\n\
+          junk 1\njunk 1\njunk 1\njunk 1\njunk 1\njunk 1\njunk 1\n\
+          junk 1\njunk 1\njunk 1\njunk 1\njunk 1\njunk 1\njunk 1\n\
+          junk 1\njunk 1\njunk 1\njunk 1\njunk 1\njunk 1\njunk 1\n\
+          junk 0\n",
+        None,
+    ),
+    ("fifty ones and a zero", FIFTY, b"reset 50\nidle 1\n", None),
+    (
+        "a line reset, the switch, and a line reset again",
+        BRING_UP,
+        b"reset 56\nswitch\nreset 56\nidle 2\n",
+        None,
+    ),
+    (
+        "a bad character after two bits",
+        b"10x",
+        b"",
+        Some(TextFault::BadChar { place: 2 }),
+    ),
+    (
+        "a bad character after a line reset",
+        b"11111111111111111111111111111111111111111111111111 0x",
+        b"reset 50\n",
+        Some(TextFault::BadChar { place: 52 }),
+    ),
+    (
+        "a bad character after a comment",
+        b"# x\n2",
+        b"",
+        Some(TextFault::BadChar { place: 4 }),
     ),
 ];
 
+// Listings with their traces. Of one at fault nothing is written.
+const ENCODED: [(&str, &[u8], &[u8], Option<ListFault>); 8] = [
+    (
+        "idle bits, and one that is cut off",
+        b"idle 2\ncut 1",
+        b"00\n1\n",
+        None,
+    ),
+    (
+        "a read of DPIDR",
+        DPIDR_LINE,
+        b"1010010111001110111000101000000001011101010001\n",
+        None,
+    ),
+    (
+        "a write of ABORT",
+        b"dp 0 write ok 0000001e\n",
+        b"1000000111001011110000000000000000000000000000\n",
+        None,
+    ),
+    (
+        "a line after a cut",
+        b"cut 1\nidle 1\n",
+        b"",
+        Some(ListFault::NotNormal { line: 1 }),
+    ),
+    (
+        "idle bits directly after no acknowledgement",
+        b"dp 0 read none 7\nidle 1\n",
+        b"",
+        Some(ListFault::NotNormal { line: 2 }),
+    ),
+    (
+        "idle bits directly after a switch",
+        b"reset 50\nswitch\nidle 1\n",
+        b"",
+        Some(ListFault::NotNormal { line: 3 }),
+    ),
+    (
+        "a number that begins with zero",
+        b"idle 01\n",
+        b"",
+        Some(ListFault::BadLine { line: 1 }),
+    ),
+    (
+        "an empty line",
+        b"idle 1\n\n",
+        b"",
+        Some(ListFault::BadLine { line: 2 }),
+    ),
+];
+
+// A text in two pieces, each of which a read gives whole.
+fn listed_in_two(
+    alloc: Global,
+    text: &[u8],
+    cut: usize,
+) -> Result<(Result<(), EngineFault>, Vec<u8>), Fail> {
+    let (first, second) = text.split_at_checked(cut).ok_or("cut")?;
+    let mut reader = first.chain(second);
+    let mut out = Vec::new(alloc);
+    let answer = decode_text(&mut reader, &mut out);
+    Ok((answer, out))
+}
+
+// However the trace is cut, this is answered, and this is its listing.
+fn is_listed<R: Abort>(
+    rt: &R,
+    alloc: Global,
+    name: &str,
+    trace: &[u8],
+    wanted: &Result<(), EngineFault>,
+    listing: &[u8],
+) -> Result<(), Fail> {
+    for cut in 0..=trace.len() {
+        let (answer, out) = listed_in_two(alloc, trace, cut)?;
+        expect_eq_at(rt, &(name, cut), &answer, wanted);
+        expect_eq_at(rt, &(name, cut), &out.as_slice(), &listing);
+    }
+    Ok(())
+}
+
 #[test]
-fn traces_have_their_listings(rt: HostRuntime) -> Result<(), Fail> {
-    for (trace, listing) in LISTED {
-        let mut reader = trace;
-        let mut out = Vec::new(rt.alloc());
-        expect_eq(&rt, &decode_text(&mut reader, &mut out), &Ok(()));
-        expect_eq(&rt, &out.as_slice(), &listing);
+fn a_trace_is_listed_however_it_is_cut(rt: HostRuntime) -> Result<(), Fail> {
+    for (name, trace, listing, fault) in DECODED {
+        let wanted = match fault {
+            Some(fault) => Err(EngineFault::Text(fault)),
+            None => Ok(()),
+        };
+        is_listed(&rt, rt.alloc(), name, trace, &wanted, listing)?;
         // The listing's own trace is listed so again.
         let mut reader = listing;
         let mut again = Vec::new(rt.alloc());
-        expect_eq(
-            &rt,
-            &encode_text(rt.alloc(), &mut reader, &mut again),
-            &Ok(()),
-        );
-        let mut reader = again.as_slice();
-        let mut out = Vec::new(rt.alloc());
-        expect_eq(&rt, &decode_text(&mut reader, &mut out), &Ok(()));
-        expect_eq(&rt, &out.as_slice(), &listing);
+        let answer = encode_text(rt.alloc(), &mut reader, &mut again);
+        expect_eq_at(&rt, &name, &answer, &Ok(()));
+        let (answer, out) = listed_in_two(rt.alloc(), again.as_slice(), 0)?;
+        expect_eq_at(&rt, &name, &answer, &Ok(()));
+        expect_eq_at(&rt, &name, &out.as_slice(), &listing);
     }
     Ok(())
 }
 
 #[test]
-fn listings_have_their_traces(rt: HostRuntime) {
-    for (listing, trace) in [
-        (b"idle 2\ncut 1".as_slice(), b"00\n1\n".as_slice()),
-        (
-            DPIDR_LINE,
-            b"1010010111001110111000101000000001011101010001\n",
-        ),
-        (
-            b"dp 0 write ok 0000001e\n",
-            b"1000000111001011110000000000000000000000000000\n",
-        ),
-    ] {
-        let mut reader = listing;
-        let mut out = Vec::new(rt.alloc());
-        expect_eq(
-            &rt,
-            &encode_text(rt.alloc(), &mut reader, &mut out),
-            &Ok(()),
-        );
-        expect_eq(&rt, &out.as_slice(), &trace);
-    }
-}
-
-#[test]
-fn listings_at_fault_write_nothing(rt: HostRuntime) {
-    for (listing, fault) in [
-        (
-            b"cut 1\nidle 1\n".as_slice(),
-            ListFault::NotNormal { line: 1 },
-        ),
-        (
-            b"dp 0 read none 7\nidle 1\n",
-            ListFault::NotNormal { line: 2 },
-        ),
-        (
-            b"reset 50\nswitch\nidle 1\n",
-            ListFault::NotNormal { line: 3 },
-        ),
-        (b"idle 01\n", ListFault::BadLine { line: 1 }),
-        (b"idle 1\n\n", ListFault::BadLine { line: 2 }),
-    ] {
+fn a_listing_has_its_trace_or_its_fault(rt: HostRuntime) {
+    for (name, listing, trace, fault) in ENCODED {
+        let wanted = match fault {
+            Some(fault) => Err(EngineFault::List(fault)),
+            None => Ok(()),
+        };
         let mut reader = listing;
         let mut out = Vec::new(rt.alloc());
         let answer = encode_text(rt.alloc(), &mut reader, &mut out);
-        expect_eq(&rt, &answer, &Err(EngineFault::List(fault)));
-        assert!(rt; out.is_empty());
+        expect_eq_at(&rt, &name, &answer, &wanted);
+        expect_eq_at(&rt, &name, &out.as_slice(), &trace);
     }
-}
-
-#[test]
-fn a_bad_character_ends_a_listing(rt: HostRuntime) -> Result<(), Fail> {
-    for (trace, place, listing) in [
-        (b"10x".as_slice(), 2, b"".as_slice()),
-        (
-            b"11111111111111111111111111111111111111111111111111 0x",
-            52,
-            b"reset 50\n",
-        ),
-        (b"# x\n2", 4, b""),
-    ] {
-        let mut reader = trace;
-        let mut out = Vec::new(rt.alloc());
-        let answer = decode_text(&mut reader, &mut out);
-        expect_eq(
-            &rt,
-            &answer,
-            &Err(EngineFault::Text(TextFault::BadChar { place })),
-        );
-        expect_eq(&rt, &out.as_slice(), &listing);
-    }
-    Ok(())
 }
 
 #[test]
@@ -363,40 +439,6 @@ fn lines_go_out_before_the_next_read(rt: HostRuntime) -> Result<(), Fail> {
             2
         };
         expect_eq_at(&rt, &read, &*noted, &(lines * DPIDR_LINE.len()));
-    }
-    Ok(())
-}
-
-// A text in two pieces, each of which a read gives whole.
-fn listed_in_two(
-    rt: &HostRuntime,
-    text: &[u8],
-    cut: usize,
-) -> Result<(Result<(), EngineFault>, Vec<u8>), Fail> {
-    let (first, second) = text.split_at_checked(cut).ok_or("cut")?;
-    let mut reader = first.chain(second);
-    let mut out = Vec::new(rt.alloc());
-    let answer = decode_text(&mut reader, &mut out);
-    Ok((answer, out))
-}
-
-#[test]
-fn a_cut_between_two_reads_makes_no_difference(rt: HostRuntime) -> Result<(), Fail> {
-    let mut ones = Vec::new(rt.alloc());
-    for _ in 0..49u8 {
-        ones.extend_from_slice(b"junk 1\n")?;
-    }
-    ones.extend_from_slice(b"junk 0\n")?;
-    for (text, listing) in [
-        (FORTY_NINE, ones.as_slice()),
-        (FIFTY, b"reset 50\nidle 1\n".as_slice()),
-        (BRING_UP, b"reset 56\nswitch\nreset 56\nidle 2\n".as_slice()),
-    ] {
-        for cut in 0..=text.len() {
-            let (answer, out) = listed_in_two(&rt, text, cut)?;
-            expect_eq(&rt, &answer, &Ok(()));
-            expect_eq_at(&rt, &cut, &out.as_slice(), &listing);
-        }
     }
     Ok(())
 }
