@@ -15,7 +15,8 @@ fn are_printed<R: Abort, T: Display>(
 ) -> Result<(), AllocError> {
     for (value, words) in rows {
         let printed = format!(in alloc; "{value}")?;
-        expect_eq_at(rt, words, &printed.as_str(), words);
+        let words = *words;
+        expect_eq_at(rt, &words, &printed.as_str(), &words);
     }
     Ok(())
 }
