@@ -1,6 +1,5 @@
 //! Worked values of the wire. Failing readers and writers are tried with all engines, in `swd_text`.
-use super::expect::expect_eq;
-use std::test::Fail;
+use super::expect::{expect_eq, expect_eq_at};
 use swd_bits::*;
 
 // A DPIDR read that was answered 2ba01477, with a space after each eighth bit.
@@ -8,64 +7,56 @@ const DPIDR_READ: &[u8] = b"10100101 11001110 11100010 10000000 01011101 010001"
 
 const DPIDR_LINE: &[u8] = b"dp 0 read ok 2ba01477\n";
 
-fn read_request(ap: bool, addr: Reg4) -> Request {
-    Request {
-        ap,
-        read: true,
-        addr,
-    }
-}
+// Requests as bytes, whether they are of the access port, whether they read, and their registers.
+const REQUESTS: [(u8, bool, bool, Reg4); 16] = [
+    (0xa5, false, true, Reg4::R0),
+    (0x8d, false, true, Reg4::R4),
+    (0x95, false, true, Reg4::R8),
+    (0xbd, false, true, Reg4::RC),
+    (0x81, false, false, Reg4::R0),
+    (0xa9, false, false, Reg4::R4),
+    (0xb1, false, false, Reg4::R8),
+    (0x99, false, false, Reg4::RC),
+    (0x87, true, true, Reg4::R0),
+    (0xaf, true, true, Reg4::R4),
+    (0xb7, true, true, Reg4::R8),
+    (0x9f, true, true, Reg4::RC),
+    (0xa3, true, false, Reg4::R0),
+    (0x8b, true, false, Reg4::R4),
+    (0x93, true, false, Reg4::R8),
+    (0xbb, true, false, Reg4::RC),
+];
+
+// The wrong Start, Park, Stop and Parity.
+const NO_REQUESTS: [u8; 4] = [0xa4, 0x25, 0xe5, 0x85];
+
+const ACKNOWLEDGEMENTS: [(u8, Option<Ack>); 8] = [
+    (0, None),
+    (1, Some(Ack::Ok)),
+    (2, Some(Ack::Wait)),
+    (3, None),
+    (4, Some(Ack::Fault)),
+    (5, None),
+    (6, None),
+    (7, None),
+];
 
 #[test]
-fn requests_have_their_bytes(rt: HostRuntime) {
-    let registers = [Reg4::R0, Reg4::R4, Reg4::R8, Reg4::RC];
-    let dp_reads = [0xa5, 0x8d, 0x95, 0xbd];
-    let dp_writes = [0x81, 0xa9, 0xb1, 0x99];
-    let ap_reads = [0x87, 0xaf, 0xb7, 0x9f];
-    let ap_writes = [0xa3, 0x8b, 0x93, 0xbb];
-    for (i, addr) in registers.iter().enumerate() {
-        for (ap, read, bytes) in [
-            (false, true, dp_reads),
-            (false, false, dp_writes),
-            (true, true, ap_reads),
-            (true, false, ap_writes),
-        ] {
-            let addr = *addr;
-            let request = Request { ap, read, addr };
-            let byte = bytes.get(i).copied().unwrap_or(0);
-            expect_eq(&rt, &request.bits(), &byte);
-            expect_eq(&rt, &Request::of(byte), &Some(request));
-        }
+fn requests_and_acknowledgements_have_their_numbers(rt: HostRuntime) {
+    for (byte, ap, read, addr) in REQUESTS {
+        let request = Request { ap, read, addr };
+        expect_eq_at(&rt, &byte, &request.bits(), &byte);
+        expect_eq_at(&rt, &byte, &Request::of(byte), &Some(request));
     }
-}
-
-#[test]
-fn bytes_that_are_no_requests(rt: HostRuntime) {
-    // The wrong Start, Park, Stop and Parity.
-    for byte in [0xa4, 0x25, 0xe5, 0x85] {
-        expect_eq(&rt, &Request::of(byte), &None);
+    for byte in NO_REQUESTS {
+        expect_eq_at(&rt, &byte, &Request::of(byte), &None);
     }
     let count = (0..=255u8)
         .filter(|byte| Request::of(*byte).is_some())
         .count();
     expect_eq(&rt, &count, &16);
-    expect_eq(&rt, &read_request(false, Reg4::R0).bits(), &0xa5);
-}
-
-#[test]
-fn acknowledgements_by_number(rt: HostRuntime) {
-    let expected = [
-        None,
-        Some(Ack::Ok),
-        Some(Ack::Wait),
-        None,
-        Some(Ack::Fault),
-        None,
-        None,
-        None,
-    ];
-    for seen in 0..8u8 {
-        expect_eq(&rt, &Ack::of(seen), &expected[seen as usize]);
+    for (seen, wanted) in ACKNOWLEDGEMENTS {
+        expect_eq_at(&rt, &seen, &Ack::of(seen), &wanted);
     }
 }
 
@@ -88,102 +79,110 @@ fn data_phases_of_words(rt: HostRuntime) {
         (0x00000001, b"100000000000000000000000000000001"),
         (0x00000000, b"000000000000000000000000000000000"),
     ] {
-        expect_eq(&rt, &phase_text(data_bits(word)), &*bits);
-        expect_eq(&rt, &word_of(data_bits(word)), &Some(word));
+        expect_eq_at(&rt, &word, &phase_text(data_bits(word)), &*bits);
+        expect_eq_at(&rt, &word, &word_of(data_bits(word)), &Some(word));
     }
     expect_eq(&rt, &word_of((1 << 33) - 1), &None);
 }
 
-// What `one_text` answers, and what it wrote.
-fn one(rt: &HostRuntime, text: &[u8]) -> Result<(Result<(), OneFault>, Vec<u8>), Fail> {
-    let mut reader = text;
-    let mut out = Vec::new(rt.alloc());
-    let answer = one_text(&mut reader, &mut out);
-    Ok((answer, out))
+// A trace text, what `one_text` answers, and what it writes.
+#[derive(Clone, Copy)]
+struct Text {
+    name: &'static str,
+    text: &'static [u8],
+    answer: Result<(), OneFault>,
+    line: &'static [u8],
 }
 
-#[test]
-fn one_transaction_has_its_line(rt: HostRuntime) -> Result<(), Fail> {
-    let abort = b"10000001 1 100 1 01111000000000000000000000000000 0";
-    let damaged = b"10100101 1 100 01101110001010000000010111010100 0 1";
-    for (text, line) in [
-        (DPIDR_READ, DPIDR_LINE),
-        (
-            b"# DPIDR\n1010010111001110111000101000000001011101 # word\r\n\t010001".as_slice(),
-            DPIDR_LINE,
-        ),
-        (abort.as_slice(), b"dp 0 write ok 0000001e\n".as_slice()),
-        (damaged.as_slice(), b"dp 0 read bad 2ba01476\n".as_slice()),
-        (
-            b"10100101 1 010 1".as_slice(),
-            b"dp 0 read wait\n".as_slice(),
-        ),
-        (
-            b"11011101 0 001 0".as_slice(),
-            b"ap c write fault\n".as_slice(),
-        ),
-        (
-            b"10100101 1 111".as_slice(),
-            b"dp 0 read none 7\n".as_slice(),
-        ),
-    ] {
-        let (answer, out) = one(&rt, text)?;
-        expect_eq(&rt, &answer, &Ok(()));
-        expect_eq(&rt, &out.as_slice(), &line);
-    }
-    Ok(())
-}
+const TEXTS: [Text; 13] = [
+    Text {
+        name: "a read",
+        text: DPIDR_READ,
+        answer: Ok(()),
+        line: DPIDR_LINE,
+    },
+    Text {
+        name: "comments and ends of lines",
+        text: b"# DPIDR\n1010010111001110111000101000000001011101 # word\r\n\t010001",
+        answer: Ok(()),
+        line: DPIDR_LINE,
+    },
+    Text {
+        name: "a write",
+        text: b"10000001 1 100 1 01111000000000000000000000000000 0",
+        answer: Ok(()),
+        line: b"dp 0 write ok 0000001e\n",
+    },
+    Text {
+        name: "a damaged read",
+        text: b"10100101 1 100 01101110001010000000010111010100 0 1",
+        answer: Ok(()),
+        line: b"dp 0 read bad 2ba01476\n",
+    },
+    Text {
+        name: "WAIT",
+        text: b"10100101 1 010 1",
+        answer: Ok(()),
+        line: b"dp 0 read wait\n",
+    },
+    Text {
+        name: "FAULT",
+        text: b"11011101 0 001 0",
+        answer: Ok(()),
+        line: b"ap c write fault\n",
+    },
+    Text {
+        name: "no acknowledgement",
+        text: b"10100101 1 111",
+        answer: Ok(()),
+        line: b"dp 0 read none 7\n",
+    },
+    Text {
+        name: "a bit short",
+        text: b"10100101 1 100 11101110001010000000010111010100 0",
+        answer: Err(OneFault::NotOne),
+        line: b"",
+    },
+    Text {
+        name: "a bit more",
+        text: b"10100101 1 100 11101110001010000000010111010100 0 1 1",
+        answer: Err(OneFault::NotOne),
+        line: b"",
+    },
+    Text {
+        name: "no acknowledgement with a turnaround",
+        text: b"10100101 1 111 0",
+        answer: Err(OneFault::NotOne),
+        line: b"",
+    },
+    Text {
+        name: "nothing",
+        text: b"",
+        answer: Err(OneFault::NotOne),
+        line: b"",
+    },
+    Text {
+        name: "a bad byte",
+        text: b"10x",
+        answer: Err(OneFault::BadChar { place: 2 }),
+        line: b"",
+    },
+    // The bad byte is told, although the bits before it are more than one transaction has.
+    Text {
+        name: "a bad byte after too many bits",
+        text: b"1111111111111111111111111111111111111111111111111111111x",
+        answer: Err(OneFault::BadChar { place: 55 }),
+        line: b"",
+    },
+];
 
 #[test]
-fn other_texts_are_refused(rt: HostRuntime) -> Result<(), Fail> {
-    for (text, fault) in [
-        // A bit short, a bit more, no acknowledgement with a turnaround, and nothing.
-        (
-            b"10100101 1 100 11101110001010000000010111010100 0".as_slice(),
-            OneFault::NotOne,
-        ),
-        (
-            b"10100101 1 100 11101110001010000000010111010100 0 1 1".as_slice(),
-            OneFault::NotOne,
-        ),
-        (b"10100101 1 111 0".as_slice(), OneFault::NotOne),
-        (b"".as_slice(), OneFault::NotOne),
-        (b"10x".as_slice(), OneFault::BadChar { place: 2 }),
-        // The bad byte is told, although the bits before it are more than one transaction has.
-        (
-            b"1111111111111111111111111111111111111111111111111111111x".as_slice(),
-            OneFault::BadChar { place: 55 },
-        ),
-    ] {
-        let (answer, out) = one(&rt, text)?;
-        expect_eq(&rt, &answer, &Err(fault));
-        assert!(rt; out.is_empty());
+fn one_transaction_has_its_line_and_other_texts_are_refused(rt: HostRuntime) {
+    for row in TEXTS {
+        let mut reader = row.text;
+        let mut out = Vec::new(rt.alloc());
+        let answer = one_text(&mut reader, &mut out);
+        expect_eq_at(&rt, &row.name, &answer, &row.answer);
+        expect_eq_at(&rt, &row.name, &out.as_slice(), &row.line);
     }
-    Ok(())
-}
-
-#[test]
-fn faults_have_their_messages(rt: HostRuntime) -> Result<(), Fail> {
-    for (fault, message) in [
-        (
-            OneFault::BadChar {
-                place: 18446744073709551615,
-            },
-            "trace byte 18446744073709551615: bad character",
-        ),
-        (OneFault::NotOne, "not one transaction"),
-        (OneFault::Read, "read failed"),
-        (OneFault::Write, "write failed"),
-    ] {
-        expect_eq(&rt, &format!(in rt.alloc(); "{fault}")?.as_str(), &message);
-    }
-    Ok(())
-}
-
-#[test]
-fn acknowledgements_have_their_names(rt: HostRuntime) -> Result<(), Fail> {
-    for (ack, name) in [(Ack::Ok, "OK"), (Ack::Wait, "WAIT"), (Ack::Fault, "FAULT")] {
-        expect_eq(&rt, &format!(in rt.alloc(); "{ack}")?.as_str(), &name);
-    }
-    Ok(())
 }

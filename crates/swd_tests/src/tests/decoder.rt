@@ -2,8 +2,9 @@
 ghost use Rattle.std.specs.Prelude.{OnOk};
 ghost use Rattle.swd_trace.specs.Held.{IsSettled};
 
-use super::expect::expect_eq;
+use super::expect::{expect_eq, expect_eq_at};
 use std::alloc::{AllocError, Global};
+use std::process::Abort;
 use std::test::Fail;
 use swd_bits::{Request, Tx, TxBits, TxEnd};
 use swd_trace::{Decoder, Item};
@@ -75,25 +76,18 @@ fn feed(decoder: &mut Decoder, bits: &[bool], text: &mut String) -> Result<(), A
     Ok(())
 }
 
-fn finish(decoder: Decoder, text: &mut String) -> Result<(), AllocError> {
+// The trace was fed, and with its last items it has this listing.
+fn ends<R: Abort>(
+    rt: &R,
+    decoder: Decoder,
+    text: &mut String,
+    (bits, listing): (&[bool], &str),
+) -> Result<(), AllocError> {
+    expect_eq_at(rt, &listing, &decoder.fed(), &(bits.len() as u64));
     for item in decoder.finish().as_slice() {
         list(text, item)?;
     }
-    Ok(())
-}
-
-#[test]
-fn worked_traces_bit_by_bit(rt: HostRuntime) -> Result<(), Fail> {
-    let alloc = rt.alloc();
-    for (pieces, listing) in TRACES {
-        let bits = bits_of(alloc, pieces)?;
-        let mut text = String::new(alloc);
-        let mut decoder = Decoder::new();
-        feed(&mut decoder, &bits, &mut text)?;
-        expect_eq(&rt, &decoder.fed(), &(bits.len() as u64));
-        finish(decoder, &mut text)?;
-        expect_eq(&rt, &text.as_str(), &listing);
-    }
+    expect_eq_at(rt, &listing, &text.as_str(), &listing);
     Ok(())
 }
 
@@ -130,39 +124,42 @@ fn take_piece(decoder: &mut Decoder, bits: &[bool], text: &mut String) -> Result
     Ok(())
 }
 
-#[test]
-fn worked_traces_in_two_pieces_at_every_cut(rt: HostRuntime) -> Result<(), Fail> {
-    let alloc = rt.alloc();
-    for (pieces, listing) in TRACES {
-        let bits = bits_of(alloc, pieces)?;
-        for cut in 0..=bits.len() {
-            let mut text = String::new(alloc);
-            let mut decoder = Decoder::new();
-            let (front, back) = bits.as_slice().split_at(cut);
-            take_piece(&mut decoder, front, &mut text)?;
-            take_piece(&mut decoder, back, &mut text)?;
-            expect_eq(&rt, &decoder.fed(), &(bits.len() as u64));
-            finish(decoder, &mut text)?;
-            expect_eq(&rt, &text.as_str(), &listing);
-        }
+// A trace has its listing, bit by bit and in two pieces at every cut.
+fn has_listing<R: Abort>(
+    rt: &R,
+    alloc: Global,
+    pieces: &[&str],
+    listing: &str,
+) -> Result<(), AllocError> {
+    let bits = bits_of(alloc, pieces)?;
+    let mut text = String::new(alloc);
+    let mut decoder = Decoder::new();
+    feed(&mut decoder, &bits, &mut text)?;
+    ends(rt, decoder, &mut text, (&bits, listing))?;
+    for cut in 0..=bits.len() {
+        let mut text = String::new(alloc);
+        let mut decoder = Decoder::new();
+        let (front, back) = bits.as_slice().split_at(cut);
+        take_piece(&mut decoder, front, &mut text)?;
+        take_piece(&mut decoder, back, &mut text)?;
+        ends(rt, decoder, &mut text, (&bits, listing))?;
     }
     Ok(())
 }
 
 #[test]
-fn forty_nine_ones_are_no_reset(rt: HostRuntime) -> Result<(), Fail> {
+fn worked_traces_have_their_listings(rt: HostRuntime) -> Result<(), Fail> {
     let alloc = rt.alloc();
-    let bits = bits_of(alloc, &[ONES_49, "0"])?;
-    let mut text = String::new(alloc);
-    let mut decoder = Decoder::new();
-    feed(&mut decoder, &bits, &mut text)?;
-    finish(decoder, &mut text)?;
-    let mut expected = String::new(alloc);
-    for _ in 0..49 {
-        expected.push_str("junk 1\n")?;
+    for (pieces, listing) in TRACES {
+        has_listing(&rt, alloc, pieces, listing)?;
     }
-    expected.push_str("junk 0\n")?;
-    expect_eq(&rt, &text.as_str(), &expected.as_str());
+    // Forty-nine ones are no reset.
+    let mut junk = String::new(alloc);
+    for _ in 0..49 {
+        junk.push_str("junk 1\n")?;
+    }
+    junk.push_str("junk 0\n")?;
+    has_listing(&rt, alloc, &[ONES_49, "0"], junk.as_str())?;
     Ok(())
 }
 
@@ -242,7 +239,8 @@ fn every_list_of_twelve_bits(rt: HostRuntime) {
 }
 
 #[test]
-fn a_huge_run_is_taken_at_once(rt: HostRuntime) {
+fn a_run_is_decided_by_the_bit_after_it_or_its_end(rt: HostRuntime) {
+    // A huge run is taken at once.
     let mut decoder = Decoder::new();
     decoder.take(false);
     if decoder.due().is_some() {
@@ -253,19 +251,12 @@ fn a_huge_run_is_taken_at_once(rt: HostRuntime) {
     expect_eq(&rt, &decoder.due(), &None);
     expect_eq(&rt, &decoder.last(), &Some(Item::Idle(u64::MAX)));
     expect_eq(&rt, &decoder.last(), &None);
-}
-
-#[test]
-fn a_bit_that_ends_a_run_decides_it(rt: HostRuntime) {
+    // A bit that ends a run decides it.
     let mut decoder = Decoder::new();
     let none = decoder.feed(false);
     assert!(rt; none.is_empty());
     let idle = decoder.feed(true);
     expect_eq(&rt, &idle.as_slice(), &[Item::Idle(1)].as_slice());
-    let cut = TxBits { len: 1, bits: 1 };
-    expect_eq(
-        &rt,
-        &decoder.finish().as_slice(),
-        &[Item::Cut(cut)].as_slice(),
-    );
+    let cut = Item::Cut(TxBits { len: 1, bits: 1 });
+    expect_eq(&rt, &decoder.finish().as_slice(), &[cut].as_slice());
 }

@@ -1,6 +1,6 @@
 //! An engine driven through a write and a read, and given each other reply at each of their requests.
 use super::engine::{goes_on, passed, seen, starts, taken};
-use super::expect::expect_eq;
+use super::expect::expect_eq_at;
 use super::row::{QUIRKS, READ, WRITE, run_of, target_of};
 use std::alloc::Global;
 use std::test::Fail;
@@ -39,52 +39,41 @@ fn engine_at(alloc: Global, place: u64) -> Result<Option<Engine>, Fail> {
     Ok(None)
 }
 
+// Neither an acknowledgement, nor one that the request may get, nor a FAULT for which CTRL/STAT has a flag.
 #[test]
-fn no_acknowledgement_stops_an_engine_at_each_request(rt: HostRuntime) -> Result<(), Fail> {
+fn each_reply_that_no_target_gives_stops_an_engine_at_each_request(
+    rt: HostRuntime,
+) -> Result<(), Fail> {
+    let replies = [
+        (0, End::Lost),
+        (3, End::Lost),
+        (5, End::Lost),
+        (6, End::Lost),
+        (7, End::Lost),
+        (2, End::Confused),
+        (4, End::Confused),
+    ];
     for place in 1..=REQUESTS {
-        for number in [0, 3, 5, 6, 7] {
-            let Some(mut engine) = engine_at(rt.alloc(), place)? else {
-                panic!(rt; "no request {place}");
-            };
-            seen(&mut engine, number);
-            expect_eq(&rt, &engine.finished(), &Some(Outcome::Stopped(End::Lost)));
-            expect_eq(&rt, &engine.requests(), &place);
-            expect_eq(&rt, &engine.cue(), &Cue::Rest);
-        }
-    }
-    Ok(())
-}
-
-// A request that may not be answered so, or a FAULT for which CTRL/STAT has no flag.
-#[test]
-fn replies_that_no_target_gives_confuse_an_engine(rt: HostRuntime) -> Result<(), Fail> {
-    for place in 1..=REQUESTS {
-        for number in [2, 4] {
+        for (number, end) in replies {
             let Some(mut engine) = engine_at(rt.alloc(), place)? else {
                 panic!(rt; "no request {place}");
             };
             if !is_exempt(place) && number == 2 {
                 continue;
             }
+            let is_looked_into = !is_exempt(place) && number == 4;
             seen(&mut engine, number);
             passed(&mut engine);
-            if !is_exempt(place) {
-                expect_eq(&rt, &engine.finished(), &None);
+            if is_looked_into {
+                expect_eq_at(&rt, &(place, number), &engine.finished(), &None);
                 seen(&mut engine, 1);
                 taken(&mut engine, 0xf000_0000);
             }
-            let requests = if is_exempt(place) {
-                place
-            } else {
-                place.saturating_add(1)
-            };
-            expect_eq(
-                &rt,
-                &engine.finished(),
-                &Some(Outcome::Stopped(End::Confused)),
-            );
-            expect_eq(&rt, &engine.requests(), &requests);
-            expect_eq(&rt, &engine.cue(), &Cue::Rest);
+            let requests = place.saturating_add(u64::from(is_looked_into));
+            let ended = Some(Outcome::Stopped(end));
+            expect_eq_at(&rt, &(place, number), &engine.finished(), &ended);
+            expect_eq_at(&rt, &(place, number), &engine.requests(), &requests);
+            expect_eq_at(&rt, &(place, number), &engine.cue(), &Cue::Rest);
         }
     }
     Ok(())

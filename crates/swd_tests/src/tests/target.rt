@@ -1,52 +1,67 @@
 //! The tables over each simulated target.
-use super::tables;
+use super::expect::{expect_at, expect_eq_at};
+use super::row::FILLER;
+use super::steps::{Step, failing, make};
+use super::tables::{MARKED, ROWS, Row};
+use crate::Simulated;
+use std::alloc::Global;
+use std::process::Abort;
 use swd_clocked::ClockedBench;
-use swd_target::Bench;
+use swd_port::Register;
+use swd_target::{Bench, Mark, Quirks};
 
-#[test]
-fn the_debug_port_answers_its_calls(rt: HostRuntime) {
-    assert!(rt; tables::debug_port::<Bench>(rt.alloc()));
-    assert!(rt; tables::debug_port::<ClockedBench>(rt.alloc()));
+// A target just made for this row goes as its steps say, and so with each choice for late transfers.
+fn goes<W: Simulated + Drop, R: Abort>(rt: &R, alloc: Global, row: &Row) {
+    for late in row.late {
+        let quirks = Quirks {
+            wrap: row.wrap,
+            late: *late,
+            filler: FILLER,
+        };
+        match make::<W>(alloc, row.words, quirks, row.marks) {
+            Some(mut wire) => {
+                for (piece, steps) in row.steps.iter().enumerate() {
+                    let failing = failing(&mut wire, steps);
+                    expect_eq_at(rt, &(row.name, *late, piece), &failing, &None);
+                }
+            }
+            None => expect_at(rt, &row.name, false),
+        }
+    }
+}
+
+fn goes_over_each<R: Abort>(rt: &R, alloc: Global, row: &Row) {
+    goes::<Bench, R>(rt, alloc, row);
+    goes::<ClockedBench, R>(rt, alloc, row);
 }
 
 #[test]
-fn the_access_port_answers_its_calls(rt: HostRuntime) {
-    assert!(rt; tables::access_port::<Bench>(rt.alloc()));
-    assert!(rt; tables::access_port::<ClockedBench>(rt.alloc()));
-}
-
-#[test]
-fn the_address_register_wraps_or_carries_on_at_a_kilobyte(rt: HostRuntime) {
-    assert!(rt; tables::kilobyte::<Bench>(rt.alloc()));
-    assert!(rt; tables::kilobyte::<ClockedBench>(rt.alloc()));
-}
-
-#[test]
-fn a_late_transfer_takes_effect_when_it_is_settled(rt: HostRuntime) {
-    assert!(rt; tables::late_transfer::<Bench>(rt.alloc()));
-    assert!(rt; tables::late_transfer::<ClockedBench>(rt.alloc()));
-}
-
-#[test]
-fn an_access_without_power_sets_stickyerr_beside_wdataerr(rt: HostRuntime) {
-    assert!(rt; tables::both_flags::<Bench>(rt.alloc()));
-    assert!(rt; tables::both_flags::<ClockedBench>(rt.alloc()));
-}
-
-#[test]
-fn a_damaged_write_leaves_the_values_that_were_read(rt: HostRuntime) {
-    assert!(rt; tables::damaged_write::<Bench>(rt.alloc()));
-    assert!(rt; tables::damaged_write::<ClockedBench>(rt.alloc()));
-}
-
-#[test]
-fn an_unanswered_read_and_a_bus_error_leave_registers_alone(rt: HostRuntime) {
-    assert!(rt; tables::left_alone::<Bench>(rt.alloc()));
-    assert!(rt; tables::left_alone::<ClockedBench>(rt.alloc()));
-}
-
-#[test]
-fn marks_disturb_and_lose_requests(rt: HostRuntime) {
-    assert!(rt; tables::marks::<Bench>(rt.alloc()));
-    assert!(rt; tables::marks::<ClockedBench>(rt.alloc()));
+fn each_simulated_target_goes_as_the_tables_say(rt: HostRuntime) {
+    for row in &ROWS {
+        goes_over_each(&rt, rt.alloc(), row);
+    }
+    for marked in &MARKED {
+        let marks = [
+            Mark::Clean,
+            Mark::Clean,
+            Mark::Clean,
+            Mark::Clean,
+            Mark::Clean,
+            marked.mark,
+        ];
+        let before = [
+            Step::Up,
+            Step::Write(Register::TarWrite, marked.addr),
+            Step::Write(Register::DrwWrite, 0x0000_0001),
+        ];
+        let row = Row {
+            name: marked.name,
+            wrap: true,
+            late: &[marked.late],
+            words: 16,
+            marks: &marks,
+            steps: &[&before, marked.steps],
+        };
+        goes_over_each(&rt, rt.alloc(), &row);
+    }
 }
