@@ -1,77 +1,140 @@
 //! Runs of writes at addresses that follow each other: each is confirmed by the next one's request.
-use super::row::{BASE, BURST, WORD, all_come_out, run_of, stopped, whole, written};
+use super::row::{BURST, BURST_LOG, RUN, Row, Run, WHOLE, WRITTEN, Wanted, all_come_out};
 use std::test::Fail;
 use swd_host::End;
-use swd_port::Answer;
+use swd_port::{Answer, Transfer};
 use swd_target::Mark;
 
-#[test]
-fn a_burst_reads_rdbuff_once(rt: HostRuntime) -> Result<(), Fail> {
-    let answers = [Answer::Written, Answer::Written, Answer::Written];
-    let log = [
-        written(BASE, WORD),
-        written(0x2000_0004, 1),
-        written(0x2000_0008, 2),
-    ];
-    let rows = [
-        (run_of(&[], &BURST), whole(&answers, 14, &log)),
-        // The second write is damaged: it and the third are done again.
-        (
-            run_of(&[(12, Mark::Flip(9))], &BURST),
-            whole(&answers, 19, &log),
-        ),
-    ];
-    all_come_out(&rt, rt.alloc(), &rows)
-}
+// The first two writes were done.
+const TWO: [Transfer; 2] = [
+    WRITTEN,
+    Transfer {
+        read: false,
+        addr: 0x2000_0004,
+        word: 1,
+    },
+];
+
+const ROWS: [Row; 8] = [
+    (
+        "a burst reads RDBUFF once",
+        Run {
+            accesses: &BURST,
+            ..RUN
+        },
+        Wanted {
+            answers: &[Answer::Written, Answer::Written, Answer::Written],
+            requests: 14,
+            log: &BURST_LOG,
+            ..WHOLE
+        },
+    ),
+    (
+        "the second write is damaged: it and the third are done again",
+        Run {
+            marks: &[(12, Mark::Flip(9))],
+            accesses: &BURST,
+            ..RUN
+        },
+        Wanted {
+            answers: &[Answer::Written, Answer::Written, Answer::Written],
+            requests: 19,
+            log: &BURST_LOG,
+            ..WHOLE
+        },
+    ),
+    (
+        "the log is full at the third",
+        Run {
+            accesses: &BURST,
+            room: 2,
+            ..RUN
+        },
+        Wanted {
+            answers: &[Answer::Written, Answer::Written, Answer::BusFault],
+            requests: 17,
+            log: &TWO,
+            ..WHOLE
+        },
+    ),
+    (
+        "a bus error inside a burst is that of the write before",
+        Run {
+            accesses: &BURST,
+            words: 1,
+            ..RUN
+        },
+        Wanted {
+            answers: &[Answer::Written, Answer::BusFault, Answer::BusFault],
+            requests: 22,
+            log: &[WRITTEN],
+            ..WHOLE
+        },
+    ),
+    (
+        "the third write was begun when the second was answered; then TAR's write is lost",
+        Run {
+            marks: &[(17, Mark::Deaf)],
+            accesses: &BURST,
+            words: 1,
+            ..RUN
+        },
+        Wanted {
+            ended: End::Lost,
+            answers: &[Answer::Written, Answer::BusFault],
+            begun: 1,
+            requests: 17,
+            log: &[WRITTEN],
+        },
+    ),
+    (
+        "the second request isn't heard: the first write is left unanswered",
+        Run {
+            marks: &[(12, Mark::Deaf)],
+            accesses: &BURST,
+            ..RUN
+        },
+        Wanted {
+            ended: End::Lost,
+            answers: &[],
+            begun: 1,
+            requests: 12,
+            log: &[WRITTEN],
+        },
+    ),
+    (
+        "the second request's answer is lost: the first write is left unanswered",
+        Run {
+            marks: &[(12, Mark::Mute(0))],
+            accesses: &BURST,
+            ..RUN
+        },
+        Wanted {
+            ended: End::Lost,
+            answers: &[],
+            begun: 1,
+            requests: 12,
+            log: &[WRITTEN],
+        },
+    ),
+    (
+        "the third request isn't heard: the second write is left unanswered",
+        Run {
+            marks: &[(13, Mark::Deaf)],
+            accesses: &BURST,
+            ..RUN
+        },
+        Wanted {
+            ended: End::Lost,
+            answers: &[Answer::Written],
+            begun: 1,
+            requests: 13,
+            log: &TWO,
+        },
+    ),
+];
 
 #[test]
-fn a_bus_error_inside_a_burst_is_that_of_the_write_before(rt: HostRuntime) -> Result<(), Fail> {
-    let two = [written(BASE, WORD), written(0x2000_0004, 1)];
-    let one = [written(BASE, WORD)];
-    let rows = [
-        // The log is full at the third.
-        (
-            run_of(&[], &BURST).room(2),
-            whole(
-                &[Answer::Written, Answer::Written, Answer::BusFault],
-                17,
-                &two,
-            ),
-        ),
-        (
-            run_of(&[], &BURST).words(1),
-            whole(
-                &[Answer::Written, Answer::BusFault, Answer::BusFault],
-                22,
-                &one,
-            ),
-        ),
-        // The third write was begun when the second was answered; then TAR's write is lost.
-        (
-            run_of(&[(17, Mark::Deaf)], &BURST).words(1),
-            stopped(End::Lost, &[Answer::Written, Answer::BusFault], 1, 17, &one),
-        ),
-    ];
-    all_come_out(&rt, rt.alloc(), &rows)
-}
-
-#[test]
-fn a_lost_acknowledgement_leaves_the_write_before_unanswered(rt: HostRuntime) -> Result<(), Fail> {
-    let one = [written(BASE, WORD)];
-    let two = [written(BASE, WORD), written(0x2000_0004, 1)];
-    let rows = [
-        (
-            run_of(&[(12, Mark::Deaf)], &BURST),
-            stopped(End::Lost, &[], 1, 12, &one),
-        ),
-        (
-            run_of(&[(12, Mark::Mute(0))], &BURST),
-            stopped(End::Lost, &[], 1, 12, &one),
-        ),
-        (
-            run_of(&[(13, Mark::Deaf)], &BURST),
-            stopped(End::Lost, &[Answer::Written], 1, 13, &two),
-        ),
-    ];
-    all_come_out(&rt, rt.alloc(), &rows)
+fn each_write_of_a_burst_is_confirmed_by_the_request_after_it(rt: HostRuntime) -> Result<(), Fail> {
+    all_come_out(&rt, rt.alloc(), &ROWS)
 }

@@ -2,7 +2,7 @@
 use super::expect::expect_eq;
 use super::items::{lost, recorder_over};
 use super::row::{
-    BASE, QUIRKS, WORD, WRITE, all_come_out, report_of, run_of, stopped, target_of, written,
+    QUIRKS, RUN, Row, Run, WRITE, WRITTEN, Wanted, all_come_out, report_of, target_of,
 };
 use crate::Simulated;
 use std::alloc::Global;
@@ -13,37 +13,94 @@ use swd_host::End;
 use swd_port::Access;
 use swd_target::{Bench, Mark, Quirks};
 
+const ROWS: [Row; 5] = [
+    (
+        "the first request isn't heard",
+        Run {
+            marks: &[(1, Mark::Deaf)],
+            ..RUN
+        },
+        Wanted {
+            ended: End::Lost,
+            answers: &[],
+            begun: 0,
+            requests: 1,
+            log: &[],
+        },
+    ),
+    (
+        "the answer to TAR is lost",
+        Run {
+            marks: &[(10, Mark::Mute(2))],
+            accesses: &[WRITE],
+            ..RUN
+        },
+        Wanted {
+            ended: End::Lost,
+            answers: &[],
+            begun: 0,
+            requests: 10,
+            log: &[],
+        },
+    ),
+    (
+        "the word of the write is never sent",
+        Run {
+            marks: &[(11, Mark::Mute(0))],
+            accesses: &[WRITE],
+            ..RUN
+        },
+        Wanted {
+            ended: End::Lost,
+            answers: &[],
+            begun: 1,
+            requests: 11,
+            log: &[],
+        },
+    ),
+    (
+        "the request that confirms a write isn't heard",
+        Run {
+            marks: &[(12, Mark::Deaf)],
+            accesses: &[WRITE],
+            ..RUN
+        },
+        Wanted {
+            ended: End::Lost,
+            answers: &[],
+            begun: 1,
+            requests: 12,
+            log: &[WRITTEN],
+        },
+    ),
+    (
+        "the request that confirms a write is answered WAIT, and then the answer is lost",
+        Run {
+            marks: &[(12, Mark::Wait), (13, Mark::Mute(0))],
+            accesses: &[WRITE],
+            ..RUN
+        },
+        Wanted {
+            ended: End::Lost,
+            answers: &[],
+            begun: 1,
+            requests: 13,
+            log: &[WRITTEN],
+        },
+    ),
+];
+
 #[test]
 fn a_lost_acknowledgement_ends_the_run(rt: HostRuntime) -> Result<(), Fail> {
-    let log = [written(BASE, WORD)];
-    let rows = [
-        (
-            run_of(&[(1, Mark::Deaf)], &[]),
-            stopped(End::Lost, &[], 0, 1, &[]),
-        ),
-        (
-            run_of(&[(10, Mark::Mute(2))], &[WRITE]),
-            stopped(End::Lost, &[], 0, 10, &[]),
-        ),
-        // The word of the write is never sent.
-        (
-            run_of(&[(11, Mark::Mute(0))], &[WRITE]),
-            stopped(End::Lost, &[], 1, 11, &[]),
-        ),
-        (
-            run_of(&[(12, Mark::Deaf)], &[WRITE]),
-            stopped(End::Lost, &[], 1, 12, &log),
-        ),
-        (
-            run_of(&[(12, Mark::Wait), (13, Mark::Mute(0))], &[WRITE]),
-            stopped(End::Lost, &[], 1, 13, &log),
-        ),
-    ];
-    all_come_out(&rt, rt.alloc(), &rows)
+    all_come_out(&rt, rt.alloc(), &ROWS)
 }
 
 fn takes_effect_late<S: Simulated + Drop, R: Abort>(rt: &R, alloc: Global) -> Result<(), Fail> {
-    let run = run_of(&[(12, Mark::Deaf)], &[WRITE]);
+    let run = Run {
+        marks: &[(12, Mark::Deaf)],
+        accesses: &[WRITE],
+        ..RUN
+    };
     let quirks = Quirks {
         late: true,
         ..QUIRKS
@@ -54,7 +111,7 @@ fn takes_effect_late<S: Simulated + Drop, R: Abort>(rt: &R, alloc: Global) -> Re
     let _ = report_of(alloc, &mut bench, &run)?;
     assert!(rt; bench.memory().log().is_empty());
     bench.settle();
-    expect_eq(rt, &bench.memory().log(), &[written(BASE, WORD)].as_slice());
+    expect_eq(rt, &bench.memory().log(), &[WRITTEN].as_slice());
     Ok(())
 }
 
@@ -72,7 +129,11 @@ fn a_changed_bit_makes_no_acknowledgement_of_another(rt: HostRuntime) -> Result<
         for (bit, seen) in [0, 1, 2].into_iter().zip(seen) {
             let marks = [(place, Mark::Mute(bit))];
             let accesses = [Access::Write(0x3000_0000, 1)];
-            let run = run_of(&marks, &accesses);
+            let run = Run {
+                marks: &marks,
+                accesses: &accesses,
+                ..RUN
+            };
             let Some(bench) = target_of::<Bench>(rt.alloc(), &run, QUIRKS)? else {
                 panic!(rt; "no target");
             };

@@ -1,9 +1,7 @@
 //! What a host sends, request by request.
-use super::expect::expect_eq;
+use super::expect::{expect_at, expect_eq, expect_eq_at};
 use super::items::{bits, damaged, faulted, lost, moved, recorder_over, waited};
-use super::row::{
-    BASE, BURST, FILLER, QUIRKS, READ, Run, WORD, WRITE, report_of, run_of, target_of,
-};
+use super::row::{BASE, BURST, FILLER, QUIRKS, READ, RUN, Run, WORD, WRITE, report_of, target_of};
 use crate::Simulated;
 use std::alloc::Global;
 use std::process::Abort;
@@ -38,261 +36,341 @@ pub const DRW: u8 = 0x9f;
 
 pub const DRW_WRITE: u8 = 0xbb;
 
+/// An item as a row names it, by the byte of its request.
+#[derive(Clone, Copy)]
+pub enum Sent {
+    Reset(u64),
+    Switch,
+    Idle(u64),
+    /// The request was answered OK, and this word was read or written.
+    Moved(u8, u32),
+    /// It was answered OK, and the word that was read means nothing: it is the target's filler.
+    Unknown(u8),
+    /// It was answered OK, and this word was read, with wrong parity.
+    Damaged(u8, u32),
+    Waited(u8),
+    Faulted(u8),
+    /// This was seen in place of an acknowledgement.
+    Lost(u8, u8),
+}
+
 // Eight zeros, after a run that is whole.
-pub const IDLE: Item = Item::Idle(8);
+pub const IDLE: Sent = Sent::Idle(8);
 
-// The lead and the opening, where CSW's read returns this unknown word.
-fn opening(filler: u32) -> [Item; 13] {
-    [
-        Item::Reset(56),
-        Item::Switch,
-        Item::Reset(56),
-        Item::Idle(2),
-        moved(DPIDR, 0x2ba0_1477),
-        moved(ABORT, 0x0000_001e),
-        moved(CTRL_STAT, 0x0000_0000),
-        moved(SELECT, 0x0000_0000),
-        moved(CTRL_STAT_WRITE, 0x5000_0000),
-        moved(CTRL_STAT, 0xf000_0000),
-        moved(CSW_WRITE, 0x2300_0012),
-        moved(CSW, filler),
-        moved(RDBUFF, 0x2300_0052),
-    ]
+fn item_of(sent: Sent, filler: u32) -> Item {
+    match sent {
+        Sent::Reset(ones) => Item::Reset(ones),
+        Sent::Switch => Item::Switch,
+        Sent::Idle(zeros) => Item::Idle(zeros),
+        Sent::Moved(byte, word) => moved(byte, word),
+        Sent::Unknown(byte) => moved(byte, filler),
+        Sent::Damaged(byte, word) => damaged(byte, word),
+        Sent::Waited(byte) => waited(byte),
+        Sent::Faulted(byte) => faulted(byte),
+        Sent::Lost(byte, seen) => lost(byte, seen),
+    }
 }
 
-// The run sends the opening and then these, over each simulated target.
-fn sends<R: Abort>(
-    rt: &R,
-    alloc: Global,
-    run: &Run,
-    quirks: Quirks,
-    after: &[Item],
-) -> Result<(), Fail> {
-    sends_over::<Bench, R>(rt, alloc, run, quirks, after)?;
-    sends_over::<ClockedBench, R>(rt, alloc, run, quirks, after)
+/// These items, over a target with this filler.
+pub(super) fn items_of(alloc: Global, sent: &[Sent], filler: u32) -> Result<Vec<Item>, Fail> {
+    let mut items = Vec::new(alloc);
+    for sent in sent {
+        items.push(item_of(*sent, filler))?;
+    }
+    Ok(items)
 }
 
-fn sends_over<S: Simulated + Drop, R: Abort>(
+// The lead and the opening, where CSW's read returns an unknown word.
+const OPENING: [Sent; 13] = [
+    Sent::Reset(56),
+    Sent::Switch,
+    Sent::Reset(56),
+    Sent::Idle(2),
+    Sent::Moved(DPIDR, 0x2ba0_1477),
+    Sent::Moved(ABORT, 0x0000_001e),
+    Sent::Moved(CTRL_STAT, 0x0000_0000),
+    Sent::Moved(SELECT, 0x0000_0000),
+    Sent::Moved(CTRL_STAT_WRITE, 0x5000_0000),
+    Sent::Moved(CTRL_STAT, 0xf000_0000),
+    Sent::Moved(CSW_WRITE, 0x2300_0012),
+    Sent::Unknown(CSW),
+    Sent::Moved(RDBUFF, 0x2300_0052),
+];
+
+// What is tried, a run, and what it sends after the opening.
+type Row = (&'static str, Run<'static, 'static>, &'static [Sent]);
+
+const ROWS: [Row; 14] = [
+    ("a run of nothing", RUN, &[IDLE]),
+    (
+        "a value is read from RDBUFF",
+        Run {
+            accesses: &[WRITE, READ],
+            ..RUN
+        },
+        &[
+            Sent::Moved(TAR, BASE),
+            Sent::Moved(DRW_WRITE, WORD),
+            Sent::Unknown(RDBUFF),
+            Sent::Moved(TAR, BASE),
+            // What the DRW read itself returns means nothing.
+            Sent::Unknown(DRW),
+            Sent::Moved(RDBUFF, WORD),
+            IDLE,
+        ],
+    ),
+    (
+        "the address of a second read follows by itself",
+        Run {
+            accesses: &[READ, Access::Read(0x2000_0004)],
+            ..RUN
+        },
+        &[
+            Sent::Moved(TAR, BASE),
+            Sent::Unknown(DRW),
+            Sent::Moved(RDBUFF, 0),
+            Sent::Unknown(DRW),
+            Sent::Moved(RDBUFF, 0),
+            IDLE,
+        ],
+    ),
+    (
+        "the address is written where it isn't known",
+        Run {
+            accesses: &[
+                Access::Write(0x2000_03fc, 0x1111_1111),
+                Access::Write(0x2000_0400, 0x2222_2222),
+            ],
+            words: 512,
+            ..RUN
+        },
+        &[
+            Sent::Moved(TAR, 0x2000_03fc),
+            Sent::Moved(DRW_WRITE, 0x1111_1111),
+            Sent::Unknown(RDBUFF),
+            Sent::Moved(TAR, 0x2000_0400),
+            Sent::Moved(DRW_WRITE, 0x2222_2222),
+            Sent::Unknown(RDBUFF),
+            IDLE,
+        ],
+    ),
+    (
+        "the flag of a bus error is cleared",
+        Run {
+            accesses: &[Access::Read(0x3000_0000), READ],
+            ..RUN
+        },
+        &[
+            Sent::Moved(TAR, 0x3000_0000),
+            Sent::Unknown(DRW),
+            Sent::Faulted(RDBUFF),
+            Sent::Moved(CTRL_STAT, 0xf000_0020),
+            Sent::Moved(ABORT, 0x0000_0004),
+            Sent::Moved(CTRL_STAT, 0xf000_0000),
+            Sent::Moved(TAR, BASE),
+            Sent::Unknown(DRW),
+            Sent::Moved(RDBUFF, 0),
+            IDLE,
+        ],
+    ),
+    (
+        "a damaged value is asked for again",
+        Run {
+            marks: &[(12, Mark::Flip(0))],
+            accesses: &[READ],
+            ..RUN
+        },
+        &[
+            Sent::Moved(TAR, BASE),
+            Sent::Unknown(DRW),
+            Sent::Damaged(RDBUFF, 0x0000_0001),
+            Sent::Moved(RESEND, 0x0000_0000),
+            IDLE,
+        ],
+    ),
+    (
+        "a damaged write is sent again",
+        Run {
+            marks: &[(11, Mark::Flip(17))],
+            accesses: &[WRITE],
+            ..RUN
+        },
+        &[
+            Sent::Moved(TAR, BASE),
+            Sent::Moved(DRW_WRITE, WORD),
+            Sent::Faulted(RDBUFF),
+            Sent::Moved(CTRL_STAT, 0xf000_0080),
+            Sent::Moved(ABORT, 0x0000_0008),
+            Sent::Moved(CTRL_STAT, 0xf000_0000),
+            Sent::Moved(DRW_WRITE, WORD),
+            Sent::Unknown(RDBUFF),
+            IDLE,
+        ],
+    ),
+    (
+        "a damaged write is sent again from the damaged request on",
+        Run {
+            marks: &[(10, Mark::Flip(3))],
+            accesses: &[Access::Write(0x2000_0008, 1)],
+            ..RUN
+        },
+        &[
+            Sent::Moved(TAR, 0x2000_0008),
+            Sent::Faulted(DRW_WRITE),
+            Sent::Moved(CTRL_STAT, 0xf000_00c0),
+            Sent::Moved(ABORT, 0x0000_0008),
+            Sent::Moved(CTRL_STAT, 0xf000_0040),
+            Sent::Moved(TAR, 0x2000_0008),
+            Sent::Moved(DRW_WRITE, 0x0000_0001),
+            Sent::Unknown(RDBUFF),
+            IDLE,
+        ],
+    ),
+    (
+        "a flag is cleared again where the clearing was damaged",
+        Run {
+            marks: &[(11, Mark::Flip(17)), (14, Mark::Flip(5))],
+            accesses: &[WRITE],
+            ..RUN
+        },
+        &[
+            Sent::Moved(TAR, BASE),
+            Sent::Moved(DRW_WRITE, WORD),
+            Sent::Faulted(RDBUFF),
+            Sent::Moved(CTRL_STAT, 0xf000_0080),
+            Sent::Moved(ABORT, 0x0000_0008),
+            Sent::Moved(CTRL_STAT, 0xf000_0080),
+            Sent::Moved(ABORT, 0x0000_0008),
+            Sent::Moved(CTRL_STAT, 0xf000_0000),
+            Sent::Moved(DRW_WRITE, WORD),
+            Sent::Unknown(RDBUFF),
+            IDLE,
+        ],
+    ),
+    (
+        "the writes of a burst follow each other",
+        Run {
+            accesses: &BURST,
+            ..RUN
+        },
+        &[
+            Sent::Moved(TAR, BASE),
+            Sent::Moved(DRW_WRITE, WORD),
+            Sent::Moved(DRW_WRITE, 1),
+            Sent::Moved(DRW_WRITE, 2),
+            Sent::Unknown(RDBUFF),
+            IDLE,
+        ],
+    ),
+    (
+        "the writes of a burst follow each other again from the damaged one on",
+        Run {
+            marks: &[(12, Mark::Flip(9))],
+            accesses: &BURST,
+            ..RUN
+        },
+        &[
+            Sent::Moved(TAR, BASE),
+            Sent::Moved(DRW_WRITE, WORD),
+            Sent::Moved(DRW_WRITE, 1),
+            Sent::Faulted(DRW_WRITE),
+            Sent::Moved(CTRL_STAT, 0xf000_00c0),
+            Sent::Moved(ABORT, 0x0000_0008),
+            Sent::Moved(CTRL_STAT, 0xf000_0040),
+            Sent::Moved(DRW_WRITE, 1),
+            Sent::Moved(DRW_WRITE, 2),
+            Sent::Unknown(RDBUFF),
+            IDLE,
+        ],
+    ),
+    (
+        "nothing is sent after a lost answer",
+        Run {
+            marks: &[(11, Mark::Mute(0))],
+            accesses: &[WRITE],
+            ..RUN
+        },
+        &[Sent::Moved(TAR, BASE), Sent::Lost(DRW_WRITE, 0)],
+    ),
+    (
+        "nothing is sent after a request that isn't heard",
+        Run {
+            marks: &[(12, Mark::Deaf)],
+            accesses: &[WRITE],
+            ..RUN
+        },
+        &[
+            Sent::Moved(TAR, BASE),
+            Sent::Moved(DRW_WRITE, WORD),
+            Sent::Lost(RDBUFF, 7),
+        ],
+    ),
+    (
+        "nothing is sent once the tries are out",
+        Run {
+            marks: &[(12, Mark::Wait), (13, Mark::Wait), (14, Mark::Wait)],
+            accesses: &[READ],
+            tries: 2,
+            ..RUN
+        },
+        &[
+            Sent::Moved(TAR, BASE),
+            Sent::Unknown(DRW),
+            Sent::Waited(RDBUFF),
+            Sent::Waited(RDBUFF),
+            Sent::Waited(RDBUFF),
+        ],
+    ),
+];
+
+// The run sends the opening and then these.
+fn sends<S: Simulated + Drop, R: Abort>(
     rt: &R,
     alloc: Global,
-    run: &Run,
-    quirks: Quirks,
-    after: &[Item],
+    (name, run, after): Row,
+    filler: u32,
 ) -> Result<(), Fail> {
-    let Some(bench) = target_of::<S>(alloc, run, quirks)? else {
-        panic!(rt; "a mark isn't legal");
+    let Some(target) = target_of::<S>(alloc, &run, Quirks { filler, ..QUIRKS })? else {
+        panic!(rt; "{name}: a mark isn't legal");
     };
-    let Some(mut wire) = recorder_over(alloc, bench) else {
-        panic!(rt; "something is due");
+    let Some(mut wire) = recorder_over(alloc, target) else {
+        panic!(rt; "{name}: something is due");
     };
-    let _ = report_of(alloc, &mut wire, run)?;
-    let opening = opening(quirks.filler);
-    assert!(rt; wire.items().starts_with(&opening));
-    expect_eq(rt, &wire.items().get(13..), &Some(after));
+    let _ = report_of(alloc, &mut wire, &run)?;
+    let opening = items_of(alloc, &OPENING, filler)?;
+    let after = items_of(alloc, after, filler)?;
+    expect_at(rt, &(name, filler), wire.items().starts_with(&opening));
+    expect_eq_at(
+        rt,
+        &(name, filler),
+        &wire.items().get(13..),
+        &Some(after.as_slice()),
+    );
+    Ok(())
+}
+
+#[test]
+fn a_run_sends_the_opening_and_then_its_accesses(rt: HostRuntime) -> Result<(), Fail> {
+    for row in ROWS {
+        for filler in [FILLER, 0xffff_ffff] {
+            sends::<Bench, HostRuntime>(&rt, rt.alloc(), row, filler)?;
+            sends::<ClockedBench, HostRuntime>(&rt, rt.alloc(), row, filler)?;
+        }
+    }
     Ok(())
 }
 
 #[test]
 fn a_run_of_nothing_is_552_bits(rt: HostRuntime) -> Result<(), Fail> {
-    let run = run_of(&[], &[]);
-    sends(&rt, rt.alloc(), &run, QUIRKS, &[IDLE])?;
-    let mut sum = bits(IDLE);
-    for item in opening(FILLER) {
-        sum = sum.saturating_add(bits(item));
+    let mut sum = bits(item_of(IDLE, FILLER));
+    for sent in OPENING {
+        sum = sum.saturating_add(bits(item_of(sent, FILLER)));
     }
     expect_eq(&rt, &sum, &552);
-    let Some(mut bench) = target_of::<ClockedBench>(rt.alloc(), &run, QUIRKS)? else {
+    let Some(mut bench) = target_of::<ClockedBench>(rt.alloc(), &RUN, QUIRKS)? else {
         panic!(rt; "no target");
     };
-    let _ = report_of(rt.alloc(), &mut bench, &run)?;
+    let _ = report_of(rt.alloc(), &mut bench, &RUN)?;
     expect_eq(&rt, &bench.cycles(), &552);
     Ok(())
-}
-
-#[test]
-fn a_value_is_read_from_rdbuff(rt: HostRuntime) -> Result<(), Fail> {
-    for filler in [FILLER, 0xffff_ffff] {
-        let after = [
-            moved(TAR, BASE),
-            moved(DRW_WRITE, WORD),
-            moved(RDBUFF, filler),
-            moved(TAR, BASE),
-            // What the DRW read itself returns means nothing.
-            moved(DRW, filler),
-            moved(RDBUFF, WORD),
-            IDLE,
-        ];
-        let quirks = Quirks { filler, ..QUIRKS };
-        sends(
-            &rt,
-            rt.alloc(),
-            &run_of(&[], &[WRITE, READ]),
-            quirks,
-            &after,
-        )?;
-    }
-    Ok(())
-}
-
-#[test]
-fn the_address_is_written_where_it_is_not_known(rt: HostRuntime) -> Result<(), Fail> {
-    let accesses = [READ, Access::Read(0x2000_0004)];
-    let after = [
-        moved(TAR, BASE),
-        moved(DRW, FILLER),
-        moved(RDBUFF, 0),
-        moved(DRW, FILLER),
-        moved(RDBUFF, 0),
-        IDLE,
-    ];
-    sends(&rt, rt.alloc(), &run_of(&[], &accesses), QUIRKS, &after)?;
-    let accesses = [
-        Access::Write(0x2000_03fc, 0x1111_1111),
-        Access::Write(0x2000_0400, 0x2222_2222),
-    ];
-    let after = [
-        moved(TAR, 0x2000_03fc),
-        moved(DRW_WRITE, 0x1111_1111),
-        moved(RDBUFF, FILLER),
-        moved(TAR, 0x2000_0400),
-        moved(DRW_WRITE, 0x2222_2222),
-        moved(RDBUFF, FILLER),
-        IDLE,
-    ];
-    let run = run_of(&[], &accesses).words(512);
-    sends(&rt, rt.alloc(), &run, QUIRKS, &after)
-}
-
-#[test]
-fn the_flag_of_a_bus_error_is_cleared(rt: HostRuntime) -> Result<(), Fail> {
-    let after = [
-        moved(TAR, 0x3000_0000),
-        moved(DRW, FILLER),
-        faulted(RDBUFF),
-        moved(CTRL_STAT, 0xf000_0020),
-        moved(ABORT, 0x0000_0004),
-        moved(CTRL_STAT, 0xf000_0000),
-        moved(TAR, BASE),
-        moved(DRW, FILLER),
-        moved(RDBUFF, 0),
-        IDLE,
-    ];
-    let accesses = [Access::Read(0x3000_0000), READ];
-    sends(&rt, rt.alloc(), &run_of(&[], &accesses), QUIRKS, &after)
-}
-
-#[test]
-fn a_damaged_value_is_asked_for_again(rt: HostRuntime) -> Result<(), Fail> {
-    let after = [
-        moved(TAR, BASE),
-        moved(DRW, FILLER),
-        damaged(RDBUFF, 0x0000_0001),
-        moved(RESEND, 0x0000_0000),
-        IDLE,
-    ];
-    let run = run_of(&[(12, Mark::Flip(0))], &[READ]);
-    sends(&rt, rt.alloc(), &run, QUIRKS, &after)
-}
-
-#[test]
-fn a_damaged_write_is_sent_again_from_the_damaged_request_on(rt: HostRuntime) -> Result<(), Fail> {
-    let after = [
-        moved(TAR, BASE),
-        moved(DRW_WRITE, WORD),
-        faulted(RDBUFF),
-        moved(CTRL_STAT, 0xf000_0080),
-        moved(ABORT, 0x0000_0008),
-        moved(CTRL_STAT, 0xf000_0000),
-        moved(DRW_WRITE, WORD),
-        moved(RDBUFF, FILLER),
-        IDLE,
-    ];
-    let run = run_of(&[(11, Mark::Flip(17))], &[WRITE]);
-    sends(&rt, rt.alloc(), &run, QUIRKS, &after)?;
-    let after = [
-        moved(TAR, 0x2000_0008),
-        faulted(DRW_WRITE),
-        moved(CTRL_STAT, 0xf000_00c0),
-        moved(ABORT, 0x0000_0008),
-        moved(CTRL_STAT, 0xf000_0040),
-        moved(TAR, 0x2000_0008),
-        moved(DRW_WRITE, 0x0000_0001),
-        moved(RDBUFF, FILLER),
-        IDLE,
-    ];
-    let accesses = [Access::Write(0x2000_0008, 1)];
-    let run = run_of(&[(10, Mark::Flip(3))], &accesses);
-    sends(&rt, rt.alloc(), &run, QUIRKS, &after)
-}
-
-#[test]
-fn a_flag_is_cleared_again_where_the_clearing_was_damaged(rt: HostRuntime) -> Result<(), Fail> {
-    let after = [
-        moved(TAR, BASE),
-        moved(DRW_WRITE, WORD),
-        faulted(RDBUFF),
-        moved(CTRL_STAT, 0xf000_0080),
-        moved(ABORT, 0x0000_0008),
-        moved(CTRL_STAT, 0xf000_0080),
-        moved(ABORT, 0x0000_0008),
-        moved(CTRL_STAT, 0xf000_0000),
-        moved(DRW_WRITE, WORD),
-        moved(RDBUFF, FILLER),
-        IDLE,
-    ];
-    let marks = [(11, Mark::Flip(17)), (14, Mark::Flip(5))];
-    let run = run_of(&marks, &[WRITE]);
-    sends(&rt, rt.alloc(), &run, QUIRKS, &after)
-}
-
-#[test]
-fn the_writes_of_a_burst_follow_each_other(rt: HostRuntime) -> Result<(), Fail> {
-    let after = [
-        moved(TAR, BASE),
-        moved(DRW_WRITE, WORD),
-        moved(DRW_WRITE, 1),
-        moved(DRW_WRITE, 2),
-        moved(RDBUFF, FILLER),
-        IDLE,
-    ];
-    sends(&rt, rt.alloc(), &run_of(&[], &BURST), QUIRKS, &after)?;
-    let after = [
-        moved(TAR, BASE),
-        moved(DRW_WRITE, WORD),
-        moved(DRW_WRITE, 1),
-        faulted(DRW_WRITE),
-        moved(CTRL_STAT, 0xf000_00c0),
-        moved(ABORT, 0x0000_0008),
-        moved(CTRL_STAT, 0xf000_0040),
-        moved(DRW_WRITE, 1),
-        moved(DRW_WRITE, 2),
-        moved(RDBUFF, FILLER),
-        IDLE,
-    ];
-    let run = run_of(&[(12, Mark::Flip(9))], &BURST);
-    sends(&rt, rt.alloc(), &run, QUIRKS, &after)
-}
-
-#[test]
-fn nothing_is_sent_after_a_lost_acknowledgement(rt: HostRuntime) -> Result<(), Fail> {
-    let run = run_of(&[(11, Mark::Mute(0))], &[WRITE]);
-    let after = [moved(TAR, BASE), lost(DRW_WRITE, 0)];
-    sends(&rt, rt.alloc(), &run, QUIRKS, &after)?;
-    let run = run_of(&[(12, Mark::Deaf)], &[WRITE]);
-    let after = [moved(TAR, BASE), moved(DRW_WRITE, WORD), lost(RDBUFF, 7)];
-    sends(&rt, rt.alloc(), &run, QUIRKS, &after)
-}
-
-#[test]
-fn nothing_is_sent_once_the_tries_are_out(rt: HostRuntime) -> Result<(), Fail> {
-    let marks = [(12, Mark::Wait), (13, Mark::Wait), (14, Mark::Wait)];
-    let run = run_of(&marks, &[READ]).tries(2);
-    let after = [
-        moved(TAR, BASE),
-        moved(DRW, FILLER),
-        waited(RDBUFF),
-        waited(RDBUFF),
-        waited(RDBUFF),
-    ];
-    sends(&rt, rt.alloc(), &run, QUIRKS, &after)
 }

@@ -2,7 +2,7 @@
 use super::expect::{expect_eq, expect_eq_at};
 use super::items::recorder_over;
 use super::row::{
-    BASE, QUIRKS, READ, Run, WORD, WRITE, read, report_of, run_of, target_of, written,
+    BASE, QUIRKS, READ, READ_WORD, RUN, Run, WORD, WRITE, WRITTEN, report_of, run_of, target_of,
 };
 use crate::Simulated;
 use linked_list_allocator::LocalHeap;
@@ -119,7 +119,7 @@ fn is_refused<S: Simulated + Drop, R: Abort, A: Allocator + Copy>(
     }
     assert!(rt; wire.items().is_empty());
     is_as_new(rt, global, &mut wire)?;
-    let log = [written(BASE, WORD), read(BASE, WORD)];
+    let log = [WRITTEN, READ_WORD];
     expect_eq(rt, &wire.into_wire().memory().log(), &log.as_slice());
     Ok(true)
 }
@@ -158,7 +158,11 @@ fn want_of_memory_is_told_before_anything_is_sent(rt: HostRuntime) -> Result<(),
 #[test]
 fn as_many_accesses_as_a_list_may_have(rt: HostRuntime) -> Result<(), Fail> {
     let accesses = vec![in rt.alloc(); READ; 65_536]?;
-    let run = run_of(&[], &accesses).room(65_536);
+    let run = Run {
+        accesses: &accesses,
+        room: 65_536,
+        ..RUN
+    };
     let Some(mut bench) = target_of::<Bench>(rt.alloc(), &run, QUIRKS)? else {
         panic!(rt; "no target");
     };

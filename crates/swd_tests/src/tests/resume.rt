@@ -5,11 +5,13 @@ ghost use Rattle.swd_host.specs.Reports.{told_of};
 
 use super::expect::{expect_at, expect_eq, expect_eq_at};
 use super::row::{
-    BASE, QUIRKS, READ, Run, WORD, WRITE, Wanted, read, run_of, stopped, target_of, whole, written,
+    QUIRKS, READ, READ_WORD, READ_ZERO, RUN, Run, WHOLE, WORD, WRITE, WRITTEN, Wanted, run_of,
+    target_of, tells,
 };
 use crate::Simulated;
 use linked_list_allocator::LocalHeap;
 use std::alloc::{Allocator, Global};
+use std::fmt::Debug;
 use std::process::Abort;
 use std::test::Fail;
 use swd_clocked::ClockedBench;
@@ -77,103 +79,147 @@ fn gone_on<S: Simulated + Drop>(
     }
 }
 
-// What was reported.
-fn tells<R: Abort, A: Allocator>(rt: &R, name: usize, report: &Report<A>, wanted: Wanted) {
-    expect_eq_at(rt, &name, &report.ended, &wanted.ended);
-    expect_eq_at(rt, &name, &report.requests, &wanted.requests);
-    expect_eq_at(rt, &name, &report.begun, &wanted.begun);
-    expect_eq_at(rt, &name, &report.answers.as_slice(), &wanted.answers);
-}
-
 // A run that ends at a lost acknowledgement, and what comes of going on once, and twice where it ended so again.
 #[derive(Clone, Copy)]
-struct Row<'a, 'm, 'l> {
-    run: Run<'m, 'a>,
+struct Row {
+    name: &'static str,
+    run: Run<'static, 'static>,
     late: bool,
     tries: u32,
-    once: Wanted<'a, 'l>,
-    twice: Option<Wanted<'a, 'l>>,
+    once: Wanted<'static, 'static>,
+    twice: Option<Wanted<'static, 'static>>,
 }
 
 // The log is that of the last time, once nothing is pending.
-fn leaves<S: Simulated + Drop, R: Abort>(rt: &R, name: usize, target: S, log: &[Transfer]) {
+fn leaves<S: Simulated + Drop, R: Abort, P: Debug>(rt: &R, place: &P, target: S, log: &[Transfer]) {
     let mut target = target;
     target.settle();
-    expect_eq_at(rt, &name, &target.memory().log(), &log);
+    expect_eq_at(rt, place, &target.memory().log(), &log);
 }
 
-fn goes_on<S: Simulated + Drop, R: Abort>(
-    rt: &R,
-    alloc: Global,
-    name: usize,
-    row: Row,
-) -> Result<(), Fail> {
+fn goes_on<S: Simulated + Drop, R: Abort>(rt: &R, alloc: Global, row: &Row) -> Result<(), Fail> {
+    let name = row.name;
     let Some(stage) = begun::<S>(alloc, &row.run, row.late)? else {
         panic!(rt; "{name}: a mark isn't legal");
     };
     expect_eq_at(rt, &name, &stage.report.ended, &End::Lost);
     let stage = gone_on(alloc, row.run.accesses, stage, row.tries)?;
-    tells(rt, name, &stage.report, row.once);
+    tells(rt, &name, &stage.report, &row.once);
     let Some(twice) = row.twice else {
-        leaves(rt, name, stage.target, row.once.log);
+        leaves(rt, &name, stage.target, row.once.log);
         return Ok(());
     };
     let stage = gone_on(alloc, row.run.accesses, stage, row.tries)?;
-    tells(rt, name, &stage.report, twice);
-    leaves(rt, name, stage.target, twice.log);
+    tells(rt, &name, &stage.report, &twice);
+    leaves(rt, &name, stage.target, twice.log);
     Ok(())
 }
 
+// The write was done once.
+const DONE: Wanted = Wanted {
+    answers: &[Answer::Written],
+    requests: 12,
+    log: &[WRITTEN],
+    ..WHOLE
+};
+
+const UNSENT: Row = Row {
+    name: "the data of the write were never sent",
+    run: Run {
+        marks: &[(11, Mark::Mute(0))],
+        accesses: &[WRITE],
+        ..RUN
+    },
+    late: false,
+    tries: 8,
+    once: DONE,
+    twice: None,
+};
+
+const ROWS: [Row; 6] = [
+    UNSENT,
+    Row {
+        name: "the write was done, or is pending still, and is done a second time",
+        run: Run {
+            marks: &[(12, Mark::Deaf)],
+            accesses: &[WRITE],
+            ..RUN
+        },
+        late: true,
+        once: Wanted {
+            answers: &[Answer::Written],
+            requests: 12,
+            log: &[WRITTEN, WRITTEN],
+            ..WHOLE
+        },
+        ..UNSENT
+    },
+    Row {
+        name: "the first request isn't heard",
+        run: Run {
+            marks: &[(1, Mark::Deaf)],
+            accesses: &[WRITE],
+            ..RUN
+        },
+        ..UNSENT
+    },
+    Row {
+        name: "the data of the write are not sent the second time either",
+        run: Run {
+            marks: &[(11, Mark::Mute(0)), (22, Mark::Mute(0))],
+            accesses: &[WRITE],
+            ..RUN
+        },
+        once: Wanted {
+            ended: End::Lost,
+            answers: &[],
+            begun: 1,
+            requests: 11,
+            log: &[],
+        },
+        twice: Some(DONE),
+        ..UNSENT
+    },
+    Row {
+        name: "the first request of going on isn't heard",
+        run: Run {
+            marks: &[(11, Mark::Mute(0)), (12, Mark::Deaf)],
+            accesses: &[WRITE],
+            ..RUN
+        },
+        once: Wanted {
+            ended: End::Lost,
+            answers: &[],
+            begun: 1,
+            requests: 1,
+            log: &[],
+        },
+        ..UNSENT
+    },
+    Row {
+        name: "the bus error of the pending write is met where SELECT is written, and is no event",
+        run: Run {
+            marks: &[(12, Mark::Deaf)],
+            accesses: &[Access::Write(0x3000_0000, 1)],
+            ..RUN
+        },
+        late: true,
+        tries: 0,
+        once: Wanted {
+            answers: &[Answer::BusFault],
+            requests: 19,
+            log: &[],
+            ..WHOLE
+        },
+        ..UNSENT
+    },
+];
+
 #[test]
 fn a_write_goes_on_after_a_lost_acknowledgement(rt: HostRuntime) -> Result<(), Fail> {
-    let log = [written(BASE, WORD), written(BASE, WORD)];
-    let answers = [Answer::Written];
-    let faults = [Answer::BusFault];
-    let far = [Access::Write(0x3000_0000, 1)];
-    // The data of the write were never sent.
-    let unsent = Row {
-        run: run_of(&[(11, Mark::Mute(0))], &[WRITE]),
-        late: false,
-        tries: 8,
-        once: whole(&answers, 12, &log[..1]),
-        twice: None,
-    };
-    let rows = [
-        unsent,
-        // The write was done, or is pending still, and is done a second time.
-        Row {
-            run: run_of(&[(12, Mark::Deaf)], &[WRITE]),
-            late: true,
-            once: whole(&answers, 12, &log),
-            ..unsent
-        },
-        Row {
-            run: run_of(&[(1, Mark::Deaf)], &[WRITE]),
-            ..unsent
-        },
-        Row {
-            run: run_of(&[(11, Mark::Mute(0)), (22, Mark::Mute(0))], &[WRITE]),
-            once: stopped(End::Lost, &[], 1, 11, &[]),
-            twice: Some(whole(&answers, 12, &log[..1])),
-            ..unsent
-        },
-        Row {
-            run: run_of(&[(11, Mark::Mute(0)), (12, Mark::Deaf)], &[WRITE]),
-            once: stopped(End::Lost, &[], 1, 1, &[]),
-            ..unsent
-        },
-        // The bus error of the pending write is met where SELECT is written, and is no event.
-        Row {
-            run: run_of(&[(12, Mark::Deaf)], &far),
-            late: true,
-            tries: 0,
-            once: whole(&faults, 19, &[]),
-            ..unsent
-        },
-    ];
-    for (name, row) in rows.iter().enumerate() {
-        goes_on::<Bench, HostRuntime>(&rt, rt.alloc(), name, *row)?;
-        goes_on::<ClockedBench, HostRuntime>(&rt, rt.alloc(), name, *row)?;
+    for row in &ROWS {
+        goes_on::<Bench, HostRuntime>(&rt, rt.alloc(), row)?;
+        goes_on::<ClockedBench, HostRuntime>(&rt, rt.alloc(), row)?;
     }
     Ok(())
 }
@@ -205,13 +251,8 @@ fn each_is_gone_on_with<S: Simulated + Drop, R: Abort>(
             );
             stage.target.settle();
             let log = stage.target.memory().log();
-            expect_eq_at(
-                rt,
-                &place,
-                &log.first().copied(),
-                &Some(written(BASE, WORD)),
-            );
-            expect_eq_at(rt, &place, &log.last().copied(), &Some(read(BASE, WORD)));
+            expect_eq_at(rt, &place, &log.first().copied(), &Some(WRITTEN));
+            expect_eq_at(rt, &place, &log.last().copied(), &Some(READ_WORD));
             expect_at(rt, &place, log.len() <= 3);
         }
     }
@@ -259,7 +300,12 @@ fn two_are_lost<R: Abort>(
     ];
     let flip = (earlier.saturating_add(3), Mark::Flip(4));
     let marks = [(earlier, Mark::Deaf), (later, Mark::Mute(0)), flip];
-    let run = run_of(&marks, &accesses).tries(1);
+    let run = Run {
+        marks: &marks,
+        accesses: &accesses,
+        tries: 1,
+        ..RUN
+    };
     let mut stage = gone_on_twice::<Bench, R>(rt, alloc, &run, late)?;
     expect_eq_at(rt, &(earlier, later), &stage.report.ended, &End::All);
     expect_eq_at(
@@ -320,7 +366,12 @@ fn is_refused<S: Simulated + Drop, R: Abort>(
     let small = LocalHeap::new(global, size)?;
     let large = LocalHeap::new(global, 4096)?;
     let accesses = [READ; 16];
-    let run = run_of(&[(15, Mark::Mute(2))], &accesses).room(32);
+    let run = Run {
+        marks: &[(15, Mark::Mute(2))],
+        accesses: &accesses,
+        room: 32,
+        ..RUN
+    };
     let Some(stage) = begun_on::<S, &LocalHeap>(global, &large, &run, false)? else {
         panic!(rt; "a mark isn't legal");
     };
@@ -338,10 +389,15 @@ fn is_refused<S: Simulated + Drop, R: Abort>(
     };
     let answers = [Answer::Value(0); 16];
     // The opening, and three requests for each of the fifteen that were left.
-    tells(rt, size, &stage.report, whole(&answers, 9 + 3 * 15, &[]));
+    let wanted = Wanted {
+        answers: &answers,
+        requests: 9 + 3 * 15,
+        log: &[],
+        ..WHOLE
+    };
+    tells(rt, &size, &stage.report, &wanted);
     // The read that was begun took place twice.
-    let log = [read(BASE, 0); 17];
-    leaves(rt, size, stage.target, &log);
+    leaves(rt, &size, stage.target, &[READ_ZERO; 17]);
     Ok(refused.is_some())
 }
 

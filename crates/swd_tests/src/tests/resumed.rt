@@ -1,10 +1,11 @@
 //! What going on sends, request by request.
-use super::expect::expect_eq;
-use super::items::{faulted, lost, moved, recorder_over, waited};
+use super::expect::expect_eq_at;
+use super::items::recorder_over;
 use super::order::{
-    ABORT, CSW, CSW_WRITE, CTRL_STAT, CTRL_STAT_WRITE, DPIDR, DRW_WRITE, IDLE, RDBUFF, SELECT, TAR,
+    ABORT, CSW, CSW_WRITE, CTRL_STAT, CTRL_STAT_WRITE, DPIDR, DRW_WRITE, IDLE, RDBUFF, SELECT,
+    Sent, TAR, items_of,
 };
-use super::row::{BASE, FILLER, QUIRKS, Run, WORD, WRITE, run_of, target_of};
+use super::row::{BASE, FILLER, QUIRKS, RUN, Run, WORD, WRITE, target_of};
 use crate::Simulated;
 use std::alloc::Global;
 use std::process::Abort;
@@ -13,181 +14,193 @@ use swd_clocked::ClockedBench;
 use swd_host::{End, resume};
 use swd_port::{Access, Due, Wire};
 use swd_target::{Bench, Mark, Quirks};
-use swd_trace::Item;
 
 // A run that ends early, and what going on with it sends after the items of the run: how many these are.
 #[derive(Clone, Copy)]
-struct Row<'a, 'm> {
-    run: Run<'m, 'a>,
+struct Row {
+    name: &'static str,
+    run: Run<'static, 'static>,
     late: bool,
     tries: u32,
     before: usize,
     ended: End,
-    after: &'a [Item],
+    after: &'static [Sent],
 }
 
-fn sends<R: Abort>(rt: &R, alloc: Global, row: Row) -> Result<(), Fail> {
-    sends_over::<Bench, R>(rt, alloc, row)?;
-    sends_over::<ClockedBench, R>(rt, alloc, row)
-}
+// The line reset: a hundred ones, and no switch; and the zeros after it.
+const RESET: Sent = Sent::Reset(100);
 
-fn sends_over<S: Simulated + Drop, R: Abort>(rt: &R, alloc: Global, row: Row) -> Result<(), Fail> {
-    let quirks = Quirks {
-        late: row.late,
-        ..QUIRKS
-    };
-    let Some(bench) = target_of::<S>(alloc, &row.run, quirks)? else {
-        panic!(rt; "a mark isn't legal");
-    };
-    let Some(mut wire) = recorder_over(alloc, bench) else {
-        panic!(rt; "something is due");
-    };
-    if wire.due() != Due::Nothing {
-        panic!(rt; "something is due");
-    }
-    let report = swd_host::run(alloc, &mut wire, row.run.accesses, row.run.tries)?;
-    expect_eq(rt, &wire.items().len(), &row.before);
-    let report = resume(alloc, &mut wire, row.run.accesses, &report, row.tries)?;
-    expect_eq(rt, &report.ended, &row.ended);
-    expect_eq(rt, &wire.items().get(row.before..), &Some(row.after));
-    Ok(())
-}
+const ZEROS: Sent = Sent::Idle(2);
 
-// The line reset: a hundred ones, and no switch.
-const RESET: [Item; 2] = [Item::Reset(100), Item::Idle(2)];
-
-#[test]
-fn going_on_begins_with_a_line_reset_and_the_opening(rt: HostRuntime) -> Result<(), Fail> {
-    let after = [
-        RESET[0],
-        RESET[1],
-        moved(DPIDR, 0x2ba0_1477),
-        moved(ABORT, 0x0000_001e),
-        moved(CTRL_STAT, 0xf000_0040),
-        moved(SELECT, 0x0000_0000),
-        moved(CTRL_STAT_WRITE, 0x5000_0000),
-        moved(CTRL_STAT, 0xf000_0040),
-        moved(CSW_WRITE, 0x2300_0012),
-        moved(CSW, FILLER),
-        moved(RDBUFF, 0x2300_0052),
-        moved(TAR, BASE),
-        moved(DRW_WRITE, WORD),
-        moved(RDBUFF, FILLER),
-        IDLE,
-    ];
-    let row = Row {
-        run: run_of(&[(11, Mark::Mute(0))], &[WRITE]),
+const ROWS: [Row; 5] = [
+    Row {
+        name: "going on begins with a line reset and the opening",
+        run: Run {
+            marks: &[(11, Mark::Mute(0))],
+            accesses: &[WRITE],
+            ..RUN
+        },
         late: false,
         tries: 8,
         before: 15,
         ended: End::All,
-        after: &after,
-    };
-    sends(&rt, rt.alloc(), row)
-}
-
-#[test]
-fn the_bus_error_that_was_left_pending_is_cleared_at_select(rt: HostRuntime) -> Result<(), Fail> {
-    let after = [
-        RESET[0],
-        RESET[1],
-        moved(DPIDR, 0x2ba0_1477),
-        moved(ABORT, 0x0000_001e),
-        moved(CTRL_STAT, 0xf000_0040),
-        faulted(SELECT),
-        moved(CTRL_STAT, 0xf000_0060),
-        moved(ABORT, 0x0000_0004),
-        moved(CTRL_STAT, 0xf000_0040),
-        moved(SELECT, 0x0000_0000),
-        moved(CTRL_STAT_WRITE, 0x5000_0000),
-        moved(CTRL_STAT, 0xf000_0040),
-        moved(CSW_WRITE, 0x2300_0012),
-        moved(CSW, FILLER),
-        moved(RDBUFF, 0x2300_0052),
-        moved(TAR, 0x3000_0000),
-        moved(DRW_WRITE, 0x0000_0001),
-        faulted(RDBUFF),
-        moved(CTRL_STAT, 0xf000_0020),
-        moved(ABORT, 0x0000_0004),
-        moved(CTRL_STAT, 0xf000_0000),
-        IDLE,
-    ];
-    let far = [Access::Write(0x3000_0000, 1)];
-    let row = Row {
-        run: run_of(&[(12, Mark::Deaf)], &far),
+        after: &[
+            RESET,
+            ZEROS,
+            Sent::Moved(DPIDR, 0x2ba0_1477),
+            Sent::Moved(ABORT, 0x0000_001e),
+            Sent::Moved(CTRL_STAT, 0xf000_0040),
+            Sent::Moved(SELECT, 0x0000_0000),
+            Sent::Moved(CTRL_STAT_WRITE, 0x5000_0000),
+            Sent::Moved(CTRL_STAT, 0xf000_0040),
+            Sent::Moved(CSW_WRITE, 0x2300_0012),
+            Sent::Unknown(CSW),
+            Sent::Moved(RDBUFF, 0x2300_0052),
+            Sent::Moved(TAR, BASE),
+            Sent::Moved(DRW_WRITE, WORD),
+            Sent::Unknown(RDBUFF),
+            IDLE,
+        ],
+    },
+    Row {
+        name: "the bus error that was left pending is cleared at SELECT",
+        run: Run {
+            marks: &[(12, Mark::Deaf)],
+            accesses: &[Access::Write(0x3000_0000, 1)],
+            ..RUN
+        },
         late: true,
         tries: 0,
         before: 16,
         ended: End::All,
-        after: &after,
-    };
-    sends(&rt, rt.alloc(), row)
-}
-
-#[test]
-fn going_on_stops_once_its_tries_are_out(rt: HostRuntime) -> Result<(), Fail> {
-    let after = [
-        RESET[0],
-        RESET[1],
-        moved(DPIDR, 0x2ba0_1477),
-        moved(ABORT, 0x0000_001e),
-        moved(CTRL_STAT, 0xf000_0040),
-        waited(SELECT),
-        waited(SELECT),
-    ];
-    let marks = [(11, Mark::Mute(0)), (15, Mark::Wait), (16, Mark::Wait)];
-    let row = Row {
-        run: run_of(&marks, &[WRITE]),
+        after: &[
+            RESET,
+            ZEROS,
+            Sent::Moved(DPIDR, 0x2ba0_1477),
+            Sent::Moved(ABORT, 0x0000_001e),
+            Sent::Moved(CTRL_STAT, 0xf000_0040),
+            Sent::Faulted(SELECT),
+            Sent::Moved(CTRL_STAT, 0xf000_0060),
+            Sent::Moved(ABORT, 0x0000_0004),
+            Sent::Moved(CTRL_STAT, 0xf000_0040),
+            Sent::Moved(SELECT, 0x0000_0000),
+            Sent::Moved(CTRL_STAT_WRITE, 0x5000_0000),
+            Sent::Moved(CTRL_STAT, 0xf000_0040),
+            Sent::Moved(CSW_WRITE, 0x2300_0012),
+            Sent::Unknown(CSW),
+            Sent::Moved(RDBUFF, 0x2300_0052),
+            Sent::Moved(TAR, 0x3000_0000),
+            Sent::Moved(DRW_WRITE, 0x0000_0001),
+            Sent::Faulted(RDBUFF),
+            Sent::Moved(CTRL_STAT, 0xf000_0020),
+            Sent::Moved(ABORT, 0x0000_0004),
+            Sent::Moved(CTRL_STAT, 0xf000_0000),
+            IDLE,
+        ],
+    },
+    Row {
+        name: "going on stops once its tries are out",
+        run: Run {
+            marks: &[(11, Mark::Mute(0)), (15, Mark::Wait), (16, Mark::Wait)],
+            accesses: &[WRITE],
+            ..RUN
+        },
         late: false,
         tries: 1,
         before: 15,
         ended: End::TriesOut,
-        after: &after,
-    };
-    sends(&rt, rt.alloc(), row)
-}
-
-#[test]
-fn going_on_stops_at_a_lost_acknowledgement(rt: HostRuntime) -> Result<(), Fail> {
-    let after = [RESET[0], RESET[1], lost(DPIDR, 0)];
-    let row = Row {
-        run: run_of(&[(11, Mark::Mute(0)), (12, Mark::Mute(0))], &[WRITE]),
+        after: &[
+            RESET,
+            ZEROS,
+            Sent::Moved(DPIDR, 0x2ba0_1477),
+            Sent::Moved(ABORT, 0x0000_001e),
+            Sent::Moved(CTRL_STAT, 0xf000_0040),
+            Sent::Waited(SELECT),
+            Sent::Waited(SELECT),
+        ],
+    },
+    Row {
+        name: "going on stops at a lost acknowledgement",
+        run: Run {
+            marks: &[(11, Mark::Mute(0)), (12, Mark::Mute(0))],
+            accesses: &[WRITE],
+            ..RUN
+        },
         late: false,
         tries: 8,
         before: 15,
         ended: End::Lost,
-        after: &after,
-    };
-    sends(&rt, rt.alloc(), row)
-}
-
-// A run whose tries are out, in its opening or an access, goes on too: with the same line reset.
-#[test]
-fn a_run_goes_on_once_its_tries_are_out(rt: HostRuntime) -> Result<(), Fail> {
-    let after = [
-        RESET[0],
-        RESET[1],
-        moved(DPIDR, 0x2ba0_1477),
-        moved(ABORT, 0x0000_001e),
-        moved(CTRL_STAT, 0xf000_0000),
-        moved(SELECT, 0x0000_0000),
-        moved(CTRL_STAT_WRITE, 0x5000_0000),
-        moved(CTRL_STAT, 0xf000_0000),
-        moved(CSW_WRITE, 0x2300_0012),
-        moved(CSW, FILLER),
-        moved(RDBUFF, 0x2300_0052),
-        moved(TAR, BASE),
-        moved(DRW_WRITE, WORD),
-        moved(RDBUFF, FILLER),
-        IDLE,
-    ];
-    let row = Row {
-        run: run_of(&[(12, Mark::Wait)], &[WRITE]).tries(0),
+        after: &[RESET, ZEROS, Sent::Lost(DPIDR, 0)],
+    },
+    // A run whose tries are out, in its opening or an access, goes on too: with the same line reset.
+    Row {
+        name: "a run goes on once its tries are out",
+        run: Run {
+            marks: &[(12, Mark::Wait)],
+            accesses: &[WRITE],
+            tries: 0,
+            ..RUN
+        },
         late: false,
         tries: 0,
         before: 16,
         ended: End::All,
-        after: &after,
+        after: &[
+            RESET,
+            ZEROS,
+            Sent::Moved(DPIDR, 0x2ba0_1477),
+            Sent::Moved(ABORT, 0x0000_001e),
+            Sent::Moved(CTRL_STAT, 0xf000_0000),
+            Sent::Moved(SELECT, 0x0000_0000),
+            Sent::Moved(CTRL_STAT_WRITE, 0x5000_0000),
+            Sent::Moved(CTRL_STAT, 0xf000_0000),
+            Sent::Moved(CSW_WRITE, 0x2300_0012),
+            Sent::Unknown(CSW),
+            Sent::Moved(RDBUFF, 0x2300_0052),
+            Sent::Moved(TAR, BASE),
+            Sent::Moved(DRW_WRITE, WORD),
+            Sent::Unknown(RDBUFF),
+            IDLE,
+        ],
+    },
+];
+
+fn sends<S: Simulated + Drop, R: Abort>(rt: &R, alloc: Global, row: &Row) -> Result<(), Fail> {
+    let name = row.name;
+    let quirks = Quirks {
+        late: row.late,
+        ..QUIRKS
     };
-    sends(&rt, rt.alloc(), row)
+    let Some(target) = target_of::<S>(alloc, &row.run, quirks)? else {
+        panic!(rt; "{name}: a mark isn't legal");
+    };
+    let Some(mut wire) = recorder_over(alloc, target) else {
+        panic!(rt; "{name}: something is due");
+    };
+    if wire.due() != Due::Nothing {
+        panic!(rt; "{name}: something is due");
+    }
+    let report = swd_host::run(alloc, &mut wire, row.run.accesses, row.run.tries)?;
+    expect_eq_at(rt, &name, &wire.items().len(), &row.before);
+    let report = resume(alloc, &mut wire, row.run.accesses, &report, row.tries)?;
+    expect_eq_at(rt, &name, &report.ended, &row.ended);
+    let after = items_of(alloc, row.after, FILLER)?;
+    expect_eq_at(
+        rt,
+        &name,
+        &wire.items().get(row.before..),
+        &Some(after.as_slice()),
+    );
+    Ok(())
+}
+
+#[test]
+fn going_on_sends_a_line_reset_and_the_opening_and_what_is_left(
+    rt: HostRuntime,
+) -> Result<(), Fail> {
+    for row in &ROWS {
+        sends::<Bench, HostRuntime>(&rt, rt.alloc(), row)?;
+        sends::<ClockedBench, HostRuntime>(&rt, rt.alloc(), row)?;
+    }
+    Ok(())
 }

@@ -6,7 +6,8 @@ ghost use Rattle.swd_target.specs.Marks.{IsPlan};
 
 use super::expect::{expect_at, expect_eq_at};
 use crate::Simulated;
-use std::alloc::Global;
+use std::alloc::{Allocator, Global};
+use std::fmt::Debug;
 use std::process::Abort;
 use std::test::Fail;
 use swd_clocked::ClockedBench;
@@ -72,38 +73,21 @@ pub struct Run<'m, 'a> {
     pub accesses: &'a [Access],
 }
 
-/// These accesses under these marks, with a memory of sixteen words, room for sixteen transfers, and
-/// eight tries.
+/// No access and no mark, with a memory of sixteen words, room for sixteen transfers, and eight tries.
+pub const RUN: Run = Run {
+    words: 16,
+    room: 16,
+    marks: &[],
+    tries: 8,
+    accesses: &[],
+};
+
+/// These accesses under these marks, over the same memory.
 pub(super) fn run_of<'m, 'a>(marks: &'m [(usize, Mark)], accesses: &'a [Access]) -> Run<'m, 'a> {
     Run {
-        words: 16,
-        room: 16,
         marks,
-        tries: 8,
         accesses,
-    }
-}
-
-impl<'m, 'a> Run<'m, 'a> {
-    /// The run with so many tries.
-    pub(super) fn tries(self, tries: u32) -> Run<'m, 'a> {
-        let mut run = self;
-        run.tries = tries;
-        run
-    }
-
-    /// The run over so many words.
-    pub(super) fn words(self, words: u32) -> Run<'m, 'a> {
-        let mut run = self;
-        run.words = words;
-        run
-    }
-
-    /// The run with room for so many transfers.
-    pub(super) fn room(self, room: u32) -> Run<'m, 'a> {
-        let mut run = self;
-        run.room = room;
-        run
+        ..RUN
     }
 }
 
@@ -117,53 +101,53 @@ pub struct Wanted<'a, 'l> {
     pub log: &'l [Transfer],
 }
 
-/// Every access is answered so, with so many requests.
-pub(super) fn whole<'a, 'l>(
-    answers: &'a [Answer],
-    requests: u64,
-    log: &'l [Transfer],
-) -> Wanted<'a, 'l> {
-    Wanted {
-        answers,
-        begun: 0,
-        requests,
-        ended: End::All,
-        log,
-    }
-}
+/// Every access is answered, and there is none.
+pub const WHOLE: Wanted = Wanted {
+    answers: &[],
+    begun: 0,
+    requests: 9,
+    ended: End::All,
+    log: &[],
+};
 
-/// The run stops after these answers.
-pub(super) fn stopped<'a, 'l>(
-    ended: End,
-    answers: &'a [Answer],
-    begun: u8,
-    requests: u64,
-    log: &'l [Transfer],
-) -> Wanted<'a, 'l> {
-    Wanted {
-        answers,
-        begun,
-        requests,
-        ended,
-        log,
-    }
-}
+/// A run, what has to come of it, and what is tried by it, in words.
+pub type Row<'m, 'a, 'l> = (&'static str, Run<'m, 'a>, Wanted<'a, 'l>);
 
-pub(super) fn read(addr: u32, word: u32) -> Transfer {
-    Transfer {
-        read: true,
-        addr,
-        word,
-    }
-}
+/// `WORD` was written where the memory begins.
+pub const WRITTEN: Transfer = Transfer {
+    read: false,
+    addr: BASE,
+    word: WORD,
+};
 
-pub(super) fn written(addr: u32, word: u32) -> Transfer {
+/// The memory's first word was read before it was written.
+pub const READ_ZERO: Transfer = Transfer {
+    read: true,
+    addr: BASE,
+    word: 0,
+};
+
+/// It was read after it was written.
+pub const READ_WORD: Transfer = Transfer {
+    read: true,
+    addr: BASE,
+    word: WORD,
+};
+
+/// What the three writes of `BURST` leave in the log.
+pub const BURST_LOG: [Transfer; 3] = [
+    WRITTEN,
     Transfer {
         read: false,
-        addr,
-        word,
-    }
-}
+        addr: 0x2000_0004,
+        word: 1,
+    },
+    Transfer {
+        read: false,
+        addr: 0x2000_0008,
+        word: 2,
+    },
+];
 
 /// Each mark is legal.
 pub(super) fn are_legal(marks: &[Mark]) -> bool
@@ -216,80 +200,57 @@ pub(super) fn report_of<W: Wire>(
 fn comes_out<S: Simulated + Drop, R: Abort>(
     rt: &R,
     alloc: Global,
-    row: usize,
-    (run, wanted): (Run, Wanted),
+    (name, run, wanted): Row,
     quirks: Quirks,
 ) -> Result<(), Fail> {
     let Some(mut target) = target_of::<S>(alloc, &run, quirks)? else {
-        panic!(rt; "row {row}: a mark isn't legal");
+        panic!(rt; "{name}: a mark isn't legal");
     };
     let Some(report) = report_of(alloc, &mut target, &run)? else {
-        panic!(rt; "row {row}: the target isn't new");
+        panic!(rt; "{name}: the target isn't new");
     };
-    leaves(rt, row, &mut target, &report, &wanted, quirks);
+    leaves(rt, name, &mut target, &report, &wanted, quirks);
     Ok(())
+}
+
+/// What was reported is as wanted.
+pub(super) fn tells<R: Abort, P: Debug, A: Allocator>(
+    rt: &R,
+    place: &P,
+    report: &Report<A>,
+    wanted: &Wanted,
+) {
+    expect_eq_at(rt, place, &report.ended, &wanted.ended);
+    expect_eq_at(rt, place, &report.requests, &wanted.requests);
+    expect_eq_at(rt, place, &report.begun, &wanted.begun);
+    expect_eq_at(rt, place, &report.answers.as_slice(), &wanted.answers);
 }
 
 /// The report is as wanted, and so is what the target's memory logged.
 pub(super) fn leaves<S: Simulated + Drop, R: Abort>(
     rt: &R,
-    row: usize,
+    name: &str,
     target: &mut S,
     report: &Report,
     wanted: &Wanted,
     quirks: Quirks,
 ) {
     let Quirks { wrap, late, filler } = quirks;
-    expect_eq_at(rt, &(row, wrap, late, filler), &report.ended, &wanted.ended);
-    expect_eq_at(
-        rt,
-        &(row, wrap, late, filler),
-        &report.requests,
-        &wanted.requests,
-    );
-    expect_eq_at(rt, &(row, wrap, late, filler), &report.begun, &wanted.begun);
-    expect_eq_at(
-        rt,
-        &(row, wrap, late, filler),
-        &report.answers.as_slice(),
-        &wanted.answers,
-    );
+    let place = (name, wrap, late, filler);
+    tells(rt, &place, report, wanted);
     // Only a late transfer is still pending where a run has ended.
-    expect_at(
-        rt,
-        &(row, wrap, filler),
-        late || target.memory().log() == wanted.log,
-    );
+    expect_at(rt, &place, late || target.memory().log() == wanted.log);
     target.settle();
-    expect_eq_at(
-        rt,
-        &(row, wrap, late, filler),
-        &target.memory().log(),
-        &wanted.log,
-    );
-}
-
-fn each_comes_out<S: Simulated + Drop, R: Abort>(
-    rt: &R,
-    alloc: Global,
-    rows: &[(Run, Wanted)],
-    quirks: Quirks,
-) -> Result<(), Fail> {
-    for (index, row) in rows.iter().enumerate() {
-        comes_out::<S, R>(rt, alloc, index, *row, quirks)?;
-    }
-    Ok(())
+    expect_eq_at(rt, &place, &target.memory().log(), &wanted.log);
 }
 
 /// Each run comes out as it has to, over each simulated target, and with each choice of its quirks.
-pub(super) fn all_come_out<R: Abort>(
-    rt: &R,
-    alloc: Global,
-    rows: &[(Run, Wanted)],
-) -> Result<(), Fail> {
+pub(super) fn all_come_out<R: Abort>(rt: &R, alloc: Global, rows: &[Row]) -> Result<(), Fail> {
     for quirks in ALL_QUIRKS {
-        each_comes_out::<Bench, R>(rt, alloc, rows, quirks)?;
-        each_comes_out::<ClockedBench, R>(rt, alloc, rows, quirks)?;
+        for row in rows {
+            comes_out::<Bench, R>(rt, alloc, *row, quirks)?;
+            comes_out::<ClockedBench, R>(rt, alloc, *row, quirks)?;
+        }
     }
     Ok(())
 }
