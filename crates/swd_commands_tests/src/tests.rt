@@ -11,6 +11,7 @@ use swd_script::ScriptFault;
 use swd_text::{EngineFault, TextFault};
 use swd_trace::ListFault;
 
+mod calls;
 mod expect;
 mod plan;
 mod remote;
@@ -28,6 +29,10 @@ const SCRIPT: &[u8] = b"memory 20000000 16\nw 20000000 deadbeef\nrn 20000000 2\n
 
 const REPORT: &[u8] = b"w 20000000 written\nr 20000000 deadbeef\nr 20000004 00000000\n\
     r 30000000 busfault\nend all 4\n";
+
+// The report where the run was lost at its first access, and resumed.
+const RESUMED: &[u8] = b"resume 0 begun 1\nw 20000000 written\nr 20000000 deadbeef\n\
+    r 20000004 00000000\nr 30000000 busfault\nend all 4\n";
 
 // The acknowledgement of the DRW request is not seen as it was sent.
 const CUT: &[u8] = b".\n.\n.\n.\n.\n.\n.\n.\n.\n.\nmute 0\n";
@@ -140,92 +145,22 @@ where
     }
 }
 
+// A lost run is resumed, and done whole; a strict one fails for its bus fault, and is traced.
 #[test]
-fn each_command_reads_standard_input(rt: HostRuntime) {
-    for (command, input, output) in [
-        ("one", DPIDR_READ, DPIDR_LINE),
-        ("decode", b"000 1".as_slice(), b"idle 3\ncut 1\n".as_slice()),
-        ("encode", DPIDR_LINE, DPIDR_BITS),
-    ] {
-        for words in [
-            ["swd", command].as_slice(),
-            ["swd", command, "-"].as_slice(),
-        ] {
-            let ran = run_on(rt.alloc(), words, input);
-            expect_eq(&rt, &ran.output.as_slice(), &output);
-            assert!(rt; ran.errors.is_empty());
-            expect_eq(&rt, &ran.status, &0);
-        }
-    }
-}
-
-#[test]
-fn each_command_reads_a_file(rt: HostRuntime) {
-    for (command, name, output) in [
-        ("one", "trace", DPIDR_LINE),
-        ("decode", "trace", DPIDR_LINE),
-        ("encode", "list", DPIDR_BITS),
-        ("encode", "./-", DPIDR_BITS),
-    ] {
-        let ran = run_on(
-            rt.alloc(),
-            ["swd", command, name].as_slice(),
-            b"x".as_slice(),
-        );
-        expect_eq(&rt, &ran.output.as_slice(), &output);
-        assert!(rt; ran.errors.is_empty());
-        expect_eq(&rt, &ran.status, &0);
-    }
-}
-
-#[test]
-fn a_script_is_run(rt: HostRuntime) {
-    for words in [
-        ["swd", "run", "script"].as_slice(),
-        ["swd", "run", "script", "--plan", "quiet"].as_slice(),
-        ["swd", "run", "--tries", "0", "--plan=quiet", "script"].as_slice(),
-    ] {
-        let ran = run_on(rt.alloc(), words, b"x".as_slice());
-        expect_eq(&rt, &ran.output.as_slice(), &REPORT);
-        assert!(rt; ran.errors.is_empty());
-        expect_eq(&rt, &ran.status, &0);
-    }
-    let ran = run_on(rt.alloc(), ["swd", "run", "-"].as_slice(), SCRIPT);
-    expect_eq(&rt, &ran.output.as_slice(), &REPORT);
-    expect_eq(&rt, &ran.status, &0);
-}
-
-// A lost run is resumed, and done whole.
-#[test]
-fn a_lost_run_is_resumed(rt: HostRuntime) {
-    let words = ["swd", "run", "script", "--plan", "cut", "--resume", "1"];
-    let ran = run_on(rt.alloc(), words.as_slice(), b"".as_slice());
-    let report = b"resume 0 begun 1\nw 20000000 written\nr 20000000 deadbeef\n\
-        r 20000004 00000000\nr 30000000 busfault\nend all 4\n"
-        .as_slice();
-    expect_eq(&rt, &ran.output.as_slice(), &report);
-    assert!(rt; ran.errors.is_empty());
-    expect_eq(&rt, &ran.status, &0);
+fn a_lost_run_is_resumed_and_traced(rt: HostRuntime) {
     let words = [
         "swd", "run", "script", "--plan", "cut", "--resume", "1", "--strict", "--trace", "traced",
     ];
     let ran = run_on(rt.alloc(), words.as_slice(), b"".as_slice());
-    expect_eq(&rt, &ran.output.as_slice(), &report);
+    expect_eq(&rt, &ran.output.as_slice(), &RESUMED);
     assert!(rt; ran.traced > 0);
     expect_eq(&rt, &ran.status, &1);
-}
-
-#[test]
-fn a_run_that_ends_early_has_a_status(rt: HostRuntime) {
-    let words = ["swd", "run", "script", "--plan", "cut"];
-    let ran = run_on(rt.alloc(), words.as_slice(), b"".as_slice());
+    let words = ["swd", "run", "--strict", "-", "--trace", "traced"];
     expect_eq(
         &rt,
-        &ran.output.as_slice(),
-        &b"end lost 0 begun 1\n".as_slice(),
+        &run_on(rt.alloc(), words.as_slice(), SCRIPT).status,
+        &1,
     );
-    assert!(rt; ran.errors.is_empty());
-    expect_eq(&rt, &ran.status, &1);
 }
 
 // The file of the trace is made before anything is read, and so stands there, empty, where the script is at fault.
@@ -246,13 +181,6 @@ fn a_run_is_traced(rt: HostRuntime) {
         expect_eq(&rt, &ran.traced, &traced);
         expect_eq(&rt, &ran.status, &status);
     }
-    // Without the option nothing is made.
-    let ran = run_on(
-        rt.alloc(),
-        ["swd", "run", "-"].as_slice(),
-        b"memory 20000000 1\n".as_slice(),
-    );
-    expect_eq(&rt, &ran.traced, &0);
 }
 
 // A trace that is one of the other files, under whatever name, is refused with nothing written or cut off.
@@ -340,45 +268,6 @@ fn a_trace_that_may_be_standard_output_is_refused(rt: HostRuntime) {
     expect_eq(&rt, &cuts.get(), &0);
 }
 
-// A strict run fails where a bus fault was answered. Its report is that of any run.
-#[test]
-fn a_bus_fault_fails_a_strict_run(rt: HostRuntime) {
-    for (words, input, status) in [
-        (["swd", "run", "-"].as_slice(), SCRIPT, 0),
-        (["swd", "run", "-", "--strict"].as_slice(), SCRIPT, 1),
-        (
-            ["swd", "run", "--strict", "-", "--trace", "traced"].as_slice(),
-            SCRIPT,
-            1,
-        ),
-        (
-            ["swd", "run", "-", "--strict"].as_slice(),
-            b"memory 0 1\nw 4 0\nr 0\n",
-            1,
-        ),
-        (
-            ["swd", "run", "-", "--strict"].as_slice(),
-            b"memory 0 1\nw 0 0\nr 0\n",
-            0,
-        ),
-        (
-            ["swd", "run", "-", "--strict", "--plan", "cut"].as_slice(),
-            SCRIPT,
-            1,
-        ),
-        (["swd", "run", "-", "--strict"].as_slice(), b"r 0\n", 2),
-    ] {
-        expect_eq(&rt, &run_on(rt.alloc(), words, input).status, &status);
-    }
-    let ran = run_on(
-        rt.alloc(),
-        ["swd", "run", "-", "--strict"].as_slice(),
-        SCRIPT,
-    );
-    expect_eq(&rt, &ran.output.as_slice(), &REPORT);
-    assert!(rt; ran.errors.is_empty());
-}
-
 // Takes one byte at a time.
 #[derive(Drop)]
 struct ByteByByte(Vec<u8>);
@@ -419,71 +308,6 @@ fn a_bus_fault_is_found_in_pieces(rt: HostRuntime) -> Result<(), Fail> {
         }
     }
     Ok(())
-}
-
-#[test]
-fn a_run_that_is_at_fault_takes_a_line(rt: HostRuntime) {
-    for (words, input, errors) in [
-        (
-            ["swd", "run", "-", "--plan", "flip33"].as_slice(),
-            b"r 20000000".as_slice(),
-            b"swd: script line 1: no memory line\n".as_slice(),
-        ),
-        (
-            ["swd", "run", "-"].as_slice(),
-            b"memory 0 1\nr 2",
-            b"swd: script line 2: range\n",
-        ),
-        (
-            ["swd", "run", "script", "--plan", "flip33"].as_slice(),
-            b"",
-            b"swd: plan line 1: range\n",
-        ),
-        (
-            ["swd", "run", "nope", "--plan", "none"].as_slice(),
-            b"",
-            b"swd: cannot open nope\n",
-        ),
-        (
-            ["swd", "run", "script", "--plan", "none"].as_slice(),
-            b"",
-            b"swd: cannot open none\n",
-        ),
-        (
-            ["swd", "run", "script", "--trace", "locked"].as_slice(),
-            b"",
-            b"swd: cannot open locked\n",
-        ),
-    ] {
-        let ran = run_on(rt.alloc(), words, input);
-        assert!(rt; ran.output.is_empty());
-        expect_eq(&rt, &ran.errors.as_slice(), &errors);
-        expect_eq(&rt, &ran.status, &2);
-    }
-}
-
-#[test]
-fn each_fault_takes_its_line(rt: HostRuntime) {
-    for (command, input, errors) in [
-        (
-            "one",
-            b"10x".as_slice(),
-            b"swd: trace byte 2: bad character\n".as_slice(),
-        ),
-        ("one", b"1", b"swd: not one transaction\n"),
-        ("decode", b"10x", b"swd: trace byte 2: bad character\n"),
-        ("encode", b"idle 01\n", b"swd: list line 1: bad line\n"),
-        (
-            "encode",
-            b"idle 1\nidle 1\n",
-            b"swd: list line 1: not normal\n",
-        ),
-    ] {
-        let ran = run_on(rt.alloc(), ["swd", command].as_slice(), input);
-        assert!(rt; ran.output.is_empty());
-        expect_eq(&rt, &ran.errors.as_slice(), &errors);
-        expect_eq(&rt, &ran.status, &2);
-    }
 }
 
 // Fails at each read and write.
@@ -541,25 +365,6 @@ fn ends_that_fail_take_their_lines(rt: HostRuntime) {
 }
 
 #[test]
-fn a_file_that_is_not_there_takes_one_line(rt: HostRuntime) {
-    for (name, errors) in [
-        ("b", b"swd: cannot open b\n".as_slice()),
-        ("a\nb\t\u{1b}[1m", b"swd: cannot open a\\nb\\t\\u{1b}[1m\n"),
-    ] {
-        let ran = run_on(
-            rt.alloc(),
-            ["swd", "decode", name].as_slice(),
-            b"".as_slice(),
-        );
-        assert!(rt; ran.output.is_empty());
-        expect_eq(&rt, &ran.errors.as_slice(), &errors);
-        expect_eq(&rt, &ran.status, &2);
-    }
-    let mut errors = Vec::new(rt.alloc());
-    expect_eq(&rt, &cannot_open(&mut errors, "b"), &2);
-}
-
-#[test]
 fn each_fault_of_an_engine_has_its_words(rt: HostRuntime) {
     for (fault, words) in [
         (
@@ -599,13 +404,12 @@ fn each_fault_of_an_engine_has_its_words(rt: HostRuntime) {
         expect_eq(&rt, &engine_status(&mut errors, Err(fault)), &2);
         expect_eq(&rt, &errors.as_slice(), &words);
     }
+    let mut errors = Vec::new(rt.alloc());
+    expect_eq(&rt, &cannot_open(&mut errors, "b"), &2);
 }
 
 #[test]
-fn help_and_version_go_to_standard_output(rt: HostRuntime) {
-    let ran = run_on(rt.alloc(), ["swd", "--version"].as_slice(), b"".as_slice());
-    expect_eq(&rt, &ran.output.as_slice(), &b"swd 0.1.0\n".as_slice());
-    expect_eq(&rt, &ran.status, &0);
+fn help_goes_to_standard_output_and_a_mistake_to_standard_error(rt: HostRuntime) {
     let ran = run_on(rt.alloc(), ["swd", "--help"].as_slice(), b"".as_slice());
     assert!(rt; !ran.output.is_empty());
     assert!(rt; ran.errors.is_empty());

@@ -8,3 +8,13 @@ use std::process::Abort;
 pub(super) fn expect_eq<R: Abort, T: PartialEq + Debug>(rt: &R, found: &T, wanted: &T) {
     assert_eq!(rt; found, wanted);
 }
+
+/// The same at one of several places, which is told.
+pub(super) fn expect_eq_at<R: Abort, P: Debug, T: PartialEq + Debug>(
+    rt: &R,
+    place: &P,
+    found: &T,
+    wanted: &T,
+) {
+    assert_eq!(rt; found, wanted, "at {place:?}");
+}

@@ -17,13 +17,4 @@ fn a_plan_is_another_file_than_the_script(rt: HostRuntime) {
         expect_eq(&rt, &ran.output.is_empty(), &refused);
         expect_eq(&rt, &ran.errors.starts_with(b"swd: cannot open "), &refused);
     }
-    // Standard input is the debugger's.
-    let words = ["swd", "target", "memory", "--plan", "input"];
-    let ran = run_on(rt.alloc(), words.as_slice(), b"Q".as_slice());
-    expect_eq(&rt, &ran.status, &2);
-    expect_eq(
-        &rt,
-        &ran.errors.as_slice(),
-        &b"swd: cannot open input\n".as_slice(),
-    );
 }

@@ -2,6 +2,10 @@
 use super::expect::expect_eq;
 use super::run_on;
 
+/// Three calls, of which the second is a block.
+pub(super) const CALLS: &[u8] =
+    b"memory 20000000 2\nw 20000000 deadbeef\nnext\nblock 20000000 2\nnext\nr 20000004\n";
+
 #[test]
 fn a_word_that_differs_takes_one_line(rt: HostRuntime) {
     for (script, errors, status) in [
@@ -31,26 +35,11 @@ fn a_word_that_differs_takes_one_line(rt: HostRuntime) {
     }
 }
 
+// The first call is lost, and there is no other.
 #[test]
-fn calls_report_one_after_the_other(rt: HostRuntime) {
-    let script =
-        b"memory 20000000 2\nw 20000000 deadbeef\nnext\nblock 20000000 2\nnext\nr 20000004\n".as_slice();
-    let ran = run_on(rt.alloc(), ["swd", "run", "-"].as_slice(), script);
-    assert!(rt; ran.errors.is_empty());
-    expect_eq(&rt, &ran.status, &0);
-    expect_eq(
-        &rt,
-        &ran.output.as_slice(),
-        &b"w 20000000 written\nend all 1\nr 20000000 deadbeef\nr 20000004 00000000\nend all 2\n\
-        r 20000004 00000000\nend all 1\n"
-            .as_slice(),
-    );
-    // The first call is lost, and there is no other.
-    let ran = run_on(
-        rt.alloc(),
-        ["swd", "run", "-", "--plan", "cut"].as_slice(),
-        script,
-    );
+fn a_call_that_is_lost_is_the_last_one(rt: HostRuntime) {
+    let words = ["swd", "run", "-", "--plan", "cut"];
+    let ran = run_on(rt.alloc(), words.as_slice(), CALLS);
     expect_eq(&rt, &ran.status, &1);
     assert!(rt; ran.output.as_slice().starts_with(b"end lost "));
 }
