@@ -16,6 +16,7 @@ mod recorded;
 mod refusals;
 mod remote;
 mod resumed;
+mod runs;
 mod serving;
 mod sessions;
 mod slow;
@@ -74,132 +75,6 @@ const NO_ACCESS: &[u8] = b"memory 20000000 1\n";
 const THREE_WAITS: &[u8] = b".\n.\n.\n.\n.\n.\n.\n.\n.\n.\n.\nwait\nwait\nwait\n";
 
 #[test]
-fn a_script_is_run(rt: HostRuntime) {
-    let run = run_on(&rt, WORKED, b"".as_slice(), TRIES);
-    expect_eq(&rt, &run.answer, &ended(End::All));
-    expect_eq(&rt, &run.text.as_slice(), &WORKED_REPORT);
-    let run = run_on(&rt, NO_ACCESS, b"".as_slice(), TRIES);
-    expect_eq(&rt, &run.answer, &ended(End::All));
-    expect_eq(&rt, &run.text.as_slice(), &b"end all 0\n".as_slice());
-}
-
-#[test]
-fn a_block_is_run(rt: HostRuntime) {
-    let script = b"memory 20000000 2\nblock 20000000 3\n".as_slice();
-    let run = run_on(&rt, script, b"".as_slice(), TRIES);
-    expect_eq(&rt, &run.answer, &ended(End::All));
-    let report =
-        b"r 20000000 00000000\nr 20000004 00000000\nr 20000008 busfault\nend all 3\n".as_slice();
-    expect_eq(&rt, &run.text.as_slice(), &report);
-    let script = b"memory 20000000 2\nblock 20000000 3\nr 20000000".as_slice();
-    let run = run_on(&rt, script, b"".as_slice(), TRIES);
-    expect_eq(
-        &rt,
-        &run.answer,
-        &Err(EngineFault::Script(ScriptFault::Word { line: 3 })),
-    );
-    assert!(rt; run.text.is_empty());
-}
-
-// The twelfth request is the DRW read of the second word, which brings the first.
-#[test]
-fn a_block_that_stops_has_two_accesses_begun(rt: HostRuntime) {
-    let script = b"memory 20000000 16\nblock 20000000 2\n".as_slice();
-    for (plan, tries, answer, report) in [
-        (
-            b".\n.\n.\n.\n.\n.\n.\n.\n.\n.\n.\nmute 0\n".as_slice(),
-            TRIES,
-            End::Lost,
-            b"end lost 0 begun 2\n".as_slice(),
-        ),
-        (
-            b".\n.\n.\n.\n.\n.\n.\n.\n.\n.\n.\nwait\n".as_slice(),
-            0,
-            End::TriesOut,
-            b"end tries 0 begun 2\n".as_slice(),
-        ),
-        (
-            b".\n.\n.\n.\n.\n.\n.\n.\n.\n.\n.\n.\ndeaf\n".as_slice(),
-            TRIES,
-            End::Lost,
-            b"r 20000000 00000000\nend lost 1 begun 1\n".as_slice(),
-        ),
-    ] {
-        let run = run_on(&rt, script, plan, tries);
-        expect_eq(&rt, &run.answer, &ended(answer));
-        expect_eq(&rt, &run.text.as_slice(), &report);
-    }
-}
-
-#[test]
-fn waits_count_against_the_tries(rt: HostRuntime) {
-    let run = run_on(&rt, ONE_READ, THREE_WAITS, 3);
-    expect_eq(&rt, &run.answer, &ended(End::All));
-    expect_eq(
-        &rt,
-        &run.text.as_slice(),
-        &b"r 20000000 00000000\nend all 1\n".as_slice(),
-    );
-    let run = run_on(&rt, ONE_READ, THREE_WAITS, 2);
-    expect_eq(&rt, &run.answer, &ended(End::TriesOut));
-    expect_eq(
-        &rt,
-        &run.text.as_slice(),
-        &b"end tries 0 begun 1\n".as_slice(),
-    );
-}
-
-// The request and its acknowledgement are on a wire: a body that asks the memory alone would answer.
-#[test]
-fn a_lost_acknowledgement_ends_a_run(rt: HostRuntime) {
-    let plan = b".\n.\n.\n.\n.\n.\n.\n.\n.\n.\nmute 0\n".as_slice();
-    let run = run_on(&rt, ONE_WRITE, plan, TRIES);
-    expect_eq(&rt, &run.answer, &ended(End::Lost));
-    expect_eq(
-        &rt,
-        &run.text.as_slice(),
-        &b"end lost 0 begun 1\n".as_slice(),
-    );
-    let run = run_on(&rt, ONE_WRITE, b"deaf\n".as_slice(), TRIES);
-    expect_eq(&rt, &run.answer, &ended(End::Lost));
-    expect_eq(
-        &rt,
-        &run.text.as_slice(),
-        &b"end lost 0 begun 0\n".as_slice(),
-    );
-}
-
-// The data of the write, and of the RDBUFF read that gives the word, arrive changed.
-#[test]
-fn damaged_data_is_sent_again(rt: HostRuntime) {
-    let plan = b".\n.\n.\n.\n.\n.\n.\n.\n.\n.\nflip 17\n".as_slice();
-    let run = run_on(&rt, ONE_WRITE, plan, TRIES);
-    expect_eq(&rt, &run.answer, &ended(End::All));
-    expect_eq(
-        &rt,
-        &run.text.as_slice(),
-        &b"w 20000000 written\nend all 1\n".as_slice(),
-    );
-    let plan = b".\n.\n.\n.\n.\n.\n.\n.\n.\n.\n.\nflip 0\n".as_slice();
-    let run = run_on(&rt, ONE_READ, plan, TRIES);
-    expect_eq(
-        &rt,
-        &run.text.as_slice(),
-        &b"r 20000000 00000000\nend all 1\n".as_slice(),
-    );
-}
-
-#[test]
-fn transfers_without_room_are_bus_errors(rt: HostRuntime) {
-    let script = b"memory 20000000 2\nroom 1\nw 20000000 1\nr 20000000\nw 20000008 1\n".as_slice();
-    let run = run_on(&rt, script, b"".as_slice(), TRIES);
-    expect_eq(&rt, &run.answer, &ended(End::All));
-    let report =
-        b"w 20000000 written\nr 20000000 busfault\nw 20000008 busfault\nend all 3\n".as_slice();
-    expect_eq(&rt, &run.text.as_slice(), &report);
-}
-
-#[test]
 fn texts_at_fault_are_not_run(rt: HostRuntime) {
     for (script, fault) in [
         (
@@ -220,6 +95,10 @@ fn texts_at_fault_are_not_run(rt: HostRuntime) {
         ),
         (
             b"memory 20000000 1\nr 20000000\nblock 20000000 1",
+            ScriptFault::Word { line: 3 },
+        ),
+        (
+            b"memory 20000000 2\nblock 20000000 3\nr 20000000",
             ScriptFault::Word { line: 3 },
         ),
         (b"r 20000000", ScriptFault::NoMemoryLine { line: 1 }),

@@ -1,9 +1,6 @@
 //! Runs that are resumed at a lost acknowledgement.
 use super::expect::expect_eq;
-use super::{
-    NO_ACCESS, ONE_READ, ONE_WRITE, Ran, THREE_WAITS, TRIES, WORKED, WORKED_REPORT, ended,
-    resumed_on,
-};
+use super::{ONE_WRITE, Ran, TRIES, WORKED, ended, resumed_on};
 use linked_list_allocator::LocalHeap;
 use std::process::Abort;
 use std::test::Fail;
@@ -11,30 +8,13 @@ use swd_host::End;
 use swd_run::{Finished, run_text, run_traced};
 use swd_text::{EngineFault, decode_text};
 
-// The DRW request of a first access is the eleventh: nine requests are the opening's, and one is TAR's.
-const LOST_WRITE: &[u8] = b".\n.\n.\n.\n.\n.\n.\n.\n.\n.\nmute 0\n";
+/// The DRW request of a first access is the eleventh: nine requests are the opening's, and one is TAR's.
+pub(super) const LOST_WRITE: &[u8] = b".\n.\n.\n.\n.\n.\n.\n.\n.\n.\nmute 0\n";
 
 // A run ends so, after this report.
 fn comes_to<R: Abort>(rt: &R, run: &Ran, end: End, report: &[u8]) {
     expect_eq(rt, &run.answer, &ended(end));
     expect_eq(rt, &run.text.as_slice(), &report);
-}
-
-#[test]
-fn a_lost_write_is_resumed(rt: HostRuntime) {
-    let run = resumed_on(&rt, ONE_WRITE, LOST_WRITE, TRIES, 1);
-    let report = b"resume 0 begun 1\nw 20000000 written\nend all 1\n".as_slice();
-    comes_to(&rt, &run, End::All, report);
-    let run = resumed_on(&rt, ONE_WRITE, b"deaf\n".as_slice(), TRIES, 1);
-    let report = b"resume 0 begun 0\nw 20000000 written\nend all 1\n".as_slice();
-    comes_to(&rt, &run, End::All, report);
-    let run = resumed_on(&rt, NO_ACCESS, b"deaf\n".as_slice(), TRIES, 1);
-    comes_to(
-        &rt,
-        &run,
-        End::All,
-        b"resume 0 begun 0\nend all 0\n".as_slice(),
-    );
 }
 
 // The write is confirmed at the twelfth request, TAR is the thirteenth, and the read the fourteenth.
@@ -55,69 +35,6 @@ fn a_run_goes_on_in_the_middle_of_its_list(rt: HostRuntime) {
         let report = b"w 20000000 written\nend lost 1 begun 1\n".as_slice();
         comes_to(&rt, &run, End::Lost, report);
     }
-}
-
-// The first request of each of the two calls is lost.
-#[test]
-fn a_run_is_resumed_no_more_than_told(rt: HostRuntime) {
-    let plan = b"deaf\ndeaf\n".as_slice();
-    let run = resumed_on(&rt, ONE_WRITE, plan, TRIES, 0);
-    comes_to(&rt, &run, End::Lost, b"end lost 0 begun 0\n".as_slice());
-    let run = resumed_on(&rt, ONE_WRITE, plan, TRIES, 1);
-    let report = b"resume 0 begun 0\nend lost 0 begun 0\n".as_slice();
-    comes_to(&rt, &run, End::Lost, report);
-    for resumes in [2, 3, 1000, u32::MAX] {
-        let run = resumed_on(&rt, ONE_WRITE, plan, TRIES, resumes);
-        let report =
-            b"resume 0 begun 0\nresume 0 begun 0\nw 20000000 written\nend all 1\n".as_slice();
-        comes_to(&rt, &run, End::All, report);
-    }
-    // The write stays begun until it is answered.
-    let plan = b".\n.\n.\n.\n.\n.\n.\n.\n.\n.\nmute 0\ndeaf\n".as_slice();
-    let run = resumed_on(&rt, ONE_WRITE, plan, TRIES, 1);
-    let report = b"resume 0 begun 1\nend lost 0 begun 1\n".as_slice();
-    comes_to(&rt, &run, End::Lost, report);
-}
-
-// The twelfth request is the DRW read of the second word, and the thirteenth the RDBUFF read that brings it.
-#[test]
-fn a_lost_block_goes_on_with_its_reads(rt: HostRuntime) {
-    let script = b"memory 20000000 16\nblock 20000000 2\n".as_slice();
-    let plan = b".\n.\n.\n.\n.\n.\n.\n.\n.\n.\n.\nmute 0\n".as_slice();
-    let run = resumed_on(&rt, script, plan, TRIES, 1);
-    let report =
-        b"resume 0 begun 2\nr 20000000 00000000\nr 20000004 00000000\nend all 2\n".as_slice();
-    comes_to(&rt, &run, End::All, report);
-    let plan = b".\n.\n.\n.\n.\n.\n.\n.\n.\n.\n.\n.\ndeaf\n".as_slice();
-    let run = resumed_on(&rt, script, plan, TRIES, 1);
-    let report =
-        b"r 20000000 00000000\nresume 1 begun 1\nr 20000004 00000000\nend all 2\n".as_slice();
-    comes_to(&rt, &run, End::All, report);
-}
-
-#[test]
-fn only_a_lost_acknowledgement_is_resumed(rt: HostRuntime) {
-    let run = resumed_on(&rt, ONE_READ, THREE_WAITS, 2, 5);
-    comes_to(
-        &rt,
-        &run,
-        End::TriesOut,
-        b"end tries 0 begun 1\n".as_slice(),
-    );
-    let run = resumed_on(&rt, WORKED, b"".as_slice(), TRIES, 1000);
-    comes_to(&rt, &run, End::All, WORKED_REPORT);
-    // WAIT at a request that is never answered so does nothing; at the DRW read it is one event too many.
-    let run = resumed_on(&rt, ONE_READ, b"deaf\nwait\n".as_slice(), 0, 5);
-    comes_to(
-        &rt,
-        &run,
-        End::All,
-        b"resume 0 begun 0\nr 20000000 00000000\nend all 1\n".as_slice(),
-    );
-    let plan = b"deaf\n.\n.\n.\n.\n.\n.\n.\n.\n.\n.\nwait\n".as_slice();
-    let run = resumed_on(&rt, ONE_READ, plan, 0, 5);
-    let report = b"resume 0 begun 0\nend tries 0 begun 1\n".as_slice();
-    comes_to(&rt, &run, End::TriesOut, report);
 }
 
 // How many lines begin with one of these.

@@ -1,6 +1,6 @@
 //! Scripts of several calls, and reads whose words the script tells.
 use super::expect::expect_eq;
-use super::{Ran, TRIES, ended, resumed_on, run_on};
+use super::{Ran, TRIES, ended, run_on};
 use std::process::Abort;
 use swd_fakes::ShortWriter;
 use swd_host::End;
@@ -8,11 +8,13 @@ use swd_port::Answer;
 use swd_run::{Difference, Finished, run_text, run_traced};
 use swd_text::{EngineFault, decode_text};
 
-// A write, the same word read by a block, and the word told.
-const CALLS: &[u8] = b"memory 20000000 16\nw 20000004 deadbeef\nnext\nblock 20000000 3\nnext\n\
+/// A write, the same word read by a block, and the word told.
+pub(super) const CALLS: &[u8] =
+    b"memory 20000000 16\nw 20000004 deadbeef\nnext\nblock 20000000 3\nnext\n\
     verify 20000004 deadbeef\nr 30000000\n";
 
-const REPORTS: &[u8] = b"w 20000004 written\nend all 1\nr 20000000 00000000\nr 20000004 deadbeef\n\
+pub(super) const REPORTS: &[u8] =
+    b"w 20000004 written\nend all 1\nr 20000000 00000000\nr 20000004 deadbeef\n\
     r 20000008 00000000\nend all 3\nr 20000004 deadbeef\nr 30000000 busfault\nend all 2\n";
 
 // A run ends so, with this difference, after this report.
@@ -23,80 +25,6 @@ fn differs<R: Abort>(rt: &R, run: &Ran, end: End, difference: Difference, report
     };
     expect_eq(rt, &run.answer, &Ok(finished));
     expect_eq(rt, &run.text.as_slice(), &report);
-}
-
-#[test]
-fn calls_follow_each_other_over_one_target(rt: HostRuntime) {
-    let run = run_on(&rt, CALLS, b"".as_slice(), TRIES);
-    expect_eq(&rt, &run.answer, &ended(End::All));
-    expect_eq(&rt, &run.text.as_slice(), &REPORTS);
-    // Power late, a WAIT and a changed bit in the first call, and a WAIT in each of the others.
-    let plan =
-        b".\n.\n.\n.\n.\nwait\n.\n.\n.\n.\nwait\nflip 7\n.\n.\n.\n.\n.\n.\n.\n.\n.\n.\n.\n.\n.\n.\nwait\n\
-        .\n.\n.\n.\n.\n.\n.\n.\n.\n.\n.\nwait\nwait\n"
-            .as_slice();
-    let run = run_on(&rt, CALLS, plan, TRIES);
-    expect_eq(&rt, &run.answer, &ended(End::All));
-    expect_eq(&rt, &run.text.as_slice(), &REPORTS);
-}
-
-// A call of no accesses is its opening.
-#[test]
-fn a_call_may_be_empty(rt: HostRuntime) {
-    let script = b"memory 20000000 1\nnext\nnext\nr 20000000\nnext\n".as_slice();
-    let run = run_on(&rt, script, b"".as_slice(), TRIES);
-    expect_eq(&rt, &run.answer, &ended(End::All));
-    expect_eq(
-        &rt,
-        &run.text.as_slice(),
-        &b"end all 0\nend all 0\nr 20000000 00000000\nend all 1\nend all 0\n".as_slice(),
-    );
-}
-
-// The opening is nine requests, and eleven end the first call. The first request of the second is lost.
-#[test]
-fn a_call_that_stops_is_the_last_one(rt: HostRuntime) {
-    let lost = b".\n.\n.\n.\n.\n.\n.\n.\n.\n.\n.\n.\ndeaf\n".as_slice();
-    let run = run_on(&rt, CALLS, lost, TRIES);
-    expect_eq(&rt, &run.answer, &ended(End::Lost));
-    expect_eq(
-        &rt,
-        &run.text.as_slice(),
-        &b"w 20000004 written\nend all 1\nend lost 0 begun 0\n".as_slice(),
-    );
-    let run = resumed_on(&rt, CALLS, lost, TRIES, 1);
-    expect_eq(&rt, &run.answer, &ended(End::All));
-    expect_eq(
-        &rt,
-        &run.text.as_slice(),
-        &b"w 20000004 written\nend all 1\nresume 0 begun 0\nr 20000000 00000000\nr 20000004 deadbeef\n\
-        r 20000008 00000000\nend all 3\nr 20000004 deadbeef\nr 30000000 busfault\nend all 2\n"
-            .as_slice(),
-    );
-    let waits = b"wait\nwait\nwait\nwait\nwait\nwait\nwait\nwait\nwait\nwait\n\
-        wait\nwait\nwait\nwait\nwait\nwait\nwait\nwait\nwait\nwait\n"
-        .as_slice();
-    let run = run_on(&rt, CALLS, waits, 1);
-    expect_eq(&rt, &run.answer, &ended(End::TriesOut));
-    expect_eq(
-        &rt,
-        &run.text.as_slice(),
-        &b"end tries 0 begun 0\n".as_slice(),
-    );
-}
-
-// Each call may be resumed as often as is told.
-#[test]
-fn each_call_is_resumed_by_itself(rt: HostRuntime) {
-    let script = b"memory 20000000 1\nnext\n".as_slice();
-    let plan = b"deaf\n.\n.\n.\n.\n.\n.\n.\n.\n.\ndeaf\n".as_slice();
-    let run = resumed_on(&rt, script, plan, TRIES, 1);
-    expect_eq(&rt, &run.answer, &ended(End::All));
-    expect_eq(
-        &rt,
-        &run.text.as_slice(),
-        &b"resume 0 begun 0\nend all 0\nresume 0 begun 0\nend all 0\n".as_slice(),
-    );
 }
 
 #[test]
@@ -129,19 +57,6 @@ fn a_bus_error_is_not_the_word(rt: HostRuntime) {
     };
     let report = b"r 30000000 busfault\nend all 1\n".as_slice();
     differs(&rt, &run, End::All, difference, report);
-}
-
-// A word that wasn't read differs from none; the run tells that it wasn't.
-#[test]
-fn a_read_without_an_answer_does_not_differ(rt: HostRuntime) {
-    let script = b"memory 20000000 1\nr 20000000\nverify 20000000 5\n".as_slice();
-    let run = run_on(&rt, script, b"deaf\n".as_slice(), TRIES);
-    expect_eq(&rt, &run.answer, &ended(End::Lost));
-    expect_eq(
-        &rt,
-        &run.text.as_slice(),
-        &b"end lost 0 begun 0\n".as_slice(),
-    );
 }
 
 // The trace goes on from call to call: each has its opening.
