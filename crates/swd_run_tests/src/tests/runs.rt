@@ -301,8 +301,8 @@ const SESSIONS: [Row; 8] = [
     (
         "calls over one target under a plan",
         CALLS,
-        b".\n.\n.\n.\nwait\n.\n.\n.\n.\nwait\nflip 7\n.\n.\n.\n.\n.\n.\n.\n.\n.\n.\n.\n.\n.\n.\nwait\n\
-          .\n.\n.\n.\n.\n.\n.\n.\n.\n.\nwait\nwait\n",
+        b".\n.\n.\n.\n.\nwait\n.\n.\n.\n.\nwait\nflip 7\n\
+          .\n.\n.\n.\n.\n.\n.\n.\n.\n.\n.\n.\n.\n.\nwait\n.\n.\n.\n.\n.\n.\n.\n.\n.\n.\n.\nwait\nwait\n",
         TRIES,
         0,
         End::All,

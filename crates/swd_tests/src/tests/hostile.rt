@@ -6,10 +6,11 @@ use super::row::{
 };
 use crate::Simulated;
 use std::alloc::Global;
+use std::fmt::Debug;
 use std::process::Abort;
 use std::test::Fail;
 use swd_clocked::ClockedBench;
-use swd_host::End;
+use swd_host::{End, Report};
 use swd_port::{Access, Answer, Transfer};
 use swd_target::{Bench, Mark};
 
@@ -88,8 +89,20 @@ impl List {
 // Both lists send fifteen requests where nothing happens to them.
 const REQUESTS: usize = 15;
 
-// A run is as it is wanted, but that one which is whole may have sent fewer requests. The list and the first mark say
-// which one went wrong.
+// A report is as it is wanted, but that one which is whole may have sent fewer requests.
+fn fits<R: Abort, P: Debug>(rt: &R, place: &P, report: &Report, wanted: &Wanted) {
+    expect_eq_at(rt, place, &report.ended, &wanted.ended);
+    expect_eq_at(rt, place, &report.answers.as_slice(), &wanted.answers);
+    expect_eq_at(rt, place, &report.begun, &wanted.begun);
+    expect_at(rt, place, report.requests <= wanted.requests);
+    expect_at(
+        rt,
+        place,
+        wanted.ended == End::All || report.requests == wanted.requests,
+    );
+}
+
+// A run is as it is wanted. The list and the first mark say which one went wrong.
 fn comes_out<S: Simulated + Drop, R: Abort>(
     rt: &R,
     alloc: Global,
@@ -105,15 +118,7 @@ fn comes_out<S: Simulated + Drop, R: Abort>(
         panic!(rt; "the target isn't new");
     };
     expect_at(rt, &place, !marks.is_empty());
-    expect_eq_at(rt, &place, &report.ended, &wanted.ended);
-    expect_eq_at(rt, &place, &report.answers.as_slice(), &wanted.answers);
-    expect_eq_at(rt, &place, &report.begun, &wanted.begun);
-    expect_at(rt, &place, report.requests <= wanted.requests);
-    expect_at(
-        rt,
-        &place,
-        wanted.ended == End::All || report.requests == wanted.requests,
-    );
+    fits(rt, &place, &report, wanted);
     expect_eq_at(rt, &place, &target.memory().log(), &wanted.log);
     Ok(())
 }
