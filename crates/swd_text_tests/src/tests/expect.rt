@@ -1,5 +1,5 @@
-//! Assertions as calls. An `assert_eq!` is its whole code at each place, with the text for a failure, and the prover goes
-//! through that each time anew.
+//! Assertions as calls. An `assert_eq!` is its whole code at each place, with the message of a failure, and the prover
+//! goes through that each time anew.
 
 use std::fmt::Debug;
 use std::process::Abort;
