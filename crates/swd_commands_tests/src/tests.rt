@@ -404,6 +404,10 @@ fn each_fault_of_an_engine_has_its_words(rt: HostRuntime) {
         expect_eq(&rt, &engine_status(&mut errors, Err(fault)), &2);
         expect_eq(&rt, &errors.as_slice(), &words);
     }
+}
+
+#[test]
+fn a_file_that_is_not_there_has_a_status(rt: HostRuntime) {
     let mut errors = Vec::new(rt.alloc());
     expect_eq(&rt, &cannot_open(&mut errors, "b"), &2);
 }

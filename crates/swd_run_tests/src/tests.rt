@@ -97,10 +97,6 @@ fn texts_at_fault_are_not_run(rt: HostRuntime) {
             b"memory 20000000 1\nr 20000000\nblock 20000000 1",
             ScriptFault::Word { line: 3 },
         ),
-        (
-            b"memory 20000000 2\nblock 20000000 3\nr 20000000",
-            ScriptFault::Word { line: 3 },
-        ),
         (b"r 20000000", ScriptFault::NoMemoryLine { line: 1 }),
         (b"", ScriptFault::NoMemoryLine { line: 1 }),
     ] {
@@ -109,6 +105,11 @@ fn texts_at_fault_are_not_run(rt: HostRuntime) {
         expect_eq(&rt, &run.answer, &Err(EngineFault::Script(fault)));
         assert!(rt; run.text.is_empty());
     }
+    let script = b"memory 20000000 2\nblock 20000000 3\nr 20000000".as_slice();
+    let run = run_on(&rt, script, b"".as_slice(), TRIES);
+    let fault = ScriptFault::Word { line: 3 };
+    expect_eq(&rt, &run.answer, &Err(EngineFault::Script(fault)));
+    assert!(rt; run.text.is_empty());
     let run = run_on(&rt, WORKED, b"flip 33".as_slice(), TRIES);
     expect_eq(
         &rt,

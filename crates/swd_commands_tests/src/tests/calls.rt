@@ -7,8 +7,8 @@ use super::{DPIDR_BITS, DPIDR_LINE, DPIDR_READ, REPORT, RESUMED, SCRIPT, run_on}
 // What standard input has where a file is read in its place.
 const UNREAD: &[u8] = b"x";
 
-// A name, the arguments, standard input, and what comes of them: the status, standard output and standard error. No trace is
-// written.
+// A name, the arguments, standard input, and what comes of them: the status, standard output and standard error.
+// No trace is made where no option asks for one.
 type Call<'a> = (&'a str, &'a [&'a str], &'a [u8], u8, &'a [u8], &'a [u8]);
 
 const READS: [Call; 11] = [
@@ -102,7 +102,7 @@ const READS: [Call; 11] = [
     ),
 ];
 
-const RUNS: [Call; 17] = [
+const RUNS: [Call; 16] = [
     (
         "a script is run",
         &["swd", "run", "script"],
@@ -233,14 +233,6 @@ const RUNS: [Call; 17] = [
           r 20000004 00000000\nend all 1\n",
         b"",
     ),
-    (
-        "a plan can't be standard input where that is the debugger's",
-        &["swd", "target", "memory", "--plan", "input"],
-        b"Q",
-        2,
-        b"",
-        b"swd: cannot open input\n",
-    ),
 ];
 
 const FAULTS: [Call; 10] = [
@@ -326,7 +318,7 @@ const FAULTS: [Call; 10] = [
     ),
 ];
 
-const TARGETS: [Call; 9] = [
+const TARGETS: [Call; 10] = [
     (
         "a host is served",
         &["swd", "target", "memory"],
@@ -376,6 +368,15 @@ const TARGETS: [Call; 9] = [
         2,
         b"",
         b"swd: cannot open locked\n",
+    ),
+    // Standard input is the debugger's.
+    (
+        "a plan can't be standard input where that is the debugger's",
+        &["swd", "target", "memory", "--plan", "input"],
+        b"Q",
+        2,
+        b"",
+        b"swd: cannot open input\n",
     ),
     (
         "a target's plan isn't there",

@@ -7,7 +7,8 @@ use super::{
 };
 use swd_host::End;
 
-// A name, a script and a plan, the tries, how often it may be resumed, and what comes of it: how it ends, and its report.
+// A name, a script and a plan, the tries, how often it may be resumed; and what comes of it: how it ends, and its
+// report.
 type Row<'a> = (&'a str, &'a [u8], &'a [u8], u32, u32, End, &'a [u8]);
 
 const BLOCK: &[u8] = b"memory 20000000 16\nblock 20000000 2\n";
