@@ -1,20 +1,25 @@
 -- What a list that is done from the first access on that isn't answered says of the whole list.
-use Rattle.swd_host.proofs.Words.{◌≡◌, ◌≢◌, ◌+◌, ◌<◌, ◌≤◌, ℕ, Bool, true, false, refl, sym, ap, subst, inl, inr, arith}
+use Rattle.swd_host.proofs.Words.{◌≡◌, ◌≢◌, ◌+◌, ◌<◌, ◌≤◌, ℕ, refl, sym, ap, subst, inl, inr, arith}
 use Rattle.swd_host.proofs.Words.{◌∙◌, List, [], ◌∷◌, ◌++◌, length, take, zero, suc, get_or, length-append, ◌⊎◌, drop}
-use Rattle.swd_host.proofs.Words.{if◌then◌else◌, Access, Answer, PlainMemory, plain_answer, plain_after, All}
+use Rattle.swd_host.proofs.Words.{Access, Answer, PlainMemory, plain_answer, plain_after, All}
 use Rattle.swd_host.proofs.Words.{memory_after, answers_of, Told, Fits, FitsAt, IsAfter, AllBelow, Again, HasRoom}
-use Rattle.swd_host.proofs.Words.{since}
-use Rattle.std.proofs.lemmas.List.{append-nil, append_assoc, length-take-le}
-use Rattle.swd_host.specs.Again.{AgainAt, Grows}
-use Rattle.swd_host.specs.Resuming.{is_open}
+use Rattle.swd_host.proofs.Words.{since, max, End, Lost, ◌-◌, false}
+use Rattle.swd_host.specs.declared.outcome.End.TheVariants.{TriesOut, WrongId, Confused}
+use Rattle.std.proofs.lemmas.List.{append-nil, append_assoc, length-take-le, take_all}
+use Rattle.swd_host.specs.Again.{AgainAt}
+use Rattle.swd_host.specs.Resuming.{is_all}
 use Rattle.swd_host.proofs.Lists.{memory_next, answers_next}
-use Rattle.swd_host.proofs.Repeats.{after_next, after_again, after_none}
+use Rattle.swd_host.proofs.Repeats.{after_next, after_again, after_none, repeated_none}
 use Rattle.swd_host.proofs.Shadows.{Roomy, answered_next, answered_again}
 
 -- LISTS
 answers_length : (xs : List Access) (m : PlainMemory) → length (answers_of xs m) ≡ length xs
 answers_length [] m = refl
 answers_length (x ∷ xs) m = let h = answers_length xs (plain_after x m) in omega (arith, h)
+
+pub no_answers : (xs : List Answer) → length xs ≡ 0 → xs ≡ []
+no_answers [] none = refl
+no_answers (x ∷ xs) none = absurd (omega arith)
 
 -- so many answers there are
 pub told_length : (k : ℕ) (list : List Access) (m : PlainMemory) (answers : List Answer) → k ≤ length list
@@ -26,7 +31,7 @@ drop_length zero list few = omega arith
 drop_length (suc k) [] few = absurd (omega arith)
 drop_length (suc k) (x ∷ list) few = let h = drop_length k list (omega arith) in omega (arith, h)
 
-drop_first : (k : ℕ) (list : List Access) (d : Access) → k < length list
+pub drop_first : (k : ℕ) (list : List Access) (d : Access) → k < length list
     → drop k list ≡ get_or list k d ∷ drop (suc k) list
 drop_first zero (x ∷ list) d few = refl
 drop_first (suc k) (x ∷ list) d few = drop_first k list d (omega arith)
@@ -41,6 +46,10 @@ drop_at (suc i) n [] d = nothing n (suc i + n) d
     nothing n m d = grind arith
 drop_at (suc i) n (x ∷ list) d = drop_at i n list d ∙ (let e : suc (i + n) ≡ suc i + n = omega arith in
     ap (λ j. get_or (x ∷ list) j d) e)
+
+-- the places afterwards: the same, or, where an access was begun, that one's too
+abbrev pub Grows : List ℕ → Told → List ℕ → Type 0
+Grows js earlier more = (more ≡ js) ⊎ ((earlier.begun ≡ 1) × (more ≡ js ++ length earlier.answers ∷ []))
 
 -- one more access was repeated at most
 pub grows_few : (js : List ℕ) (earlier : Told) (more : List ℕ) → Grows js earlier more → length more ≤ length js + 1
@@ -157,45 +166,6 @@ done_onward js k n list d m q earlier few o =
     }
 
 -- THE ACCESS THAT WAS BEGUN BEFORE
--- it is open still
-record StillOpen (raw earlier : Told) : Type 0 where
-  same : length raw.answers ≡ length earlier.answers
-  never : raw.ended ≢ All
-  begun : earlier.begun ≡ 1
-
-still_open : (raw earlier : Told) → is_open raw earlier ≡ true → StillOpen raw earlier
-still_open raw earlier h = grind arith
-
-pub open_begun : (raw earlier : Told) → length raw.answers ≡ length earlier.answers → raw.ended ≢ All
-    → earlier.begun ≡ 1 → (since raw earlier).begun ≡ 1
-open_begun raw earlier same never begun = grind arith
-
-one_either : (b : Bool) (n : ℕ) → n ≡ 1 → (if b then 1 else n) ≡ 1
-one_either true n one = refl
-one_either false n one = one
-
-pub since_one : (raw earlier : Told) → raw.begun ≡ 1 → (since raw earlier).begun ≡ 1
-since_one raw earlier one = one_either (is_open raw earlier) raw.begun one
-
-few_either : (b : Bool) (n : ℕ) → n ≤ 1 → (if b then 1 else n) ≤ 1
-few_either true n few = omega arith
-few_either false n few = few
-
-pub since_few : (raw earlier : Told) → raw.begun ≤ 1 → (since raw earlier).begun ≤ 1
-since_few raw earlier few = few_either (is_open raw earlier) raw.begun few
-
-pub data Begun (raw earlier : Told) : Type 0 where
-  by_earlier : length raw.answers ≡ length earlier.answers → raw.ended ≢ All → earlier.begun ≡ 1 → Begun raw earlier
-  by_this : raw.begun ≢ 0 → Begun raw earlier
-
-begun_either : (raw earlier : Told) (b : Bool) → is_open raw earlier ≡ b → (if b then 1 else raw.begun) ≢ 0
-    → Begun raw earlier
-begun_either raw earlier b is some = grind (arith, still_open)
-
-pub since_begun : (raw earlier : Told) → (since raw earlier).begun ≢ 0 → Begun raw earlier
-since_begun raw earlier some = begun_either raw earlier (is_open raw earlier) refl some
-
--- THE WHOLE
 some_begun : (n : ℕ) → n ≡ 1 → n ≢ 0
 some_begun n one none = absurd (let both : 1 ≡ 0 = sym one ∙ none in omega arith)
 
@@ -203,6 +173,59 @@ at_least : (n : ℕ) → n ≢ 0 → 1 ≤ n
 at_least zero some = absurd (some refl)
 at_least (suc n) some = omega arith
 
+pub not_all : (end : End) → end ≢ All → is_all end ≡ false
+not_all end never = grind arith
+
+-- what is told as begun in a call that didn't end whole
+since_at : (raw earlier : Told) → raw.ended ≢ All → (since raw earlier).begun
+    ≡ max raw.begun (earlier.begun - (length raw.answers - length earlier.answers))
+since_at raw earlier never = rw (not_all raw.ended never) refl
+
+-- it is open still
+pub open_begun : (raw earlier : Told) → length raw.answers ≡ length earlier.answers → raw.ended ≢ All
+    → raw.begun ≤ 1 → earlier.begun ≡ 1 → (since raw earlier).begun ≡ 1
+open_begun raw earlier same never few begun =
+    let h = since_at raw earlier never in omega (arith, h, same, few, begun)
+
+pub since_one : (raw earlier : Told) → raw.ended ≢ All → earlier.begun ≤ 1 → raw.begun ≡ 1
+    → (since raw earlier).begun ≡ 1
+since_one raw earlier never few one = let h = since_at raw earlier never in omega (arith, h, few, one)
+
+pub since_few : (raw earlier : Told) → raw.begun ≤ 1 → earlier.begun ≤ 1 → (since raw earlier).begun ≤ 1
+since_few raw earlier few was = by raw.ended refl
+  where
+    by : (end : End) → raw.ended ≡ end → (since raw earlier).begun ≤ 1
+    by All is = rw (ap is_all is) (omega arith)
+    by Lost is = let h = since_at raw earlier (λ all. absurd cc) in omega (arith, h, few, was)
+    by TriesOut is = let h = since_at raw earlier (λ all. absurd cc) in omega (arith, h, few, was)
+    by (WrongId word) is = let h = since_at raw earlier (λ all. absurd cc) in omega (arith, h, few, was)
+    by Confused is = let h = since_at raw earlier (λ all. absurd cc) in omega (arith, h, few, was)
+
+pub data Begun (raw earlier : Told) : Type 0 where
+  by_earlier : length raw.answers ≡ length earlier.answers → raw.ended ≢ All → earlier.begun ≡ 1 → Begun raw earlier
+  by_this : raw.begun ≢ 0 → Begun raw earlier
+
+begun_either : (raw earlier : Told) (b : ℕ) → raw.begun ≡ b → length earlier.answers ≤ length raw.answers
+    → earlier.begun ≤ 1 → raw.ended ≢ All → (since raw earlier).begun ≢ 0 → Begun raw earlier
+begun_either raw earlier zero none grows few never some =
+    let h = since_at raw earlier never in
+    let one = at_least (since raw earlier).begun some in
+    by_earlier (omega (arith, h, one, none, grows, few)) never (omega (arith, h, one, none, few))
+begun_either raw earlier (suc n) is grows few never some =
+    by_this (λ none. absurd (let both : suc n ≡ 0 = sym is ∙ none in omega arith))
+
+since_begun : (raw earlier : Told) → length earlier.answers ≤ length raw.answers → earlier.begun ≤ 1
+    → (since raw earlier).begun ≢ 0 → Begun raw earlier
+since_begun raw earlier grows few some = by raw.ended refl
+  where
+    by : (end : End) → raw.ended ≡ end → Begun raw earlier
+    by All is = absurd (some (rw (ap is_all is) refl))
+    by Lost is = begun_either raw earlier raw.begun refl grows few (λ all. absurd cc) some
+    by TriesOut is = begun_either raw earlier raw.begun refl grows few (λ all. absurd cc) some
+    by (WrongId word) is = begun_either raw earlier raw.begun refl grows few (λ all. absurd cc) some
+    by Confused is = begun_either raw earlier raw.begun refl grows few (λ all. absurd cc) some
+
+-- THE WHOLE
 -- the accesses that took effect are some of the list
 few_done : (kk j begun rest : ℕ) → kk ≤ rest → j ≤ begun → (begun ≢ 0 → kk + begun ≤ rest) → kk + j ≤ rest
 few_done kk j zero rest few less may = omega arith
@@ -237,17 +260,58 @@ module _ (js : List ℕ) (k kk j : ℕ) (list : List Access) (m x now : PlainMem
   whole : raw.ended ≡ All → k + kk ≡ length list
   whole all = let h = fit.all all in omega (arith, h, long)
 
+  grows_on : length earlier.answers ≤ length raw.answers
+  grows_on = omega (arith, number, raw_number)
+
+  begun_of : (since raw earlier).begun ≡ 1 → Begun raw earlier
+  begun_of one = since_begun raw earlier grows_on a.few (some_begun (since raw earlier).begun one)
+
   -- nothing took effect
   none_memory : kk ≡ 0 → StandsAt js k list m earlier x
       → IsAfter js k list m x ⊎ (((since raw earlier).begun ≡ 1) × IsAfter js (k + 1) list m x)
-  none_memory zero_done h = grind (arith, number, open_begun, raw_number, whole)
+  none_memory zero_done (inl h) = inl h
+  none_memory zero_done (inr (b, h)) =
+      let below = (a.begun b).0 in
+      inr (
+        open_begun raw earlier (omega (arith, number, raw_number, zero_done))
+            (λ all. let w = whole all in absurd (omega (arith, w, below, zero_done))) fit.few b,
+        h,
+      )
 
   none_begun : kk ≡ 0 → Begun raw earlier → (k < length list) × (raw.ended ≢ All)
-  none_begun zero_done h = grind (arith, at_least, long)
+  none_begun zero_done (by_earlier same never one) = ((a.begun one).0, never)
+  none_begun zero_done (by_this is) =
+      let h = fit.begun is in
+      let some = at_least raw.begun is in
+      let most = h.0 in
+      (omega (arith, most, some, long), h.1)
+
+  none_part : kk ≡ 0 → part ≡ []
+  none_part zero_done = no_answers part (omega (arith, part_number, zero_done))
+
+  none_left : kk ≡ 0 → j ≡ 0 → now ≡ x
+  none_left zero_done zero_begun =
+      let none : kk + j ≡ 0 = omega (arith, zero_done, zero_begun) in
+      left ∙ ap (λ n. memory_after (take n (drop k list)) x) none
 
   none_again : kk ≡ 0 → j ≡ 0 → Ongoing js list m earlier (since raw earlier) now
-  none_again zero_done zero_begun =
-      grind (arith, append-nil, few, none_begun, none_memory, since_begun, since_few, some_begun, whole)
+  none_again zero_done zero_begun = record {
+    more = js;
+    grows = inl refl;
+    again = (
+      k,
+      record {
+        reported = a.reported;
+        answers = added ∙ (ap (λ l. earlier.answers ++ l) (none_part zero_done)
+            ∙ (append-nil earlier.answers ∙ a.answers));
+        memory = subst (λ y. IsAfter js k list m y ⊎ (((since raw earlier).begun ≡ 1) × IsAfter js (k + 1) list m y))
+            (sym (none_left zero_done zero_begun)) (none_memory zero_done a.memory);
+        few = since_few raw earlier fit.few a.few;
+        begun = λ one. none_begun zero_done (begun_of one);
+        all = λ all. let w = whole all in omega (arith, w, zero_done);
+      },
+    );
+  }
 
   -- something did
   onward : 1 ≤ kk + j → Onward js k list d m x earlier
@@ -279,7 +343,7 @@ module _ (js : List ℕ) (k kk j : ℕ) (list : List Access) (m x now : PlainMem
       let one : raw.begun ≡ 1 = (let f = fit.few in omega (arith, f, less)) in
       let count : k + (kk + j) ≡ k + kk + 1 = (let f = fit.few in omega (arith, f, less)) in
       inr (
-        since_one raw earlier one,
+        since_one raw earlier (fit.begun (some_begun raw.begun one)).1 a.few one,
         subst (IsAfter more (k + kk + 1) list m) (sym left)
             (subst (λ n. IsAfter more n list m (memory_after (take (kk + j) (drop k list)) x)) count
             (done_here some (kk + j) some few).after),
@@ -299,10 +363,9 @@ module _ (js : List ℕ) (k kk j : ℕ) (list : List Access) (m x now : PlainMem
         answers = added ∙ (ap (λ l. l ++ part) a.answers
             ∙ (ap (λ l. answers_of (take k list) m ++ l) fit.answers ∙ answers_here some kk refl));
         memory = some_memory some j refl;
-        few = since_few raw earlier fit.few;
+        few = since_few raw earlier fit.few a.few;
         begun = λ one.
-            (let is : raw.begun ≢ 0 = some_begun_here some
-            (since_begun raw earlier (some_begun (since raw earlier).begun one)) in
+            (let is : raw.begun ≢ 0 = some_begun_here some (begun_of one) in
             let h = fit.begun is in
             (omega (arith, h.0, long, at_least raw.begun is), h.1));
         all = whole;
@@ -323,34 +386,39 @@ goes_again js list d m x now earlier raw part added (k, a) room fits =
     let (j, less, left) = fit.memory in
     fit_again js k kk j list m x now earlier raw part d added a room fit less left (kk + j) refl
 
--- WHERE NOTHING WAS DONE, the memory is as the earlier run left it
-pub same_again : (js : List ℕ) (list : List Access) (m : PlainMemory) (earlier raw : Told) (now : PlainMemory)
-    → raw.answers ≡ earlier.answers → raw.begun ≡ 0 → raw.ended ≢ All → Again js list m earlier now
-    → Again js list m (since raw earlier) now
-same_again js list m earlier raw now same none never h = grind arith
-
--- THE END OF A WHOLE LIST: nothing more comes of it
-pub whole_same : (list : List Access) (x : PlainMemory) (told : Told) (now later : PlainMemory) → told.ended ≡ All
-    → Fits 1 list x told now → Fits 1 list x told later → now ≡ later
-whole_same list x told now later all f g = grind arith
-
--- A RUN over a target that was just made, as one that goes on with no place repeated
+-- A RUN over a target at rest, as one that goes on with no place repeated, where it left one access begun at most
 fits_at_again : (k j : ℕ) (list : List Access) (m : PlainMemory) (told : Told) (now : PlainMemory)
-    → FitsAt 1 k list m told now → j ≤ told.begun → now ≡ memory_after (take (k + j) list) m
+    → told.begun ≤ 1 → j ≤ told.begun → now ≡ memory_after (take (k + j) list) m
     → IsAfter [] k list m now ⊎ ((told.begun ≡ 1) × IsAfter [] (k + 1) list m now)
-fits_at_again k j list m told now f less is = grind (arith, after_none, few)
+fits_at_again k zero list m told now few less is =
+    let same : k + 0 ≡ k = omega arith in
+    inl (after_none k list m now (is ∙ ap (λ n. memory_after (take n list) m) same))
+fits_at_again k (suc zero) list m told now few less is =
+    let same : k + suc zero ≡ k + 1 = omega arith in
+    inr (omega (arith, few, less), after_none (k + 1) list m now (is ∙ ap (λ n. memory_after (take n list) m) same))
+fits_at_again k (suc (suc j)) list m told now few less is = absurd (omega (arith, few, less))
 
-pub fits_again : (list : List Access) (m : PlainMemory) (told : Told) (now : PlainMemory) → Fits 1 list m told now
-    → Again [] list m told now
-fits_again list m told now (k, f) =
+pub fits_again : (limit : ℕ) (list : List Access) (m : PlainMemory) (told : Told) (now : PlainMemory)
+    → told.begun ≤ 1 → Fits limit list m told now → Again [] list m told now
+fits_again limit list m told now few (k, f) =
     let (j, less, is) = f.memory in (
       k,
       record {
         reported = f.reported;
         answers = f.answers;
-        memory = fits_at_again k j list m told now f less is;
-        few = f.few;
+        memory = fits_at_again k j list m told now few less is;
+        few = few;
         begun = λ one. (let h = f.begun (some_begun told.begun one) in (omega (arith, h.0, one), h.1));
         all = f.all;
       },
     )
+
+-- a whole list without a repeated access leaves what it leaves
+pub whole_again : (list : List Access) (m : PlainMemory) (told : Told) (now : PlainMemory) → told.ended ≡ All
+    → Again [] list m told now → now ≡ memory_after list m
+whole_again list m told now all (k, a) =
+    let is : take k list ≡ list = (let e = a.all all in take_all k list (omega (arith, e))) in
+    elim a.memory [
+      | inl h ↦ h.memory ∙ ap (λ xs. memory_after xs m) (repeated_none 0 (take k list) ∙ is)
+      | inr h ↦ absurd ((a.begun h.0).1 all)
+    ]

@@ -31,5 +31,7 @@ mod Alone
 mod Outsides
 mod Blocked
 mod Runs
+mod Chains
+mod ReadChains
 mod SessionLaws
 mod FieldsLemmas

@@ -1,12 +1,11 @@
 -- Calls one after the other over one target.
-use Rattle.swd_host.proofs.Words.{◌≡◌, ◌+◌, ◌%◌, ℕ, refl, sym, ap, subst, arith, ◌∙◌, List, ◌++◌, length, take, Access}
+use Rattle.swd_host.proofs.Words.{◌≡◌, ◌%◌, ℕ, refl, sym, ap, subst, arith, ◌∙◌, List, ◌++◌, length, take, Access}
 use Rattle.swd_host.proofs.Words.{Answer, PlainMemory, Port, All, memory_after, answers_of, Told, FitsAt, EndsAt}
 use Rattle.swd_host.proofs.Words.{IsAtRest, RunFits}
 use Rattle.std.proofs.lemmas.List.{take_all}
 use Rattle.swd_port.specs.Port.{made}
-use Rattle.swd_host.specs.Sessions.{Session, none, then, IsAsOne, Resumed, first, again, RepeatsFew}
+use Rattle.swd_host.specs.Sessions.{Session, none, then, IsAsOne}
 use Rattle.swd_host.proofs.Lists.{memory_append, answers_append}
-use Rattle.swd_host.proofs.GoingOn.{grows_few}
 
 pub made_rests : (identification : ℕ) (m : PlainMemory) → identification % 2 ≡ 1 → IsAtRest (made identification m)
 made_rests identification m odd = record { due = refl; known = record { select = refl; odd = odd }; settled = refl }
@@ -51,11 +50,3 @@ as_one s list answers t rest
       memory = whole_memory limit tries more told u v r all
           ∙ (ap (memory_after more) b.memory ∙ sym (memory_append done more m));
     }
-
-pub repeats_few : (list : List Access) (m : PlainMemory) (c : ℕ) (js : List ℕ) (told : Told) (t : Port)
-    → Resumed list m c js told t → RepeatsFew list m c js told t
-repeats_few list m c js told t (first told_of) = record { few = omega arith; told_of = told_of }
-repeats_few list m c js told t (again {c = n} {js = ks} {earlier = earlier} {told = later} {s = s} {t = u} before g) =
-    let b : RepeatsFew list m n ks earlier s = repeats_few list m n ks earlier s before in
-    let few = grows_few ks earlier g.more g.grows in
-    record { few = omega (arith, b.few); told_of = g.later }

@@ -17,31 +17,31 @@ use Rattle.swd_host.proofs.Lists.{memory_append, memory_next}
 use Rattle.swd_host.proofs.Repeats.{repeated_next}
 
 -- a memory whose log is up to c transfers longer, and that is the same else
-record Shadow (c : ℕ) (p q : PlainMemory) : Type 0 where
-  words : q.words ≡ p.words
-  room : q.room ≡ p.room
-  most : length q.log ≤ length p.log + c
-  least : length p.log ≤ length q.log
+pub record Shadow (c : ℕ) (p q : PlainMemory) : Type 0 where
+  pub words : q.words ≡ p.words
+  pub room : q.room ≡ p.room
+  pub most : length q.log ≤ length p.log + c
+  pub least : length p.log ≤ length q.log
 
 -- there is room for the access, and for c transfers more
-record HasPlace (c : ℕ) (a : Access) (p : PlainMemory) : Type 0 where
-  now : length p.log < p.room
-  later : length (plain_after a p).log + c ≤ p.room
+pub record HasPlace (c : ℕ) (a : Access) (p : PlainMemory) : Type 0 where
+  pub now : length p.log < p.room
+  pub later : length (plain_after a p).log + c ≤ p.room
 
 -- WHETHER AN ACCESS SUCCEEDS
 contains_succeeds : (at : ℕ) (p : PlainMemory) → length p.log < p.room → succeeds_at at p ≡ contains_key p.words at
 contains_succeeds at p l = rw (lt-ltb (length p.log) p.room l) (grind arith)
 
-after_true : (a : Access) (p : PlainMemory) → succeeds_at (address a) p ≡ true → plain_after a p ≡ done a p
+pub after_true : (a : Access) (p : PlainMemory) → succeeds_at (address a) p ≡ true → plain_after a p ≡ done a p
 after_true a p e = rw e refl
 
-after_false : (a : Access) (p : PlainMemory) → succeeds_at (address a) p ≡ false → plain_after a p ≡ p
+pub after_false : (a : Access) (p : PlainMemory) → succeeds_at (address a) p ≡ false → plain_after a p ≡ p
 after_false a p e = rw e refl
 
 done_log : (a : Access) (p : PlainMemory) → length (done a p).log ≡ length p.log + 1
 done_log a p = length-append p.log (transfer_of a p ∷ [])
 
-log_done : (a : Access) (p : PlainMemory) → succeeds_at (address a) p ≡ true
+pub log_done : (a : Access) (p : PlainMemory) → succeeds_at (address a) p ≡ true
     → length (plain_after a p).log ≡ length p.log + 1
 log_done a p e = ap (λ x. length x.log) (after_true a p e) ∙ done_log a p
 
@@ -58,7 +58,7 @@ plain_same : (a : Access) (p q : PlainMemory) → succeeds_at (address a) q ≡ 
     → answer_of a q ≡ answer_of a p → plain_answer a q ≡ plain_answer a p
 plain_same a p q e g = grind arith
 
-shadow_answer : (c : ℕ) (a : Access) (p q : PlainMemory) → HasPlace c a p → Shadow c p q
+pub shadow_answer : (c : ℕ) (a : Access) (p q : PlainMemory) → HasPlace c a p → Shadow c p q
     → plain_answer a q ≡ plain_answer a p
 shadow_answer c a p q f h = plain_same a p q (shadow_succeeds c a p q f h) (answer_same a p q h.words)
 
@@ -66,7 +66,7 @@ shadow_answer c a p q f h = plain_same a p q (shadow_succeeds c a p q f h) (answ
 done_shadow : (c : ℕ) (a : Access) (p q : PlainMemory) → Shadow c p q → Shadow c (done a p) (done a q)
 done_shadow c a p q h = grind (arith, done_log)
 
-shadow_next : (c : ℕ) (a : Access) (p q : PlainMemory) → HasPlace c a p → Shadow c p q
+pub shadow_next : (c : ℕ) (a : Access) (p q : PlainMemory) → HasPlace c a p → Shadow c p q
     → Shadow c (plain_after a p) (plain_after a q)
 shadow_next c a p q f h =
     let s : succeeds_at (address a) q ≡ succeeds_at (address a) p = shadow_succeeds c a p q f h in
@@ -192,11 +192,11 @@ pub record Roomy (c : ℕ) (list : List Access) (m : PlainMemory) : Type 0 where
   pub all : length (memory_after list m).log + c ≤ m.room
 
 -- the room that the log of a whole list has is there before each access
-place_there : (list : List Access) (i c : ℕ) (d : Access) (m : PlainMemory) → i < length list → Roomy c list m
+pub place_there : (list : List Access) (i c : ℕ) (d : Access) (m : PlainMemory) → i < length list → Roomy c list m
     → HasPlace c (get_or list i d) (memory_after (take i list) m)
 place_there list i c d m l room = grind (arith, log_take, memory_next, room_list)
 
-roomy_less : (c c' : ℕ) (list : List Access) (m : PlainMemory) → c' ≤ c → Roomy c list m → Roomy c' list m
+pub roomy_less : (c c' : ℕ) (list : List Access) (m : PlainMemory) → c' ≤ c → Roomy c list m → Roomy c' list m
 roomy_less c c' list m l h = record { one = h.one; all = omega (arith, h.all) }
 
 -- THE WHOLE

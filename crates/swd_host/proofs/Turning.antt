@@ -25,7 +25,7 @@ use Rattle.swd_host.proofs.EarlyTurns.{resumes_by, still_early, select_chooses}
 use Rattle.swd_host.proofs.Sends.{ask_saw}
 use Rattle.swd_host.proofs.Takes.{taken_facts}
 use Rattle.swd_host.proofs.Gives.{job_gave}
-use Rattle.swd_host.proofs.Passes.{waiting_passed, faulted_passed, led}
+use Rattle.swd_host.proofs.Passes.{waiting_passed, faulted_passed}
 
 -- THE CUE OF A DATA PHASE
 record IsTaking (ahead : Bool) (word : Option ℕ) : Type 0 where

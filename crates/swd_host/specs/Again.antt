@@ -1,18 +1,17 @@
--- What the report of a run that went on after a lost acknowledgement says of the plain memory: the accesses that were
--- begun when an acknowledgement was lost may have been done twice.
-use Rattle.std.specs.Prelude.{ℕ, ◌≡◌, ◌≢◌, ◌+◌, ◌-◌, ◌*◌, ◌<◌, ◌≤◌, ◌⊎◌, ◌==◌, List, [], ◌∷◌}
-use Rattle.std.specs.Prelude.{◌++◌, length, take}
+-- What the report of a call of `resume` says of the plain memory: it is that of a run over the rest of the list, from
+-- the memory that the call before left. And a list whose accesses were done once each, but for some that were done again.
+use Rattle.std.specs.Prelude.{ℕ, ◌≡◌, ◌≢◌, ◌+◌, ◌-◌, ◌*◌, ◌<◌, ◌≤◌, ◌⊎◌, ◌==◌, List, [], ◌∷◌, ◌++◌, length, take}
 use Rattle.std.specs.Prelude.{replicate, drop, if◌then◌else◌}
 use Rattle.swd_port.specs.declared.access.Access.{Access}
 use Rattle.swd_port.specs.declared.access.Answer.{Answer}
 use Rattle.swd_port.specs.declared.wire.Due.{Due}
 use Rattle.swd_port.specs.PlainMemory.{PlainMemory}
 use Rattle.swd_port.specs.Port.{Port}
-use Rattle.swd_port.specs.Choices.{Choice, IsChoice}
-use Rattle.swd_port.specs.Completion.{completed}
+use Rattle.swd_port.specs.Completion.{MayBecome}
 use Rattle.swd_host.specs.declared.outcome.End.TheVariants.{All}
 use Rattle.swd_host.specs.Plain.{memory_after, answers_of}
-use Rattle.swd_host.specs.Reports.{Told, Closes, IsKnown, IsAtRest, EndsAt}
+use Rattle.swd_host.specs.Reports.{Told, Closes, Fits, IsKnown, EndsAt}
+use Rattle.swd_host.specs.Resuming.{begun_after}
 
 -- LISTS WITH REPEATED ACCESSES
 -- how often a place stands in a list of places
@@ -49,62 +48,50 @@ pub record AgainAt (k : ℕ) (js : List ℕ) (list : List Access) (m : PlainMemo
 abbrev pub Again : List ℕ → List Access → PlainMemory → Told → PlainMemory → Type 0
 Again js list m told now = (k : ℕ) × AgainAt k js list m told now
 
--- whatever comes of a transfer that is still pending, the report is told of the memory after it
-abbrev pub AgainThen : List ℕ → List Access → PlainMemory → Told → Port → Type 0
-AgainThen js list m told s = (c : Choice) → IsChoice c → Again js list m told (completed c s).target.memory
-
 -- the log of the memory has room for the transfers of the list, for one more, and for one more for each place
 abbrev pub HasRoom : List ℕ → List Access → PlainMemory → Type 0
 HasRoom js list m = length (memory_after list m).log + 1 + length js ≤ m.room
 
 -- GOING ON
--- A run over a target at rest leaves this, however it ended: no access was done twice.
-abbrev pub LeavesOff : List Access → Told → Port → Port → Type 0
-LeavesOff list told s t = IsAtRest s → AgainThen [] list s.target.memory told t
-
--- the places afterwards: the same, or, where an access was begun, that one's too
-abbrev pub Grows : List ℕ → Told → List ℕ → Type 0
-Grows js earlier more = (more ≡ js) ⊎ ((earlier.begun ≡ 1) × (more ≡ js ++ length earlier.answers ∷ []))
-
 -- the answers that came after those of an earlier report
 abbrev pub added_in : Told → Told → List Answer
 added_in earlier told = drop (length earlier.answers) told.answers
+
+-- what this call alone told, where it began so many accesses that it didn't answer
+abbrev pub own_told : Told → Told → ℕ → Told
+own_told earlier told own = record told { answers = added_in earlier told; begun = own }
 
 -- What is true of a report of going on whatever the other end did: new answers come after the earlier ones, and they
 -- close as those of a run over the rest of the list. Beside what the opening of a run may take stand five requests
 -- more.
 pub record Continues (list : List Access) (tries : ℕ) (earlier told : Told) (next : Due) : Type 0 where
+  pub own : ℕ
   pub kept : told.answers ≡ earlier.answers ++ added_in earlier told
   pub number : length told.answers ≤ length list
-  pub closes : Closes 5 1 (drop (length earlier.answers) list) tries
-      (record told { answers = added_in earlier told }) next
+  pub begun : told.begun ≡ begun_after earlier told own
+  pub closes : Closes 5 1 (drop (length earlier.answers) list) tries (own_told earlier told own) next
 
--- The new report is told of the same memory as the earlier one. Once nothing is pending any more, the words of a whole
--- list are those of a run without a loss.
-pub record GoesAgain (js : List ℕ) (list : List Access) (m : PlainMemory) (earlier told : Told) (t : Port)
-    : Type 0 where
-  pub more : List ℕ
-  pub grows : Grows js earlier more
-  pub later : AgainThen more list m told t
-  -- a whole list leaves nothing pending
-  pub now : told.ended ≡ All → Again more list m told t.target.memory
-  pub words : told.ended ≡ All → t.target.memory.words ≡ (memory_after list m).words
+-- From a memory that may have come of a transfer that was pending at the port s, the call was a run over the rest of
+-- the list, and left this one.
+pub record GoesFrom (list : List Access) (earlier told : Told) (own : ℕ) (s : Port) (now : PlainMemory) : Type 0 where
+  pub before : PlainMemory
+  pub comes : MayBecome s before
+  pub fits : Fits 1 (drop (length earlier.answers) list) before (own_told earlier told own) now
 
--- The theorem of going on, from the port s and an earlier report to the port t and the report after it.
+-- The theorem of going on, from the port s and an earlier report to the port t and the report after it. It asks
+-- nothing of the earlier report: neither how many accesses it left begun, nor what any call before did.
 pub record ResumeFits (list : List Access) (tries : ℕ) (earlier told : Told) (s t : Port) : Type 0 where
-  pub again : (js : List ℕ) (m : PlainMemory) → AgainThen js list m earlier s → HasRoom js list m
-      → GoesAgain js list m earlier told t
-  -- where it ends early, it can be resumed again
+  -- so many accesses this call began that it didn't answer
+  pub own : ℕ
+  pub begun : told.begun ≡ begun_after earlier told own
+  -- whatever comes of a transfer that is still pending
+  pub goes : (now : PlainMemory) → MayBecome t now → GoesFrom list earlier told own s now
+  -- where it ends early, it can be resumed again; a whole list leaves nothing pending
   pub ends : EndsAt told.ended tries s t
   pub stops_only : t.tally.lost ≡ s.tally.lost → t.tally.disturbed ≤ s.tally.disturbed + tries → told.ended ≡ All
   -- the requests of this call alone
   pub counted : t.tally.asked ≡ s.tally.asked + told.requests
   pub most : told.requests ≤ 14 + 6 * length list + 5 * (t.tally.disturbed - s.tally.disturbed)
-  -- an access that was begun before stays so until it is answered
-  pub stays : earlier.begun ≡ 1 → added_in earlier told ≡ [] → told.ended ≢ All → told.begun ≡ 1
-  -- another is begun only once its requests were sent: nine of the opening, one of TAR, and one for each access
-  pub begun : told.begun ≢ 0 → (told.begun ≡ 1) × (told.ended ≢ All)
-      × (((earlier.begun ≡ 1) × (added_in earlier told ≡ [])) ⊎ (11 + length (added_in earlier told) ≤ told.requests))
 
 -- so it is from every target whose SELECT is 0, whatever is due, set or pending
 abbrev pub ResumesOver : List Access → ℕ → Told → Told → Port → Port → Type 0

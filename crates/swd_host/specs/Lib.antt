@@ -10,10 +10,11 @@ pub mod Tracks
 pub mod Early
 pub mod Turns
 pub mod Reports
-pub mod Again
 pub mod Resuming
+pub mod Again
 pub mod Standing
 pub mod Sessions
+pub mod Chains
 pub mod Accepting
 pub mod Fields
 pub mod FieldsRead

@@ -1,5 +1,5 @@
 -- Calls one after the other over one target.
-use Rattle.std.specs.Prelude.{ℕ, ◌≡◌, ◌+◌, ◌%◌, ◌≤◌, List, [], ◌++◌, length}
+use Rattle.std.specs.Prelude.{ℕ, ◌≡◌, ◌%◌, List, [], ◌++◌}
 use Rattle.swd_port.specs.declared.access.Access.{Access}
 use Rattle.swd_port.specs.declared.access.Answer.{Answer}
 use Rattle.swd_port.specs.PlainMemory.{PlainMemory}
@@ -7,7 +7,6 @@ use Rattle.swd_port.specs.Port.{Port, made}
 use Rattle.swd_host.specs.declared.outcome.End.TheVariants.{All}
 use Rattle.swd_host.specs.Plain.{memory_after, answers_of}
 use Rattle.swd_host.specs.Reports.{Told, IsAtRest, RunsWithin}
-use Rattle.swd_host.specs.Again.{AgainThen, GoesAgain}
 
 -- a target that was just made is at rest, with its memory, where its identification is one of this protocol
 pub record MadeIsAtRest : Type 0 where
@@ -27,15 +26,3 @@ pub record IsAsOne (s : Port) (list : List Access) (answers : List Answer) (t : 
   pub rests : IsAtRest t
   pub answers_are : answers ≡ answers_of list s.target.memory
   pub memory : t.target.memory ≡ memory_after list s.target.memory
-
--- A list that c calls of `resume` went on with, one after the other, since a report that was told of this memory.
-pub data Resumed (list : List Access) (m : PlainMemory) : ℕ → List ℕ → Told → Port → Type 0 where
-  first : {told : Told} {t : Port} → AgainThen [] list m told t → Resumed list m 0 [] told t
-  again : {c : ℕ} {js : List ℕ} {earlier told : Told} {s t : Port} → Resumed list m c js earlier s
-      → (g : GoesAgain js list m earlier told t) → Resumed list m (c + 1) g.more told t
-
--- each of them repeated one access at most
-pub record RepeatsFew (list : List Access) (m : PlainMemory) (c : ℕ) (js : List ℕ) (told : Told) (t : Port)
-    : Type 0 where
-  pub few : length js ≤ c
-  pub told_of : AgainThen js list m told t

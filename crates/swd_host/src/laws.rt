@@ -8,7 +8,8 @@ ghost use Rattle.swd_port.specs.Port.{Port};
 ghost use Rattle.swd_host.specs.Reports.{Told, IsAtRest};
 ghost use Rattle.swd_host.specs.declared.engine.Engine.{Engine};
 ghost use Rattle.swd_host.specs.Engines.{finished_of, may_start};
-ghost use Rattle.swd_host.specs.Sessions.{MadeIsAtRest, Session, IsAsOne, Resumed, RepeatsFew};
+ghost use Rattle.swd_host.specs.Chains.{AreChained, ChainDoes, ChainReads, ChainRepeats};
+ghost use Rattle.swd_host.specs.Sessions.{MadeIsAtRest, Session, IsAsOne};
 ghost use Rattle.swd_host.specs.Tracks.{DueFits};
 ghost use Rattle.swd_host.specs.Turns.{GoesOn, Starts};
 
@@ -25,11 +26,14 @@ pub fn sessions()
         → Session s list answers t → IsAsOne s list answers t }
 {}
 
-/// After so many calls of `resume` one after the other at most as many accesses were repeated, each copy
-/// directly after the access.
+/// A call and the calls of `resume` after it, over a target that was at rest: each is a run over the rest of the list,
+/// from the memory that the one before left. Nothing is asked of how many accesses a call left begun, of the room of
+/// the log, or of what the calls before did.
 pub fn resumptions()
-    ensures { (list : List Access) (m : PlainMemory) (c : ℕ) (js : List ℕ) (told : Told) (t : Port)
-        → Resumed list m c js told t → RepeatsFew list m c js told t }
+    ensures chained { AreChained }
+    ensures done { ChainDoes }
+    ensures reads { ChainReads }
+    ensures repeats { ChainRepeats }
 {}
 
 /// What is due on the wire is what an engine expects that began an access, where it was so before: the next call

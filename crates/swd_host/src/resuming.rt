@@ -1,5 +1,5 @@
 //! Goes on after a lost acknowledgement.
-ghost use Rattle.std.specs.Prelude.{◌≡◌, ◌≤◌, IfOk, IfErr, IfSome, length};
+ghost use Rattle.std.specs.Prelude.{◌≡◌, ◌≤◌, ◌-◌, IfOk, IfErr, IfSome, length};
 ghost use Rattle.std.specs.Vec.{vec_capacity};
 ghost use Rattle.swd_host.specs.Plain.{AreAccesses};
 ghost use Rattle.swd_host.specs.Reports.{told_of};
@@ -17,8 +17,10 @@ use swd_port::{Access, Answer, Wire};
 /// a `resume` that did: from the first access that isn't answered. The report is that of the whole list,
 /// but that its `requests` are those of this call alone.
 ///
-/// The access that was begun when the run ended may be done a second time by each call. Where the
-/// log has room for that, the words and answers are those of a run without a loss.
+/// What it does is a run over the rest of the list, from the memory that is there, or that the transfer that was left
+/// pending leaves: the accesses that were begun when the run ended are done by this call, and may have been done
+/// before, too. `begun` of its report counts all of them, of this call and of earlier ones, that aren't answered yet.
+/// [`laws::resumptions`] has what follows of calls one after the other.
 ///
 /// It begins with a line reset of 100 ones, the first 34 of which let a data phase go by that the target
 /// may be in (IHI 0031, B4, protocol error response), and the opening. A transfer that was left pending
@@ -67,15 +69,25 @@ fn copy_answers<A: Allocator>(alloc: A, answers: &[Answer], most: usize) -> Opti
     Some(kept)
 }
 
-// A report where an access that an earlier run began stays begun until it is answered.
+// The report of this call, with the accesses that earlier calls began and that aren't answered.
 fn since<A: Allocator>(report: Report<A>, earlier: &Report<A>) -> Report<A>
     ensures { told_of result ≡ since (told_of report) (told_of earlier.now) }
 {
-    let unanswered = report.answers.len() == earlier.answers.len() && report.ended != End::All;
-    let begun = if unanswered && earlier.begun == 1 {
-        1
-    } else {
-        report.begun
+    let begun = match report.ended {
+        End::All => 0,
+        _ => report.begun.max(still_open(earlier, report.answers.len())),
     };
     Report { begun, ..report }
+}
+
+// How many accesses this run began that aren't answered where there are so many answers.
+fn still_open<A: Allocator>(earlier: &Report<A>, answered: usize) -> u8
+    ensures { result ≡ (told_of earlier.now).begun - (answered - length (told_of earlier.now).answers) }
+{
+    let more = answered.saturating_sub(earlier.answers.len());
+    if more < earlier.begun as usize {
+        earlier.begun - more as u8
+    } else {
+        0
+    }
 }

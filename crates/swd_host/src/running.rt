@@ -9,7 +9,6 @@ ghost use Rattle.swd_host.specs.Progress.{calls_left, open_requests};
 ghost use Rattle.swd_host.specs.Tasks.{most_of};
 ghost use Rattle.swd_host.specs.Tracks.{DueFits};
 ghost use Rattle.swd_host.specs.Turns.{Works, WorksFrom, Goes, GoesFrom, GoesOn, IsNew, answered_as, opened_as};
-ghost use Rattle.swd_host.specs.Again.{LeavesOff};
 ghost use Rattle.swd_host.specs.Reports.{Closes, Follower, RefusedAs, RunsOver, RunsWithin, told_of};
 ghost use Rattle.swd_host.specs.Standing.{Does, HasOpened, Performs, told_by};
 
@@ -243,8 +242,6 @@ pub fn run<W: Wire, A: Allocator>(
     ensures fits { IfOk result (λ report. W.lawful wire.new → W.lawful wire.old
         × RunsOver accesses.now tries (told_of report) (W.port wire.old) (W.port wire.new)) }
     ensures accepted { IfOk result (λ report. (length accesses.now ≤ 65536) × AreAccesses accesses.now) }
-    ensures goes_on { IfOk result (λ report. W.lawful wire.new →
-        LeavesOff accesses.now (told_of report) (W.port wire.old) (W.port wire.new)) }
     ensures refused { IfErr result (RefusedAs accesses.now) }
     ensures untouched { IfErr result (λ refused. wire.new ≡ wire.old) }
     ensures plan { W.plan wire.new ≡ W.plan wire.old }

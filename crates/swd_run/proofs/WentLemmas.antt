@@ -1,10 +1,10 @@
 -- What a run tells that was resumed at lost acknowledgements.
 use Rattle.std.proofs.Common.{◌≡◌, ℕ, zero, suc, ◌+◌, ◌-◌, ◌*◌, ◌<◌, ◌≤◌, ◌∙◌, List, [], ◌∷◌, ◌++◌}
 use Rattle.std.proofs.Common.{length, take, drop}
-use Rattle.std.proofs.Common.{min, false, refl, sym, ap}
+use Rattle.std.proofs.Common.{min, refl, sym, ap}
 use Rattle.std.proofs.Common.{subst, arith, inl, inr}
 use Rattle.std.proofs.lemmas.List.{length-append, length-drop, length-take-le, take-append-le, take_all}
-use Rattle.std.specs.Prelude.{◌⊎◌, ◌↔◌}
+use Rattle.std.specs.Prelude.{◌↔◌, ◌≢◌, max, if◌then◌else◌}
 use Rattle.swd_port.specs.declared.access.Access.{Access}
 use Rattle.swd_port.specs.declared.access.Answer.{Answer}
 use Rattle.swd_port.specs.declared.mark.Mark.{Mark}
@@ -13,26 +13,26 @@ use Rattle.swd_port.specs.PlainMemory.{PlainMemory, plain_after}
 use Rattle.swd_port.specs.Port.{Port}
 use Rattle.swd_port.specs.Choices.{Choice, IsChoice, disturbed_among, lost_among}
 use Rattle.swd_port.specs.Completion.{completed}
+use Rattle.swd_port.proofs.CompletionLaws.{may_become_of_none}
 use Rattle.swd_recorder.specs.Steps.{pending}
 use Rattle.swd_host.specs.declared.outcome.End.{End}
 use Rattle.swd_host.specs.declared.outcome.End.TheVariants.{All, Lost, TriesOut, WrongId, Confused}
 use Rattle.swd_host.specs.Plain.{memory_after, answers_of}
 use Rattle.swd_host.specs.Reports.{Told, Closes, EndsAt, due_at, Fits, IsAtRest, IsKnown, RunsWithin, most_requests}
-use Rattle.swd_host.specs.Again.{Again, AgainThen, Continues, GoesAgain, Grows, HasRoom, IsAfter, ResumeFits, added_in}
-use Rattle.swd_host.specs.Again.{repeated}
+use Rattle.swd_host.specs.Again.{Continues, ResumeFits, added_in}
+use Rattle.swd_host.specs.Resuming.{is_all}
+use Rattle.swd_host.specs.Chains.{Calls, AreReads, ran as first_call, resumed as next_call, begun_first as first_begun}
+use Rattle.swd_host.proofs.Chains.{known_at, chained, chain_repeats}
+use Rattle.swd_host.proofs.ReadChains.{chain_reads}
 use Rattle.swd_script.specs.Scripts.{Listed}
 use Rattle.swd_run.specs.declared.going_on.Stop.{Stop}
-use Rattle.swd_run.specs.GoingOn.{Went, ran, resumed, stop_of, requests_before, IsCall, AreCalls, answered_first}
-use Rattle.swd_run.specs.GoingOn.{begun_first, ToldAgain, TellOf}
+use Rattle.swd_run.specs.GoingOn.{Went, ran, resumed, stop_of, stops_of, requests_before, IsCall, AreCalls}
+use Rattle.swd_run.specs.GoingOn.{answered_first, begun_first, ToldInTurn, ToldAgain, ToldReads, TellOf}
 use Rattle.swd_run.specs.Running.{IsExcused, RunsOn, most_begun}
 use Rattle.swd_run.specs.Sessions.{Done, GoesOn}
 use Rattle.swd_run.proofs.RunLemmas.{ends_at, excused, run_as}
 
 -- ---- lists
-
-empty : {X : Type 0} (xs : List X) → length xs ≡ 0 → xs ≡ []
-empty [] e = refl
-empty (x ∷ xs) e = absurd (omega arith)
 
 one_more : {X : Type 0} (xs : List X) (x : X) → length (xs ++ x ∷ []) ≡ length xs + 1
 one_more xs x = length-append xs (x ∷ [])
@@ -41,10 +41,6 @@ answers_many : (list : List Access) (m : PlainMemory) → length (answers_of lis
 answers_many [] m = refl
 answers_many (a ∷ list) m = ap (λ n. suc n) (answers_many list (plain_after a m))
 
-repeated_none : (i : ℕ) (list : List Access) → repeated [] i list ≡ list
-repeated_none i [] = refl
-repeated_none i (a ∷ list) = ap (λ l. a ∷ l) (repeated_none (i + 1) list)
-
 requests_more : (stops : List Stop) (stop : Stop)
     → requests_before (stops ++ stop ∷ []) ≡ requests_before stops + stop.requests
 requests_more [] stop = omega arith
@@ -52,64 +48,11 @@ requests_more (first ∷ stops) stop = let h = requests_more stops stop in omega
 
 -- ---- one call
 
--- what a call leaves is known
-known_at : (ended : End) (tries : ℕ) (s t : Port) → EndsAt ended tries s t → IsKnown t.target
-known_at All tries s t e = e.0.known
-known_at Lost tries s t e = e.2
-known_at TriesOut tries s t e = e.2
-known_at (WrongId word) tries s t e = absurd e
-known_at Confused tries s t e = absurd e
-
 lost_at : (ended : End) (tries : ℕ) (s t : Port) → ended ≡ Lost → EndsAt ended tries s t → s.tally.lost < t.tally.lost
 lost_at ended tries s t is e = (subst (λ x. EndsAt x tries s t) is e).1
 
 rests_at : (ended : End) (tries : ℕ) (s t : Port) → ended ≡ All → EndsAt ended tries s t → IsAtRest t
 rests_at ended tries s t is e = (subst (λ x. EndsAt x tries s t) is e).0
-
--- a report of which one access at most is begun is told of the memory without a repeated one
-again_none : (most : ℕ) (list : List Access) (m : PlainMemory) (told : Told) (now : PlainMemory) → told.begun ≤ 1
-    → Fits most list m told now → Again [] list m told now
-again_none most list m told now few (k, fit) = (
-  k,
-  record {
-    reported = fit.reported;
-    answers = fit.answers;
-    memory = left fit.memory.0 fit.memory.1 fit.memory.2;
-    few = few;
-    begun = λ one. let h = fit.begun (λ none. absurd (omega (arith, one, none))) in let many = h.0 in
-        (omega (arith, many, one), h.1);
-    all = fit.all;
-  },
-)
-  where
-    left : (j : ℕ) → j ≤ told.begun → now ≡ memory_after (take (k + j) list) m
-        → IsAfter [] k list m now ⊎ ((told.begun ≡ 1) × IsAfter [] (k + 1) list m now)
-    left zero low e = inl (record {
-      places = tt;
-      memory = e ∙ (let n : k + 0 ≡ k = omega arith in ap (λ n. memory_after (take n list) m) n)
-          ∙ ap (λ xs. memory_after xs m) (sym (repeated_none 0 (take k list)));
-    })
-    left (suc zero) low e = inr (
-      omega (arith, low, few),
-      record {
-        places = tt;
-        memory = e ∙ (let n : k + suc zero ≡ k + 1 = omega arith in ap (λ n. memory_after (take n list) m) n)
-            ∙ ap (λ xs. memory_after xs m) (sym (repeated_none 0 (take (k + 1) list)));
-      },
-    )
-    left (suc (suc j)) low e = absurd (omega (arith, low, few))
-
--- a whole list without a repeated access leaves the words that it leaves
-again_whole : (list : List Access) (m : PlainMemory) (told : Told) (now : PlainMemory) → told.ended ≡ All
-    → Again [] list m told now → now ≡ memory_after list m
-again_whole list m told now all (k, fit) = whole fit.memory
-  where
-    list_is : take k list ≡ list
-    list_is = let e = fit.all all in take_all k list (omega (arith, e))
-
-    whole : IsAfter [] k list m now ⊎ ((told.begun ≡ 1) × IsAfter [] (k + 1) list m now) → now ≡ memory_after list m
-    whole (inl after) = after.memory ∙ ap (λ xs. memory_after xs m) (repeated_none 0 (take k list) ∙ list_is)
-    whole (inr (one, after)) = absurd ((fit.begun one).1 all)
 
 spends_first : (n a r tries : ℕ) → r ≤ 0 + most_requests tries (min n (a + 1))
     → r ≤ 0 + most_requests tries (min (n - 0) (a - 0 + 1))
@@ -118,6 +61,16 @@ spends_first n a r tries h =
     let f : a ≡ a - 0 = omega arith in
     subst (λ x. r ≤ 0 + most_requests tries (min x (a - 0 + 1))) e
     (subst (λ y. r ≤ 0 + most_requests tries (min n (y + 1))) f h)
+
+-- what a run tells as begun, it began itself
+open_first : (ended : End) (begun answered : ℕ) → (begun ≢ 0 → ended ≢ All)
+    → begun ≡ if is_all ended then 0 else max begun (0 - (answered - 0))
+open_first All zero answered never = refl
+open_first All (suc n) answered never = absurd (never (λ none. absurd (omega (arith, none))) refl)
+open_first Lost begun answered never = omega arith
+open_first TriesOut begun answered never = omega arith
+open_first (WrongId word) begun answered never = omega arith
+open_first Confused begun answered never = omega arith
 
 -- a run
 call_ran : (limit tries : ℕ) (list : List Access) (m : PlainMemory) (told : Told) (now : PlainMemory) (due : _)
@@ -130,11 +83,18 @@ call_ran limit tries list m told now due closes (k, fit) =
       grows = omega arith;
       number = closes.number;
       whole = closes.whole;
+      own = told.begun;
       few = closes.begun;
-      stays = λ one. absurd (omega (arith, one));
-      begins = λ some. let h = (fit.begun some).2 in inr (omega (arith, h, many));
+      open = open_first told.ended told.begun (length told.answers) (λ some. (fit.begun some).1);
+      begins = λ some. let h = (fit.begun some).2 in omega (arith, h, many);
       spends = spends_first (length list) (length told.answers) told.requests tries closes.spends;
     }
+
+abbrev any : Choice
+any = record { address = 0; wraps = false; filler = 0 }
+
+is_any : IsChoice any
+is_any = record { address = omega arith; filler = omega arith }
 
 -- going on
 call_resumed : (tries : ℕ) (list : List Access) (earlier told : Told) (due : _) (s t : Port)
@@ -149,31 +109,24 @@ call_resumed tries list earlier told due s t goes fits =
     length-drop (length earlier.answers) list in
     let number = goes.number in
     let new : length added ≡ length told.answers - length earlier.answers = omega (arith, many) in
-    let none : length told.answers ≡ length earlier.answers → added ≡ [] = λ e. empty added (omega (arith, e, many)) in
+    let from = fits.goes (completed any t).target.memory (any, is_any, refl) in
+    let fit = from.fits.1 in
+    let told_many : length added ≡ from.fits.0 =
+    ap length fit.answers ∙ answers_many (take from.fits.0 (drop (length earlier.answers) list)) from.before
+    ∙ length-take-le from.fits.0 (drop (length earlier.answers) list) fit.reported in
     record {
       grows = omega (arith, many);
       number = goes.number;
       whole = λ all. let h = goes.closes.whole all in omega (arith, h, many, rest, number);
-      few = goes.closes.begun;
-      stays = λ one same early. fits.stays one (none same) early;
-      begins = λ some. begins_of (fits.begun some).0 (fits.begun some).2;
+      own = fits.own;
+      few = fit.few;
+      open = fits.begun;
+      begins = λ some. let h = (fit.begun some).2 in omega (arith, h, told_many, new);
       spends = subst (λ x. told.requests ≤ 5 + most_requests tries
           (min x (length told.answers - length earlier.answers + 1))) rest
           (subst (λ y. told.requests ≤ 5 + most_requests tries
           (min (length (drop (length earlier.answers) list)) (y + 1))) new goes.closes.spends);
     }
-  where
-    begins_of : told.begun ≡ 1
-        → ((earlier.begun ≡ 1) × (added_in earlier told ≡ [])) ⊎ (11 + length (added_in earlier told) ≤ told.requests)
-        → ((earlier.begun ≡ 1) × (length told.answers ≡ length earlier.answers))
-        ⊎ (10 + (length told.answers - length earlier.answers) + told.begun ≤ told.requests)
-    begins_of one (inl (before, none)) =
-        let e = ap length none in
-        let many = ap length goes.kept ∙ length-append earlier.answers (added_in earlier told) in
-        inl (before, omega (arith, e, many))
-    begins_of one (inr enough) =
-        let many = ap length goes.kept ∙ length-append earlier.answers (added_in earlier told) in
-        inr (omega (arith, enough, many, one))
 
 calls_more : (spare limit tries n from left : ℕ) (stops : List Stop) (earlier told : Told) → earlier.ended ≡ Lost
     → AreCalls spare limit tries n from left stops earlier
@@ -193,59 +146,8 @@ answered_same : (stops : List Stop) (earlier told : Told)
 answered_same [] earlier told = refl
 answered_same (stop ∷ stops) earlier told = refl
 
-begun_same : (stops : List Stop) (earlier told : Told)
-    → begun_first (stops ++ stop_of earlier ∷ []) told ≡ begun_first stops earlier
-begun_same [] earlier told = refl
-begun_same (stop ∷ stops) earlier told = refl
-
-grows_few : (js : List ℕ) (earlier : Told) (more : List ℕ) → Grows js earlier more → length more ≤ length js + 1
-grows_few js earlier more (inl same) = (let e = ap length same in omega (arith, e))
-grows_few js earlier more (inr (begun, same)) =
-    let e = ap length same in
-    let l = one_more js (length earlier.answers) in
-    omega (arith, e, l)
-
 most_more : (base q r k x : ℕ) → q ≤ base + k * x → r ≤ x → q + r ≤ base + (k + 1) * x
 most_more base q r k x h l = omega (arith, h, l)
-
-abbrev any : Choice
-any = record { address = 0; wraps = false; filler = 0 }
-
-is_any : IsChoice any
-is_any = record { address = omega arith; filler = omega arith }
-
--- what the last call tells, once it is told of the memory whatever comes of a transfer that is still pending
-told_early : (stops : List Stop) (list : List Access) (js : List ℕ) (m : PlainMemory) (earlier told : Told) (t : Port)
-    → (g : GoesAgain js list m earlier told t) → length g.more ≤ length stops → (told.ended ≡ All → ⊥)
-    → ToldAgain stops list m told t.target.memory
-told_early stops list js m earlier told t g few early = record {
-  places = g.more;
-  few = few;
-  memory = (completed any t).target.memory;
-  again = g.later any is_any;
-  left = λ all. absurd (early all);
-  words = λ all. absurd (early all);
-}
-
-told_again : (stops : List Stop) (list : List Access) (js : List ℕ) (m : PlainMemory) (earlier told : Told) (t : Port)
-    (ended : End) → told.ended ≡ ended → (g : GoesAgain js list m earlier told t) → length g.more ≤ length stops
-    → ToldAgain stops list m told t.target.memory
-told_again stops list js m earlier told t All is g few = record {
-  places = g.more;
-  few = few;
-  memory = t.target.memory;
-  again = g.now is;
-  left = λ all. refl;
-  words = g.words;
-}
-told_again stops list js m earlier told t Lost is g few = told_early stops list js m earlier told t g few
-    (λ all. absurd cc)
-told_again stops list js m earlier told t TriesOut is g few =
-    told_early stops list js m earlier told t g few (λ all. absurd cc)
-told_again stops list js m earlier told t (WrongId word) is g few =
-    told_early stops list js m earlier told t g few (λ all. absurd cc)
-told_again stops list js m earlier told t Confused is g few =
-    told_early stops list js m earlier told t g few (λ all. absurd cc)
 
 -- ---- all calls
 
@@ -271,11 +173,83 @@ module _ {W : Type 0} (port : W → Port) (plan : W → List Mark) (lawful : W �
     plan_kept stops told t (ran same closes over) = same
     plan_kept stops told t (resumed went lost same goes over) = same
 
--- so it is for the places, whatever comes of a transfer that is still pending
-record Repeats (stops : List Stop) (list : List Access) (m : PlainMemory) (told : Told) (t : Port) : Type 0 where
-  places : List ℕ
-  few : length places ≤ length stops
-  later : AgainThen places list m told t
+-- the calls, and what each of them told
+record InTurn (limit : ℕ) (list : List Access) (s : Port) (stops : List Stop) (told : Told) (t : Port) : Type 0 where
+  calls : List Told
+  are : stops ≡ stops_of calls
+  went : Calls limit list s calls told t
+
+stops_more : (calls : List Told) (told : Told) → stops_of (calls ++ told ∷ []) ≡ stops_of calls ++ stop_of told ∷ []
+stops_more [] told = refl
+stops_more (call ∷ calls) told = ap (λ l. stop_of call ∷ l) (stops_more calls told)
+
+stops_many : (calls : List Told) → length (stops_of calls) ≡ length calls
+stops_many [] = refl
+stops_many (call ∷ calls) = ap suc (stops_many calls)
+
+begun_there : (calls : List Told) (told : Told) → begun_first (stops_of calls) told ≡ first_begun calls told
+begun_there [] told = refl
+begun_there (call ∷ calls) told = refl
+
+-- the memory that the last call leaves: where it ended whole, the one that is there
+in_turn_at : (limit : ℕ) (list : List Access) (s : Port) (stops : List Stop) (told : Told) (t : Port) (ended : End)
+    → told.ended ≡ ended → IsAtRest s → (told.ended ≡ All → IsAtRest t) → InTurn limit list s stops told t
+    → ToldInTurn limit stops list s.target.memory told t.target.memory
+in_turn_at limit list s stops told t ended is rest at_rest h = by ended is
+  where
+    early : (told.ended ≡ All → ⊥) → ToldInTurn limit stops list s.target.memory told t.target.memory
+    early never = record {
+      calls = h.calls;
+      are = h.are;
+      memory = (completed any t).target.memory;
+      chain = chained limit list s rest h.calls told t h.went (completed any t).target.memory (any, is_any, refl);
+      left = λ all. absurd (never all);
+    }
+
+    by : (x : End) → told.ended ≡ x → ToldInTurn limit stops list s.target.memory told t.target.memory
+    by All all = record {
+      calls = h.calls;
+      are = h.are;
+      memory = t.target.memory;
+      chain = chained limit list s rest h.calls told t h.went t.target.memory
+          (may_become_of_none.same t (at_rest all).settled);
+      left = λ all. refl;
+    }
+    by Lost x = early (λ all. absurd cc)
+    by TriesOut x = early (λ all. absurd cc)
+    by (WrongId word) x = early (λ all. absurd cc)
+    by Confused x = early (λ all. absurd cc)
+
+again_in_turn : (limit : ℕ) (list : List Access) (m : PlainMemory) (stops : List Stop) (told : Told)
+    (after : PlainMemory)
+    → ToldInTurn limit stops list m told after → begun_first stops told ≤ 1
+    → length (memory_after list m).log + length stops ≤ m.room → ToldAgain stops list m told after
+again_in_turn limit list m stops told after h few room =
+    let many : length stops ≡ length h.calls = ap length h.are ∙ stops_many h.calls in
+    let begun : begun_first stops told ≡ first_begun h.calls told =
+    ap (λ l. begun_first l told) h.are ∙ begun_there h.calls told in
+    let r = chain_repeats limit list m h.calls told h.memory (omega (arith, few, begun)) (omega (arith, room, many))
+    h.chain in
+    let r_few = r.few in
+    record {
+      places = r.places;
+      few = omega (arith, r_few, many);
+      memory = h.memory;
+      again = r.again;
+      left = h.left;
+      words = λ all. ap (λ x. x.words) (sym (h.left all)) ∙ r.words all;
+    }
+
+reads_in_turn : (limit : ℕ) (list : List Access) (m : PlainMemory) (stops : List Stop) (told : Told)
+    (after : PlainMemory)
+    → ToldInTurn limit stops list m told after → 1 ≤ limit → AreReads list → ToldReads limit stops list m told after
+reads_in_turn limit list m stops told after h some reads =
+    let many : length stops ≡ length h.calls = ap length h.are ∙ stops_many h.calls in
+    let r = chain_reads limit list m h.calls told h.memory some reads h.chain in
+    record {
+      answers = λ room. r.answers (omega (arith, room, many));
+      words = λ all. ap (λ x. x.words) (sym (h.left all)) ∙ r.words;
+    }
 
 module _ {W : Type 0} (port : W → Port) (plan : W → List Mark) (lawful : W → Type 0) (limit : ℕ) (list : List Access)
     (tries : ℕ) (s : W)
@@ -360,77 +334,17 @@ module _ {W : Type 0} (port : W → Port) (plan : W → List Mark) (lawful : W �
       ∙ take-append-le (answered_first before e) e.answers (added_in e a) (first_within before e u went)
       ∙ first_answers before e u went (over law).0 ∙ ap (λ n. answers_of (take n list) m) (sym f)
 
-  repeats : (stops : List Stop) (told : Told) (t : W) → Went port plan lawful limit list tries s stops told t → lawful t
-      → begun_first stops told ≤ 1
-      → length (memory_after list (port s).target.memory).log + length stops ≤ (port s).target.memory.room
-      → Repeats stops list (port s).target.memory told (port t)
-  repeats stops told t (ran {told = a} {t = u} same closes over) law few room = record {
-    places = [];
-    few = omega arith;
-    later = λ c is. again_none limit list (port s).target.memory a (completed c (port u)).target.memory few
-        (((over law).1 rest).later c);
-  }
-  repeats stops told t (resumed {stops = before} {earlier = e} {told = a} {t = u} {u = v} went lost same goes over) law
-      few room =
-      let m : PlainMemory = (port s).target.memory in
-      let l = one_more before (stop_of e) in
-      let b = begun_same before e a in
-      let r : Repeats before list m e (port u) = repeats before e u went (over law).0 (omega (arith, few, b))
-      (omega (arith, room, l)) in
-      let has : HasRoom r.places list m = (let n = r.few in omega (arith, room, l, n)) in
-      let g : GoesAgain r.places list m e a (port v) = ((over law).1 (known before e u went (over law).0)).again
-      r.places m r.later has in
-      let more = grows_few r.places e g.more g.grows in
-      let n = r.few in
-      record { places = g.more; few = omega (arith, more, n, l); later = g.later }
-
-  again_told : (stops : List Stop) (told : Told) (t : W) → Went port plan lawful limit list tries s stops told t
-      → lawful t
-      → begun_first stops told ≤ 1
-      → length (memory_after list (port s).target.memory).log + length stops ≤ (port s).target.memory.room
-      → ToldAgain stops list (port s).target.memory told (port t).target.memory
-  again_told stops told t (ran {told = a} {t = u} same closes over) law few room =
-      let m : PlainMemory = (port s).target.memory in
-      let now : Again [] list m a (port u).target.memory = again_none limit list m a (port u).target.memory few
-      ((over law).1 rest).now in
+  in_turn : (stops : List Stop) (told : Told) (t : W) → Went port plan lawful limit list tries s stops told t → lawful t
+      → InTurn limit list (port s) stops told (port t)
+  in_turn stops told t (ran {told = a} {t = u} same closes over) law =
+      record { calls = []; are = refl; went = first_call tries (over law).1 }
+  in_turn stops told t (resumed {stops = before} {earlier = e} {told = a} {t = u} {u = v} went lost same goes over) law =
+      let h = in_turn before e u went (over law).0 in
       record {
-        places = [];
-        few = omega arith;
-        memory = (port u).target.memory;
-        again = now;
-        left = λ all. refl;
-        words = λ all. ap (λ x. x.words) (again_whole list m a (port u).target.memory all now);
+        calls = h.calls ++ e ∷ [];
+        are = ap (λ l. l ++ stop_of e ∷ []) h.are ∙ sym (stops_more h.calls e);
+        went = next_call h.went tries goes.kept (over law).1;
       }
-  again_told stops told t (resumed {stops = before} {earlier = e} {told = a} {t = u} {u = v} went lost same goes over)
-      law few room =
-      let m : PlainMemory = (port s).target.memory in
-      let l = one_more before (stop_of e) in
-      let b = begun_same before e a in
-      let r : Repeats before list m e (port u) = repeats before e u went (over law).0 (omega (arith, few, b))
-      (omega (arith, room, l)) in
-      let n = r.few in
-      let has : HasRoom r.places list m = omega (arith, room, l, n) in
-      let g : GoesAgain r.places list m e a (port v) = ((over law).1 (known before e u went (over law).0)).again
-      r.places m r.later has in
-      let more = grows_few r.places e g.more g.grows in
-      told_again (before ++ stop_of e ∷ []) list r.places m e a (port v) a.ended refl g (omega (arith, more, n, l))
-
-  pub tell_of : (stops : List Stop) (told : Told) (t : W) → Went port plan lawful limit list tries s stops told t
-      → lawful t
-      → TellOf limit tries list (port s).target.memory stops told (port t).target.memory
-  tell_of stops told t went law = record {
-    calls = calls stops told t went law;
-    first = first_answers stops told t went law;
-    again = again_told stops told t went law;
-  }
-
-  -- it was never resumed
-  pub alone : (stops : List Stop) (told : Told) (t : W) → Went port plan lawful limit list tries s stops told t
-      → lawful t → stops ≡ []
-      → Closes 0 limit list tries told (port t).link.due × RunsWithin limit list tries told (port s) (port t)
-  alone stops told t (ran same closes over) law none = (closes, (over law).1)
-  alone stops told t (resumed {stops = before} {earlier = e} went lost same goes over) law none =
-      let l = one_more before (stop_of e) in let z = ap length none in absurd (omega (arith, l, z))
 
   -- a run that ended all leaves a target at rest
   pub rests : (stops : List Stop) (told : Told) (t : W) → Went port plan lawful limit list tries s stops told t
@@ -441,6 +355,33 @@ module _ {W : Type 0} (port : W → Port) (plan : W → List Mark) (lawful : W �
   rests stops told t (resumed {stops = before} {earlier = e} {told = a} {t = u} {u = v} went lost same goes over) law
       all =
       rests_at a.ended tries (port u) (port v) all ((over law).1 (known before e u went (over law).0)).ends
+
+  told_in_turn : (stops : List Stop) (told : Told) (t : W) → Went port plan lawful limit list tries s stops told t
+      → lawful t → ToldInTurn limit stops list (port s).target.memory told (port t).target.memory
+  told_in_turn stops told t went law =
+      in_turn_at limit list (port s) stops told (port t) told.ended refl rest (rests stops told t went law)
+      (in_turn stops told t went law)
+
+  pub tell_of : (stops : List Stop) (told : Told) (t : W) → Went port plan lawful limit list tries s stops told t
+      → lawful t
+      → TellOf limit tries list (port s).target.memory stops told (port t).target.memory
+  tell_of stops told t went law = record {
+    calls = calls stops told t went law;
+    first = first_answers stops told t went law;
+    turns = told_in_turn stops told t went law;
+    again = again_in_turn limit list (port s).target.memory stops told (port t).target.memory
+        (told_in_turn stops told t went law);
+    reads = reads_in_turn limit list (port s).target.memory stops told (port t).target.memory
+        (told_in_turn stops told t went law);
+  }
+
+  -- it was never resumed
+  pub alone : (stops : List Stop) (told : Told) (t : W) → Went port plan lawful limit list tries s stops told t
+      → lawful t → stops ≡ []
+      → Closes 0 limit list tries told (port t).link.due × RunsWithin limit list tries told (port s) (port t)
+  alone stops told t (ran same closes over) law none = (closes, (over law).1)
+  alone stops told t (resumed {stops = before} {earlier = e} went lost same goes over) law none =
+      let l = one_more before (stop_of e) in let z = ap length none in absurd (omega (arith, l, z))
 
   -- under a plan of so many marks that disturb and lose
   module _ (marks : List Mark)

@@ -1,6 +1,5 @@
 use Rattle.swd_host.proofs.Words.{false}
 use Rattle.swd_host.proofs.Alone.{closes_as}
-use Rattle.swd_host.proofs.Resumed.{leaves_off}
 use Rattle.swd_host.proofs.Runs.{runs_as}
 use Rattle.swd_host.proofs.running.run.Goals as goal
 
@@ -12,7 +11,3 @@ pub returns-clause-fits : goal.returns-clause-fits
 returns-clause-fits g c = λ lawful.
     let was = c.conduct.ensures.fits lawful in
     (was.0, runs_as _ c.args.tries c.args.accesses.now c.new.result _ _ _ c.new.ensures.new was.1)
-
-pub returns-clause-goes_on : goal.returns-clause-goes_on
-returns-clause-goes_on g c = λ lawful.
-    leaves_off c.args.accesses.now c.args.tries _ _ _ (returns-clause-fits g c lawful).1
