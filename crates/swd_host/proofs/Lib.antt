@@ -31,7 +31,7 @@ mod Alone
 mod Outsides
 mod Blocked
 mod Runs
-mod Chains
-mod ReadChains
+pub mod Chains
+pub mod ReadChains
 mod SessionLaws
 mod FieldsLemmas

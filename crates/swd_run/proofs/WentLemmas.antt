@@ -1,8 +1,8 @@
 -- What a run tells that was resumed at lost acknowledgements.
 use Rattle.std.proofs.Common.{◌≡◌, ℕ, zero, suc, ◌+◌, ◌-◌, ◌*◌, ◌<◌, ◌≤◌, ◌∙◌, List, [], ◌∷◌, ◌++◌}
 use Rattle.std.proofs.Common.{length, take, drop}
-use Rattle.std.proofs.Common.{min, refl, sym, ap}
-use Rattle.std.proofs.Common.{subst, arith, inl, inr}
+use Rattle.std.proofs.Common.{min, false, refl, sym, ap}
+use Rattle.std.proofs.Common.{subst, arith}
 use Rattle.std.proofs.lemmas.List.{length-append, length-drop, length-take-le, take-append-le, take_all}
 use Rattle.std.specs.Prelude.{◌↔◌, ◌≢◌, max, if◌then◌else◌}
 use Rattle.swd_port.specs.declared.access.Access.{Access}
@@ -85,7 +85,7 @@ call_ran limit tries list m told now due closes (k, fit) =
       whole = closes.whole;
       own = told.begun;
       few = closes.begun;
-      open = open_first told.ended told.begun (length told.answers) (λ some. (fit.begun some).1);
+      unanswered = open_first told.ended told.begun (length told.answers) (λ some. (fit.begun some).1);
       begins = λ some. let h = (fit.begun some).2 in omega (arith, h, many);
       spends = spends_first (length list) (length told.answers) told.requests tries closes.spends;
     }
@@ -120,7 +120,7 @@ call_resumed tries list earlier told due s t goes fits =
       whole = λ all. let h = goes.closes.whole all in omega (arith, h, many, rest, number);
       own = fits.own;
       few = fit.few;
-      open = fits.begun;
+      unanswered = fits.begun;
       begins = λ some. let h = (fit.begun some).2 in omega (arith, h, told_many, new);
       spends = subst (λ x. told.requests ≤ 5 + most_requests tries
           (min x (length told.answers - length earlier.answers + 1))) rest

@@ -58,7 +58,7 @@ pub record IsCall (spare limit tries n from left answered begun requests : ℕ) 
   pub own : ℕ
   pub few : own ≤ limit
   -- what the calls before it began stays so until it is answered
-  pub open : begun ≡ if is_all ended then 0 else max own (left - (answered - from))
+  pub unanswered : begun ≡ if is_all ended then 0 else max own (left - (answered - from))
   -- an access is begun only once its requests were sent: nine of the opening, one of TAR, and one for each access
   pub begins : own ≢ 0 → 10 + (answered - from) + own ≤ requests
   -- no more than its tries allow, whatever the plan: no access took requests but those that it answered and the next

@@ -19,6 +19,7 @@ mod refusals;
 mod replies;
 mod resume;
 mod resumed;
+mod resumed_blocks;
 mod row;
 mod sessions;
 mod steps;

@@ -158,8 +158,8 @@ pub(super) fn are_legal(marks: &[Mark]) -> bool
 
 // The plan with these marks.
 fn plan_of(alloc: Global, marks: &[(usize, Mark)]) -> Result<Vec<Mark>, Fail> {
-    let mut plan = Vec::with_capacity(alloc, 60)?;
-    for place in 1..=60_usize {
+    let mut plan = Vec::with_capacity(alloc, 96)?;
+    for place in 1..=96_usize {
         let named = marks.iter().find(|(at, _)| *at == place);
         plan.push(named.map_or(Mark::Clean, |(_, mark)| *mark))?;
     }
