@@ -6,7 +6,7 @@ mod disk;
 use disk::Disk;
 use std::process::ExitCode;
 use std::{env, io};
-use swd_commands::{Watch, run_words, tell};
+use swd_commands::{run_words, tell};
 
 // The status of the program, with its words, its standard streams and the machine's files.
 fn status(rt: &HostRuntime) -> io::Result<u8> {
@@ -22,7 +22,7 @@ fn status(rt: &HostRuntime) -> io::Result<u8> {
         texts.as_slice(),
         &mut rt.stdin(),
         &Disk { rt },
-        &mut Watch::new(rt.stdout()),
+        &mut rt.stdout(),
         &mut rt.stderr(),
     ))
 }

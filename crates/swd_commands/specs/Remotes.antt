@@ -1,5 +1,5 @@
 -- The status of a run at a target elsewhere.
-use Rattle.std.specs.Prelude.{◌≡◌, ◌⊎◌, ℕ, Bool, false, List, Option, Some, None, Result, Ok}
+use Rattle.std.specs.Prelude.{◌≡◌, ◌⊎◌, ℕ, Bool, List, Option, Some, None, Result, Ok}
 use Rattle.swd_port.specs.declared.call.Call.{Call}
 use Rattle.swd_port.specs.Port.{Port}
 use Rattle.swd_text.specs.declared.fault.EngineFault.{EngineFault}
@@ -13,15 +13,8 @@ use Rattle.swd_commands.specs.Statuses.{status_of_run}
 
 -- where the other end went away, the status is 1; else it is that of the run
 abbrev pub status_at : Bool → Option Fault → Result Finished EngineFault → ℕ
-status_at failed (Some fault) (Ok finished) = 1
-status_at failed _ answer = status_of_run failed answer
-
--- only a strict run may fail its script
-pub record IsStatusAt (strict : Bool) (answer : Result Finished EngineFault) (gone : Option Fault) (status : ℕ) : Type 0
-  where
-    pub failed : Bool
-    pub only_strict : strict ≡ false → failed ≡ false
-    pub is : status ≡ status_at failed gone answer
+status_at strict (Some fault) (Ok finished) = 1
+status_at strict _ answer = status_of_run strict answer
 
 -- what went over the line whose end this is, by the calls of the wire
 abbrev pub WentOver : {R W : Type 0} → (R → Option (List ℕ)) → (W → Option (List ℕ)) → Option (List ℕ) → Option (List ℕ)
@@ -38,14 +31,14 @@ PerformsAt {S} {R} {W} story None run status remaining contents sent left script
     (answer : Result Finished EngineFault) × (line : Line R W) × (before : Option (List ℕ)) × (after : Option (List ℕ))
     × RunsRemote story run.tries run.resumes (WentOver remaining contents sent left line)
     (IsUnused remaining contents sent left line)
-    answer script before after × IsStatusAt run.strict answer line.fault status
+    answer script before after × (status ≡ status_at run.strict line.fault answer)
 PerformsAt {S} {R} {W} story (Some trace) run status remaining contents sent left script =
     (status ≡ 2) ⊎ ((answer : Result Finished EngineFault) × (line : Line R W) × (before : Option (List ℕ))
     × (after : Option (List ℕ))
     × (untraced : Option (List ℕ)) × (traced : Option (List ℕ))
     × RunsRecorded story run.tries run.resumes (WentOver remaining contents sent left line)
     (IsUnused remaining contents sent left line)
-    answer script before after untraced traced × IsStatusAt run.strict answer line.fault status)
+    answer script before after untraced traced × (status ≡ status_at run.strict line.fault answer))
 
 -- so it is where a file of the report is named that can be opened
 abbrev pub PerformsRemote : {R W : Type 0} → (ℕ → Port) → RunLine → ℕ → (R → Option (List ℕ)) → (W → Option (List ℕ))

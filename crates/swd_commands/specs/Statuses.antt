@@ -1,5 +1,5 @@
 -- What a command does, and the status that it ends with.
-use Rattle.std.specs.Prelude.{◌≡◌, ◌⊎◌, ℕ, Bool, false, true, List, [], Option, None, Some, Result, Ok, Err, ◌||◌}
+use Rattle.std.specs.Prelude.{◌≡◌, ◌⊎◌, ℕ, Bool, false, true, List, [], Option, None, Some, Result, Ok, Err, ◌||◌, ◌&&◌}
 use Rattle.std.specs.Prelude.{is_ok, is_some, if◌then◌else◌}
 use Rattle.swd_bits.specs.One.{Answers}
 use Rattle.swd_bits.specs.declared.one.OneFault.{OneFault}
@@ -28,16 +28,15 @@ status_of_end failed TriesOut = 1
 status_of_end failed (WrongId word) = 1
 status_of_end failed Confused = 1
 
--- the status of a run, which fails its script also where a word isn't the one that the script tells; 2 at a fault
-abbrev pub status_of_run : Bool → Result Finished EngineFault → ℕ
-status_of_run failed (Ok finished) = status_of_end (failed || is_some finished.differs) finished.ended
-status_of_run failed (Err fault) = 2
+-- a run fails its script where a word isn't the one that the script tells; a strict one also where an access was
+-- answered by a bus error
+abbrev pub has_failed : Bool → Finished → Bool
+has_failed strict finished = (strict && finished.bus_fault) || is_some finished.differs
 
--- Only a strict run may fail its script. That it does where an access was answered by a bus fault, tests show.
-pub record IsStatusOf (strict : Bool) (answer : Result Finished EngineFault) (status : ℕ) : Type 0 where
-  pub failed : Bool
-  pub only_strict : strict ≡ false → failed ≡ false
-  pub is : status ≡ status_of_run failed answer
+-- the status of a run, strict or not; 2 at a fault
+abbrev pub status_of_run : Bool → Result Finished EngineFault → ℕ
+status_of_run strict (Ok finished) = status_of_end (has_failed strict finished) finished.ended
+status_of_run strict (Err fault) = 2
 
 -- a file can't be opened or made: status 2, and nothing was written
 abbrev pub NotOpened : ℕ → Option (List ℕ) → Option (List ℕ) → Type 0
@@ -49,11 +48,12 @@ abbrev pub PerformsUnder : {S : Type 0} → Option S → RunLine → ℕ → Opt
     → Option (List ℕ) → Type 0
 PerformsUnder None run status script plan old new =
     (answer : Result Finished EngineFault) × RunsText run.tries run.resumes answer script plan old new
-    × IsStatusOf run.strict answer status
+    × (status ≡ status_of_run run.strict answer)
 PerformsUnder (Some trace) run status script plan old new =
     NotOpened status old new
     ⊎ ((answer : Result Finished EngineFault) × (before : Option (List ℕ)) × (after : Option (List ℕ))
-    × RunsTraced run.tries run.resumes answer script plan old new before after × IsStatusOf run.strict answer status)
+    × RunsTraced run.tries run.resumes answer script plan old new before after
+    × (status ≡ status_of_run run.strict answer))
 
 -- The plan is empty where none is named, and else some text: no contract knows what a file held.
 abbrev pub PerformsRun : {S : Type 0} → Option S → RunLine → ℕ → Option (List ℕ) → Option (List ℕ) → Option (List ℕ)

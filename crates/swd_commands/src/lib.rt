@@ -2,7 +2,6 @@
 //! and says what came of it. The machine's files and the standard streams are handed to it.
 #![tactic(auto)]
 
-mod bus_faults;
 mod open_files;
 mod program;
 mod remote_command;
@@ -10,7 +9,6 @@ mod report;
 mod target_command;
 mod trace;
 
-pub use bus_faults::Watch;
 pub use open_files::{Files, Identity, Opened};
 pub use program::run_words;
 pub use report::{cannot_open, engine_status, tell};

@@ -3,7 +3,6 @@ ghost use Rattle.std.specs.Prelude.{◌≡◌, ◌≢◌, IfNone, IfSome, Some, 
 ghost use Rattle.swd_commands.specs.Inputs.{IsStandard, named};
 ghost use Rattle.swd_commands.specs.Statuses.{Performs, PerformsRun, PerformsUnder};
 
-use crate::bus_faults::Watch;
 use crate::open_files::{Files, Identity};
 use crate::remote_command::{Untold, perform_remote};
 use crate::report::{DONE, FAULT, cannot_open, engine_status, one_status, run_status, tell};
@@ -26,12 +25,12 @@ pub fn run_words<I: Read, F: Files, O: Write, E: Write>(
     words: &[&str],
     input: &mut I,
     files: &F,
-    output: &mut Watch<O>,
+    output: &mut O,
     errors: &mut E,
 ) -> u8 {
     match line(alloc, words) {
         Ok(line) => carry_out(alloc, &line, input, files, output, errors),
-        Err(LineFault::Clap(error)) => answer_by_clap(&error, &mut output.writer, errors),
+        Err(LineFault::Clap(error)) => answer_by_clap(&error, output, errors),
         Err(LineFault::Memory) => tell(errors, "no memory"),
     }
 }
@@ -70,12 +69,12 @@ fn carry_out<I: Read, F: Files, O: Write, E: Write>(
     line: &Line,
     input: &mut I,
     files: &F,
-    output: &mut Watch<O>,
+    output: &mut O,
     errors: &mut E,
 ) -> u8
     ensures { IsStandard line.now
         → Performs line.now result (I.remaining input.old) (I.remaining input.new)
-        (O.contents output.old.writer) (O.contents output.new.writer) }
+        (O.contents output.old) (O.contents output.new) }
 {
     let Some(name) = file_of(line) else {
         return perform(alloc, line, input, None, files, output, errors);
@@ -85,14 +84,12 @@ fn carry_out<I: Read, F: Files, O: Write, E: Write>(
             let source = Some(opened.identity);
             if let Line::Target(target) = line {
                 let script = &mut opened.file;
-                let output = &mut output.writer;
                 return perform_target(alloc, target, script, source, input, files, output, errors);
             }
             if let Line::Run(run) = line
                 && run.remote
             {
                 let script = &mut opened.file;
-                let output = &mut output.writer;
                 return perform_remote::<Untold, _, _, _, _, _>(
                     alloc, run, script, source, input, files, output, errors,
                 );
@@ -110,16 +107,16 @@ fn perform<R: Read, F: Files, O: Write, E: Write>(
     input: &mut R,
     source: Option<Identity>,
     files: &F,
-    output: &mut Watch<O>,
+    output: &mut O,
     errors: &mut E,
 ) -> u8
     ensures { Performs line.now result (R.remaining input.old) (R.remaining input.new)
-        (O.contents output.old.writer) (O.contents output.new.writer) }
+        (O.contents output.old) (O.contents output.new) }
 {
     match line {
-        Line::One(_) => one_status(errors, one_text(input, &mut output.writer)),
-        Line::Decode(_) => engine_status(errors, decode_text(input, &mut output.writer)),
-        Line::Encode(_) => engine_status(errors, encode_text(alloc, input, &mut output.writer)),
+        Line::One(_) => one_status(errors, one_text(input, output)),
+        Line::Decode(_) => engine_status(errors, decode_text(input, output)),
+        Line::Encode(_) => engine_status(errors, encode_text(alloc, input, output)),
         Line::Run(run) if run.remote => {
             tell(errors, "SCRIPT is a file: standard input is the target's")
         }
@@ -135,11 +132,11 @@ fn perform_run<S: Read, F: Files, O: Write, E: Write>(
     script: &mut S,
     source: Option<Identity>,
     files: &F,
-    output: &mut Watch<O>,
+    output: &mut O,
     errors: &mut E,
 ) -> u8
     ensures { PerformsRun run.now.plan run.now result (S.remaining script.old)
-        (O.contents output.old.writer) (O.contents output.new.writer) }
+        (O.contents output.old) (O.contents output.new) }
 {
     let Some(name) = &run.plan else {
         let mut nothing = [].as_slice();
@@ -189,22 +186,21 @@ fn perform_under<S: Read, P: Read, F: Files, O: Write, E: Write>(
     plan: &mut P,
     read: Sources,
     files: &F,
-    output: &mut Watch<O>,
+    output: &mut O,
     errors: &mut E,
 ) -> u8
     ensures { PerformsUnder run.now.trace run.now result (S.remaining script.old) (P.remaining plan.old)
-        (O.contents output.old.writer) (O.contents output.new.writer) }
+        (O.contents output.old) (O.contents output.new) }
 {
-    output.look(run.strict);
     let Some(name) = &run.trace else {
         let answer = run_text(alloc, script, plan, run.tries, run.resumes, output);
-        return run_status(errors, answer, run.strict && output.has_found());
+        return run_status(errors, answer, run.strict);
     };
     match open_trace(files, name.as_str(), read) {
         Ok(mut trace) => {
             let trace = &mut trace.file;
             let answer = run_traced(alloc, script, plan, run.tries, run.resumes, output, trace);
-            run_status(errors, answer, run.strict && output.has_found())
+            run_status(errors, answer, run.strict)
         }
         Err(_) => cannot_open(errors, name.as_str()),
     }

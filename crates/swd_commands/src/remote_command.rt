@@ -2,9 +2,8 @@
 ghost use Rattle.std.specs.Prelude.{◌≡◌, []};
 ghost use Rattle.std.specs.FinMap.{empty};
 ghost use Rattle.swd_port.specs.Port.{made};
-ghost use Rattle.swd_commands.specs.Remotes.{IsStatusAt, PerformsAt, PerformsRemote};
+ghost use Rattle.swd_commands.specs.Remotes.{PerformsAt, PerformsRemote, status_at};
 
-use crate::bus_faults::Watch;
 use crate::open_files::{Files, Identity};
 use crate::report::{STOPPED, cannot_open, run_status, tell};
 use crate::trace::{Sources, open_trace};
@@ -52,8 +51,7 @@ pub fn perform_remote<P: Story, S: Read, I: Read + Drop, F: Files, O: Write + Dr
                 written: Some(opened.identity),
                 ..read
             };
-            let mut report = Watch::new(opened.file);
-            report.look(run.strict);
+            let mut report = opened.file;
             run_at::<P, _, _, _, _, _, _>(
                 alloc,
                 run,
@@ -79,7 +77,7 @@ fn run_at<P: Story, S: Read, I: Read + Drop, O: Write + Drop, F: Files, M: Write
     output: O,
     beside: Sources,
     files: &F,
-    report: &mut Watch<M>,
+    report: &mut M,
     errors: &mut E,
 ) -> u8
     ensures { PerformsAt P.at run.now.trace run.now result I.remaining O.contents (O.contents output)
@@ -95,7 +93,7 @@ fn run_at<P: Story, S: Read, I: Read + Drop, O: Write + Drop, F: Files, M: Write
             run.resumes,
             report,
         );
-        return reached_status(errors, answer, line.fault, run.strict, report.has_found());
+        return reached_status(errors, answer, line.fault, run.strict);
     };
     match open_trace(files, name.as_str(), beside) {
         Ok(mut trace) => {
@@ -109,25 +107,23 @@ fn run_at<P: Story, S: Read, I: Read + Drop, O: Write + Drop, F: Files, M: Write
                 report,
                 &mut trace.file,
             );
-            reached_status(errors, answer, line.fault, run.strict, report.has_found())
+            reached_status(errors, answer, line.fault, run.strict)
         }
         Err(_) => cannot_open(errors, name.as_str()),
     }
 }
 
-// The status of a run over a line whose other end is gone or not. A strict one fails its script where a bus fault
-// was found.
+// The status of a run over a line whose other end is gone or not.
 fn reached_status<E: Write>(
     errors: &mut E,
     answer: Result<Finished, EngineFault>,
     gone: Option<Fault>,
     strict: bool,
-    found: bool,
 ) -> u8
-    ensures { IsStatusAt strict answer gone result }
+    ensures { result ≡ status_at strict gone answer }
 {
     let reached = answer.is_ok();
-    let status = run_status(errors, answer, strict && found);
+    let status = run_status(errors, answer, strict);
     match gone {
         Some(fault) if reached => gone_status(errors, fault),
         _ => status,

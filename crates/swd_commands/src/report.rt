@@ -1,6 +1,6 @@
 //! What the program says of a fault, and the status that it ends with.
-ghost use Rattle.std.specs.Prelude.{◌≡◌, ◌||◌, is_ok, is_some};
-ghost use Rattle.swd_commands.specs.Statuses.{status_of, status_of_end, status_of_run};
+ghost use Rattle.std.specs.Prelude.{◌≡◌, is_ok};
+ghost use Rattle.swd_commands.specs.Statuses.{has_failed, status_of, status_of_end, status_of_run};
 
 use std::fmt;
 use std::fmt::{Display, Formatter};
@@ -84,35 +84,31 @@ pub fn engine_status<E: Write>(errors: &mut E, answer: Result<(), EngineFault>) 
     }
 }
 
-/// The status of a run, which failed its script where a bus fault is told that may not be.
+/// The status of a run, strict or not.
 pub fn run_status<E: Write>(
     errors: &mut E,
     answer: Result<Finished, EngineFault>,
-    failed: bool,
+    strict: bool,
 ) -> u8
-    ensures { result ≡ status_of_run failed answer }
+    ensures { result ≡ status_of_run strict answer }
 {
     match answer {
-        Ok(Finished { ended, differs }) => finished_status(errors, ended, differs, failed),
+        Ok(finished) => finished_status(errors, finished, strict),
         Err(fault) => engine_status(errors, Err(fault)),
     }
 }
 
 /// The status of a run that came to its report. Where a word isn't the one that the script tells, one line
-/// says so.
-pub fn finished_status<E: Write>(
-    errors: &mut E,
-    ended: End,
-    differs: Option<Difference>,
-    failed: bool,
-) -> u8
-    ensures { result ≡ status_of_end (failed || is_some differs) ended }
+/// says so; a strict run fails where an access was answered by a bus error.
+pub fn finished_status<E: Write>(errors: &mut E, finished: Finished, strict: bool) -> u8
+    ensures { result ≡ status_of_end (has_failed strict finished) finished.ended }
 {
-    if let Some(difference) = differs {
+    if let Some(difference) = finished.differs {
         tell_difference(errors, difference);
         return STOPPED;
     }
-    match ended {
+    let failed = strict && finished.bus_fault;
+    match finished.ended {
         End::All if !failed => DONE,
         _ => STOPPED,
     }

@@ -5,7 +5,7 @@ use std::cell::Cell;
 use std::io;
 use std::io::{Read, Write};
 use std::test::Fail;
-use swd_commands::{Files, Identity, Opened, Watch, cannot_open, engine_status, run_words};
+use swd_commands::{Files, Identity, Opened, cannot_open, engine_status, run_words};
 use swd_fakes::CountingWriter;
 use swd_script::ScriptFault;
 use swd_text::{EngineFault, TextFault};
@@ -127,7 +127,7 @@ fn run_on<I: Read>(alloc: Global, words: &[&str], mut input: I) -> Ran
 where
     I: Drop,
 {
-    let mut output = Watch::new(Vec::new(alloc));
+    let mut output = Vec::new(alloc);
     let mut errors = Vec::new(alloc);
     let written = Cell::new(0);
     let cuts = Cell::new(0);
@@ -138,7 +138,7 @@ where
     let status = run_words(alloc, words, &mut input, &shelf, &mut output, &mut errors);
     Ran {
         status,
-        output: output.writer,
+        output,
         errors,
         traced: written.get(),
         cuts: cuts.get(),
@@ -246,7 +246,7 @@ fn a_trace_that_may_be_standard_output_is_refused(rt: HostRuntime) {
         written: &written,
         cuts: &cuts,
     });
-    let mut output = Watch::new(Vec::new(rt.alloc()));
+    let mut output = Vec::new(rt.alloc());
     let mut errors = Vec::new(rt.alloc());
     let words = ["swd", "run", "script", "--trace", "traced"];
     let mut input = b"".as_slice();
@@ -264,50 +264,8 @@ fn a_trace_that_may_be_standard_output_is_refused(rt: HostRuntime) {
         &errors.as_slice(),
         &b"swd: cannot open traced\n".as_slice(),
     );
-    assert!(rt; output.writer.is_empty());
+    assert!(rt; output.is_empty());
     expect_eq(&rt, &cuts.get(), &0);
-}
-
-// Takes one byte at a time.
-#[derive(Drop)]
-struct ByteByByte(Vec<u8>);
-
-impl Write for ByteByByte {
-    fn write(&mut self, buf: &[u8]) -> io::Result<usize> {
-        match buf.first() {
-            Some(byte) => {
-                self.0.push(*byte)?;
-                Ok(1)
-            }
-            None => Ok(0),
-        }
-    }
-
-    fn flush(&mut self) -> io::Result<()> {
-        Ok(())
-    }
-}
-
-// A bus fault is found however the report is cut, and only at the end of a line.
-#[test]
-fn a_bus_fault_is_found_in_pieces(rt: HostRuntime) -> Result<(), Fail> {
-    for (text, found) in [
-        (b"r 30000000 busfault\n".as_slice(), true),
-        (b"r  busfault\nend all 1\n", true),
-        (b"r 30000000 busfaul\n", false),
-        (b"r 30000000 busfaults\n", false),
-        (b"busfault\n", false),
-        (b"end all 1\n", false),
-    ] {
-        for looks in [true, false] {
-            let mut watch = Watch::new(ByteByByte(Vec::new(rt.alloc())));
-            watch.look(looks);
-            watch.write_all(text)?;
-            expect_eq(&rt, &watch.has_found(), &(found && looks));
-            expect_eq(&rt, &watch.writer.0.as_slice(), &text);
-        }
-    }
-    Ok(())
 }
 
 // Fails at each read and write.
@@ -356,7 +314,7 @@ fn ends_that_fail_take_their_lines(rt: HostRuntime) {
                 written: &Cell::new(0),
                 cuts: &Cell::new(0),
             },
-            &mut Watch::new(Broken),
+            &mut Broken,
             &mut errors,
         );
         expect_eq(&rt, &errors.as_slice(), &b"swd: write failed\n".as_slice());

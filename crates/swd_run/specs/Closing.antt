@@ -11,11 +11,14 @@ use Rattle.swd_trace.specs.Texts.{trace_text}
 use Rattle.swd_run.specs.declared.closing.Finished.{Finished}
 use Rattle.swd_run.specs.Reports.{session_text}
 use Rattle.swd_run.specs.Sessions.{Done, ended_of}
-use Rattle.swd_run.specs.Verified.{first_difference}
+use Rattle.swd_run.specs.Verified.{first_difference, met_bus_fault}
 
--- how the last run ended, and the first read that gave another word than the script tells
-abbrev pub IsFinished : List Listed → List Done → Finished → Type 0
-IsFinished batches runs finished = (finished.ended ≡ ended_of runs) × (finished.differs ≡ first_difference batches runs)
+-- how the last run ended, the first read that gave another word than the script tells, and whether an access was
+-- answered by a bus error
+pub record IsFinished (batches : List Listed) (runs : List Done) (finished : Finished) : Type 0 where
+  pub ended : finished.ended ≡ ended_of runs
+  pub differs : finished.differs ≡ first_difference batches runs
+  pub bus_fault : finished.bus_fault ≡ met_bus_fault runs
 
 -- what was written of the reports
 abbrev pub WritesSession : List Listed → List Done → Result Finished EngineFault → Option (List ℕ) → Option (List ℕ)

@@ -1,5 +1,5 @@
--- Words that a script tells, and what was read.
-use Rattle.std.specs.Prelude.{◌==◌, nat_lt, List, [], ◌∷◌, length, get_or, Option, Some, None, if◌then◌else◌}
+-- Words that a script tells, and what was read; and accesses that were answered by a bus error.
+use Rattle.std.specs.Prelude.{◌==◌, ◌||◌, nat_lt, Bool, true, false, List, [], ◌∷◌, length, get_or, Option, Some, None, if◌then◌else◌}
 use Rattle.swd_port.specs.declared.access.Answer.{Answer}
 use Rattle.swd_port.specs.declared.access.Answer.TheVariants.{Value, Written, BusFault}
 use Rattle.swd_script.specs.declared.batch.Expected.{Expected}
@@ -37,3 +37,18 @@ first_difference [] runs = None
 first_difference (batch ∷ batches) [] = None
 first_difference (batch ∷ batches) (run ∷ runs) =
     or_else (difference_in batch.expected run.told.answers) (first_difference batches runs)
+
+-- BUS ERRORS
+abbrev pub is_bus_fault : Answer → Bool
+is_bus_fault BusFault = true
+is_bus_fault answer = false
+
+-- one of these answers is a bus error
+abbrev pub has_bus_fault : List Answer → Bool
+has_bus_fault [] = false
+has_bus_fault (answer ∷ answers) = is_bus_fault answer || has_bus_fault answers
+
+-- one of all calls
+abbrev pub met_bus_fault : List Done → Bool
+met_bus_fault [] = false
+met_bus_fault (run ∷ runs) = has_bus_fault run.told.answers || met_bus_fault runs

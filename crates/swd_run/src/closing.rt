@@ -7,7 +7,7 @@ ghost use Rattle.swd_trace.specs.Listed.{AreLegal};
 
 use crate::report::write_report;
 use crate::session::Session;
-use crate::verified::{Difference, first_difference};
+use crate::verified::{Difference, first_difference, met_bus_fault};
 use std::alloc::Allocator;
 use std::io::Write;
 use swd_host::End;
@@ -22,6 +22,8 @@ pub struct Finished {
     pub ended: End,
     /// The first read that gave another word than the script tells.
     pub differs: Option<Difference>,
+    /// Whether an access was answered by a bus error.
+    pub bus_fault: bool,
 }
 
 // How the runs of a session came out.
@@ -32,6 +34,7 @@ fn outcome_of<A: Allocator>(batches: &[Batch<A>], session: &Session<A>) -> Finis
     Finished {
         ended: session.ended,
         differs: first_difference(batches, session.runs.as_slice()),
+        bus_fault: met_bus_fault(session.runs.as_slice()),
     }
 }
 

@@ -1,8 +1,9 @@
-//! Words that a script tells, and what was read.
+//! Words that a script tells, and what was read; and accesses that were answered by a bus error.
 ghost use Rattle.std.specs.Prelude.{◌≡◌, map};
 ghost use Rattle.swd_script.specs.Readers.{listed};
 ghost use Rattle.swd_run.specs.Sessions.{done_of};
 ghost use Rattle.swd_run.specs.Verified.{difference_in, differs, differs_among, first_difference};
+ghost use Rattle.swd_run.specs.Verified.{has_bus_fault, is_bus_fault, met_bus_fault};
 
 use crate::going_on::Resumed;
 use std::alloc::Allocator;
@@ -74,4 +75,34 @@ pub(crate) fn first_difference<A: Allocator>(
         }
     }
     None
+}
+
+fn is_bus_fault(answer: Answer) -> bool
+    ensures { result ≡ is_bus_fault answer }
+{
+    matches!(answer, Answer::BusFault)
+}
+
+// Whether one of these answers is a bus error.
+fn has_bus_fault(answers: &[Answer]) -> bool
+    ensures { result ≡ has_bus_fault answers.now }
+{
+    for answer in answers {
+        if is_bus_fault(*answer) {
+            return true;
+        }
+    }
+    false
+}
+
+/// Whether an access of these runs was answered by a bus error.
+pub(crate) fn met_bus_fault<A: Allocator>(runs: &[Resumed<A>]) -> bool
+    ensures { result ≡ met_bus_fault (map done_of runs.now) }
+{
+    for run in runs {
+        if has_bus_fault(run.report.answers.as_slice()) {
+            return true;
+        }
+    }
+    false
 }

@@ -29,11 +29,28 @@ struct Ran {
     text: Vec<u8>,
 }
 
-// A run that ended so, in which no word differed.
+// A run that ended so, in which no word differed and no access met a bus error.
 fn ended(ended: End) -> Result<Finished, EngineFault> {
     Ok(Finished {
         ended,
         differs: None,
+        bus_fault: false,
+    })
+}
+
+// Whether a report tells of a bus error.
+fn has_bus_fault(report: &[u8]) -> bool {
+    report
+        .split(|byte| *byte == b'\n')
+        .any(|line| line.ends_with(b" busfault"))
+}
+
+// A run that ended so, in which no word differed, where this is the report that it has to write.
+fn ended_with(ended: End, report: &[u8]) -> Result<Finished, EngineFault> {
+    Ok(Finished {
+        ended,
+        differs: None,
+        bus_fault: has_bus_fault(report),
     })
 }
 

@@ -1,6 +1,6 @@
 //! Runs on heaps of each size: where memory ended is told, and nothing has been written but what was
 //! decided before.
-use super::ended;
+use super::ended_with;
 use super::expect::{expect_eq, expect_eq_at};
 use linked_list_allocator::LocalHeap;
 use std::alloc::Allocator;
@@ -158,7 +158,7 @@ fn traced_on<A: Allocator + Copy>(rt: &HostRuntime, alloc: A) -> Traced {
 #[test]
 fn a_traced_run_where_memory_ends(rt: HostRuntime) -> Result<(), Fail> {
     let whole = traced_on(&rt, rt.alloc());
-    expect_eq(&rt, &whole.answer, &ended(End::All));
+    expect_eq(&rt, &whole.answer, &ended_with(End::All, REPORT));
     expect_eq(&rt, &whole.report.as_slice(), &REPORT);
     let whole = whole.trace;
     let mut stages = Stages::new(&rt);

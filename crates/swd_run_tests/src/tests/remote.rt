@@ -43,6 +43,7 @@ fn a_script_sends_what_was_recorded(rt: HostRuntime) {
     let finished = Finished {
         ended: End::All,
         differs: None,
+        bus_fault: false,
     };
     expect_eq(&rt, &answer, &Ok(finished));
     expect_eq(&rt, &line.fault, &None);
@@ -70,6 +71,7 @@ fn a_remote_run_is_traced(rt: HostRuntime) {
     let finished = Finished {
         ended: End::All,
         differs: None,
+        bus_fault: false,
     };
     expect_eq(&rt, &answer, &Ok(finished));
     expect_eq(&rt, &line.fault, &None);
@@ -154,6 +156,7 @@ fn a_call_that_is_lost_is_the_last_one(rt: HostRuntime) {
     let finished = Finished {
         ended: End::Lost,
         differs: Some(differs),
+        bus_fault: false,
     };
     expect_eq(&rt, &answer, &Ok(finished));
     expect_eq(&rt, &line.fault, &Some(Fault::Ended));
@@ -193,6 +196,7 @@ fn a_target_that_goes_away_is_told(rt: HostRuntime) {
         let finished = Finished {
             ended: End::Lost,
             differs: None,
+            bus_fault: false,
         };
         expect_eq(&rt, &answer, &Ok(finished));
         expect_eq(&rt, &line.fault, &Some(Fault::Ended));

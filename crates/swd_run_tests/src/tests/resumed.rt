@@ -1,6 +1,6 @@
 //! Runs that are resumed at a lost acknowledgement.
 use super::expect::expect_eq;
-use super::{ONE_WRITE, Ran, TRIES, WORKED, ended, resumed_on};
+use super::{ONE_WRITE, Ran, TRIES, WORKED, ended, ended_with, resumed_on};
 use linked_list_allocator::LocalHeap;
 use std::process::Abort;
 use std::test::Fail;
@@ -13,7 +13,7 @@ pub(super) const LOST_WRITE: &[u8] = b".\n.\n.\n.\n.\n.\n.\n.\n.\n.\nmute 0\n";
 
 // A run ends so, after this report.
 fn comes_to<R: Abort>(rt: &R, run: &Ran, end: End, report: &[u8]) {
-    expect_eq(rt, &run.answer, &ended(end));
+    expect_eq(rt, &run.answer, &ended_with(end, report));
     expect_eq(rt, &run.text.as_slice(), &report);
 }
 

@@ -3,7 +3,7 @@ use super::expect::expect_eq_at;
 use super::resumed::LOST_WRITE;
 use super::sessions::{CALLS, REPORTS};
 use super::{
-    NO_ACCESS, ONE_READ, ONE_WRITE, THREE_WAITS, TRIES, WORKED, WORKED_REPORT, ended, resumed_on,
+    NO_ACCESS, ONE_READ, ONE_WRITE, THREE_WAITS, TRIES, WORKED, WORKED_REPORT, ended_with, resumed_on,
 };
 use swd_host::End;
 
@@ -375,7 +375,7 @@ fn each_script_ends_so_after_its_report(rt: HostRuntime) {
     for rows in [RUN.as_slice(), &RESUMED, &SESSIONS] {
         for (name, script, plan, tries, resumes, end, report) in rows {
             let run = resumed_on(&rt, script, plan, *tries, *resumes);
-            expect_eq_at(&rt, name, &run.answer, &ended(*end));
+            expect_eq_at(&rt, name, &run.answer, &ended_with(*end, report));
             expect_eq_at(&rt, name, &run.text.as_slice(), report);
         }
     }

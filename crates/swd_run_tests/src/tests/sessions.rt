@@ -1,6 +1,6 @@
 //! Scripts of several calls, and reads whose words the script tells.
 use super::expect::expect_eq;
-use super::{Ran, TRIES, ended, run_on};
+use super::{Ran, TRIES, ended_with, has_bus_fault, run_on};
 use std::process::Abort;
 use swd_fakes::ShortWriter;
 use swd_host::End;
@@ -22,6 +22,7 @@ fn differs<R: Abort>(rt: &R, run: &Ran, end: End, difference: Difference, report
     let finished = Finished {
         ended: end,
         differs: Some(difference),
+        bus_fault: has_bus_fault(report),
     };
     expect_eq(rt, &run.answer, &Ok(finished));
     expect_eq(rt, &run.text.as_slice(), &report);
@@ -75,7 +76,7 @@ fn the_trace_is_that_of_all_calls(rt: HostRuntime) {
         &mut report,
         &mut trace,
     );
-    expect_eq(&rt, &answer, &ended(End::All));
+    expect_eq(&rt, &answer, &ended_with(End::All, REPORTS));
     expect_eq(&rt, &report.as_slice(), &REPORTS);
     let mut text = trace.as_slice();
     let mut listing = Vec::new(rt.alloc());
