@@ -4,7 +4,6 @@ use std::alloc::Global;
 use std::cell::Cell;
 use std::io;
 use std::io::{Read, Write};
-use std::test::Fail;
 use swd_commands::{Files, Identity, Opened, cannot_open, engine_status, run_words};
 use swd_fakes::CountingWriter;
 use swd_script::ScriptFault;
@@ -37,6 +36,26 @@ const RESUMED: &[u8] = b"resume 0 begun 1\nw 20000000 written\nr 20000000 deadbe
 // The acknowledgement of the DRW request is not seen as it was sent.
 const CUT: &[u8] = b".\n.\n.\n.\n.\n.\n.\n.\n.\n.\nmute 0\n";
 
+// A file that was made, and counts what it takes; or that can't be written.
+#[derive(Drop)]
+struct Page<'a> {
+    counting: CountingWriter<'a>,
+    is_full: bool,
+}
+
+impl<'a> Write for Page<'a> {
+    fn write(&mut self, buf: &[u8]) -> io::Result<usize> {
+        if self.is_full {
+            return Err(io::Error::from(io::ErrorKind::StorageFull));
+        }
+        self.counting.write(buf)
+    }
+
+    fn flush(&mut self) -> io::Result<()> {
+        Ok(())
+    }
+}
+
 // Files, by their names.
 #[derive(Drop)]
 struct Shelf<'a> {
@@ -54,6 +73,7 @@ fn number_of(name: &str) -> u64 {
         "script" | "script-again" => 2,
         "quiet" | "quiet-again" => 3,
         "traced" => 4,
+        "memory" | "memory-again" => 6,
         _ => 5,
     }
 }
@@ -71,7 +91,7 @@ fn file<F>(name: &str, file: F) -> Opened<F> {
 impl<'a> Files for Shelf<'a> {
     type File = &'static [u8];
 
-    type Made = CountingWriter<'a>;
+    type Made = Page<'a>;
 
     fn open(&self, name: &str) -> io::Result<Opened<&'static [u8]>> {
         match name {
@@ -80,6 +100,7 @@ impl<'a> Files for Shelf<'a> {
             "script" => Ok(file(name, SCRIPT)),
             "memory" => Ok(file(name, b"memory 20000000 16\n")),
             "quiet" => Ok(file(name, b"# nothing\n.\n")),
+            "deaf" => Ok(file(name, b"deaf\n")),
             "cut" => Ok(file(name, CUT)),
             "flip33" => Ok(file(name, b"flip 33")),
             "input" | "script-again" => Ok(file(name, b".\n")),
@@ -87,9 +108,12 @@ impl<'a> Files for Shelf<'a> {
         }
     }
 
-    fn open_to_write(&self, name: &str) -> io::Result<Opened<CountingWriter<'a>>> {
-        let made = CountingWriter {
-            taken: self.written,
+    fn open_to_write(&self, name: &str) -> io::Result<Opened<Page<'a>>> {
+        let made = Page {
+            counting: CountingWriter {
+                taken: self.written,
+            },
+            is_full: name == "full",
         };
         match name {
             "locked" => Err(io::Error::from(io::ErrorKind::PermissionDenied)),
@@ -97,7 +121,7 @@ impl<'a> Files for Shelf<'a> {
         }
     }
 
-    fn cut_off(&self, _file: &CountingWriter<'a>) -> io::Result<()> {
+    fn cut_off(&self, _file: &Page<'a>) -> io::Result<()> {
         self.cuts.set(self.cuts.get().saturating_add(1));
         Ok(())
     }
@@ -216,17 +240,17 @@ struct Unknown<'a>(Shelf<'a>);
 impl<'a> Files for Unknown<'a> {
     type File = &'static [u8];
 
-    type Made = CountingWriter<'a>;
+    type Made = Page<'a>;
 
     fn open(&self, name: &str) -> io::Result<Opened<&'static [u8]>> {
         self.0.open(name)
     }
 
-    fn open_to_write(&self, name: &str) -> io::Result<Opened<CountingWriter<'a>>> {
+    fn open_to_write(&self, name: &str) -> io::Result<Opened<Page<'a>>> {
         self.0.open_to_write(name)
     }
 
-    fn cut_off(&self, file: &CountingWriter<'a>) -> io::Result<()> {
+    fn cut_off(&self, file: &Page<'a>) -> io::Result<()> {
         self.0.cut_off(file)
     }
 
@@ -288,6 +312,18 @@ impl Write for Broken {
     }
 }
 
+// What the words come to where standard output can't be written: the status, and standard error.
+fn unheard(alloc: Global, words: &[&str], input: &[u8]) -> (u8, Vec<u8>) {
+    let mut input = input;
+    let mut errors = Vec::new(alloc);
+    let files = Shelf {
+        written: &Cell::new(0),
+        cuts: &Cell::new(0),
+    };
+    let status = run_words(alloc, words, &mut input, &files, &mut Broken, &mut errors);
+    (status, errors)
+}
+
 #[test]
 fn ends_that_fail_take_their_lines(rt: HostRuntime) {
     for (command, input) in [
@@ -304,19 +340,16 @@ fn ends_that_fail_take_their_lines(rt: HostRuntime) {
             &b"swd: read failed\n".as_slice(),
         );
         expect_eq(&rt, &ran.status, &2);
-        let mut input = input;
-        let mut errors = Vec::new(rt.alloc());
-        let status = run_words(
-            rt.alloc(),
-            words.as_slice(),
-            &mut input,
-            &Shelf {
-                written: &Cell::new(0),
-                cuts: &Cell::new(0),
-            },
-            &mut Broken,
-            &mut errors,
-        );
+        let (status, errors) = unheard(rt.alloc(), words.as_slice(), input);
+        expect_eq(&rt, &errors.as_slice(), &b"swd: write failed\n".as_slice());
+        expect_eq(&rt, &status, &2);
+    }
+}
+
+#[test]
+fn help_that_cannot_be_written_is_a_fault(rt: HostRuntime) {
+    for words in [["swd", "--help"], ["swd", "--version"]] {
+        let (status, errors) = unheard(rt.alloc(), words.as_slice(), b"".as_slice());
         expect_eq(&rt, &errors.as_slice(), &b"swd: write failed\n".as_slice());
         expect_eq(&rt, &status, &2);
     }

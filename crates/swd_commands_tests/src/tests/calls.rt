@@ -318,7 +318,7 @@ const FAULTS: [Call; 10] = [
     ),
 ];
 
-const TARGETS: [Call; 10] = [
+const TARGETS: [Call; 11] = [
     (
         "a host is served",
         &["swd", "target", "memory"],
@@ -401,6 +401,14 @@ const TARGETS: [Call; 10] = [
         2,
         b"",
         b"swd: byte 0: a character of JTAG: set the debugger to serial wire\n",
+    ),
+    (
+        "the character that reads JTAG's data",
+        &["swd", "target", "memory"],
+        b"dR",
+        2,
+        b"",
+        b"swd: byte 1: a character of JTAG: set the debugger to serial wire\n",
     ),
 ];
 

@@ -7,6 +7,8 @@ ghost use Rattle.swd_port.specs.Port.{made};
 use super::ended;
 use super::expect::expect_eq;
 use super::recorded::UNDISTURBED;
+use super::sessions::calls_of;
+use std::test::Fail;
 use swd_ends::{run_remote, run_remote_traced};
 use swd_fakes::ShortWriter;
 use swd_host::End;
@@ -222,4 +224,25 @@ fn a_script_at_fault_sends_nothing(rt: HostRuntime) {
     assert!(rt; matches!(&answer, Err(EngineFault::Script(_))));
     expect_eq(&rt, &line.fault, &None);
     assert!(rt; sent.as_slice().is_empty() && report.as_slice().is_empty());
+}
+
+// Nothing comes back, so that the first call is lost, and the last one.
+#[test]
+fn a_remote_script_of_a_thousand_calls_is_begun(rt: HostRuntime) -> Result<(), Fail> {
+    let script = calls_of(&rt, 1000)?;
+    let mut script = script.as_slice();
+    let mut sent = Vec::new(rt.alloc());
+    let mut report = Vec::new(rt.alloc());
+    let (answer, _line) = run_remote::<Untold, _, _, _, _, _>(
+        rt.alloc(),
+        &mut script,
+        b"".as_slice(),
+        &mut sent,
+        8,
+        0,
+        &mut report,
+    );
+    expect_eq(&rt, &answer, &ended(End::Lost));
+    expect_eq(&rt, &report.as_slice(), &b"end lost 0 begun 0\n".as_slice());
+    Ok(())
 }

@@ -2,6 +2,7 @@
 use super::expect::expect_eq;
 use super::{Ran, TRIES, ended_with, has_bus_fault, run_on};
 use std::process::Abort;
+use std::test::Fail;
 use swd_fakes::ShortWriter;
 use swd_host::End;
 use swd_port::Answer;
@@ -103,4 +104,28 @@ fn a_writer_that_fails_has_the_first_bytes_of_all_reports(rt: HostRuntime) {
             expect_eq(&rt, &writer.taken(), &&REPORTS[..room]);
         }
     }
+}
+
+/// A script has as many calls as it likes.
+pub(super) fn calls_of(rt: &HostRuntime, count: usize) -> Result<Vec<u8>, Fail> {
+    let mut script = Vec::new(rt.alloc());
+    script.extend_from_slice(b"memory 20000000 16\nroom 1000\n")?;
+    for _ in 1..count {
+        script.extend_from_slice(b"w 20000000 5\nnext\n")?;
+    }
+    script.extend_from_slice(b"w 20000000 5\n")?;
+    Ok(script)
+}
+
+#[test]
+fn a_script_of_a_thousand_calls_is_run(rt: HostRuntime) -> Result<(), Fail> {
+    let script = calls_of(&rt, 1000)?;
+    let run = run_on(&rt, script.as_slice(), b"".as_slice(), TRIES);
+    let mut report = Vec::new(rt.alloc());
+    for _ in 0..1000u16 {
+        report.extend_from_slice(b"w 20000000 written\nend all 1\n")?;
+    }
+    expect_eq(&rt, &run.answer, &ended_with(End::All, report.as_slice()));
+    assert!(rt; run.text.as_slice() == report.as_slice());
+    Ok(())
 }
