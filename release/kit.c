@@ -1,7 +1,7 @@
 /*
- * What `rt` links beside a program on x86-64, the kit's c/libos_c.a and c/liblibc_c.a, and what the kit lacks for other
- * processors: as much of it as the program calls, by the comments at these functions in the kit's rattle/libc/src/heap.rt
- * and rattle/os/src/c.rt. Nothing proves it.
+ * What `rt` links beside a program on x86-64, the kit's c/libos_c.a and c/liblibc_c.a, and what the kit lacks for
+ * other processors: as much of it as the program calls, by the comments at these functions in the kit's
+ * rattle/libc/src/heap.rt and rattle/os/src/c.rt. Nothing proves it.
  */
 #include <errno.h>
 #include <stdbool.h>

@@ -1,5 +1,5 @@
-"""Makes of rattle's LLVM module of swd_c for aarch64 one for a 32-bit Arm: numbers of 64 bits keep them, pointers get 32, and
-every field stays at its byte. Stops at anything that it doesn't know.
+"""Makes of rattle's LLVM module of swd_c for aarch64 one for a 32-bit Arm: numbers of 64 bits keep them, pointers get
+32, and every field stays at its byte. Stops at anything that it doesn't know.
 
 usage: retarget.py MODULE.ll TRIPLE SWD_H >OUT.ll
 """
@@ -16,7 +16,7 @@ def stop(why):
 
 
 def placed(fields):
-    """The fields of a struct with pads, so that each stands where pointers of eight bytes have it; and each one's new index."""
+    """The fields of a struct with pads, so that each stands where pointers of eight bytes have it; and their indices."""
     there, here, out, indices = 0, 0, [], []
     for kind in fields:
         if kind != "ptr" and kind not in WIDTHS:
@@ -53,8 +53,8 @@ def prototypes(header):
 
 
 def narrowed(text, name, gives, takes):
-    """An export by this processor's convention: a count has 32 bits, a small number that is given fills its register, and a
-    struct is given through memory."""
+    """An export by this processor's convention: a count has 32 bits, a small number that is given fills its register,
+    and a struct is given through memory."""
     export = re.compile(r"^define ([^@\n]*) @%s\(([^\n]*)\) #0 \{\nstart:\n(.*?)^\}\n" % name, re.S | re.M)
     found = export.search(text)
     if not found:

@@ -1,6 +1,6 @@
 /*
- * Start of a program on the Cortex-M of qemu's board mps2-an385, with newlib over semihosting: main's words are those of
- * qemu's option -semihosting-config.
+ * Start of a program on the Cortex-M of qemu's board mps2-an385, with newlib over semihosting: main's words are those
+ * of qemu's option -semihosting-config.
  */
 #include <stdint.h>
 #include <stdlib.h>
