@@ -1,7 +1,7 @@
 /*
- * A long run of engine, target and decoder, by which two builds of the library are compared: lists of accesses over a board
- * whose bus takes its time, while bits arrive changed at either end. Prints a hash of every bit on the line, each item that
- * the decoder gives and each outcome. Takes the number of lists.
+ * A long run of engine, target and decoder, by which two builds of the library are compared: lists of accesses over a
+ * board whose bus takes its time, while bits arrive changed at either end. Prints a hash of every bit on the line, each
+ * item that the decoder gives and each outcome. Takes the number of lists.
  */
 #include <stdio.h>
 #include <stdlib.h>

@@ -16,7 +16,7 @@ def stop(why):
 
 
 def placed(fields):
-    """The fields of a struct with pads, so that each stands where pointers of eight bytes have it; and their indices."""
+    """The fields of a struct with pads, so that each stands where pointers of eight bytes have it; and the indices."""
     there, here, out, indices = 0, 0, [], []
     for kind in fields:
         if kind != "ptr" and kind not in WIDTHS:
