@@ -8,6 +8,8 @@ import sys
 
 LAYOUT = "e-m:e-p:32:32-Fi8-i64:64-v128:64:128-a:0:32-n32-S64"
 WIDTHS = {"i1": 1, "i8": 1, "i16": 2, "i32": 4, "i64": 8}
+# What a C type is in the module; a pointer is "ptr".
+TYPES = {"bool": "i1", "uint8_t": "i8", "uint16_t": "i16", "uint32_t": "i32", "uint64_t": "i64", "void": "void"}
 STRUCT = re.compile(r"\{ ([^{}\n]*\bptr\b[^{}\n]*) \}")
 
 
@@ -48,8 +50,13 @@ def move_fields(text):
 def prototypes(header):
     """Each function of the header: what it gives, and the types of what it takes."""
     bare = re.sub(r"/\*.*?\*/|^#.*?$", "", header, flags=re.S | re.M)
-    for gives, name, takes in re.findall(r"^([a-z][\w ]*?) ?(swd_\w+)\(([^)]*)\);", bare, re.M):
-        yield name, gives.strip(), [re.sub(r"\w+$", "", it).strip() for it in takes.split(",")]
+    for gives, name, takes in re.findall(r"^([a-z][\w *]*?) ?(swd_\w+)\(([^)]*)\);", bare, re.M):
+        params = [] if takes == "void" else takes.split(",")
+        yield name, gives.strip(), [re.sub(r"\w+$", "", it).strip() for it in params]
+
+
+def type_of(kind):
+    return "ptr" if kind.endswith("*") else TYPES.get(kind, "unknown here")
 
 
 def narrowed(text, name, gives, takes):
@@ -68,8 +75,8 @@ def narrowed(text, name, gives, takes):
         params.insert(0, "ptr noundef %out")
         result, body = "void", "  call void %s(ptr %%out, %s)\n  ret void\n" % (inner[1], inner[2])
     result = re.sub(r"^noundef (i8|i16)$", r"noundef zeroext \1", result)
-    if result not in ("void", "noundef zeroext i1", "noundef zeroext i8", "noundef zeroext i16"):
-        stop("%s gives %s" % (name, result))
+    if result.split()[-1] != ("void" if gives.startswith("struct") else type_of(gives)):
+        stop("%s gives %s, the header says %s" % (name, result, gives))
     # Before the parameters may come the memory for what is given.
     shift = len(params) - len(takes)
     lines = ""
@@ -79,7 +86,7 @@ def narrowed(text, name, gives, takes):
             wide = param.split()[-1]
             params[shift + index] = "i32 noundef %s.n" % wide
             lines += "  %s = zext i32 %s.n to i64\n" % (wide, wide)
-        elif param.split()[0] != {"uint8_t": "i8", "uint32_t": "i32", "uint64_t": "i64"}.get(kind, "ptr"):
+        elif param.split()[0] != type_of(kind):
             stop("%s takes %s, the header says %s" % (name, param, kind))
     whole = "define %s @%s(%s) #0 {\nstart:\n%s%s}\n" % (result, name, ", ".join(params), lines, body)
     return text[:found.start()] + whole + text[found.end():]
