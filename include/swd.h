@@ -28,6 +28,9 @@
 extern "C" {
 #endif
 
+/* The version of library and header, which is that of the program. */
+#define SWD_VERSION "0.1.0"
+
 /* ---------------------------------------------------------------------------------------- the host ---- */
 
 /*

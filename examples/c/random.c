@@ -1,6 +1,7 @@
 /*
  * Calls on structs of any bytes, and of bytes near to those of a struct in order: each call gives back
- * control, and what it refuses it leaves as it was. Takes the number of calls.
+ * control, and what it refuses it leaves as it was. Takes the number of calls. The numbers are drawn one in a statement,
+ * so that every compiler draws them in the same order, and prints the same.
  */
 #include <stdio.h>
 #include <stdlib.h>
@@ -20,7 +21,8 @@ static uint64_t any(void)
 /* A number with any number of bits. */
 static uint64_t some(void)
 {
-	return any() >> any() % 64;
+	uint64_t bits = any();
+	return bits >> any() % 64;
 }
 
 static unsigned long calls, refused;
@@ -45,8 +47,10 @@ static void spoil(void *object, size_t size)
 {
 	unsigned char *bytes = (unsigned char *)object;
 	uint64_t count = any() % 3;
-	while (count-- > 0)
-		bytes[any() % size] = (unsigned char)(any() % 2 ? any() : any() % 14);
+	while (count-- > 0) {
+		size_t place = (size_t)(any() % size);
+		bytes[place] = (unsigned char)(any() % 2 ? any() : any() % 14);
+	}
 }
 
 static void fail(const char *what)
@@ -160,10 +164,12 @@ static struct swd_target make_target(void)
 {
 	struct swd_target target;
 	memset(&target, 0, sizeof target);
-	if (any() % 4)
-		swd_target_new(&target, (uint8_t)any(), (uint32_t)any());
-	else
+	if (any() % 4) {
+		uint8_t wraps = (uint8_t)any();
+		swd_target_new(&target, wraps, (uint32_t)any());
+	} else {
 		fill(&target, sizeof target);
+	}
 	return target;
 }
 
@@ -237,7 +243,8 @@ static void try_target(void)
 	transact(&target, 0xa5, 0);
 	transact(&target, 0xa9, 0x50000000);
 	for (i = 0; i < 12; i++) {
-		transact(&target, requests[any() % sizeof requests], i < 6 ? 0x50000000 : (uint32_t)any());
+		uint8_t request = requests[any() % sizeof requests];
+		transact(&target, request, i < 6 ? 0x50000000 : (uint32_t)any());
 		if (any() % 4 == 0)
 			settle(&target);
 		if (any() % 8 == 0)
