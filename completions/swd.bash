@@ -1,4 +1,5 @@
-# Completions of swd for bash, written by checks/help.
+# Completions of swd for bash, written by checks/help: `. completions/swd.bash` in a shell, or for each one a copy at
+# ~/.local/share/bash-completion/completions/swd.
 _swd() {
     local word=${COMP_WORDS[COMP_CWORD]} before=${COMP_WORDS[COMP_CWORD - 1]} words=
     COMPREPLY=()

@@ -1,4 +1,4 @@
-# Completions of swd for fish, written by checks/help.
+# Completions of swd for fish, written by checks/help: a file of ~/.config/fish/completions.
 complete -c swd -f
 complete -c swd -n __fish_use_subcommand -a one -d 'Lists the one transaction that a trace holds'
 complete -c swd -n __fish_use_subcommand -a decode -d 'Lists a trace, one line an item'
