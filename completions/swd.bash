@@ -1,0 +1,49 @@
+# Completions of swd for bash, written by checks/help: `. completions/swd.bash` in a shell, or for each one a copy at
+# ~/.local/share/bash-completion/completions/swd.
+_swd() {
+    local word=${COMP_WORDS[COMP_CWORD]} before=${COMP_WORDS[COMP_CWORD - 1]} words=
+    COMPREPLY=()
+    if ((COMP_CWORD == 1)); then
+        case $word in
+        -*) words='--help --version -h -V' ;;
+        *) words='one decode encode run target help' ;;
+        esac
+        COMPREPLY=($(compgen -W "$words" -- "$word"))
+        return
+    fi
+    case ${COMP_WORDS[1]} in
+    help)
+        ((COMP_CWORD > 2)) || COMPREPLY=($(compgen -W 'one decode encode run target help' -- "$word"))
+        return
+        ;;
+    one)
+        words='--help -h'
+        ;;
+    decode)
+        words='--help -h'
+        ;;
+    encode)
+        words='--help -h'
+        ;;
+    run)
+        words='--plan --tries --resume --trace --strict --remote --report --help -h'
+        ;;
+    target)
+        words='--plan --log --trace --help -h'
+        ;;
+    esac
+    case $before in
+    --log | --plan | --report | --trace)
+        mapfile -t COMPREPLY < <(compgen -f -- "$word")
+        return
+        ;;
+    --resume | --tries)
+        return
+        ;;
+    esac
+    case $word in
+    -*) COMPREPLY=($(compgen -W "$words" -- "$word")) ;;
+    *) mapfile -t COMPREPLY < <(compgen -f -- "$word") ;;
+    esac
+}
+complete -o filenames -F _swd swd ./swd
