@@ -40,9 +40,8 @@ pub fn transactions()
 {}
 
 /// Whole runs: what is told is what the memory logged, in its order, where an access that is told as `May` was logged
-/// once or not at all. None is, where every transaction was acknowledged, SELECT is known, and ABORT is written only
-    where
-/// no transfer is in flight.
+/// once or not at all. None is told so where every transaction was acknowledged, SELECT is known, and ABORT is written
+/// only where no transfer is in flight.
 pub fn observed_runs()
     ensures runs { RunsAreAccounted }
     ensures made { MadeIsAccounted }

@@ -1,6 +1,5 @@
-//! What a debugger did to a target's memory, from the wire alone: an observer takes the items of a trace, and says
-    of each
-//! access of memory whether it took place, where, and with which word.
+//! What a debugger did to a target's memory, from the wire alone: an observer takes the items of a trace, and says of
+//! each access of memory whether it took place, where, and with which word.
 //!
 //! It knows nothing of the host. A listing shows that a write was answered OK; whether it took place shows only later,
 //! and where the wire never shows it, the observer says so. `laws` has what is proved of it: for every run of the port
