@@ -34,6 +34,7 @@ use Rattle.swd_observer.specs.Knows.{Holds, Knows, here}
 use Rattle.swd_observer.specs.Observing.{told_itself}
 use Rattle.swd_observer.specs.Laws.{KnownAtOkay}
 use Rattle.swd_observer.specs.Transacts.{Moves}
+use Rattle.swd_observer.proofs.FlagLemmas.{accepted_refused}
 use Rattle.swd_observer.proofs.KnownLemmas.{stays}
 use Rattle.swd_observer.proofs.AskLemmas.{Okayed, okayed, plain, KindFits, kind_fits, register_for, posted}
 use Rattle.swd_observer.proofs.AskLemmas.{is_writing, is_reading, read_writes_not, write_reads_not, drw_is_ap}
@@ -250,5 +251,10 @@ moved_on false before told o q word ok place s t is tells asked bits asks range 
     write_step before told o q word ok place s asked t bits tells is asks range small carries moves k
 
 pub okay_step : KnownAtOkay
-okay_step before told o q word ok place s t tells h k = moved_on q.read before told o q word ok place s t refl tells
-    h.asked h.bits h.asks h.range h.small h.carries h.moves k
+okay_step before told o q word ok place s t tells h k = record {
+  knows = moved_on q.read before told o q word ok place s t refl tells h.asked h.bits h.asks h.range h.small h.carries
+      h.moves k.knows;
+  flagged = λ e. absurd (let clash : false ≡ true =
+      sym (accepted_refused (kind_of (confirmed o).select q) (word_if ok word) place (confirmed o)) ∙ e in
+      cc);
+}

@@ -4,6 +4,7 @@ pub mod AskLemmas
 pub mod OkayLemmas
 pub mod StepLemmas
 pub mod RefusedLemmas
+pub mod FlagLemmas
 pub mod DoubtLemmas
 pub mod ExemptLemmas
 pub mod LostLemmas

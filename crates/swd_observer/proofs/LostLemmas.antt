@@ -24,15 +24,16 @@ use Rattle.swd_observer.specs.declared.observer.Written.TheVariants.{Select as T
 use Rattle.swd_observer.specs.declared.observer.Written.TheVariants.{Drw as ToDrw}
 use Rattle.swd_observer.specs.declared.observer.Kind.{Kind}
 use Rattle.swd_observer.specs.declared.observer.Kind.TheVariants.{Other, Reads, Writes, MayRead, MayWrite}
-use Rattle.swd_observer.specs.Observing.{told_of, doubted, arrived_with, kind_of, is_read_of, unanswered}
+use Rattle.swd_observer.specs.Observing.{doubt_told, doubted, arrived_with, kind_of, is_read_of, unanswered}
 use Rattle.swd_observer.specs.Observing.{told_unanswered}
 use Rattle.swd_observer.specs.Observing.{may_have}
 use Rattle.swd_observer.specs.Explained.{ExplainsSince, listed}
-use Rattle.swd_observer.specs.Knows.{Resting, Flight, Holds, Knows, here}
+use Rattle.swd_observer.specs.Knows.{Resting, Flight, Holds, Knows, here, Watches}
 use Rattle.swd_observer.specs.Laws.{KnownAtLost}
 use Rattle.swd_observer.proofs.ExplainLemmas.{may_took, may_not}
 use Rattle.swd_observer.proofs.KnownLemmas.{stays, same_place, unsent}
 use Rattle.swd_observer.proofs.AskLemmas.{KindFits, kind_fits, is_harmless, register_for}
+use Rattle.swd_observer.proofs.FlagLemmas.{doubt_is, unanswered_refused, watches_stay}
 use Rattle.swd_observer.proofs.OkayLemmas.{Same}
 use Rattle.swd_observer.proofs.DoubtLemmas.{doubt_holds, doubted_is_sent_none}
 
@@ -117,36 +118,36 @@ reads_drw (MayWrite w) r e (inr h) = absurd (let clash : false ≡ true = sym (a
 -- what was left, by the reply that nobody saw
 abbrev Lost : List Transfer → List Told → Observer → Request → ℕ → Target → Type 0
 Lost before told o q place x = Holds
-    (ExplainsSince before ((told ++ listed (told_of May None o))
+    (ExplainsSince before ((told ++ listed (doubt_told o))
     ++ listed (told_unanswered (kind_of (doubted o).select q) (doubted o).tar place)))
     (unanswered (kind_of (doubted o).select q) (doubted o)) x
 
 kept_lost : (before : List Transfer) (told : List Told) (o : Observer) (q : Request) (place : ℕ) (x y : Target)
     → Same x y
-    → Knows (ExplainsSince before told) o x → Lost before told o q place y
+    → Watches (ExplainsSince before told) o x → Lost before told o q place y
 kept_lost before told o q place x y s k =
-    kept_read before (told ++ listed (told_of May None o)) (is_read_of (kind_of (doubted o).select q)) place
+    kept_read before (told ++ listed (doubt_told o)) (is_read_of (kind_of (doubted o).select q)) place
     (doubted o) y
-    refl (doubt_holds before told o x y s k)
+    refl (doubt_holds before told o x y s (doubt_is o x k.flagged) k.knows)
 
 pub same_self : (x : Target) → Same x x
 same_self x = record { select = refl; increments = refl; tar = refl; pending = refl; memory = refl }
 
 drw_lost : (before : List Transfer) (told : List Told) (o : Observer) (q : Request) (place : ℕ) (x : Target)
     (busy : Bool)
-    → register x.select q ≡ DrwRead → Knows (ExplainsSince before told) o x
+    → register x.select q ≡ DrwRead → Watches (ExplainsSince before told) o x
     → Lost before told o q place (after_okay busy (register x.select q) x)
 drw_lost before told o q place x busy named k =
-    let h : Holds (ExplainsSince before (told ++ listed (told_of May None o))) (doubted o) x =
-    doubt_holds before told o x x (same_self x) k in
+    let h : Holds (ExplainsSince before (told ++ listed (doubt_told o))) (doubted o) x =
+    doubt_holds before told o x x (same_self x) (doubt_is o x k.flagged) k.knows in
     let reads : is_read_of (kind_of (doubted o).select q) ≡ true =
     reads_drw (kind_of (doubted o).select q) (register x.select q) named
     (kind_fits (doubted o).select x.select q h.select) in
     subst (λ r. Lost before told o q place (after_okay busy r x)) (sym named)
-    (subst (λ b. Holds (ExplainsSince before ((told ++ listed (told_of May None o))
+    (subst (λ b. Holds (ExplainsSince before ((told ++ listed (doubt_told o))
     ++ listed (if b then may_have true (doubted o).tar None place else None)))
     (if b then record (doubted o) { tar = None } else doubted o) (after_okay busy DrwRead x)) (sym reads)
-    (begun_read before (told ++ listed (told_of May None o)) place (doubted o) x busy refl h))
+    (begun_read before (told ++ listed (doubt_told o)) place (doubted o) x busy refl h))
 
 abbrev is_drw_read : Register → Bool
 is_drw_read DrwRead = true
@@ -162,7 +163,7 @@ pends_kept r p e = refl
 
 okay_lost : (before : List Transfer) (told : List Told) (o : Observer) (q : Request) (place : ℕ) (x : Target)
     (busy : Bool)
-    (drw : Bool) → is_drw_read (register x.select q) ≡ drw → Knows (ExplainsSince before told) o x
+    (drw : Bool) → is_drw_read (register x.select q) ≡ drw → Watches (ExplainsSince before told) o x
     → Lost before told o q place (after_okay busy (register x.select q) x)
 okay_lost before told o q place x busy true e k =
     drw_lost before told o q place x busy (drw_read_is (register x.select q) e) k
@@ -176,7 +177,7 @@ okay_lost before told o q place x busy false e k = kept_lost before told o q pla
 
 lost_by : (before : List Transfer) (told : List Told) (o : Observer) (q : Request) (place : ℕ) (x : Target)
     (busy : Bool)
-    (reply : Reply) → Knows (ExplainsSince before told) o x
+    (reply : Reply) → Watches (ExplainsSince before told) o x
     → Lost before told o q place (target_after busy reply (register x.select q) q.ap x)
 lost_by before told o q place x busy Okay k =
     okay_lost before told o q place x busy (is_drw_read (register x.select q)) refl k
@@ -192,14 +193,14 @@ unanswered_none true d e = e
 unanswered_none false d e = e
 
 lost_now : (before : List Transfer) (told : List Told) (o : Observer) (q : Request) (seen place : ℕ) (mark : Mark)
-    (c : Choice) (s t : Port) → AsksNow mark c s q seen t → Knows (ExplainsSince before told) o s.target
-    → Knows (ExplainsSince before ((told ++ listed (told_of May None o))
+    (c : Choice) (s t : Port) → AsksNow mark c s q seen t → Watches (ExplainsSince before told) o s.target
+    → Knows (ExplainsSince before ((told ++ listed (doubt_told o))
     ++ listed (told_unanswered (kind_of (doubted o).select q) (doubted o).tar place)))
     (unanswered (kind_of (doubted o).select q) (doubted o)) t.target
 lost_now before told o q seen place mark c s t h k =
     here (unsent (unanswered (kind_of (doubted o).select q) (doubted o)).sent _
     (unanswered_none (is_read_of (kind_of (doubted o).select q)) (doubted o) (doubted_is_sent_none o)))
-    (subst (λ z. Holds (ExplainsSince before ((told ++ listed (told_of May None o))
+    (subst (λ z. Holds (ExplainsSince before ((told ++ listed (doubt_told o))
     ++ listed (told_unanswered (kind_of (doubted o).select q) (doubted o).tar place)))
     (arrived_with z (unanswered (kind_of (doubted o).select q) (doubted o))) t.target)
     (sym (unanswered_none (is_read_of (kind_of (doubted o).select q)) (doubted o) (doubted_is_sent_none o)))
@@ -209,5 +210,10 @@ lost_now before told o q seen place mark c s t h k =
 pub lost_step : KnownAtLost
 lost_step before told o q seen place s t w k =
     let (a, b, mark, c, first, now, last) : Asks s q seen t = w.asks in
-    stays _ _ b t last (lost_now before told o q seen place mark c a b now
-    (stays (ExplainsSince before told) o s a first k))
+    record {
+      knows = stays _ _ b t last (lost_now before told o q seen place mark c a b now
+          (watches_stay (ExplainsSince before told) o s a first k));
+      flagged = λ e. absurd (let clash : false ≡ true =
+          sym (unanswered_refused (is_read_of (kind_of (doubted o).select q)) (doubted o)) ∙ e in
+          cc);
+    }

@@ -20,10 +20,9 @@ use Rattle.swd_port.specs.Moving.{Takes, Gives, Passes}
 use Rattle.swd_port.proofs.CompletionLaws.{kept}
 use Rattle.swd_port.proofs.RequestLaws.{told as told_reply}
 use Rattle.swd_observer.specs.declared.told.Told.{Told}
-use Rattle.swd_observer.specs.declared.told.How.TheVariants.{May}
 use Rattle.swd_observer.specs.declared.observer.Observer.{Observer}
 use Rattle.swd_observer.specs.declared.observer.Begun.{Begun}
-use Rattle.swd_observer.specs.Observing.{arrived, arrived_with, told_of, doubted, unknown, as_made, watch_end}
+use Rattle.swd_observer.specs.Observing.{arrived, arrived_with, doubt_told, doubted, unknown, as_made, watch_end}
 use Rattle.swd_observer.specs.Observing.{kind_of, is_read_of}
 use Rattle.swd_observer.specs.Explained.{ExplainsSince, listed}
 use Rattle.swd_observer.specs.Knows.{Flying, owed, gone, failed, Resting, Flight, Holds, Knows, here, spoiled}
@@ -31,7 +30,8 @@ use Rattle.swd_observer.specs.Transacts.{Transacts, Moves as Phase}
 use Rattle.swd_observer.specs.Runs.{Event, Moves, Lifts, Happens, Runs, seen, said, observer_after, told_after}
 use Rattle.swd_observer.specs.Runs.{KnowsPort}
 use Rattle.swd_observer.specs.Runs.{Accounted, RunsAreAccounted, MadeIsAccounted, AnyIsAccounted}
-use Rattle.swd_observer.proofs.KnownLemmas.{stays, unsent, still}
+use Rattle.swd_observer.proofs.FlagLemmas.{doubt_is, watches_stay}
+use Rattle.swd_observer.proofs.KnownLemmas.{unsent, still}
 use Rattle.swd_observer.proofs.RefusedLemmas.{seen_waits, seen_faults}
 use Rattle.swd_observer.proofs.LostLemmas.{same_self, unanswered_none}
 use Rattle.swd_observer.proofs.DoubtLemmas.{doubt_holds, doubted_is_sent_none}
@@ -119,16 +119,25 @@ line_led E false line waits e = waits e
 port_completes : (E : List Transfer → Type 0) (o : Observer) (s t : Port) → Completes s t → KnowsPort E o s
     → KnowsPort E o t
 port_completes E o s t done k = record {
-  knows = stays E o s t done k.knows;
+  knows = watches_stay E o s t done k.knows;
   waits = λ e. k.waits (ap (λ l. is_awaiting l.line) (sym (kept s t done).link) ∙ e);
 }
+
+or_led : (a b c : Bool) → (a || b) ≡ true → (a || (c || b)) ≡ true
+or_led true b c e = refl
+or_led false true true e = refl
+or_led false true false e = refl
+or_led false false c e = absurd (cc)
 
 port_led : (E : List Transfer → Type 0) (o : Observer) (ones : ℕ) (s : Port) → KnowsPort E o s
     → KnowsPort E o (after_lead ones s)
 port_led E o ones s k = record {
-  knows = led_by E o (if no (ones == 0) then Fresh else s.target.reset) (no (ones == 0))
-      (is_awaiting s.link.line) s.target
-      k.waits k.knows;
+  knows = record {
+    knows = led_by E o (if no (ones == 0) then Fresh else s.target.reset) (no (ones == 0)) (is_awaiting s.link.line)
+        s.target k.waits k.knows.knows;
+    flagged = λ e. or_led s.target.sticky_error s.target.write_error (no (ones == 0) && is_awaiting s.link.line)
+        (k.knows.flagged e);
+  };
   waits = line_led _ (no (ones == 0)) s.link.line k.waits;
 }
 
@@ -203,10 +212,11 @@ run before told o (e ∷ events) s t (m, h, rest) k =
 -- at the end
 accounted : (before : List Transfer) (told : List Told) (o : Observer) (t : Port)
     → KnowsPort (ExplainsSince before told) o t
-    → Accounted before (told ++ listed (told_of May None o)) t
+    → Accounted before (told ++ listed (doubt_told o)) t
 accounted before told o t k =
-    let h : Holds (ExplainsSince before (told ++ listed (told_of May None o))) (doubted o) t.target =
-    doubt_holds before told o t.target t.target (same_self t.target) k.knows in
+    let h : Holds (ExplainsSince before (told ++ listed (doubt_told o))) (doubted o) t.target =
+    doubt_holds before told o t.target t.target (same_self t.target) (doubt_is o t.target k.knows.flagged)
+    k.knows.knows in
     record { now = h.flight.now; later = h.flight.later }
 
 pub runs_accounted : RunsAreAccounted
@@ -218,27 +228,33 @@ none_yet log = record { more = []; is = sym (append-nil log); explains = refl }
 
 pub made_accounted : MadeIsAccounted
 made_accounted identification m events t r = runs_accounted m.log [] as_made events (made identification m) t (record {
-  knows = here tt (record {
-    select = refl;
-    increments = refl;
-    range = omega arith;
-    flight = record { now = none_yet m.log; later = λ c k. none_yet m.log; aimed = (refl, refl) };
-  });
+  knows = record {
+    flagged = λ e. absurd (cc);
+    knows = here tt (record {
+      select = refl;
+      increments = refl;
+      range = omega arith;
+      flight = record { now = none_yet m.log; later = λ c k. none_yet m.log; aimed = (refl, refl) };
+    });
+  };
   waits = λ e. absurd (cc);
 }) r
 
 pub any_accounted : AnyIsAccounted
 any_accounted events s t none idle r = runs_accounted s.target.memory.log [] unknown events s t (record {
-  knows = here tt (record {
-    select = tt;
-    increments = tt;
-    range = tt;
-    flight = record {
-      now = none_yet s.target.memory.log;
-      later = λ c k. still (λ y. ExplainsSince s.target.memory.log [] y.memory.log) c s.target none
-          (none_yet s.target.memory.log);
-      aimed = tt;
-    };
-  });
+  knows = record {
+    flagged = λ e. absurd (cc);
+    knows = here tt (record {
+      select = tt;
+      increments = tt;
+      range = tt;
+      flight = record {
+        now = none_yet s.target.memory.log;
+        later = λ c k. still (λ y. ExplainsSince s.target.memory.log [] y.memory.log) c s.target none
+            (none_yet s.target.memory.log);
+        aimed = tt;
+      };
+    });
+  };
   waits = λ e. absurd (let clash : true ≡ false = sym e ∙ idle in cc);
 }) r

@@ -42,6 +42,7 @@ use Rattle.swd_observer.specs.declared.observer.Written.TheVariants.{Drw as ToDr
 use Rattle.swd_observer.specs.Observing.{is_status_known, is_bank_0, is_select_sent, select_sent}
 use Rattle.swd_observer.specs.Transacts.{Moves}
 use Rattle.swd_observer.specs.Laws.{KnownAtStatus}
+use Rattle.swd_observer.proofs.FlagLemmas.{status_refused, flags_taken, flags_asked}
 use Rattle.swd_observer.proofs.AskLemmas.{Okayed, okayed}
 use Rattle.swd_observer.proofs.StepLemmas.{arrived_sends_none, taken_on, line_read, got_word}
 
@@ -342,5 +343,9 @@ status_step before told o q word ok s d t bits is (a, b, mark, c, first, now, la
 
 pub status_told : KnownAtStatus
 status_told before told o q word ok place s t is h k =
-    status_step before told o q word ok s h.asked t h.bits is h.asks h.range h.carries
-    (takes_of q.read h.asked h.bits t (status_is s.target.select q is).1 h.moves) k
+    let takes : Takes h.asked h.bits t = takes_of q.read h.asked h.bits t (status_is s.target.select q is).1 h.moves in
+    record {
+      knows = status_step before told o q word ok s h.asked t h.bits is h.asks h.range h.carries takes k.knows;
+      flagged = λ e. flags_taken h.asked t h.bits takes (flags_asked q 1 s h.asked h.asks (k.flagged
+          (sym (status_refused (ok && is_status_known o) (bit_of 5 word) (bit_of 7 word) o) ∙ e)));
+    }

@@ -10,13 +10,14 @@ use Rattle.swd_port.specs.declared.select.Select.{Select}
 use Rattle.swd_port.specs.Port.{is_mem_ap}
 use Rattle.swd_port.specs.Registers.{bit_of}
 use Rattle.swd_observer.specs.declared.told.Told.{Told}
+use Rattle.swd_observer.specs.declared.told.How.{How}
 use Rattle.swd_observer.specs.declared.told.How.TheVariants.{Took, May, Not}
 use Rattle.swd_observer.specs.declared.observer.Observer.{Observer}
 use Rattle.swd_observer.specs.declared.observer.Begun.{Begun}
 use Rattle.swd_observer.specs.declared.observer.Kind.TheVariants.{Other}
 use Rattle.swd_observer.specs.Observing.{Class, Passes, Aborts, Status, Confirms, class_of, arrived, confirmed}
 use Rattle.swd_observer.specs.Observing.{told_with}
-use Rattle.swd_observer.specs.Observing.{told_flagged, told_itself, kind_ap, kind_dp, kind_mem, tells_class}
+use Rattle.swd_observer.specs.Observing.{doubt_of, told_flagged, told_itself, kind_ap, kind_dp, kind_mem, tells_class}
 use Rattle.swd_observer.specs.Observing.{tells_end, is_status_known, nothing_told}
 use Rattle.swd_observer.specs.Explained.{listed}
 use Rattle.swd_observer.specs.Runs.{Moves, Lifts, seen, said}
@@ -38,8 +39,8 @@ not_sure : (got tar : Option ℕ) (b : Option Begun) → IsSure (told_with Not g
 not_sure got tar None = tt
 not_sure got tar (Some b) = λ e. cc
 
-none_sure : (got tar : Option ℕ) (b : Option Begun) → b ≡ None → IsSure (told_with May got tar b)
-none_sure got tar b e = subst (λ z. IsSure (told_with May got tar z)) (sym e) tt
+none_sure : (how : How) (got tar : Option ℕ) (b : Option Begun) → b ≡ None → IsSure (told_with how got tar b)
+none_sure how got tar b e = subst (λ z. IsSure (told_with how got tar z)) (sym e) tt
 
 flag_sure : (known sticky damaged : Bool) (o : Observer)
     → IsSure (if known then record { before = told_flagged sticky damaged o; itself = None } else nothing_told).before
@@ -84,7 +85,7 @@ class_sure : (c : Class) (q : Request) (word : ℕ) (ok : Bool) (place : ℕ) (o
     → IsSure (tells_class c q word ok place o).before × IsSure (tells_class c q word ok place o).itself
 class_sure Passes q word ok place o known calm = (tt, tt)
 class_sure Aborts q word ok place o known calm =
-    (none_sure None (arrived o).tar (arrived o).begun (calm refl), tt)
+    (none_sure (doubt_of o) None (arrived o).tar (arrived o).begun (calm refl), tt)
 class_sure Status q word ok place o known calm =
     flag_sure (ok && is_status_known o) (bit_of 5 word) (bit_of 7 word) o
 class_sure Confirms q word ok place o known calm = (

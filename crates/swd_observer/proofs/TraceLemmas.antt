@@ -1,6 +1,6 @@
 -- A trace tells what the run tells whose transactions it has.
-use Rattle.std.proofs.Common.{◌≡◌, ℕ, Bool, true, false, List, [], ◌∷◌, ◌++◌, refl, sym, ap, subst, ◌∙◌, append-nil}
-use Rattle.std.specs.Prelude.{not, ◌&&◌}
+use Rattle.std.proofs.Common.{◌≡◌, Bool, true, false, List, [], ◌∷◌, ◌++◌, refl, sym, ap, subst, ◌∙◌, append-nil}
+use Rattle.std.specs.Prelude.{◌&&◌}
 use Rattle.swd_trace.specs.declared.item.Item.{Item}
 use Rattle.swd_trace.specs.declared.item.Item.TheVariants.{Reset, Switch, Idle, Tx, Junk, Cut}
 use Rattle.swd_observer.specs.declared.told.Told.{Told}
@@ -8,8 +8,8 @@ use Rattle.swd_observer.specs.declared.trace.TraceObserver.{TraceObserver}
 use Rattle.swd_observer.specs.Observing.{as_made, last_told}
 use Rattle.swd_observer.specs.Explained.{and_told, listed}
 use Rattle.swd_observer.specs.Runs.{Event, Moves, Lifts, Accounted, told_after, observer_after}
-use Rattle.swd_observer.specs.Traces.{from_made, after_item, after_items, told_from, told_in, is_gap, is_whole}
-use Rattle.swd_observer.specs.Traces.{moves_in, moves_of, place_after, TraceIsAccounted}
+use Rattle.swd_observer.specs.Traces.{from_made, after_item, after_items, told_from, is_whole}
+use Rattle.swd_observer.specs.Traces.{moves_in, moves_of, TraceIsAccounted}
 use Rattle.swd_observer.proofs.ObservedLemmas.{made_accounted}
 
 -- ones and zeros tell nothing

@@ -8,26 +8,25 @@ use Rattle.swd_port.specs.declared.access.Transfer.{Transfer}
 use Rattle.swd_port.specs.Port.{Port, Target}
 use Rattle.swd_port.specs.Completion.{Completes}
 use Rattle.swd_observer.specs.declared.told.Told.{Told}
-use Rattle.swd_observer.specs.declared.told.How.TheVariants.{May}
 use Rattle.swd_observer.specs.declared.observer.Observer.{Observer}
 use Rattle.swd_observer.specs.Observing.{Passes, Aborts, Status, Confirms, class_of, watch_end, tells_end}
-use Rattle.swd_observer.specs.Observing.{confirming, told_of, doubted}
+use Rattle.swd_observer.specs.Observing.{confirming, doubt_told, doubted}
 use Rattle.swd_observer.specs.Observing.{tells_confirming, word_if, flagged, told_flagged, is_status_known}
 use Rattle.swd_port.specs.Registers.{bit_of}
 use Rattle.swd_observer.specs.Explained.{ExplainsSince, and_told, listed}
-use Rattle.swd_observer.specs.Knows.{Knows}
+use Rattle.swd_observer.specs.Knows.{Watches}
 use Rattle.swd_observer.specs.Transacts.{Transacts}
 
 -- what is known of a target, where what was told explains its log since then
 abbrev pub KnowsSince : List Transfer → List Told → Observer → Target → Type 0
-KnowsSince before told o x = Knows (ExplainsSince before told) o x
+KnowsSince before told o x = Watches (ExplainsSince before told) o x
 
 -- whenever a pending transfer takes effect, what is known stays so
 abbrev pub KnownStays : Type 0
 KnownStays = (before : List Transfer) (told : List Told) (o : Observer) (s t : Port) → Completes s t →
     KnowsSince before told o s.target → KnowsSince before told o t.target
 
--- WAIT tells nothing, and FAULT alone nothing
+-- WAIT shows nothing, and FAULT that what is in flight will not take place
 abbrev pub KnownAtWait : Type 0
 KnownAtWait = (before : List Transfer) (told : List Told) (o : Observer) (q : Request) (place : ℕ) (s t : Port) →
     Transacts Wait q s t → KnowsSince before told o s.target →
@@ -59,7 +58,7 @@ abbrev pub KnownAtAbort : Type 0
 KnownAtAbort = (before : List Transfer) (told : List Told) (o : Observer) (q : Request) (word : ℕ) (ok : Bool)
     (place : ℕ) (s t : Port) → class_of q ≡ Aborts → Transacts (Moved word ok) q s t →
     KnowsSince before told o s.target →
-    KnowsSince before (told ++ listed (told_of May None o)) (doubted o) t.target
+    KnowsSince before (told ++ listed (doubt_told o)) (doubted o) t.target
 
 -- No acknowledgement was seen: what was under way may have been, and so may this request, where it may be a DRW read.
 abbrev pub KnownAtLost : Type 0

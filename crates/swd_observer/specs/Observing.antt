@@ -30,11 +30,18 @@ use Rattle.swd_observer.specs.declared.observer.Kind.TheVariants.{Other, Reads, 
 
 -- nothing is known: a capture that begins anywhere
 abbrev pub unknown : Observer
-unknown = record { select = None; increments = None; tar = None; sent = None; begun = None }
+unknown = record { select = None; increments = None; tar = None; sent = None; begun = None; refused = false }
 
 -- a target that was just made
 abbrev pub as_made : Observer
-as_made = record { select = Some no_select; increments = Some false; tar = Some 0; sent = None; begun = None }
+as_made = record {
+  select = Some no_select;
+  increments = Some false;
+  tar = Some 0;
+  sent = None;
+  begun = None;
+  refused = false;
+}
 
 -- the registers once a write arrived: SELECT, AddrInc of CSW, TAR; a DRW write begins its transfer at TAR
 abbrev pub select_sent : Written → Option ℕ → Option Select → Option Select
@@ -77,6 +84,7 @@ arrived_with (Some s) o = record {
   tar = tar_sent s.written s.word o.tar;
   sent = None;
   begun = begun_sent s.written o.increments s.word s.place o.begun;
+  refused = o.refused;
 }
 
 abbrev pub arrived : Observer → Observer
@@ -95,7 +103,7 @@ tar_done (Some b) increments tar = advance increments tar
 
 -- the transfer that was begun is done
 abbrev pub done : Observer → Observer
-done o = record o { tar = tar_done o.begun o.increments o.tar; begun = None }
+done o = record o { tar = tar_done o.begun o.increments o.tar; begun = None; refused = false }
 
 -- OK to a request that isn't exempt: no flag is set, so that the write arrived, and the transfer was done
 abbrev pub confirmed : Observer → Observer
@@ -107,7 +115,7 @@ lost_tar None tar = tar
 lost_tar (Some b) tar = None
 
 abbrev pub undone : Observer → Observer
-undone o = record o { tar = lost_tar o.begun o.tar; begun = None }
+undone o = record o { tar = lost_tar o.begun o.tar; begun = None; refused = false }
 
 -- a write of which no word is known
 abbrev pub unsure_of : Sent → Sent
@@ -132,9 +140,16 @@ told_with how got tar (Some b) =
 abbrev pub told_of : How → Option ℕ → Observer → Option Told
 told_of how got o = told_with how got (arrived o).tar (arrived o).begun
 
--- at the end of a trace: the transfer in flight may take place, or not
+-- what is told of the transfer in flight where nothing will show it any more: FAULT showed that it did not take place
+abbrev pub doubt_of : Observer → How
+doubt_of o = if o.refused then Not else May
+
+abbrev pub doubt_told : Observer → Option Told
+doubt_told o = told_of (doubt_of o) None o
+
+-- and at the end of a trace
 abbrev pub last_told : Observer → Option Told
-last_told o = told_of May None o
+last_told o = doubt_told o
 
 -- CTRL/STAT is at the debug port's address 4: DPBANKSEL is 0, and no SELECT was sent that may change it
 abbrev pub is_to_select : Written → Bool
@@ -289,7 +304,7 @@ watch_class Confirms q word ok place o = confirming q (word_if ok word) place o
 
 abbrev pub tells_class : Class → Request → ℕ → Bool → ℕ → Observer → Tells
 tells_class Passes q word ok place o = nothing_told
-tells_class Aborts q word ok place o = record { before = told_of May None o; itself = None }
+tells_class Aborts q word ok place o = record { before = doubt_told o; itself = None }
 tells_class Status q word ok place o =
     if ok && is_status_known o then
     record { before = told_flagged (bit_of 5 word) (bit_of 7 word) o; itself = None }
@@ -300,7 +315,7 @@ tells_class Confirms q word ok place o = tells_confirming q (word_if ok word) pl
 abbrev pub watch_end : TxEnd → Request → ℕ → Observer → Observer
 watch_end (Moved word ok) q place o = watch_class (class_of q) q word ok place o
 watch_end Wait q place o = o
-watch_end Fault q place o = o
+watch_end Fault q place o = record o { refused = true }
 watch_end (NoAck seen) q place o = unanswered (kind_of (doubted o).select q) (doubted o)
 
 abbrev pub tells_end : TxEnd → Request → ℕ → Observer → Tells
@@ -308,7 +323,7 @@ tells_end (Moved word ok) q place o = tells_class (class_of q) q word ok place o
 tells_end Wait q place o = nothing_told
 tells_end Fault q place o = nothing_told
 tells_end (NoAck seen) q place o = record {
-  before = told_of May None o;
+  before = doubt_told o;
   itself = told_unanswered (kind_of (doubted o).select q) (doubted o).tar place;
 }
 
@@ -321,6 +336,6 @@ watch item place o = o
 
 abbrev pub tells : Item → ℕ → Observer → Tells
 tells (TxItem tx) place o = tells_end tx.result tx.request place o
-tells (Junk b) place o = record { before = told_of May None o; itself = None }
-tells (Cut bits) place o = record { before = told_of May None o; itself = None }
+tells (Junk b) place o = record { before = doubt_told o; itself = None }
+tells (Cut bits) place o = record { before = doubt_told o; itself = None }
 tells item place o = nothing_told

@@ -11,7 +11,7 @@ use Rattle.swd_observer.specs.declared.told.Told.{Told}
 use Rattle.swd_observer.specs.declared.observer.Observer.{Observer}
 use Rattle.swd_observer.specs.Observing.{watch_end, tells_end, last_told, unknown, as_made}
 use Rattle.swd_observer.specs.Explained.{ExplainsSince, and_told, listed}
-use Rattle.swd_observer.specs.Knows.{Knows}
+use Rattle.swd_observer.specs.Knows.{Watches}
 use Rattle.swd_observer.specs.Transacts.{Transacts}
 
 -- What goes over the wire: a whole transaction, before which so many bits stand, or ones and zeros.
@@ -47,7 +47,7 @@ told_after (e ∷ events) told o = told_after events (said e told o) (seen e o)
 
 -- an observer knows a port: where a write's data is awaited still, it waits for nothing
 pub record KnowsPort (E : List Transfer → Type 0) (o : Observer) (s : Port) : Type 0 where
-  pub knows : Knows E o s.target
+  pub knows : Watches E o s.target
   pub waits : is_awaiting s.link.line ≡ true → (o.sent ≡ None) × (o.begun ≡ None)
 
 -- what was told, and of the transfer under way that it may be, explains what was logged: now, and once nothing is

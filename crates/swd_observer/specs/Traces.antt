@@ -1,5 +1,5 @@
 -- What the items of a trace show, each at its place.
-use Rattle.std.specs.Prelude.{ℕ, ◌≡◌, ◌+◌, ◌-◌, ◌^◌, ◌&&◌, min, not, Bool, true, false, List, [], ◌∷◌, ◌++◌, map}
+use Rattle.std.specs.Prelude.{ℕ, ◌≡◌, ◌+◌, ◌-◌, ◌^◌, ◌&&◌, min, not, Bool, true, false, List, [], ◌∷◌, ◌++◌}
 use Rattle.std.specs.Prelude.{Option, Some, None, if◌then◌else◌}
 use Rattle.swd_bits.specs.declared.tx.TxEnd.{TxEnd}
 use Rattle.swd_bits.specs.declared.tx.TxEnd.TheVariants.{Moved, Wait, Fault, NoAck}
@@ -8,7 +8,6 @@ use Rattle.swd_trace.specs.declared.item.Item.TheVariants.{Reset, Switch, Idle, 
 use Rattle.swd_port.specs.PlainMemory.{PlainMemory}
 use Rattle.swd_port.specs.Port.{Port, made}
 use Rattle.swd_observer.specs.declared.told.Told.{Told}
-use Rattle.swd_observer.specs.declared.observer.Tells.{Tells}
 use Rattle.swd_observer.specs.declared.trace.TraceObserver.{TraceObserver}
 use Rattle.swd_observer.specs.declared.trace.Shown.{Shown}
 use Rattle.swd_observer.specs.Observing.{watch, tells, unknown, as_made, last_told}

@@ -10,7 +10,7 @@ pub fn completion()
     ensures { KnownStays }
 {}
 
-/// WAIT, and FAULT alone, show nothing.
+/// WAIT shows nothing, and FAULT that what is in flight did not take place.
 pub fn refusals()
     ensures wait { KnownAtWait }
     ensures fault { KnownAtFault }

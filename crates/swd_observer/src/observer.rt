@@ -1,7 +1,7 @@
 //! What the transactions of a wire show of the target behind it.
 ghost use Rattle.std.specs.Prelude.{◌≡◌, ◌&&◌, not, Some, None, if◌then◌else◌};
 ghost use Rattle.swd_observer.specs.Observing.{unknown, as_made, arrived, advance, confirmed, doubted, undone};
-ghost use Rattle.swd_observer.specs.Observing.{told_of, last_told, flagged, is_status_known, steps_of, whole_word};
+ghost use Rattle.swd_observer.specs.Observing.{told_of, doubt_told, last_told, flagged, is_status_known, steps_of, whole_word};
 ghost use Rattle.swd_observer.specs.Observing.{kind_of, accepted, told_itself, is_posted_read, confirming, may_have};
 ghost use Rattle.swd_observer.specs.Observing.{tells_confirming, watch, tells, watch_end, tells_end, is_read_of, done};
 
@@ -45,8 +45,8 @@ pub struct Begun {
 ///
 /// OK to a request that can be refused says that no sticky flag is set and nothing is pending (IHI 0031, B4, "FAULT
 /// response to read or write operation request"): so the write before it arrived, and the transfer in flight took
-/// place. An access is therefore told one request late. FAULT alone and WAIT show nothing; CTRL/STAT with a flag set
-/// shows that it did not take place.
+/// place. An access is therefore told one request late. WAIT shows nothing; FAULT, and CTRL/STAT with a flag set, show
+/// that it did not take place.
 ///
 /// It claims nothing that the wire doesn't show. Unknown are: TAR across a boundary of 1 KB; after a lost
 /// acknowledgement, after ABORT over a transfer in flight and after bits that belong to nothing all that these may have
@@ -61,6 +61,9 @@ pub struct Observer {
     pub tar: Option<u32>,
     pub sent: Option<Sent>,
     pub begun: Option<Begun>,
+    /// Whether FAULT was answered since the last OK to a request that can be refused: a sticky flag is set, so what is in
+    /// flight did not take place.
+    pub refused: bool,
 }
 
 /// What an item shows: of the access that was in flight before it, and then of its own request.
@@ -99,6 +102,7 @@ impl Observer {
             tar: None,
             sent: None,
             begun: None,
+            refused: false,
         }
     }
 
@@ -112,6 +116,7 @@ impl Observer {
             tar: Some(0),
             sent: None,
             begun: None,
+            refused: false,
         }
     }
 
@@ -155,6 +160,7 @@ impl Observer {
     {
         let mut now = self;
         now.begun = None;
+        now.refused = false;
         if self.begun.is_some() {
             now.tar = advance(self.increments, self.tar);
         }
@@ -167,6 +173,7 @@ impl Observer {
     {
         let mut lost = self;
         lost.begun = None;
+        lost.refused = false;
         if self.begun.is_some() {
             lost.tar = None;
         }
@@ -206,6 +213,13 @@ impl Observer {
             word: if begun.read { got } else { begun.word },
             how,
         })
+    }
+
+    // What is told of the access in flight where nothing will show it any more.
+    fn doubt(self) -> Option<Told>
+        ensures { result ≡ doubt_told self }
+    {
+        self.told(if self.refused { How::Not } else { How::May }, None)
     }
 
     // The debug port's address 4 is known to be CTRL/STAT: DPBANKSEL is 0, and no SELECT was sent that may change it.
@@ -295,7 +309,7 @@ impl Observer {
             TxEnd::Moved { word, parity_ok } => match (request.ap, request.read, request.addr) {
                 (false, true, Reg4::R0) => NOTHING,
                 (false, false, Reg4::R0) => {
-                    let before = self.told(How::May, None);
+                    let before = self.doubt();
                     *self = self.doubted();
                     Tells {
                         before,
@@ -321,9 +335,13 @@ impl Observer {
                 }
                 _ => self.confirm(request, if parity_ok { Some(word) } else { None }, place),
             },
-            TxEnd::Wait | TxEnd::Fault => NOTHING,
+            TxEnd::Wait => NOTHING,
+            TxEnd::Fault => {
+                self.refused = true;
+                NOTHING
+            }
             TxEnd::NoAck(_) => {
-                let before = self.told(How::May, None);
+                let before = self.doubt();
                 let mut now = self.doubted();
                 let mut itself = None;
                 if is_read(kind_of(now.select, request)) {
@@ -345,7 +363,7 @@ impl Observer {
         match *item {
             Item::Tx(tx) => self.watch_tx(tx, place),
             Item::Junk(_) | Item::Cut(_) => {
-                let before = self.told(How::May, None);
+                let before = self.doubt();
                 *self = Observer::new();
                 Tells {
                     before,
@@ -360,7 +378,7 @@ impl Observer {
     pub fn last(&self) -> Option<Told>
         ensures { result ≡ last_told self.now }
     {
-        self.told(How::May, None)
+        self.doubt()
     }
 }
 

@@ -12,7 +12,7 @@ struct Row {
     told: &'static [u8],
 }
 
-const ROWS: [Row; 30] = [
+const ROWS: [Row; 32] = [
     Row {
         name: "a write is told at the next request's OK",
         made: true,
@@ -133,6 +133,19 @@ const ROWS: [Row; 30] = [
         made: true,
         listing: b"ap c write ok 00000001\ndp 0 write ok 0000001e\ndp c read ok 00000000\n",
         told: b"@0 w 00000000 00000001 may\n",
+    },
+    Row {
+        name: "FAULT before ABORT: it did not take place",
+        made: true,
+        listing: b"ap c write ok 00000001\ndp c read fault\ndp 0 write ok 0000001e\n\
+            ap c write ok 00000002\ndp c read ok 00000000\n",
+        told: b"@0 w 00000000 00000001 not\n@105 w ???????? 00000002\n",
+    },
+    Row {
+        name: "FAULT at the end, whatever follows of WAIT and DPIDR",
+        made: true,
+        listing: b"ap c read ok 00000000\ndp c read fault\ndp 0 read ok 2ba01477\ndp c read wait\n",
+        told: b"@0 r 00000000 ???????? not\n",
     },
     Row {
         name: "a register that was written before ABORT",
