@@ -1,5 +1,6 @@
 -- OK to a request that isn't exempt, whatever is known of SELECT.
-use Rattle.std.proofs.Common.{◌≡◌, ◌<◌, ◌^◌, ℕ, Bool, true, false, List, [], ◌++◌, refl, sym, ap, subst, inl, inr}
+use Rattle.std.proofs.Common.{◌≡◌, ◌<◌, ◌^◌, ℕ, Bool, true, false, List, [], ◌∷◌, ◌++◌, refl, sym, ap, subst, inl}
+use Rattle.std.proofs.Common.{inr}
 use Rattle.std.proofs.Common.{◌∙◌, append-nil}
 use Rattle.std.specs.Prelude.{Option, Some, None, IfSome, ◌||◌, if◌then◌else◌}
 use Rattle.swd_bits.specs.declared.request.Request.{Request}
@@ -21,12 +22,13 @@ use Rattle.swd_port.specs.Moves.{Got}
 use Rattle.swd_port.proofs.CompletionLaws.{kept, none_done}
 use Rattle.swd_port.proofs.MovingLaws.{data_taken}
 use Rattle.swd_observer.specs.declared.told.Told.{Told}
-use Rattle.swd_observer.specs.declared.told.How.TheVariants.{Took}
+use Rattle.swd_observer.specs.declared.told.How.TheVariants.{Took, May}
 use Rattle.swd_observer.specs.declared.observer.Observer.{Observer}
 use Rattle.swd_observer.specs.declared.observer.Written.{Written}
 use Rattle.swd_observer.specs.declared.observer.Written.TheVariants.{Drw as ToDrw}
 use Rattle.swd_observer.specs.declared.observer.Kind.{Kind}
-use Rattle.swd_observer.specs.declared.observer.Kind.TheVariants.{Other, Reads, Writes, MayRead, MayWrite}
+use Rattle.swd_observer.specs.declared.observer.Kind.TheVariants.{Other, Elsewhere, Reads, Writes, MayRead}
+use Rattle.swd_observer.specs.declared.observer.Kind.TheVariants.{MayWrite}
 use Rattle.swd_observer.specs.Observing.{arrived_with, confirmed, told_of, word_if, accepted, is_posted_read}
 use Rattle.swd_observer.specs.Observing.{class_of, Confirms, kind_of, whole_word}
 use Rattle.swd_observer.specs.Explained.{ExplainsSince, listed}
@@ -34,6 +36,7 @@ use Rattle.swd_observer.specs.Knows.{Holds, Knows, here}
 use Rattle.swd_observer.specs.Observing.{told_itself}
 use Rattle.swd_observer.specs.Laws.{KnownAtOkay}
 use Rattle.swd_observer.specs.Transacts.{Moves}
+use Rattle.swd_observer.proofs.ExplainLemmas.{may_not}
 use Rattle.swd_observer.proofs.FlagLemmas.{accepted_refused}
 use Rattle.swd_observer.proofs.KnownLemmas.{stays}
 use Rattle.swd_observer.proofs.AskLemmas.{Okayed, okayed, plain, KindFits, kind_fits, register_for, posted}
@@ -71,6 +74,18 @@ untold before told o x k = subst (λ l. Knows (ExplainsSince before l) o x) (sym
 held : (E : List Transfer → Type 0) (o : Observer) (x : Target) → o.sent ≡ None → Holds E o x → Knows E o x
 held E o x sent h = here (unsent o.sent _ sent) (subst (λ s. Holds E (arrived_with s o) x) (sym sent) h)
 
+-- one more that may have been, and wasn't
+settled_more : (before : List Transfer) (told : List Told) (t : Told) (o : Observer) (x : Target) → t.how ≡ May
+    → Settled (ExplainsSince before told) o x → Settled (ExplainsSince before (told ++ t ∷ [])) o x
+settled_more before told t o x how h = record {
+  select = h.select;
+  increments = h.increments;
+  range = h.range;
+  aimed = h.aimed;
+  now = may_not before told t x.memory.log how h.now;
+  none = h.none;
+}
+
 -- a read that was answered OK
 read_leaves : (before : List Transfer) (told : List Told) (o : Observer) (x : Target) (busy : Bool) (r : Register)
     (k : Kind)
@@ -79,6 +94,10 @@ read_leaves : (before : List Transfer) (told : List Told) (o : Observer) (x : Ta
     → Settled (ExplainsSince before told) o x → After before told o k word place (after_okay busy r x)
 read_leaves before told o x busy r Other word place reads fits sent rest quiet intact power h =
     untold before told o (after_okay busy r x) (settled_knows _ o (after_okay busy r x) sent rest
+    (settled_same _ o x (after_okay busy r x) (same_okay busy r x fits) h))
+read_leaves before told o x busy r (Elsewhere e) word place reads fits sent rest quiet intact power h =
+    settled_knows _ o (after_okay busy r x) sent rest (settled_more before told
+    (record { place = place; read = e; addr = None; word = None; how = May }) o (after_okay busy r x) refl
     (settled_same _ o x (after_okay busy r x) (same_okay busy r x fits) h))
 read_leaves before told o x busy r Reads word place reads fits sent rest quiet intact power h =
     untold before told (accepted Reads word place o) (after_okay busy r x)
@@ -101,6 +120,11 @@ write_leaves before told o y r Other ok word place found other writes fits sent 
     untold before told o (after_bits (arrival_of r found) y) (settled_knows _ o (after_bits
     (arrival_of r found) y) sent rest
     (settled_same _ o y (after_bits (arrival_of r found) y) (same_bits r found y fits) h))
+write_leaves before told o y r (Elsewhere e) ok word place found other writes fits sent rest quiet intact power small
+    is h =
+    settled_knows _ o (after_bits (arrival_of r found) y) sent rest (settled_more before told
+    (record { place = place; read = e; addr = None; word = None; how = May }) o (after_bits (arrival_of r found) y) refl
+    (settled_same _ o y (after_bits (arrival_of r found) y) (same_bits r found y fits) h))
 write_leaves before told o y r (Writes w) ok word place found other writes fits sent rest quiet intact power small is
     h =
     untold before told (accepted (Writes w) (word_if ok word) place o) (after_bits (arrival_of r found) y)
@@ -121,6 +145,7 @@ write_leaves before told o y r (MayWrite w) ok word place found other writes fit
 write_same : (k : Kind) (r : Register) (busy : Bool) (x : Target) → is_reading k ≡ false
     → KindFits k r → Same x (after_okay busy r x)
 write_same Other r busy x writes fits = same_okay busy r x fits
+write_same (Elsewhere e) r busy x writes fits = same_okay busy r x fits
 write_same (Writes w) r busy x writes fits =
     subst (λ z. Same x (after_okay busy z x)) (sym fits) (same_write busy w x)
 write_same Reads r busy x writes fits = absurd (cc)

@@ -25,9 +25,10 @@ use Rattle.swd_observer.specs.declared.observer.Written.{Written}
 use Rattle.swd_observer.specs.declared.observer.Written.TheVariants.{Select as ToSelect, Csw as ToCsw, Tar as ToTar}
 use Rattle.swd_observer.specs.declared.observer.Written.TheVariants.{Drw as ToDrw}
 use Rattle.swd_observer.specs.declared.observer.Kind.{Kind}
-use Rattle.swd_observer.specs.declared.observer.Kind.TheVariants.{Other, Reads, Writes, MayRead, MayWrite}
+use Rattle.swd_observer.specs.declared.observer.Kind.TheVariants.{Other, Elsewhere, Reads, Writes, MayRead}
+use Rattle.swd_observer.specs.declared.observer.Kind.TheVariants.{MayWrite}
 use Rattle.swd_observer.specs.Observing.{Confirms, class_dp, class_of, kind_dp, kind_mem}
-use Rattle.swd_observer.specs.Observing.{maybe, kind_ap, kind_of, is_posted_read, is_rc}
+use Rattle.swd_observer.specs.Observing.{maybe, kind_ap, kind_of, is_data, is_posted_read, is_rc}
 
 seen_okay : (mark : Mark) (reply : Reply) → Sees mark reply 1 → reply ≡ Okay
 seen_okay Deaf reply h = absurd (let e : true ≡ false = h.not_okay in cc)
@@ -148,6 +149,7 @@ register_for ToDrw = DrwWrite
 
 abbrev pub KindFits : Kind → Register → Type 0
 KindFits Other r = is_harmless r ≡ true
+KindFits (Elsewhere read) r = is_harmless r ≡ true
 KindFits Reads r = r ≡ DrwRead
 KindFits (Writes w) r = r ≡ register_for w
 KindFits MayRead r = (r ≡ DrwRead) ⊎ (is_harmless r ≡ true)
@@ -181,6 +183,7 @@ harmless_no false = refl
 
 maybe_fits : (k : Kind) (r : Register) → KindFits k r → KindFits (maybe k) r
 maybe_fits Other r h = h
+maybe_fits (Elsewhere read) r h = h
 maybe_fits Reads r h = inl h
 maybe_fits (Writes w) r h = inl h
 maybe_fits MayRead r h = h
@@ -188,6 +191,7 @@ maybe_fits (MayWrite w) r h = h
 
 maybe_harmless : (k : Kind) (r : Register) → is_harmless r ≡ true → KindFits (maybe k) r
 maybe_harmless Other r h = h
+maybe_harmless (Elsewhere read) r h = h
 maybe_harmless Reads r h = inr h
 maybe_harmless (Writes w) r h = inr h
 maybe_harmless MayRead r h = inr h
@@ -198,17 +202,19 @@ fits_none : (m read : Bool) (addr : Reg4)
 fits_none true read addr = maybe_fits (kind_mem read addr) (mem_ap_register read addr) (fits_mem read addr)
 fits_none false read addr = maybe_harmless (kind_mem read addr) (no_ap_register read) (harmless_no read)
 
-fits_some : (m read : Bool) (addr : Reg4) → KindFits (if m then kind_mem read addr else Other)
+fits_some : (m d read : Bool) (addr : Reg4)
+    → KindFits (if m then kind_mem read addr else if d then Elsewhere read else Other)
     (if m then mem_ap_register read addr else no_ap_register read)
-fits_some true read addr = fits_mem read addr
-fits_some false read addr = harmless_no read
+fits_some true d read addr = fits_mem read addr
+fits_some false true read addr = harmless_no read
+fits_some false false read addr = harmless_no read
 
 fits_ap : (known : Option Select) (s : Select) (read : Bool) (addr : Reg4) → IfSome known (λ v. s ≡ v)
     → KindFits (kind_ap known read addr) (ap_register s read addr)
 fits_ap None s read addr h = fits_none (is_mem_ap s) read addr
 fits_ap (Some v) s read addr h =
     subst (λ z. KindFits (kind_ap (Some v) read addr) (ap_register z read addr)) (sym h) (fits_some
-    (is_mem_ap v) read addr)
+    (is_mem_ap v) (is_data v addr) read addr)
 
 fits_by : (ap : Bool) (known : Option Select) (s : Select) (read : Bool) (addr : Reg4) → IfSome known (λ v. s ≡ v)
     → KindFits (if ap then kind_ap known read addr else kind_dp read addr)
@@ -256,12 +262,14 @@ is_reading Reads = true
 is_reading MayRead = true
 is_reading k = false
 
-read_if : (m : Bool) (addr : Reg4) → is_writing (if m then kind_mem true addr else Other) ≡ false
-read_if true R0 = refl
-read_if true R4 = refl
-read_if true R8 = refl
-read_if true RC = refl
-read_if false addr = refl
+read_if : (m d : Bool) (addr : Reg4)
+    → is_writing (if m then kind_mem true addr else if d then Elsewhere true else Other) ≡ false
+read_if true d R0 = refl
+read_if true d R4 = refl
+read_if true d R8 = refl
+read_if true d RC = refl
+read_if false true addr = refl
+read_if false false addr = refl
 
 read_none : (addr : Reg4) → is_writing (maybe (kind_mem true addr)) ≡ false
 read_none R0 = refl
@@ -278,19 +286,21 @@ read_dp RC = refl
 reads_by : (ap : Bool) (known : Option Select) (read : Bool) (addr : Reg4) → read ≡ true
     → is_writing (if ap then kind_ap known read addr else kind_dp read addr) ≡ false
 reads_by true None true addr e = read_none addr
-reads_by true (Some s) true addr e = read_if (is_mem_ap s) addr
+reads_by true (Some s) true addr e = read_if (is_mem_ap s) (is_data s addr) addr
 reads_by false known true addr e = read_dp addr
 reads_by ap known false addr e = absurd (cc)
 
 pub read_writes_not : (known : Option Select) (q : Request) → q.read ≡ true → is_writing (kind_of known q) ≡ false
 read_writes_not known q e = reads_by q.ap known q.read q.addr e
 
-write_if : (m : Bool) (addr : Reg4) → is_reading (if m then kind_mem false addr else Other) ≡ false
-write_if true R0 = refl
-write_if true R4 = refl
-write_if true R8 = refl
-write_if true RC = refl
-write_if false addr = refl
+write_if : (m d : Bool) (addr : Reg4)
+    → is_reading (if m then kind_mem false addr else if d then Elsewhere false else Other) ≡ false
+write_if true d R0 = refl
+write_if true d R4 = refl
+write_if true d R8 = refl
+write_if true d RC = refl
+write_if false true addr = refl
+write_if false false addr = refl
 
 write_none : (addr : Reg4) → is_reading (maybe (kind_mem false addr)) ≡ false
 write_none R0 = refl
@@ -307,7 +317,7 @@ write_dp RC = refl
 writes_by : (ap : Bool) (known : Option Select) (read : Bool) (addr : Reg4) → read ≡ false
     → is_reading (if ap then kind_ap known read addr else kind_dp read addr) ≡ false
 writes_by true None false addr e = write_none addr
-writes_by true (Some s) false addr e = write_if (is_mem_ap s) addr
+writes_by true (Some s) false addr e = write_if (is_mem_ap s) (is_data s addr) addr
 writes_by false known false addr e = write_dp addr
 writes_by ap known true addr e = absurd (cc)
 

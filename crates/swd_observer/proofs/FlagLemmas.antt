@@ -20,7 +20,8 @@ use Rattle.swd_observer.specs.declared.told.How.TheVariants.{May, Not}
 use Rattle.swd_observer.specs.declared.observer.Observer.{Observer}
 use Rattle.swd_observer.specs.declared.observer.Sent.{Sent}
 use Rattle.swd_observer.specs.declared.observer.Kind.{Kind}
-use Rattle.swd_observer.specs.declared.observer.Kind.TheVariants.{Other, Reads, Writes, MayRead, MayWrite}
+use Rattle.swd_observer.specs.declared.observer.Kind.TheVariants.{Other, Elsewhere, Reads, Writes, MayRead}
+use Rattle.swd_observer.specs.declared.observer.Kind.TheVariants.{MayWrite}
 use Rattle.swd_observer.specs.Observing.{doubt_of, arrived_with, accepted, flagged, kept_at}
 use Rattle.swd_observer.specs.Knows.{Calm, Holds, Knows, here, spoiled, IsFlagged, Watches}
 use Rattle.swd_observer.specs.Laws.{KnownAtWait, KnownAtFault}
@@ -138,6 +139,7 @@ flagged_refused false false o = arrived_refused o.sent o
 pub accepted_refused : (k : Kind) (word : Option ℕ) (place : ℕ) (o : Observer)
     → (accepted k word place o).refused ≡ o.refused
 accepted_refused Other word place o = refl
+accepted_refused (Elsewhere read) word place o = refl
 accepted_refused Reads word place o = refl
 accepted_refused (Writes w) word place o = refl
 accepted_refused MayRead word place o = refl

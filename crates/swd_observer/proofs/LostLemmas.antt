@@ -23,7 +23,8 @@ use Rattle.swd_observer.specs.declared.observer.Written.{Written}
 use Rattle.swd_observer.specs.declared.observer.Written.TheVariants.{Select as ToSelect, Csw as ToCsw, Tar as ToTar}
 use Rattle.swd_observer.specs.declared.observer.Written.TheVariants.{Drw as ToDrw}
 use Rattle.swd_observer.specs.declared.observer.Kind.{Kind}
-use Rattle.swd_observer.specs.declared.observer.Kind.TheVariants.{Other, Reads, Writes, MayRead, MayWrite}
+use Rattle.swd_observer.specs.declared.observer.Kind.TheVariants.{Other, Elsewhere, Reads, Writes, MayRead}
+use Rattle.swd_observer.specs.declared.observer.Kind.TheVariants.{MayWrite}
 use Rattle.swd_observer.specs.Observing.{doubt_told, doubted, arrived_with, kind_of, is_read_of, unanswered}
 use Rattle.swd_observer.specs.Observing.{told_unanswered}
 use Rattle.swd_observer.specs.Observing.{may_have}
@@ -109,6 +110,7 @@ writes_not ToDrw e = cc
 
 reads_drw : (k : Kind) (r : Register) → r ≡ DrwRead → KindFits k r → is_read_of k ≡ true
 reads_drw Other r e h = absurd (let clash : false ≡ true = sym (ap is_harmless e) ∙ h in cc)
+reads_drw (Elsewhere read) r e h = absurd (let clash : false ≡ true = sym (ap is_harmless e) ∙ h in cc)
 reads_drw Reads r e h = refl
 reads_drw (Writes w) r e h = absurd (writes_not w (sym e ∙ h))
 reads_drw MayRead r e h = refl

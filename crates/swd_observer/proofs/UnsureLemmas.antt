@@ -23,8 +23,9 @@ use Rattle.swd_observer.specs.declared.observer.Written.{Written}
 use Rattle.swd_observer.specs.declared.observer.Written.TheVariants.{Select as ToSelect, Csw as ToCsw, Tar as ToTar}
 use Rattle.swd_observer.specs.declared.observer.Written.TheVariants.{Drw as ToDrw}
 use Rattle.swd_observer.specs.declared.observer.Kind.{Kind}
-use Rattle.swd_observer.specs.declared.observer.Kind.TheVariants.{Other, MayRead, MayWrite}
-use Rattle.swd_observer.specs.Observing.{kind_dp, kind_mem, maybe, kind_ap, kind_of, accepted, told_itself}
+use Rattle.swd_observer.specs.declared.observer.Kind.TheVariants.{Other, Elsewhere, MayRead, MayWrite}
+use Rattle.swd_observer.specs.Observing.{kind_dp, kind_mem, maybe, kind_ap, kind_of, is_data, accepted}
+use Rattle.swd_observer.specs.Observing.{told_itself}
 use Rattle.swd_observer.specs.Explained.{ExplainsSince, listed}
 use Rattle.swd_observer.specs.Knows.{Resting, Flight, Holds}
 use Rattle.swd_observer.proofs.ExplainLemmas.{may_took, may_not}
@@ -38,16 +39,18 @@ abbrev pub may_select : Kind → Bool
 may_select (MayWrite ToSelect) = true
 may_select k = false
 
-none_if : (m read : Bool) (addr : Reg4) → may_select (if m then kind_mem read addr else Other) ≡ false
-none_if true true R0 = refl
-none_if true true R4 = refl
-none_if true true R8 = refl
-none_if true true RC = refl
-none_if true false R0 = refl
-none_if true false R4 = refl
-none_if true false R8 = refl
-none_if true false RC = refl
-none_if false read addr = refl
+none_if : (m d read : Bool) (addr : Reg4)
+    → may_select (if m then kind_mem read addr else if d then Elsewhere read else Other) ≡ false
+none_if true d true R0 = refl
+none_if true d true R4 = refl
+none_if true d true R8 = refl
+none_if true d true RC = refl
+none_if true d false R0 = refl
+none_if true d false R4 = refl
+none_if true d false R8 = refl
+none_if true d false RC = refl
+none_if false true read addr = refl
+none_if false false read addr = refl
 
 none_maybe : (read : Bool) (addr : Reg4) → may_select (maybe (kind_mem read addr)) ≡ false
 none_maybe true R0 = refl
@@ -72,7 +75,7 @@ none_dp false RC = refl
 none_by : (ap : Bool) (known : Option Select) (read : Bool) (addr : Reg4)
     → may_select (if ap then kind_ap known read addr else kind_dp read addr) ≡ false
 none_by true None read addr = none_maybe read addr
-none_by true (Some s) read addr = none_if (is_mem_ap s) read addr
+none_by true (Some s) read addr = none_if (is_mem_ap s) (is_data s addr) read addr
 none_by false known read addr = none_dp read addr
 
 pub select_is_sure : (known : Option Select) (q : Request) → may_select (kind_of known q) ≡ false

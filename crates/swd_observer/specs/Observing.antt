@@ -26,7 +26,8 @@ use Rattle.swd_observer.specs.declared.observer.Written.{Written}
 use Rattle.swd_observer.specs.declared.observer.Written.TheVariants.{Select as ToSelect, Csw as ToCsw, Tar as ToTar}
 use Rattle.swd_observer.specs.declared.observer.Written.TheVariants.{Drw as ToDrw}
 use Rattle.swd_observer.specs.declared.observer.Kind.{Kind}
-use Rattle.swd_observer.specs.declared.observer.Kind.TheVariants.{Other, Reads, Writes, MayRead, MayWrite}
+use Rattle.swd_observer.specs.declared.observer.Kind.TheVariants.{Other, Elsewhere, Reads, Writes, MayRead}
+use Rattle.swd_observer.specs.declared.observer.Kind.TheVariants.{MayWrite}
 
 -- nothing is known: a capture that begins anywhere
 abbrev pub unknown : Observer
@@ -200,6 +201,18 @@ kind_mem false R4 = Writes ToTar
 kind_mem false R8 = Other
 kind_mem false RC = Writes ToDrw
 
+abbrev pub is_rc : Reg4 → Bool
+is_rc RC = true
+is_rc addr = false
+
+-- a data register of another access port, or a banked one (IHI 0031, MEM-AP, "BD0-BD3, Banked Data registers"): what
+-- stands there is no register of the port machine, and on a chip it may be any access
+abbrev pub is_data : Select → Reg4 → Bool
+is_data s addr = (s.apbanksel == 1) || ((s.apbanksel == 0) && is_rc addr)
+
+abbrev pub kind_elsewhere : Select → Bool → Reg4 → Kind
+kind_elsewhere s read addr = if is_data s addr then Elsewhere read else Other
+
 abbrev pub maybe : Kind → Kind
 maybe Reads = MayRead
 maybe (Writes w) = MayWrite w
@@ -207,7 +220,7 @@ maybe k = k
 
 abbrev pub kind_ap : Option Select → Bool → Reg4 → Kind
 kind_ap None read addr = maybe (kind_mem read addr)
-kind_ap (Some s) read addr = if is_mem_ap s then kind_mem read addr else Other
+kind_ap (Some s) read addr = if is_mem_ap s then kind_mem read addr else kind_elsewhere s read addr
 
 abbrev pub kind_of : Option Select → Request → Kind
 kind_of select q = if q.ap then kind_ap select q.read q.addr else kind_dp q.read q.addr
@@ -227,6 +240,7 @@ abbrev pub accepted : Kind → Option ℕ → ℕ → Observer → Observer
 accepted Other word place o = o
 accepted Reads word place o = record o { begun = Some (record { read = true; word = None; place = place }) }
 accepted (Writes w) word place o = record o { sent = Some (record { written = w; word = word; place = place }) }
+accepted (Elsewhere read) word place o = o
 accepted MayRead word place o = record o { tar = None }
 accepted (MayWrite w) word place o =
     record o { increments = increments_maybe w o.increments; tar = tar_maybe w o.tar }
@@ -237,6 +251,7 @@ may_have read tar word place =
     Some (record { place = place; read = read; addr = tar; word = word; how = May })
 
 abbrev pub told_itself : Kind → Option ℕ → Option ℕ → ℕ → Option Told
+told_itself (Elsewhere read) word tar place = may_have read None None place
 told_itself MayRead word tar place = may_have true tar None place
 told_itself (MayWrite ToDrw) word tar place = may_have false tar word place
 told_itself k word tar place = None
@@ -254,10 +269,6 @@ abbrev pub told_unanswered : Kind → Option ℕ → ℕ → Option Told
 told_unanswered k tar place = if is_read_of k then may_have true tar None place else None
 
 -- AP reads and RDBUFF give the read buffer
-abbrev pub is_rc : Reg4 → Bool
-is_rc RC = true
-is_rc addr = false
-
 abbrev pub is_posted_read : Request → Bool
 is_posted_read q = q.read && (q.ap || is_rc q.addr)
 

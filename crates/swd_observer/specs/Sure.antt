@@ -7,18 +7,24 @@ use Rattle.swd_port.specs.declared.select.Select.{Select}
 use Rattle.swd_observer.specs.declared.told.Told.{Told}
 use Rattle.swd_observer.specs.declared.told.How.TheVariants.{May}
 use Rattle.swd_observer.specs.declared.observer.Observer.{Observer}
-use Rattle.swd_observer.specs.Observing.{Aborts, class_of, arrived, confirmed}
+use Rattle.swd_observer.specs.declared.observer.Kind.{Kind}
+use Rattle.swd_observer.specs.declared.observer.Kind.TheVariants.{Elsewhere}
+use Rattle.swd_observer.specs.Observing.{Aborts, class_of, kind_of, arrived, confirmed}
 use Rattle.swd_observer.specs.Runs.{Event, Moves, Lifts, seen, told_after}
 
 abbrev pub is_known : Option Select → Bool
 is_known None = false
 is_known (Some s) = true
 
--- the transaction was acknowledged, SELECT is known once it is confirmed, and ABORT is written only where no
--- transfer is
--- under way
+abbrev pub is_elsewhere : Kind → Bool
+is_elsewhere (Elsewhere read) = true
+is_elsewhere k = false
+
+-- the transaction was acknowledged, SELECT is known once it is confirmed, ABORT is written only where no transfer is in
+-- flight, and the data registers are those of AP 0
 abbrev pub IsClear : TxEnd → Request → Observer → Type 0
 IsClear (Moved word ok) q o = (is_known (confirmed o).select ≡ true) × (class_of q ≡ Aborts → (arrived o).begun ≡ None)
+    × (is_elsewhere (kind_of (confirmed o).select q) ≡ false)
 IsClear Wait q o = Unit {0}
 IsClear Fault q o = Unit {0}
 IsClear (NoAck seen) q o = ⊥

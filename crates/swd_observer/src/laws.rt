@@ -40,8 +40,8 @@ pub fn transactions()
 {}
 
 /// Whole runs: what is told is what the memory logged, in its order, where an access that is told as `May` was logged
-/// once or not at all. None is told so where every transaction was acknowledged, SELECT is known, and ABORT is written
-/// only where no transfer is in flight.
+/// once or not at all. None is told so where every transaction was acknowledged, SELECT is known, ABORT is written only
+/// where no transfer is in flight, and the data registers are those of AP 0.
 pub fn observed_runs()
     ensures runs { RunsAreAccounted }
     ensures made { MadeIsAccounted }

@@ -2,7 +2,7 @@
 ghost use Rattle.std.specs.Prelude.{◌≡◌, ◌&&◌, not, Some, None, if◌then◌else◌};
 ghost use Rattle.swd_observer.specs.Observing.{unknown, as_made, arrived, advance, confirmed, doubted, undone};
 ghost use Rattle.swd_observer.specs.Observing.{told_of, doubt_told, last_told, flagged, is_status_known, steps_of, whole_word};
-ghost use Rattle.swd_observer.specs.Observing.{kind_of, accepted, told_itself, is_posted_read, confirming, may_have};
+ghost use Rattle.swd_observer.specs.Observing.{kind_of, kind_elsewhere, accepted, told_itself, is_posted_read, confirming, may_have};
 ghost use Rattle.swd_observer.specs.Observing.{tells_confirming, watch, tells, watch_end, tells_end, is_read_of, done};
 
 use crate::told::{How, Told};
@@ -50,8 +50,9 @@ pub struct Begun {
 ///
 /// It claims nothing that the wire doesn't show. Unknown are: TAR across a boundary of 1 KB; after a lost
 /// acknowledgement, after ABORT over a transfer in flight and after bits that belong to nothing all that these may have
-/// changed; words while CSW isn't known to have Size word and AddrInc off or single. Accesses of other access ports and
-/// of the banked data registers are not told.
+/// changed; words while CSW isn't known to have Size word and AddrInc off or single. By the data register of another access
+/// port, or a banked data register (IHI 0031, MEM-AP, BD0 to BD3), an access is told as `May`, with neither address nor
+/// word.
 #[derive(Clone, Copy, Debug, PartialEq, Eq)]
 pub struct Observer {
     pub select: Option<Select>,
@@ -78,6 +79,8 @@ pub struct Tells {
 pub(crate) enum Kind {
     /// Nothing that an observer keeps.
     Other,
+    /// It may access memory by a register that is none of the port machine: to read it, or to write it.
+    Elsewhere(bool),
     Reads,
     Writes(Written),
     /// SELECT isn't known: it may be a DRW read.
@@ -262,7 +265,7 @@ impl Observer {
     {
         let mut now = self;
         match kind {
-            Kind::Other => {}
+            Kind::Other | Kind::Elsewhere(_) => {}
             Kind::Reads => {
                 now.begun = Some(Begun {
                     read: true,
@@ -433,10 +436,22 @@ fn kind_of(select: Option<Select>, request: Request) -> Kind
     };
     match (select, kind) {
         (Some(select), _) if select.apsel == 0 && select.apbanksel == 0 => kind,
-        (Some(_), _) => Kind::Other,
+        (Some(select), _) => elsewhere(select, request),
         (None, Kind::Reads) => Kind::MayRead,
         (None, Kind::Writes(written)) => Kind::MayWrite(written),
         (None, _) => kind,
+    }
+}
+
+// A request for a register of another access port or bank.
+fn elsewhere(select: Select, request: Request) -> Kind
+    ensures { result ≡ kind_elsewhere select request.read request.addr }
+{
+    let is_data_address = matches!(&request.addr, Reg4::RC);
+    if select.apbanksel == 1 || (select.apbanksel == 0 && is_data_address) {
+        Kind::Elsewhere(request.read)
+    } else {
+        Kind::Other
     }
 }
 
@@ -462,6 +477,7 @@ fn told_itself(kind: Kind, word: Option<u32>, tar: Option<u32>, place: u64) -> O
     ensures { result ≡ told_itself kind word tar place }
 {
     match kind {
+        Kind::Elsewhere(read) => may_have(read, None, None, place),
         Kind::MayRead => may_have(true, tar, None, place),
         Kind::MayWrite(Written::Drw) => may_have(false, tar, word, place),
         _ => None,

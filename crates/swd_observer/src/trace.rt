@@ -1,5 +1,5 @@
 //! An observer of a whole trace.
-ghost use Rattle.std.specs.Prelude.{◌≡◌, ◌&&◌, not, Some, None};
+ghost use Rattle.std.specs.Prelude.{◌≡◌, not, Some, None};
 ghost use Rattle.swd_observer.specs.Traces.{item_len, is_gap, from_unknown, from_made, after_item, shown_at};
 ghost use Rattle.swd_observer.specs.Observing.{last_told};
 

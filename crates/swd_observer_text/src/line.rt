@@ -2,7 +2,7 @@
 ghost use Rattle.std.specs.Prelude.{◌≡◌, ◌+◌, ◌≤◌, ◌++◌, ◌∷◌, []};
 ghost use Rattle.std.specs.Fmt.{decimal};
 ghost use Rattle.arrayvec.specs.ArrayString.{array_string_len};
-ghost use Rattle.swd_observer_text.specs.Accesses.{access_line, gap_line, direction, word_text, suffix};
+ghost use Rattle.swd_observer_text.specs.Accesses.{access_line, gap_line, word_text};
 
 use arrayvec::ArrayString;
 use swd_bits::push_word;

@@ -12,7 +12,7 @@ struct Row {
     told: &'static [u8],
 }
 
-const ROWS: [Row; 32] = [
+const ROWS: [Row; 33] = [
     Row {
         name: "a write is told at the next request's OK",
         made: true,
@@ -200,7 +200,14 @@ const ROWS: [Row; 32] = [
         made: true,
         listing: b"dp 8 write ok 01000000\nap c write ok 00000001\ndp 8 write ok 00000000\n\
             ap c write ok 00000002\ndp c read ok 00000000\n",
-        told: b"@138 w 00000000 00000002\n",
+        told: b"@46 w ???????? ???????? may\n@138 w 00000000 00000002\n",
+    },
+    Row {
+        name: "a banked data register may access memory, the identification register doesn't",
+        made: true,
+        listing: b"dp 8 write ok 00000010\nap 0 write ok 00000001\nap 8 read ok 00000000\n\
+            dp 8 write ok 000000f0\nap c read ok 00000000\ndp c read ok 04770031\n",
+        told: b"@46 w ???????? ???????? may\n@92 r ???????? ???????? may\n",
     },
     Row {
         name: "address 4 in another bank isn't CTRL/STAT",
