@@ -1,0 +1,142 @@
+-- What is known stays known.
+use Rattle.std.proofs.Common.{◌≡◌, ◌≢◌, ◌+◌, ◌%◌, ◌<◌, ◌^◌, ℕ, Bool, true, false, List, refl, sym}
+use Rattle.std.proofs.Common.{ap, subst, inl, inr, arith, ◌∙◌}
+use Rattle.std.specs.Prelude.{Option, Some, None, IfSome, unwrap_or, ◌&&◌, ◌==◌, if◌then◌else◌}
+use Rattle.std.specs.Prelude.{not as no}
+use Rattle.std.specs.Option.{option_map}
+use Rattle.swd_port.specs.declared.access.Transfer.{Transfer}
+use Rattle.swd_port.specs.PlainMemory.{succeeds_at, transfer_of}
+use Rattle.swd_port.specs.Port.{Port, Target}
+use Rattle.swd_port.specs.declared.state.Drw.{Drw}
+use Rattle.swd_port.specs.declared.state.Drw.TheVariants.{Reads, Writes}
+use Rattle.swd_port.specs.Choices.{Choice, IsChoice}
+use Rattle.swd_port.specs.Completion.{completion_of, Completes, next_address, access_at}
+use Rattle.swd_port.proofs.CompletionLaws.{same_target}
+use Rattle.swd_observer.specs.declared.observer.Observer.{Observer}
+use Rattle.swd_observer.specs.declared.observer.Begun.{Begun}
+use Rattle.swd_observer.specs.declared.observer.Sent.{Sent}
+use Rattle.swd_observer.specs.Observing.{arrived, advance}
+use Rattle.swd_observer.specs.Knows.{Calm, IsOf, Flying, owed, gone, failed, Resting, Flight, Holds, Knows, here}
+use Rattle.swd_observer.specs.Knows.{spoiled}
+
+-- nothing pending: a completion does nothing
+pub still : (P : Target → Type 0) (c : Choice) (x : Target) → x.pending ≡ None → P x → P (completion_of c x)
+still P c x none p = subst P (sym (same_target c x none)) p
+
+rests_tar : (tar : Option ℕ) (c : Choice) (x : Target) → IfSome tar (λ a. (x.tar ≡ Some a) × (x.pending ≡ None))
+    → IfSome tar (λ a. ((completion_of c x).tar ≡ Some a) × ((completion_of c x).pending ≡ None))
+rests_tar None c x h = h
+rests_tar (Some a) c x (tar, none) = (still (λ y. y.tar ≡ Some a) c x none tar, refl)
+
+rests_done : (E : List Transfer → Type 0) (tar : Option ℕ) (c : Choice) (x : Target) → IsChoice c → Resting E tar x
+    → Resting E tar (completion_of c x)
+rests_done E tar c x choice h = record {
+  now = h.later c choice;
+  later = λ d k. still (λ y. E y.memory.log) d (completion_of c x) refl (h.later c choice);
+  aimed = rests_tar tar c x h.aimed;
+}
+
+-- the next address, inside a kilobyte
+next_inside : (wraps : Bool) (at : ℕ) → at < 2 ^ 32 → at % 4 ≡ 0 → at % 1024 ≢ 1020 → next_address wraps at ≡ at + 4
+next_inside true at range aligned inside = omega arith
+next_inside false at range aligned inside = omega arith
+
+advanced_at : (test : Bool) (wraps : Bool) (at : ℕ) (now : Option ℕ) → at < 2 ^ 32 → now ≡ Some (next_address wraps at)
+    → ((at % 4 == 0) && no (at % 1024 == 1020)) ≡ test → IfSome (if test then Some (at + 4) else None) (λ a. now
+    ≡ Some a)
+advanced_at true wraps at now range e test = e ∙ ap (λ n. Some n) (next_inside wraps at range (grind arith)
+    (grind arith))
+advanced_at false wraps at now range e test = tt
+
+advanced : (increments : Option Bool) (tar : Option ℕ) (c : Choice) (x : Target) (now : Option ℕ)
+    → IfSome increments (λ b. x.increments ≡ b) → IfSome tar (λ a. a < 2 ^ 32) → IfSome tar (λ a. x.tar ≡ Some a)
+    → now ≡ (if x.increments then option_map (next_address c.wraps) x.tar else x.tar)
+    → IfSome (advance increments tar) (λ a. now ≡ Some a)
+advanced None tar c x now inc range at e = tt
+advanced (Some true) None c x now inc range at e = tt
+advanced (Some true) (Some a) c x now inc range at e =
+    advanced_at _ c.wraps a now range (rw (inc, at) at e) refl
+advanced (Some false) None c x now inc range at e = tt
+advanced (Some false) (Some a) c x now inc range at e = rw (inc, at) at e
+
+pub same_place : (tar : Option ℕ) (c : Choice) (x : Target) → IfSome tar (λ a. x.tar ≡ Some a)
+    → IfSome tar (λ a. unwrap_or x.tar c.address ≡ a)
+same_place None c x h = tt
+same_place (Some a) c x h = ap (λ o. unwrap_or o c.address) h
+
+-- a transfer that is owed is done or fails
+took_off : (E : List Transfer → Type 0) (b : Begun) (increments : Option Bool) (tar : Option ℕ) (c : Choice)
+    (x : Target)
+    (drw : Drw) (test : Bool) → succeeds_at (unwrap_or x.tar c.address) x.memory ≡ test
+    → IfSome increments (λ b. x.increments ≡ b) → IfSome tar (λ a. a < 2 ^ 32)
+    → Calm x → x.pending ≡ Some drw → IsOf b drw → IfSome tar (λ a. x.tar ≡ Some a) → E x.memory.log
+    → Flying E b increments tar (completion_of c x)
+took_off E b increments tar c x Reads true test inc range calm pending of at e =
+    gone (record {
+      sticky_error = rw (pending, test, calm.sticky_error) refl;
+      write_error = calm.write_error;
+      debug_power = calm.debug_power;
+      power_up = calm.power_up;
+    }) refl (transfer_of (access_at (unwrap_or x.tar c.address) Reads) x.memory) x.memory.log (record {
+      read = sym of;
+      addr = same_place tar c x at;
+      word = λ w. absurd (cc);
+    }) (rw (pending, test) refl) e (λ r. rw (pending, test) refl)
+    (advanced increments tar c x (completion_of c x).tar inc range at (rw (pending, test) refl))
+took_off E b increments tar c x (Writes word) true test inc range calm pending of at e =
+    gone (record {
+      sticky_error = rw (pending, test, calm.sticky_error) refl;
+      write_error = calm.write_error;
+      debug_power = calm.debug_power;
+      power_up = calm.power_up;
+    }) refl (transfer_of (access_at (unwrap_or x.tar c.address) (Writes word)) x.memory) x.memory.log (record {
+      read = sym of.0;
+      addr = same_place tar c x at;
+      word = λ w. of.1;
+    }) (rw (pending, test) refl) e (λ r. absurd (let r0 = of.0 in cc))
+    (advanced increments tar c x (completion_of c x).tar inc range at (rw (pending, test) refl))
+took_off E b increments tar c x Reads false test inc range calm pending of at e =
+    failed refl (rw (pending, test, calm.sticky_error) refl) (rw (pending, test) e)
+took_off E b increments tar c x (Writes word) false test inc range calm pending of at e =
+    failed refl (rw (pending, test, calm.sticky_error) refl) (rw (pending, test) e)
+
+pub flies_on : (E : List Transfer → Type 0) (b : Begun) (increments : Option Bool) (tar : Option ℕ) (c : Choice)
+    (x : Target)
+    → IfSome increments (λ b. x.increments ≡ b) → IfSome tar (λ a. a < 2 ^ 32)
+    → Flying E b increments tar x → Flying E b increments tar (completion_of c x)
+flies_on E b increments tar c x inc range (owed calm drw pending of at e) =
+    took_off E b increments tar c x drw _ refl inc range calm pending of at e
+flies_on E b increments tar c x inc range (gone calm none t log fits is e buffer next) =
+    still (λ y. Flying E b increments tar y) c x none (gone calm none t log fits is e buffer next)
+flies_on E b increments tar c x inc range (failed none error e) =
+    still (λ y. Flying E b increments tar y) c x none (failed none error e)
+
+flight_on : (E : List Transfer → Type 0) (b : Option Begun) (increments : Option Bool) (tar : Option ℕ) (c : Choice)
+    (x : Target) → IsChoice c → IfSome increments (λ b. x.increments ≡ b) → IfSome tar (λ a. a < 2 ^ 32)
+    → Flight E b increments tar x → Flight E b increments tar (completion_of c x)
+flight_on E None increments tar c x choice inc range h = rests_done E tar c x choice h
+flight_on E (Some b) increments tar c x choice inc range h = flies_on E b increments tar c x inc range h
+
+pub holds_on : (E : List Transfer → Type 0) (o : Observer) (c : Choice) (x : Target) → IsChoice c → Holds E o x
+    → Holds E o (completion_of c x)
+holds_on E o c x choice h = record {
+  select = h.select;
+  increments = h.increments;
+  range = h.range;
+  flight = flight_on E o.begun o.increments o.tar c x choice h.increments h.range h.flight;
+}
+
+-- no write was sent
+pub unsent : (sent : Option Sent) (P : Type 0) → sent ≡ None → IfSome sent (λ s. P)
+unsent None P e = tt
+unsent (Some s) P e = absurd (cc)
+
+pub knows_on : (E : List Transfer → Type 0) (o : Observer) (c : Choice) (x : Target) → IsChoice c → Knows E o x
+    → Knows E o (completion_of c x)
+knows_on E o c x choice (here clean h) = here clean (holds_on E (arrived o) c x choice h)
+knows_on E o c x choice (spoiled error rest h) = spoiled error rest (holds_on E (record o { sent = None }) c x choice h)
+
+pub stays : (E : List Transfer → Type 0) (o : Observer) (s t : Port) → Completes s t → Knows E o s.target
+    → Knows E o t.target
+stays E o s t (inl e) h = subst (λ p. Knows E o p.target) (sym e) h
+stays E o s t (inr (c, choice, e)) h = subst (λ p. Knows E o p.target) (sym e) (knows_on E o c s.target choice h)

@@ -1,0 +1,17 @@
+pub mod ExplainLemmas
+pub mod KnownLemmas
+pub mod AskLemmas
+pub mod OkayLemmas
+pub mod StepLemmas
+pub mod RefusedLemmas
+pub mod FlagLemmas
+pub mod DoubtLemmas
+pub mod ExemptLemmas
+pub mod LostLemmas
+pub mod StatusLemmas
+pub mod UnsureLemmas
+pub mod AnyLemmas
+pub mod RunLemmas
+pub mod ObservedLemmas
+pub mod SureLemmas
+pub mod TraceLemmas

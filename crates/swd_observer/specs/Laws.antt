@@ -1,0 +1,81 @@
+-- The laws that join an observer to the port machine.
+use Rattle.std.specs.Prelude.{ℕ, ◌≡◌, Bool, List, ◌++◌, None, ◌&&◌}
+use Rattle.std.specs.Prelude.{if◌then◌else◌}
+use Rattle.swd_bits.specs.declared.request.Request.{Request}
+use Rattle.swd_bits.specs.declared.tx.TxEnd.{TxEnd}
+use Rattle.swd_bits.specs.declared.tx.TxEnd.TheVariants.{Moved, Wait, Fault, NoAck}
+use Rattle.swd_port.specs.declared.access.Transfer.{Transfer}
+use Rattle.swd_port.specs.Port.{Port, Target}
+use Rattle.swd_port.specs.Completion.{Completes}
+use Rattle.swd_observer.specs.declared.told.Told.{Told}
+use Rattle.swd_observer.specs.declared.observer.Observer.{Observer}
+use Rattle.swd_observer.specs.Observing.{Passes, Aborts, Status, Confirms, class_of, watch_end, tells_end}
+use Rattle.swd_observer.specs.Observing.{confirming, doubt_told, doubted}
+use Rattle.swd_observer.specs.Observing.{tells_confirming, word_if, flagged, told_flagged, is_status_known}
+use Rattle.swd_port.specs.Registers.{bit_of}
+use Rattle.swd_observer.specs.Explained.{ExplainsSince, and_told, listed}
+use Rattle.swd_observer.specs.Knows.{Watches}
+use Rattle.swd_observer.specs.Transacts.{Transacts}
+
+-- what is known of a target, where what was told explains its log since then
+abbrev pub KnowsSince : List Transfer → List Told → Observer → Target → Type 0
+KnowsSince before told o x = Watches (ExplainsSince before told) o x
+
+-- whenever a pending transfer takes effect, what is known stays so
+abbrev pub KnownStays : Type 0
+KnownStays = (before : List Transfer) (told : List Told) (o : Observer) (s t : Port) → Completes s t →
+    KnowsSince before told o s.target → KnowsSince before told o t.target
+
+-- WAIT shows nothing, and FAULT that what is in flight will not take place
+abbrev pub KnownAtWait : Type 0
+KnownAtWait = (before : List Transfer) (told : List Told) (o : Observer) (q : Request) (place : ℕ) (s t : Port) →
+    Transacts Wait q s t → KnowsSince before told o s.target →
+    KnowsSince before told (watch_end Wait q place o) t.target
+
+abbrev pub KnownAtFault : Type 0
+KnownAtFault = (before : List Transfer) (told : List Told) (o : Observer) (q : Request) (place : ℕ) (s t : Port) →
+    Transacts Fault q s t → KnowsSince before told o s.target →
+    KnowsSince before told (watch_end Fault q place o) t.target
+
+-- A request that is none of the exempt ones was answered OK: the transfer under way took place, once, with the word
+-- that this request gave where it was a read. Nothing else was logged, but where SELECT isn't known the request itself
+-- may be a transfer.
+abbrev pub KnownAtOkay : Type 0
+KnownAtOkay = (before : List Transfer) (told : List Told) (o : Observer) (q : Request) (word : ℕ) (ok : Bool)
+    (place : ℕ) (s t : Port) → class_of q ≡ Confirms → Transacts (Moved word ok) q s t
+    → KnowsSince before told o s.target →
+    KnowsSince before (and_told told (tells_confirming q (word_if ok word) place o))
+    (confirming q (word_if ok word) place o) t.target
+
+-- DPIDR tells nothing
+abbrev pub KnownAtDpidr : Type 0
+KnownAtDpidr = (before : List Transfer) (told : List Told) (o : Observer) (q : Request) (word : ℕ) (ok : Bool)
+    (place : ℕ) (s t : Port) → class_of q ≡ Passes → Transacts (Moved word ok) q s t →
+    KnowsSince before told o s.target → KnowsSince before told o t.target
+
+-- ABORT was written, or its data was damaged: what was under way may have been
+abbrev pub KnownAtAbort : Type 0
+KnownAtAbort = (before : List Transfer) (told : List Told) (o : Observer) (q : Request) (word : ℕ) (ok : Bool)
+    (place : ℕ) (s t : Port) → class_of q ≡ Aborts → Transacts (Moved word ok) q s t →
+    KnowsSince before told o s.target →
+    KnowsSince before (told ++ listed (doubt_told o)) (doubted o) t.target
+
+-- No acknowledgement was seen: what was under way may have been, and so may this request, where it may be a DRW read.
+abbrev pub KnownAtLost : Type 0
+KnownAtLost = (before : List Transfer) (told : List Told) (o : Observer) (q : Request) (seen place : ℕ) (s t : Port) →
+    Transacts (NoAck seen) q s t → KnowsSince before told o s.target →
+    KnowsSince before (and_told told (tells_end (NoAck seen) q place o)) (watch_end (NoAck seen) q place o) t.target
+
+-- CTRL/STAT was read: with right parity, and where DPBANKSEL is known to be 0, its flags tell what came of it.
+abbrev pub KnownAtStatus : Type 0
+KnownAtStatus = (before : List Transfer) (told : List Told) (o : Observer) (q : Request) (word : ℕ) (ok : Bool)
+    (place : ℕ) (s t : Port) → class_of q ≡ Status → Transacts (Moved word ok) q s t →
+    KnowsSince before told o s.target → KnowsSince before
+    (told ++ listed (if ok && is_status_known o then told_flagged (bit_of 5 word) (bit_of 7 word) o else None))
+    (if ok && is_status_known o then flagged (bit_of 5 word) (bit_of 7 word) o else o) t.target
+
+-- THE THEOREM of one transaction, whatever it is
+abbrev pub KnownAlways : Type 0
+KnownAlways = (before : List Transfer) (told : List Told) (o : Observer) (end : TxEnd) (q : Request) (place : ℕ)
+    (s t : Port) → Transacts end q s t → KnowsSince before told o s.target →
+    KnowsSince before (and_told told (tells_end end q place o)) (watch_end end q place o) t.target

@@ -1,0 +1,352 @@
+-- What the wire tells of a target, item by item. The rules are those of the port machine
+-- (`Port` of swd_port), read from
+-- the outside; what is done where they leave a thing open is this project's choice: it is unknown from there on.
+use Rattle.std.specs.Prelude.{ℕ, ◌+◌, ◌%◌, ◌==◌, ◌&&◌, ◌||◌, not, Bool, true, false, if◌then◌else◌}
+use Rattle.std.specs.Prelude.{Option, Some, None, nat_lt}
+use Rattle.std.specs.Option.{option_map, option_and_then}
+use Rattle.swd_bits.specs.declared.request.Request.{Request}
+use Rattle.swd_bits.specs.declared.request.Reg4.{Reg4}
+use Rattle.swd_bits.specs.declared.request.Reg4.TheVariants.{R0, R4, R8, RC}
+use Rattle.swd_bits.specs.declared.tx.TxEnd.{TxEnd}
+use Rattle.swd_bits.specs.declared.tx.TxEnd.TheVariants.{Moved, Wait, Fault, NoAck}
+use Rattle.swd_trace.specs.declared.item.Item.{Item}
+use Rattle.swd_trace.specs.declared.item.Item.TheVariants.{Tx as TxItem, Junk, Cut}
+use Rattle.swd_port.specs.declared.csw.Csw.{Csw}
+use Rattle.swd_port.specs.declared.select.Select.{Select}
+use Rattle.swd_port.specs.Registers.{bit_of, select_of, no_select, csw_of}
+use Rattle.swd_port.specs.Port.{is_mem_ap}
+use Rattle.swd_observer.specs.declared.told.Told.{Told}
+use Rattle.swd_observer.specs.declared.told.How.{How}
+use Rattle.swd_observer.specs.declared.told.How.TheVariants.{Took, May, Not}
+use Rattle.swd_observer.specs.declared.observer.Observer.{Observer}
+use Rattle.swd_observer.specs.declared.observer.Sent.{Sent}
+use Rattle.swd_observer.specs.declared.observer.Begun.{Begun}
+use Rattle.swd_observer.specs.declared.observer.Tells.{Tells}
+use Rattle.swd_observer.specs.declared.observer.Written.{Written}
+use Rattle.swd_observer.specs.declared.observer.Written.TheVariants.{Select as ToSelect, Csw as ToCsw, Tar as ToTar}
+use Rattle.swd_observer.specs.declared.observer.Written.TheVariants.{Drw as ToDrw}
+use Rattle.swd_observer.specs.declared.observer.Kind.{Kind}
+use Rattle.swd_observer.specs.declared.observer.Kind.TheVariants.{Other, Elsewhere, Reads, Writes, MayRead}
+use Rattle.swd_observer.specs.declared.observer.Kind.TheVariants.{MayWrite}
+
+-- nothing is known: a capture that begins anywhere
+abbrev pub unknown : Observer
+unknown = record { select = None; increments = None; tar = None; sent = None; begun = None; refused = false }
+
+-- a target that was just made
+abbrev pub as_made : Observer
+as_made = record {
+  select = Some no_select;
+  increments = Some false;
+  tar = Some 0;
+  sent = None;
+  begun = None;
+  refused = false;
+}
+
+-- the registers once a write arrived: SELECT, AddrInc of CSW, TAR; a DRW write begins its transfer at TAR
+abbrev pub select_sent : Written → Option ℕ → Option Select → Option Select
+select_sent ToSelect word old = option_map select_of word
+select_sent w word old = old
+
+-- whether TAR increments, where CSW says that a transfer is a word and AddrInc is off or single
+-- (IHI 0031, MEM-AP, CSW);
+-- unknown for every other Size and AddrInc
+abbrev pub steps_of : Csw → Option Bool
+steps_of c = if (c.size == 2) && nat_lt c.addr_inc 2 then Some (c.addr_inc == 1) else None
+
+abbrev pub increments_in : ℕ → Option Bool
+increments_in word = steps_of (csw_of word)
+
+abbrev pub increments_sent : Written → Option ℕ → Option Bool → Option Bool
+increments_sent ToCsw word old = option_and_then increments_in word
+increments_sent w word old = old
+
+-- the word of a transfer, which is known where the transfer is known to be of a word
+abbrev pub whole_word : Option Bool → Option ℕ → Option ℕ
+whole_word None word = None
+whole_word (Some increments) word = word
+
+abbrev pub tar_sent : Written → Option ℕ → Option ℕ → Option ℕ
+tar_sent ToTar word old = word
+tar_sent w word old = old
+
+abbrev pub begun_sent : Written → Option Bool → Option ℕ → ℕ → Option Begun → Option Begun
+begun_sent ToDrw increments word place old =
+    Some (record { read = false; word = whole_word increments word; place = place })
+begun_sent w increments word place old = old
+
+-- the write that was sent arrived
+abbrev pub arrived_with : Option Sent → Observer → Observer
+arrived_with None o = o
+arrived_with (Some s) o = record {
+  select = select_sent s.written s.word o.select;
+  increments = increments_sent s.written s.word o.increments;
+  tar = tar_sent s.written s.word o.tar;
+  sent = None;
+  begun = begun_sent s.written o.increments s.word s.place o.begun;
+  refused = o.refused;
+}
+
+abbrev pub arrived : Observer → Observer
+arrived o = arrived_with o.sent o
+
+-- TAR after a transfer that was done: it is known inside a kilobyte, where it is known to increment or to stay
+abbrev pub advance : Option Bool → Option ℕ → Option ℕ
+advance (Some true) (Some at) = if (at % 4 == 0) && not (at % 1024 == 1020) then Some (at + 4) else None
+advance (Some true) None = None
+advance (Some false) tar = tar
+advance None tar = None
+
+abbrev pub tar_done : Option Begun → Option Bool → Option ℕ → Option ℕ
+tar_done None increments tar = tar
+tar_done (Some b) increments tar = advance increments tar
+
+-- the transfer that was begun is done
+abbrev pub done : Observer → Observer
+done o = record o { tar = tar_done o.begun o.increments o.tar; begun = None; refused = false }
+
+-- OK to a request that isn't exempt: no flag is set, so that the write arrived, and the transfer was done
+abbrev pub confirmed : Observer → Observer
+confirmed o = done (arrived o)
+
+-- TAR where the transfer may have been a bus error
+abbrev pub lost_tar : Option Begun → Option ℕ → Option ℕ
+lost_tar None tar = tar
+lost_tar (Some b) tar = None
+
+abbrev pub undone : Observer → Observer
+undone o = record o { tar = lost_tar o.begun o.tar; begun = None; refused = false }
+
+-- a write of which no word is known
+abbrev pub unsure_of : Sent → Sent
+unsure_of s = record s { word = None }
+
+abbrev pub unsure : Observer → Observer
+unsure o = record o { sent = option_map unsure_of o.sent }
+
+-- Flags may be cleared or set unseen from here on: nobody will know what came of the write and of the transfer.
+abbrev pub doubted : Observer → Observer
+doubted o = undone (arrived (unsure o))
+
+-- what is told of the transfer under way, where it is a read with the word that was got
+abbrev pub word_of_begun : Begun → Option ℕ → Option ℕ
+word_of_begun b got = if b.read then got else b.word
+
+abbrev pub told_with : How → Option ℕ → Option ℕ → Option Begun → Option Told
+told_with how got tar None = None
+told_with how got tar (Some b) =
+    Some (record { place = b.place; read = b.read; addr = tar; word = word_of_begun b got; how = how })
+
+abbrev pub told_of : How → Option ℕ → Observer → Option Told
+told_of how got o = told_with how got (arrived o).tar (arrived o).begun
+
+-- what is told of the transfer in flight where nothing will show it any more: FAULT showed that it did not take place
+abbrev pub doubt_of : Observer → How
+doubt_of o = if o.refused then Not else May
+
+abbrev pub doubt_told : Observer → Option Told
+doubt_told o = told_of (doubt_of o) None o
+
+-- and at the end of a trace
+abbrev pub last_told : Observer → Option Told
+last_told o = doubt_told o
+
+-- CTRL/STAT is at the debug port's address 4: DPBANKSEL is 0, and no SELECT was sent that may change it
+abbrev pub is_to_select : Written → Bool
+is_to_select ToSelect = true
+is_to_select w = false
+
+abbrev pub is_select_sent : Option Sent → Bool
+is_select_sent None = false
+is_select_sent (Some s) = is_to_select s.written
+
+abbrev pub is_bank_0 : Option Select → Bool
+is_bank_0 None = false
+is_bank_0 (Some s) = s.dpbanksel == 0
+
+abbrev pub is_status_known : Observer → Bool
+is_status_known o = is_bank_0 o.select && not (is_select_sent o.sent)
+
+-- CTRL/STAT was read. WDATAERR: the write didn't arrive. STICKYERR: the transfer was a bus error. Neither: the write
+-- arrived.
+abbrev pub kept_at : Bool → Observer → Observer
+kept_at damaged o = if damaged then record o { sent = None } else arrived o
+
+abbrev pub tar_flagged : Bool → Option Begun → Option ℕ → Option ℕ
+tar_flagged sticky begun tar = if sticky then lost_tar begun tar else tar
+
+abbrev pub flagged : Bool → Bool → Observer → Observer
+flagged sticky damaged o =
+    if sticky || damaged then
+    record (kept_at damaged o) {
+      tar = tar_flagged sticky (arrived o).begun (kept_at damaged o).tar;
+      begun = None;
+    }
+    else arrived o
+
+abbrev pub told_flagged : Bool → Bool → Observer → Option Told
+told_flagged sticky damaged o = if sticky || damaged then told_of Not None o else None
+
+-- what a request does that isn't exempt and is answered OK, by what is known of SELECT
+abbrev pub kind_dp : Bool → Reg4 → Kind
+kind_dp false R8 = Writes ToSelect
+kind_dp read addr = Other
+
+abbrev pub kind_mem : Bool → Reg4 → Kind
+kind_mem true RC = Reads
+kind_mem true addr = Other
+kind_mem false R0 = Writes ToCsw
+kind_mem false R4 = Writes ToTar
+kind_mem false R8 = Other
+kind_mem false RC = Writes ToDrw
+
+abbrev pub is_rc : Reg4 → Bool
+is_rc RC = true
+is_rc addr = false
+
+-- a data register of another access port, or a banked one (IHI 0031, MEM-AP, "BD0-BD3, Banked Data registers"): what
+-- stands there is no register of the port machine, and on a chip it may be any access
+abbrev pub is_data : Select → Reg4 → Bool
+is_data s addr = (s.apbanksel == 1) || ((s.apbanksel == 0) && is_rc addr)
+
+abbrev pub kind_elsewhere : Select → Bool → Reg4 → Kind
+kind_elsewhere s read addr = if is_data s addr then Elsewhere read else Other
+
+abbrev pub maybe : Kind → Kind
+maybe Reads = MayRead
+maybe (Writes w) = MayWrite w
+maybe k = k
+
+abbrev pub kind_ap : Option Select → Bool → Reg4 → Kind
+kind_ap None read addr = maybe (kind_mem read addr)
+kind_ap (Some s) read addr = if is_mem_ap s then kind_mem read addr else kind_elsewhere s read addr
+
+abbrev pub kind_of : Option Select → Request → Kind
+kind_of select q = if q.ap then kind_ap select q.read q.addr else kind_dp q.read q.addr
+
+-- what isn't known once a write may have been of this register
+abbrev pub increments_maybe : Written → Option Bool → Option Bool
+increments_maybe ToCsw old = None
+increments_maybe w old = old
+
+abbrev pub tar_maybe : Written → Option ℕ → Option ℕ
+tar_maybe ToTar old = None
+tar_maybe ToDrw old = None
+tar_maybe w old = old
+
+-- the observer once it was answered OK; a write's word where its parity was right
+abbrev pub accepted : Kind → Option ℕ → ℕ → Observer → Observer
+accepted Other word place o = o
+accepted Reads word place o = record o { begun = Some (record { read = true; word = None; place = place }) }
+accepted (Writes w) word place o = record o { sent = Some (record { written = w; word = word; place = place }) }
+accepted (Elsewhere read) word place o = o
+accepted MayRead word place o = record o { tar = None }
+accepted (MayWrite w) word place o =
+    record o { increments = increments_maybe w o.increments; tar = tar_maybe w o.tar }
+
+-- and what is told of it
+abbrev pub may_have : Bool → Option ℕ → Option ℕ → ℕ → Option Told
+may_have read tar word place =
+    Some (record { place = place; read = read; addr = tar; word = word; how = May })
+
+abbrev pub told_itself : Kind → Option ℕ → Option ℕ → ℕ → Option Told
+told_itself (Elsewhere read) word tar place = may_have read None None place
+told_itself MayRead word tar place = may_have true tar None place
+told_itself (MayWrite ToDrw) word tar place = may_have false tar word place
+told_itself k word tar place = None
+
+-- a request that wasn't acknowledged: a DRW read may have been accepted; a write gets no data
+abbrev pub is_read_of : Kind → Bool
+is_read_of Reads = true
+is_read_of MayRead = true
+is_read_of k = false
+
+abbrev pub unanswered : Kind → Observer → Observer
+unanswered k o = if is_read_of k then record o { tar = None } else o
+
+abbrev pub told_unanswered : Kind → Option ℕ → ℕ → Option Told
+told_unanswered k tar place = if is_read_of k then may_have true tar None place else None
+
+-- AP reads and RDBUFF give the read buffer
+abbrev pub is_posted_read : Request → Bool
+is_posted_read q = q.read && (q.ap || is_rc q.addr)
+
+abbrev pub word_if : Bool → ℕ → Option ℕ
+word_if ok word = if ok then Some word else None
+
+-- the exempt requests: DPIDR read, ABORT write, and where it may be CTRL/STAT the read of the debug port's address 4
+pub data Class : Type 0 where
+  Passes : Class
+  Aborts : Class
+  Status : Class
+  Confirms : Class
+
+abbrev pub class_dp : Bool → Reg4 → Class
+class_dp true R0 = Passes
+class_dp false R0 = Aborts
+class_dp true R4 = Status
+class_dp read addr = Confirms
+
+abbrev pub class_of : Request → Class
+class_of q = if q.ap then Confirms else class_dp q.read q.addr
+
+-- a request that was answered OK, and is none of the exempt ones
+abbrev pub confirming : Request → Option ℕ → ℕ → Observer → Observer
+confirming q word place o = accepted (kind_of (confirmed o).select q) word place (confirmed o)
+
+abbrev pub tells_confirming : Request → Option ℕ → ℕ → Observer → Tells
+tells_confirming q word place o = record {
+  before = told_of Took (whole_word o.increments (if is_posted_read q then word else None)) o;
+  itself = told_itself (kind_of (confirmed o).select q) (whole_word (confirmed o).increments word) (confirmed o).tar
+      place;
+}
+
+abbrev pub nothing_told : Tells
+nothing_told = record { before = None; itself = None }
+
+-- a word moved
+abbrev pub watch_class : Class → Request → ℕ → Bool → ℕ → Observer → Observer
+watch_class Passes q word ok place o = o
+watch_class Aborts q word ok place o = doubted o
+watch_class Status q word ok place o =
+    if ok && is_status_known o then flagged (bit_of 5 word) (bit_of 7 word) o else o
+watch_class Confirms q word ok place o = confirming q (word_if ok word) place o
+
+abbrev pub tells_class : Class → Request → ℕ → Bool → ℕ → Observer → Tells
+tells_class Passes q word ok place o = nothing_told
+tells_class Aborts q word ok place o = record { before = doubt_told o; itself = None }
+tells_class Status q word ok place o =
+    if ok && is_status_known o then
+    record { before = told_flagged (bit_of 5 word) (bit_of 7 word) o; itself = None }
+    else nothing_told
+tells_class Confirms q word ok place o = tells_confirming q (word_if ok word) place o
+
+-- a transaction
+abbrev pub watch_end : TxEnd → Request → ℕ → Observer → Observer
+watch_end (Moved word ok) q place o = watch_class (class_of q) q word ok place o
+watch_end Wait q place o = o
+watch_end Fault q place o = record o { refused = true }
+watch_end (NoAck seen) q place o = unanswered (kind_of (doubted o).select q) (doubted o)
+
+abbrev pub tells_end : TxEnd → Request → ℕ → Observer → Tells
+tells_end (Moved word ok) q place o = tells_class (class_of q) q word ok place o
+tells_end Wait q place o = nothing_told
+tells_end Fault q place o = nothing_told
+tells_end (NoAck seen) q place o = record {
+  before = doubt_told o;
+  itself = told_unanswered (kind_of (doubted o).select q) (doubted o).tar place;
+}
+
+-- an item
+abbrev pub watch : Item → ℕ → Observer → Observer
+watch (TxItem tx) place o = watch_end tx.result tx.request place o
+watch (Junk b) place o = unknown
+watch (Cut bits) place o = unknown
+watch item place o = o
+
+abbrev pub tells : Item → ℕ → Observer → Tells
+tells (TxItem tx) place o = tells_end tx.result tx.request place o
+tells (Junk b) place o = record { before = doubt_told o; itself = None }
+tells (Cut bits) place o = record { before = doubt_told o; itself = None }
+tells item place o = nothing_told

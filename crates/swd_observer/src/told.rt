@@ -1,0 +1,26 @@
+//! What became of an access of memory, as far as the wire shows it.
+
+/// How much is known of an access.
+#[derive(Clone, Copy, Debug, PartialEq, Eq)]
+pub enum How {
+    /// It took place, exactly once.
+    Took,
+    /// It took place once, or not at all: the wire doesn't show which.
+    May,
+    /// It did not take place: it met a bus error, or its data was corrupted on the wire.
+    Not,
+}
+
+/// An access of the memory behind the access port, by a request for DRW. What isn't known is `None`.
+#[derive(Clone, Copy, Debug, PartialEq, Eq)]
+pub struct Told {
+    /// The number of bits of the trace before the first bit of its request.
+    pub place: u64,
+    /// Whether it is a read.
+    pub read: bool,
+    /// The byte address: TAR.
+    pub addr: Option<u32>,
+    /// The word that was read or written, 32 bits.
+    pub word: Option<u32>,
+    pub how: How,
+}

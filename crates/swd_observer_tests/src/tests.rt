@@ -1,0 +1,5 @@
+//! Listings and what they tell, and readers and writers that fail.
+mod expect;
+mod faults;
+mod rows;
+mod told;

@@ -1,0 +1,17 @@
+use Rattle.std.proofs.Common.{List, ℕ, ◌≡◌, ◌-◌, ◌≤◌, ◌++◌, take, length}
+use Rattle.swd_trace.specs.Held.{IsSettled}
+use Rattle.swd_observer_text.specs.Listers.{Start, GoesOn}
+use Rattle.swd_observer_text.proofs.lister.AccessLister.bytes.Given as goal
+
+abbrev pub invariant-loop-index : goal.invariant-loop-index
+invariant-loop-index g l = record {
+  within : l.index ≤ length l.piece;
+  settled : IsSettled l.self.decoder;
+  place : l.self.place ≡ l.fn.self.place;
+  writer : l.block.writer.ghost_name ≡ l.fn.block.writer.ghost_name;
+  goes : (start : Start) (seen : List ℕ) → GoesOn g.W.Write.contents start l.fn.self l.fn.block seen
+      → GoesOn g.W.Write.contents start l.self l.block (seen ++ take l.index l.piece);
+}
+
+abbrev pub decreases-loop-index : goal.decreases-loop-index
+decreases-loop-index g l = length l.piece - l.index

@@ -1,0 +1,55 @@
+-- The text of what a trace shows, an access a line.
+use Rattle.std.specs.Prelude.{ℕ, Bool, true, false, List, [], ◌∷◌, ◌++◌, Option, None, Some, codes}
+use Rattle.std.specs.Fmt.{decimal}
+use Rattle.swd_bits.specs.Listing.{hex8}
+use Rattle.swd_trace.specs.declared.item.Item.{Item}
+use Rattle.swd_observer.specs.declared.told.Told.{Told}
+use Rattle.swd_observer.specs.declared.told.How.{How}
+use Rattle.swd_observer.specs.declared.told.How.TheVariants.{Took, May, Not}
+use Rattle.swd_observer.specs.declared.trace.Shown.{Shown}
+use Rattle.swd_observer.specs.declared.trace.TraceObserver.{TraceObserver}
+use Rattle.swd_observer.specs.Observing.{last_told}
+use Rattle.swd_observer.specs.Traces.{shown_at, after_item, after_items}
+
+abbrev pub direction : Bool → List ℕ
+direction true = codes " r "
+direction false = codes " w "
+
+-- eight digits, or as many question marks
+abbrev pub word_text : Option ℕ → List ℕ
+word_text None = codes "????????"
+word_text (Some word) = hex8 word
+
+abbrev pub suffix : How → List ℕ
+suffix Took = []
+suffix May = codes " may"
+suffix Not = codes " not"
+
+-- an access, and the first of some bits that belong to nothing, without the line's end
+abbrev pub access_line : Told → List ℕ
+access_line t =
+    (64 ∷ decimal t.place) ++ direction t.read ++ word_text t.addr ++ codes " " ++ word_text t.word ++ suffix t.how
+
+abbrev pub gap_line : ℕ → List ℕ
+gap_line place = (64 ∷ decimal place) ++ codes " gap"
+
+abbrev pub told_text : Option Told → List ℕ
+told_text None = []
+told_text (Some t) = access_line t ++ 10 ∷ []
+
+abbrev pub gap_text : Option ℕ → List ℕ
+gap_text None = []
+gap_text (Some place) = gap_line place ++ 10 ∷ []
+
+-- the lines of what an item shows
+abbrev pub shown_text : Shown → List ℕ
+shown_text s = (told_text s.tells.before ++ told_text s.tells.itself) ++ gap_text s.gap
+
+-- those of some items, by an observer that begins so
+abbrev pub accesses : List Item → TraceObserver → List ℕ
+accesses [] t = []
+accesses (item ∷ items) t = shown_text (shown_at item t) ++ accesses items (after_item item t)
+
+-- and those of a whole trace
+abbrev pub all_accesses : List Item → TraceObserver → List ℕ
+all_accesses items t = accesses items t ++ told_text (last_told (after_items items t).observer)
