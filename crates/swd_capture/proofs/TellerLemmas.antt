@@ -41,9 +41,9 @@ told_behind_more printed before [] item = append-nil (entry printed before item)
 told_behind_more printed before (i ∷ items) item =
     ap (λ x. entry printed before i ++ x) (told_behind_more printed (before ++ i ∷ []) items item)
     ∙ ap (λ b. entry printed before i ++ (told_behind printed (before ++ i ∷ []) items ++ entry printed b item))
-        (append_assoc before (i ∷ []) items)
+    (append_assoc before (i ∷ []) items)
     ∙ sym (append_assoc (entry printed before i) (told_behind printed (before ++ i ∷ []) items)
-        (entry printed (before ++ i ∷ items) item))
+    (entry printed (before ++ i ∷ items) item))
 
 -- and what is told
 pub told_more : (printed : Printed) (items : List Item) (item : Item)

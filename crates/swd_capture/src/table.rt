@@ -31,13 +31,7 @@ fn row_of_end(end: TxEnd) -> usize
     ensures within { result < 5 }
 {
     match end {
-        TxEnd::Moved { parity_ok, .. } => {
-            if parity_ok {
-                0
-            } else {
-                1
-            }
-        }
+        TxEnd::Moved { parity_ok, .. } => { if parity_ok { 0 } else { 1 } }
         TxEnd::Wait => 2,
         TxEnd::Fault => 3,
         TxEnd::NoAck(_) => 4,

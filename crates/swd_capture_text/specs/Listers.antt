@@ -62,10 +62,10 @@ pub record StopsIn {W : Type 0} (contents : W → Option (List ℕ)) (start : Op
 
 -- what is told before a fault of the text went out, all of it
 pub record TellsFault (start now : Option (List ℕ)) (printed : Printed) (fault : TextFault) (text : List ℕ) : Type 0
-    where
-  pub items : List Item
-  pub stops : (more : List ℕ) → StopsWith fault items (text ++ more)
-  pub gone : Appends start now (told printed items)
+  where
+    pub items : List Item
+    pub stops : (more : List ℕ) → StopsWith fault items (text ++ more)
+    pub gone : Appends start now (told printed items)
 
 -- a beginning of what is told went out
 pub record TellsCut (start now : Option (List ℕ)) (printed : Printed) (count : ℕ) (text : List ℕ) : Type 0 where

@@ -18,6 +18,6 @@ returns c = λ items h. record {
       ∙ ap (λ n. min (slice_index counts n + c.weight_of_item.result) (2 ^ 64 - 1)) c.row_of_item-row.ensures.row
       ∙ ap (λ n. min (slice_index counts at + n) (2 ^ 64 - 1)) c.weight_of_item.ensures)
       ∙ counted_in counts at (weight_of item) row (count_in row items)
-          (omega (arith, h.rows, c.row_of_item-row.ensures.row, c.row_of_item-row.ensures.within)) (h.counts row less)
+      (omega (arith, h.rows, c.row_of_item-row.ensures.row, c.row_of_item-row.ensures.within)) (h.counts row less)
       ∙ ap (λ n. min n (2 ^ 64 - 1)) (sym (count_more row items item));
 }
