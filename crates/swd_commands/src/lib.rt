@@ -3,6 +3,7 @@
 #![tactic(auto)]
 
 mod bus_faults;
+mod decode_command;
 mod open_files;
 mod program;
 mod remote_command;
