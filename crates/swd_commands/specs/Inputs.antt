@@ -8,7 +8,7 @@ use Rattle.swd_words.specs.declared.command.Line.TheVariants.{One, Decode, Encod
 -- the file that the words name
 abbrev pub named : Line → Option (List ℕ)
 named (One file) = option_map string_bytes file
-named (Decode file) = option_map string_bytes file
+named (Decode decode) = option_map string_bytes decode.file
 named (Encode file) = option_map string_bytes file
 named (Run run) = Some (string_bytes run.script)
 named (Target target) = Some (string_bytes target.script)

@@ -6,6 +6,9 @@ use Rattle.swd_bits.specs.declared.one.OneFault.{OneFault}
 use Rattle.swd_text.specs.Decoding.{Decodes}
 use Rattle.swd_text.specs.Encoding.{Encodes}
 use Rattle.swd_text.specs.declared.fault.EngineFault.{EngineFault}
+use Rattle.swd_capture.specs.declared.printed.Printed.{Printed}
+use Rattle.swd_capture_text.specs.Captures.{Prints}
+use Rattle.swd_commands.specs.Decodings.{printed_for}
 use Rattle.swd_words.specs.declared.command.Line.{Line}
 use Rattle.swd_words.specs.declared.command.Line.TheVariants.{One, Decode, Encode, Run, Target}
 use Rattle.swd_words.specs.declared.command.RunLine.{RunLine}
@@ -67,12 +70,20 @@ abbrev pub PerformsWhere : Bool → RunLine → ℕ → Option (List ℕ) → Op
 PerformsWhere false run status text old new = PerformsRun run.plan run status text old new
 PerformsWhere true run status text old new = NotOpened status old new
 
+-- the listing, or something in its place
+abbrev pub PerformsDecode : Option Printed → ℕ → Option (List ℕ) → Option (List ℕ) → Option (List ℕ)
+    → Option (List ℕ) → Type 0
+PerformsDecode None status text left old new =
+    (answer : Result (Unit {0}) EngineFault) × Decodes answer text left old new × (status ≡ status_of (is_ok answer))
+PerformsDecode (Some printed) status text left old new =
+    (answer : Result (Unit {0}) EngineFault) × Prints printed answer text left old new
+    × (status ≡ status_of (is_ok answer))
+
 -- A command reads a text and writes another as its engine says, and its status is that of the engine's answer.
 abbrev pub Performs : Line → ℕ → Option (List ℕ) → Option (List ℕ) → Option (List ℕ) → Option (List ℕ) → Type 0
 Performs (One file) status text left old new =
     (answer : Result (Unit {0}) OneFault) × Answers answer text old new × (status ≡ status_of (is_ok answer))
-Performs (Decode file) status text left old new =
-    (answer : Result (Unit {0}) EngineFault) × Decodes answer text left old new × (status ≡ status_of (is_ok answer))
+Performs (Decode decode) status text left old new = PerformsDecode (printed_for decode) status text left old new
 Performs (Encode file) status text left old new =
     (answer : Result (Unit {0}) EngineFault) × Encodes answer text old new × (status ≡ status_of (is_ok answer))
 Performs (Run run) status text left old new = PerformsWhere run.remote run status text old new

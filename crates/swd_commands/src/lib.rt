@@ -2,6 +2,7 @@
 //! and says what came of it. The machine's files and the standard streams are handed to it.
 #![tactic(auto)]
 
+mod decode_command;
 mod open_files;
 mod program;
 mod remote_command;

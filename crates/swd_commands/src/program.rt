@@ -3,6 +3,7 @@ ghost use Rattle.std.specs.Prelude.{◌≡◌, ◌≢◌, IfNone, IfSome, Some, 
 ghost use Rattle.swd_commands.specs.Inputs.{IsStandard, named};
 ghost use Rattle.swd_commands.specs.Statuses.{Performs, PerformsRun, PerformsUnder};
 
+use crate::decode_command::perform_decode;
 use crate::open_files::{Files, Identity};
 use crate::remote_command::{Untold, perform_remote};
 use crate::report::{DONE, FAULT, cannot_open, engine_status, one_status, run_status, tell};
@@ -13,8 +14,8 @@ use std::alloc::Global;
 use std::io::{Read, Write};
 use swd_bits::one_text;
 use swd_run::{run_text, run_traced};
-use swd_text::{decode_text, encode_text};
-use swd_words::{Line, LineFault, RunLine, line};
+use swd_text::encode_text;
+use swd_words::{DecodeLine, Line, LineFault, RunLine, line};
 
 /// Does what the words ask for, the program's name first, and returns the status: 0 where all was
 /// done, 1 where a run ended before all was done, or a strict one met a bus fault, 2 at a fault of words,
@@ -53,7 +54,7 @@ fn file_of(line: &Line) -> Option<&str>
     ensures file { IfSome result (λ name. (named line.now ≡ Some name.now) × (name.now ≢ codes "-")) }
 {
     let name = match line {
-        Line::One(file) | Line::Decode(file) | Line::Encode(file) => match file {
+        Line::One(file) | Line::Encode(file) | Line::Decode(DecodeLine { file, .. }) => match file {
             Some(name) => name.as_str(),
             None => return None,
         },
@@ -115,7 +116,7 @@ fn perform<R: Read, F: Files, O: Write, E: Write>(
 {
     match line {
         Line::One(_) => one_status(errors, one_text(input, output)),
-        Line::Decode(_) => engine_status(errors, decode_text(input, output)),
+        Line::Decode(decode) => perform_decode(decode, input, output, errors),
         Line::Encode(_) => engine_status(errors, encode_text(alloc, input, output)),
         Line::Run(run) if run.remote => {
             tell(errors, "SCRIPT is a file: standard input is the target's")

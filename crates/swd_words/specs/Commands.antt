@@ -7,6 +7,7 @@ use Rattle.clap.specs.Words.{App, HasKind, Kinds, kind_of, Row, first_of, Rule, 
 use Rattle.clap.specs.Words.{with_subcommand}
 use Rattle.swd_words.specs.declared.command.Line.{Line}
 use Rattle.swd_words.specs.declared.command.Line.TheVariants.{One, Decode, Encode, Run, Target}
+use Rattle.swd_words.specs.declared.command.DecodeLine.{DecodeLine}
 use Rattle.swd_words.specs.declared.command.RunLine.{RunLine}
 use Rattle.swd_words.specs.declared.command.TargetLine.{TargetLine}
 use Rattle.swd_words.specs.declared.command.LineFault.{LineFault}
@@ -22,6 +23,24 @@ file_rule = new_rule (codes "FILE")
 -- a command over a file
 abbrev pub over_file : Text → App
 over_file name = with_rule (new_app name) file_rule
+
+-- whether lines begin with their place, by --places; whether registers have names, by --names; and whether items are
+-- counted, by --count
+abbrev pub places_rule : Rule
+places_rule = let rule = new_rule (codes "places") in record rule
+    { long = Some (codes "places"); action = Some SetTrue }
+
+abbrev pub names_rule : Rule
+names_rule = let rule = new_rule (codes "names") in record rule
+    { long = Some (codes "names"); action = Some SetTrue }
+
+abbrev pub count_rule : Rule
+count_rule = let rule = new_rule (codes "count") in record rule
+    { long = Some (codes "count"); action = Some SetTrue }
+
+-- the command that lists a trace
+abbrev pub decode_app : App
+decode_app = with_rule (with_rule (with_rule (over_file (codes "decode")) places_rule) names_rule) count_rule
 
 -- the program without its commands: one of them is required
 abbrev pub bare_app : App
@@ -103,11 +122,18 @@ abbrev pub swd_app : App
 swd_app =
     with_subcommand (with_subcommand
     (with_subcommand (with_subcommand (with_subcommand bare_app (over_file (codes "one")).top)
-    (over_file (codes "decode")).top) (over_file (codes "encode")).top) run_app.top) target_app.top
+    decode_app.top) (over_file (codes "encode")).top) run_app.top) target_app.top
 
 -- the words have this command, and this file or none
 abbrev pub HasFile : Text → Option Text → Option (Text × List Row) → Type 0
 HasFile name file rows = IsSomeAnd rows (λ p. (p.0 ≡ name) × (file ≡ first_of (codes "FILE") p.1))
+
+-- the file that the words name, or none, and what they ask for
+pub record IsDecodeOf (decode : DecodeLine) (rows : List Row) : Type 0 where
+  pub file : option_map string_bytes decode.file ≡ first_of (codes "FILE") rows
+  pub places : (decode.places ≡ true) ↔ (first_of (codes "places") rows ≡ Some (codes "true"))
+  pub names : (decode.names ≡ true) ↔ (first_of (codes "names") rows ≡ Some (codes "true"))
+  pub count : (decode.count ≡ true) ↔ (first_of (codes "count") rows ≡ Some (codes "true"))
 
 -- the number of tries, at most 1,000, is the one that the word stands for; 8 without a word
 abbrev pub AreTries : ℕ → Option Text → Type 0
@@ -151,7 +177,7 @@ IsRefusal kinds (Clap error) = HasKind kinds error ⊎ (kinds ≡ [])
 -- the line is the command that the words have
 abbrev pub IsLineOf : Line → Option (Text × List Row) → Type 0
 IsLineOf (One file) rows = HasFile (codes "one") (option_map string_bytes file) rows
-IsLineOf (Decode file) rows = HasFile (codes "decode") (option_map string_bytes file) rows
+IsLineOf (Decode decode) rows = IsSomeAnd rows (λ p. (p.0 ≡ codes "decode") × IsDecodeOf decode p.1)
 IsLineOf (Encode file) rows = HasFile (codes "encode") (option_map string_bytes file) rows
 IsLineOf (Run run) rows = IsSomeAnd rows (λ p. (p.0 ≡ codes "run") × IsRunOf run p.1)
 IsLineOf (Target target) rows = IsSomeAnd rows (λ p. (p.0 ≡ codes "target") × IsTargetOf target p.1)

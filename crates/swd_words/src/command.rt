@@ -6,8 +6,8 @@ use clap::Error;
 pub enum Line {
     /// `swd one [FILE]`: without a file, standard input.
     One(Option<String>),
-    /// `swd decode [FILE]`: without a file, standard input.
-    Decode(Option<String>),
+    /// `swd decode [FILE] [--places] [--names]`, or `swd decode [FILE] --count`.
+    Decode(DecodeLine),
     /// `swd encode [FILE]`: without a file, standard input.
     Encode(Option<String>),
     /// `swd run SCRIPT [--plan FILE] [--tries N] [--resume N] [--trace FILE] [--strict]`, or
@@ -15,6 +15,19 @@ pub enum Line {
     Run(RunLine),
     /// `swd target SCRIPT [--plan FILE] [--log FILE] [--trace FILE]`.
     Target(TargetLine),
+}
+
+/// What `swd decode` is given.
+#[derive(Drop)]
+pub struct DecodeLine {
+    /// The file of the trace: without one, standard input.
+    pub file: Option<String>,
+    /// Whether each line begins with the place of its item.
+    pub places: bool,
+    /// Whether registers have their names.
+    pub names: bool,
+    /// Whether items are counted in place of a listing.
+    pub count: bool,
 }
 
 /// What `swd run` is given.

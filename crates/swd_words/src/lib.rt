@@ -3,8 +3,9 @@
 #![tactic(auto)]
 
 mod command;
+mod decode_words;
 mod target_words;
 mod words;
 
-pub use command::{Line, LineFault, RunLine, TargetLine};
+pub use command::{DecodeLine, Line, LineFault, RunLine, TargetLine};
 pub use words::line;

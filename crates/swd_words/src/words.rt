@@ -12,6 +12,7 @@ ghost use Rattle.swd_words.specs.Commands.{bare_app, over_a_script, over_file, r
 ghost use Rattle.swd_words.specs.Commands.{IsLineOf, IsOfKind, IsRunOf, IsRefusal};
 
 use crate::command::{Line, LineFault, RunLine};
+use crate::decode_words::{decode_command, decode_line};
 use crate::target_words::{target_command, target_line};
 use clap::error::ErrorKind;
 use clap::{Arg, ArgAction, ArgMatches, Command, Error, value_parser};
@@ -51,8 +52,6 @@ Example, a read of the debug port's identification register:
   dp 0 read ok 2ba01477";
 
 const ONE_ABOUT: &str = "Lists the one transaction that a trace holds";
-
-const DECODE_ABOUT: &str = "Lists a trace, one line an item";
 
 const ENCODE_ABOUT: &str = "Writes the trace of a listing, one line an item";
 
@@ -142,7 +141,7 @@ pub(crate) fn owned(alloc: Global, text: Option<&str>) -> Result<Option<String>,
 }
 
 // The file that a command reads, or standard input.
-fn file_arg<'a>(alloc: Global) -> Arg<'a>
+pub(crate) fn file_arg<'a>(alloc: Global) -> Arg<'a>
     ensures rule { rule_of result ≡ file_rule }
     ensures local { result.global ≡ false }
 {
@@ -320,14 +319,14 @@ fn swd_command<'a>(alloc: Global) -> Result<Command<'a>, AllocError>
 {
     let bare = bare_command(alloc);
     let one = with_sub(bare, over_a_file(alloc, "one", ONE_ABOUT)?)?;
-    let decode = with_sub(one, over_a_file(alloc, "decode", DECODE_ABOUT)?)?;
+    let decode = with_sub(one, decode_command(alloc)?)?;
     let encode = with_sub(decode, over_a_file(alloc, "encode", ENCODE_ABOUT)?)?;
     let run = with_sub(encode, run_command(alloc)?)?;
     with_sub(run, target_command(alloc)?)
 }
 
 // Words that `clap` took and that ask for nothing: there are none.
-fn refused(alloc: Global, kind: ErrorKind, why: &str) -> LineFault
+pub(crate) fn refused(alloc: Global, kind: ErrorKind, why: &str) -> LineFault
     ensures { IsOfKind kind result }
 {
     let mut command = Command::new(alloc, "swd");
@@ -398,7 +397,7 @@ fn resumes_in(word: Option<&str>) -> Option<u32>
 }
 
 // Whether a flag is set, by its word.
-fn is_asked_for(word: Option<&str>) -> bool
+pub(crate) fn is_asked_for(word: Option<&str>) -> bool
     ensures { (result ≡ true) ↔ (option_map (λ s. s.now) word.entry ≡ Some (codes "true")) }
 {
     word == Some("true")
@@ -475,7 +474,10 @@ fn line_of(alloc: Global, matches: &ArgMatches<'_>) -> Result<Line, LineFault>
     };
     match name {
         "one" => Ok(Line::One(file)),
-        "decode" => Ok(Line::Decode(file)),
+        "decode" => match decode_line(alloc, rest) {
+            Ok(decode) => Ok(Line::Decode(decode)),
+            Err(fault) => Err(fault),
+        },
         "encode" => Ok(Line::Encode(file)),
         "run" => match matched_line(alloc, rest) {
             Ok(run) => Ok(Line::Run(run)),

@@ -2,7 +2,7 @@
 use super::expect::expect_eq;
 use std::alloc::Global;
 use std::test::Fail;
-use swd_words::{Line, LineFault, line};
+use swd_words::{DecodeLine, Line, LineFault, line};
 
 // What `clap` says of the words: its help, or what is wrong with them.
 fn said_of(alloc: Global, words: &[&str]) -> Result<String, Fail> {
@@ -91,7 +91,7 @@ fn words_without_a_file(rt: HostRuntime) {
     let one = line(rt.alloc(), ["swd", "one"].as_slice());
     assert!(rt; matches!(one, Ok(Line::One(None))));
     let decode = line(rt.alloc(), ["swd", "decode"].as_slice());
-    assert!(rt; matches!(decode, Ok(Line::Decode(None))));
+    assert!(rt; matches!(decode, Ok(Line::Decode(DecodeLine { file: None, .. }))));
     let encode = line(rt.alloc(), ["swd", "encode"].as_slice());
     assert!(rt; matches!(encode, Ok(Line::Encode(None))));
 }
@@ -102,7 +102,7 @@ fn words_with_a_file(rt: HostRuntime) -> Result<(), Fail> {
         let words = ["swd", command, "a"];
         let file = match (command, line(rt.alloc(), words.as_slice())) {
             ("one", Ok(Line::One(file))) => file,
-            ("decode", Ok(Line::Decode(file))) => file,
+            ("decode", Ok(Line::Decode(decode))) => decode.file,
             ("encode", Ok(Line::Encode(file))) => file,
             _ => None,
         };

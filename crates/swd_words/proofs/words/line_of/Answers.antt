@@ -11,13 +11,6 @@ returns-in-one c =
     (c.in-Some.ensures.name ∙ name_in_rows c.args.matches.now) c.in-Some.ensures.rows c.in-one.is
     (c.in-Ok.ensures ∙ c.get_str.ensures ∙ first_value-rows (found_of c.in-Some.rest.now) (codes "FILE"))
 
-pub returns-in-decode : goal.returns-in-decode
-returns-in-decode c =
-    from_rows (subcommand_rows_of c.args.matches.now) c.in-Some.name.now (codes "decode") (codes "FILE")
-    (rows_of (found_of c.in-Some.rest.now)) _
-    (c.in-Some.ensures.name ∙ name_in_rows c.args.matches.now) c.in-Some.ensures.rows c.in-decode.is
-    (c.in-Ok.ensures ∙ c.get_str.ensures ∙ first_value-rows (found_of c.in-Some.rest.now) (codes "FILE"))
-
 pub returns-in-encode : goal.returns-in-encode
 returns-in-encode c =
     from_rows (subcommand_rows_of c.args.matches.now) c.in-Some.name.now (codes "encode") (codes "FILE")

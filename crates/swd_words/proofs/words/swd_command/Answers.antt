@@ -10,9 +10,9 @@ pub returns-clause-app : goal.returns-clause-app
 returns-clause-app c =
     let one = c.in_ok-one.ensures.app
     ∙ ap₂ with_subcommand c.bare_command-bare.ensures.app (ap top_of c.in_ok-over_a_file.ensures.app) in
-    let decode = c.in_ok-decode.ensures.app ∙ ap₂ with_subcommand one (ap top_of c.in_ok-over_a_file-2.ensures.app) in
+    let decode = c.in_ok-decode.ensures.app ∙ ap₂ with_subcommand one (ap top_of c.in_ok-decode_command.ensures.app) in
     let encode = c.in_ok-encode.ensures.app
-    ∙ ap₂ with_subcommand decode (ap top_of c.in_ok-over_a_file-3.ensures.app) in
+    ∙ ap₂ with_subcommand decode (ap top_of c.in_ok-over_a_file-2.ensures.app) in
     let run = c.in_ok-run.ensures.app ∙ ap₂ with_subcommand encode (ap top_of c.in_ok-run_command.ensures.app) in
     IfOk-weaker c.with_sub-5.result _ _
     (λ command h. h ∙ ap₂ with_subcommand run (ap top_of c.in_ok-target_command.ensures.app))

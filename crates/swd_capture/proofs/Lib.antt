@@ -1,0 +1,3 @@
+pub mod TableLemmas
+pub mod TextLemmas
+pub mod TellerLemmas

@@ -1,0 +1,6 @@
+pub mod Places
+pub mod Names
+pub mod Flags
+pub mod Tables
+pub mod Printing
+pub mod Tellers

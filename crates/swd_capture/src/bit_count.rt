@@ -1,0 +1,31 @@
+//! How many bits items have.
+ghost use Rattle.std.specs.Prelude.{◌≡◌, length, true};
+ghost use Rattle.swd_bits.specs.Transactions.{spelling};
+ghost use Rattle.swd_trace.specs.Texts.{item_bits};
+
+use swd_bits::{MOVED_BITS, REFUSED_BITS, SWITCH_BITS, Tx, TxEnd, UNACKNOWLEDGED_BITS};
+use swd_trace::Item;
+
+/// How many bits an item has.
+pub(crate) fn bit_count(item: &Item) -> u64
+    ensures { result ≡ length (item_bits item.now) }
+{
+    match item {
+        Item::Reset(count) | Item::Idle(count) => *count,
+        Item::Switch => u64::from(SWITCH_BITS),
+        Item::Junk(_) => 1,
+        Item::Cut(bits) => u64::from(bits.len),
+        Item::Tx(tx) => u64::from(tx_bit_count(tx)),
+    }
+}
+
+// How many bits a transaction has.
+fn tx_bit_count(tx: &Tx) -> u8
+    ensures { result ≡ length (spelling tx.now true true) }
+{
+    match tx.result {
+        TxEnd::Moved { .. } => MOVED_BITS,
+        TxEnd::Wait | TxEnd::Fault => REFUSED_BITS,
+        TxEnd::NoAck(_) => UNACKNOWLEDGED_BITS,
+    }
+}

@@ -1,0 +1,289 @@
+//! Registers by name, where SELECT is known.
+ghost use Rattle.std.specs.Prelude.{◌≡◌, ◌+◌, ◌-◌, ◌<◌, ◌≤◌, ◌++◌, ◌∷◌, [], length};
+ghost use Rattle.arrayvec.specs.ArrayString.{array_string_len};
+ghost use Rattle.swd_bits.specs.Listing.{address, direction, hex_digit, outcome, port};
+ghost use Rattle.swd_capture.specs.Names.{access_name, ap_number, ap_register, bank, banked, banked_data_name};
+ghost use Rattle.swd_capture.specs.Names.{banked_name, barrier_name, dp_register, identity_name, mem_ap_name};
+ghost use Rattle.swd_capture.specs.Names.{register, select_after, select_by, writes_select};
+ghost use Rattle.swd_capture.specs.Printing.{named_tx};
+
+use crate::flags::{LONGEST_FLAGS, flagged_by, push_flags};
+use arrayvec::ArrayString;
+use swd_bits::{LONGEST_TX_LINE, Reg4, Request, Tx, TxEnd};
+use swd_port::Select;
+use swd_trace::Item;
+
+// The most bytes of a register's name.
+const LONGEST_REGISTER: usize = 30;
+
+// How many bytes of a listing line stand before the direction.
+const BEHIND_ADDRESS: usize = 5;
+
+/// The most bytes of a transaction's line with names.
+pub(crate) const LONGEST_NAMED: usize = 3 + LONGEST_REGISTER + LONGEST_TX_LINE + LONGEST_FLAGS;
+
+// Whether a request writes SELECT.
+fn is_select_write(request: Request) -> bool
+    ensures { result ≡ writes_select request }
+{
+    match request.addr {
+        Reg4::R8 => !request.ap && !request.read,
+        Reg4::R0 | Reg4::R4 | Reg4::RC => false,
+    }
+}
+
+// What is known of SELECT after a transaction.
+fn selected_by(select: Option<Select>, request: Request, end: TxEnd) -> Option<Select>
+    ensures { result ≡ select_by select request end }
+{
+    match end {
+        TxEnd::Moved { word, parity_ok } => {
+            if !is_select_write(request) {
+                select
+            } else if parity_ok {
+                Some(Select::of(word))
+            } else {
+                None
+            }
+        }
+        TxEnd::Wait | TxEnd::Fault => select,
+        TxEnd::NoAck(_) => None,
+    }
+}
+
+/// What is known of SELECT after an item.
+pub(crate) fn selected_after(select: Option<Select>, item: &Item) -> Option<Select>
+    ensures { result ≡ select_after select item.now }
+{
+    match item {
+        Item::Tx(tx) => selected_by(select, tx.request, tx.result),
+        Item::Idle(_) => select,
+        Item::Reset(_) | Item::Switch | Item::Junk(_) | Item::Cut(_) => None,
+    }
+}
+
+fn banked_text(number: u8) -> &'static str
+    ensures bytes { result.now ≡ banked_name number }
+    ensures len { length result.now ≤ 10 }
+{
+    match number {
+        0 => "ctrl/stat ",
+        1 => "dlcr ",
+        2 => "targetid ",
+        3 => "dlpidr ",
+        4 => "eventstat ",
+        _ => "4 ",
+    }
+}
+
+fn address_text(addr: Reg4) -> &'static str
+    ensures bytes { result.now ≡ address addr }
+    ensures len { length result.now ≤ 10 }
+{
+    match addr {
+        Reg4::R0 => "0 ",
+        Reg4::R4 => "4 ",
+        Reg4::R8 => "8 ",
+        Reg4::RC => "c ",
+    }
+}
+
+fn access_text(addr: Reg4) -> &'static str
+    ensures bytes { result.now ≡ access_name addr }
+    ensures len { length result.now ≤ 10 }
+{
+    match addr {
+        Reg4::R0 => "csw ",
+        Reg4::R4 => "tar ",
+        Reg4::R8 => "tar_high ",
+        Reg4::RC => "drw ",
+    }
+}
+
+fn banked_data_text(addr: Reg4) -> &'static str
+    ensures bytes { result.now ≡ banked_data_name addr }
+    ensures len { length result.now ≤ 10 }
+{
+    match addr {
+        Reg4::R0 => "bd0 ",
+        Reg4::R4 => "bd1 ",
+        Reg4::R8 => "bd2 ",
+        Reg4::RC => "bd3 ",
+    }
+}
+
+fn barrier_text(addr: Reg4) -> &'static str
+    ensures bytes { result.now ≡ barrier_name addr }
+    ensures len { length result.now ≤ 10 }
+{
+    match addr {
+        Reg4::R0 => "mbt ",
+        _ => address_text(addr),
+    }
+}
+
+fn identity_text(addr: Reg4) -> &'static str
+    ensures bytes { result.now ≡ identity_name addr }
+    ensures len { length result.now ≤ 10 }
+{
+    match addr {
+        Reg4::R0 => "base_high ",
+        Reg4::R4 => "cfg ",
+        Reg4::R8 => "base ",
+        Reg4::RC => "idr ",
+    }
+}
+
+// A register of a memory access port.
+fn mem_ap_text(number: u8, addr: Reg4) -> &'static str
+    ensures bytes { result.now ≡ mem_ap_name number addr }
+    ensures len { length result.now ≤ 10 }
+{
+    match number {
+        0 => access_text(addr),
+        1 => banked_data_text(addr),
+        2 => barrier_text(addr),
+        15 => identity_text(addr),
+        _ => address_text(addr),
+    }
+}
+
+// Adds the number of an access port, where it isn't 0.
+fn push_ap_number<const N: usize>(text: &mut ArrayString<N>, number: u8)
+    requires { array_string_len text.old + 4 ≤ N }
+    ensures bytes { text.new.bytes ≡ text.old.bytes ++ ap_number number }
+    ensures len { array_string_len text.new ≤ array_string_len text.old + 4 }
+{
+    if number == 0 {
+        return;
+    }
+    let mut digits = itoa::Buffer::new();
+    text.push_str(digits.format(number));
+    text.push_str(" ");
+}
+
+fn digit_text(digit: u8) -> &'static str
+    requires { digit < 16 }
+    ensures { result.now ≡ hex_digit digit ∷ [] }
+{
+    match digit {
+        0 => "0",
+        1 => "1",
+        2 => "2",
+        3 => "3",
+        4 => "4",
+        5 => "5",
+        6 => "6",
+        7 => "7",
+        8 => "8",
+        9 => "9",
+        10 => "a",
+        11 => "b",
+        12 => "c",
+        13 => "d",
+        14 => "e",
+        _ => "f",
+    }
+}
+
+// Adds the number of a bank, where it isn't 0.
+fn push_bank<const N: usize>(text: &mut ArrayString<N>, number: u8)
+    requires { array_string_len text.old + 7 ≤ N }
+    ensures bytes { text.new.bytes ≡ text.old.bytes ++ bank number }
+    ensures len { array_string_len text.new ≤ array_string_len text.old + 7 }
+{
+    if number == 0 {
+        return;
+    }
+    text.push_str("bank ");
+    text.push_str(digit_text(number % 16));
+    text.push_str(" ");
+}
+
+// Adds the debug port's register at address 4.
+fn push_banked<const N: usize>(text: &mut ArrayString<N>, select: Option<Select>)
+    requires { array_string_len text.old + LONGEST_REGISTER ≤ N }
+    ensures bytes { text.new.bytes ≡ text.old.bytes ++ banked select }
+    ensures len { array_string_len text.new ≤ array_string_len text.old + LONGEST_REGISTER }
+{
+    let Some(select) = select else {
+        text.push_str("4 ");
+        return;
+    };
+    push_bank(text, select.dpbanksel);
+    text.push_str(banked_text(select.dpbanksel));
+}
+
+// Adds a register of the debug port.
+fn push_dp_register<const N: usize>(
+    text: &mut ArrayString<N>,
+    select: Option<Select>,
+    addr: Reg4,
+    read: bool,
+)
+    requires { array_string_len text.old + LONGEST_REGISTER ≤ N }
+    ensures bytes { text.new.bytes ≡ text.old.bytes ++ dp_register select addr read }
+    ensures len { array_string_len text.new ≤ array_string_len text.old + LONGEST_REGISTER }
+{
+    match addr {
+        Reg4::R0 => text.push_str(if read { "dpidr " } else { "abort " }),
+        Reg4::R4 => push_banked(text, select),
+        Reg4::R8 => text.push_str(if read { "resend " } else { "select " }),
+        Reg4::RC => text.push_str(if read { "rdbuff " } else { "targetsel " }),
+    }
+}
+
+// Adds a register of an access port.
+fn push_ap_register<const N: usize>(text: &mut ArrayString<N>, select: Option<Select>, addr: Reg4)
+    requires { array_string_len text.old + LONGEST_REGISTER ≤ N }
+    ensures bytes { text.new.bytes ≡ text.old.bytes ++ ap_register select addr }
+    ensures len { array_string_len text.new ≤ array_string_len text.old + LONGEST_REGISTER }
+{
+    let Some(select) = select else {
+        text.push_str(address_text(addr));
+        return;
+    };
+    push_ap_number(text, select.apsel);
+    push_bank(text, select.apbanksel);
+    text.push_str(mem_ap_text(select.apbanksel, addr));
+}
+
+// Adds the register that a request names.
+fn push_register<const N: usize>(
+    text: &mut ArrayString<N>,
+    select: Option<Select>,
+    request: Request,
+)
+    requires { array_string_len text.old + LONGEST_REGISTER ≤ N }
+    ensures bytes { text.new.bytes ≡ text.old.bytes ++ register select request }
+    ensures len { array_string_len text.new ≤ array_string_len text.old + LONGEST_REGISTER }
+{
+    if request.ap {
+        push_ap_register(text, select, request.addr);
+    } else {
+        push_dp_register(text, select, request.addr, request.read);
+    }
+}
+
+// Adds what stands behind the address in the listing line.
+fn push_ending<const N: usize>(text: &mut ArrayString<N>, tx: &Tx)
+    requires { array_string_len text.old + LONGEST_TX_LINE ≤ N }
+    ensures bytes { text.new.bytes
+        ≡ text.old.bytes ++ (direction tx.now.request.read ++ outcome tx.now.result) }
+    ensures len { array_string_len text.new ≤ array_string_len text.old + LONGEST_TX_LINE }
+{
+    let line = tx.line();
+    text.push_str(&line.as_str()[BEHIND_ADDRESS..]);
+}
+
+/// Adds a transaction's line with the register's name and the flags of its word, without its end.
+pub(crate) fn push_named<const N: usize>(text: &mut ArrayString<N>, select: Option<Select>, tx: &Tx)
+    requires { array_string_len text.old + LONGEST_NAMED ≤ N }
+    ensures bytes { text.new.bytes ≡ text.old.bytes ++ named_tx select tx.now }
+    ensures len { array_string_len text.new ≤ array_string_len text.old + LONGEST_NAMED }
+{
+    text.push_str(if tx.request.ap { "ap " } else { "dp " });
+    push_register(text, select, tx.request);
+    push_ending(text, tx);
+    push_flags(text, flagged_by(select, tx.request), tx.result);
+}

@@ -1,0 +1,201 @@
+//! How often each kind of item came.
+ghost use Rattle.std.specs.Prelude.{◌≡◌, ◌+◌, ◌-◌, ◌/◌, ◌%◌, ◌^◌, ◌<◌, ◌≤◌, ◌++◌, ◌∷◌, [], length, min, List, slice_index};
+ghost use Rattle.std.specs.Fmt.{decimal};
+ghost use Rattle.arrayvec.specs.ArrayString.{array_string_len};
+ghost use Rattle.swd_trace.specs.declared.item.Item.{Item};
+ghost use Rattle.swd_capture.specs.Tables.{addr_name, addr_rows, direction_name, direction_rows, end_name, end_row};
+ghost use Rattle.swd_capture.specs.Tables.{other_name, parity_row, port_name, port_rows, row_line, row_name, row_of};
+ghost use Rattle.swd_capture.specs.Tables.{weight_of};
+
+use arrayvec::ArrayString;
+use swd_bits::{Reg4, Tx, TxEnd};
+use swd_trace::Item;
+
+/// How many rows a table has: a transaction's port, address, direction and end, and five other kinds.
+pub const ROWS: usize = 85;
+
+// The rows of the transactions.
+const TRANSACTION_ROWS: usize = 80;
+
+/// The most bytes of a row's line, and its end.
+pub(crate) const LONGEST_ROW: usize = 40;
+
+/// How often each kind of item came, each at most 2^64 - 1 times.
+#[derive(Drop)]
+pub(crate) struct Table {
+    counts: [u64; ROWS],
+}
+
+fn row_of_end(end: TxEnd) -> usize
+    ensures row { result ≡ end_row end }
+    ensures within { result < 5 }
+{
+    match end {
+        TxEnd::Moved { parity_ok, .. } => { if parity_ok { 0 } else { 1 } }
+        TxEnd::Wait => 2,
+        TxEnd::Fault => 3,
+        TxEnd::NoAck(_) => 4,
+    }
+}
+
+fn rows_of_port(ap: bool) -> usize
+    ensures row { result ≡ port_rows ap }
+    ensures within { result ≤ 40 }
+{
+    if ap { 40 } else { 0 }
+}
+
+fn rows_of_addr(addr: Reg4) -> usize
+    ensures row { result ≡ addr_rows addr }
+    ensures within { result ≤ 30 }
+{
+    match addr {
+        Reg4::R0 => 0,
+        Reg4::R4 => 10,
+        Reg4::R8 => 20,
+        Reg4::RC => 30,
+    }
+}
+
+fn rows_of_direction(read: bool) -> usize
+    ensures row { result ≡ direction_rows read }
+    ensures within { result ≤ 5 }
+{
+    if read { 0 } else { 5 }
+}
+
+fn row_of_tx(tx: &Tx) -> usize
+    ensures row { result ≡ row_of (Item.Tx tx.now) }
+    ensures within { result < 80 }
+{
+    rows_of_port(tx.request.ap)
+        + rows_of_addr(tx.request.addr)
+        + rows_of_direction(tx.request.read)
+        + row_of_end(tx.result)
+}
+
+// The row in which an item is counted.
+fn row_of_item(item: &Item) -> usize
+    ensures row { result ≡ row_of item.now }
+    ensures within { result < ROWS }
+{
+    match item {
+        Item::Tx(tx) => row_of_tx(tx),
+        Item::Reset(_) => 80,
+        Item::Switch => 81,
+        Item::Idle(_) => 82,
+        Item::Junk(_) => 83,
+        Item::Cut(_) => 84,
+    }
+}
+
+// What an item adds to its row.
+fn weight_of_item(item: &Item) -> u64
+    ensures { result ≡ weight_of item.now }
+{
+    match item {
+        Item::Idle(count) => *count,
+        Item::Cut(bits) => u64::from(bits.len),
+        Item::Tx(_) | Item::Reset(_) | Item::Switch | Item::Junk(_) => 1,
+    }
+}
+
+fn end_text(end: usize) -> &'static str
+    ensures bytes { result.now ≡ end_name end }
+    ensures len { length result.now ≤ 6 }
+{
+    match end {
+        0 => "ok",
+        1 => "bad",
+        2 => "wait",
+        3 => "fault",
+        _ => "none",
+    }
+}
+
+fn other_text(row: usize) -> &'static str
+    ensures bytes { result.now ≡ other_name row }
+    ensures len { length result.now ≤ 6 }
+{
+    match row {
+        80 => "reset",
+        81 => "switch",
+        82 => "idle",
+        83 => "junk",
+        _ => "cut",
+    }
+}
+
+fn addr_text(number: usize) -> &'static str
+    ensures bytes { result.now ≡ addr_name number }
+    ensures len { length result.now ≤ 2 }
+{
+    match number {
+        0 => "0 ",
+        1 => "4 ",
+        2 => "8 ",
+        _ => "c ",
+    }
+}
+
+// Adds a row's name.
+fn push_row_name<const N: usize>(text: &mut ArrayString<N>, row: usize)
+    requires { array_string_len text.old + 17 ≤ N }
+    ensures bytes { text.new.bytes ≡ text.old.bytes ++ row_name row }
+    ensures len { array_string_len text.new ≤ array_string_len text.old + 17 }
+{
+    if row < TRANSACTION_ROWS {
+        text.push_str(if row / 40 == 0 { "dp " } else { "ap " });
+        text.push_str(addr_text(row / 10 % 4));
+        text.push_str(if row / 5 % 2 == 0 { "read " } else { "write " });
+        text.push_str(end_text(row % 5));
+    } else {
+        text.push_str(other_text(row));
+    }
+}
+
+// Adds a row's line and its end; none where nothing was counted.
+fn push_row_line<const N: usize>(text: &mut ArrayString<N>, count: u64, row: usize)
+    requires { array_string_len text.old + LONGEST_ROW ≤ N }
+    ensures bytes { text.new.bytes ≡ text.old.bytes ++ row_line count (row_name row) }
+    ensures len { array_string_len text.new ≤ array_string_len text.old + LONGEST_ROW }
+{
+    if count == 0 {
+        return;
+    }
+    let mut digits = itoa::Buffer::new();
+    text.push_str(digits.format(count));
+    text.push_str(" ");
+    push_row_name(text, row);
+    text.push_str("\n");
+}
+
+impl Table {
+    ghost use Rattle.swd_capture.specs.Tables.{IsTableOf, row_text};
+
+    /// A table in which nothing is counted.
+    pub(crate) fn new() -> Table
+        ensures { IsTableOf [] result }
+    {
+        Table { counts: [0; ROWS] }
+    }
+
+    /// Counts an item in its row.
+    pub(crate) fn add(&mut self, item: &Item)
+        ensures { (items : List Item) → IsTableOf items self.old → IsTableOf (items ++ item.now ∷ []) self.new }
+    {
+        let row = row_of_item(item);
+        self.counts[row] = self.counts[row].saturating_add(weight_of_item(item));
+    }
+
+    /// Adds the line of a row, and its end.
+    pub(crate) fn push_row<const N: usize>(&self, row: usize, text: &mut ArrayString<N>)
+        requires row { row < ROWS }
+        requires room { array_string_len text.old + LONGEST_ROW ≤ N }
+        ensures bytes { (items : List Item) → IsTableOf items self.now
+            → text.new.bytes ≡ text.old.bytes ++ row_text items row }
+        ensures len { array_string_len text.new ≤ array_string_len text.old + LONGEST_ROW }
+    {
+        push_row_line(text, self.counts[row], row);
+    }
+}

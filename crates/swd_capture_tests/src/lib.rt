@@ -1,0 +1,5 @@
+//! The tests of what is printed of captures.
+#![tactic(auto)]
+
+#[cfg(test)]
+mod tests;

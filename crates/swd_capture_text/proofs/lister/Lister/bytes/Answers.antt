@@ -1,0 +1,66 @@
+use Rattle.std.proofs.Common.{◌≡◌, ℕ, suc, ◌+◌, ◌-◌, ◌^◌, ◌<◌, min, List, [], ◌∷◌, ◌++◌, length, take, drop, get_or}
+use Rattle.std.proofs.Common.{sym, ap, ◌∙◌, subst, append_assoc, add-one, take_all, arith}
+use Rattle.std.proofs.Math.Seq.{take-suc}
+use Rattle.std.proofs.lemmas.List.{length-append, length-take-le}
+use Rattle.swd_bits.proofs.ScanLemmas.{parted}
+use Rattle.swd_text.specs.Decoding.{StopsWith}
+use Rattle.swd_text.specs.Listers.{StopsAt}
+use Rattle.swd_text.proofs.DecodingLemmas.{decided_by, stops_with}
+use Rattle.swd_capture_text.specs.Listers.{GoesOn}
+use Rattle.swd_capture_text.proofs.lister.Lister.bytes.Goals as goal
+
+least : (place index before seen : ℕ) → place ≡ min before (2 ^ 64 - 1) → seen ≡ before + index
+    → min (place + index) (2 ^ 64 - 1) ≡ min seen (2 ^ 64 - 1)
+least place index before seen p q = omega arith
+
+pub returns-in-Err-clause-err : goal.returns-in-Err-clause-err
+returns-in-Err-clause-err g c = λ start printed seen h place.
+    let fault = c.in-Err.fault in
+    let piece = c.args.piece.now in
+    let index = c.loop-index.index in
+    let within : index < length piece = c.loop-index-test.true in
+    let byte = get_or piece index 0 in
+    let so_far = seen ++ take index piece in
+    let front : length (take index piece) ≡ index = length-take-le index piece (omega arith) in
+    let len : length so_far ≡ length seen + length (take index piece) = length-append seen (take index piece) in
+    let far : length so_far ≡ length seen + index = omega arith in
+    let here : c.loop-index.self.place ≡ c.args.self.now.place = c.loop-index.invariant.place in
+    let at : min (c.loop-index.self.place + index) (2 ^ 64 - 1) ≡ min (length so_far) (2 ^ 64 - 1) =
+    least c.loop-index.self.place index (length seen) (length so_far) (here ∙ place) far in
+    let s = c.in-Err.ensures.err start printed so_far (c.loop-index.invariant.goes start printed seen h) in
+    let listed = s.1.1 in
+    let due = decided_by c.byte.new.self.decoder s.1.0 so_far listed.read in
+    record {
+      items = listed.read.items;
+      stops = λ more.
+          subst (StopsWith fault listed.read.items) (parted seen piece more index within)
+          (stops_with fault so_far (drop (suc index) piece ++ more) byte listed.read.items
+          (subst (λ p. StopsAt fault p so_far byte) at s.0) due);
+      sends = listed.sends;
+    }
+
+-- one byte more of the piece
+next_byte : (seen piece : List ℕ) (index : ℕ) → index < length piece
+    → (seen ++ take index piece) ++ get_or piece index 0 ∷ [] ≡ seen ++ take (index + 1) piece
+next_byte seen piece index h = append_assoc seen (take index piece) (get_or piece index 0 ∷ [])
+    ∙ ap (λ x. seen ++ x) (sym (ap (λ n. take n piece) (add-one index) ∙ take-suc piece index 0 h))
+
+pub loop-index-preserved : goal.loop-index-preserved
+loop-index-preserved g c = record {
+  within = omega arith;
+  settled = c.byte.ensures.settled;
+  place = c.byte.ensures.place ∙ c.loop-index.invariant.place;
+  writer = c.byte.ensures.writer ∙ c.loop-index.invariant.writer;
+  goes = λ start printed seen h.
+      subst (GoesOn g.W.Write.contents start printed c.byte.new.self c.byte.new.block)
+      (next_byte seen c.args.piece.now c.loop-index.index c.loop-index-test.true)
+      (c.in_default.ensures.ok start printed (seen ++ take c.loop-index.index c.args.piece.now)
+      (c.loop-index.invariant.goes start printed seen h));
+}
+
+pub returns-clause-ok : goal.returns-clause-ok
+returns-clause-ok g c = λ start printed seen h.
+    let all : take c.loop-index.index c.args.piece.now ≡ c.args.piece.now = take_all c.loop-index.index c.args.piece.now
+    (omega arith) in
+    subst (λ x. GoesOn g.W.Write.contents start printed c.loop-index.self c.loop-index.block (seen ++ x)) all
+    (c.loop-index.invariant.goes start printed seen h)

@@ -1,0 +1,29 @@
+//! The engine of `swd decode` with an option: from a trace text to what is printed of it.
+ghost use Rattle.swd_capture_text.specs.Captures.{Prints};
+
+use crate::lister::Lister;
+use std::io::{Read, Write};
+use swd_capture::Printed;
+use swd_io::read_pieces;
+use swd_text::EngineFault;
+
+/// Reads a trace text, and writes what is to be printed of it: of each item as soon as it is decided, whatever may
+/// follow, and at the end the rows of a table. It takes no memory, and its time is linear in the text.
+///
+/// At `Ok` all has been written. At `Text` and `Read` what is printed of the items that were decided before has been
+/// written, and no rows. At `Write` exactly the first `written` bytes of that went out. The first fault that is met is
+/// answered, but where the writer fails in what stands before it, that is. Nothing is tried again.
+pub fn print_capture<R: Read, W: Write>(
+    printed: Printed,
+    reader: &mut R,
+    writer: &mut W,
+) -> Result<(), EngineFault>
+    ensures { Prints printed result (R.remaining reader.old) (R.remaining reader.new)
+        (W.contents writer.old) (W.contents writer.new) }
+{
+    let mut lister = Lister::new(printed);
+    match read_pieces(reader, writer, &mut lister) {
+        Ok(()) => lister.finish(writer),
+        Err(unread) => Err(unread.fault_or(EngineFault::Read)),
+    }
+}

@@ -1,0 +1,18 @@
+use Rattle.std.proofs.Common.{◌∙◌, ◌≡◌, ◌↔◌, Option, Some, true, subst, codes}
+use Rattle.clap.specs.Words.{Text, found_of}
+use Rattle.clap.proofs.WalkLemmas.{first_value-rows}
+use Rattle.swd_words.proofs.decode_words.decode_line.Goals as goal
+
+pub returns : goal.returns
+returns c = record {
+  file = c.in-Ok.ensures ∙ c.get_str.ensures ∙ first_value-rows (found_of c.args.matches.now) (codes "FILE");
+  places = subst (λ (word : Option Text). (c.is_asked_for-places.result ≡ true) ↔ (word ≡ Some (codes "true")))
+      (c.get_str-2.ensures ∙ first_value-rows (found_of c.args.matches.now) (codes "places"))
+      c.is_asked_for-places.ensures;
+  names = subst (λ (word : Option Text). (c.is_asked_for-names.result ≡ true) ↔ (word ≡ Some (codes "true")))
+      (c.get_str-3.ensures ∙ first_value-rows (found_of c.args.matches.now) (codes "names"))
+      c.is_asked_for-names.ensures;
+  count = subst (λ (word : Option Text). (c.is_asked_for-count.result ≡ true) ↔ (word ≡ Some (codes "true")))
+      (c.get_str-4.ensures ∙ first_value-rows (found_of c.args.matches.now) (codes "count"))
+      c.is_asked_for-count.ensures;
+}

@@ -1,0 +1,105 @@
+//! The words of `swd decode`.
+ghost use Rattle.std.specs.Prelude.{◌≡◌, IfOk, false};
+ghost use Rattle.clap.specs.Words.{app_of, found_of, rows_of, rule_of};
+ghost use Rattle.clap.specs.declared.builder.command.Command.TheViews.{out-Command};
+ghost use Rattle.swd_words.specs.Commands.{count_rule, decode_app, names_rule, over_file, places_rule, IsDecodeOf};
+
+use crate::command::{DecodeLine, LineFault};
+use crate::words::{file_arg, is_asked_for, owned, refused, with_arg};
+use clap::error::ErrorKind;
+use clap::{Arg, ArgAction, ArgMatches, Command};
+use std::alloc::{AllocError, Global};
+
+const DECODE_ABOUT: &str = "Lists a trace, one line an item";
+
+const DECODE_AFTER: &str = "\
+With --places each line begins with @N: N bits of the trace stand before the
+item's first one.
+
+With --names a register has its name where the trace shows what SELECT holds:
+  dp ctrl/stat read ok 000000a0 sticky_err wdata_err
+  ap csw write ok 23000012
+  ap 1 bank f idr read wait
+The access port and the bank stand before the name where they aren't 0. The set
+flags of ABORT, CTRL/STAT and CSW stand behind a word that moved with right
+parity; a read of an access port returns the word of the read before it, so it
+has none. Behind a line reset, and behind bits that belong to nothing, SELECT is
+unknown until it is written: a register is then a number, as without --names.
+
+With --count there is no listing. At the end each kind of item that came has a
+line, its count first:
+  1042 ap c write ok
+  3 dp 4 read wait
+  2 reset
+  96 idle
+Of idle, junk and cut the bits are counted. A trace with a fault has no counts.";
+
+const COUNT_ALONE: &str = "--count goes with neither --places nor --names";
+
+// Whether each line begins with its place.
+fn places_arg<'a>(alloc: Global) -> Arg<'a>
+    ensures rule { rule_of result ≡ places_rule }
+    ensures local { result.global ≡ false }
+{
+    Arg::new(alloc, "places")
+        .long("places")
+        .action(ArgAction::SetTrue)
+        .help("Begin each line with the item's place in the trace")
+}
+
+// Whether registers have their names.
+fn names_arg<'a>(alloc: Global) -> Arg<'a>
+    ensures rule { rule_of result ≡ names_rule }
+    ensures local { result.global ≡ false }
+{
+    Arg::new(alloc, "names")
+        .long("names")
+        .action(ArgAction::SetTrue)
+        .help("Name registers and the set flags of their words")
+}
+
+// Whether items are counted in place of a listing.
+fn count_arg<'a>(alloc: Global) -> Arg<'a>
+    ensures rule { rule_of result ≡ count_rule }
+    ensures local { result.global ≡ false }
+{
+    Arg::new(alloc, "count")
+        .long("count")
+        .action(ArgAction::SetTrue)
+        .help("Count each kind of item in place of a listing")
+}
+
+/// The command that lists a trace.
+pub(crate) fn decode_command<'a>(alloc: Global) -> Result<Command<'a>, AllocError>
+    ensures app { IfOk result (λ c. app_of c ≡ decode_app) }
+    ensures local { IfOk result (λ c. (out-Command c).has_globals ≡ false) }
+{
+    let bare = Command::new(alloc, "decode")
+        .about(DECODE_ABOUT)
+        .after_help(DECODE_AFTER);
+    let file = with_arg(bare, file_arg(alloc))?;
+    let places = with_arg(file, places_arg(alloc))?;
+    let names = with_arg(places, names_arg(alloc))?;
+    with_arg(names, count_arg(alloc))
+}
+
+/// What `swd decode` is given.
+pub(crate) fn decode_line(alloc: Global, matches: &ArgMatches<'_>) -> Result<DecodeLine, LineFault>
+    ensures { IfOk result (λ decode. IsDecodeOf decode (rows_of (found_of matches.now))) }
+{
+    let Ok(file) = owned(alloc, matches.get_str("FILE")) else {
+        return Err(LineFault::Memory);
+    };
+    let places = is_asked_for(matches.get_str("places"));
+    let names = is_asked_for(matches.get_str("names"));
+    let count = is_asked_for(matches.get_str("count"));
+    if count && (places || names) {
+        return Err(refused(alloc, ErrorKind::ArgumentConflict, COUNT_ALONE));
+    }
+    Ok(DecodeLine {
+        file,
+        places,
+        names,
+        count,
+    })
+}
