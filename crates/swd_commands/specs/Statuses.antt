@@ -8,7 +8,8 @@ use Rattle.swd_text.specs.Encoding.{Encodes}
 use Rattle.swd_text.specs.declared.fault.EngineFault.{EngineFault}
 use Rattle.swd_capture.specs.declared.printed.Printed.{Printed}
 use Rattle.swd_capture_text.specs.Captures.{Prints}
-use Rattle.swd_commands.specs.Decodings.{printed_for}
+use Rattle.swd_commands.specs.Decodings.{observer_for, printed_for}
+use Rattle.swd_observer_text.specs.Observes.{Observes}
 use Rattle.swd_words.specs.declared.command.Line.{Line}
 use Rattle.swd_words.specs.declared.command.Line.TheVariants.{One, Decode, Encode, Run, Target}
 use Rattle.swd_words.specs.declared.command.RunLine.{RunLine}
@@ -70,12 +71,15 @@ abbrev pub PerformsWhere : Bool → RunLine → ℕ → Option (List ℕ) → Op
 PerformsWhere false run status text old new = PerformsRun run.plan run status text old new
 PerformsWhere true run status text old new = NotOpened status old new
 
--- the listing, or something in its place
-abbrev pub PerformsDecode : Option Printed → ℕ → Option (List ℕ) → Option (List ℕ) → Option (List ℕ)
+-- the accesses of a target that was just made or not; or the listing, or something in its place
+abbrev pub PerformsDecode : Bool → Bool → Option Printed → ℕ → Option (List ℕ) → Option (List ℕ) → Option (List ℕ)
     → Option (List ℕ) → Type 0
-PerformsDecode None status text left old new =
+PerformsDecode true made printed status text left old new =
+    (answer : Result (Unit {0}) EngineFault) × Observes (observer_for made) answer text left old new
+    × (status ≡ status_of (is_ok answer))
+PerformsDecode false made None status text left old new =
     (answer : Result (Unit {0}) EngineFault) × Decodes answer text left old new × (status ≡ status_of (is_ok answer))
-PerformsDecode (Some printed) status text left old new =
+PerformsDecode false made (Some printed) status text left old new =
     (answer : Result (Unit {0}) EngineFault) × Prints printed answer text left old new
     × (status ≡ status_of (is_ok answer))
 
@@ -83,7 +87,8 @@ PerformsDecode (Some printed) status text left old new =
 abbrev pub Performs : Line → ℕ → Option (List ℕ) → Option (List ℕ) → Option (List ℕ) → Option (List ℕ) → Type 0
 Performs (One file) status text left old new =
     (answer : Result (Unit {0}) OneFault) × Answers answer text old new × (status ≡ status_of (is_ok answer))
-Performs (Decode decode) status text left old new = PerformsDecode (printed_for decode) status text left old new
+Performs (Decode decode) status text left old new =
+    PerformsDecode decode.accesses decode.made (printed_for decode) status text left old new
 Performs (Encode file) status text left old new =
     (answer : Result (Unit {0}) EngineFault) × Encodes answer text old new × (status ≡ status_of (is_ok answer))
 Performs (Run run) status text left old new = PerformsWhere run.remote run status text old new

@@ -1,12 +1,14 @@
 //! What `swd decode` does.
 ghost use Rattle.std.specs.Prelude.{◌≡◌};
-ghost use Rattle.swd_commands.specs.Decodings.{printed_for};
+ghost use Rattle.swd_commands.specs.Decodings.{observer_for, printed_for};
 ghost use Rattle.swd_commands.specs.Statuses.{PerformsDecode};
 
 use crate::report::engine_status;
 use std::io::{Read, Write};
 use swd_capture::{LineForm, Printed};
 use swd_capture_text::print_capture;
+use swd_observer::TraceObserver;
+use swd_observer_text::observe_text;
 use swd_text::decode_text;
 use swd_words::DecodeLine;
 
@@ -26,6 +28,17 @@ fn printed(decode: &DecodeLine) -> Option<Printed>
     None
 }
 
+// What is known of a target that was just made, or of another.
+fn observer(made: bool) -> TraceObserver
+    ensures { result ≡ observer_for made }
+{
+    if made {
+        TraceObserver::of_made()
+    } else {
+        TraceObserver::new()
+    }
+}
+
 /// Lists a trace, or prints what is asked for in place of its listing.
 pub(crate) fn perform_decode<R: Read, O: Write, E: Write>(
     decode: &DecodeLine,
@@ -33,9 +46,13 @@ pub(crate) fn perform_decode<R: Read, O: Write, E: Write>(
     output: &mut O,
     errors: &mut E,
 ) -> u8
-    ensures { PerformsDecode (printed_for decode.now) result (R.remaining input.old) (R.remaining input.new)
-        (O.contents output.old) (O.contents output.new) }
+    ensures { PerformsDecode decode.now.accesses decode.now.made (printed_for decode.now) result
+        (R.remaining input.old) (R.remaining input.new) (O.contents output.old) (O.contents output.new) }
 {
+    if decode.accesses {
+        let answer = observe_text(input, output, observer(decode.made));
+        return engine_status(errors, answer);
+    }
     match printed(decode) {
         Some(printed) => engine_status(errors, print_capture(printed, input, output)),
         None => engine_status(errors, decode_text(input, output)),

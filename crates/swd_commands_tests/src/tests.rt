@@ -10,6 +10,7 @@ use swd_script::ScriptFault;
 use swd_text::{EngineFault, TextFault};
 use swd_trace::ListFault;
 
+mod accesses;
 mod calls;
 mod expect;
 mod plan;

@@ -24,8 +24,8 @@ file_rule = new_rule (codes "FILE")
 abbrev pub over_file : Text → App
 over_file name = with_rule (new_app name) file_rule
 
--- whether lines begin with their place, by --places; whether registers have names, by --names; and whether items are
--- counted, by --count
+-- whether lines begin with their place, by --places; whether registers have names, by --names; whether items are
+-- counted, by --count; and whether accesses are told, by --accesses, of a target that was just made, by --made
 abbrev pub places_rule : Rule
 places_rule = let rule = new_rule (codes "places") in record rule
     { long = Some (codes "places"); action = Some SetTrue }
@@ -38,9 +38,19 @@ abbrev pub count_rule : Rule
 count_rule = let rule = new_rule (codes "count") in record rule
     { long = Some (codes "count"); action = Some SetTrue }
 
+abbrev pub accesses_rule : Rule
+accesses_rule = let rule = new_rule (codes "accesses") in record rule
+    { long = Some (codes "accesses"); action = Some SetTrue }
+
+abbrev pub made_rule : Rule
+made_rule = let rule = new_rule (codes "made") in record rule
+    { long = Some (codes "made"); action = Some SetTrue }
+
 -- the command that lists a trace
 abbrev pub decode_app : App
-decode_app = with_rule (with_rule (with_rule (over_file (codes "decode")) places_rule) names_rule) count_rule
+decode_app =
+    with_rule (with_rule (with_rule (with_rule (with_rule (over_file (codes "decode")) places_rule) names_rule)
+    count_rule) accesses_rule) made_rule
 
 -- the program without its commands: one of them is required
 abbrev pub bare_app : App
@@ -134,6 +144,8 @@ pub record IsDecodeOf (decode : DecodeLine) (rows : List Row) : Type 0 where
   pub places : (decode.places ≡ true) ↔ (first_of (codes "places") rows ≡ Some (codes "true"))
   pub names : (decode.names ≡ true) ↔ (first_of (codes "names") rows ≡ Some (codes "true"))
   pub count : (decode.count ≡ true) ↔ (first_of (codes "count") rows ≡ Some (codes "true"))
+  pub accesses : (decode.accesses ≡ true) ↔ (first_of (codes "accesses") rows ≡ Some (codes "true"))
+  pub made : (decode.made ≡ true) ↔ (first_of (codes "made") rows ≡ Some (codes "true"))
 
 -- the number of tries, at most 1,000, is the one that the word stands for; 8 without a word
 abbrev pub AreTries : ℕ → Option Text → Type 0

@@ -6,7 +6,8 @@ use clap::Error;
 pub enum Line {
     /// `swd one [FILE]`: without a file, standard input.
     One(Option<String>),
-    /// `swd decode [FILE] [--places] [--names]`, or `swd decode [FILE] --count`.
+    /// `swd decode [FILE] [--places] [--names]`, `swd decode [FILE] --count`, or
+    /// `swd decode [FILE] --accesses [--made]`.
     Decode(DecodeLine),
     /// `swd encode [FILE]`: without a file, standard input.
     Encode(Option<String>),
@@ -28,6 +29,10 @@ pub struct DecodeLine {
     pub names: bool,
     /// Whether items are counted in place of a listing.
     pub count: bool,
+    /// Whether it is told what became of each access, in place of a listing.
+    pub accesses: bool,
+    /// Whether the target was just made then.
+    pub made: bool,
 }
 
 /// What `swd run` is given.

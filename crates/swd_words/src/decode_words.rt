@@ -2,7 +2,8 @@
 ghost use Rattle.std.specs.Prelude.{◌≡◌, IfOk, false};
 ghost use Rattle.clap.specs.Words.{app_of, found_of, rows_of, rule_of};
 ghost use Rattle.clap.specs.declared.builder.command.Command.TheViews.{out-Command};
-ghost use Rattle.swd_words.specs.Commands.{count_rule, decode_app, names_rule, over_file, places_rule, IsDecodeOf};
+ghost use Rattle.swd_words.specs.Commands.{accesses_rule, count_rule, decode_app, made_rule, names_rule, over_file};
+ghost use Rattle.swd_words.specs.Commands.{places_rule, IsDecodeOf};
 
 use crate::command::{DecodeLine, LineFault};
 use crate::words::{file_arg, is_asked_for, owned, refused, with_arg};
@@ -32,9 +33,22 @@ line, its count first:
   3 dp 4 read wait
   2 reset
   96 idle
-Of idle, junk and cut the bits are counted. A trace with a fault has no counts.";
+Of idle, junk and cut the bits are counted. A trace with a fault has no counts.
+
+With --accesses there is a line for each access of the target's memory, which
+begins with the place of its request:
+  @590 w 20000000 deadbeef      it took place, once
+  @787 w 20000000 deadbeef may  once or not at all: the trace doesn't show which
+  @925 r 30000000 ???????? not  it didn't: a bus error, or damaged data
+  @990 gap                      bits that belong to nothing: they may hide some
+????????: the trace doesn't show this address or word. With --made it is the
+trace of a target that was just made, without it nothing is known at first.";
 
 const COUNT_ALONE: &str = "--count goes with neither --places nor --names";
+
+const ACCESSES_ALONE: &str = "--accesses goes with none of --places, --names and --count";
+
+const MADE_WITH_ACCESSES: &str = "--made goes with --accesses";
 
 // Whether each line begins with its place.
 fn places_arg<'a>(alloc: Global) -> Arg<'a>
@@ -69,6 +83,28 @@ fn count_arg<'a>(alloc: Global) -> Arg<'a>
         .help("Count each kind of item in place of a listing")
 }
 
+// Whether it is told what became of each access, in place of a listing.
+fn accesses_arg<'a>(alloc: Global) -> Arg<'a>
+    ensures rule { rule_of result ≡ accesses_rule }
+    ensures local { result.global ≡ false }
+{
+    Arg::new(alloc, "accesses")
+        .long("accesses")
+        .action(ArgAction::SetTrue)
+        .help("Tell what became of each access of memory")
+}
+
+// Whether the target was just made.
+fn made_arg<'a>(alloc: Global) -> Arg<'a>
+    ensures rule { rule_of result ≡ made_rule }
+    ensures local { result.global ≡ false }
+{
+    Arg::new(alloc, "made")
+        .long("made")
+        .action(ArgAction::SetTrue)
+        .help("With --accesses, of a target that was just made")
+}
+
 /// The command that lists a trace.
 pub(crate) fn decode_command<'a>(alloc: Global) -> Result<Command<'a>, AllocError>
     ensures app { IfOk result (λ c. app_of c ≡ decode_app) }
@@ -80,7 +116,9 @@ pub(crate) fn decode_command<'a>(alloc: Global) -> Result<Command<'a>, AllocErro
     let file = with_arg(bare, file_arg(alloc))?;
     let places = with_arg(file, places_arg(alloc))?;
     let names = with_arg(places, names_arg(alloc))?;
-    with_arg(names, count_arg(alloc))
+    let count = with_arg(names, count_arg(alloc))?;
+    let accesses = with_arg(count, accesses_arg(alloc))?;
+    with_arg(accesses, made_arg(alloc))
 }
 
 /// What `swd decode` is given.
@@ -93,13 +131,24 @@ pub(crate) fn decode_line(alloc: Global, matches: &ArgMatches<'_>) -> Result<Dec
     let places = is_asked_for(matches.get_str("places"));
     let names = is_asked_for(matches.get_str("names"));
     let count = is_asked_for(matches.get_str("count"));
+    let accesses = is_asked_for(matches.get_str("accesses"));
+    let made = is_asked_for(matches.get_str("made"));
     if count && (places || names) {
         return Err(refused(alloc, ErrorKind::ArgumentConflict, COUNT_ALONE));
+    }
+    if accesses && (places || names || count) {
+        return Err(refused(alloc, ErrorKind::ArgumentConflict, ACCESSES_ALONE));
+    }
+    if made && !accesses {
+        let kind = ErrorKind::MissingRequiredArgument;
+        return Err(refused(alloc, kind, MADE_WITH_ACCESSES));
     }
     Ok(DecodeLine {
         file,
         places,
         names,
         count,
+        accesses,
+        made,
     })
 }

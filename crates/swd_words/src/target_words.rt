@@ -12,17 +12,20 @@ use std::alloc::{AllocError, Global};
 const TARGET_ABOUT: &str = "Is a simulated target, to a debugger on the standard streams";
 
 const TARGET_AFTER: &str = "\
-The debugger speaks OpenOCD's remote_bitbang characters for serial wire: d to g move the pins, c
-asks for a level, O and o drive SWDIO or leave it alone, Q ends. A socket comes from outside:
+The debugger sends OpenOCD's remote_bitbang characters for serial wire: d to g
+set the pins, c asks for a level, O and o drive SWDIO or leave it alone, Q ends.
+A socket comes from outside:
   socat TCP-LISTEN:4711,nodelay EXEC:'swd target memory.script'
 
-The script has the lines memory and room alone, as for swd run, and is no standard input. The plan
-is that of swd run: each request meets its next mark.
+The script has the lines memory and room alone, as for swd run, and can't be
+standard input. The plan is that of swd run: each request meets its next mark.
 
-The log has a line for each transfer that took effect, and how many cycles and requests there were;
-the trace has each bit that went over the line. Both are written at the end.
+The log has a line for each transfer that took effect, and how many cycles and
+requests there were; the trace has each bit that went over the line. Both are
+written at the end.
 
-Status: 0 where the debugger said that it is done or closed its end, 2 at a fault.";
+Status: 0 where the debugger said that it is done or closed its end, 2 at a
+fault.";
 
 // The file that the log is written to.
 fn log_arg<'a>(alloc: Global) -> Arg<'a>

@@ -92,11 +92,14 @@ fn a_record_is_none_of_the_files_that_are_read(rt: HostRuntime) {
             ("-", true),
             ("traced", false),
         ] {
-            let words = [
-                "swd", "target", "memory", "--plan", "quiet", record, name,
-            ];
+            let words = ["swd", "target", "memory", "--plan", "quiet", record, name];
             let ran = run_on(rt.alloc(), words.as_slice(), SESSION);
-            expect_eq_at(&rt, &(record, name), &ran.status, &if refused { 2 } else { 0 });
+            expect_eq_at(
+                &rt,
+                &(record, name),
+                &ran.status,
+                &if refused { 2 } else { 0 },
+            );
             expect_eq_at(&rt, &(record, name), &ran.cuts, &usize::from(!refused));
             expect_eq_at(&rt, &(record, name), &ran.output.is_empty(), &refused);
         }

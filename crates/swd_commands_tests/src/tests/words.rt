@@ -35,13 +35,16 @@ fn has_line(text: &str, start: &str) -> bool {
         .any(|line| line.trim_start().starts_with(start))
 }
 
-// The help of a run names each line of scripts, plans and reports, and stays within 80 columns.
+// Each help stays within 80 columns, and that of a run names each line of scripts, plans and reports.
 #[test]
 fn help_tells_each_word(rt: HostRuntime) -> Result<(), Fail> {
     for words in [
         ["swd", "--help"].as_slice(),
         ["swd", "run", "--help"].as_slice(),
         ["swd", "one", "--help"].as_slice(),
+        ["swd", "decode", "--help"].as_slice(),
+        ["swd", "encode", "--help"].as_slice(),
+        ["swd", "target", "--help"].as_slice(),
     ] {
         let said = said_of(rt.alloc(), words)?;
         let is_narrow = said.split('\n').all(|line| line.len() <= 80);

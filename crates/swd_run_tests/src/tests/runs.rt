@@ -3,7 +3,8 @@ use super::expect::expect_eq_at;
 use super::resumed::LOST_WRITE;
 use super::sessions::{CALLS, REPORTS};
 use super::{
-    NO_ACCESS, ONE_READ, ONE_WRITE, THREE_WAITS, TRIES, WORKED, WORKED_REPORT, ended_with, resumed_on,
+    NO_ACCESS, ONE_READ, ONE_WRITE, THREE_WAITS, TRIES, WORKED, WORKED_REPORT, ended_with,
+    resumed_on,
 };
 use swd_host::End;
 

@@ -54,10 +54,7 @@ fn filled<S: Simulated>(alloc: Global, target: &mut S) -> Result<Option<Report>,
 }
 
 // Reads them as a block.
-fn read_as_block<S: Simulated + Drop>(
-    alloc: Global,
-    target: S,
-) -> Result<Option<Stage<S>>, Fail>
+fn read_as_block<S: Simulated + Drop>(alloc: Global, target: S) -> Result<Option<Stage<S>>, Fail>
     ensures { IfOk result (λ found. IfSome found (λ stage. (length stage.accesses.items ≤ 65536)
         × AreAccesses stage.accesses.items
         × (length (told_of stage.report).answers ≤ length stage.accesses.items))) }
@@ -107,7 +104,12 @@ fn gone_on<S: Simulated + Drop>(alloc: Global, stage: Stage<S>) -> Result<Stage<
 
 // What every report has to say: the words so far are those of the memory; so many transfers behind the writes are the
 // most that such calls may have done; and each of them is of an access that is answered, or told as begun.
-fn is_true<S: Simulated + Drop, R: Abort>(rt: &R, marks: &[(usize, Mark)], stage: &Stage<S>, most: usize) {
+fn is_true<S: Simulated + Drop, R: Abort>(
+    rt: &R,
+    marks: &[(usize, Mark)],
+    stage: &Stage<S>,
+    most: usize,
+) {
     let mut place = 0u32;
     for answer in stage.report.answers.iter() {
         expect_eq_at(rt, &marks, answer, &Answer::Value(word_at(place)));

@@ -15,4 +15,10 @@ returns c = record {
   count = subst (λ (word : Option Text). (c.is_asked_for-count.result ≡ true) ↔ (word ≡ Some (codes "true")))
       (c.get_str-4.ensures ∙ first_value-rows (found_of c.args.matches.now) (codes "count"))
       c.is_asked_for-count.ensures;
+  accesses = subst (λ (word : Option Text). (c.is_asked_for-accesses.result ≡ true) ↔ (word ≡ Some (codes "true")))
+      (c.get_str-5.ensures ∙ first_value-rows (found_of c.args.matches.now) (codes "accesses"))
+      c.is_asked_for-accesses.ensures;
+  made = subst (λ (word : Option Text). (c.is_asked_for-made.result ≡ true) ↔ (word ≡ Some (codes "true")))
+      (c.get_str-6.ensures ∙ first_value-rows (found_of c.args.matches.now) (codes "made"))
+      c.is_asked_for-made.ensures;
 }
