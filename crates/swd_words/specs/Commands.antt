@@ -46,11 +46,12 @@ abbrev pub made_rule : Rule
 made_rule = let rule = new_rule (codes "made") in record rule
     { long = Some (codes "made"); action = Some SetTrue }
 
--- the command that lists a trace
+-- the command that lists a trace, without the words that tell accesses, and with them
+abbrev pub listing_app : App
+listing_app = with_rule (with_rule (with_rule (over_file (codes "decode")) places_rule) names_rule) count_rule
+
 abbrev pub decode_app : App
-decode_app =
-    with_rule (with_rule (with_rule (with_rule (with_rule (over_file (codes "decode")) places_rule) names_rule)
-    count_rule) accesses_rule) made_rule
+decode_app = with_rule (with_rule listing_app accesses_rule) made_rule
 
 -- the program without its commands: one of them is required
 abbrev pub bare_app : App

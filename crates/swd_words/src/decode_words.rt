@@ -2,8 +2,8 @@
 ghost use Rattle.std.specs.Prelude.{◌≡◌, IfOk, false};
 ghost use Rattle.clap.specs.Words.{app_of, found_of, rows_of, rule_of};
 ghost use Rattle.clap.specs.declared.builder.command.Command.TheViews.{out-Command};
-ghost use Rattle.swd_words.specs.Commands.{accesses_rule, count_rule, decode_app, made_rule, names_rule, over_file};
-ghost use Rattle.swd_words.specs.Commands.{places_rule, IsDecodeOf};
+ghost use Rattle.swd_words.specs.Commands.{accesses_rule, count_rule, decode_app, listing_app, made_rule, names_rule};
+ghost use Rattle.swd_words.specs.Commands.{over_file, places_rule, IsDecodeOf};
 
 use crate::command::{DecodeLine, LineFault};
 use crate::words::{file_arg, is_asked_for, owned, refused, with_arg};
@@ -105,9 +105,9 @@ fn made_arg<'a>(alloc: Global) -> Arg<'a>
         .help("With --accesses, of a target that was just made")
 }
 
-/// The command that lists a trace.
-pub(crate) fn decode_command<'a>(alloc: Global) -> Result<Command<'a>, AllocError>
-    ensures app { IfOk result (λ c. app_of c ≡ decode_app) }
+// The command that lists a trace, without the words that tell accesses.
+fn listing_command<'a>(alloc: Global) -> Result<Command<'a>, AllocError>
+    ensures app { IfOk result (λ c. app_of c ≡ listing_app) }
     ensures local { IfOk result (λ c. (out-Command c).has_globals ≡ false) }
 {
     let bare = Command::new(alloc, "decode")
@@ -116,8 +116,16 @@ pub(crate) fn decode_command<'a>(alloc: Global) -> Result<Command<'a>, AllocErro
     let file = with_arg(bare, file_arg(alloc))?;
     let places = with_arg(file, places_arg(alloc))?;
     let names = with_arg(places, names_arg(alloc))?;
-    let count = with_arg(names, count_arg(alloc))?;
-    let accesses = with_arg(count, accesses_arg(alloc))?;
+    with_arg(names, count_arg(alloc))
+}
+
+/// The command that lists a trace.
+pub(crate) fn decode_command<'a>(alloc: Global) -> Result<Command<'a>, AllocError>
+    ensures app { IfOk result (λ c. app_of c ≡ decode_app) }
+    ensures local { IfOk result (λ c. (out-Command c).has_globals ≡ false) }
+{
+    let listing = listing_command(alloc)?;
+    let accesses = with_arg(listing, accesses_arg(alloc))?;
     with_arg(accesses, made_arg(alloc))
 }
 
