@@ -42,6 +42,7 @@ fn help_tells_each_word(rt: HostRuntime) -> Result<(), Fail> {
         ["swd", "--help"].as_slice(),
         ["swd", "run", "--help"].as_slice(),
         ["swd", "one", "--help"].as_slice(),
+        ["swd", "decode", "--help"].as_slice(),
     ] {
         let said = said_of(rt.alloc(), words)?;
         let is_narrow = said.split('\n').all(|line| line.len() <= 80);
@@ -82,6 +83,19 @@ fn help_tells_each_word(rt: HostRuntime) -> Result<(), Fail> {
         "--strict ",
     ] {
         assert!(rt; has_line(said.as_str(), start));
+    }
+    Ok(())
+}
+
+// Counts stand in place of a listing, so no option for its lines goes with them.
+#[test]
+fn counts_go_alone(rt: HostRuntime) -> Result<(), Fail> {
+    for words in [
+        ["swd", "decode", "--count", "--places"].as_slice(),
+        ["swd", "decode", "--names", "a", "--count"].as_slice(),
+    ] {
+        let said = said_of(rt.alloc(), words)?;
+        assert!(rt; said.contains("--count goes with neither --places nor --names\n"));
     }
     Ok(())
 }
