@@ -1,3 +1,4 @@
+pub mod KindLemmas
 pub mod TableLemmas
 pub mod TextLemmas
 pub mod TellerLemmas

@@ -2,6 +2,7 @@
 use Rattle.std.specs.Prelude.{◌≡◌, ℕ, zero, suc, ◌+◌, ◌-◌, ◌/◌, ◌%◌, ◌^◌, ◌<◌, ◌==◌, nat_lt, min, Bool, true}
 use Rattle.std.specs.Prelude.{false, List, [], ◌∷◌, ◌++◌, length, codes, if◌then◌else◌, slice_index}
 use Rattle.std.specs.Fmt.{decimal}
+use Rattle.swd_bits.specs.Listing.{port, address, direction}
 use Rattle.swd_bits.specs.declared.request.Reg4.{Reg4}
 use Rattle.swd_bits.specs.declared.request.Reg4.TheVariants.{R0, R4, R8, RC}
 use Rattle.swd_bits.specs.declared.tx.TxEnd.{TxEnd}
@@ -64,6 +65,22 @@ count_in row [] = 0
 count_in row (item ∷ items) = counted row item + count_in row items
 
 -- ---- the text
+
+-- what an item is told as where it is counted
+abbrev pub kind_end : TxEnd → List ℕ
+kind_end (Moved word true) = codes "ok"
+kind_end (Moved word false) = codes "bad"
+kind_end Wait = codes "wait"
+kind_end Fault = codes "fault"
+kind_end (NoAck seen) = codes "none"
+
+abbrev pub kind_text : Item → List ℕ
+kind_text (Tx tx) = port tx.request.ap ++ address tx.request.addr ++ direction tx.request.read ++ kind_end tx.result
+kind_text (Reset n) = codes "reset"
+kind_text Switch = codes "switch"
+kind_text (Idle n) = codes "idle"
+kind_text (Junk b) = codes "junk"
+kind_text (Cut bits) = codes "cut"
 
 abbrev pub port_name : ℕ → List ℕ
 port_name n = if n == 0 then codes "dp " else codes "ap "

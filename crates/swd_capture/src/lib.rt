@@ -4,11 +4,13 @@
 
 mod bit_count;
 mod flags;
+mod laws;
 mod names;
 mod printed;
 mod table;
 mod teller;
 
+pub use laws::rows_are_named_by_kind;
 pub use printed::{LineForm, Printed};
 pub use table::ROWS;
 pub use teller::{LONGEST_ENTRY, Teller};

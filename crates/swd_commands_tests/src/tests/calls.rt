@@ -11,7 +11,7 @@ const UNREAD: &[u8] = b"x";
 // No trace is made where no option asks for one.
 type Call<'a> = (&'a str, &'a [&'a str], &'a [u8], u8, &'a [u8], &'a [u8]);
 
-const READS: [Call; 11] = [
+const READS: [Call; 16] = [
     (
         "one reads standard input",
         &["swd", "one"],
@@ -43,6 +43,46 @@ const READS: [Call; 11] = [
         0,
         b"idle 3\ncut 1\n",
         b"",
+    ),
+    (
+        "decode tells places",
+        &["swd", "decode", "--places"],
+        b"000 1",
+        0,
+        b"@0 idle 3\n@3 cut 1\n",
+        b"",
+    ),
+    (
+        "decode tells names of a file",
+        &["swd", "decode", "trace", "--names"],
+        UNREAD,
+        0,
+        b"dp dpidr read ok 2ba01477\n",
+        b"",
+    ),
+    (
+        "decode tells names and places",
+        &["swd", "decode", "--names", "--places", "trace"],
+        UNREAD,
+        0,
+        b"@0 dp dpidr read ok 2ba01477\n",
+        b"",
+    ),
+    (
+        "decode counts",
+        &["swd", "decode", "--count", "-"],
+        b"000 1",
+        0,
+        b"3 idle\n1 cut\n",
+        b"",
+    ),
+    (
+        "decode tells the place of a bad character",
+        &["swd", "decode", "--places"],
+        b"001x",
+        2,
+        b"@0 idle 2\n",
+        b"swd: trace byte 3: bad character\n",
     ),
     (
         "encode reads standard input",

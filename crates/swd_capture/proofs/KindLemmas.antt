@@ -1,0 +1,102 @@
+-- The row in which an item is counted has its kind for a name.
+use Rattle.std.proofs.Common.{◌≡◌, ◌+◌, Bool, true, false, ◌++◌, refl}
+use Rattle.swd_bits.specs.Listing.{port, address, direction}
+use Rattle.swd_bits.specs.declared.request.Reg4.{Reg4}
+use Rattle.swd_bits.specs.declared.request.Reg4.TheVariants.{R0, R4, R8, RC}
+use Rattle.swd_bits.specs.declared.tx.TxEnd.{TxEnd}
+use Rattle.swd_bits.specs.declared.tx.TxEnd.TheVariants.{Moved, Wait, Fault, NoAck}
+use Rattle.swd_trace.specs.declared.item.Item.{Item}
+use Rattle.swd_trace.specs.declared.item.Item.TheVariants.{Reset, Switch, Idle, Tx, Junk, Cut}
+use Rattle.swd_capture.specs.Tables.{addr_rows, direction_rows, end_row, kind_end, kind_text, port_rows, row_name, row_of}
+
+named_tx : (ap : Bool) (addr : Reg4) (read : Bool) (end : TxEnd)
+    → row_name (port_rows ap + addr_rows addr + direction_rows read + end_row end)
+    ≡ port ap ++ address addr ++ direction read ++ kind_end end
+named_tx true R0 true (Moved word true) = refl
+named_tx true R0 true (Moved word false) = refl
+named_tx true R0 true Wait = refl
+named_tx true R0 true Fault = refl
+named_tx true R0 true (NoAck seen) = refl
+named_tx true R0 false (Moved word true) = refl
+named_tx true R0 false (Moved word false) = refl
+named_tx true R0 false Wait = refl
+named_tx true R0 false Fault = refl
+named_tx true R0 false (NoAck seen) = refl
+named_tx true R4 true (Moved word true) = refl
+named_tx true R4 true (Moved word false) = refl
+named_tx true R4 true Wait = refl
+named_tx true R4 true Fault = refl
+named_tx true R4 true (NoAck seen) = refl
+named_tx true R4 false (Moved word true) = refl
+named_tx true R4 false (Moved word false) = refl
+named_tx true R4 false Wait = refl
+named_tx true R4 false Fault = refl
+named_tx true R4 false (NoAck seen) = refl
+named_tx true R8 true (Moved word true) = refl
+named_tx true R8 true (Moved word false) = refl
+named_tx true R8 true Wait = refl
+named_tx true R8 true Fault = refl
+named_tx true R8 true (NoAck seen) = refl
+named_tx true R8 false (Moved word true) = refl
+named_tx true R8 false (Moved word false) = refl
+named_tx true R8 false Wait = refl
+named_tx true R8 false Fault = refl
+named_tx true R8 false (NoAck seen) = refl
+named_tx true RC true (Moved word true) = refl
+named_tx true RC true (Moved word false) = refl
+named_tx true RC true Wait = refl
+named_tx true RC true Fault = refl
+named_tx true RC true (NoAck seen) = refl
+named_tx true RC false (Moved word true) = refl
+named_tx true RC false (Moved word false) = refl
+named_tx true RC false Wait = refl
+named_tx true RC false Fault = refl
+named_tx true RC false (NoAck seen) = refl
+named_tx false R0 true (Moved word true) = refl
+named_tx false R0 true (Moved word false) = refl
+named_tx false R0 true Wait = refl
+named_tx false R0 true Fault = refl
+named_tx false R0 true (NoAck seen) = refl
+named_tx false R0 false (Moved word true) = refl
+named_tx false R0 false (Moved word false) = refl
+named_tx false R0 false Wait = refl
+named_tx false R0 false Fault = refl
+named_tx false R0 false (NoAck seen) = refl
+named_tx false R4 true (Moved word true) = refl
+named_tx false R4 true (Moved word false) = refl
+named_tx false R4 true Wait = refl
+named_tx false R4 true Fault = refl
+named_tx false R4 true (NoAck seen) = refl
+named_tx false R4 false (Moved word true) = refl
+named_tx false R4 false (Moved word false) = refl
+named_tx false R4 false Wait = refl
+named_tx false R4 false Fault = refl
+named_tx false R4 false (NoAck seen) = refl
+named_tx false R8 true (Moved word true) = refl
+named_tx false R8 true (Moved word false) = refl
+named_tx false R8 true Wait = refl
+named_tx false R8 true Fault = refl
+named_tx false R8 true (NoAck seen) = refl
+named_tx false R8 false (Moved word true) = refl
+named_tx false R8 false (Moved word false) = refl
+named_tx false R8 false Wait = refl
+named_tx false R8 false Fault = refl
+named_tx false R8 false (NoAck seen) = refl
+named_tx false RC true (Moved word true) = refl
+named_tx false RC true (Moved word false) = refl
+named_tx false RC true Wait = refl
+named_tx false RC true Fault = refl
+named_tx false RC true (NoAck seen) = refl
+named_tx false RC false (Moved word true) = refl
+named_tx false RC false (Moved word false) = refl
+named_tx false RC false Wait = refl
+named_tx false RC false Fault = refl
+named_tx false RC false (NoAck seen) = refl
+
+pub named_by_kind : (item : Item) → row_name (row_of item) ≡ kind_text item
+named_by_kind (Tx tx) = named_tx tx.request.ap tx.request.addr tx.request.read tx.result
+named_by_kind (Reset n) = refl
+named_by_kind Switch = refl
+named_by_kind (Idle n) = refl
+named_by_kind (Junk b) = refl
+named_by_kind (Cut bits) = refl
