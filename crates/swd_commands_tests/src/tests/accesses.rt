@@ -5,11 +5,18 @@ use super::run_on;
 // The options, a listing of a trace, and what is told of it. A transaction with OK has 46 bits.
 type Row<'a> = (&'a [&'a str], &'a [u8], &'a [u8]);
 
-const ROWS: [Row; 4] = [
+const ROWS: [Row; 5] = [
     (
         &["swd", "decode", "--accesses"],
+        b"dp 8 write ok 00000000\nap 0 write ok 23000012\nap 4 write ok 20000000\nap c write ok deadbeef\n\
+            dp c read ok 00000000\n",
+        b"@138 w 20000000 deadbeef\n",
+    ),
+    // CSW isn't known, so the access may be of a byte.
+    (
+        &["swd", "decode", "-", "--accesses"],
         b"dp 8 write ok 00000000\nap 4 write ok 20000000\nap c write ok deadbeef\ndp c read ok 00000000\n",
-        b"@92 w 20000000 deadbeef\n",
+        b"@92 w 20000000 ????????\n",
     ),
     (
         &["swd", "decode", "--made", "--accesses"],
