@@ -20,7 +20,7 @@ _swd() {
         words='--help -h'
         ;;
     decode)
-        words='--help -h'
+        words='--places --names --count --accesses --made --help -h'
         ;;
     encode)
         words='--help -h'

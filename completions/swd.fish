@@ -11,6 +11,11 @@ complete -c swd -n __fish_use_subcommand -s V -l version -d 'Print version'
 complete -c swd -n '__fish_seen_subcommand_from one' -F
 complete -c swd -n '__fish_seen_subcommand_from one' -s h -l help -d 'Print help'
 complete -c swd -n '__fish_seen_subcommand_from decode' -F
+complete -c swd -n '__fish_seen_subcommand_from decode' -l places -d 'Begin each line with the item\'s place in the trace'
+complete -c swd -n '__fish_seen_subcommand_from decode' -l names -d 'Name registers and the set flags of their words'
+complete -c swd -n '__fish_seen_subcommand_from decode' -l count -d 'Count each kind of item in place of a listing'
+complete -c swd -n '__fish_seen_subcommand_from decode' -l accesses -d 'Tell what became of each access of memory'
+complete -c swd -n '__fish_seen_subcommand_from decode' -l made -d 'With --accesses, of a target that was just made'
 complete -c swd -n '__fish_seen_subcommand_from decode' -s h -l help -d 'Print help'
 complete -c swd -n '__fish_seen_subcommand_from encode' -F
 complete -c swd -n '__fish_seen_subcommand_from encode' -s h -l help -d 'Print help'
