@@ -34,10 +34,8 @@ use Rattle.swd_observer.specs.Observing.{class_of, Confirms, kind_of, whole_word
 use Rattle.swd_observer.specs.Explained.{ExplainsSince, listed}
 use Rattle.swd_observer.specs.Knows.{Holds, Knows, here}
 use Rattle.swd_observer.specs.Observing.{told_itself}
-use Rattle.swd_observer.specs.Laws.{KnownAtOkay}
 use Rattle.swd_observer.specs.Transacts.{Moves}
 use Rattle.swd_observer.proofs.ExplainLemmas.{may_not}
-use Rattle.swd_observer.proofs.FlagLemmas.{accepted_refused}
 use Rattle.swd_observer.proofs.KnownLemmas.{stays}
 use Rattle.swd_observer.proofs.AskLemmas.{Okayed, okayed, plain, KindFits, kind_fits, register_for, posted}
 use Rattle.swd_observer.proofs.AskLemmas.{is_writing, is_reading, read_writes_not, write_reads_not, drw_is_ap}
@@ -57,7 +55,7 @@ After before told o k word place x = Knows
     (accepted k word place o) x
 
 -- what is so of a word is so where a transfer is known to be of a word
-whole_right : (increments : Option Bool) (got : Option ℕ) (x : Target) → IsRight got x
+pub whole_right : (increments : Option Bool) (got : Option ℕ) (x : Target) → IsRight got x
     → IsRight (whole_word increments got) x
 whole_right increments got x h = whole_is increments got (λ w. (v : ℕ) → x.buffer ≡ Some v → v ≡ w) h
 
@@ -265,7 +263,8 @@ write_step before told o q word ok place s d t bits tells writes (a, b, mark, c,
     write_asked before told o q word ok place s a b mark c bits tells writes first now d t last range small carries
     gives k
 
-moved_on : (read : Bool) (before : List Transfer) (told : List Told) (o : Observer) (q : Request) (word : ℕ) (ok : Bool)
+pub moved_on : (read : Bool) (before : List Transfer) (told : List Told) (o : Observer) (q : Request) (word : ℕ)
+    (ok : Bool)
     (place : ℕ) (s t : Port) → q.read ≡ read → class_of q ≡ Confirms
     → (asked : Port) (bits : ℕ) → Asks s q 1 asked → bits < 2 ^ 33 → word < 2 ^ 32 → word_in bits ≡ word_if ok word
     → Moves read asked bits t → Knows (ExplainsSince before told) o s.target
@@ -274,12 +273,3 @@ moved_on true before told o q word ok place s t is tells asked bits asks range s
     read_step before told o q word ok place s asked t bits tells is asks range carries moves k
 moved_on false before told o q word ok place s t is tells asked bits asks range small carries moves k =
     write_step before told o q word ok place s asked t bits tells is asks range small carries moves k
-
-pub okay_step : KnownAtOkay
-okay_step before told o q word ok place s t tells h k = record {
-  knows = moved_on q.read before told o q word ok place s t refl tells h.asked h.bits h.asks h.range h.small h.carries
-      h.moves k.knows;
-  flagged = λ e. absurd (let clash : false ≡ true =
-      sym (accepted_refused (kind_of (confirmed o).select q) (word_if ok word) place (confirmed o)) ∙ e in
-      cc);
-}

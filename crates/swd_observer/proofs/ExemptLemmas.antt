@@ -21,14 +21,16 @@ use Rattle.swd_port.proofs.CompletionLaws.{kept}
 use Rattle.swd_observer.specs.declared.told.Told.{Told}
 use Rattle.swd_observer.specs.declared.observer.Observer.{Observer}
 use Rattle.swd_observer.specs.declared.observer.Begun.{Begun}
+use Rattle.swd_observer.specs.declared.observer.Standing.{Standing}
 use Rattle.swd_observer.specs.Observing.{Passes, Aborts, Confirms, class_dp, class_of, doubt_told, doubted, arrived}
 use Rattle.swd_observer.specs.Explained.{ExplainsSince, listed}
-use Rattle.swd_observer.specs.Knows.{Flying, owed, gone, failed, Flight, Holds, Knows, here, spoiled, Watches}
+use Rattle.swd_observer.specs.Knows.{Flying, owed, gone, failed, Flight, Holds, Knows, here, spoiled, Stands}
 use Rattle.swd_observer.specs.Transacts.{Moves}
-use Rattle.swd_observer.specs.Laws.{KnownAtAbort, KnownAtDpidr}
+use Rattle.swd_observer.specs.Laws.{KnownAtAbort, KnownAtDpidr, flushed}
 use Rattle.swd_observer.proofs.KnownLemmas.{stays}
 use Rattle.swd_observer.proofs.AskLemmas.{Okayed, okayed}
-use Rattle.swd_observer.proofs.FlagLemmas.{doubt_is, watches_stay, flags_taken, flags_asked}
+use Rattle.swd_observer.proofs.FlagLemmas.{Flagged, doubt_is, flagged_stay, flags_taken, flags_asked}
+use Rattle.swd_observer.proofs.OlderLemmas.{awaits_by, flush_all, stands_same, stands_stay, stands_taken}
 use Rattle.swd_observer.proofs.OkayLemmas.{same_bits}
 use Rattle.swd_observer.proofs.StepLemmas.{taken_on, line_write}
 use Rattle.swd_observer.proofs.DoubtLemmas.{doubt}
@@ -75,15 +77,15 @@ dpidr_is s q e = dpidr_by q.ap s q.read q.addr e
 -- ABORT
 abort_asked : (before : List Transfer) (told : List Told) (o : Observer) (q : Request) (s a b d t : Port) (mark : Mark)
     (c : Choice) (bits : ℕ) → class_of q ≡ Aborts → Completes s a → AsksNow mark c a q 1 b → Completes b d
-    → Gives d bits t → Watches (ExplainsSince before told) o s.target
+    → Gives d bits t → Flagged (ExplainsSince before told) o s.target
     → Knows (ExplainsSince before (told ++ listed (doubt_told o))) (doubted o) t.target
 abort_asked before told o q s a b d t mark c bits is first now last (e, f, third, given, fourth) k =
     let h : Okayed a q b = okayed mark c a q b now in
     let named : (register a.target.select q ≡ AbortWrite) × (q.read ≡ false) = abort_is a.target.select q is in
     let same : b.target ≡ a.target = h.target ∙ ap (λ r. after_okay h.busy r a.target) named.0 in
-    let known : Watches (ExplainsSince before told) o e.target =
-    watches_stay _ o d e third (watches_stay _ o b d last
-    (subst (Watches (ExplainsSince before told) o) (sym same) (watches_stay _ o s a first k))) in
+    let known : Flagged (ExplainsSince before told) o e.target =
+    flagged_stay _ o d e third (flagged_stay _ o b d last
+    (subst (Flagged (ExplainsSince before told) o) (sym same) (flagged_stay _ o s a first k))) in
     let line : e.link.line ≡ Awaits AbortWrite h.flip =
     ap (λ l. l.line) (kept d e third).link ∙ ap (λ l. l.line) (kept b d last).link ∙ h.line
     ∙ line_write q.read (register a.target.select q) h.flip _ named.1 ∙ ap (λ r. Awaits r h.flip) named.0 in
@@ -96,7 +98,7 @@ abort_asked before told o q s a b d t mark c bits is first now last (e, f, third
     (doubt_is o e.target known.flagged) known.knows))
 
 abort_step : (before : List Transfer) (told : List Told) (o : Observer) (q : Request) (s d t : Port) (bits : ℕ)
-    → class_of q ≡ Aborts → Asks s q 1 d → Gives d bits t → Watches (ExplainsSince before told) o s.target
+    → class_of q ≡ Aborts → Asks s q 1 d → Gives d bits t → Flagged (ExplainsSince before told) o s.target
     → Knows (ExplainsSince before (told ++ listed (doubt_told o))) (doubted o) t.target
 abort_step before told o q s d t bits is (a, b, mark, c, first, now, last) gives k =
     abort_asked before told o q s a b d t mark c bits is first now last gives k
@@ -111,8 +113,8 @@ takes_of false a bits t e m = absurd (cc)
 
 pub abort_told : KnownAtAbort
 abort_told before told o q word ok place s t is h k = record {
-  knows = abort_step before told o q s h.asked t h.bits is h.asks
-      (gives_of q.read h.asked h.bits t (abort_is s.target.select q is).1 h.moves) k;
+  knows = abort_step before (flushed told o) o q s h.asked t h.bits is h.asks
+      (gives_of q.read h.asked h.bits t (abort_is s.target.select q is).1 h.moves) (flush_all before told o s.target k);
   flagged = λ e. absurd (let clash : false ≡ true = e in cc);
 }
 
@@ -163,11 +165,22 @@ dpidr_step E o q s d is (a, b, mark, c, first, now, last) k =
     ∙ ap (λ r. after_okay h.busy r a.target) (dpidr_is a.target.select q is).0))
     (knows_live E o h.busy a.target (stays E o s a first k)))
 
+stands_live : (z : Standing) (word : ℕ) (q : Request) (s d : Port) → class_of q ≡ Passes → Asks s q 1 d
+    → Stands z word s.target → Stands z word d.target
+stands_live z word q s d is (a, b, mark, c, first, now, last) v =
+    let h : Okayed a q b = okayed mark c a q b now in
+    stands_stay z word b d last (subst (Stands z word) (sym (h.target
+    ∙ ap (λ r. after_okay h.busy r a.target) (dpidr_is a.target.select q is).0))
+    (stands_same z word a.target (after_okay h.busy DpidrRead a.target) refl refl refl
+    (stands_stay z word s a first v)))
+
 pub dpidr_told : KnownAtDpidr
 dpidr_told before told o q word ok place s t is h k =
     let takes : Takes h.asked h.bits t = takes_of q.read h.asked h.bits t (dpidr_is s.target.select q is).1 h.moves in
     record {
-      knows = taken_on (Knows (ExplainsSince before told) o) (λ x y e z. stays _ o x y e z) h.asked t h.bits takes
-          (dpidr_step (ExplainsSince before told) o q s h.asked is h.asks k.knows);
+      knows = awaits_by (ExplainsSince before told) o.older o o s.target t.target
+          (λ F z. taken_on (Knows F o) (λ x y e w. stays F o x y e w) h.asked t h.bits takes
+          (dpidr_step F o q s h.asked is h.asks z))
+          (λ z w v. stands_taken z w h.asked t h.bits takes (stands_live z w q s h.asked is h.asks v)) k.knows;
       flagged = λ e. flags_taken h.asked t h.bits takes (flags_asked q 1 s h.asked h.asks (k.flagged e));
     }

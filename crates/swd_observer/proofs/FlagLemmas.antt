@@ -18,16 +18,15 @@ use Rattle.swd_port.proofs.RequestLaws.{told}
 use Rattle.swd_observer.specs.declared.told.How.{How}
 use Rattle.swd_observer.specs.declared.told.How.TheVariants.{May, Not}
 use Rattle.swd_observer.specs.declared.observer.Observer.{Observer}
+use Rattle.swd_observer.specs.declared.observer.Older.{Older}
 use Rattle.swd_observer.specs.declared.observer.Sent.{Sent}
 use Rattle.swd_observer.specs.declared.observer.Kind.{Kind}
 use Rattle.swd_observer.specs.declared.observer.Kind.TheVariants.{Other, Elsewhere, Reads, Writes, MayRead}
 use Rattle.swd_observer.specs.declared.observer.Kind.TheVariants.{MayWrite}
 use Rattle.swd_observer.specs.Observing.{doubt_of, arrived_with, accepted, flagged, kept_at}
-use Rattle.swd_observer.specs.Knows.{Calm, Holds, Knows, here, spoiled, IsFlagged, Watches}
-use Rattle.swd_observer.specs.Laws.{KnownAtWait, KnownAtFault}
-use Rattle.swd_observer.specs.Explained.{ExplainsSince}
+use Rattle.swd_observer.specs.Knows.{Calm, Holds, Knows, here, spoiled, IsFlagged}
 use Rattle.swd_observer.proofs.KnownLemmas.{stays}
-use Rattle.swd_observer.proofs.RefusedLemmas.{seen_faults, wait_step, fault_step}
+use Rattle.swd_observer.proofs.RefusedLemmas.{seen_faults}
 
 -- the transfer in flight may take place or not, or a flag shows that it did not
 abbrev pub IsDoubt : How → Target → Type 0
@@ -145,6 +144,10 @@ accepted_refused (Writes w) word place o = refl
 accepted_refused MayRead word place o = refl
 accepted_refused (MayWrite w) word place o = refl
 
+pub unanswered_older : (read : Bool) (d : Observer) → (if read then record d { tar = None } else d).older ≡ d.older
+unanswered_older true d = refl
+unanswered_older false d = refl
+
 pub unanswered_refused : (read : Bool) (d : Observer)
     → (if read then record d { tar = None } else d).refused ≡ d.refused
 unanswered_refused true d = refl
@@ -156,13 +159,18 @@ status_refused true sticky damaged o = flagged_refused sticky damaged o
 status_refused false sticky damaged o = refl
 
 -- what is known and whether a flag is set, together
-pub watches_stay : (E : List Transfer → Type 0) (o : Observer) (s t : Port) → Completes s t → Watches E o s.target
-    → Watches E o t.target
-watches_stay E o s t done k = record {
+pub record Flagged (E : List Transfer → Type 0) (o : Observer) (x : Target) : Type 0 where
+  pub knows : Knows E o x
+  pub flagged : o.refused ≡ true → IsFlagged x
+
+pub flagged_stay : (E : List Transfer → Type 0) (o : Observer) (s t : Port) → Completes s t → Flagged E o s.target
+    → Flagged E o t.target
+flagged_stay E o s t done k = record {
   knows = stays E o s t done k.knows;
   flagged = λ e. flags_stay s t done (k.flagged e);
 }
 
+-- of a request that was refused, and of a read that is held, nothing else hangs
 refuse_sent : (E : List Transfer → Type 0) (s : Option Sent) (o : Observer) (x : Target) → Holds E (arrived_with s o) x
     → Holds E (arrived_with s (record o { refused = true })) x
 refuse_sent E None o x h =
@@ -170,21 +178,21 @@ refuse_sent E None o x h =
 refuse_sent E (Some s) o x h =
     record { select = h.select; increments = h.increments; range = h.range; flight = h.flight }
 
-refuse : (E : List Transfer → Type 0) (o : Observer) (x : Target) → Knows E o x
+pub refuse : (E : List Transfer → Type 0) (o : Observer) (x : Target) → Knows E o x
     → Knows E (record o { refused = true }) x
 refuse E o x (here clean h) = here clean (refuse_sent E o.sent o x h)
 refuse E o x (spoiled error rest h) = spoiled error rest
     (record { select = h.select; increments = h.increments; range = h.range; flight = h.flight })
 
-pub wait_told : KnownAtWait
-wait_told before told o q place s t h k = record {
-  knows = wait_step (ExplainsSince before told) o q s h.asked t h.asks h.passes k.knows;
-  flagged = λ e. flags_passed h.asked t h.passes (flags_asked q 2 s h.asked h.asks (k.flagged e));
-}
+hold_sent : (E : List Transfer → Type 0) (s : Option Sent) (h : Option Older) (o : Observer) (x : Target)
+    → Holds E (arrived_with s o) x → Holds E (arrived_with s (record o { older = h })) x
+hold_sent E None h o x k =
+    record { select = k.select; increments = k.increments; range = k.range; flight = k.flight }
+hold_sent E (Some s) h o x k =
+    record { select = k.select; increments = k.increments; range = k.range; flight = k.flight }
 
-pub fault_told : KnownAtFault
-fault_told before told o q place s t h k = record {
-  knows = refuse (ExplainsSince before told) o t.target
-      (fault_step (ExplainsSince before told) o q s h.asked t h.asks h.passes k.knows);
-  flagged = λ e. flags_passed h.asked t h.passes (fault_asked q s h.asked h.asks);
-}
+pub hold : (E : List Transfer → Type 0) (h : Option Older) (o : Observer) (x : Target) → Knows E o x
+    → Knows E (record o { older = h }) x
+hold E h o x (here clean k) = here clean (hold_sent E o.sent h o x k)
+hold E h o x (spoiled error rest k) = spoiled error rest
+    (record { select = k.select; increments = k.increments; range = k.range; flight = k.flight })

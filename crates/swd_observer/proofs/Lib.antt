@@ -5,12 +5,14 @@ pub mod OkayLemmas
 pub mod StepLemmas
 pub mod RefusedLemmas
 pub mod FlagLemmas
+pub mod OlderLemmas
 pub mod DoubtLemmas
 pub mod ExemptLemmas
 pub mod LostLemmas
 pub mod StatusLemmas
 pub mod UnsureLemmas
 pub mod AnyLemmas
+pub mod SlotLemmas
 pub mod RunLemmas
 pub mod ObservedLemmas
 pub mod SureLemmas

@@ -29,12 +29,13 @@ use Rattle.swd_observer.specs.Observing.{doubt_told, doubted, arrived_with, kind
 use Rattle.swd_observer.specs.Observing.{told_unanswered}
 use Rattle.swd_observer.specs.Observing.{may_have}
 use Rattle.swd_observer.specs.Explained.{ExplainsSince, listed}
-use Rattle.swd_observer.specs.Knows.{Resting, Flight, Holds, Knows, here, Watches}
-use Rattle.swd_observer.specs.Laws.{KnownAtLost}
+use Rattle.swd_observer.specs.Knows.{Resting, Flight, Holds, Knows, here}
+use Rattle.swd_observer.specs.Laws.{KnownAtLost, flushed}
 use Rattle.swd_observer.proofs.ExplainLemmas.{may_took, may_not}
 use Rattle.swd_observer.proofs.KnownLemmas.{stays, same_place, unsent}
 use Rattle.swd_observer.proofs.AskLemmas.{KindFits, kind_fits, is_harmless, register_for}
-use Rattle.swd_observer.proofs.FlagLemmas.{doubt_is, unanswered_refused, watches_stay}
+use Rattle.swd_observer.proofs.FlagLemmas.{Flagged, doubt_is, unanswered_older, unanswered_refused, flagged_stay}
+use Rattle.swd_observer.proofs.OlderLemmas.{awaits_none, flush_all}
 use Rattle.swd_observer.proofs.OkayLemmas.{Same}
 use Rattle.swd_observer.proofs.DoubtLemmas.{doubt_holds, doubted_is_sent_none}
 
@@ -126,7 +127,7 @@ Lost before told o q place x = Holds
 
 kept_lost : (before : List Transfer) (told : List Told) (o : Observer) (q : Request) (place : ℕ) (x y : Target)
     → Same x y
-    → Watches (ExplainsSince before told) o x → Lost before told o q place y
+    → Flagged (ExplainsSince before told) o x → Lost before told o q place y
 kept_lost before told o q place x y s k =
     kept_read before (told ++ listed (doubt_told o)) (is_read_of (kind_of (doubted o).select q)) place
     (doubted o) y
@@ -137,7 +138,7 @@ same_self x = record { select = refl; increments = refl; tar = refl; pending = r
 
 drw_lost : (before : List Transfer) (told : List Told) (o : Observer) (q : Request) (place : ℕ) (x : Target)
     (busy : Bool)
-    → register x.select q ≡ DrwRead → Watches (ExplainsSince before told) o x
+    → register x.select q ≡ DrwRead → Flagged (ExplainsSince before told) o x
     → Lost before told o q place (after_okay busy (register x.select q) x)
 drw_lost before told o q place x busy named k =
     let h : Holds (ExplainsSince before (told ++ listed (doubt_told o))) (doubted o) x =
@@ -165,7 +166,7 @@ pends_kept r p e = refl
 
 okay_lost : (before : List Transfer) (told : List Told) (o : Observer) (q : Request) (place : ℕ) (x : Target)
     (busy : Bool)
-    (drw : Bool) → is_drw_read (register x.select q) ≡ drw → Watches (ExplainsSince before told) o x
+    (drw : Bool) → is_drw_read (register x.select q) ≡ drw → Flagged (ExplainsSince before told) o x
     → Lost before told o q place (after_okay busy (register x.select q) x)
 okay_lost before told o q place x busy true e k =
     drw_lost before told o q place x busy (drw_read_is (register x.select q) e) k
@@ -179,7 +180,7 @@ okay_lost before told o q place x busy false e k = kept_lost before told o q pla
 
 lost_by : (before : List Transfer) (told : List Told) (o : Observer) (q : Request) (place : ℕ) (x : Target)
     (busy : Bool)
-    (reply : Reply) → Watches (ExplainsSince before told) o x
+    (reply : Reply) → Flagged (ExplainsSince before told) o x
     → Lost before told o q place (target_after busy reply (register x.select q) q.ap x)
 lost_by before told o q place x busy Okay k =
     okay_lost before told o q place x busy (is_drw_read (register x.select q)) refl k
@@ -195,7 +196,7 @@ unanswered_none true d e = e
 unanswered_none false d e = e
 
 lost_now : (before : List Transfer) (told : List Told) (o : Observer) (q : Request) (seen place : ℕ) (mark : Mark)
-    (c : Choice) (s t : Port) → AsksNow mark c s q seen t → Watches (ExplainsSince before told) o s.target
+    (c : Choice) (s t : Port) → AsksNow mark c s q seen t → Flagged (ExplainsSince before told) o s.target
     → Knows (ExplainsSince before ((told ++ listed (doubt_told o))
     ++ listed (told_unanswered (kind_of (doubted o).select q) (doubted o).tar place)))
     (unanswered (kind_of (doubted o).select q) (doubted o)) t.target
@@ -209,13 +210,21 @@ lost_now before told o q seen place mark c s t h k =
     (subst (Lost before told o q place) (sym (ap (λ p. p.target) h.after))
     (lost_by before told o q place s.target (is_wait mark) (reply_in mark s.target q) k)))
 
+lost_asked : (before : List Transfer) (told : List Told) (o : Observer) (q : Request) (seen place : ℕ) (s t : Port)
+    → Asks s q seen t → Flagged (ExplainsSince before told) o s.target
+    → Knows (ExplainsSince before ((told ++ listed (doubt_told o))
+    ++ listed (told_unanswered (kind_of (doubted o).select q) (doubted o).tar place)))
+    (unanswered (kind_of (doubted o).select q) (doubted o)) t.target
+lost_asked before told o q seen place s t (a, b, mark, c, first, now, last) k =
+    stays _ _ b t last (lost_now before told o q seen place mark c a b now
+    (flagged_stay (ExplainsSince before told) o s a first k))
+
 pub lost_step : KnownAtLost
-lost_step before told o q seen place s t w k =
-    let (a, b, mark, c, first, now, last) : Asks s q seen t = w.asks in
-    record {
-      knows = stays _ _ b t last (lost_now before told o q seen place mark c a b now
-          (watches_stay (ExplainsSince before told) o s a first k));
-      flagged = λ e. absurd (let clash : false ≡ true =
-          sym (unanswered_refused (is_read_of (kind_of (doubted o).select q)) (doubted o)) ∙ e in
-          cc);
-    }
+lost_step before told o q seen place s t w k = record {
+  knows = awaits_none _ _ (unanswered (kind_of (doubted o).select q) (doubted o)) t.target
+      (unanswered_older (is_read_of (kind_of (doubted o).select q)) (doubted o))
+      (lost_asked before (flushed told o) o q seen place s t w.asks (flush_all before told o s.target k));
+  flagged = λ e. absurd (let clash : false ≡ true =
+      sym (unanswered_refused (is_read_of (kind_of (doubted o).select q)) (doubted o)) ∙ e in
+      cc);
+}

@@ -22,15 +22,18 @@ use Rattle.swd_port.proofs.RequestLaws.{told as told_reply}
 use Rattle.swd_observer.specs.declared.told.Told.{Told}
 use Rattle.swd_observer.specs.declared.observer.Observer.{Observer}
 use Rattle.swd_observer.specs.declared.observer.Begun.{Begun}
-use Rattle.swd_observer.specs.Observing.{arrived, arrived_with, doubt_told, doubted, unknown, as_made, watch_end}
+use Rattle.swd_observer.specs.Observing.{arrived, arrived_with, doubt_told, last_tells, doubted, unknown, as_made}
+use Rattle.swd_observer.specs.Observing.{watch_end}
 use Rattle.swd_observer.specs.Observing.{kind_of, is_read_of}
-use Rattle.swd_observer.specs.Explained.{ExplainsSince, listed}
+use Rattle.swd_observer.specs.Explained.{ExplainsSince, and_told, listed}
+use Rattle.swd_observer.specs.Laws.{flushed}
 use Rattle.swd_observer.specs.Knows.{Flying, owed, gone, failed, Resting, Flight, Holds, Knows, here, spoiled}
 use Rattle.swd_observer.specs.Transacts.{Transacts, Moves as Phase}
 use Rattle.swd_observer.specs.Runs.{Event, Moves, Lifts, Happens, Runs, seen, said, observer_after, told_after}
 use Rattle.swd_observer.specs.Runs.{KnowsPort}
 use Rattle.swd_observer.specs.Runs.{Accounted, RunsAreAccounted, MadeIsAccounted, AnyIsAccounted}
-use Rattle.swd_observer.proofs.FlagLemmas.{doubt_is, watches_stay}
+use Rattle.swd_observer.proofs.FlagLemmas.{doubt_is}
+use Rattle.swd_observer.proofs.OlderLemmas.{awaits_by, flush_all, stands_same, watches_stay}
 use Rattle.swd_observer.proofs.KnownLemmas.{unsent, still}
 use Rattle.swd_observer.proofs.RefusedLemmas.{seen_waits, seen_faults}
 use Rattle.swd_observer.proofs.LostLemmas.{same_self, unanswered_none}
@@ -133,8 +136,10 @@ port_led : (E : List Transfer → Type 0) (o : Observer) (ones : ℕ) (s : Port)
     → KnowsPort E o (after_lead ones s)
 port_led E o ones s k = record {
   knows = record {
-    knows = led_by E o (if no (ones == 0) then Fresh else s.target.reset) (no (ones == 0)) (is_awaiting s.link.line)
-        s.target k.waits k.knows.knows;
+    knows = awaits_by E o.older o o s.target (after_lead ones s).target
+        (λ F z. led_by F o (if no (ones == 0) then Fresh else s.target.reset) (no (ones == 0))
+        (is_awaiting s.link.line) s.target k.waits z)
+        (λ z word v. stands_same z word s.target (after_lead ones s).target refl refl refl v) k.knows.knows;
     flagged = λ e. or_led s.target.sticky_error s.target.write_error (no (ones == 0) && is_awaiting s.link.line)
         (k.knows.flagged e);
   };
@@ -210,14 +215,15 @@ run before told o (e ∷ events) s t (m, h, rest) k =
     run before (said e told o) (seen e o) events m t rest (happens before told o e s m h k)
 
 -- at the end
-accounted : (before : List Transfer) (told : List Told) (o : Observer) (t : Port)
-    → KnowsPort (ExplainsSince before told) o t
-    → Accounted before (told ++ listed (doubt_told o)) t
+accounted : (before : List Transfer) (told : List Told) (o : Observer) (t : Port) → KnowsPort
+    (ExplainsSince before told) o t → Accounted before (and_told told (last_tells o)) t
 accounted before told o t k =
-    let h : Holds (ExplainsSince before (told ++ listed (doubt_told o))) (doubted o) t.target =
-    doubt_holds before told o t.target t.target (same_self t.target) (doubt_is o t.target k.knows.flagged)
-    k.knows.knows in
-    record { now = h.flight.now; later = h.flight.later }
+    let f = flush_all before told o t.target k.knows in
+    let h : Holds (ExplainsSince before (flushed told o ++ listed (doubt_told o))) (doubted o) t.target =
+    doubt_holds before (flushed told o) o t.target t.target (same_self t.target) (doubt_is o t.target f.flagged)
+    f.knows in
+    subst (λ l. Accounted before l t) (sym (append-nil (flushed told o ++ listed (doubt_told o))))
+    (record { now = h.flight.now; later = h.flight.later })
 
 pub runs_accounted : RunsAreAccounted
 runs_accounted before told o events s t k r =

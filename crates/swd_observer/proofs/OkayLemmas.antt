@@ -116,7 +116,7 @@ range_advance (Some true) None range = tt
 range_advance (Some true) (Some a) range = range_at ((a % 4 == 0) && no (a % 1024 == 1020)) a range refl
 range_advance (Some false) tar range = range
 
-range_done : (b : Option Begun) (increments : Option Bool) (tar : Option ℕ) → IfSome tar (λ a. a < 2 ^ 32)
+pub range_done : (b : Option Begun) (increments : Option Bool) (tar : Option ℕ) → IfSome tar (λ a. a < 2 ^ 32)
     → IfSome (tar_done b increments tar) (λ a. a < 2 ^ 32)
 range_done None increments tar range = range
 range_done (Some b) increments tar range = range_advance increments tar range

@@ -41,8 +41,9 @@ use Rattle.swd_observer.specs.declared.observer.Written.TheVariants.{Select as T
 use Rattle.swd_observer.specs.declared.observer.Written.TheVariants.{Drw as ToDrw}
 use Rattle.swd_observer.specs.Observing.{is_status_known, is_bank_0, is_select_sent, select_sent}
 use Rattle.swd_observer.specs.Transacts.{Moves}
-use Rattle.swd_observer.specs.Laws.{KnownAtStatus}
-use Rattle.swd_observer.proofs.FlagLemmas.{status_refused, flags_taken, flags_asked}
+use Rattle.swd_observer.specs.Laws.{KnownAtStatus, flushed}
+use Rattle.swd_observer.proofs.FlagLemmas.{hold, status_refused, flags_taken, flags_asked}
+use Rattle.swd_observer.proofs.OlderLemmas.{flush_all}
 use Rattle.swd_observer.proofs.AskLemmas.{Okayed, okayed}
 use Rattle.swd_observer.proofs.StepLemmas.{arrived_sends_none, taken_on, line_read, got_word}
 
@@ -345,7 +346,9 @@ pub status_told : KnownAtStatus
 status_told before told o q word ok place s t is h k =
     let takes : Takes h.asked h.bits t = takes_of q.read h.asked h.bits t (status_is s.target.select q is).1 h.moves in
     record {
-      knows = status_step before told o q word ok s h.asked t h.bits is h.asks h.range h.carries takes k.knows;
+      knows = hold _ None (if ok && is_status_known o then flagged (bit_of 5 word) (bit_of 7 word) o else o) t.target
+          (status_step before (flushed told o) o q word ok s h.asked t h.bits is h.asks h.range h.carries takes
+          (flush_all before told o s.target k).knows);
       flagged = λ e. flags_taken h.asked t h.bits takes (flags_asked q 1 s h.asked h.asks (k.flagged
           (sym (status_refused (ok && is_status_known o) (bit_of 5 word) (bit_of 7 word) o) ∙ e)));
     }

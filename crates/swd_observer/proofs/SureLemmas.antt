@@ -14,13 +14,16 @@ use Rattle.swd_observer.specs.declared.told.How.{How}
 use Rattle.swd_observer.specs.declared.told.How.TheVariants.{Took, May, Not}
 use Rattle.swd_observer.specs.declared.observer.Observer.{Observer}
 use Rattle.swd_observer.specs.declared.observer.Begun.{Begun}
+use Rattle.swd_observer.specs.declared.observer.Older.{Older}
+use Rattle.swd_observer.specs.declared.observer.Tells.{Tells}
 use Rattle.swd_observer.specs.declared.observer.Kind.TheVariants.{Other, Elsewhere}
 use Rattle.swd_observer.specs.Observing.{Class, Passes, Aborts, Status, Confirms, class_of, arrived, confirmed}
 use Rattle.swd_observer.specs.Observing.{told_with}
-use Rattle.swd_observer.specs.Observing.{is_data, kind_of, doubt_of, told_flagged, told_itself, kind_ap, kind_dp}
+use Rattle.swd_observer.specs.Observing.{is_data, kind_of, told_older, unless, doubt_of, told_flagged, told_itself}
+use Rattle.swd_observer.specs.Observing.{kind_ap, kind_dp}
 use Rattle.swd_observer.specs.Observing.{kind_mem, tells_class}
 use Rattle.swd_observer.specs.Observing.{tells_end, is_status_known, nothing_told}
-use Rattle.swd_observer.specs.Explained.{listed}
+use Rattle.swd_observer.specs.Explained.{and_told, listed}
 use Rattle.swd_observer.specs.Runs.{Moves, Lifts, seen, said}
 use Rattle.swd_observer.specs.Sure.{is_known, is_elsewhere, IsClear, AreSure, ClearIsSure}
 
@@ -43,13 +46,20 @@ not_sure got tar (Some b) = λ e. cc
 none_sure : (how : How) (got tar : Option ℕ) (b : Option Begun) → b ≡ None → IsSure (told_with how got tar b)
 none_sure how got tar b e = subst (λ z. IsSure (told_with how got tar z)) (sym e) tt
 
-flag_sure : (known sticky damaged : Bool) (o : Observer)
-    → IsSure (if known then record { before = told_flagged sticky damaged o; itself = None } else nothing_told).before
-    × IsSure (if known then record { before = told_flagged sticky damaged o; itself = None } else nothing_told).itself
-flag_sure false sticky damaged o = (tt, tt)
-flag_sure true true damaged o = (not_sure None (arrived o).tar (arrived o).begun, tt)
-flag_sure true false true o = (not_sure None (arrived o).tar (arrived o).begun, tt)
-flag_sure true false false o = (tt, tt)
+older_sure : (word : Option ℕ) (h : Option Older) → IsSure (told_older word h)
+older_sure word None = tt
+older_sure word (Some h) = λ e. cc
+
+unless_sure : (h : Option Older) (t : Option Told) → IsSure t → IsSure (unless h t)
+unless_sure None t s = s
+unless_sure (Some h) t s = tt
+
+flag_sure : (known sticky damaged : Bool) (o : Observer) → IsSure
+    (if known then told_flagged sticky damaged o else None)
+flag_sure false sticky damaged o = tt
+flag_sure true true damaged o = not_sure None (arrived o).tar (arrived o).begun
+flag_sure true false true o = not_sure None (arrived o).tar (arrived o).begun
+flag_sure true false false o = tt
 
 itself_if : (m d read : Bool) (addr : Reg4) (word tar : Option ℕ) (place : ℕ)
     → is_elsewhere (if m then kind_mem read addr else if d then Elsewhere read else Other) ≡ false
@@ -84,33 +94,42 @@ itself_by true (Some s) read addr word tar place e f =
     itself_if (is_mem_ap s) (is_data s addr) read addr word tar place f
 itself_by false known read addr word tar place e f = itself_dp read addr word tar place
 
+abbrev AllSure : Tells → Type 0
+AllSure t = IsSure t.older × IsSure t.before × IsSure t.itself
+
 class_sure : (c : Class) (q : Request) (word : ℕ) (ok : Bool) (place : ℕ) (o : Observer)
     → is_known (confirmed o).select ≡ true → (c ≡ Aborts → (arrived o).begun ≡ None)
-    → is_elsewhere (kind_of (confirmed o).select q) ≡ false
-    → IsSure (tells_class c q word ok place o).before × IsSure (tells_class c q word ok place o).itself
-class_sure Passes q word ok place o known calm plain = (tt, tt)
-class_sure Aborts q word ok place o known calm plain =
-    (none_sure (doubt_of o) None (arrived o).tar (arrived o).begun (calm refl), tt)
-class_sure Status q word ok place o known calm plain =
-    flag_sure (ok && is_status_known o) (bit_of 5 word) (bit_of 7 word) o
+    → is_elsewhere (kind_of (confirmed o).select q) ≡ false → AllSure (tells_class c q word ok place o)
+class_sure Passes q word ok place o known calm plain = (tt, tt, tt)
+class_sure Aborts q word ok place o known calm plain = (
+  older_sure None o.older,
+  none_sure (doubt_of o) None (arrived o).tar (arrived o).begun (calm refl),
+  tt,
+)
+class_sure Status q word ok place o known calm plain = (
+  older_sure None o.older,
+  flag_sure (ok && is_status_known o) (bit_of 5 word) (bit_of 7 word) o,
+  tt,
+)
 class_sure Confirms q word ok place o known calm plain = (
-  took_sure _ (arrived o).tar (arrived o).begun,
+  older_sure _ o.older,
+  unless_sure _ _ (took_sure _ (arrived o).tar (arrived o).begun),
   itself_by q.ap (confirmed o).select q.read q.addr _ (confirmed o).tar place known plain,
 )
 
-end_sure : (end : TxEnd) (q : Request) (place : ℕ) (o : Observer) → IsClear end q o
-    → IsSure (tells_end end q place o).before × IsSure (tells_end end q place o).itself
+end_sure : (end : TxEnd) (q : Request) (place : ℕ) (o : Observer) → IsClear end q o → AllSure (tells_end end q place o)
 end_sure (Moved word ok) q place o h = class_sure (class_of q) q word ok place o h.0 h.1 h.2
-end_sure Wait q place o h = (tt, tt)
-end_sure Fault q place o h = (tt, tt)
+end_sure Wait q place o h = (tt, tt, tt)
+end_sure Fault q place o h = (tt, tt, tt)
 end_sure (NoAck seen) q place o h = absurd h
+
+all_more : (told : List Told) (t : Tells) → AreSure told → AllSure t → AreSure (and_told told t)
+all_more told t s h = one_more ((told ++ listed t.older) ++ listed t.before) t.itself
+    (one_more (told ++ listed t.older) t.before (one_more told t.older s h.0) h.1) h.2
 
 pub clear_sure : ClearIsSure
 clear_sure [] told o s h = s
-clear_sure (Moves tx place ∷ events) told o s h =
-    let t = end_sure tx.result tx.request place o h.0 in
-    clear_sure events (said (Moves tx place) told o) (seen (Moves tx place) o)
-    (one_more (told ++ listed (tells_end tx.result tx.request place o).before)
-    (tells_end tx.result tx.request place o).itself
-    (one_more told (tells_end tx.result tx.request place o).before s t.0) t.1) h.1
+clear_sure (Moves tx place ∷ events) told o s h = clear_sure events (said (Moves tx place) told o)
+    (seen (Moves tx place) o)
+    (all_more told (tells_end tx.result tx.request place o) s (end_sure tx.result tx.request place o h.0)) h.1
 clear_sure (Lifts ones ∷ events) told o s h = clear_sure events told o s h

@@ -5,8 +5,8 @@ use Rattle.swd_trace.specs.declared.item.Item.{Item}
 use Rattle.swd_trace.specs.declared.item.Item.TheVariants.{Reset, Switch, Idle, Tx, Junk, Cut}
 use Rattle.swd_observer.specs.declared.told.Told.{Told}
 use Rattle.swd_observer.specs.declared.trace.TraceObserver.{TraceObserver}
-use Rattle.swd_observer.specs.Observing.{as_made, last_told}
-use Rattle.swd_observer.specs.Explained.{and_told, listed}
+use Rattle.swd_observer.specs.Observing.{as_made, last_tells}
+use Rattle.swd_observer.specs.Explained.{and_told}
 use Rattle.swd_observer.specs.Runs.{Event, Moves, Lifts, Accounted, told_after, observer_after}
 use Rattle.swd_observer.specs.Traces.{from_made, after_item, after_items, told_from, is_whole}
 use Rattle.swd_observer.specs.Traces.{moves_in, moves_of, TraceIsAccounted}
@@ -29,8 +29,8 @@ both true b e = e
 both false b e = absurd (cc)
 
 -- resets, switches and idle cycles tell nothing
-blank : (items : List Item) (told : List Told) → told ≡ (told ++ []) ++ []
-blank items told = sym (append-nil (told ++ []) ∙ append-nil told)
+blank : (items : List Item) (told : List Told) → told ≡ ((told ++ []) ++ []) ++ []
+blank items told = sym (append-nil ((told ++ []) ++ []) ∙ append-nil (told ++ []) ∙ append-nil told)
 
 told_whole : (items : List Item) (told : List Told) (t : TraceObserver) → is_whole items ≡ true
     → told_from items told t ≡ told_after (moves_in items t.place) told t.observer
@@ -66,6 +66,6 @@ trace_accounted identification m items events t runs whole same =
     let seen : (after_items items from_made).observer ≡ observer_after events as_made =
     seen_whole items from_made whole ∙ ap (λ l. observer_after l as_made) same ∙ seen_moves events as_made in
     subst (λ l. Accounted m.log l t)
-    (sym (ap (λ l. l ++ listed (last_told (after_items items from_made).observer)) told
-    ∙ ap (λ o. told_after events [] as_made ++ listed (last_told o)) seen))
+    (sym (ap (λ l. and_told l (last_tells (after_items items from_made).observer)) told
+    ∙ ap (λ o. and_told (told_after events [] as_made) (last_tells o)) seen))
     (made_accounted identification m events t runs)

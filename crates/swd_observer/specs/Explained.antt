@@ -40,4 +40,4 @@ listed (Some t) = t ∷ []
 
 -- and what an item told more
 abbrev pub and_told : List Told → Tells → List Told
-and_told told tells = (told ++ listed tells.before) ++ listed tells.itself
+and_told told tells = ((told ++ listed tells.older) ++ listed tells.before) ++ listed tells.itself

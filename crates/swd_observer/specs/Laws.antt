@@ -10,7 +10,7 @@ use Rattle.swd_port.specs.Completion.{Completes}
 use Rattle.swd_observer.specs.declared.told.Told.{Told}
 use Rattle.swd_observer.specs.declared.observer.Observer.{Observer}
 use Rattle.swd_observer.specs.Observing.{Passes, Aborts, Status, Confirms, class_of, watch_end, tells_end}
-use Rattle.swd_observer.specs.Observing.{confirming, doubt_told, doubted}
+use Rattle.swd_observer.specs.Observing.{confirming, doubt_told, told_older, doubted}
 use Rattle.swd_observer.specs.Observing.{tells_confirming, word_if, flagged, told_flagged, is_status_known}
 use Rattle.swd_port.specs.Registers.{bit_of}
 use Rattle.swd_observer.specs.Explained.{ExplainsSince, and_told, listed}
@@ -25,6 +25,10 @@ KnowsSince before told o x = Watches (ExplainsSince before told) o x
 abbrev pub KnownStays : Type 0
 KnownStays = (before : List Transfer) (told : List Told) (o : Observer) (s t : Port) → Completes s t →
     KnowsSince before told o s.target → KnowsSince before told o t.target
+
+-- and what is told where an older read is told without its word
+abbrev pub flushed : List Told → Observer → List Told
+flushed told o = told ++ listed (told_older None o.older)
 
 -- WAIT shows nothing, and FAULT that what is in flight will not take place
 abbrev pub KnownAtWait : Type 0
@@ -58,7 +62,7 @@ abbrev pub KnownAtAbort : Type 0
 KnownAtAbort = (before : List Transfer) (told : List Told) (o : Observer) (q : Request) (word : ℕ) (ok : Bool)
     (place : ℕ) (s t : Port) → class_of q ≡ Aborts → Transacts (Moved word ok) q s t →
     KnowsSince before told o s.target →
-    KnowsSince before (told ++ listed (doubt_told o)) (doubted o) t.target
+    KnowsSince before (flushed told o ++ listed (doubt_told o)) (doubted o) t.target
 
 -- No acknowledgement was seen: what was under way may have been, and so may this request, where it may be a DRW read.
 abbrev pub KnownAtLost : Type 0
@@ -71,8 +75,10 @@ abbrev pub KnownAtStatus : Type 0
 KnownAtStatus = (before : List Transfer) (told : List Told) (o : Observer) (q : Request) (word : ℕ) (ok : Bool)
     (place : ℕ) (s t : Port) → class_of q ≡ Status → Transacts (Moved word ok) q s t →
     KnowsSince before told o s.target → KnowsSince before
-    (told ++ listed (if ok && is_status_known o then told_flagged (bit_of 5 word) (bit_of 7 word) o else None))
-    (if ok && is_status_known o then flagged (bit_of 5 word) (bit_of 7 word) o else o) t.target
+    (flushed told o ++ listed (if ok && is_status_known o then told_flagged (bit_of 5 word)
+    (bit_of 7 word) o else None))
+    (record (if ok && is_status_known o then flagged (bit_of 5 word)
+    (bit_of 7 word) o else o) { older = None }) t.target
 
 -- THE THEOREM of one transaction, whatever it is
 abbrev pub KnownAlways : Type 0

@@ -1,8 +1,10 @@
 -- What the wire tells of a target, item by item. The rules are those of the port machine
 -- (`Port` of swd_port), read from
 -- the outside; what is done where they leave a thing open is this project's choice: it is unknown from there on.
+pub use Rattle.swd_observer.specs.declared.observer.Class.{Class}
+pub use Rattle.swd_observer.specs.declared.observer.Class.TheVariants.{Passes, Aborts, Status, Confirms}
 use Rattle.std.specs.Prelude.{ℕ, ◌+◌, ◌%◌, ◌==◌, ◌&&◌, ◌||◌, not, Bool, true, false, if◌then◌else◌}
-use Rattle.std.specs.Prelude.{Option, Some, None, nat_lt}
+use Rattle.std.specs.Prelude.{Option, Some, None, is_some, nat_lt}
 use Rattle.std.specs.Option.{option_map, option_and_then}
 use Rattle.swd_bits.specs.declared.request.Request.{Request}
 use Rattle.swd_bits.specs.declared.request.Reg4.{Reg4}
@@ -21,6 +23,9 @@ use Rattle.swd_observer.specs.declared.told.How.TheVariants.{Took, May, Not}
 use Rattle.swd_observer.specs.declared.observer.Observer.{Observer}
 use Rattle.swd_observer.specs.declared.observer.Sent.{Sent}
 use Rattle.swd_observer.specs.declared.observer.Begun.{Begun}
+use Rattle.swd_observer.specs.declared.observer.Older.{Older}
+use Rattle.swd_observer.specs.declared.observer.Standing.{Standing}
+use Rattle.swd_observer.specs.declared.observer.Standing.TheVariants.{Buffer, Returned}
 use Rattle.swd_observer.specs.declared.observer.Tells.{Tells}
 use Rattle.swd_observer.specs.declared.observer.Written.{Written}
 use Rattle.swd_observer.specs.declared.observer.Written.TheVariants.{Select as ToSelect, Csw as ToCsw, Tar as ToTar}
@@ -31,7 +36,16 @@ use Rattle.swd_observer.specs.declared.observer.Kind.TheVariants.{MayWrite}
 
 -- nothing is known: a capture that begins anywhere
 abbrev pub unknown : Observer
-unknown = record { select = None; increments = None; tar = None; sent = None; begun = None; refused = false }
+unknown = record {
+  select = None;
+  increments = None;
+  tar = None;
+  sent = None;
+  begun = None;
+  refused = false;
+  older =
+      None;
+}
 
 -- a target that was just made
 abbrev pub as_made : Observer
@@ -42,6 +56,7 @@ as_made = record {
   sent = None;
   begun = None;
   refused = false;
+  older = None;
 }
 
 -- the registers once a write arrived: SELECT, AddrInc of CSW, TAR; a DRW write begins its transfer at TAR
@@ -86,6 +101,7 @@ arrived_with (Some s) o = record {
   sent = None;
   begun = begun_sent s.written o.increments s.word s.place o.begun;
   refused = o.refused;
+  older = o.older;
 }
 
 abbrev pub arrived : Observer → Observer
@@ -104,7 +120,7 @@ tar_done (Some b) increments tar = advance increments tar
 
 -- the transfer that was begun is done
 abbrev pub done : Observer → Observer
-done o = record o { tar = tar_done o.begun o.increments o.tar; begun = None; refused = false }
+done o = record o { tar = tar_done o.begun o.increments o.tar; begun = None; refused = false; older = None }
 
 -- OK to a request that isn't exempt: no flag is set, so that the write arrived, and the transfer was done
 abbrev pub confirmed : Observer → Observer
@@ -116,7 +132,7 @@ lost_tar None tar = tar
 lost_tar (Some b) tar = None
 
 abbrev pub undone : Observer → Observer
-undone o = record o { tar = lost_tar o.begun o.tar; begun = None; refused = false }
+undone o = record o { tar = lost_tar o.begun o.tar; begun = None; refused = false; older = None }
 
 -- a write of which no word is known
 abbrev pub unsure_of : Sent → Sent
@@ -148,9 +164,15 @@ doubt_of o = if o.refused then Not else May
 abbrev pub doubt_told : Observer → Option Told
 doubt_told o = told_of (doubt_of o) None o
 
--- and at the end of a trace
-abbrev pub last_told : Observer → Option Told
-last_told o = doubt_told o
+-- and of a read before it, whose word wasn't seen yet
+abbrev pub told_older : Option ℕ → Option Older → Option Told
+told_older word None = None
+told_older word (Some h) =
+    Some (record { place = h.place; read = true; addr = h.addr; word = word; how = Took })
+
+-- both, at the end of a trace
+abbrev pub last_tells : Observer → Tells
+last_tells o = record { older = told_older None o.older; before = doubt_told o; itself = None }
 
 -- CTRL/STAT is at the debug port's address 4: DPBANKSEL is 0, and no SELECT was sent that may change it
 abbrev pub is_to_select : Written → Bool
@@ -276,12 +298,6 @@ abbrev pub word_if : Bool → ℕ → Option ℕ
 word_if ok word = if ok then Some word else None
 
 -- the exempt requests: DPIDR read, ABORT write, and where it may be CTRL/STAT the read of the debug port's address 4
-pub data Class : Type 0 where
-  Passes : Class
-  Aborts : Class
-  Status : Class
-  Confirms : Class
-
 abbrev pub class_dp : Bool → Reg4 → Class
 class_dp true R0 = Passes
 class_dp false R0 = Aborts
@@ -291,35 +307,83 @@ class_dp read addr = Confirms
 abbrev pub class_of : Request → Class
 class_of q = if q.ap then Confirms else class_dp q.read q.addr
 
+-- RESEND gives the last returned value
+abbrev pub is_r8 : Reg4 → Bool
+is_r8 R8 = true
+is_r8 addr = false
+
+abbrev pub is_resend : Request → Bool
+is_resend q = not q.ap && (q.read && is_r8 q.addr)
+
+-- where the word of a read stands that just took place: in the read buffer, or where this request gave it with wrong
+-- parity in the last returned value; nowhere that an observer follows where the request may be an access itself
+abbrev pub is_plain : Kind → Bool
+is_plain Other = true
+is_plain Reads = true
+is_plain k = false
+
+abbrev pub standing_after : Request → Bool → Bool → Option Standing
+standing_after q seen plain =
+    if is_resend q then Some Buffer else if is_posted_read q && (not seen && plain) then Some Returned else None
+
+abbrev pub slot_of : Option Begun → Option ℕ → Option Standing → Option Older
+slot_of None tar s = None
+slot_of (Some b) tar None = None
+slot_of (Some b) tar (Some s) =
+    if b.read then Some (record { place = b.place; addr = tar; standing = s }) else None
+
+-- the word of such a read, where this request gave it
+abbrev pub word_at : Standing → Request → Option ℕ → Option ℕ
+word_at Buffer q word = if is_posted_read q then word else None
+word_at Returned q word = if is_resend q then word else None
+
+abbrev pub word_for : Option Older → Request → Option ℕ → Option ℕ
+word_for None q word = None
+word_for (Some h) q word = word_at h.standing q word
+
+abbrev pub unless : Option Older → Option Told → Option Told
+unless None t = t
+unless (Some h) t = None
+
+abbrev pub slot_at : Request → Option ℕ → Observer → Option Older
+slot_at q word o = slot_of (arrived o).begun (arrived o).tar
+    (standing_after q (is_some word) (is_plain (kind_of (confirmed o).select q)))
+
 -- a request that was answered OK, and is none of the exempt ones
 abbrev pub confirming : Request → Option ℕ → ℕ → Observer → Observer
-confirming q word place o = accepted (kind_of (confirmed o).select q) word place (confirmed o)
+confirming q word place o = record (accepted (kind_of (confirmed o).select q) word place (confirmed o)) {
+  older = slot_at q word o;
+}
 
 abbrev pub tells_confirming : Request → Option ℕ → ℕ → Observer → Tells
 tells_confirming q word place o = record {
-  before = told_of Took (whole_word o.increments (if is_posted_read q then word else None)) o;
+  older = told_older (word_for o.older q (whole_word o.increments word)) o.older;
+  before = unless (slot_at q word o)
+      (told_of Took (whole_word o.increments (if is_posted_read q then word else None)) o);
   itself = told_itself (kind_of (confirmed o).select q) (whole_word (confirmed o).increments word) (confirmed o).tar
       place;
 }
 
 abbrev pub nothing_told : Tells
-nothing_told = record { before = None; itself = None }
+nothing_told = record { older = None; before = None; itself = None }
+
+-- the older read is told, and what is told beside it
+abbrev pub flushing : Option Told → Observer → Tells
+flushing t o = record { older = told_older None o.older; before = t; itself = None }
 
 -- a word moved
 abbrev pub watch_class : Class → Request → ℕ → Bool → ℕ → Observer → Observer
 watch_class Passes q word ok place o = o
 watch_class Aborts q word ok place o = doubted o
-watch_class Status q word ok place o =
-    if ok && is_status_known o then flagged (bit_of 5 word) (bit_of 7 word) o else o
+watch_class Status q word ok place o = record (if ok && is_status_known o then
+    flagged (bit_of 5 word) (bit_of 7 word) o else o) { older = None }
 watch_class Confirms q word ok place o = confirming q (word_if ok word) place o
 
 abbrev pub tells_class : Class → Request → ℕ → Bool → ℕ → Observer → Tells
 tells_class Passes q word ok place o = nothing_told
-tells_class Aborts q word ok place o = record { before = doubt_told o; itself = None }
+tells_class Aborts q word ok place o = flushing (doubt_told o) o
 tells_class Status q word ok place o =
-    if ok && is_status_known o then
-    record { before = told_flagged (bit_of 5 word) (bit_of 7 word) o; itself = None }
-    else nothing_told
+    flushing (if ok && is_status_known o then told_flagged (bit_of 5 word) (bit_of 7 word) o else None) o
 tells_class Confirms q word ok place o = tells_confirming q (word_if ok word) place o
 
 -- a transaction
@@ -334,6 +398,7 @@ tells_end (Moved word ok) q place o = tells_class (class_of q) q word ok place o
 tells_end Wait q place o = nothing_told
 tells_end Fault q place o = nothing_told
 tells_end (NoAck seen) q place o = record {
+  older = told_older None o.older;
   before = doubt_told o;
   itself = told_unanswered (kind_of (doubted o).select q) (doubted o).tar place;
 }
@@ -347,6 +412,6 @@ watch item place o = o
 
 abbrev pub tells : Item → ℕ → Observer → Tells
 tells (TxItem tx) place o = tells_end tx.result tx.request place o
-tells (Junk b) place o = record { before = doubt_told o; itself = None }
-tells (Cut bits) place o = record { before = doubt_told o; itself = None }
+tells (Junk b) place o = flushing (doubt_told o) o
+tells (Cut bits) place o = flushing (doubt_told o) o
 tells item place o = nothing_told

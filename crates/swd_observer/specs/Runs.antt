@@ -1,5 +1,5 @@
 -- Runs of the port machine, and what an observer of their wire tells of them: the theorem.
-use Rattle.std.specs.Prelude.{ℕ, ◌≡◌, true, false, List, [], ◌∷◌, ◌++◌, None}
+use Rattle.std.specs.Prelude.{ℕ, ◌≡◌, true, false, List, [], ◌∷◌, None}
 use Rattle.swd_bits.specs.declared.tx.Tx.{Tx}
 use Rattle.swd_port.specs.declared.access.Transfer.{Transfer}
 use Rattle.swd_port.specs.PlainMemory.{PlainMemory}
@@ -9,8 +9,8 @@ use Rattle.swd_port.specs.Completion.{completed}
 use Rattle.swd_port.specs.Leading.{Leads, is_awaiting}
 use Rattle.swd_observer.specs.declared.told.Told.{Told}
 use Rattle.swd_observer.specs.declared.observer.Observer.{Observer}
-use Rattle.swd_observer.specs.Observing.{watch_end, tells_end, last_told, unknown, as_made}
-use Rattle.swd_observer.specs.Explained.{ExplainsSince, and_told, listed}
+use Rattle.swd_observer.specs.Observing.{watch_end, tells_end, last_tells, unknown, as_made}
+use Rattle.swd_observer.specs.Explained.{ExplainsSince, and_told}
 use Rattle.swd_observer.specs.Knows.{Watches}
 use Rattle.swd_observer.specs.Transacts.{Transacts}
 
@@ -61,16 +61,16 @@ pub record Accounted (before : List Transfer) (told : List Told) (s : Port) : Ty
 abbrev pub RunsAreAccounted : Type 0
 RunsAreAccounted = (before : List Transfer) (told : List Told) (o : Observer) (events : List Event) (s t : Port) →
     KnowsPort (ExplainsSince before told) o s → Runs events s t →
-    Accounted before (told_after events told o ++ listed (last_told (observer_after events o))) t
+    Accounted before (and_told (told_after events told o) (last_tells (observer_after events o))) t
 
 -- so it is from a target that was made,
 abbrev pub MadeIsAccounted : Type 0
 MadeIsAccounted = (identification : ℕ) (m : PlainMemory) (events : List Event) (t : Port) →
     Runs events (made identification m) t →
-    Accounted m.log (told_after events [] as_made ++ listed (last_told (observer_after events as_made))) t
+    Accounted m.log (and_told (told_after events [] as_made) (last_tells (observer_after events as_made))) t
 
 -- and of a capture that begins anywhere, where nothing is pending and no data awaited
 abbrev pub AnyIsAccounted : Type 0
 AnyIsAccounted = (events : List Event) (s t : Port) → s.target.pending ≡ None → is_awaiting s.link.line ≡ false →
     Runs events s t → Accounted s.target.memory.log
-    (told_after events [] unknown ++ listed (last_told (observer_after events unknown))) t
+    (and_told (told_after events [] unknown) (last_tells (observer_after events unknown))) t

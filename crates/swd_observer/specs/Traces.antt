@@ -10,8 +10,8 @@ use Rattle.swd_port.specs.Port.{Port, made}
 use Rattle.swd_observer.specs.declared.told.Told.{Told}
 use Rattle.swd_observer.specs.declared.trace.TraceObserver.{TraceObserver}
 use Rattle.swd_observer.specs.declared.trace.Shown.{Shown}
-use Rattle.swd_observer.specs.Observing.{watch, tells, unknown, as_made, last_told}
-use Rattle.swd_observer.specs.Explained.{listed, and_told}
+use Rattle.swd_observer.specs.Observing.{watch, tells, unknown, as_made, last_tells}
+use Rattle.swd_observer.specs.Explained.{and_told}
 use Rattle.swd_observer.specs.Runs.{Event, Moves, Lifts, Runs, Accounted}
 
 -- how many bits a transaction has, turnarounds among them (IHI 0031, B4)
@@ -72,7 +72,7 @@ told_from (item ∷ items) told t = told_from items (and_told told (tells item t
 
 -- and at the end
 abbrev pub told_in : List Item → TraceObserver → List Told
-told_in items t = told_from items [] t ++ listed (last_told (after_items items t).observer)
+told_in items t = and_told (told_from items [] t) (last_tells (after_items items t).observer)
 
 -- no bit belongs to nothing
 abbrev pub is_whole : List Item → Bool

@@ -23,6 +23,6 @@ mod observer;
 mod told;
 mod trace;
 
-pub use observer::{Begun, Observer, Sent, Tells, Written};
+pub use observer::{Begun, Observer, Older, Sent, Standing, Tells, Written};
 pub use told::{How, Told};
 pub use trace::{Shown, TraceObserver};

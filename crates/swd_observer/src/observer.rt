@@ -1,9 +1,14 @@
 //! What the transactions of a wire show of the target behind it.
-ghost use Rattle.std.specs.Prelude.{◌≡◌, ◌&&◌, not, Some, None, if◌then◌else◌};
+ghost use Rattle.std.specs.Prelude.{◌≡◌, ◌&&◌, Some, None, is_some, if◌then◌else◌};
+ghost use Rattle.swd_observer.specs.declared.told.How.TheVariants.{Took};
+ghost use Rattle.swd_port.specs.Registers.{bit_of};
 ghost use Rattle.swd_observer.specs.Observing.{unknown, as_made, arrived, advance, confirmed, doubted, undone};
-ghost use Rattle.swd_observer.specs.Observing.{told_of, doubt_told, last_told, flagged, is_status_known, steps_of, whole_word};
-ghost use Rattle.swd_observer.specs.Observing.{kind_of, kind_elsewhere, accepted, told_itself, is_posted_read, confirming, may_have};
+ghost use Rattle.swd_observer.specs.Observing.{told_of, told_older, doubt_told, last_tells, flushing, flagged};
+ghost use Rattle.swd_observer.specs.Observing.{told_flagged, is_status_known, steps_of, whole_word, word_for, slot_of};
+ghost use Rattle.swd_observer.specs.Observing.{kind_of, kind_elsewhere, accepted, told_itself, is_posted_read};
+ghost use Rattle.swd_observer.specs.Observing.{is_resend, is_plain, standing_after, unless, confirming, may_have};
 ghost use Rattle.swd_observer.specs.Observing.{tells_confirming, watch, tells, watch_end, tells_end, is_read_of, done};
+ghost use Rattle.swd_observer.specs.Observing.{class_of, word_if, watch_class, tells_class, unanswered, told_unanswered};
 
 use crate::told::{How, Told};
 use swd_bits::{Reg4, Request, Tx, TxEnd};
@@ -40,6 +45,24 @@ pub struct Begun {
     pub place: u64,
 }
 
+/// Where the word of a finished read stands.
+#[derive(Clone, Copy, Debug, PartialEq, Eq)]
+pub enum Standing {
+    /// In the read buffer, which the next AP read or RDBUFF returns.
+    Buffer,
+    /// It was returned with wrong parity: RESEND returns it again.
+    Returned,
+}
+
+/// A read that took place, whose word wasn't seen yet.
+#[derive(Clone, Copy, Debug, PartialEq, Eq)]
+pub struct Older {
+    /// The number of bits before its request.
+    pub place: u64,
+    pub addr: Option<u32>,
+    pub standing: Standing,
+}
+
 /// What the wire has shown of a target so far: of SELECT, CSW and TAR, and of the access in flight. What isn't known is
 /// `None`. It takes the items of a trace one after the other, and says of each access of memory what became of it.
 ///
@@ -65,11 +88,14 @@ pub struct Observer {
     /// Whether FAULT was answered since the last OK to a request that can be refused: a sticky flag is set, so what is in
     /// flight did not take place.
     pub refused: bool,
+    pub older: Option<Older>,
 }
 
-/// What an item shows: of the access that was in flight before it, and then of its own request.
+/// What an item shows, in this order: of a read that took place before, of the access that was in flight, and of the
+/// item's own request.
 #[derive(Clone, Copy, Debug, PartialEq, Eq)]
 pub struct Tells {
+    pub older: Option<Told>,
     pub before: Option<Told>,
     pub itself: Option<Told>,
 }
@@ -89,7 +115,21 @@ pub(crate) enum Kind {
     MayWrite(Written),
 }
 
+/// What an OK shows, by the request.
+#[derive(Clone, Copy, Debug, PartialEq, Eq)]
+pub(crate) enum Class {
+    /// A read of DPIDR: nothing.
+    Passes,
+    /// A write of ABORT: flags may be cleared, so that nothing will show what they said.
+    Aborts,
+    /// A read of the debug port's address 4, which may be CTRL/STAT: its flags.
+    Status,
+    /// Any other: no flag is set, and nothing is pending.
+    Confirms,
+}
+
 const NOTHING: Tells = Tells {
+    older: None,
     before: None,
     itself: None,
 };
@@ -106,6 +146,7 @@ impl Observer {
             sent: None,
             begun: None,
             refused: false,
+            older: None,
         }
     }
 
@@ -120,6 +161,7 @@ impl Observer {
             sent: None,
             begun: None,
             refused: false,
+            older: None,
         }
     }
 
@@ -164,6 +206,7 @@ impl Observer {
         let mut now = self;
         now.begun = None;
         now.refused = false;
+        now.older = None;
         if self.begun.is_some() {
             now.tar = advance(self.increments, self.tar);
         }
@@ -177,6 +220,7 @@ impl Observer {
         let mut lost = self;
         lost.begun = None;
         lost.refused = false;
+        lost.older = None;
         if self.begun.is_some() {
             lost.tar = None;
         }
@@ -288,18 +332,172 @@ impl Observer {
         now
     }
 
+    // What is told of the older read, with this word.
+    fn told_older(self, word: Option<u32>) -> Option<Told>
+        ensures { result ≡ told_older word self.older }
+    {
+        let Some(older) = self.older else {
+            return None;
+        };
+        Some(Told {
+            place: older.place,
+            read: true,
+            addr: older.addr,
+            word,
+            how: How::Took,
+        })
+    }
+
+    // The word of the older read, where this request gave it.
+    fn word_for(self, request: Request, word: Option<u32>) -> Option<u32>
+        ensures { result ≡ word_for self.older request word }
+    {
+        let Some(older) = self.older else {
+            return None;
+        };
+        match older.standing {
+            Standing::Buffer => got_by(request, word),
+            Standing::Returned => { if is_resend(request) { word } else { None } }
+        }
+    }
+
+    // The read that was in flight, where its word wasn't seen yet.
+    fn slot(self, standing: Option<Standing>) -> Option<Older>
+        ensures { result ≡ slot_of (arrived self).begun (arrived self).tar standing }
+    {
+        let arrived = self.arrived();
+        let Some(begun) = arrived.begun else {
+            return None;
+        };
+        let Some(standing) = standing else {
+            return None;
+        };
+        if begun.read {
+            Some(Older {
+                place: begun.place,
+                addr: arrived.tar,
+                standing,
+            })
+        } else {
+            None
+        }
+    }
+
+    // The same behind a request that gave this word or none.
+    fn slot_at(self, request: Request, word: Option<u32>, plain: bool) -> Option<Older>
+        ensures { result ≡ slot_of (arrived self).begun (arrived self).tar
+            (standing_after request (is_some word) plain) }
+    {
+        self.slot(standing_after(request, word.is_some(), plain))
+    }
+
+    // What is told of a transfer that took place, and isn't held.
+    fn told_done(self, request: Request, word: Option<u32>, slot: Option<Older>) -> Option<Told>
+        ensures { result ≡ unless slot
+            (told_of Took (whole_word self.increments (if is_posted_read request then word else None)) self) }
+    {
+        match slot {
+            Some(_) => None,
+            None => self.told(How::Took, whole(self.increments, got_by(request, word))),
+        }
+    }
+
     // A word moved, and the request is one that can be refused.
     fn confirm(&mut self, request: Request, word: Option<u32>, place: u64) -> Tells
         ensures observer { self.new ≡ confirming request word place self.old }
         ensures tells { result ≡ tells_confirming request word place self.old }
     {
-        let got = whole(self.increments, got_by(request, word));
-        let before = self.told(How::Took, got);
+        let older = self.told_older(self.word_for(request, whole(self.increments, word)));
         let now = self.confirmed();
         let kind = kind_of(now.select, request);
+        let slot = self.slot_at(request, word, is_plain(kind));
+        let before = self.told_done(request, word, slot);
         let itself = told_itself(kind, whole(now.increments, word), now.tar, place);
-        *self = now.accepted(kind, word, place);
-        Tells { before, itself }
+        *self = now.accepted(kind, word, place).holding(slot);
+        Tells {
+            older,
+            before,
+            itself,
+        }
+    }
+
+    // With this read held.
+    fn holding(self, older: Option<Older>) -> Observer
+        ensures { result ≡ record self { older = older } }
+    {
+        Observer { older, ..self }
+    }
+
+    // The older read is told, and this.
+    fn flushing(self, before: Option<Told>) -> Tells
+        ensures { result ≡ flushing before self }
+    {
+        Tells {
+            older: self.told_older(None),
+            before,
+            itself: None,
+        }
+    }
+
+    // The debug port's address 4 was read.
+    fn status(&mut self, word: u32, parity_ok: bool) -> Tells
+        ensures observer { self.new ≡ record (if parity_ok && is_status_known self.old then
+            flagged (bit_of 5 word) (bit_of 7 word) self.old else self.old) { older = None } }
+        ensures tells { result ≡ flushing (if parity_ok && is_status_known self.old then
+            told_flagged (bit_of 5 word) (bit_of 7 word) self.old else None) self.old }
+    {
+        let mut now = *self;
+        let mut before = None;
+        if parity_ok && self.is_status_known() {
+            let sticky = word >> 5 & 1 == 1;
+            let damaged = word >> 7 & 1 == 1;
+            if sticky || damaged {
+                before = self.told(How::Not, None);
+            }
+            now = self.flagged(sticky, damaged);
+        }
+        let tells = self.flushing(before);
+        now.older = None;
+        *self = now;
+        tells
+    }
+
+    // ABORT was written.
+    fn abort(&mut self) -> Tells
+        ensures observer { self.new ≡ doubted self.old }
+        ensures tells { result ≡ flushing (doubt_told self.old) self.old }
+    {
+        let tells = self.flushing(self.doubt());
+        *self = self.doubted();
+        tells
+    }
+
+    // A word moved.
+    fn moved(&mut self, request: Request, word: u32, parity_ok: bool, place: u64) -> Tells
+        ensures observer { self.new ≡ watch_class (class_of request) request word parity_ok place self.old }
+        ensures tells { result ≡ tells_class (class_of request) request word parity_ok place self.old }
+    {
+        match class_of(request) {
+            Class::Passes => NOTHING,
+            Class::Aborts => self.abort(),
+            Class::Status => self.status(word, parity_ok),
+            Class::Confirms => self.confirm(request, word_if(parity_ok, word), place),
+        }
+    }
+
+    // No acknowledgement was seen.
+    fn unanswered(&mut self, request: Request, place: u64) -> Tells
+        ensures observer { self.new ≡ unanswered (kind_of (doubted self.old).select request) (doubted self.old) }
+        ensures tells { result ≡ record (flushing (doubt_told self.old) self.old) {
+          itself = told_unanswered (kind_of (doubted self.old).select request) (doubted self.old).tar place;
+        } }
+    {
+        let mut tells = self.abort();
+        if is_read(kind_of(self.select, request)) {
+            tells.itself = may_have(true, self.tar, None, place);
+            self.tar = None;
+        }
+        tells
     }
 
     // A transaction.
@@ -307,53 +505,14 @@ impl Observer {
         ensures observer { self.new ≡ watch_end tx.result tx.request place self.old }
         ensures tells { result ≡ tells_end tx.result tx.request place self.old }
     {
-        let request = tx.request;
         match tx.result {
-            TxEnd::Moved { word, parity_ok } => match (request.ap, request.read, request.addr) {
-                (false, true, Reg4::R0) => NOTHING,
-                (false, false, Reg4::R0) => {
-                    let before = self.doubt();
-                    *self = self.doubted();
-                    Tells {
-                        before,
-                        itself: None,
-                    }
-                }
-                (false, true, Reg4::R4) => {
-                    if !parity_ok || !self.is_status_known() {
-                        return NOTHING;
-                    }
-                    let sticky = word >> 5 & 1 == 1;
-                    let damaged = word >> 7 & 1 == 1;
-                    let before = if sticky || damaged {
-                        self.told(How::Not, None)
-                    } else {
-                        None
-                    };
-                    *self = self.flagged(sticky, damaged);
-                    Tells {
-                        before,
-                        itself: None,
-                    }
-                }
-                _ => self.confirm(request, if parity_ok { Some(word) } else { None }, place),
-            },
+            TxEnd::Moved { word, parity_ok } => self.moved(tx.request, word, parity_ok, place),
             TxEnd::Wait => NOTHING,
             TxEnd::Fault => {
                 self.refused = true;
                 NOTHING
             }
-            TxEnd::NoAck(_) => {
-                let before = self.doubt();
-                let mut now = self.doubted();
-                let mut itself = None;
-                if is_read(kind_of(now.select, request)) {
-                    itself = may_have(true, now.tar, None, place);
-                    now.tar = None;
-                }
-                *self = now;
-                Tells { before, itself }
-            }
+            TxEnd::NoAck(_) => self.unanswered(tx.request, place),
         }
     }
 
@@ -366,23 +525,39 @@ impl Observer {
         match *item {
             Item::Tx(tx) => self.watch_tx(tx, place),
             Item::Junk(_) | Item::Cut(_) => {
-                let before = self.doubt();
+                let tells = self.last();
                 *self = Observer::new();
-                Tells {
-                    before,
-                    itself: None,
-                }
+                tells
             }
             _ => NOTHING,
         }
     }
 
-    /// What a trace that ends here shows of the access in flight.
-    pub fn last(&self) -> Option<Told>
-        ensures { result ≡ last_told self.now }
+    /// What a trace that ends here shows of the accesses before its end.
+    pub fn last(&self) -> Tells
+        ensures { result ≡ last_tells self.now }
     {
-        self.doubt()
+        self.flushing(self.doubt())
     }
+}
+
+// What an OK to a request shows.
+fn class_of(request: Request) -> Class
+    ensures { result ≡ class_of request }
+{
+    match (request.ap, request.read, request.addr) {
+        (false, true, Reg4::R0) => Class::Passes,
+        (false, false, Reg4::R0) => Class::Aborts,
+        (false, true, Reg4::R4) => Class::Status,
+        _ => Class::Confirms,
+    }
+}
+
+// The word, where its parity is right.
+fn word_if(parity_ok: bool, word: u32) -> Option<u32>
+    ensures { result ≡ word_if parity_ok word }
+{
+    if parity_ok { Some(word) } else { None }
 }
 
 // Whether TAR increments, where CSW says that a transfer is a word.
@@ -461,15 +636,46 @@ fn is_read(kind: Kind) -> bool
     matches!(&kind, Kind::Reads | Kind::MayRead)
 }
 
-// AP reads and RDBUFF give the read buffer.
+// The word, where the request returns the read buffer.
 fn got_by(request: Request, word: Option<u32>) -> Option<u32>
     ensures { result ≡ (if is_posted_read request then word else None) }
 {
-    if request.read && (request.ap || matches!(&request.addr, Reg4::RC)) {
-        word
+    if is_posted(request) { word } else { None }
+}
+
+// RESEND returns the last returned value.
+fn is_resend(request: Request) -> bool
+    ensures { result ≡ is_resend request }
+{
+    !request.ap && request.read && matches!(&request.addr, Reg4::R8)
+}
+
+// Whether a request does no more than it is known to do.
+fn is_plain(kind: Kind) -> bool
+    ensures { result ≡ is_plain kind }
+{
+    matches!(&kind, Kind::Other | Kind::Reads)
+}
+
+// Where the word of a read stands that this request confirmed.
+fn standing_after(request: Request, seen: bool, plain: bool) -> Option<Standing>
+    ensures { result ≡ standing_after request seen plain }
+{
+    if is_resend(request) {
+        return Some(Standing::Buffer);
+    }
+    if is_posted(request) && !seen && plain {
+        Some(Standing::Returned)
     } else {
         None
     }
+}
+
+// AP reads and RDBUFF return the read buffer.
+fn is_posted(request: Request) -> bool
+    ensures { result ≡ is_posted_read request }
+{
+    request.read && (request.ap || matches!(&request.addr, Reg4::RC))
 }
 
 // What is told of a request of which it isn't known what it does.

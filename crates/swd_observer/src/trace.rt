@@ -1,10 +1,9 @@
 //! An observer of a whole trace.
 ghost use Rattle.std.specs.Prelude.{◌≡◌, not, Some, None};
 ghost use Rattle.swd_observer.specs.Traces.{item_len, is_gap, from_unknown, from_made, after_item, shown_at};
-ghost use Rattle.swd_observer.specs.Observing.{last_told};
+ghost use Rattle.swd_observer.specs.Observing.{last_tells};
 
 use crate::observer::{Observer, Tells};
-use crate::told::Told;
 use swd_bits::{MOVED_BITS, REFUSED_BITS, SWITCH_BITS, TxEnd, UNACKNOWLEDGED_BITS};
 use swd_trace::Item;
 
@@ -75,9 +74,9 @@ impl TraceObserver {
         Shown { tells, gap }
     }
 
-    /// What a trace that ends here shows of the access in flight.
-    pub fn last(&self) -> Option<Told>
-        ensures { result ≡ last_told self.now.observer }
+    /// What a trace that ends here shows of the accesses before its end.
+    pub fn last(&self) -> Tells
+        ensures { result ≡ last_tells self.now.observer }
     {
         self.observer.last()
     }

@@ -6,9 +6,10 @@ use Rattle.swd_trace.specs.declared.item.Item.{Item}
 use Rattle.swd_observer.specs.declared.told.Told.{Told}
 use Rattle.swd_observer.specs.declared.told.How.{How}
 use Rattle.swd_observer.specs.declared.told.How.TheVariants.{Took, May, Not}
+use Rattle.swd_observer.specs.declared.observer.Tells.{Tells}
 use Rattle.swd_observer.specs.declared.trace.Shown.{Shown}
 use Rattle.swd_observer.specs.declared.trace.TraceObserver.{TraceObserver}
-use Rattle.swd_observer.specs.Observing.{last_told}
+use Rattle.swd_observer.specs.Observing.{last_tells}
 use Rattle.swd_observer.specs.Traces.{shown_at, after_item, after_items}
 
 abbrev pub direction : Bool → List ℕ
@@ -41,9 +42,12 @@ abbrev pub gap_text : Option ℕ → List ℕ
 gap_text None = []
 gap_text (Some place) = gap_line place ++ 10 ∷ []
 
+abbrev pub tells_text : Tells → List ℕ
+tells_text t = (told_text t.older ++ told_text t.before) ++ told_text t.itself
+
 -- the lines of what an item shows
 abbrev pub shown_text : Shown → List ℕ
-shown_text s = (told_text s.tells.before ++ told_text s.tells.itself) ++ gap_text s.gap
+shown_text s = tells_text s.tells ++ gap_text s.gap
 
 -- those of some items, by an observer that begins so
 abbrev pub accesses : List Item → TraceObserver → List ℕ
@@ -52,4 +56,4 @@ accesses (item ∷ items) t = shown_text (shown_at item t) ++ accesses items (af
 
 -- and those of a whole trace
 abbrev pub all_accesses : List Item → TraceObserver → List ℕ
-all_accesses items t = accesses items t ++ told_text (last_told (after_items items t).observer)
+all_accesses items t = accesses items t ++ tells_text (last_tells (after_items items t).observer)

@@ -10,7 +10,7 @@ ghost use Rattle.swd_trace.specs.Held.{fed_of, rest, IsSettled};
 ghost use Rattle.swd_trace.specs.Decided.{IsUndecided};
 ghost use Rattle.swd_text.specs.Listers.{StopsAt};
 ghost use Rattle.swd_observer.specs.Traces.{after_item, shown_at};
-ghost use Rattle.swd_observer_text.specs.Accesses.{told_text, gap_text, shown_text, all_accesses};
+ghost use Rattle.swd_observer_text.specs.Accesses.{told_text, tells_text, gap_text, shown_text, all_accesses};
 ghost use Rattle.swd_observer_text.specs.Observes.{Finishes};
 ghost use Rattle.swd_observer_text.specs.Listers.{Start, Lists, Listed, GoesOn, HasRead, StopsIn, Ends};
 
@@ -18,7 +18,7 @@ use crate::line::{line_of, line_of_gap};
 use std::io::Write;
 use swd_bits::{Scan, Sign};
 use swd_io::{Block, Consumer};
-use swd_observer::{Told, TraceObserver};
+use swd_observer::{Tells, Told, TraceObserver};
 use swd_text::{EngineFault, TextFault};
 use swd_trace::{Decoder, Item};
 
@@ -45,6 +45,17 @@ fn put_told<W: Write>(block: &mut Block<'_, W>, told: Option<Told>)
     }
 }
 
+// The lines of what is told are under way, too.
+fn put_tells<W: Write>(block: &mut Block<'_, W>, tells: Tells)
+    ensures sends { (start : Option (List ℕ)) (all : List ℕ) → Sends W.contents start block.old all
+        → Sends W.contents start block.new (all ++ tells_text tells) }
+    ensures writer { block.new.writer.ghost_name ≡ block.old.writer.ghost_name }
+{
+    put_told(block, tells.older);
+    put_told(block, tells.before);
+    put_told(block, tells.itself);
+}
+
 // The line of bits that belong to nothing is under way, too, where there is one.
 fn put_gap<W: Write>(block: &mut Block<'_, W>, gap: Option<u64>)
     ensures sends { (start : Option (List ℕ)) (all : List ℕ) → Sends W.contents start block.old all
@@ -64,8 +75,7 @@ fn put_item<W: Write>(block: &mut Block<'_, W>, observer: &mut TraceObserver, it
     ensures writer { block.new.writer.ghost_name ≡ block.old.writer.ghost_name }
 {
     let shown = observer.watch(item);
-    put_told(block, shown.tells.before);
-    put_told(block, shown.tells.itself);
+    put_tells(block, shown.tells);
     put_gap(block, shown.gap);
 }
 
@@ -190,7 +200,7 @@ impl AccessLister {
         while let Some(item) = self.decoder.last() {
             put_item(block, &mut self.observer, &item);
         }
-        put_told(block, self.observer.last());
+        put_tells(block, self.observer.last());
     }
 
     /// Ends what is told of a text that was read to its end.

@@ -12,7 +12,7 @@ struct Row {
     told: &'static [u8],
 }
 
-const ROWS: [Row; 33] = [
+const ROWS: [Row; 35] = [
     Row {
         name: "a write is told at the next request's OK",
         made: true,
@@ -108,6 +108,19 @@ const ROWS: [Row; 33] = [
         made: true,
         listing: b"ap c read ok 11111111\ndp c read bad 22222222\n",
         told: b"@0 r 00000000 ????????\n",
+    },
+    Row {
+        name: "RESEND gives it",
+        made: true,
+        listing: b"ap c read ok 11111111\ndp c read bad 22222222\ndp 8 read ok 33333333\n",
+        told: b"@0 r 00000000 33333333\n",
+    },
+    Row {
+        name: "RESEND gives it where the next read is in flight, and RDBUFF that one's",
+        made: true,
+        listing: b"ap c read ok 11111111\nap c read bad 22222222\ndp 8 read ok 33333333\n\
+            dp c read ok 44444444\n",
+        told: b"@0 r 00000000 33333333\n@46 r 00000000 44444444\n",
     },
     Row {
         name: "a write with wrong parity that is confirmed",
