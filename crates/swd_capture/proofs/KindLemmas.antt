@@ -7,7 +7,8 @@ use Rattle.swd_bits.specs.declared.tx.TxEnd.{TxEnd}
 use Rattle.swd_bits.specs.declared.tx.TxEnd.TheVariants.{Moved, Wait, Fault, NoAck}
 use Rattle.swd_trace.specs.declared.item.Item.{Item}
 use Rattle.swd_trace.specs.declared.item.Item.TheVariants.{Reset, Switch, Idle, Tx, Junk, Cut}
-use Rattle.swd_capture.specs.Tables.{addr_rows, direction_rows, end_row, kind_end, kind_text, port_rows, row_name, row_of}
+use Rattle.swd_capture.specs.Tables.{addr_rows, direction_rows, end_row, kind_end, kind_text, port_rows, row_name}
+use Rattle.swd_capture.specs.Tables.{row_of}
 
 named_tx : (ap : Bool) (addr : Reg4) (read : Bool) (end : TxEnd)
     → row_name (port_rows ap + addr_rows addr + direction_rows read + end_row end)

@@ -39,7 +39,8 @@ select_by select q Wait = select
 select_by select q Fault = select
 select_by select q (NoAck seen) = None
 
--- after an item. A line reset may come of a target that lost its power, and bits that belong to nothing may hide a write
+-- after an item. A line reset may come of a target that lost its power, and bits that belong to nothing may hide a
+-- write
 abbrev pub select_after : Option Select → Item → Option Select
 select_after select (Reset n) = None
 select_after select Switch = None

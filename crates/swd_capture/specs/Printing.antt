@@ -16,7 +16,8 @@ use Rattle.swd_capture.specs.Tables.{rows_text}
 
 -- a transaction's line with the register's name, and the flags of its word
 abbrev pub named_tx : Option Select → Transaction → List ℕ
-named_tx select tx = port tx.request.ap ++ register select tx.request ++ (direction tx.request.read ++ outcome tx.result)
+named_tx select tx = port tx.request.ap ++ register select tx.request
+    ++ (direction tx.request.read ++ outcome tx.result)
     ++ flags_of (flagged select tx.request) tx.result
 
 abbrev pub named_line : Option Select → Item → List ℕ

@@ -11,7 +11,8 @@ use Rattle.swd_capture.specs.declared.printed.Printed.{Printed}
 use Rattle.swd_capture.specs.Printing.{told, printout}
 
 -- a writer stopped in what is told while more may follow, or in what is printed of the whole text
-pub data StopsWriting (printed : Printed) (text left : Option (List ℕ)) (count : ℕ) (old new : Option (List ℕ)) : Type 0 where
+pub data StopsWriting (printed : Printed) (text left : Option (List ℕ)) (count : ℕ)
+    (old new : Option (List ℕ)) : Type 0 where
   Before : (read : List ℕ) (items : List Item) → Consumes text left read → IsDue read items
       → Stopped count old new (told printed items) → StopsWriting printed text left count old new
   AtEnd : (read : List ℕ) (items : List Item) → Consumes text left read → IsAtEnd left → ReadsAs read items
