@@ -1,20 +1,20 @@
 /*
- * swd.h - a Serial Wire Debug host, a simulated target and a decoder of traces, for C99 and C++.
+ * swd.h - a Serial Wire Debug host, a simulated target and a trace decoder, for C99 and C++.
  *
- * The functions are those of the crate swd_c, which is proved; docs/C.md says how the archive libswd_c.a is
- * built, what of the proof holds here, and what a caller owes.
+ * The functions are those of the crate swd_c, which is proved. docs/C.md says how to build the archive
+ * libswd_c.a, what is proved of these calls, and what a caller must do.
  *
- * All state is in the caller's memory. No function keeps a pointer, calls back, takes memory, waits or fails
- * to return, and none has state of its own: calls on different structs don't meet, and one struct is handed
- * to one call at a time. A struct may be copied as a whole. Any bytes may stand in a struct: what a function
- * may not be given it refuses, and leaves the struct as it was.
+ * All state is in the caller's memory. No function keeps a pointer, calls back, allocates, waits or fails to
+ * return, and none has state of its own. Calls on different structs are independent. One struct is used by one
+ * call at a time. A struct may be copied as a whole, and may contain any bytes: a function refuses invalid
+ * contents and leaves the struct unchanged.
  *
  * The line has a pull-up: where nobody drives it, it reads 1.
  *
- * A caller owes that each pointer points to a whole object of its type, that objects which a function writes
- * don't overlap others that it is given, and that a count is no more than the objects there.
+ * Each pointer must point to a whole object of its type. An object that a function writes must not overlap
+ * another argument. `accesses` must have at least `count` objects.
  *
- * Bits in a number stand in time order, the first in time least significant. Addresses are in bytes. Flags
+ * Bits in a number are in time order, the first in time least significant. Addresses are in bytes. Flags
  * are 0 or 1.
  */
 #ifndef SWD_H
@@ -28,13 +28,13 @@
 extern "C" {
 #endif
 
-/* The version of library and header, which is that of the program. */
+/* The version of library, header and program. */
 #define SWD_VERSION "0.1.0"
 
 /* ---------------------------------------------------------------------------------------- the host ---- */
 
 /*
- * What an engine has come to.
+ * The outcome of the opening or an access.
  */
 struct swd_outcome {
 	uint32_t word; /* of SWD_VALUE and SWD_WRONG_ID, else 0 */
@@ -43,23 +43,23 @@ struct swd_outcome {
 
 enum {
 	SWD_OPENED = 1, /* the target is ready for accesses */
-	SWD_VALUE = 2, /* the access was answered: `word` was read */
-	SWD_WRITTEN = 3, /* the access was answered: the word was written */
-	SWD_BUS_FAULT = 4, /* the access was answered by a bus error: nothing was read or written */
-	/* The others are for good: the engine has stopped. */
-	SWD_ALL = 5, /* comes of no call here */
-	SWD_LOST = 6, /* no acknowledgement was seen: send nothing more, but for swd_engine_again */
-	SWD_TRIES_OUT = 7, /* the opening or an access met more than `tries` events */
-	SWD_WRONG_ID = 8, /* bit 0 of DPIDR isn't 1: it is `word` */
-	SWD_CONFUSED = 9 /* the target answered as no target does */
+	SWD_VALUE = 2, /* the access read `word` */
+	SWD_WRITTEN = 3, /* the access wrote its word */
+	SWD_BUS_FAULT = 4, /* the access met a bus error: nothing was read or written */
+	/* From here on the engine has stopped, and starts no other access. */
+	SWD_ALL = 5, /* no call returns it */
+	SWD_LOST = 6, /* no acknowledgement was seen: send nothing more, except by swd_engine_again */
+	SWD_TRIES_OUT = 7, /* the opening or an access met more than `tries` events: see swd_engine_again */
+	SWD_WRONG_ID = 8, /* bit 0 of DPIDR isn't 1; `word` is DPIDR */
+	SWD_CONFUSED = 9 /* the target violated the protocol */
 };
 
 /*
- * A host that has no wire of its own: it says what to send next, and is told what was seen. What is in it is
- * the library's, but for `requests`. Zeros are no engine.
+ * A host without a wire: it says what to send next, and takes what was seen. Only `requests` is for the
+ * caller; the other fields are private to the library. A struct of zeros is invalid.
  */
 struct swd_engine {
-	uint64_t requests; /* how many requests were sent since it was made; may be read */
+	uint64_t requests; /* number of requests sent since it was made; may be read */
 	struct {
 		struct swd_outcome outcome;
 		struct {
@@ -80,26 +80,26 @@ struct swd_engine {
 };
 
 /*
- * What has to be sent next. What a kind doesn't name is 0.
+ * What has to be sent next. Fields that a kind doesn't name are 0.
  */
 struct swd_cue {
 	uint64_t bits; /* of SWD_GIVE: the 33 bits of the data phase */
-	uint32_t ones; /* of SWD_LEAD: how many ones */
-	uint32_t zeros; /* of SWD_LEAD: how many zeros after them */
-	uint32_t undriven; /* of SWD_LEAD: for how many of the first ones the line is left undriven */
-	struct swd_outcome outcome; /* of SWD_REST: what the engine has come to */
+	uint32_t ones; /* of SWD_LEAD: the number of ones */
+	uint32_t zeros; /* of SWD_LEAD: the number of zeros after them */
+	uint32_t undriven; /* of SWD_LEAD: for how many of the first ones to release the line */
+	struct swd_outcome outcome; /* of SWD_REST: the outcome */
 	uint8_t kind;
 	uint8_t request; /* of SWD_ASK: the eight bits of the request */
-	uint8_t with_switch; /* of SWD_LEAD: whether the switch, and the ones again, stand before the zeros */
-	uint8_t begun; /* of any kind: how many accesses aren't answered, but had their DRW request sent */
+	uint8_t with_switch; /* of SWD_LEAD: whether the switch and the ones again precede the zeros */
+	uint8_t begun; /* of any kind: number of accesses in flight: DRW request sent, no answer yet */
 };
 
 enum {
-	SWD_REST = 0, /* nothing: `outcome` tells */
+	SWD_REST = 0, /* nothing: see `outcome` */
 	SWD_LEAD = 1, /* `ones` ones; with_switch: SWD_SWITCH_BITS and the ones again; `zeros` zeros */
-	SWD_ASK = 2, /* eight bits, a turnaround, and three bits to be seen: these are the reply */
-	SWD_TAKE = 3, /* 33 bits to be seen, which are the reply, and a turnaround */
-	SWD_GIVE = 4, /* a turnaround, and 33 bits */
+	SWD_ASK = 2, /* send eight bits and a turnaround; sample three bits, which are the reply */
+	SWD_TAKE = 3, /* sample 33 bits, which are the reply; then a turnaround */
+	SWD_GIVE = 4, /* a turnaround; then send 33 bits */
 	SWD_PASS = 5, /* a turnaround */
 	SWD_REFUSED = 255 /* the call was refused */
 };
@@ -108,70 +108,69 @@ enum {
 #define SWD_SWITCH_BITS 0xe79e
 
 /*
- * An access: a read of the word at an address, or a write there. The address is a multiple of 4.
+ * An access: reads or writes the word at an address, which is a multiple of 4.
  */
 struct swd_access {
 	uint32_t addr;
-	uint32_t word; /* what is written; of a read it means nothing */
-	uint8_t write; /* 0 for a read, any other number for a write */
+	uint32_t word; /* the word to write; ignored for a read */
+	uint8_t write; /* 0 for a read, any other value for a write */
 };
 
 /*
  * Makes an engine that opens a target: a line reset with the switch, DPIDR, power, and a MEM-AP set up for
- * words. Each of the opening and the accesses may meet `tries` events, such as a WAIT, a word with wrong
- * parity, or write data that arrived changed; at one more it stops with SWD_TRIES_OUT. Whatever it meets, an
- * access takes place once. From here, or from swd_engine_start, to the next outcome it sends at most
- * 9 + 5 * (tries + 1) requests, whatever it is told.
+ * words. The opening, and each access, may meet `tries` events, such as a WAIT, a read word with wrong parity,
+ * or write data that was corrupted; at one more it stops with SWD_TRIES_OUT. That retries make no access take
+ * effect twice is a theorem of swd_host::run, which drives the same engine. From here, or from swd_engine_start,
+ * to the next outcome it sends at most 9 + 5 * (tries + 1) requests, whatever the replies.
  */
 void swd_engine_new(struct swd_engine *engine, uint32_t tries);
 
 /*
- * The same for blocks of reads at addresses that follow each other: a read gives its word with the request
- * for the next one, so that a word takes one request.
+ * Makes the same engine for blocks of reads at consecutive addresses. The request for the next word returns
+ * the word before it, so that a word takes one request.
  */
 void swd_engine_blocks(struct swd_engine *engine, uint32_t tries);
 
 /*
- * Makes an engine that goes on after SWD_LOST, over the same target: begin with the first access that wasn't
- * answered. If one was begun, it may be done a second time. For blocks of reads there is none. Its opening may
- * take five requests more.
+ * Makes an engine that continues after SWD_LOST or SWD_TRIES_OUT, over the same target. Start with the first
+ * access that wasn't answered; an access that was in flight may take effect twice. After swd_engine_blocks,
+ * this engine reads the rest of the block one by one. Its opening may take five requests more.
  */
 void swd_engine_again(struct swd_engine *engine, uint32_t tries);
 
 /*
- * What has to be sent next. SWD_REFUSED: *engine is no engine.
+ * Returns what has to be sent next. SWD_REFUSED: *engine is invalid.
  */
 struct swd_cue swd_engine_cue(const struct swd_engine *engine);
 
 /*
- * Tells what came of the cue, and gives the next one. `reply` is the three bits that were seen after SWD_ASK
- * (an undriven line reads 1), or the 33 bits of SWD_TAKE; of any other kind it means nothing. After SWD_REST
+ * Takes the reply to the cue, and returns the next cue. `reply` is the three bits sampled at SWD_ASK (an
+ * undriven line reads 1), or the 33 bits sampled at SWD_TAKE; at any other kind it is ignored. At SWD_REST
  * nothing changes.
  *
- * SWD_REFUSED: *engine is no engine, or `reply` isn't below 8 after SWD_ASK, or below 2^33 after SWD_TAKE.
+ * SWD_REFUSED: *engine is invalid, or `reply` isn't below 8 at SWD_ASK, or below 2^33 at SWD_TAKE.
  */
 struct swd_cue swd_engine_next(struct swd_engine *engine, uint64_t reply);
 
 /*
- * Begins the access at `index` of a list of `count`. The engine looks at the one behind it, too: where that
- * continues a burst, which is a write at the next word's address in the same kilobyte after a write (over
- * swd_engine_blocks a read after a read), its request may be sent with this access, and it has to be the
- * next that is begun. Then go on by swd_engine_cue.
+ * Starts the access at `index` of a list of `count`; then call swd_engine_cue. The next access in the list
+ * continues a burst if both are writes (with swd_engine_blocks, reads) and its address is the next word's in
+ * the same kilobyte. Its request may then be sent with this access, and it must be the next that is started.
  *
- * Gives false: *engine is no engine; its cue isn't SWD_REST; it has stopped; `index` isn't below `count`; the
- * address isn't a multiple of 4; or another access has to be begun first, as told above.
+ * Returns false: *engine is invalid; its cue isn't SWD_REST; it has stopped; `index` isn't below `count`; the
+ * address isn't a multiple of 4; or another access must be started first, as said above.
  */
 bool swd_engine_start(struct swd_engine *engine, const struct swd_access *accesses, size_t count, size_t index);
 
 /* ---------------------------------------------------------------------------------------- the target ---- */
 
 /*
- * A simulated target: a debug port with a MEM-AP for words, clock by clock. It has no memory: its transfers are
- * the caller's, on whatever bus, and it takes none of them back. What is in it is the library's, but for `cycles`.
- * Zeros are no target.
+ * A simulated target, clock by clock: a debug port with a MEM-AP for words. It has no memory: the caller makes
+ * its transfers, on any bus, and they are never undone. Only `cycles` is for the caller; the other fields are
+ * private to the library. A struct of zeros is invalid.
  */
 struct swd_target {
-	uint64_t cycles; /* how many cycles went by; may be read */
+	uint64_t cycles; /* number of cycles made; may be read */
 	struct {
 		struct {
 			uint64_t bits;
@@ -196,11 +195,11 @@ struct swd_target {
 };
 
 /*
- * A transfer on the target's bus. What a kind doesn't name is 0.
+ * A transfer on the target's bus. Fields that a kind doesn't name are 0.
  */
 struct swd_transfer {
-	uint32_t addr; /* as the host wrote it: it may be no multiple of 4 */
-	uint32_t word; /* of SWD_WRITE: what is written */
+	uint32_t addr; /* the value of TAR; need not be a multiple of 4 */
+	uint32_t word; /* of SWD_WRITE: the word to write */
 	uint8_t kind;
 };
 
@@ -210,74 +209,75 @@ enum {
 	SWD_WRITE = 2
 };
 
-/* The host leaves the line alone in a cycle. */
+/* The host doesn't drive the line in this cycle. */
 #define SWD_RELEASED 2
 
-/* In place of a bit: the transfer that is pending has to be made before this cycle. */
+/* Returned in place of a bit: make the pending transfer, then call again. */
 #define SWD_WANTS 2
 
 /*
- * Makes a target that had no line reset yet; DPIDR gives 2ba01477. `wraps` is whether TAR wraps at the end of a
- * kilobyte, or goes on; `filler` is what a read gives whose value is unknown.
+ * Makes a target that had no line reset yet; its DPIDR is 2ba01477. `wraps` selects whether TAR wraps at the end
+ * of a kilobyte or increments past it. `filler` is returned by a read whose value is unknown.
  */
 void swd_target_new(struct swd_target *target, uint8_t wraps, uint32_t filler);
 
 /*
- * One clock: `drive` is the host's bit, or SWD_RELEASED. Gives the bit on the line: the target's where it drives,
- * else the host's, and 1 where nobody drives.
+ * Makes one clock. `drive` is the host's bit, or SWD_RELEASED. Returns the bit on the line: the target's if it
+ * drives, else the host's, and 1 if nobody drives.
  *
- * An accepted read or write of DRW leaves a transfer pending, which swd_target_wants tells from then on. It may be
- * made at any time up to the next OK or FAULT; a cycle that can't do without gives SWD_WANTS, and is to be
- * tried again after swd_target_settle. So make a transfer as soon as it is wanted, or once SWD_WANTS is given; or,
- * where the bus takes its time, hold the target until it is made.
+ * An accepted read or write of DRW leaves a transfer pending, which swd_target_wants returns from then on. Make it
+ * at any time up to the next OK or FAULT. A cycle that needs it first isn't made and returns SWD_WANTS; call it
+ * again after swd_target_settle. So make a transfer as soon as it is wanted, or when SWD_WANTS is returned. If the
+ * bus is slow, hold the target until the transfer is made.
  *
- * SWD_REFUSED: *target is no target, or `drive` is above 2.
+ * SWD_REFUSED: *target is invalid, or `drive` is above 2.
  */
 uint8_t swd_target_cycle(struct swd_target *target, uint8_t drive);
 
 /*
- * The transfer that is pending, or SWD_NONE. Of a struct that is no target it means nothing.
+ * Returns the pending transfer, or SWD_NONE. Meaningless for an invalid struct.
  */
 struct swd_transfer swd_target_wants(const struct swd_target *target);
 
 /*
- * Tells what came of the transfer that is pending: SWD_VALUE with the word, SWD_WRITTEN, or SWD_BUS_FAULT. The
- * target goes on as over a memory that answered so.
+ * Takes the result of the pending transfer: SWD_VALUE with the word, SWD_WRITTEN, or SWD_BUS_FAULT. The
+ * target continues as over a memory that gave this result.
  *
- * Gives false: *target is no target; nothing is pending; or that isn't what comes of a read or of a write.
+ * Returns false: *target is invalid; nothing is pending; or a read, or a write, can't have this result.
  */
 bool swd_target_settle(struct swd_target *target, uint8_t kind, uint32_t word);
 
 /*
- * Makes the target busy, or ends that: while it is, a request that may get WAIT gets it in place of OK, and a read of
- * CTRL/STAT finds power late that wasn't seen to be there before.
+ * Makes the target busy, or ends that. While it is busy, a request that may get WAIT gets it in place of OK. A
+ * read of CTRL/STAT then shows no power-up acknowledgement that none showed before.
  *
- * Gives false: *target is no target.
+ * Returns false: *target is invalid.
  */
 bool swd_target_hold(struct swd_target *target, uint8_t wait);
 
 /* --------------------------------------------------------------------------------------- the decoder ---- */
 
 /*
- * Reads a trace bit by bit. What is in it is the library's, but for `fed`. Zeros are no decoder.
+ * A decoder of a trace. Only `fed` is for the caller; the other fields are private to the library. A struct of
+ * zeros is invalid.
  */
 struct swd_decoder {
-	uint64_t fed; /* how many bits it took; may be read */
+	uint64_t fed; /* number of bits taken; may be read */
 	uint64_t run, bits;
 	uint8_t mode, one, len;
 };
 
 /*
- * One item of a trace. What a kind doesn't name is 0.
+ * One item of a trace. Fields that a kind doesn't name are 0.
  */
 struct swd_item {
-	uint64_t count; /* of SWD_RESET, SWD_IDLE and SWD_CUT: how many bits */
+	uint64_t count; /* of SWD_RESET, SWD_IDLE and SWD_CUT: the number of bits */
 	uint64_t bits; /* of SWD_JUNK and SWD_CUT: the bits */
 	uint32_t word; /* of SWD_TRANSACTION with `ack` 1: the word */
 	uint8_t kind;
 	uint8_t request; /* of SWD_TRANSACTION: the eight bits of the request */
-	uint8_t ack; /* of SWD_TRANSACTION: the three bits seen: 1 OK, 2 WAIT, 4 FAULT, else none */
-	uint8_t parity_ok; /* of SWD_TRANSACTION with `ack` 1: whether the word's parity is right */
+	uint8_t ack; /* of SWD_TRANSACTION: the three bits seen: 1 OK, 2 WAIT, 4 FAULT, else no ACK */
+	uint8_t parity_ok; /* of SWD_TRANSACTION with `ack` 1: whether the word's parity is correct */
 };
 
 enum {
@@ -285,52 +285,52 @@ enum {
 	SWD_SWITCH = 2, /* the sixteen bits of the switch, directly after a line reset */
 	SWD_IDLE = 3, /* `count` zeros */
 	SWD_TRANSACTION = 4,
-	SWD_JUNK = 5, /* a bit that belongs to nothing */
-	SWD_CUT = 6 /* the end of the trace, inside of a line reset or a transaction: 1 to 49 bits */
+	SWD_JUNK = 5, /* one bit that belongs to no other item */
+	SWD_CUT = 6 /* the end of the trace in fewer than 50 ones or a transaction: 1 to 49 bits */
 };
 
 /*
- * The fields of a request's eight bits: whether it is to the access port, whether it is a read, and the
- * address of the register, which is 0, 4, 8 or 12.
+ * The fields of a request's eight bits: whether it goes to the access port, whether it is a read, and the
+ * register's address, which is 0, 4, 8 or 12.
  */
 #define SWD_REQUEST_AP(request) (((request) >> 1) & 1)
 #define SWD_REQUEST_READ(request) (((request) >> 2) & 1)
 #define SWD_REQUEST_ADDR(request) ((((request) >> 3) & 3) << 2)
 
 /*
- * Makes a decoder that took no bit.
+ * Makes a decoder that has taken no bit.
  */
 void swd_decoder_new(struct swd_decoder *decoder);
 
 /*
- * Takes at least one of the lowest `count` bits, and gives how many: those at the front. How the bits of a
- * trace are cut into calls makes no difference.
+ * Takes one or more of the lowest `count` bits, from the least significant up, and returns how many. How a trace
+ * is split into calls doesn't change its items.
  *
- * Gives 0: *decoder is no decoder; an item is due; `count` is 0 or above 64; or `fed` would pass 2^64 - 1.
+ * Returns 0: *decoder is invalid; an item is due; `count` is 0 or above 64; or `fed` + `count` is above 2^64 - 1.
  */
 uint8_t swd_decoder_take(struct swd_decoder *decoder, uint64_t bits, uint8_t count);
 
 /*
- * Gives the next item that the bits so far decide, whatever may follow. Call it until it gives false before
- * bits are taken.
+ * Writes the next item that no later bits can change. Call it until it returns false, before more bits are
+ * taken.
  *
- * Gives false, and leaves *item as it was: nothing is due, or *decoder is no decoder.
+ * Returns false, and leaves *item unchanged: no item is due, or *decoder is invalid.
  */
 bool swd_decoder_due(struct swd_decoder *decoder, struct swd_item *item);
 
 /*
- * Gives the next item where the trace ends here. All items together are the reading of all bits.
+ * Writes the next item if the trace ends here. All items together are the reading of all bits.
  *
- * Gives false, and leaves *item as it was: all items were given, or *decoder is no decoder.
+ * Returns false, and leaves *item unchanged: no item is left, or *decoder is invalid.
  */
 bool swd_decoder_last(struct swd_decoder *decoder, struct swd_item *item);
 
 /* ---------------------------------------------------------------------------------------- the header ---- */
 
 /*
- * Each struct above, with a number of its own in each field. The numbers are 1, 2 and so on in the order of
- * the fields, each times 0x01 in one byte, 0x01010101 in four, 0x0101010101010101 in eight. And the sizes of
- * the structs as the library has them. examples/c/layout.c checks this header by it.
+ * Each struct above, with a different number in each field: 1, 2 and so on in the order of the fields, times
+ * 0x01 in one byte, 0x01010101 in four, 0x0101010101010101 in eight. And the sizes that the structs have in the
+ * library. examples/c/layout.c checks this header by it.
  */
 struct swd_layout {
 	struct swd_engine engine;

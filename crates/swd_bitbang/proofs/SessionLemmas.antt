@@ -3,15 +3,15 @@ use Rattle.std.proofs.Common.{◌≡◌, ℕ, suc, ◌-◌, ◌<◌, ◌^◌, mi
 use Rattle.std.proofs.Common.{Some, None, true, false, Result, Ok, Err, OnOk, IfErr, refl, sym, ap, subst, ◌∙◌}
 use Rattle.std.proofs.Common.{append_assoc, append-nil, drop-cons, take-append-drop}
 use Rattle.swd_io.specs.declared.block.Block.{Block}
-use Rattle.swd_bitbang.specs.declared.character.Character.{Character}
-use Rattle.swd_bitbang.specs.declared.character.Character.TheVariants.{Moves, Looks, Drives, Nothing, Quits}
+use Rattle.swd_sequences.specs.declared.character.Character.{Character}
+use Rattle.swd_sequences.specs.declared.character.Character.TheVariants.{Moves, Looks, Drives, Quits}
 use Rattle.swd_bitbang.specs.declared.pins.Sign.{Sign}
 use Rattle.swd_bitbang.specs.declared.pins.Sign.TheVariants.{Silent, Level, Quit, Bad}
 use Rattle.swd_bitbang.specs.declared.pins.Pins.{Pins}
 use Rattle.swd_bitbang.specs.declared.serving.Served.{Served}
 use Rattle.swd_bitbang.specs.declared.serving.Served.TheVariants as ends
 use Rattle.swd_bitbang.specs.declared.serving.Server.{Server}
-use Rattle.swd_bitbang.specs.Characters.{character}
+use Rattle.swd_sequences.specs.Alphabet.{character}
 use Rattle.swd_bitbang.specs.Steps.{Steps}
 use Rattle.swd_bitbang.specs.Sessions.{IsOpen, Answers, Session, Goes, EndsAs, IsWhole}
 use Rattle.swd_bitbang.specs.Serving.{Begin, Taken, IsEnd, IsStop, StopsIn, end_of}
@@ -67,12 +67,12 @@ ended_by (Some (Moves true level)) place byte served s t sign h e = quiet _ plac
 ended_by (Some Looks) place byte served s t sign h e = quiet _ place byte served s t sign (subst IsOpen (sym h.1) tt) e
 ended_by (Some (Drives drives)) place byte served s t sign h e = quiet _ place byte served s t sign
     (subst IsOpen (sym h.0) tt) e
-ended_by (Some Nothing) place byte served s t sign h e = quiet _ place byte served s t sign (subst IsOpen (sym h.0) tt)
-    e
 ended_by (Some Quits) place byte served s t sign h e =
     let is : ends.Quit ≡ served =
     (let k : Some ends.Quit ≡ Some served = ap (λ (x : Sign). end_of x place byte) (sym h.0) ∙ e in cc) in
     record { same = h.1; why = λ taken found at. subst (λ (x : Served). IsEnd x taken byte) is found }
+ended_by (Some character) place byte served s t sign h e = quiet _ place byte served s t sign
+    (subst IsOpen (sym h.0) tt) e
 ended_by None place byte served s t sign h e =
     let is : ends.Bad place byte ≡ served =
     (let k : Some (ends.Bad place byte) ≡ Some served = ap (λ (x : Sign). end_of x place byte) (sym h.0)

@@ -1,5 +1,5 @@
-pub mod Characters
 pub mod Traces
 pub mod Steps
 pub mod Sessions
 pub mod Serving
+pub mod Lines

@@ -7,14 +7,13 @@ use Rattle.swd_bitbang.specs.declared.pins.Sign.TheVariants.{Silent, Level, Quit
 use Rattle.swd_bitbang.specs.declared.pins.Pins.{Pins}
 use Rattle.swd_bitbang.specs.declared.serving.Served.{Served}
 use Rattle.swd_bitbang.specs.declared.serving.Served.TheVariants as ends
-use Rattle.swd_bitbang.specs.Characters.{character}
-use Rattle.swd_bitbang.specs.Traces.{level_text}
+use Rattle.swd_sequences.specs.Alphabet.{character, level_character}
 use Rattle.swd_bitbang.specs.Steps.{Steps}
-use Rattle.swd_bitbang.specs.declared.character.Character.TheVariants.{Quits}
+use Rattle.swd_sequences.specs.declared.character.Character.TheVariants.{Quits}
 
 -- what is told of a sign
 abbrev pub told : Sign → List ℕ
-told (Level level) = level_text level
+told (Level level) = level_character level ∷ []
 told sign = []
 
 -- after Quit or a bad character nothing is looked at

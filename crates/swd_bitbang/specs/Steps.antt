@@ -3,8 +3,8 @@
 use Rattle.std.specs.Prelude.{◌≡◌, Bool, true, false, Option, Some, None, if◌then◌else◌}
 use Rattle.swd_clocked.specs.Marked.{MarkedCycles}
 use Rattle.swd_bitbang.specs.Traces.{Keeps}
-use Rattle.swd_bitbang.specs.declared.character.Character.{Character}
-use Rattle.swd_bitbang.specs.declared.character.Character.TheVariants.{Moves, Looks, Drives, Nothing, Quits}
+use Rattle.swd_sequences.specs.declared.character.Character.{Character}
+use Rattle.swd_sequences.specs.declared.character.Character.TheVariants.{Moves, Looks, Drives, Quits}
 use Rattle.swd_bitbang.specs.declared.pins.Sign.{Sign}
 use Rattle.swd_bitbang.specs.declared.pins.Sign.TheVariants.{Silent, Level, Quit, Bad}
 use Rattle.swd_bitbang.specs.declared.pins.Pins.{Pins}
@@ -45,6 +45,7 @@ Steps (Some (Moves true level)) s sign t = (sign ≡ Silent)
     × ((bit : Bool) × Shows bit (record s { clock = true; level = level }) t)
 Steps (Some Looks) s sign t = (bit : Bool) × (sign ≡ Level bit) × SeesBy s.drives bit s t
 Steps (Some (Drives drives)) s sign t = (sign ≡ Silent) × (t ≡ record s { drives = drives })
-Steps (Some Nothing) s sign t = (sign ≡ Silent) × (t ≡ s)
 Steps (Some Quits) s sign t = (sign ≡ Quit) × (t ≡ s)
+-- the lamp, the reset lines, waits
+Steps (Some character) s sign t = (sign ≡ Silent) × (t ≡ s)
 Steps None s sign t = (sign ≡ Bad) × (t ≡ s)

@@ -1,12 +1,12 @@
 //! The two pins of a serial wire, moved by characters.
 ghost use Rattle.std.specs.Prelude.{◌≡◌, true, false, Some, None};
-ghost use Rattle.swd_bitbang.specs.declared.character.Character.TheVariants.{Moves};
-ghost use Rattle.swd_bitbang.specs.Characters.{character};
+ghost use Rattle.swd_sequences.specs.declared.character.Character.TheVariants.{Moves};
+ghost use Rattle.swd_sequences.specs.Alphabet.{character};
 
-use crate::character::Character;
 use crate::trace::Trace;
 use std::alloc::{Allocator, Global};
 use swd_clocked::MarkedClocked;
+use swd_sequences::Character;
 
 /// What comes of a character.
 #[derive(Clone, Copy, Debug, PartialEq, Eq)]
@@ -88,7 +88,7 @@ impl<A: Allocator> Pins<A> {
             Character::Moves(true, level) => self.rise(level),
             Character::Looks => return Sign::Level(self.look()),
             Character::Drives(drives) => self.drives = drives,
-            Character::Nothing => {}
+            Character::Lights(_) | Character::Resets(..) | Character::Waits(_) => {}
             Character::Quits => return Sign::Quit,
         }
         Sign::Silent

@@ -10,6 +10,7 @@ use crate::pins::{Pins, Sign};
 use std::alloc::Allocator;
 use std::io::{Read, Write};
 use swd_io::{Block, Consumer, read_pieces};
+use swd_sequences::level_byte;
 
 /// How a session ended.
 #[derive(Clone, Copy, Debug, PartialEq, Eq, Drop)]
@@ -54,12 +55,10 @@ fn put_answer<W: Write>(block: &mut Block<'_, W>, sign: Sign)
         → Sends W.contents start block.new (all ++ told sign) }
     ensures writer { block.new.writer.ghost_name ≡ block.old.writer.ghost_name }
 {
-    let text: &[u8] = match sign {
-        Sign::Level(false) => b"0",
-        Sign::Level(true) => b"1",
-        _ => b"",
-    };
-    block.put(text);
+    match sign {
+        Sign::Level(level) => block.put(&[level_byte(level)]),
+        _ => block.put(b""),
+    }
 }
 
 impl<A: Allocator> Server<A> {

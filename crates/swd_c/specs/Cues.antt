@@ -1,9 +1,9 @@
 -- What an engine has to send next, as numbers.
-use Rattle.std.specs.Prelude.{ℕ, Bool, if◌then◌else◌, Option, Some, None}
+use Rattle.std.specs.Prelude.{ℕ, Bool, Option, Some, None}
 use Rattle.swd_bits.specs.Bits.{bit, number}
 use Rattle.swd_bits.specs.Wire.{request}
-use Rattle.swd_host.specs.declared.engine.Cue.{Cue}
-use Rattle.swd_host.specs.declared.engine.Cue.TheVariants.{Lead, Ask, Take, Give, Pass, Rest}
+use Rattle.swd_port.specs.declared.cue.Cue.{Cue}
+use Rattle.swd_port.specs.declared.cue.Cue.TheVariants.{Lead, Ask, Take, Give, Pass}
 use Rattle.swd_host.specs.declared.engine.Engine.{Engine}
 use Rattle.swd_host.specs.declared.fields.OutcomeFields.{OutcomeFields}
 use Rattle.swd_host.specs.declared.outcome.Outcome.{Outcome}
@@ -33,22 +33,28 @@ abbrev pub told_outcome : Option Outcome → OutcomeFields
 told_outcome None = no_outcome
 told_outcome (Some outcome) = outcome_fields outcome
 
--- where no switch is sent, the target may be inside of a transaction: the 34 cycles that it may drive are left to it
-abbrev pub told_lead : ℕ → Bool → ℕ → SwdCue
-told_lead ones switch zeros = record (plain_cue 1) {
+abbrev pub told_lead : ℕ → ℕ → Bool → ℕ → SwdCue
+told_lead ones undriven switch zeros = record (plain_cue 1) {
   ones = ones;
   zeros = zeros;
-  undriven = if switch then 0 else 34;
+  undriven = undriven;
   with_switch = bit switch;
 }
 
-abbrev pub told_cue : Cue → Option Outcome → SwdCue
-told_cue (Lead ones switch zeros) outcome = told_lead ones switch zeros
-told_cue (Ask q) outcome = record (plain_cue 2) { request = number (request q) }
-told_cue Take outcome = plain_cue 3
-told_cue (Give bits) outcome = record (plain_cue 4) { bits = bits }
-told_cue Pass outcome = plain_cue 5
-told_cue Rest outcome = record (plain_cue 0) { outcome = told_outcome outcome }
+abbrev pub told_step : Cue → SwdCue
+told_step (Lead ones undriven switch zeros) = told_lead ones undriven switch zeros
+told_step (Ask q) = record (plain_cue 2) { request = number (request q) }
+told_step Take = plain_cue 3
+told_step (Give bits) = record (plain_cue 4) { bits = bits }
+told_step Pass = plain_cue 5
+
+-- nothing has to be sent
+abbrev pub rest_cue : Option Outcome → SwdCue
+rest_cue outcome = record (plain_cue 0) { outcome = told_outcome outcome }
+
+abbrev pub told_cue : Option Cue → Option Outcome → SwdCue
+told_cue (Some cue) outcome = told_step cue
+told_cue None outcome = rest_cue outcome
 
 -- the cue of an engine
 abbrev pub told : Engine → SwdCue

@@ -2,11 +2,11 @@
 ghost use Rattle.std.specs.Prelude.{◌≡◌};
 ghost use Rattle.swd_bits.specs.Bits.{number};
 ghost use Rattle.swd_bits.specs.Wire.{request};
-ghost use Rattle.swd_host.specs.declared.engine.Cue.TheVariants.{Rest};
-ghost use Rattle.swd_c.specs.Cues.{plain_cue, refusal, told, told_cue, told_lead};
+ghost use Rattle.swd_c.specs.Cues.{plain_cue, refusal, rest_cue, told, told_cue, told_lead, told_step};
 
 use swd_bits::Request;
-use swd_host::{Cue, Engine, Outcome, OutcomeFields};
+use swd_host::{Engine, Outcome, OutcomeFields};
+use swd_port::Cue;
 
 /// What has to be sent next, by `kind`: 0 nothing, `outcome` tells what the engine has come to; 1 a lead;
 /// 2 a request; 3 the data phase of a read; 4 that of a write; 5 a turnaround; 255 nothing, since the
@@ -72,15 +72,26 @@ impl SwdCue {
     }
 
     // A cue, and where nothing has to be sent the outcome.
-    fn told(cue: Cue, outcome: Option<Outcome>) -> SwdCue
+    fn told(cue: Option<Cue>, outcome: Option<Outcome>) -> SwdCue
         ensures { result ≡ told_cue cue outcome }
+    {
+        match cue {
+            Some(cue) => SwdCue::step(cue),
+            None => SwdCue::rest(outcome),
+        }
+    }
+
+    // A cue of what has to be sent.
+    fn step(cue: Cue) -> SwdCue
+        ensures { result ≡ told_step cue }
     {
         match cue {
             Cue::Lead {
                 ones,
+                undriven,
                 switch,
                 zeros,
-            } => SwdCue::lead(ones, switch, zeros),
+            } => SwdCue::lead(ones, undriven, switch, zeros),
             Cue::Ask(request) => {
                 let mut ask = SwdCue::plain(2);
                 ask.request = bits_of(request);
@@ -93,24 +104,22 @@ impl SwdCue {
                 give
             }
             Cue::Pass => SwdCue::plain(5),
-            Cue::Rest => SwdCue::rest(outcome),
         }
     }
 
-    fn lead(ones: u32, switch: bool, zeros: u32) -> SwdCue
-        ensures { result ≡ told_lead ones switch zeros }
+    fn lead(ones: u32, undriven: u32, switch: bool, zeros: u32) -> SwdCue
+        ensures { result ≡ told_lead ones undriven switch zeros }
     {
         let mut lead = SwdCue::plain(1);
         lead.ones = ones;
         lead.zeros = zeros;
-        // Inside a transaction, where no switch is sent, the target may drive.
-        lead.undriven = if switch { 0 } else { 34 };
+        lead.undriven = undriven;
         lead.with_switch = u8::from(switch);
         lead
     }
 
     fn rest(outcome: Option<Outcome>) -> SwdCue
-        ensures { result ≡ told_cue Rest outcome }
+        ensures { result ≡ rest_cue outcome }
     {
         let mut rest = SwdCue::plain(0);
         if let Some(outcome) = outcome {

@@ -12,8 +12,8 @@ ghost use Rattle.swd_c.specs.Engines.{Began, HasEngine, HasNoEngine, MayReply, M
 ghost use Rattle.swd_c.specs.Engines.{access_told, is_reply};
 
 use crate::cue::SwdCue;
-use swd_host::{Cue, Engine, EngineFields};
-use swd_port::Access;
+use swd_host::{Engine, EngineFields};
+use swd_port::{Access, Cue};
 
 /// Makes an engine at the start of its opening. Each of the opening and the accesses may meet as many
 /// events as `tries`.
@@ -81,20 +81,20 @@ fn reply_to(engine: &mut Engine, reply: u64) -> bool
     ensures replied { IsTrue result → Replied (cue_of engine.old) reply engine.old engine.new }
 {
     match engine.cue() {
-        Cue::Lead { .. } | Cue::Give(_) | Cue::Pass => engine.done(),
-        Cue::Ask(_) => {
+        Some(Cue::Lead { .. } | Cue::Give(_) | Cue::Pass) => engine.done(),
+        Some(Cue::Ask(_)) => {
             if reply >= 8 {
                 return false;
             }
             engine.seen(reply as u8);
         }
-        Cue::Take => {
+        Some(Cue::Take) => {
             if reply >= 1 << 33 {
                 return false;
             }
             engine.taken(reply);
         }
-        Cue::Rest => {}
+        None => {}
     }
     true
 }

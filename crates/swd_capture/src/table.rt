@@ -1,11 +1,9 @@
 //! How often each kind of item came.
-ghost use Rattle.std.specs.Prelude.{◌≡◌, ◌+◌, ◌-◌, ◌/◌, ◌%◌, ◌^◌, ◌<◌, ◌≤◌, ◌++◌, ◌∷◌, [], length, min, List};
-ghost use Rattle.std.specs.Prelude.{slice_index};
-ghost use Rattle.std.specs.Fmt.{decimal};
+ghost use Rattle.std.specs.Prelude.{◌≡◌, ◌+◌, ◌-◌, ◌/◌, ◌%◌, ◌^◌, ◌<◌, ◌≤◌, ◌++◌, ◌∷◌, [], length, List};
 ghost use Rattle.arrayvec.specs.ArrayString.{array_string_len};
 ghost use Rattle.swd_trace.specs.declared.item.Item.{Item};
-ghost use Rattle.swd_capture.specs.Tables.{addr_name, addr_rows, direction_name, direction_rows, end_name, end_row};
-ghost use Rattle.swd_capture.specs.Tables.{other_name, parity_row, port_name, port_rows, row_line, row_name, row_of};
+ghost use Rattle.swd_capture.specs.Tables.{addr_name, addr_rows, direction_rows, end_name, end_row};
+ghost use Rattle.swd_capture.specs.Tables.{other_name, port_rows, row_line, row_name, row_of};
 ghost use Rattle.swd_capture.specs.Tables.{weight_of};
 
 use arrayvec::ArrayString;

@@ -4,9 +4,8 @@ use Rattle.std.specs.Io.KnownBytes.{Appends, Consumes, IsAtEnd}
 use Rattle.swd_io.specs.Blocks.{Stopped}
 use Rattle.swd_trace.specs.declared.item.Item.{Item}
 use Rattle.swd_text.specs.Decoding.{DecidedBy, IsDue, ReadsAs, StopsWith}
-use Rattle.swd_text.specs.declared.fault.EngineFault.{EngineFault}
-use Rattle.swd_text.specs.declared.fault.EngineFault.TheVariants.{Script, Plan, Text, List as Listing, Read, Write}
-use Rattle.swd_text.specs.declared.fault.EngineFault.TheVariants.{Memory, TraceCut}
+use Rattle.swd_text.specs.declared.fault.DecodeFault.{DecodeFault}
+use Rattle.swd_text.specs.declared.fault.DecodeFault.TheVariants.{Text, Read, Write}
 use Rattle.swd_capture.specs.declared.printed.Printed.{Printed}
 use Rattle.swd_capture.specs.Printing.{told, printout}
 
@@ -20,7 +19,7 @@ pub data StopsWriting (printed : Printed) (text left : Option (List ℕ)) (count
 
 -- What an answer says of the reader's text, where its bytes are known, of what the reader has left of it, and of what
 -- the writer holds before and after.
-abbrev pub Prints : Printed → Result (Unit {0}) EngineFault → Option (List ℕ) → Option (List ℕ) → Option (List ℕ) →
+abbrev pub Prints : Printed → Result (Unit {0}) DecodeFault → Option (List ℕ) → Option (List ℕ) → Option (List ℕ) →
     Option (List ℕ) → Type 0
 Prints printed (Ok u) text left old new =
     (items : List Item) × IsAtEnd left × IfSome text (λ bytes. ReadsAs bytes items)
@@ -31,22 +30,10 @@ Prints printed (Err Read) text left old new =
     (read : List ℕ) × (items : List Item) × Consumes text left read × DecidedBy read items
     × Appends old new (told printed items)
 Prints printed (Err (Write count)) text left old new = StopsWriting printed text left count old new
-Prints printed (Err Memory) text left old new = ⊥
-Prints printed (Err (Listing fault)) text left old new = ⊥
-Prints printed (Err (Script fault)) text left old new = ⊥
-Prints printed (Err (Plan fault)) text left old new = ⊥
-Prints printed (Err TraceCut) text left old new = ⊥
 
 -- what is printed of a whole text went out, all of it or exactly its first bytes
-abbrev pub Finishes : Printed → Result (Unit {0}) EngineFault → List ℕ → Option (List ℕ) → Option (List ℕ) → Type 0
+abbrev pub Finishes : Printed → Result (Unit {0}) ℕ → List ℕ → Option (List ℕ) → Option (List ℕ) → Type 0
 Finishes printed (Ok u) text start now =
     (items : List Item) × ReadsAs text items × Appends start now (printout printed items)
-Finishes printed (Err (Write count)) text start now =
+Finishes printed (Err count) text start now =
     (items : List Item) × ReadsAs text items × Stopped count start now (printout printed items)
-Finishes printed (Err Read) text start now = ⊥
-Finishes printed (Err Memory) text start now = ⊥
-Finishes printed (Err (Text fault)) text start now = ⊥
-Finishes printed (Err (Listing fault)) text start now = ⊥
-Finishes printed (Err (Script fault)) text start now = ⊥
-Finishes printed (Err (Plan fault)) text start now = ⊥
-Finishes printed (Err TraceCut) text start now = ⊥

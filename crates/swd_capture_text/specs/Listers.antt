@@ -10,9 +10,8 @@ use Rattle.swd_trace.specs.Held.{rest, fed_of}
 use Rattle.swd_text.specs.Decoding.{StopsWith, IsDue}
 use Rattle.swd_text.specs.Listers.{IsRead}
 use Rattle.swd_text.specs.declared.fault.TextFault.{TextFault}
-use Rattle.swd_text.specs.declared.fault.EngineFault.{EngineFault}
-use Rattle.swd_text.specs.declared.fault.EngineFault.TheVariants.{Script, Plan, Text, List as Listing, Read, Write}
-use Rattle.swd_text.specs.declared.fault.EngineFault.TheVariants.{Memory, TraceCut}
+use Rattle.swd_text.specs.declared.fault.TakeFault.{TakeFault}
+use Rattle.swd_text.specs.declared.fault.TakeFault.TheVariants.{Text, Write}
 use Rattle.swd_capture.specs.declared.printed.Printed.{Printed}
 use Rattle.swd_capture.specs.declared.teller.Teller.{Teller}
 use Rattle.swd_capture.specs.Printing.{told}
@@ -74,16 +73,10 @@ pub record TellsCut (start now : Option (List ℕ)) (printed : Printed) (count :
   pub cut : Stopped count start now (told printed items)
 
 -- what a writer that began with `start` holds at a fault
-abbrev pub EndsBy : EngineFault → Option (List ℕ) → Option (List ℕ) → Printed → List ℕ → Type 0
+abbrev pub EndsBy : TakeFault → Option (List ℕ) → Option (List ℕ) → Printed → List ℕ → Type 0
 EndsBy (Text fault) start now printed text = TellsFault start now printed fault text
 EndsBy (Write count) start now printed text = TellsCut start now printed count text
-EndsBy Read start now printed text = ⊥
-EndsBy Memory start now printed text = ⊥
-EndsBy (Listing fault) start now printed text = ⊥
-EndsBy (Script fault) start now printed text = ⊥
-EndsBy (Plan fault) start now printed text = ⊥
-EndsBy TraceCut start now printed text = ⊥
 
-abbrev pub Ends : {W : Type 0} → (W → Option (List ℕ)) → Option (List ℕ) × Printed → Lister × W → EngineFault
+abbrev pub Ends : {W : Type 0} → (W → Option (List ℕ)) → Option (List ℕ) × Printed → Lister × W → TakeFault
     → List ℕ → Type 0
 Ends contents from state fault text = EndsBy fault from.0 (contents state.1) from.1 text

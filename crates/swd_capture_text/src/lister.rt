@@ -1,5 +1,5 @@
 //! A trace text on its way to what is printed of it.
-ghost use Rattle.std.specs.Prelude.{◌≡◌, ℕ, ◌+◌, ◌-◌, ◌^◌, ◌<◌, ◌≤◌, min, List, Bool, false, [], ◌∷◌, ◌++◌};
+ghost use Rattle.std.specs.Prelude.{◌≡◌, ℕ, ◌+◌, ◌-◌, ◌^◌, ◌<◌, min, List, Bool, false, [], ◌∷◌, ◌++◌};
 ghost use Rattle.std.specs.Prelude.{length, Option, OnOk, OnErr, IfErr};
 ghost use Rattle.swd_io.specs.Blocks.{Sends};
 ghost use Rattle.swd_io.specs.Pieces.{LeadsOn, LeadsToEnd};
@@ -21,7 +21,7 @@ use std::io::Write;
 use swd_bits::{Scan, Sign};
 use swd_capture::{LONGEST_ENTRY, Printed, ROWS, Teller};
 use swd_io::{Block, Consumer};
-use swd_text::{EngineFault, TextFault};
+use swd_text::{TakeFault, TextFault};
 use swd_trace::{Decoder, Item};
 
 /// Takes a trace text piece by piece, and sends what is told of each item as soon as it is decided.
@@ -218,7 +218,7 @@ impl Lister {
     }
 
     /// Ends what is printed of a text that was read to its end.
-    pub(crate) fn finish<W: Write>(&mut self, writer: &mut W) -> Result<(), EngineFault>
+    pub(crate) fn finish<W: Write>(&mut self, writer: &mut W) -> Result<(), u64>
         ensures { (start : Option (List ℕ)) (printed : Printed) (seen : List ℕ)
             → HasRead W.contents (start, printed) (self.old, writer.old) seen
             → Finishes printed result seen start (W.contents writer.new) }
@@ -228,13 +228,13 @@ impl Lister {
         self.put_rows(&mut block);
         match block.flush() {
             Ok(_) => Ok(()),
-            Err(written) => Err(EngineFault::Write { written }),
+            Err(written) => Err(written),
         }
     }
 }
 
 impl<W: Write> Consumer<W> for Lister {
-    type Fault = EngineFault;
+    type Fault = TakeFault;
 
     ghost can_take = { λ lister. IsSettled lister.decoder };
 
@@ -243,16 +243,16 @@ impl<W: Write> Consumer<W> for Lister {
     ghost stops = { LeadsToEnd (HasRead W.contents) (Ends W.contents) };
 
     // What the piece decides goes out before more is read.
-    fn take(&mut self, writer: &mut W, piece: &[u8]) -> Result<(), EngineFault> {
+    fn take(&mut self, writer: &mut W, piece: &[u8]) -> Result<(), TakeFault> {
         let mut block = Block::new(writer, self.written);
         let listed = self.bytes(&mut block, piece);
         match block.flush() {
             Ok(written) => self.written = written,
-            Err(written) => return Err(EngineFault::Write { written }),
+            Err(written) => return Err(TakeFault::Write { written }),
         }
         match listed {
             Ok(()) => Ok(()),
-            Err(fault) => Err(EngineFault::Text(fault)),
+            Err(fault) => Err(TakeFault::Text(fault)),
         }
     }
 

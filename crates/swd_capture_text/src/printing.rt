@@ -5,7 +5,7 @@ use crate::lister::Lister;
 use std::io::{Read, Write};
 use swd_capture::Printed;
 use swd_io::read_pieces;
-use swd_text::EngineFault;
+use swd_text::DecodeFault;
 
 /// Reads a trace text, and writes what is to be printed of it: of each item as soon as it is decided, whatever may
 /// follow, and at the end the rows of a table. It takes no memory, and its time is linear in the text.
@@ -17,13 +17,17 @@ pub fn print_capture<R: Read, W: Write>(
     printed: Printed,
     reader: &mut R,
     writer: &mut W,
-) -> Result<(), EngineFault>
+) -> Result<(), DecodeFault>
     ensures { Prints printed result (R.remaining reader.old) (R.remaining reader.new)
         (W.contents writer.old) (W.contents writer.new) }
 {
     let mut lister = Lister::new(printed);
     match read_pieces(reader, writer, &mut lister) {
-        Ok(()) => lister.finish(writer),
-        Err(unread) => Err(unread.fault_or(EngineFault::Read)),
+        Ok(()) => {}
+        Err(unread) => return Err(DecodeFault::of(unread)),
+    }
+    match lister.finish(writer) {
+        Ok(()) => Ok(()),
+        Err(written) => Err(DecodeFault::Write { written }),
     }
 }

@@ -1,11 +1,12 @@
 -- A clocked bench as a port machine with a plan, and as a simulated target. All of it is this project's choice.
 use Rattle.std.specs.Prelude.{ℕ, ◌+◌, List, take, Bool}
-use Rattle.swd_bits.specs.declared.request.Request.{Request}
+use Rattle.swd_port.specs.declared.cue.Cue.{Cue}
+use Rattle.swd_port.specs.declared.cue.Cue.TheVariants.{Lead, Ask, Take, Give, Pass}
 use Rattle.swd_port.specs.declared.mark.Mark.{Mark}
 use Rattle.swd_port.specs.declared.register.Register.TheVariants.{DrwRead}
 use Rattle.swd_port.specs.Port.{Port, Link, Tally}
 use Rattle.swd_port.specs.Choices.{Choice, flip_of}
-use Rattle.swd_target.specs.Simulations.{Simulation, reply_to, phase_to, link_after}
+use Rattle.swd_target.specs.Simulations.{Simulation}
 use Rattle.swd_target.specs.Targets.{choice_for}
 use Rattle.swd_target.specs.Requests.{port_at}
 use Rattle.swd_target.specs.Plans as plans
@@ -54,12 +55,14 @@ cycles_of b = marked.cycles_of b.marked.value
 abbrev pub contended_of : {A : Type 0} → ClockedBench A → ℕ
 contended_of b = marked.contended_of b.marked.value
 
--- the link after a request
-abbrev pub link_asked : {A : Type 0} → Request → ClockedBench A → Link
-link_asked q b =
-    let s = simulation_of b in
-    link_after (next_mark b) q (reply_to (next_mark b) q s) (phase_to (next_mark b) q s) (link_of b)
-
 -- the cycles of ones and zeros, with the switch or without
 abbrev pub lead_cycles : ℕ → Bool → ℕ → ℕ
 lead_cycles ones switch zeros = reset_cycles ones switch + zeros
+
+-- the cycles of a cue: those of a request with its turnaround and acknowledgement, of a data phase with its turnaround
+abbrev pub cycles_by : Cue → ℕ
+cycles_by (Lead ones undriven switch zeros) = lead_cycles ones switch zeros
+cycles_by (Ask q) = 12
+cycles_by Take = 34
+cycles_by (Give sent) = 34
+cycles_by Pass = 1

@@ -4,11 +4,13 @@ ghost use Rattle.swd_port.specs.declared.wire.Due.TheVariants.{Nothing, Take, Gi
 ghost use Rattle.swd_port.specs.Port.{idle_link, made};
 ghost use Rattle.swd_port.specs.Completion.{completed};
 ghost use Rattle.swd_port.specs.Asking.{Asks, tally_after};
-ghost use Rattle.swd_port.specs.Leading.{MayLead, Leads, LeadsNow};
-ghost use Rattle.swd_port.specs.Moving.{Takes, TakesNow, Gives, Passes, PassesNow};
+ghost use Rattle.swd_port.specs.Leading.{MayLead, MayRelease, LeadsNow};
+ghost use Rattle.swd_port.specs.Stories.{MayStep, IsSeen, IsStep};
+ghost use Rattle.swd_port.specs.declared.cue.Cue.TheVariants.{Ask};
+ghost use Rattle.swd_port.specs.Moving.{TakesNow, Gives, PassesNow};
 ghost use Rattle.swd_target.specs.Marks.{IsPlan};
-ghost use Rattle.swd_target.specs.Simulations.{made_with, transferred, asked, seen_to};
-ghost use Rattle.swd_target.specs.Benches.{led, given};
+ghost use Rattle.swd_target.specs.Simulations.{made_with, transferred};
+ghost use Rattle.swd_target.specs.Stepping.{led, given, seen_by, stepped_by, link_by, tally_by, StepsAlone};
 ghost use Rattle.swd_target.specs.Targets.{IsChosen};
 ghost use Rattle.swd_clocked.specs.Frames.{counted};
 ghost use Rattle.swd_clocked.specs.Rests.{rests};
@@ -16,7 +18,7 @@ ghost use Rattle.swd_clocked.specs.Rests.{rests};
 use crate::marked::MarkedClocked;
 use std::alloc::{Allocator, Global};
 use swd_bits::Request;
-use swd_port::{Due, Mark, Wire};
+use swd_port::{Cue, Due, Mark, Wire};
 use swd_target::{Memory, Quirks};
 
 /// A `MarkedClocked` at the end of a wire: it drives each call of `Wire` by cycles alone, as any host
@@ -42,7 +44,7 @@ pub struct ClockedBench<A: Allocator = Global> {
 }
 
 impl<A: Allocator> ClockedBench<A> {
-    ghost use Rattle.swd_clocked.specs.ClockedBenches.{port_of, link_of, simulation_of, plan_of};
+    ghost use Rattle.swd_clocked.specs.ClockedBenches.{port_of, link_of, tally_of, simulation_of, plan_of, next_mark};
     ghost use Rattle.swd_clocked.specs.ClockedBenches.{choice_of, cycles_of, lead_cycles};
 
     /// Makes a clocked target that had no line reset yet, with this memory behind its access port.
@@ -96,23 +98,38 @@ impl<A: Allocator> ClockedBench<A> {
     }
 
     // Ones and zeros, cycle by cycle.
-    fn lead_now(&mut self, ones: u32, switch: bool, zeros: u32)
-        requires { MayLead (port_of self.old).link.due ones switch zeros }
+    fn lead_now(&mut self, ones: u32, undriven: u32, switch: bool, zeros: u32)
+        requires leads { MayLead (port_of self.old).link.due ones switch zeros }
+        requires releases { MayRelease (port_of self.old).link.due ones undriven }
         ensures now { LeadsNow (port_of self.old) ones (port_of self.new) }
         ensures exact { simulation_of self.new ≡ led ones (link_of self.old) (simulation_of self.old) }
         ensures plan { plan_of self.new ≡ plan_of self.old }
         ensures cycles { cycles_of self.new ≡ counted (lead_cycles ones switch zeros) (cycles_of self.old) }
     {
         if ones > 0 {
-            let undriven = if matches!(&self.due, Due::Nothing) {
-                0
-            } else {
-                34
-            };
             self.marked.send_reset(ones, undriven, switch);
         }
         self.marked.send_zeros(zeros);
         self.due = Due::Nothing;
+    }
+
+    // A request under the next mark.
+    fn ask_now(&mut self, request: Request) -> u8
+        requires { (port_of self.old).link.due ≡ Nothing }
+        ensures range { result < 8 }
+        ensures step { Asks (port_of self.old) request result (port_of self.new) }
+        ensures sees { result ≡ seen_by (next_mark self.old) (Ask request) (link_of self.old) (simulation_of self.old) }
+        ensures exact { simulation_of self.new
+            ≡ stepped_by (next_mark self.old) (Ask request) (link_of self.old) (simulation_of self.old) }
+        ensures link { link_of self.new
+            ≡ link_by (next_mark self.old) (Ask request) (link_of self.old) (simulation_of self.old) }
+        ensures tally { tally_of self.new ≡ tally_after (next_mark self.old) (tally_of self.old) }
+        ensures plan { plan_of self.new ≡ plan_of self.old }
+        ensures cycles { cycles_of self.new ≡ counted 12 (cycles_of self.old) }
+    {
+        let seen = self.marked.ask_request(request);
+        self.due = Due::after(request.read, seen);
+        seen
     }
 
     // The data phase of a read.
@@ -127,6 +144,21 @@ impl<A: Allocator> ClockedBench<A> {
         let bits = self.marked.take_bits();
         self.due = Due::Nothing;
         bits
+    }
+
+    // The data phase of a write.
+    fn give_now(&mut self, bits: u64)
+        requires due { (port_of self.old).link.due ≡ Give }
+        requires range { bits < 2 ^ 33 }
+        ensures step { Gives (port_of self.old) bits (port_of self.new) }
+        ensures link { link_of self.new ≡ idle_link }
+        ensures tally { tally_of self.new ≡ tally_of self.old }
+        ensures exact { simulation_of self.new ≡ given bits (link_of self.old) (simulation_of self.old) }
+        ensures plan { plan_of self.new ≡ plan_of self.old }
+        ensures cycles { cycles_of self.new ≡ counted 34 (cycles_of self.old) }
+    {
+        self.marked.give_bits(bits);
+        self.due = Due::Nothing;
     }
 
     // The turnaround after WAIT or FAULT.
@@ -144,7 +176,7 @@ impl<A: Allocator> ClockedBench<A> {
 
 impl<A: Allocator> Wire for ClockedBench<A> {
     ghost use Rattle.swd_clocked.specs.ClockedBenches.{port_of, link_of, tally_of, simulation_of, plan_of, next_mark};
-    ghost use Rattle.swd_clocked.specs.ClockedBenches.{link_asked, cycles_of, lead_cycles};
+    ghost use Rattle.swd_clocked.specs.ClockedBenches.{cycles_of, cycles_by};
 
     ghost port = { port_of };
 
@@ -154,68 +186,34 @@ impl<A: Allocator> Wire for ClockedBench<A> {
         self.due
     }
 
-    fn lead(&mut self, ones: u32, switch: bool, zeros: u32)
-        requires { MayLead (port_of self.old).link.due ones switch zeros }
-        ensures step { Leads (port_of self.old) ones (port_of self.new) }
-        ensures now { LeadsNow (port_of self.old) ones (port_of self.new) }
-        ensures exact { simulation_of self.new ≡ led ones (link_of self.old) (simulation_of self.old) }
+    /// The mark of a request is the one in the plan with the number of requests before it.
+    #[inline(always)]
+    fn step(&mut self, cue: Cue) -> u64
+        requires { MayStep (port_of self.old).link.due cue }
+        ensures seen { IsSeen cue result }
+        ensures step { IsStep cue result (port_of self.old) (port_of self.new) }
+        ensures alone { StepsAlone cue result (port_of self.old) (port_of self.new) }
+        ensures sees { result ≡ seen_by (next_mark self.old) cue (link_of self.old) (simulation_of self.old) }
+        ensures exact { simulation_of self.new
+            ≡ stepped_by (next_mark self.old) cue (link_of self.old) (simulation_of self.old) }
+        ensures link { link_of self.new
+            ≡ link_by (next_mark self.old) cue (link_of self.old) (simulation_of self.old) }
+        ensures tally { tally_of self.new ≡ tally_by (next_mark self.old) cue (tally_of self.old) }
         ensures plan { plan_of self.new ≡ plan_of self.old }
-        ensures cycles { cycles_of self.new ≡ counted (lead_cycles ones switch zeros) (cycles_of self.old) }
+        ensures cycles { cycles_of self.new ≡ counted (cycles_by cue) (cycles_of self.old) }
     {
-        self.lead_now(ones, switch, zeros);
-    }
-
-    /// The mark of the request is the one in the plan with the number of requests before it.
-    fn ask(&mut self, request: Request) -> u8
-        requires { (port_of self.old).link.due ≡ Nothing }
-        ensures range { result < 8 }
-        ensures step { Asks (port_of self.old) request result (port_of self.new) }
-        ensures sees { result ≡ seen_to (next_mark self.old) request (simulation_of self.old) }
-        ensures exact { simulation_of self.new ≡ asked (next_mark self.old) request (simulation_of self.old) }
-        ensures link { link_of self.new ≡ link_asked request self.old }
-        ensures tally { tally_of self.new ≡ tally_after (next_mark self.old) (tally_of self.old) }
-        ensures plan { plan_of self.new ≡ plan_of self.old }
-        ensures cycles { cycles_of self.new ≡ counted 12 (cycles_of self.old) }
-    {
-        let seen = self.marked.ask_request(request);
-        self.due = Due::after(request.read, seen);
-        seen
-    }
-
-    fn take(&mut self) -> u64
-        requires { (port_of self.old).link.due ≡ Take }
-        ensures range { result < 2 ^ 33 }
-        ensures step { Takes (port_of self.old) result (port_of self.new) }
-        ensures now { TakesNow (port_of self.old) result (port_of self.new) }
-        ensures exact { simulation_of self.new ≡ simulation_of self.old }
-        ensures plan { plan_of self.new ≡ plan_of self.old }
-        ensures cycles { cycles_of self.new ≡ counted 34 (cycles_of self.old) }
-    {
-        self.take_now()
-    }
-
-    fn give(&mut self, bits: u64)
-        requires due { (port_of self.old).link.due ≡ Give }
-        requires range { bits < 2 ^ 33 }
-        ensures step { Gives (port_of self.old) bits (port_of self.new) }
-        ensures link { link_of self.new ≡ idle_link }
-        ensures tally { tally_of self.new ≡ tally_of self.old }
-        ensures exact { simulation_of self.new ≡ given bits (link_of self.old) (simulation_of self.old) }
-        ensures plan { plan_of self.new ≡ plan_of self.old }
-        ensures cycles { cycles_of self.new ≡ counted 34 (cycles_of self.old) }
-    {
-        self.marked.give_bits(bits);
-        self.due = Due::Nothing;
-    }
-
-    fn pass(&mut self)
-        requires { (port_of self.old).link.due ≡ Pass }
-        ensures step { Passes (port_of self.old) (port_of self.new) }
-        ensures now { PassesNow (port_of self.old) (port_of self.new) }
-        ensures exact { simulation_of self.new ≡ simulation_of self.old }
-        ensures plan { plan_of self.new ≡ plan_of self.old }
-        ensures cycles { cycles_of self.new ≡ counted 1 (cycles_of self.old) }
-    {
-        self.pass_now();
+        match cue {
+            Cue::Lead {
+                ones,
+                undriven,
+                switch,
+                zeros,
+            } => self.lead_now(ones, undriven, switch, zeros),
+            Cue::Ask(request) => return u64::from(self.ask_now(request)),
+            Cue::Take => return self.take_now(),
+            Cue::Give(bits) => self.give_now(bits),
+            Cue::Pass => self.pass_now(),
+        }
+        0
     }
 }

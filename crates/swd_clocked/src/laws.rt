@@ -5,7 +5,9 @@ ghost use Rattle.swd_clocked.specs.declared.clocked_bench.ClockedBench.{ClockedB
 ghost use Rattle.swd_clocked.specs.ClockedBenches.{port_of, plan_of, marks_so_far, contended_of};
 ghost use Rattle.swd_clocked.specs.Spelled.{RequestsSpell, OnesReset};
 
+use crate::clocked_bench::ClockedBench;
 use std::alloc::Allocator;
+use swd_port::Wire;
 
 /// The numbers of disturbed and of lost requests of a bench are counts over the marks that it used,
 /// and so at most those over its whole plan.
@@ -33,4 +35,10 @@ pub fn requests_spell<A: Allocator>()
 /// Fifty ones, driven or not, are a line reset, between transactions and where the target awaits one.
 pub fn ones_reset<A: Allocator>()
     ensures { OnesReset A }
+{}
+
+/// What was seen of a bench always fits the port machine: what a run promises of a wire on which it does holds over a
+/// bench with no condition.
+pub fn always_lawful<A: Allocator>()
+    ensures { (b : ClockedBench A) → ⟦<ClockedBench<A> as Wire>⟧.lawful b }
 {}

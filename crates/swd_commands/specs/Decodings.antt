@@ -1,7 +1,6 @@
 -- What is printed in place of a listing.
 use Rattle.std.specs.Prelude.{Bool, true, false, ◌||◌, Option, None, Some, if◌then◌else◌}
 use Rattle.swd_words.specs.declared.command.DecodeLine.{DecodeLine}
-use Rattle.swd_capture.specs.declared.printed.LineForm.{LineForm}
 use Rattle.swd_observer.specs.declared.trace.TraceObserver.{TraceObserver}
 use Rattle.swd_observer.specs.Traces.{from_made, from_unknown}
 use Rattle.swd_capture.specs.declared.printed.Printed.{Printed}

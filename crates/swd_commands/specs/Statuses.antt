@@ -5,7 +5,8 @@ use Rattle.swd_bits.specs.One.{Answers}
 use Rattle.swd_bits.specs.declared.one.OneFault.{OneFault}
 use Rattle.swd_text.specs.Decoding.{Decodes}
 use Rattle.swd_text.specs.Encoding.{Encodes}
-use Rattle.swd_text.specs.declared.fault.EngineFault.{EngineFault}
+use Rattle.swd_text.specs.declared.fault.DecodeFault.{DecodeFault}
+use Rattle.swd_text.specs.declared.fault.EncodeFault.{EncodeFault}
 use Rattle.swd_capture.specs.declared.printed.Printed.{Printed}
 use Rattle.swd_capture_text.specs.Captures.{Prints}
 use Rattle.swd_commands.specs.Decodings.{observer_for, printed_for}
@@ -15,9 +16,9 @@ use Rattle.swd_words.specs.declared.command.Line.TheVariants.{One, Decode, Encod
 use Rattle.swd_words.specs.declared.command.RunLine.{RunLine}
 use Rattle.swd_host.specs.declared.outcome.End.{End}
 use Rattle.swd_host.specs.declared.outcome.End.TheVariants.{All, Lost, TriesOut, WrongId, Confused}
-use Rattle.swd_run.specs.declared.closing.Finished.{Finished}
+use Rattle.swd_run.specs.declared.engine.Finished.{Finished}
+use Rattle.swd_run.specs.declared.fault.RunFault.{RunFault}
 use Rattle.swd_run.specs.Running.{RunsText}
-use Rattle.swd_run.specs.Tracing.{RunsTraced}
 use Rattle.std.specs.Io.KnownBytes.{Appends}
 
 -- 0 where all was done, 2 at a fault
@@ -38,7 +39,7 @@ abbrev pub has_failed : Bool → Finished → Bool
 has_failed strict finished = (strict && finished.bus_fault) || is_some finished.differs
 
 -- the status of a run, strict or not; 2 at a fault
-abbrev pub status_of_run : Bool → Result Finished EngineFault → ℕ
+abbrev pub status_of_run : {F : Type 0} → Bool → Result Finished F → ℕ
 status_of_run strict (Ok finished) = status_of_end (has_failed strict finished) finished.ended
 status_of_run strict (Err fault) = 2
 
@@ -51,12 +52,13 @@ NotOpened status old new = (status ≡ 2) × Appends old new []
 abbrev pub PerformsUnder : {S : Type 0} → Option S → RunLine → ℕ → Option (List ℕ) → Option (List ℕ) → Option (List ℕ)
     → Option (List ℕ) → Type 0
 PerformsUnder None run status script plan old new =
-    (answer : Result Finished EngineFault) × RunsText run.tries run.resumes answer script plan old new
+    (answer : Result Finished RunFault) × (after : Option (Option (List ℕ)))
+    × RunsText run.tries run.resumes answer script plan old new None after
     × (status ≡ status_of_run run.strict answer)
 PerformsUnder (Some trace) run status script plan old new =
     NotOpened status old new
-    ⊎ ((answer : Result Finished EngineFault) × (before : Option (List ℕ)) × (after : Option (List ℕ))
-    × RunsTraced run.tries run.resumes answer script plan old new before after
+    ⊎ ((answer : Result Finished RunFault) × (before : Option (List ℕ)) × (after : Option (Option (List ℕ)))
+    × RunsText run.tries run.resumes answer script plan old new (Some before) after
     × (status ≡ status_of_run run.strict answer))
 
 -- The plan is empty where none is named, and else some text: no contract knows what a file held.
@@ -75,12 +77,12 @@ PerformsWhere true run status text old new = NotOpened status old new
 abbrev pub PerformsDecode : Bool → Bool → Option Printed → ℕ → Option (List ℕ) → Option (List ℕ) → Option (List ℕ)
     → Option (List ℕ) → Type 0
 PerformsDecode true made printed status text left old new =
-    (answer : Result (Unit {0}) EngineFault) × Observes (observer_for made) answer text left old new
+    (answer : Result (Unit {0}) DecodeFault) × Observes (observer_for made) answer text left old new
     × (status ≡ status_of (is_ok answer))
 PerformsDecode false made None status text left old new =
-    (answer : Result (Unit {0}) EngineFault) × Decodes answer text left old new × (status ≡ status_of (is_ok answer))
+    (answer : Result (Unit {0}) DecodeFault) × Decodes answer text left old new × (status ≡ status_of (is_ok answer))
 PerformsDecode false made (Some printed) status text left old new =
-    (answer : Result (Unit {0}) EngineFault) × Prints printed answer text left old new
+    (answer : Result (Unit {0}) DecodeFault) × Prints printed answer text left old new
     × (status ≡ status_of (is_ok answer))
 
 -- A command reads a text and writes another as its engine says, and its status is that of the engine's answer.
@@ -90,7 +92,7 @@ Performs (One file) status text left old new =
 Performs (Decode decode) status text left old new =
     PerformsDecode decode.accesses decode.made (printed_for decode) status text left old new
 Performs (Encode file) status text left old new =
-    (answer : Result (Unit {0}) EngineFault) × Encodes answer text old new × (status ≡ status_of (is_ok answer))
+    (answer : Result (Unit {0}) EncodeFault) × Encodes answer text old new × (status ≡ status_of (is_ok answer))
 Performs (Run run) status text left old new = PerformsWhere run.remote run status text old new
 -- the script of a target is no standard input, which is its debugger's
 Performs (Target target) status text left old new = NotOpened status old new

@@ -13,7 +13,7 @@ use clap::Error;
 use std::alloc::Global;
 use std::io::{Read, Write};
 use swd_bits::one_text;
-use swd_run::{run_text, run_traced};
+use swd_run::run_text;
 use swd_text::encode_text;
 use swd_words::{DecodeLine, Line, LineFault, RunLine, line};
 
@@ -194,13 +194,14 @@ fn perform_under<S: Read, P: Read, F: Files, O: Write, E: Write>(
         (O.contents output.old) (O.contents output.new) }
 {
     let Some(name) = &run.trace else {
-        let answer = run_text(alloc, script, plan, run.tries, run.resumes, output);
+        let none = &mut None::<F::Made>;
+        let answer = run_text(alloc, script, plan, run.tries, run.resumes, output, none);
         return run_status(errors, answer, run.strict);
     };
     match open_trace(files, name.as_str(), read) {
-        Ok(mut trace) => {
-            let trace = &mut trace.file;
-            let answer = run_traced(alloc, script, plan, run.tries, run.resumes, output, trace);
+        Ok(opened) => {
+            let trace = &mut Some(opened.file);
+            let answer = run_text(alloc, script, plan, run.tries, run.resumes, output, trace);
             run_status(errors, answer, run.strict)
         }
         Err(_) => cannot_open(errors, name.as_str()),

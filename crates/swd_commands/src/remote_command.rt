@@ -9,11 +9,10 @@ use crate::report::{STOPPED, cannot_open, run_status, tell};
 use crate::trace::{Sources, open_trace};
 use std::alloc::Global;
 use std::io::{Read, Write};
-use swd_ends::{run_remote, run_remote_traced};
+use swd_ends::{RemoteFault, run_remote};
 use swd_port::Story;
 use swd_remote::Fault;
 use swd_run::Finished;
-use swd_text::EngineFault;
 use swd_words::RunLine;
 
 /// Any story of the other end: what is proved of a run is proved of each.
@@ -84,7 +83,8 @@ fn run_at<P: Story, S: Read, I: Read + Drop, O: Write + Drop, F: Files, M: Write
         (I.remaining input) (S.remaining script.old) }
 {
     let Some(name) = &run.trace else {
-        let (answer, line) = run_remote::<P, _, _, _, _, _>(
+        let mut untraced: Option<F::Made> = None;
+        let (answer, line) = run_remote::<P, _, _, _, _, _, _>(
             alloc,
             script,
             input,
@@ -92,12 +92,14 @@ fn run_at<P: Story, S: Read, I: Read + Drop, O: Write + Drop, F: Files, M: Write
             run.tries,
             run.resumes,
             report,
+            &mut untraced,
         );
         return reached_status(errors, answer, line.fault, run.strict);
     };
     match open_trace(files, name.as_str(), beside) {
-        Ok(mut trace) => {
-            let (answer, line) = run_remote_traced::<P, _, _, _, _, _, _>(
+        Ok(opened) => {
+            let mut trace = Some(opened.file);
+            let (answer, line) = run_remote::<P, _, _, _, _, _, _>(
                 alloc,
                 script,
                 input,
@@ -105,7 +107,7 @@ fn run_at<P: Story, S: Read, I: Read + Drop, O: Write + Drop, F: Files, M: Write
                 run.tries,
                 run.resumes,
                 report,
-                &mut trace.file,
+                &mut trace,
             );
             reached_status(errors, answer, line.fault, run.strict)
         }
@@ -116,7 +118,7 @@ fn run_at<P: Story, S: Read, I: Read + Drop, O: Write + Drop, F: Files, M: Write
 // The status of a run over a line whose other end is gone or not.
 fn reached_status<E: Write>(
     errors: &mut E,
-    answer: Result<Finished, EngineFault>,
+    answer: Result<Finished, RemoteFault>,
     gone: Option<Fault>,
     strict: bool,
 ) -> u8

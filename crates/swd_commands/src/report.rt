@@ -9,7 +9,6 @@ use swd_bits::OneFault;
 use swd_host::End;
 use swd_port::Answer;
 use swd_run::{Difference, Finished};
-use swd_text::EngineFault;
 
 /// The status where all was done.
 pub const DONE: u8 = 0;
@@ -72,7 +71,7 @@ pub fn one_status<E: Write>(errors: &mut E, answer: Result<(), OneFault>) -> u8
 }
 
 /// The status of a text engine.
-pub fn engine_status<E: Write>(errors: &mut E, answer: Result<(), EngineFault>) -> u8
+pub fn engine_status<E: Write, F: Display + Drop>(errors: &mut E, answer: Result<(), F>) -> u8
     ensures { result ≡ status_of (is_ok answer) }
 {
     match answer {
@@ -85,9 +84,9 @@ pub fn engine_status<E: Write>(errors: &mut E, answer: Result<(), EngineFault>) 
 }
 
 /// The status of a run, strict or not.
-pub fn run_status<E: Write>(
+pub fn run_status<E: Write, F: Display + Drop>(
     errors: &mut E,
-    answer: Result<Finished, EngineFault>,
+    answer: Result<Finished, F>,
     strict: bool,
 ) -> u8
     ensures { result ≡ status_of_run strict answer }

@@ -187,6 +187,7 @@ fn target_status<E: Write>(errors: &mut E, fault: TargetFault) -> u8
 {
     match fault {
         TargetFault::Texts(fault) => engine_status(errors, Err(fault)),
+        TargetFault::Memory => tell(errors, "no memory"),
         TargetFault::Accesses => tell(errors, "a target's script has no accesses and no next"),
     }
 }

@@ -2,12 +2,16 @@
 use expect::expect_eq;
 use std::alloc::Global;
 use std::cell::Cell;
+use std::fmt::Display;
 use std::io;
 use std::io::{Read, Write};
+use std::process::Abort;
 use swd_commands::{Files, Identity, Opened, cannot_open, engine_status, run_words};
+use swd_ends::RemoteFault;
 use swd_fakes::CountingWriter;
+use swd_run::{EngineFault, RunFault, TextsFault};
 use swd_script::ScriptFault;
-use swd_text::{EngineFault, TextFault};
+use swd_text::{DecodeFault, EncodeFault, TextFault};
 use swd_trace::ListFault;
 
 mod accesses;
@@ -356,45 +360,79 @@ fn help_that_cannot_be_written_is_a_fault(rt: HostRuntime) {
     }
 }
 
+// A fault has these words, and its status.
+fn has_words<R: Abort, F: Display + Drop>(rt: &R, errors: Vec<u8>, fault: F, words: &[u8]) {
+    let mut errors = errors;
+    expect_eq(rt, &engine_status(&mut errors, Err(fault)), &2);
+    expect_eq(rt, &errors.as_slice(), &words);
+}
+
 #[test]
 fn each_fault_of_an_engine_has_its_words(rt: HostRuntime) {
     for (fault, words) in [
         (
-            EngineFault::Text(TextFault::BadChar { place: 7 }),
+            DecodeFault::Text(TextFault::BadChar { place: 7 }),
             b"swd: trace byte 7: bad character\n".as_slice(),
         ),
         (
-            EngineFault::Text(TextFault::TooLong),
+            DecodeFault::Text(TextFault::TooLong),
             b"swd: trace too long\n",
         ),
+        (DecodeFault::Read, b"swd: read failed\n"),
+        (DecodeFault::Write { written: 5 }, b"swd: write failed\n"),
+    ] {
+        has_words(&rt, Vec::new(rt.alloc()), fault, words);
+    }
+    for (fault, words) in [
         (
-            EngineFault::List(ListFault::BadLine { line: 3 }),
-            b"swd: list line 3: bad line\n",
+            EncodeFault::List(ListFault::BadLine { line: 3 }),
+            b"swd: list line 3: bad line\n".as_slice(),
         ),
         (
-            EngineFault::List(ListFault::NotNormal { line: 4 }),
+            EncodeFault::List(ListFault::NotNormal { line: 4 }),
             b"swd: list line 4: not normal\n",
         ),
+        (EncodeFault::List(ListFault::Read), b"swd: read failed\n"),
+        (EncodeFault::List(ListFault::Memory), b"swd: no memory\n"),
+        (EncodeFault::Write { written: 5 }, b"swd: write failed\n"),
+    ] {
+        has_words(&rt, Vec::new(rt.alloc()), fault, words);
+    }
+    for (fault, words) in [
         (
-            EngineFault::Script(ScriptFault::Word { line: 1 }),
-            b"swd: script line 1: word\n",
+            RunFault::Texts(TextsFault::Script(ScriptFault::Word { line: 1 })),
+            b"swd: script line 1: word\n".as_slice(),
         ),
         (
-            EngineFault::Script(ScriptFault::Memory { line: 9 }),
+            RunFault::Texts(TextsFault::Script(ScriptFault::Memory { line: 9 })),
             b"swd: script line 9: memory\n",
         ),
         (
-            EngineFault::Plan(ScriptFault::Number { line: 2 }),
+            RunFault::Texts(TextsFault::Plan(ScriptFault::Number { line: 2 })),
             b"swd: plan line 2: number\n",
         ),
-        (EngineFault::Read, b"swd: read failed\n"),
-        (EngineFault::Write { written: 5 }, b"swd: write failed\n"),
-        (EngineFault::Memory, b"swd: no memory\n"),
-        (EngineFault::TraceCut, b"swd: trace cut\n"),
+        (RunFault::Texts(TextsFault::Read), b"swd: read failed\n"),
+        (
+            RunFault::Engine(EngineFault::Write { written: 5 }),
+            b"swd: write failed\n",
+        ),
+        (RunFault::Engine(EngineFault::Memory), b"swd: no memory\n"),
+        (RunFault::Engine(EngineFault::TraceCut), b"swd: trace cut\n"),
     ] {
-        let mut errors = Vec::new(rt.alloc());
-        expect_eq(&rt, &engine_status(&mut errors, Err(fault)), &2);
-        expect_eq(&rt, &errors.as_slice(), &words);
+        has_words(&rt, Vec::new(rt.alloc()), fault, words);
+    }
+    for (fault, words) in [
+        (
+            RemoteFault::Script(ScriptFault::Word { line: 1 }),
+            b"swd: script line 1: word\n".as_slice(),
+        ),
+        (RemoteFault::Read, b"swd: read failed\n"),
+        (
+            RemoteFault::Engine(EngineFault::TraceCut),
+            b"swd: trace cut\n",
+        ),
+    ] {
+        has_words(&rt, Vec::new(rt.alloc()), fault, words);
     }
 }
 

@@ -1,21 +1,16 @@
 -- What a probe over single clocks does to its target.
-use Rattle.std.specs.Prelude.{ℕ, ◌≡◌, ◌+◌, Bool, List, [], ◌∷◌, ◌++◌, map, replicate, take, Option, Some, None, is_some}
+use Rattle.std.specs.Prelude.{ℕ, ◌≡◌, ◌+◌, Bool, List, [], ◌++◌, take, Option, is_some}
 use Rattle.std.specs.Prelude.{Result, Ok}
 use Rattle.swd_bits.specs.Bits.{low_bits, number}
-use Rattle.swd_port.specs.declared.outside.Gone.{Gone}
+use Rattle.swd_port.specs.declared.outside.Disconnected.{Disconnected}
 use Rattle.swd_clocked.specs.declared.marked.MarkedClocked.{MarkedClocked}
 use Rattle.swd_clocked.specs.Frames.{counted, contends}
 use Rattle.swd_clocked.specs.Marked.{MarkedCycles, frame_in, cycles_of, contended_of}
-use Rattle.swd_remote.specs.declared.probe.Stretch.{Stretch}
-use Rattle.swd_remote.specs.declared.probe.Stretch.TheVariants.{Drive, Hold, Release, Sample}
+use Rattle.swd_sequences.specs.declared.sequence.Sequence.{Sequence}
+use Rattle.swd_sequences.specs.declared.sequence.Sequence.TheVariants.{Sample}
+use Rattle.swd_sequences.specs.Clocks.{driven_in}
+use Rattle.swd_sequences.specs.Going.{ClocksGoBy}
 use Rattle.swd_ends.specs.declared.clocked_probe.ClockedProbe.{ClockedProbe}
-
--- what the host drives in each clock of a stretch, or that it drives nothing
-abbrev pub driven_in : Stretch → List (Option Bool)
-driven_in (Drive bits count) = map Some (low_bits count bits)
-driven_in (Hold level count) = replicate count (Some level)
-driven_in (Release count) = replicate count None
-driven_in (Sample count) = replicate count None
 
 -- one cycle of the target: what the host drives, and the level that it sees
 pub record GoesBy {A : Type 0} (drive : Option Bool) (level : Bool) (s t : MarkedClocked A) : Type 0 where
@@ -25,10 +20,7 @@ pub record GoesBy {A : Type 0} (drive : Option Bool) (level : Bool) (s t : Marke
 
 -- cycles one after the other, each with its level, and the target before and after
 abbrev pub GoBy : {A : Type 0} → List (Option Bool) → List Bool → MarkedClocked A → MarkedClocked A → Type 0
-GoBy [] [] s t = t ≡ s
-GoBy [] (level ∷ levels) s t = ⊥
-GoBy (drive ∷ drives) [] s t = ⊥
-GoBy {A} (drive ∷ drives) (level ∷ levels) s t = (m : MarkedClocked A) × GoesBy drive level s m × GoBy drives levels m t
+GoBy drives levels s t = ClocksGoBy GoesBy drives levels s t
 
 -- the target at the probe, and the levels that wait for the next exchange, the first one first
 abbrev pub target_of : {A : Type 0} → ClockedProbe A → MarkedClocked A
@@ -37,23 +29,23 @@ target_of probe = probe.target
 abbrev pub waiting : {A : Type 0} → ClockedProbe A → List Bool
 waiting probe = low_bits probe.sampled probe.levels
 
--- the levels that wait after a stretch in whose clocks these were seen: a sample adds its own, up to 64 in all
-abbrev pub waiting_after : Stretch → List Bool → List Bool → List Bool
+-- the levels that wait after a sequence in whose clocks these were seen: a sample adds its own, up to 64 in all
+abbrev pub waiting_after : Sequence → List Bool → List Bool → List Bool
 waiting_after (Sample count) levels seen = take 64 (levels ++ seen)
-waiting_after stretch levels seen = levels
+waiting_after sequence levels seen = levels
 
--- The clocks of a stretch go by, and the levels that it samples wait.
-pub record Clocked {A : Type 0} (stretch : Stretch) (s t : ClockedProbe A) : Type 0 where
+-- The clocks of a sequence go by, and the levels that it samples wait.
+pub record Clocked {A : Type 0} (sequence : Sequence) (s t : ClockedProbe A) : Type 0 where
   pub seen : List Bool
-  pub clocks : GoBy (driven_in stretch) seen (target_of s) (target_of t)
-  pub waits : waiting t ≡ waiting_after stretch (waiting s) seen
+  pub clocks : GoBy (driven_in sequence) seen (target_of s) (target_of t)
+  pub waits : waiting t ≡ waiting_after sequence (waiting s) seen
 
 -- so many clocks that are driven so go by, and the same levels wait
 abbrev pub PassesBy : {A : Type 0} → List (Option Bool) → ClockedProbe A → ClockedProbe A → Type 0
 PassesBy drives s t = (seen : List Bool) × GoBy drives seen (target_of s) (target_of t) × (waiting t ≡ waiting s)
 
 -- The levels that wait are handed out, and no clock goes by.
-pub record HandsOut {A : Type 0} (result : Result ℕ Gone) (s t : ClockedProbe A) : Type 0 where
+pub record HandsOut {A : Type 0} (result : Result ℕ Disconnected) (s t : ClockedProbe A) : Type 0 where
   pub levels : result ≡ Ok (number (waiting s))
   pub target : target_of t ≡ target_of s
   pub waits : waiting t ≡ []

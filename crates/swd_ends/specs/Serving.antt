@@ -8,9 +8,8 @@ use Rattle.swd_clocked.specs.Marked.{state_of, frame_in, unseen_of, plan_of, tal
 use Rattle.swd_bitbang.specs.declared.trace.Trace.{Trace}
 use Rattle.swd_bitbang.specs.declared.pins.Pins.{Pins}
 use Rattle.swd_script.specs.Scripts.{Listed, Meaning}
-use Rattle.swd_text.specs.declared.fault.EngineFault.TheVariants.{Memory}
 use Rattle.swd_ends.specs.declared.serving.TargetFault.{TargetFault}
-use Rattle.swd_ends.specs.declared.serving.TargetFault.TheVariants.{Texts, Accesses}
+use Rattle.swd_ends.specs.declared.serving.TargetFault.TheVariants.{Texts, Memory, Accesses}
 use Rattle.swd_run.specs.Running.{AreRead, AreUnread, IsScript, IsPlan, memory_of}
 
 -- a target before its first cycle, with the memory of a script and the marks of a plan
@@ -53,6 +52,6 @@ pub record HasAccesses (script plan : Option (List ℕ)) : Type 0 where
   pub access : IsBare meaning.batches → ⊥
 
 abbrev pub IsTargetFault : TargetFault → Option (List ℕ) → Option (List ℕ) → Type 0
-IsTargetFault Accesses script plan = HasAccesses script plan
-IsTargetFault (Texts Memory) script plan = IsScript script × IsPlan plan
 IsTargetFault (Texts fault) script plan = AreUnread fault script plan
+IsTargetFault Memory script plan = IsScript script × IsPlan plan
+IsTargetFault Accesses script plan = HasAccesses script plan

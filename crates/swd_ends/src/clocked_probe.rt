@@ -4,13 +4,13 @@ ghost use Rattle.swd_bits.specs.Bits.{low_bits};
 
 use std::alloc::{Allocator, Global};
 use swd_clocked::MarkedClocked;
-use swd_port::Gone;
-use swd_remote::{Probe, Stretch};
+use swd_port::Disconnected;
+use swd_remote::{Probe, Sequence};
 
 // How many levels are kept for an exchange.
 const MOST: u8 = 64;
 
-/// A probe over the single clocks of a simulated target. Nothing waits but the levels: each stretch goes by at
+/// A probe over the single clocks of a simulated target. Nothing waits but the levels: each sequence goes by at
 /// once. Of more than 64 levels from one exchange to the next the first 64 are kept.
 #[derive(Drop)]
 pub struct ClockedProbe<A: Allocator = Global> {
@@ -64,7 +64,7 @@ impl<A: Allocator> ClockedProbe<A> {
     }
 
     fn sample(&mut self, count: u8)
-        ensures { Clocked (Stretch.Sample count) self.old self.new }
+        ensures { Clocked (Sequence.Sample count) self.old self.new }
     {
         for place in 0..count {
             let level = self.target.cycle(None);
@@ -87,20 +87,20 @@ impl<A: Allocator> ClockedProbe<A> {
 impl<A: Allocator> Probe for ClockedProbe<A> {
     ghost use Rattle.swd_ends.specs.ClockedProbes.{Clocked, HandsOut};
 
-    ghost queues = { λ stretch s t. Clocked stretch s t };
+    ghost queues = { λ sequence s t. Clocked sequence s t };
 
     ghost exchanges = { λ result s t. HandsOut result s t };
 
-    fn queue(&mut self, stretch: Stretch) {
-        match stretch {
-            Stretch::Drive { bits, count } => self.drive(bits, count),
-            Stretch::Hold { level, count } => self.hold(Some(level), count),
-            Stretch::Release { count } => self.hold(None, count),
-            Stretch::Sample { count } => self.sample(count),
+    fn queue(&mut self, sequence: Sequence) {
+        match sequence {
+            Sequence::Drive { bits, count } => self.drive(bits, count),
+            Sequence::Hold { level, count } => self.hold(Some(level), count),
+            Sequence::Release { count } => self.hold(None, count),
+            Sequence::Sample { count } => self.sample(count),
         }
     }
 
-    fn exchange(&mut self) -> Result<u64, Gone> {
+    fn exchange(&mut self) -> Result<u64, Disconnected> {
         let levels = self.levels;
         self.levels = 0;
         self.sampled = 0;

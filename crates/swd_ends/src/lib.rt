@@ -3,11 +3,12 @@
 #![tactic(auto)]
 
 mod clocked_probe;
+pub mod laws;
 mod remote;
 mod serving;
 mod target_log;
 
 pub use clocked_probe::ClockedProbe;
-pub use remote::{run_remote, run_remote_traced};
+pub use remote::{RemoteFault, run_remote};
 pub use serving::{TargetFault, read_target};
 pub use target_log::write_log;

@@ -7,15 +7,16 @@ use std::alloc::Allocator;
 use std::io::Read;
 use swd_bitbang::{Pins, Trace};
 use swd_clocked::MarkedClocked;
-use swd_run::{QUIRKS, Texts, read_texts, zero_memory};
+use swd_run::{QUIRKS, Texts, TextsFault, read_texts, zero_memory};
 use swd_script::Batch;
-use swd_text::EngineFault;
 
 /// Why there is no target to serve.
 #[derive(Clone, Copy, Debug, PartialEq, Eq, Drop)]
 pub enum TargetFault {
-    /// A fault of the script or the plan, a reader that failed, or no memory.
-    Texts(EngineFault),
+    /// The script and the plan were not read.
+    Texts(TextsFault),
+    /// Memory was refused.
+    Memory,
     /// The script has accesses, or further calls: a target has those of its host alone.
     Accesses,
 }
@@ -26,9 +27,9 @@ pub enum TargetFault {
 ///
 /// # Errors
 ///
-/// `Texts` for the first fault of these texts, the script's before the plan's, where a reader failed,
-/// and where memory was refused for the accesses, the marks or the memory. `Accesses` where the
-/// script has accesses, or further calls.
+/// `Texts` for the first fault of these texts, the script's before the plan's, and where a reader failed.
+/// `Accesses` where the script has accesses, or further calls. `Memory` where memory was refused for the
+/// target's.
 pub fn read_target<S: Read, P: Read, A: Allocator + Copy>(
     alloc: A,
     script: &mut S,
@@ -46,7 +47,7 @@ pub fn read_target<S: Read, P: Read, A: Allocator + Copy>(
         return Err(TargetFault::Accesses);
     }
     let Some(memory) = zero_memory(alloc, &script) else {
-        return Err(TargetFault::Texts(EngineFault::Memory));
+        return Err(TargetFault::Memory);
     };
     let target = MarkedClocked::new(memory, QUIRKS, plan);
     Ok(Pins::new(target, trace))

@@ -35,3 +35,8 @@ pub mod Chains
 pub mod ReadChains
 mod SessionLaws
 mod FieldsLemmas
+mod Making
+mod SendingStages
+mod Sending
+mod SendingTurns
+mod SendingRuns

@@ -11,8 +11,8 @@ use Rattle.swd_host.proofs.Words.{Resumes, early, over, EarlySaw, EarlyTaken}
 use Rattle.swd_port.specs.declared.wire.Due.TheVariants.{Take, Give, Pass, Lost as DueLost}
 use Rattle.swd_port.specs.Laws.Calls.{Asked}
 use Rattle.swd_port.proofs.CallLaws.{request_counted, others_uncounted, identification_kept}
-use Rattle.swd_host.specs.declared.engine.Cue.{Cue}
-use Rattle.swd_host.specs.declared.engine.Cue.TheVariants.{Lead, Take as CueTake, Give as CueGive, Pass as CuePass}
+use Rattle.swd_port.specs.declared.cue.Cue.{Cue}
+use Rattle.swd_port.specs.declared.cue.Cue.TheVariants.{Lead, Take as CueTake, Give as CueGive, Pass as CuePass}
 use Rattle.swd_host.specs.declared.engine.Phase.TheVariants.{Faulted}
 use Rattle.swd_host.specs.Progress.{is_quiet}
 use Rattle.swd_host.specs.Engines.{cue_at, data_cue}
@@ -28,20 +28,21 @@ use Rattle.swd_host.proofs.Gives.{job_gave}
 use Rattle.swd_host.proofs.Passes.{waiting_passed, faulted_passed}
 
 -- THE CUE OF A DATA PHASE
-record IsTaking (ahead : Bool) (word : Option ℕ) : Type 0 where
-  ahead_not : ahead ≡ false
-  reads : word ≡ None
+pub record IsTaking (ahead : Bool) (word : Option ℕ) : Type 0 where
+  pub ahead_not : ahead ≡ false
+  pub reads : word ≡ None
 
-take_cue : (ahead : Bool) (word : Option ℕ) → data_cue ahead word ≡ CueTake → IsTaking ahead word
+pub take_cue : (ahead : Bool) (word : Option ℕ) → data_cue ahead word ≡ Some CueTake → IsTaking ahead word
 take_cue false None e = record { ahead_not = refl; reads = refl }
 take_cue _ _ e = absurd (cc)
 
-record IsGiving (word : Option ℕ) (sent : ℕ) : Type 0 where
-  gives : ℕ
-  is : word ≡ Some gives
-  sends : sent ≡ phase_number gives
+pub record IsGiving (word : Option ℕ) (sent : ℕ) : Type 0 where
+  pub gives : ℕ
+  pub is : word ≡ Some gives
+  pub sends : sent ≡ phase_number gives
 
-give_cue : (ahead : Bool) (word : Option ℕ) (sent : ℕ) → data_cue ahead word ≡ CueGive sent → IsGiving word sent
+pub give_cue : (ahead : Bool) (word : Option ℕ) (sent : ℕ) → data_cue ahead word ≡ Some (CueGive sent)
+    → IsGiving word sent
 give_cue ahead word sent e = grind arith
 
 -- A REQUEST
@@ -50,7 +51,8 @@ pub record IsAsking (x : State) (task : Task) (q : Request) : Type 0 where
   pub at : x ≡ Doing job Ask
   pub is : q ≡ request_for job task
 
-pub asking : (x : State) (stray : Bool) (task : Task) (q : Request) → cue_at x stray task ≡ CueAsk q → IsAsking x task q
+pub asking : (x : State) (stray : Bool) (task : Task) (q : Request) → cue_at x stray task ≡ Some (CueAsk q)
+    → IsAsking x task q
 asking x stray task q e = grind arith
 
 -- what holds at a state
@@ -92,7 +94,8 @@ one_more_least n = grind arith
 pub one_more_exact : (n : ℕ) → n + 1 < 2 ^ 64 → one_more n ≡ n + 1
 one_more_exact n h = grind arith
 
-pub ask_goes : (e f : Engine) (on : is_resting e ≡ false) (s t : Port) (q : Request) (v : ℕ) → cue_of e ≡ CueAsk q
+pub ask_goes : (e f : Engine) (on : is_resting e ≡ false) (s t : Port) (q : Request) (v : ℕ)
+    → cue_of e ≡ Some (CueAsk q)
     → Asks s q v t → open_requests f + 1 ≤ open_requests e → f.requests ≡ one_more e.requests → Sees v e f
     → ((base : Counted) (m : PlainMemory) (u : Port) → Hears v base m e u → TracksEngine base m f u) → HearsEarly v e f
     → Goes e s f t
@@ -219,21 +222,22 @@ steps_by : (e f : Engine) (s t : Port) → lands_from e f → t.tally ≡ s.tall
 steps_by e f s t lands tally step = grind (arith, still_early)
 
 -- where a data phase is read
-record IsPhase (x : State) (task : Task) (cue : Cue) : Type 0 where
-  job : Job
-  at : x ≡ Doing job Data
-  is : data_cue (is_ahead_at job Data task) (word_for job task) ≡ cue
+pub record IsPhase (x : State) (task : Task) (cue : Cue) : Type 0 where
+  pub job : Job
+  pub at : x ≡ Doing job Data
+  pub is : data_cue (is_ahead_at job Data task) (word_for job task) ≡ Some cue
 
-taking : (x : State) (stray : Bool) (task : Task) → cue_at x stray task ≡ CueTake → IsPhase x task CueTake
+pub taking : (x : State) (stray : Bool) (task : Task) → cue_at x stray task ≡ Some CueTake → IsPhase x task CueTake
 taking (Doing job Data) stray task e = record { job = job; at = refl; is = e }
 taking _ stray task e = absurd (cc)
 
-giving : (x : State) (stray : Bool) (task : Task) (sent : ℕ) → cue_at x stray task ≡ CueGive sent
+pub giving : (x : State) (stray : Bool) (task : Task) (sent : ℕ) → cue_at x stray task ≡ Some (CueGive sent)
     → IsPhase x task (CueGive sent)
 giving (Doing job Data) stray task sent e = record { job = job; at = refl; is = e }
 giving _ stray task sent e = absurd (cc)
 
-pub take_goes : (e f : Engine) (on : is_resting e ≡ false) (s t : Port) (bits : ℕ) → bits < 2 ^ 33 → cue_of e ≡ CueTake
+pub take_goes : (e f : Engine) (on : is_resting e ≡ false) (s t : Port) (bits : ℕ) → bits < 2 ^ 33
+    → cue_of e ≡ Some CueTake
     → Takes s bits t → lands_from e f
     → ((base : Counted) (m : PlainMemory) (u : Port) → HasRead (word_in bits) base m e u → TracksEngine base m f u)
     → ReadsEarly (word_in bits) e f → Goes e s f t
@@ -242,8 +246,8 @@ take_goes e f on s t bits range cue takes lands tracks reads =
     let c : IsTaking (is_ahead_at p.job Data e.task) (word_for p.job e.task) =
     take_cue (is_ahead_at p.job Data e.task) (word_for p.job e.task) p.is in
     let job : job_in e.state ≡ p.job = ap job_in p.at in
-    let tally : t.tally ≡ s.tally = others_uncounted.taken bits s t takes in
-    moves e f on s t lands tally (identification_kept.taken bits s t takes)
+    let tally : t.tally ≡ s.tally = others_uncounted CueTake bits s t refl takes in
+    moves e f on s t lands tally (identification_kept CueTake bits s t takes)
     (follows_by e f s t lands tally (λ base m h. tracks base m t (
       h.task,
       subst
@@ -271,12 +275,12 @@ early_left_at : (base : Counted) (start : Port) (e : Engine) (t : Port) (x : Sta
 early_left_at base start e t x at h = subst (λ y. EarlyLeft y (base.disturbed + e.events) e.stray start t) (sym at) h
 
 pub give_goes : (e f : Engine) (on : is_resting e ≡ false) (s t : Port) (sent : ℕ) → sent < 2 ^ 33
-    → cue_of e ≡ CueGive sent → Gives s sent t → lands_from e f → Dones e f → SendsEarly e f → Goes e s f t
+    → cue_of e ≡ Some (CueGive sent) → Gives s sent t → lands_from e f → Dones e f → SendsEarly e f → Goes e s f t
 give_goes e f on s t sent range cue gives lands tracks sends =
     let p : IsPhase e.state e.task (CueGive sent) = giving e.state e.stray e.task sent cue in
     let c : IsGiving (word_for p.job e.task) sent = give_cue (is_ahead_at p.job Data e.task)
     (word_for p.job e.task) sent p.is in
-    let tally : t.tally ≡ s.tally = others_uncounted.given sent s t gives in
+    let tally : t.tally ≡ s.tally = others_uncounted (CueGive sent) 0 s t refl gives in
     let follows : (base : Counted) (m : PlainMemory) → Follows base m e s → Follows base m f t =
     follows_by e f s t lands tally (λ base m h. tracks base m t (
       h.task,
@@ -285,7 +289,7 @@ give_goes e f on s t sent range cue gives lands tracks sends =
           (hand_of e m) s t sent range gives p.job c.gives c.is c.sends h.task
           (tracked base m e s (Doing p.job Data) p.at h.tracks)),
     )) in
-    moves e f on s t lands tally (identification_kept.given sent s t gives) follows
+    moves e f on s t lands tally (identification_kept (CueGive sent) 0 s t gives) follows
     (λ base start ok few h.
     elim (given_early (base.disturbed + e.events) e.stray start sent s t range gives p.job e.task c.gives c.is c.sends
     (early_at base start e s (Doing p.job Data) p.at h)) [
@@ -297,18 +301,18 @@ give_goes e f on s t sent range cue gives lands tracks sends =
     ])
 
 passed_left : (n tries : ℕ) (base : Counted) (b : ℕ) (k : Hand) (x : State) (stray : Bool) (task : Task)
-    (s t : Port) → cue_at x stray task ≡ CuePass → Passes s t → Tracks x n tries base b k s → Left x n b k t
+    (s t : Port) → cue_at x stray task ≡ Some CuePass → Passes s t → Tracks x n tries base b k s → Left x n b k t
 passed_left n tries base b k x stray task s t e passes h = grind (arith, faulted_passed, waiting_passed)
 
 passed_early : (n tries : ℕ) (base : Counted) (x : State) (stray : Bool) (task : Task) (start s t : Port)
-    → cue_at x stray task ≡ CuePass → Passes s t → Early x n tries base stray start s → EarlyLeft x n stray start t
+    → cue_at x stray task ≡ Some CuePass → Passes s t → Early x n tries base stray start s → EarlyLeft x n stray start t
 passed_early n tries base x stray task start s t e passes h = grind arith
 
-pub pass_goes : (e f : Engine) (on : is_resting e ≡ false) (s t : Port) → cue_of e ≡ CuePass → Passes s t
+pub pass_goes : (e f : Engine) (on : is_resting e ≡ false) (s t : Port) → cue_of e ≡ Some CuePass → Passes s t
     → lands_from e f → Dones e f → SendsEarly e f → Goes e s f t
 pass_goes e f on s t cue passes lands tracks sends =
-    let tally : t.tally ≡ s.tally = others_uncounted.passed s t passes in
-    moves e f on s t lands tally (identification_kept.passed s t passes)
+    let tally : t.tally ≡ s.tally = others_uncounted CuePass 0 s t refl passes in
+    moves e f on s t lands tally (identification_kept CuePass 0 s t passes)
     (follows_by e f s t lands tally (λ base m h. tracks base m t (
       h.task,
       passed_left (base.disturbed + e.events) e.tries base e.begun
@@ -317,29 +321,34 @@ pass_goes e f on s t cue passes lands tracks sends =
     (steps_by e f s t lands tally (λ base start h. sends base start t
     (passed_early (base.disturbed + e.events) e.tries base e.state e.stray e.task start s t cue passes h)))
 
-led_left : (n tries : ℕ) (base : Counted) (b : ℕ) (k : Hand) (x : State) (stray : Bool) (task : Task) (ones low : ℕ)
-    (switch : Bool) (s t : Port) → cue_at x stray task ≡ Lead ones switch low → Leads s ones t
+led_left : (n tries : ℕ) (base : Counted) (b : ℕ) (k : Hand) (x : State) (stray : Bool) (task : Task)
+    (ones undriven low : ℕ)
+    (switch : Bool) (s t : Port) → cue_at x stray task ≡ Some (Lead ones undriven switch low) → Leads s ones t
     → Tracks x n tries base b k s → Left x n b k t
-led_left n tries base b k x stray task ones low switch s t e leads h = grind arith
+led_left n tries base b k x stray task ones undriven low switch s t e leads h = grind arith
 
-led_first : (n tries : ℕ) (base : Counted) (x : State) (stray : Bool) (task : Task) (ones low : ℕ) (switch : Bool)
-    (start s t : Port) → cue_at x stray task ≡ Lead ones switch low → Leads s ones t
+led_first : (n tries : ℕ) (base : Counted) (x : State) (stray : Bool) (task : Task) (ones undriven low : ℕ)
+    (switch : Bool)
+    (start s t : Port) → cue_at x stray task ≡ Some (Lead ones undriven switch low) → Leads s ones t
     → Early x n tries base stray start s → EarlyLeft x n stray start t
-led_first n tries base x stray task ones low switch start s t e leads h = grind arith
+led_first n tries base x stray task ones undriven low switch start s t e leads h = grind arith
 
-pub lead_goes : (e f : Engine) (on : is_resting e ≡ false) (s t : Port) (ones low : ℕ) (switch : Bool)
-    → cue_of e ≡ Lead ones switch low → Leads s ones t → lands_from e f → Dones e f → SendsEarly e f → Goes e s f t
-lead_goes e f on s t ones low switch cue leads lands tracks sends =
-    let tally : t.tally ≡ s.tally = others_uncounted.led ones s t leads in
-    moves e f on s t lands tally (identification_kept.led ones s t leads)
+pub lead_goes : (e f : Engine) (on : is_resting e ≡ false) (s t : Port) (ones undriven low : ℕ) (switch : Bool)
+    → cue_of e ≡ Some (Lead ones undriven switch low) → Leads s ones t → lands_from e f → Dones e f → SendsEarly e f
+    → Goes e s f t
+lead_goes e f on s t ones undriven low switch cue leads lands tracks sends =
+    let tally : t.tally ≡ s.tally = others_uncounted (Lead ones undriven switch low) 0 s t refl leads in
+    moves e f on s t lands tally (identification_kept (Lead ones undriven switch low) 0 s t leads)
     (follows_by e f s t lands tally (λ base m h. tracks base m t (
       h.task,
       led_left (base.disturbed + e.events) e.tries base e.begun
-          (hand_of e m) e.state e.stray e.task ones low switch s t cue leads h.tracks,
+          (hand_of e m) e.state e.stray e.task ones undriven low switch s t cue leads h.tracks,
     )))
     (steps_by e f s t lands tally (λ base start h. sends base start t
-    (led_first (base.disturbed + e.events) e.tries base e.state e.stray e.task ones low switch start s t cue leads h)))
+    (led_first (base.disturbed + e.events) e.tries base e.state e.stray e.task ones undriven low switch start s t cue
+    leads h)))
 
-pub lead_falls : (e f : Engine) (ones low : ℕ) (switch : Bool) → cue_of e ≡ Lead ones switch low → lands_from e f
+pub lead_falls : (e f : Engine) (ones undriven low : ℕ) (switch : Bool)
+    → cue_of e ≡ Some (Lead ones undriven switch low) → lands_from e f
     → calls_left f < calls_left e
-lead_falls e f ones low switch cue lands = grind arith
+lead_falls e f ones undriven low switch cue lands = grind arith

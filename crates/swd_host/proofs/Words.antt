@@ -42,7 +42,7 @@ pub use Rattle.swd_host.specs.Turns.{first_state, Goes, has_failed, is_all_stop,
 pub use Rattle.swd_host.specs.Turns.{lands_from, Sees, Starts, Works}
 pub use Rattle.swd_host.specs.declared.engine.Ahead.{Ahead}
 pub use Rattle.swd_host.specs.declared.engine.Ahead.TheVariants.{Failed as NextFailed, Sent as NextSent, Unsent}
-pub use Rattle.swd_host.specs.declared.engine.Cue.TheVariants.{Ask as CueAsk}
+pub use Rattle.swd_port.specs.declared.cue.Cue.TheVariants.{Ask as CueAsk}
 pub use Rattle.swd_host.specs.declared.engine.Engine.{Engine}
 pub use Rattle.swd_host.specs.declared.engine.Phase.TheVariants.{Ask, Data, Waited}
 pub use Rattle.swd_host.specs.declared.engine.State.{State}

@@ -4,6 +4,7 @@ use Rattle.std.specs.Prelude.{ℕ, ◌≡◌, ◌≢◌, ◌+◌, ◌-◌, ◌*�
 use Rattle.std.specs.Prelude.{replicate, drop, if◌then◌else◌}
 use Rattle.swd_port.specs.declared.access.Access.{Access}
 use Rattle.swd_port.specs.declared.access.Answer.{Answer}
+use Rattle.swd_port.specs.declared.call.Call.{Call}
 use Rattle.swd_port.specs.declared.wire.Due.{Due}
 use Rattle.swd_port.specs.PlainMemory.{PlainMemory}
 use Rattle.swd_port.specs.Port.{Port}
@@ -12,6 +13,7 @@ use Rattle.swd_host.specs.declared.outcome.End.TheVariants.{All}
 use Rattle.swd_host.specs.Plain.{memory_after, answers_of}
 use Rattle.swd_host.specs.Reports.{Told, Closes, Fits, IsKnown, EndsAt}
 use Rattle.swd_host.specs.Resuming.{begun_after}
+use Rattle.swd_host.specs.Sent.{TellsSent}
 
 -- LISTS WITH REPEATED ACCESSES
 -- how often a place stands in a list of places
@@ -70,6 +72,12 @@ pub record Continues (list : List Access) (tries : ℕ) (earlier told : Told) (n
   pub number : length told.answers ≤ length list
   pub begun : told.begun ≡ begun_after earlier told own
   pub closes : Closes 5 1 (drop (length earlier.answers) list) tries (own_told earlier told own) next
+
+-- The same of a call that went on after an earlier report, over the rest of the list: of its answers, and of its own
+-- requests.
+abbrev pub TellsRest : List Access → Told → Told → List Call → Type 0
+TellsRest list earlier told calls =
+    TellsSent (drop (length earlier.answers) list) (own_told earlier told told.begun) calls
 
 -- From a memory that may have come of a transfer that was pending at the port s, the call was a run over the rest of
 -- the list, and left this one.

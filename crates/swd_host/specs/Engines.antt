@@ -2,6 +2,8 @@
 use Rattle.std.specs.Prelude.{not, ℕ, ◌+◌, ◌^◌, ◌<◌, ◌==◌, Bool, true, false, if◌then◌else◌, Option, Some, None}
 use Rattle.std.specs.Prelude.{is_some}
 use Rattle.swd_port.specs.declared.access.Answer.TheVariants.{Written}
+use Rattle.swd_port.specs.declared.cue.Cue.{Cue}
+use Rattle.swd_port.specs.declared.cue.Cue.TheVariants.{Lead, Ask as CueAsk, Take, Give, Pass}
 use Rattle.swd_bits.specs.Phases.{phase_number}
 use Rattle.swd_host.specs.declared.task.Task.{Task}
 use Rattle.swd_host.specs.declared.outcome.Outcome.{Outcome}
@@ -9,8 +11,6 @@ use Rattle.swd_host.specs.declared.outcome.Outcome.TheVariants.{Opened, Answered
 use Rattle.swd_host.specs.declared.request.Place.TheVariants.{Identify, Confirm}
 use Rattle.swd_host.specs.declared.request.Job.{Job}
 use Rattle.swd_host.specs.declared.request.Job.TheVariants.{At}
-use Rattle.swd_host.specs.declared.engine.Cue.{Cue}
-use Rattle.swd_host.specs.declared.engine.Cue.TheVariants.{Lead, Ask as CueAsk, Take, Give, Pass, Rest}
 use Rattle.swd_host.specs.declared.engine.Phase.{Phase}
 use Rattle.swd_host.specs.declared.engine.Phase.TheVariants.{Ask, Data, Waited, Faulted}
 use Rattle.swd_host.specs.declared.engine.State.{State}
@@ -35,26 +35,31 @@ is_ahead e = is_ahead_in e.state e.task
 abbrev pub begun_of : Engine → ℕ
 begun_of e = if is_ahead e then 0 else e.begun
 
--- the cue of a data phase
-abbrev pub data_cue : Bool → Option ℕ → Cue
-data_cue true word = Rest
-data_cue false (Some word) = Give (phase_number word)
-data_cue false None = Take
+-- the cue of a data phase; where the access in hand is answered, the engine rests
+abbrev pub data_cue : Bool → Option ℕ → Option Cue
+data_cue true word = None
+data_cue false (Some word) = Some (Give (phase_number word))
+data_cue false None = Some Take
 
--- the line reset; inside a transaction it has 34 ones more than are needed
+-- The line reset. Inside a transaction it has 34 ones more than are needed, and the line is released for as many.
 abbrev pub lead_cue : Bool → Cue
-lead_cue inside = Lead (if inside then 100 else 56) (not inside) 2
+lead_cue inside = Lead (if inside then 100 else 56) (if inside then 34 else 0) (not inside) 2
 
-abbrev pub cue_at : State → Bool → Task → Cue
-cue_at Leading stray task = lead_cue stray
-cue_at (Doing job Ask) stray task = CueAsk (request_for job task)
+abbrev pub cue_at : State → Bool → Task → Option Cue
+cue_at Leading stray task = Some (lead_cue stray)
+cue_at (Doing job Ask) stray task = Some (CueAsk (request_for job task))
 cue_at (Doing job Data) stray task = data_cue (is_ahead_at job Data task) (word_for job task)
-cue_at (Doing job Waited) stray task = Pass
-cue_at (Doing job Faulted) stray task = Pass
-cue_at (Resting outcome) stray task = Rest
+cue_at (Doing job Waited) stray task = Some Pass
+cue_at (Doing job Faulted) stray task = Some Pass
+cue_at (Resting outcome) stray task = None
 
-abbrev pub cue_of : Engine → Cue
+abbrev pub cue_of : Engine → Option Cue
 cue_of e = cue_at e.state e.stray e.task
+
+-- there is a cue, and it is one of these
+abbrev pub HasCue : (Cue → Type 0) → Option Cue → Type 0
+HasCue P (Some cue) = P cue
+HasCue P None = ⊥
 
 -- what an engine has come to
 abbrev pub finished_at : State → Task → Option Outcome
@@ -64,21 +69,6 @@ finished_at Leading task = None
 
 abbrev pub finished_of : Engine → Option Outcome
 finished_of e = finished_at e.state e.task
-
--- the kinds of cues, by the call that answers them
-abbrev pub is_ask : Cue → Bool
-is_ask (CueAsk q) = true
-is_ask cue = false
-
-abbrev pub is_take : Cue → Bool
-is_take Take = true
-is_take cue = false
-
-abbrev pub is_send : Cue → Bool
-is_send (Lead ones switch zeros) = true
-is_send (Give bits) = true
-is_send Pass = true
-is_send cue = false
 
 -- 33 bits are handed out to be sent
 abbrev pub IsPhaseCue : Cue → Type 0

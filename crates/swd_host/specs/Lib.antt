@@ -9,6 +9,11 @@ pub mod Events
 pub mod Tracks
 pub mod Early
 pub mod Turns
+pub mod Replies
+pub mod Steps
+pub mod Calls
+pub mod Sent
+pub mod Stages
 pub mod Reports
 pub mod Resuming
 pub mod Again

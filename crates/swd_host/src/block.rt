@@ -3,6 +3,7 @@ ghost use Rattle.std.specs.Prelude.{◌≡◌, ◌≤◌, ◌+◌, ◌*◌, ◌^
 ghost use Rattle.swd_port.specs.declared.wire.Due.TheVariants.{Nothing};
 ghost use Rattle.swd_port.specs.PlainMemory.{reads};
 ghost use Rattle.swd_host.specs.Plain.{AreAccesses};
+ghost use Rattle.swd_host.specs.Sent.{Made, TellsSent};
 ghost use Rattle.swd_host.specs.Reports.{Closes, RefusedAs, RunsWithin, told_of};
 
 use crate::engine::Engine;
@@ -38,6 +39,8 @@ pub fn run_block<W: Wire, A: Allocator + Copy>(
     ensures refused { IfErr result (RefusedAs (reads addr count)) }
     ensures untouched { IfErr result (λ refused. wire.new ≡ wire.old) }
     ensures plan { W.plan wire.new ≡ W.plan wire.old }
+    ensures told { IfOk result (λ report.
+        Made W.notes (TellsSent (reads addr count) (told_of report)) wire.old wire.new) }
 {
     if let Some(refused) = refusal(addr, count) {
         return Err(refused);

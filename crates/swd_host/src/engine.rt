@@ -1,13 +1,17 @@
 //! The engine: what has to be sent next, from what was seen so far. It sends nothing itself.
-ghost use Rattle.std.specs.Prelude.{◌≡◌, ◌+◌, ◌<◌, ◌≤◌, ◌*◌, ◌^◌, true, false, None};
+ghost use Rattle.std.specs.Prelude.{◌≡◌, ◌+◌, ◌<◌, ◌≤◌, ◌*◌, ◌^◌, true, false, None, IfSome};
 ghost use Rattle.swd_port.specs.declared.wire.Due.TheVariants.{Nothing};
 ghost use Rattle.swd_bits.specs.Phases.{word_in};
 ghost use Rattle.swd_port.specs.Port.{Port};
+ghost use Rattle.swd_port.specs.Stories.{IsSeen, is_ask, is_send, is_take};
 ghost use Rattle.swd_host.specs.Events.{Meets, MeetsRead, MeetsSent};
 ghost use Rattle.swd_host.specs.Early.{HearsEarly, ReadsEarly, SendsEarly};
-ghost use Rattle.swd_host.specs.Engines.{lead_cue, cue_of, finished_of, is_ahead, begun_of, is_ask, is_take, is_send};
-ghost use Rattle.swd_host.specs.Engines.{may_start, one_more, requests_of, tries_of, IsPhaseCue};
-ghost use Rattle.swd_host.specs.Progress.{open_requests};
+ghost use Rattle.swd_host.specs.Engines.{lead_cue, cue_of, finished_of, is_ahead, begun_of, job_in, HasCue};
+ghost use Rattle.swd_host.specs.Engines.{IsPhaseCue};
+ghost use Rattle.swd_host.specs.Engines.{may_start, one_more, requests_of, tries_of};
+ghost use Rattle.swd_host.specs.Progress.{is_job_of, open_requests};
+ghost use Rattle.swd_host.specs.Replies.{Replied};
+ghost use Rattle.swd_host.specs.Steps.{GoesTo, RestsWith, ahead_to, read_to, sent_to};
 ghost use Rattle.swd_host.specs.Turns.{IsNew, Starts, Sees, first_state, lands_from};
 ghost use Rattle.swd_host.specs.Tracks.{DueFits, HasRead, HasSent, Hears, Keeps, state_seen};
 
@@ -15,31 +19,7 @@ use crate::outcome::{End, Outcome};
 use crate::request::{Job, Place};
 use crate::task::{Bursts, Task, address_of};
 use swd_bits::{Ack, Request, data_bits, word_of};
-use swd_port::{Access, Answer};
-
-/// What has to be sent next.
-#[derive(Clone, Copy, Debug, PartialEq, Eq)]
-pub enum Cue {
-    /// Ones, with `switch` the switch from JTAG and the ones again, and zeros. Then `Engine::done`.
-    Lead {
-        /// How many ones.
-        ones: u32,
-        /// With the switch.
-        switch: bool,
-        /// How many zeros.
-        zeros: u32,
-    },
-    /// A request. Then `Engine::seen`.
-    Ask(Request),
-    /// The data phase of a read. Then `Engine::taken`.
-    Take,
-    /// These 33 bits, as the data phase of a write. Then `Engine::done`.
-    Give(u64),
-    /// The turnaround after WAIT or FAULT. Then `Engine::done`.
-    Pass,
-    /// Nothing: `Engine::finished` says what it has come to.
-    Rest,
-}
+use swd_port::{Access, Answer, Cue};
 
 /// Where a request is.
 #[derive(Clone, Copy, Debug, PartialEq, Eq)]
@@ -80,17 +60,24 @@ pub(crate) enum State {
 /// for each `start`. It takes no memory, and whatever is seen, it comes to an outcome.
 ///
 /// ```text
-/// loop {
-///     match engine.cue() {
-///         Cue::Lead { ones, switch, zeros } => { /* drive them */ engine.done() }
-///         Cue::Ask(request) => { let seen = /* send it */; engine.seen(seen) }
-///         Cue::Take => { let bits = /* clock 33 bits in */; engine.taken(bits) }
-///         Cue::Give(bits) => { /* clock them out */ engine.done() }
-///         Cue::Pass => { /* one cycle */ engine.done() }
-///         Cue::Rest => match engine.finished() { /* start the next access, or stop */ }
-///     }
+/// while let Some(cue) = engine.cue() {
+///     let reply = match cue {
+///         Cue::Lead { ones, undriven, switch, zeros } => {
+///             /* drive them, but leave the line released for the first `undriven` of the ones */
+///             0
+///         }
+///         Cue::Ask(request) => /* send it, and see three bits */,
+///         Cue::Take => /* clock 33 bits in */,
+///         Cue::Give(bits) => { /* clock them out */ 0 }
+///         Cue::Pass => { /* one cycle */ 0 }
+///     };
+///     engine.next(reply);
 /// }
+/// /* `engine.finished()` is what it has come to: start the next access, or stop */
 /// ```
+///
+/// In the released cycles of a lead the target may be driving the line: a host that drives it there drives against
+/// the target.
 #[derive(Clone, Copy, Debug, PartialEq, Eq)]
 pub struct Engine {
     pub(crate) state: State,
@@ -218,35 +205,35 @@ impl Engine {
         }
     }
 
-    /// What has to be sent next.
-    pub fn cue(&self) -> Cue
+    /// What has to be sent next; nothing where the engine rests.
+    pub fn cue(&self) -> Option<Cue>
         ensures cue { result ≡ cue_of self.now }
-        ensures range { IsPhaseCue result }
+        ensures range { IfSome result IsPhaseCue }
     {
         match self.state {
-            State::Leading => lead(self.stray),
-            State::Doing(job, Phase::Ask) => Cue::Ask(job.request(self.task)),
+            State::Leading => Some(lead(self.stray)),
+            State::Doing(job, Phase::Ask) => Some(Cue::Ask(job.request(self.task))),
             State::Doing(job, Phase::Data) => self.data_cue(job),
-            State::Doing(_, Phase::Waited | Phase::Faulted) => Cue::Pass,
-            State::Resting(_) => Cue::Rest,
+            State::Doing(_, Phase::Waited | Phase::Faulted) => Some(Cue::Pass),
+            State::Resting(_) => None,
         }
     }
 
-    fn data_cue(&self, job: Job) -> Cue
+    fn data_cue(&self, job: Job) -> Option<Cue>
         requires { self.now.state ≡ State.Doing job Phase.Data }
         ensures cue { result ≡ cue_of self.now }
-        ensures range { IsPhaseCue result }
+        ensures range { IfSome result IsPhaseCue }
     {
         if self.is_ahead() {
-            return Cue::Rest;
+            return None;
         }
         match job.word(self.task) {
-            Some(word) => Cue::Give(data_bits(word)),
-            None => Cue::Take,
+            Some(word) => Some(Cue::Give(data_bits(word))),
+            None => Some(Cue::Take),
         }
     }
 
-    /// What the engine has come to, where its cue is `Rest`.
+    /// What the engine has come to, where it has no cue.
     pub fn finished(&self) -> Option<Outcome>
         ensures { result ≡ finished_of self.now }
     {
@@ -274,10 +261,25 @@ impl Engine {
         self.requests
     }
 
+    /// Says what came of the cue: of a request the three bits that were seen, of a read's data phase its 33 bits, the
+    /// first in time least significant each, and 0 of any other. That is [`seen`](Engine::seen),
+    /// [`taken`](Engine::taken) or [`done`](Engine::done).
+    pub fn next(&mut self, reply: u64)
+        requires { HasCue (λ cue. IsSeen cue reply) (cue_of self.old) }
+        ensures { IfSome (cue_of self.old) (λ cue. Replied cue reply self.old self.new) }
+    {
+        match self.cue() {
+            Some(Cue::Ask(_)) => self.seen(reply as u8),
+            Some(Cue::Take) => self.taken(reply),
+            Some(Cue::Lead { .. } | Cue::Give(_) | Cue::Pass) => self.done(),
+            None => {}
+        }
+    }
+
     /// The three bits that were seen after a request, the first in time least significant.
     pub fn seen(&mut self, seen: u8)
         requires range { seen < 8 }
-        requires cue { is_ask (cue_of self.old) ≡ true }
+        requires cue { HasCue (λ cue. is_ask cue ≡ true) (cue_of self.old) }
         ensures open { open_requests self.new + 1 ≤ open_requests self.old }
         ensures requests { requests_of self.new ≡ one_more (requests_of self.old) }
         ensures sees { Sees seen self.old self.new }
@@ -296,11 +298,12 @@ impl Engine {
     /// What the cue said was sent: a lead, the data phase of a write, or a turnaround.
     #[inline(always)]
     pub fn done(&mut self)
-        requires { is_send (cue_of self.old) ≡ true }
+        requires { HasCue (λ cue. is_send cue ≡ true) (cue_of self.old) }
         ensures lands { lands_from self.old self.new }
         ensures tracks { Keeps HasSent self.old self.new }
         ensures early { SendsEarly self.old self.new }
         ensures meets { MeetsSent self.old self.new }
+        ensures goes { GoesTo (sent_to self.old.state self.old.task) self.new.state }
     {
         let State::Doing(job, phase) = self.state else {
             self.state = State::Doing(Job::At(Place::Identify), Phase::Ask);
@@ -317,11 +320,14 @@ impl Engine {
     /// The 33 bits of a read's data phase, the first in time least significant.
     pub fn taken(&mut self, bits: u64)
         requires range { bits < 2 ^ 33 }
-        requires cue { is_take (cue_of self.old) ≡ true }
+        requires cue { HasCue (λ cue. is_take cue ≡ true) (cue_of self.old) }
         ensures lands { lands_from self.old self.new }
         ensures tracks { Keeps (HasRead (word_in bits)) self.old self.new }
         ensures early { ReadsEarly (word_in bits) self.old self.new }
         ensures meets { MeetsRead (word_in bits) self.old self.new }
+        ensures goes { is_job_of false (job_in self.old.state) ≡ true
+            → GoesTo (read_to (job_in self.old.state) (word_in bits) self.old.task self.old.aims) self.new.state }
+        ensures rests { RestsWith (ahead_to (job_in self.old.state) self.old.task) self.new.state self.new.ahead }
     {
         let State::Doing(job, _) = self.state else {
             unreachable!()
@@ -334,13 +340,14 @@ impl Engine {
 }
 
 // The line reset. Where a data phase may be due, it has 34 ones more than are needed, which may go by as
-// the rest of it.
+// the rest of it: the line is released for as many.
 fn lead(inside: bool) -> Cue
     ensures cue { result ≡ lead_cue inside }
     ensures range { IsPhaseCue result }
 {
     Cue::Lead {
         ones: if inside { 100 } else { 56 },
+        undriven: if inside { 34 } else { 0 },
         switch: !inside,
         zeros: 2,
     }

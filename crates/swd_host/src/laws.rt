@@ -1,11 +1,10 @@
 //! Laws of calls one after the other, and of an engine over a wire. A function here does nothing: its contract is the
 //! law.
-ghost use Rattle.std.specs.Prelude.{◌≡◌, ℕ, List, Option, true};
+ghost use Rattle.std.specs.Prelude.{◌≡◌, List, Option, true};
 ghost use Rattle.swd_port.specs.declared.access.Access.{Access};
 ghost use Rattle.swd_port.specs.declared.access.Answer.{Answer};
-ghost use Rattle.swd_port.specs.PlainMemory.{PlainMemory};
 ghost use Rattle.swd_port.specs.Port.{Port};
-ghost use Rattle.swd_host.specs.Reports.{Told, IsAtRest};
+ghost use Rattle.swd_host.specs.Reports.{IsAtRest};
 ghost use Rattle.swd_host.specs.declared.engine.Engine.{Engine};
 ghost use Rattle.swd_host.specs.Engines.{finished_of, may_start};
 ghost use Rattle.swd_host.specs.Chains.{AreChained, ChainDoes, ChainReads, ChainRepeats};

@@ -17,7 +17,7 @@ mod step;
 mod task;
 
 pub use block::run_block;
-pub use engine::{Cue, Engine};
+pub use engine::Engine;
 pub use fields::{EngineFields, JobFields, OutcomeFields, StateFields, TarFields, TaskFields};
 pub use outcome::{End, Outcome, Refused, Report};
 pub use outside::run_outside;

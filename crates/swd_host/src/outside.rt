@@ -1,7 +1,9 @@
 //! A run over a wire to an end of which nothing is proved.
-ghost use Rattle.std.specs.Prelude.{◌≡◌, [], IfOk};
+ghost use Rattle.std.specs.Prelude.{◌≡◌, ◌≤◌, [], IfErr, IfOk, length};
 ghost use Rattle.swd_port.specs.Stories.{due_by, port_at, FitsStory};
-ghost use Rattle.swd_host.specs.Reports.{Closes, RunsOver, told_of};
+ghost use Rattle.swd_host.specs.Plain.{AreAccesses};
+ghost use Rattle.swd_host.specs.Reports.{Closes, RefusedAs, RunsOver, told_of};
+ghost use Rattle.swd_host.specs.Sent.{TellsSent};
 
 use crate::outcome::{Refused, Report};
 use crate::running::run;
@@ -10,8 +12,13 @@ use swd_port::{Access, Outside, Story, Transport};
 
 /// Does the accesses in order, each once, over a wire of which no call was made.
 ///
-/// Whatever comes back it ends, after so many requests at most. And of every story that the replies fit
-/// the report tells the truth.
+/// Whatever comes back it ends, after so many requests at most, and tells what was sent: the calls that the wire noted
+/// have each request that is told, and of each answer the access and what confirmed it. And of every story that the
+/// replies fit the report tells the truth.
+///
+/// # Errors
+///
+/// As [`run`]: `TooMany`, `Unaligned`, `Memory`. No call was made then.
 pub fn run_outside<T: Transport, S: Story, A: Allocator>(
     alloc: A,
     wire: &mut Outside<T, S>,
@@ -23,6 +30,10 @@ pub fn run_outside<T: Transport, S: Story, A: Allocator>(
         Closes 0 1 accesses.now tries (told_of report) (due_by wire.new.noted.calls)) }
     ensures fits { IfOk result (λ report. FitsStory S.at wire.new.noted.calls
         → RunsOver accesses.now tries (told_of report) (port_at S.at []) (port_at S.at wire.new.noted.calls)) }
+    ensures told { IfOk result (λ report. TellsSent accesses.now (told_of report) wire.new.noted.calls) }
+    ensures accepted { IfOk result (λ report. (length accesses.now ≤ 65536) × AreAccesses accesses.now) }
+    ensures refused { IfErr result (RefusedAs accesses.now) }
+    ensures untouched { IfErr result (λ refused. wire.new ≡ wire.old) }
 {
     run(alloc, wire, accesses, tries)
 }

@@ -2,8 +2,9 @@
 ghost use Rattle.std.specs.Prelude.{◌≡◌, ◌≤◌, ◌-◌, IfOk, IfErr, IfSome, length};
 ghost use Rattle.std.specs.Vec.{vec_capacity};
 ghost use Rattle.swd_host.specs.Plain.{AreAccesses};
+ghost use Rattle.swd_host.specs.Sent.{Made};
 ghost use Rattle.swd_host.specs.Reports.{told_of};
-ghost use Rattle.swd_host.specs.Again.{Continues, ResumesOver};
+ghost use Rattle.swd_host.specs.Again.{Continues, ResumesOver, TellsRest};
 ghost use Rattle.swd_host.specs.Resuming.{since};
 ghost use Rattle.swd_host.specs.declared.outcome.Refused.TheVariants.{Memory};
 
@@ -45,6 +46,8 @@ pub fn resume<W: Wire, A: Allocator>(
     ensures refused { IfErr result (λ refused. refused ≡ Memory) }
     ensures untouched { IfErr result (λ refused. wire.new ≡ wire.old) }
     ensures plan { W.plan wire.new ≡ W.plan wire.old }
+    ensures told { IfOk result (λ told.
+        Made W.notes (TellsRest accesses.now (told_of report.now) (told_of told)) wire.old wire.new) }
 {
     let Some(mut answers) = copy_answers(alloc, &report.answers, accesses.len()) else {
         return Err(Refused::Memory);

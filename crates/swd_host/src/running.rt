@@ -1,8 +1,10 @@
 //! Runs an engine over a wire.
 ghost use Rattle.std.specs.Prelude.{◌≡◌, ◌<◌, ◌≤◌, Some, true, false, IfOk, IfErr, IfNone, IfSome};
-ghost use Rattle.std.specs.Prelude.{◌+◌, length, []};
+ghost use Rattle.std.specs.Prelude.{◌+◌, ◌∷◌, length, []};
 ghost use Rattle.std.specs.Vec.{vec_capacity};
 ghost use Rattle.swd_port.specs.declared.wire.Due.TheVariants.{Nothing};
+ghost use Rattle.swd_port.specs.Leading.{Leads};
+ghost use Rattle.swd_host.specs.Calls.{Turns, TurnsFrom, eight_idle};
 ghost use Rattle.swd_host.specs.Plain.{AreAccesses, HasRanges, is_aligned};
 ghost use Rattle.swd_host.specs.Engines.{finished_of, is_resting, may_start, requests_of};
 ghost use Rattle.swd_host.specs.Progress.{calls_left, open_requests};
@@ -10,12 +12,14 @@ ghost use Rattle.swd_host.specs.Tasks.{most_of};
 ghost use Rattle.swd_host.specs.Tracks.{DueFits};
 ghost use Rattle.swd_host.specs.Turns.{Works, WorksFrom, Goes, GoesFrom, GoesOn, IsNew, answered_as, opened_as};
 ghost use Rattle.swd_host.specs.Reports.{Closes, Follower, RefusedAs, RunsOver, RunsWithin, told_of};
+ghost use Rattle.swd_host.specs.Sent.{Made, TellsSent};
+ghost use Rattle.swd_host.specs.Stages.{Tells};
 ghost use Rattle.swd_host.specs.Standing.{Does, HasOpened, Performs, told_by};
 
-use crate::engine::{Cue, Engine};
+use crate::engine::Engine;
 use crate::outcome::{End, Outcome, Refused, Report};
 use std::alloc::Allocator;
-use swd_port::{Access, Answer, MOST_ACCESSES, Wire};
+use swd_port::{Access, Answer, Cue, MOST_ACCESSES, Wire};
 
 impl Engine {
     /// Makes the one call of a wire that the engine asks for, and tells it what came of that. Where it rests, none
@@ -41,6 +45,7 @@ impl Engine {
         ensures goes { W.lawful wire.new → W.lawful wire.old
             × Goes self.old (W.port wire.old) self.new (W.port wire.new) }
         ensures plan { W.plan wire.new ≡ W.plan wire.old }
+        ensures made { Made W.notes (λ calls. Turns self.old calls self.new) wire.old wire.new }
     {
         if self.finished().is_none() {
             turn(wire, self);
@@ -59,33 +64,32 @@ fn turn<W: Wire>(wire: &mut W, engine: &mut Engine)
         × Goes engine.old (W.port wire.old) engine.new (W.port wire.new) }
     ensures falls { calls_left engine.new < calls_left engine.old }
     ensures plan { W.plan wire.new ≡ W.plan wire.old }
+    ensures made { Made W.notes (λ calls. Turns engine.old calls engine.new) wire.old wire.new }
 {
-    match engine.cue() {
-        Cue::Lead {
-            ones,
-            switch,
-            zeros,
-        } => {
-            wire.lead(ones, switch, zeros);
+    let Some(cue) = engine.cue() else {
+        return;
+    };
+    match cue {
+        Cue::Lead { .. } => {
+            let _ = wire.step(cue);
             engine.done();
         }
         Cue::Ask(request) => {
-            let seen = wire.ask(request);
-            engine.seen(seen);
+            let seen = wire.step(Cue::Ask(request));
+            engine.seen(seen as u8);
         }
         Cue::Take => {
-            let bits = wire.take();
+            let bits = wire.step(Cue::Take);
             engine.taken(bits);
         }
         Cue::Give(bits) => {
-            wire.give(bits);
+            let _ = wire.step(Cue::Give(bits));
             engine.done();
         }
         Cue::Pass => {
-            wire.pass();
+            let _ = wire.step(Cue::Pass);
             engine.done();
         }
-        Cue::Rest => {}
     }
 }
 
@@ -99,6 +103,7 @@ fn drive<W: Wire>(wire: &mut W, engine: &mut Engine) -> Outcome
         × Goes engine.old (W.port wire.old) engine.new (W.port wire.new) }
     ensures finished { finished_of engine.new ≡ Some result }
     ensures plan { W.plan wire.new ≡ W.plan wire.old }
+    ensures made { Made W.notes (λ calls. Turns engine.old calls engine.new) wire.old wire.new }
 {
     loop {
         if let Some(outcome) = engine.finished() {
@@ -143,6 +148,7 @@ pub(crate) fn open<W: Wire>(wire: &mut W, engine: &mut Engine) -> Result<(), End
         × Goes engine.old (W.port wire.old) engine.new (W.port wire.new) }
     ensures finished { engine.new.state ≡ opened_as result }
     ensures plan { W.plan wire.new ≡ W.plan wire.old }
+    ensures made { Made W.notes (λ calls. Turns engine.old calls engine.new) wire.old wire.new }
 {
     match drive(wire, engine) {
         Outcome::Stopped(end) => Err(end),
@@ -175,6 +181,7 @@ fn access<W: Wire>(
         × GoesFrom access following engine.old (W.port wire.old) engine.new (W.port wire.new) }
     ensures finished { finished_of engine.new ≡ Some (answered_as result) }
     ensures plan { W.plan wire.new ≡ W.plan wire.old }
+    ensures made { Made W.notes (λ calls. TurnsFrom access following engine.old calls engine.new) wire.old wire.new }
 {
     engine.start(access, following);
     match drive(wire, engine) {
@@ -182,6 +189,22 @@ fn access<W: Wire>(
         Outcome::Stopped(end) => Err(end),
         Outcome::Opened => unreachable!(),
     }
+}
+
+// Eight idle cycles: the last transfer of a list goes on in them.
+fn idle<W: Wire>(wire: &mut W)
+    requires { (W.port wire.old).link.due ≡ Nothing }
+    ensures due { (W.port wire.new).link.due ≡ Nothing }
+    ensures step { W.lawful wire.new → W.lawful wire.old × Leads (W.port wire.old) 0 (W.port wire.new) }
+    ensures plan { W.plan wire.new ≡ W.plan wire.old }
+    ensures made { Made W.notes (λ calls. calls ≡ eight_idle ∷ []) wire.old wire.new }
+{
+    let _ = wire.step(Cue::Lead {
+        ones: 0,
+        undriven: 0,
+        switch: false,
+        zeros: 8,
+    });
 }
 
 // Does a list over a target that the engine has opened, adds the answers to those that are there, and
@@ -202,6 +225,8 @@ pub(crate) fn perform<W: Wire, A: Allocator>(
         × Does accesses.now engine.old engine.new answers.old.items answers.new.items result
         (W.port wire.old) (W.port wire.new) }
     ensures plan { W.plan wire.new ≡ W.plan wire.old }
+    ensures told { Made W.notes (Tells accesses.now engine.old engine.new answers.old.items answers.new.items result)
+        wire.old wire.new }
 {
     for (index, next) in accesses.iter().enumerate() {
         let following = following(accesses, index);
@@ -210,7 +235,7 @@ pub(crate) fn perform<W: Wire, A: Allocator>(
             Err(end) => return end,
         }
     }
-    wire.idle(8);
+    idle(wire);
     End::All
 }
 
@@ -245,6 +270,8 @@ pub fn run<W: Wire, A: Allocator>(
     ensures refused { IfErr result (RefusedAs accesses.now) }
     ensures untouched { IfErr result (λ refused. wire.new ≡ wire.old) }
     ensures plan { W.plan wire.new ≡ W.plan wire.old }
+    ensures told { IfOk result (λ report.
+        Made W.notes (TellsSent accesses.now (told_of report)) wire.old wire.new) }
 {
     if let Some(refused) = refusal(accesses) {
         return Err(refused);
@@ -273,6 +300,7 @@ pub(crate) fn conduct<W: Wire, A: Allocator>(
         × RunsWithin (most_of engine.bursts) accesses.now engine.tries (told_of result)
         (W.port wire.old) (W.port wire.new) }
     ensures plan { W.plan wire.new ≡ W.plan wire.old }
+    ensures told { Made W.notes (TellsSent accesses.now (told_of result)) wire.old wire.new }
 {
     let mut engine = engine;
     let mut answers = answers;

@@ -5,7 +5,10 @@ ghost use Rattle.swd_host.specs.Events.{is_flagged, is_left_over, is_unpowered, 
 ghost use Rattle.swd_host.specs.Early.{ComesEarly, EarlyAgain, EarlyBefore, EarlyFaulted, EarlySent, EarlyTold};
 ghost use Rattle.swd_host.specs.Early.{EarlyWaiting, GlimpsedEarly, ShownEarly};
 ghost use Rattle.swd_host.specs.Flags.{is_configured, no_flags};
+ghost use Rattle.swd_host.specs.Progress.{is_job_of, is_place_of};
 ghost use Rattle.swd_host.specs.Requests.{is_exempt, is_unread, is_write};
+ghost use Rattle.swd_host.specs.Steps.{GoesTo, RestsWith, ahead_sent, ahead_to, checked_to, cleared_to, faulted_to};
+ghost use Rattle.swd_host.specs.Steps.{is_rested, passed_to, read_to, resent_to, status_to, value_to, written_to};
 ghost use Rattle.swd_host.specs.Turns.{LandsAnswered, LandsAt, LandsFrom};
 ghost use Rattle.swd_host.specs.Tracks.{Before, Checks, Cleared, Comes, ComesWith, Earns, FaultedAt, HasAsked};
 ghost use Rattle.swd_host.specs.Tracks.{Refused, Resent, Taken};
@@ -25,6 +28,7 @@ impl Engine {
         ensures early { ComesEarly (λ n stray start s. EarlyBefore job (n + 1) stray start s) self.old self.new }
         ensures lands { LandsAt job self.old self.new }
         ensures meets { Meets true None self.old self.new }
+        ensures goes { GoesTo (State.Doing job Phase.Ask) self.new.state }
     {
         if self.events >= self.tries {
             self.state = State::Resting(Outcome::Stopped(End::TriesOut));
@@ -49,6 +53,8 @@ impl Engine {
         ensures early { ShownEarly now (EarlyBefore (Job.Check place owed)) self.old self.new }
         ensures lands { LandsFrom (Job.Check place owed) Phase.Data self.old self.new }
         ensures meets { Meets (is_damaged_clearing owed now) None self.old self.new }
+        ensures goes { GoesTo (checked_to place owed now self.old.task self.old.aims) self.new.state }
+        ensures rests { RestsWith Ahead.Unsent self.new.state self.new.ahead }
     {
         if !now.error && !now.damaged {
             if owed.error {
@@ -72,6 +78,8 @@ impl Engine {
         ensures early { ShownEarly no_flags (EarlyBefore (Job.Check place owed)) self.old self.new }
         ensures lands { LandsFrom (Job.Check place owed) Phase.Data self.old self.new }
         ensures meets { Meets false None self.old self.new }
+        ensures goes { self.new.state ≡ cleared_to place }
+        ensures rests { RestsWith Ahead.Unsent self.new.state self.new.ahead }
     {
         match place {
             Place::Confirm => self.answer(Answer::BusFault, Ahead::Unsent),
@@ -86,6 +94,8 @@ impl Engine {
         ensures tracks { Comes (Earns answer ahead) self.old self.new }
         ensures lands { LandsAnswered self.old self.new }
         ensures meets { Meets false None self.old self.new }
+        ensures goes { self.new.state ≡ State.Resting (Outcome.Answered answer) }
+        ensures ahead { self.new.ahead ≡ ahead }
     {
         self.tar = match (answer, ahead) {
             (Answer::BusFault, _) | (_, Ahead::Failed) => None,
@@ -104,6 +114,7 @@ impl Engine {
         ensures early { ComesEarly (EarlySent job) self.old self.new }
         ensures lands { LandsFrom job Phase.Data self.old self.new }
         ensures meets { Meets false None self.old self.new }
+        ensures goes { self.new.state ≡ written_to job }
     {
         let next = match job {
             Job::At(place) => Job::At(place.next()),
@@ -119,6 +130,7 @@ impl Engine {
         ensures early { ComesEarly (EarlyWaiting job) self.old self.new }
         ensures lands { LandsFrom job Phase.Waited self.old self.new }
         ensures meets { Meets (not (is_exempt job)) None self.old self.new }
+        ensures goes { GoesTo (State.Doing job Phase.Ask) self.new.state }
     {
         if job.is_exempt() {
             self.state = State::Resting(Outcome::Stopped(End::Confused));
@@ -133,6 +145,7 @@ impl Engine {
         ensures early { ComesEarly (EarlyFaulted job) self.old self.new }
         ensures lands { LandsFrom job Phase.Faulted self.old self.new }
         ensures meets { Meets false None self.old self.new }
+        ensures goes { GoesTo (faulted_to job self.old.task) self.new.state }
     {
         self.state = if job.is_exempt() {
             State::Resting(Outcome::Stopped(End::Confused))
@@ -155,6 +168,8 @@ impl Engine {
         ensures early { ComesEarly (EarlyAgain job) self.old self.new }
         ensures lands { LandsFrom job Phase.Data self.old self.new }
         ensures meets { Meets (is_event job None self.old.task self.old.aims self.old.stray) None self.old self.new }
+        ensures goes { GoesTo (read_to job None self.old.task self.old.aims) self.new.state }
+        ensures rests { RestsWith (ahead_to job self.old.task) self.new.state self.new.ahead }
     {
         match job {
             Job::At(place) if self.is_unread(place) => self.pass_over(place),
@@ -171,6 +186,9 @@ impl Engine {
         ensures lands { LandsFrom job Phase.Data self.old self.new }
         ensures meets { Meets (is_event job (Some word) self.old.task self.old.aims self.old.stray)
             (wrong_id_read job (Some word)) self.old self.new }
+        ensures goes { is_job_of false job ≡ true
+            → GoesTo (read_to job (Some word) self.old.task self.old.aims) self.new.state }
+        ensures rests { RestsWith (ahead_to job self.old.task) self.new.state self.new.ahead }
     {
         match job {
             Job::At(place) if self.is_unread(place) => self.pass_over(place),
@@ -201,6 +219,8 @@ impl Engine {
         ensures tracks { (word : Option ℕ) → Comes (TookAt place word) self.old self.new }
         ensures lands { LandsFrom (Job.At place) Phase.Data self.old self.new }
         ensures meets { Meets false None self.old self.new }
+        ensures goes { self.new.state ≡ passed_to place }
+        ensures rests { RestsWith Ahead.Unsent self.new.state self.new.ahead }
     {
         match place {
             Place::Confirm => self.answer(Answer::Written, Ahead::Unsent),
@@ -214,6 +234,8 @@ impl Engine {
         ensures early { ComesEarly (EarlyTold (Job.At place) word) self.old self.new }
         ensures lands { LandsFrom (Job.At place) Phase.Data self.old self.new }
         ensures meets { Meets (is_event_at place word self.old.stray) (wrong_id place word) self.old self.new }
+        ensures goes { is_place_of false place ≡ true → GoesTo (value_to place word) self.new.state }
+        ensures rests { RestsWith (ahead_to (Job.At place) self.old.task) self.new.state self.new.ahead }
     {
         match place {
             Place::Identify => self.identify(word),
@@ -230,6 +252,8 @@ impl Engine {
         ensures tracks { Comes (Resent place word) self.old self.new }
         ensures lands { LandsFrom (Job.Resend place) Phase.Data self.old self.new }
         ensures meets { Meets false None self.old self.new }
+        ensures goes { is_place_of false place ≡ true → GoesTo (resent_to place word) self.new.state }
+        ensures rests { RestsWith (ahead_to (Job.Resend place) self.old.task) self.new.state self.new.ahead }
     {
         match place {
             Place::Configured => self.check_csw(is_configured(word)),
@@ -244,6 +268,8 @@ impl Engine {
         ensures tracks { Comes (Taken Place.Confirm word) self.old self.new }
         ensures lands { LandsAnswered self.old self.new }
         ensures meets { Meets false None self.old self.new }
+        ensures goes { self.new.state ≡ State.Resting (Outcome.Answered (Answer.Value word)) }
+        ensures ahead { self.new.ahead ≡ ahead_sent self.old.task }
     {
         let ahead = if self.task.is_block() {
             Ahead::Sent
@@ -259,6 +285,7 @@ impl Engine {
         ensures early { ComesEarly (EarlyTold (Job.At Place.Identify) word) self.old self.new }
         ensures lands { LandsFrom (Job.At Place.Identify) Phase.Data self.old self.new }
         ensures meets { Meets false (wrong_id Place.Identify word) self.old self.new }
+        ensures rests { is_rested self.new.state ≡ false }
     {
         self.state = if word % 2 == 1 {
             State::Doing(Job::At(Place::Wipe), Phase::Ask)
@@ -273,6 +300,7 @@ impl Engine {
         ensures early { GlimpsedEarly flags (EarlyBefore (Job.At Place.Inspect)) self.old self.new }
         ensures lands { LandsFrom (Job.At Place.Inspect) Phase.Data self.old self.new }
         ensures meets { Meets (is_flagged flags && not (is_left_over self.old.stray flags)) None self.old self.new }
+        ensures rests { is_rested self.new.state ≡ false }
     {
         if self.stray && flags.error && !flags.damaged {
             self.forgive(Job::At(Place::Wipe));
@@ -288,6 +316,7 @@ impl Engine {
         ensures tracks { ComesWith flags (HasAsked powered) self.old self.new }
         ensures lands { LandsFrom (Job.At Place.Powered) Phase.Data self.old self.new }
         ensures meets { Meets (is_unpowered flags powered) None self.old self.new }
+        ensures rests { is_rested self.new.state ≡ false }
     {
         if flags.error {
             self.state = State::Resting(Outcome::Stopped(End::Confused));
@@ -306,6 +335,7 @@ impl Engine {
             → Comes (Taken Place.Configured word) self.old self.new }
         ensures lands { LandsFrom (Job.At Place.Configured) Phase.Data self.old self.new }
         ensures meets { Meets false None self.old self.new }
+        ensures ahead { self.new.ahead ≡ Ahead.Unsent }
     {
         self.tar = None;
         self.ahead = Ahead::Unsent;
@@ -322,6 +352,8 @@ impl Engine {
         ensures early { ShownEarly flags (EarlyBefore (Job.Status place)) self.old self.new }
         ensures lands { LandsFrom (Job.Status place) Phase.Data self.old self.new }
         ensures meets { Meets (is_damaged_write place self.old.task self.old.aims flags) None self.old self.new }
+        ensures goes { GoesTo (status_to place flags self.old.task) self.new.state }
+        ensures rests { is_rested self.new.state ≡ false }
     {
         let write = place.confirms(self.task, self.aims);
         match (flags.error, flags.damaged) {

@@ -1,12 +1,13 @@
 //! The engine without a wire: it says what to send, and is told what was seen.
 ghost use Rattle.std.specs.Prelude.{◌≤◌};
+ghost use Rattle.swd_port.specs.Stories.{IsSeen};
 
 use crate::whole::{BASE, Failure, IMAGE, writes};
 use std::alloc::Global;
 use swd_bits::{SWITCH, SWITCH_BITS};
 use swd_clocked::Clocked;
-use swd_host::{Cue, End, Engine, Outcome};
-use swd_port::{Access, Answer};
+use swd_host::{End, Engine, Outcome};
+use swd_port::{Access, Answer, Cue};
 use swd_target::{Memory, Quirks};
 
 const QUIRKS: Quirks = Quirks {
@@ -54,60 +55,76 @@ impl Pins {
         bits
     }
 
+    // Leaves the line alone for so many clocks.
+    fn release(&mut self, count: u32) {
+        for _ in 0..count {
+            self.clock(None);
+        }
+    }
+
     // A cycle that nobody drives, where the line changes hands.
     fn turn_around(&mut self) {
         self.clock(None);
     }
 
-    // Does what the engine asks for, and tells it what came of that.
-    fn follow(&mut self, engine: &mut Engine) {
-        match engine.cue() {
+    // Ones, of which the line is released for the first `undriven`, since the target may be driving it there. Then
+    // the switch from JTAG and the ones again, and zeros.
+    fn lead(&mut self, ones: u32, undriven: u32, switch: bool, zeros: u32) {
+        self.release(undriven);
+        self.hold(true, ones.saturating_sub(undriven));
+        if switch {
+            self.send(SWITCH, u32::from(SWITCH_BITS));
+            self.hold(true, ones);
+        }
+        self.hold(false, zeros);
+    }
+
+    // Does what a cue says, and gives what came of it.
+    fn follow(&mut self, cue: Cue) -> u64
+        ensures { IsSeen cue result }
+    {
+        match cue {
             Cue::Lead {
                 ones,
+                undriven,
                 switch,
                 zeros,
             } => {
-                self.hold(true, ones);
-                if switch {
-                    self.send(SWITCH, u32::from(SWITCH_BITS));
-                    self.hold(true, ones);
-                }
-                self.hold(false, zeros);
-                engine.done();
+                self.lead(ones, undriven, switch, zeros);
+                0
             }
             Cue::Ask(request) => {
                 self.send(u64::from(request.bits()), 8);
                 self.turn_around();
-                let seen = self.see(3);
-                engine.seen((seen % 8) as u8);
+                self.see(3) % 8
             }
             Cue::Take => {
                 let bits = self.see(33);
                 self.turn_around();
-                engine.taken(bits % (1 << 33));
+                bits % (1 << 33)
             }
             Cue::Give(bits) => {
                 self.turn_around();
                 self.send(bits, 33);
-                engine.done();
+                0
             }
             Cue::Pass => {
                 self.turn_around();
-                engine.done();
+                0
             }
-            Cue::Rest => {}
         }
     }
 
     // Follows the engine until it has come to something. It has after some hundred cues at most.
     fn come_to(&mut self, engine: &mut Engine) -> Outcome {
         for _ in 0..u32::MAX {
-            match engine.finished() {
-                Some(outcome) => return outcome,
-                None => self.follow(engine),
-            }
+            let Some(cue) = engine.cue() else {
+                break;
+            };
+            let reply = self.follow(cue);
+            engine.next(reply);
         }
-        Outcome::Stopped(End::Confused)
+        engine.finished().unwrap_or(Outcome::Stopped(End::Confused))
     }
 
     // Does an access, where the engine has come to the end of the one before.

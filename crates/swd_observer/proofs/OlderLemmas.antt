@@ -1,15 +1,14 @@
 -- A read that took place and whose word wasn't seen yet.
-use Rattle.std.proofs.Common.{◌≡◌, ℕ, Bool, true, false, List, [], ◌∷◌, ◌++◌, refl, sym, ap, subst, inl, inr, ◌∙◌}
+use Rattle.std.proofs.Common.{◌≡◌, ℕ, Bool, true, List, ◌++◌, refl, sym, ap, subst, inl, inr, ◌∙◌}
 use Rattle.std.proofs.Common.{append-nil}
-use Rattle.std.specs.Prelude.{Option, Some, None, IfSome, ◌||◌, ◌&&◌, if◌then◌else◌}
+use Rattle.std.specs.Prelude.{Option, Some, None, IfSome}
 use Rattle.swd_bits.specs.declared.request.Request.{Request}
 use Rattle.swd_port.specs.declared.access.Transfer.{Transfer}
-use Rattle.swd_port.specs.declared.mark.Mark.{Mark}
 use Rattle.swd_port.specs.declared.state.Reply.TheVariants.{Waits, Faults}
 use Rattle.swd_port.specs.Port.{Port, Target, register}
 use Rattle.swd_port.specs.Choices.{Choice}
 use Rattle.swd_port.specs.Completion.{completion_of, Completes}
-use Rattle.swd_port.specs.Asking.{Asks, AsksNow, reply_in}
+use Rattle.swd_port.specs.Asking.{Asks, reply_in}
 use Rattle.swd_port.specs.Moving.{Passes, Takes}
 use Rattle.swd_port.proofs.RequestLaws.{told as told_reply}
 use Rattle.swd_observer.specs.declared.told.Told.{Told}
@@ -21,8 +20,8 @@ use Rattle.swd_observer.specs.declared.observer.Standing.{Standing}
 use Rattle.swd_observer.specs.declared.observer.Standing.TheVariants.{Buffer, Returned}
 use Rattle.swd_observer.specs.Observing.{arrived, told_older}
 use Rattle.swd_observer.specs.Explained.{ExplainsSince, listed}
-use Rattle.swd_observer.specs.Knows.{Flying, owed, gone, failed, Resting, Flight, Holds, Knows, here, spoiled}
-use Rattle.swd_observer.specs.Knows.{IsOlder, Stands, Awaits, Watches, IsFlagged}
+use Rattle.swd_observer.specs.Knows.{Flying, owed, gone, failed, Flight, Holds, Knows, here, spoiled}
+use Rattle.swd_observer.specs.Knows.{IsOlder, Stands, Awaits, Watches}
 use Rattle.swd_observer.specs.Laws.{KnowsSince, KnownAtWait, KnownAtFault}
 use Rattle.swd_observer.proofs.ExplainLemmas.{took}
 use Rattle.swd_observer.proofs.KnownLemmas.{stays, still}

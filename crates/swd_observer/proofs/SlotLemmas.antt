@@ -1,5 +1,5 @@
 -- OK to a request that isn't exempt, and the read before it whose word it gives or doesn't.
-use Rattle.std.proofs.Common.{◌≡◌, ◌<◌, ◌^◌, ℕ, Bool, true, false, List, [], ◌∷◌, ◌++◌, refl, sym, ap, subst, inl, inr}
+use Rattle.std.proofs.Common.{◌≡◌, ◌<◌, ◌^◌, ℕ, Bool, true, false, List, [], ◌++◌, refl, sym, ap, subst, inl, inr}
 use Rattle.std.proofs.Common.{◌∙◌, ◌⊎◌, append-nil}
 use Rattle.std.specs.Prelude.{Option, Some, None, IfSome, is_some, unwrap_or, ◌||◌, ◌&&◌, ◌==◌, if◌then◌else◌}
 use Rattle.std.specs.Prelude.{not as no}
@@ -11,15 +11,13 @@ use Rattle.swd_port.specs.declared.access.Transfer.{Transfer}
 use Rattle.swd_port.specs.declared.register.Register.{Register}
 use Rattle.swd_port.specs.declared.register.Register.TheVariants.{DrwRead, ResendRead}
 use Rattle.swd_port.specs.declared.select.Select.{Select}
-use Rattle.swd_port.specs.declared.mark.Mark.{Mark}
 use Rattle.swd_port.specs.declared.state.Line.TheVariants.{Drives}
 use Rattle.swd_port.specs.Phases.{flipped}
 use Rattle.swd_port.specs.Port.{Port, Target, register, dp_register, ap_register, mem_ap_register, no_ap_register}
 use Rattle.swd_port.specs.Port.{is_mem_ap}
 use Rattle.swd_port.specs.Answers.{is_exempt, is_unpowered}
-use Rattle.swd_port.specs.Choices.{Choice}
 use Rattle.swd_port.specs.Completion.{Completes}
-use Rattle.swd_port.specs.Asking.{Asks, AsksNow, after_okay, has_power, is_posted, value_in}
+use Rattle.swd_port.specs.Asking.{Asks, after_okay, has_power, is_posted, value_in}
 use Rattle.swd_port.specs.Moving.{Takes}
 use Rattle.swd_port.specs.Moves.{Got}
 use Rattle.swd_port.proofs.CompletionLaws.{kept}
@@ -34,14 +32,14 @@ use Rattle.swd_observer.specs.declared.observer.Standing.TheVariants.{Buffer, Re
 use Rattle.swd_observer.specs.declared.observer.Kind.{Kind}
 use Rattle.swd_observer.specs.declared.observer.Kind.TheVariants.{Other, Elsewhere, Reads, Writes, MayRead}
 use Rattle.swd_observer.specs.declared.observer.Kind.TheVariants.{MayWrite}
-use Rattle.swd_observer.specs.Observing.{arrived, arrived_with, confirmed, told_of, told_older, word_if, word_at}
+use Rattle.swd_observer.specs.Observing.{arrived, confirmed, told_of, told_older, word_if, word_at}
 use Rattle.swd_observer.specs.Observing.{word_for}
 use Rattle.swd_observer.specs.Observing.{accepted, kind_of, kind_ap, kind_dp, told_itself, tar_done, whole_word, unless}
 use Rattle.swd_observer.specs.Observing.{is_posted_read, is_resend, is_rc, is_r8, is_plain, slot_of, slot_at}
-use Rattle.swd_observer.specs.Observing.{standing_after, class_of, Confirms}
+use Rattle.swd_observer.specs.Observing.{class_of, Confirms}
 use Rattle.swd_observer.specs.Explained.{ExplainsSince, listed}
 use Rattle.swd_observer.specs.Knows.{Flying, owed, gone, failed, Flight, Knows, here, spoiled, IsOlder, Stands, Awaits}
-use Rattle.swd_observer.specs.Laws.{KnownAtOkay, KnowsSince}
+use Rattle.swd_observer.specs.Laws.{KnownAtOkay}
 use Rattle.swd_observer.specs.Transacts.{HasMoved, Moves}
 use Rattle.swd_observer.proofs.KnownLemmas.{stays}
 use Rattle.swd_observer.proofs.AskLemmas.{Okayed, okayed, plain, KindFits, kind_fits, posted, drw_is_ap}

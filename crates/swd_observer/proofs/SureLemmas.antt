@@ -22,7 +22,7 @@ use Rattle.swd_observer.specs.Observing.{told_with}
 use Rattle.swd_observer.specs.Observing.{is_data, kind_of, told_older, unless, doubt_of, told_flagged, told_itself}
 use Rattle.swd_observer.specs.Observing.{kind_ap, kind_dp}
 use Rattle.swd_observer.specs.Observing.{kind_mem, tells_class}
-use Rattle.swd_observer.specs.Observing.{tells_end, is_status_known, nothing_told}
+use Rattle.swd_observer.specs.Observing.{tells_end, is_status_known}
 use Rattle.swd_observer.specs.Explained.{and_told, listed}
 use Rattle.swd_observer.specs.Runs.{Moves, Lifts, seen, said}
 use Rattle.swd_observer.specs.Sure.{is_known, is_elsewhere, IsClear, AreSure, ClearIsSure}

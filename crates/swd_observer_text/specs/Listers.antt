@@ -10,9 +10,8 @@ use Rattle.swd_trace.specs.Held.{rest, fed_of}
 use Rattle.swd_text.specs.Decoding.{StopsWith, IsDue}
 use Rattle.swd_text.specs.Listers.{IsRead}
 use Rattle.swd_text.specs.declared.fault.TextFault.{TextFault}
-use Rattle.swd_text.specs.declared.fault.EngineFault.{EngineFault}
-use Rattle.swd_text.specs.declared.fault.EngineFault.TheVariants.{Script, Plan, Text, List as Listing, Read, Write}
-use Rattle.swd_text.specs.declared.fault.EngineFault.TheVariants.{Memory, TraceCut}
+use Rattle.swd_text.specs.declared.fault.TakeFault.{TakeFault}
+use Rattle.swd_text.specs.declared.fault.TakeFault.TheVariants.{Text, Write}
 use Rattle.swd_observer.specs.declared.trace.TraceObserver.{TraceObserver}
 use Rattle.swd_observer.specs.Traces.{after_items}
 use Rattle.swd_observer_text.specs.declared.lister.AccessLister.{AccessLister}
@@ -74,15 +73,9 @@ pub record TellsCut (start : Start) (now : Option (List ℕ)) (told : ℕ) (text
   pub cut : Stopped told start.0 now (accesses items start.1)
 
 -- what a writer holds at a fault
-abbrev pub EndsBy : EngineFault → Start → Option (List ℕ) → List ℕ → Type 0
+abbrev pub EndsBy : TakeFault → Start → Option (List ℕ) → List ℕ → Type 0
 EndsBy (Text fault) start now text = TellsFault start now fault text
 EndsBy (Write told) start now text = TellsCut start now told text
-EndsBy Read start now text = ⊥
-EndsBy Memory start now text = ⊥
-EndsBy (Listing fault) start now text = ⊥
-EndsBy (Script fault) start now text = ⊥
-EndsBy (Plan fault) start now text = ⊥
-EndsBy TraceCut start now text = ⊥
 
-abbrev pub Ends : {W : Type 0} → (W → Option (List ℕ)) → Start → AccessLister × W → EngineFault → List ℕ → Type 0
+abbrev pub Ends : {W : Type 0} → (W → Option (List ℕ)) → Start → AccessLister × W → TakeFault → List ℕ → Type 0
 Ends contents start state fault text = EndsBy fault start (contents state.1) text

@@ -4,9 +4,8 @@ use Rattle.std.specs.Io.KnownBytes.{Appends, Consumes, IsAtEnd}
 use Rattle.swd_io.specs.Blocks.{Stopped}
 use Rattle.swd_trace.specs.declared.item.Item.{Item}
 use Rattle.swd_text.specs.Decoding.{DecidedBy, ReadsAs, StopsWith, IsDue}
-use Rattle.swd_text.specs.declared.fault.EngineFault.{EngineFault}
-use Rattle.swd_text.specs.declared.fault.EngineFault.TheVariants.{Script, Plan, Text, List as Listing, Read, Write}
-use Rattle.swd_text.specs.declared.fault.EngineFault.TheVariants.{Memory, TraceCut}
+use Rattle.swd_text.specs.declared.fault.DecodeFault.{DecodeFault}
+use Rattle.swd_text.specs.declared.fault.DecodeFault.TheVariants.{Text, Read, Write}
 use Rattle.swd_observer.specs.declared.trace.TraceObserver.{TraceObserver}
 use Rattle.swd_observer_text.specs.Accesses.{accesses, all_accesses}
 
@@ -17,7 +16,7 @@ ShownOf read left t items out = (IsDue read items × (out ≡ accesses items t))
 
 -- What an answer says of the reader's text, where its bytes are known, of what the reader has left of it, and of what
 -- the writer holds before and after. The items are those of `swd_text`'s `Decodes`.
-abbrev pub Observes : TraceObserver → Result (Unit {0}) EngineFault → Option (List ℕ) → Option (List ℕ) →
+abbrev pub Observes : TraceObserver → Result (Unit {0}) DecodeFault → Option (List ℕ) → Option (List ℕ) →
     Option (List ℕ) → Option (List ℕ) → Type 0
 Observes t (Ok u) text left old new =
     (items : List Item) × IsAtEnd left × IfSome text (λ bytes. ReadsAs bytes items)
@@ -30,23 +29,11 @@ Observes t (Err Read) text left old new =
 Observes t (Err (Write told)) text left old new =
     (read : List ℕ) × (items : List Item) × (out : List ℕ) × Consumes text left read × ShownOf read left t items out
     × Stopped told old new out
-Observes t (Err Memory) text left old new = ⊥
-Observes t (Err (Listing fault)) text left old new = ⊥
-Observes t (Err (Script fault)) text left old new = ⊥
-Observes t (Err (Plan fault)) text left old new = ⊥
-Observes t (Err TraceCut) text left old new = ⊥
 
 -- what the end of a text tells went out, all of it or exactly its first bytes
-abbrev pub Finishes : TraceObserver → Result (Unit {0}) EngineFault → List ℕ → Option (List ℕ) → Option (List ℕ)
+abbrev pub Finishes : TraceObserver → Result (Unit {0}) ℕ → List ℕ → Option (List ℕ) → Option (List ℕ)
     → Type 0
 Finishes t (Ok u) text start now =
     (items : List Item) × ReadsAs text items × Appends start now (all_accesses items t)
-Finishes t (Err (Write told)) text start now =
+Finishes t (Err told) text start now =
     (items : List Item) × ReadsAs text items × Stopped told start now (all_accesses items t)
-Finishes t (Err Read) text start now = ⊥
-Finishes t (Err Memory) text start now = ⊥
-Finishes t (Err (Text fault)) text start now = ⊥
-Finishes t (Err (Listing fault)) text start now = ⊥
-Finishes t (Err (Script fault)) text start now = ⊥
-Finishes t (Err (Plan fault)) text start now = ⊥
-Finishes t (Err TraceCut) text start now = ⊥

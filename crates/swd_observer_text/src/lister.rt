@@ -19,7 +19,7 @@ use std::io::Write;
 use swd_bits::{Scan, Sign};
 use swd_io::{Block, Consumer};
 use swd_observer::{Tells, Told, TraceObserver};
-use swd_text::{EngineFault, TextFault};
+use swd_text::{TakeFault, TextFault};
 use swd_trace::{Decoder, Item};
 
 /// Takes a trace text piece by piece, and sends the lines of what each item shows as soon as it is decided.
@@ -204,7 +204,7 @@ impl AccessLister {
     }
 
     /// Ends what is told of a text that was read to its end.
-    pub(crate) fn finish<W: Write>(&mut self, writer: &mut W) -> Result<(), EngineFault>
+    pub(crate) fn finish<W: Write>(&mut self, writer: &mut W) -> Result<(), u64>
         ensures { (start : Start) (seen : List ℕ) → HasRead W.contents start (self.old, writer.old) seen
             → Finishes start.1 result seen start.0 (W.contents writer.new) }
     {
@@ -212,13 +212,13 @@ impl AccessLister {
         self.put_last(&mut block);
         match block.flush() {
             Ok(_) => Ok(()),
-            Err(written) => Err(EngineFault::Write { written }),
+            Err(written) => Err(written),
         }
     }
 }
 
 impl<W: Write> Consumer<W> for AccessLister {
-    type Fault = EngineFault;
+    type Fault = TakeFault;
 
     ghost can_take = { λ lister. IsSettled lister.decoder };
 
@@ -227,16 +227,16 @@ impl<W: Write> Consumer<W> for AccessLister {
     ghost stops = { LeadsToEnd (HasRead W.contents) (Ends W.contents) };
 
     // What the piece decides goes out before more is read.
-    fn take(&mut self, writer: &mut W, piece: &[u8]) -> Result<(), EngineFault> {
+    fn take(&mut self, writer: &mut W, piece: &[u8]) -> Result<(), TakeFault> {
         let mut block = Block::new(writer, self.written);
         let listed = self.bytes(&mut block, piece);
         match block.flush() {
             Ok(written) => self.written = written,
-            Err(written) => return Err(EngineFault::Write { written }),
+            Err(written) => return Err(TakeFault::Write { written }),
         }
         match listed {
             Ok(()) => Ok(()),
-            Err(fault) => Err(EngineFault::Text(fault)),
+            Err(fault) => Err(TakeFault::Text(fault)),
         }
     }
 

@@ -5,7 +5,7 @@ use crate::lister::AccessLister;
 use std::io::{Read, Write};
 use swd_io::read_pieces;
 use swd_observer::TraceObserver;
-use swd_text::EngineFault;
+use swd_text::DecodeFault;
 
 /// Reads a trace text, and writes a line for each access of the target's memory that it shows:
 ///
@@ -31,13 +31,17 @@ pub fn observe_text<R: Read, W: Write>(
     reader: &mut R,
     writer: &mut W,
     observer: TraceObserver,
-) -> Result<(), EngineFault>
+) -> Result<(), DecodeFault>
     ensures { Observes observer result (R.remaining reader.old) (R.remaining reader.new)
         (W.contents writer.old) (W.contents writer.new) }
 {
     let mut lister = AccessLister::new(observer);
     match read_pieces(reader, writer, &mut lister) {
-        Ok(()) => lister.finish(writer),
-        Err(unread) => Err(unread.fault_or(EngineFault::Read)),
+        Ok(()) => {}
+        Err(unread) => return Err(DecodeFault::of(unread)),
+    }
+    match lister.finish(writer) {
+        Ok(()) => Ok(()),
+        Err(written) => Err(DecodeFault::Write { written }),
     }
 }

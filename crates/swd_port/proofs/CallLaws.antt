@@ -1,5 +1,5 @@
 -- Laws of every call, whatever the state: what is due after it, and the numbers.
-use Rattle.std.proofs.Common.{◌≡◌, ◌≢◌, ◌+◌, ◌≤◌, ℕ, false, refl, sym, ap, inl, inr, arith, ◌∙◌}
+use Rattle.std.proofs.Common.{◌≡◌, ◌≢◌, ◌+◌, ◌≤◌, ℕ, false, refl, sym, ap, subst, inl, inr, arith, ◌∙◌}
 use Rattle.std.specs.Prelude.{◌==◌}
 use Rattle.swd_bits.specs.declared.ack.Ack.{Ack}
 use Rattle.swd_bits.specs.declared.ack.Ack.TheVariants.{Ok as AckOk, Wait as AckWait, Fault as AckFault}
@@ -12,10 +12,13 @@ use Rattle.swd_port.specs.Choices.{Mark, Clean, Wait, Flip, Deaf, Mute, Choice, 
 use Rattle.swd_bits.specs.declared.request.Request.{Request}
 use Rattle.swd_port.specs.Answers.{Reply, driven, seen_at, due_after}
 use Rattle.swd_port.specs.Completion.{Completes}
-use Rattle.swd_port.specs.Moves.{Kept}
+use Rattle.swd_port.specs.Moves.{Kept, Around}
 use Rattle.swd_port.specs.Outcomes.{Steady}
-use Rattle.swd_port.specs.Asking.{AsksNow, reply_in, tally_after}
-use Rattle.swd_port.specs.Laws.Calls.{DueAfterRequest, AcknowledgementSeen, NoAcknowledgementSeen, NothingDue}
+use Rattle.swd_port.specs.Asking.{Asks, AsksNow, reply_in, tally_after}
+use Rattle.swd_port.specs.declared.cue.Cue.TheVariants.{Lead, Ask, Take, Give, Pass}
+use Rattle.swd_port.specs.Leading.{LeadsNow}
+use Rattle.swd_port.specs.Moving.{TakesNow, GivesNow, PassesNow}
+use Rattle.swd_port.specs.Laws.Calls.{DueAfterStep, AcknowledgementSeen, NoAcknowledgementSeen, Asked}
 use Rattle.swd_port.specs.Laws.Calls.{RequestCounted, OthersUncounted, IdentificationKept, with_asked, CountedApart}
 use Rattle.swd_port.proofs.CompletionLaws.{kept}
 use Rattle.swd_port.proofs.AnswerLaws.{lost_due, none_due, muted_due}
@@ -68,7 +71,7 @@ due_now Deaf c q seen s t now = ap (λ p. p.link.due) now.after ∙ sym (none_du
 due_now (Mute place) c q seen s t now = ap (λ p. p.link.due) now.after
     ∙ (muted_due place (reply_in (Mute place) s.target q) q.read now.legal ∙ sym (none_due q.read seen now.sees))
 
-pub due_after_request : DueAfterRequest
+due_after_request : (q : Request) (seen : ℕ) (s t : Port) → Asks s q seen t → t.link.due ≡ due_after q.read seen
 due_after_request q seen s t (a, b, mark, c, first, now, last) =
     let k : Kept b t = kept b t last in
     ap (λ l. l.due) k.link ∙ due_now mark c q seen a b now
@@ -77,13 +80,12 @@ due_after_request q seen s t (a, b, mark, c, first, now, last) =
 due_stays : (b t : Port) → b.link.due ≡ Nothing → Completes b t → t.link.due ≡ Nothing
 due_stays b t e last = let k : Kept b t = kept b t last in ap (λ l. l.due) k.link ∙ e
 
-pub nothing_due : NothingDue
-nothing_due = record {
-  taken = λ bits s t h. due_stays h.1 t (ap (λ p. p.link.due) h.3.after) h.4;
-  given = λ sent s t h. due_stays h.1 t (ap (λ p. p.link.due) h.3.after) h.4;
-  passed = λ s t h. due_stays h.1 t (ap (λ p. p.link.due) h.3.after) h.4;
-  led = λ ones s t h. due_stays h.1 t (ap (λ p. p.link.due) h.3.after) h.4;
-}
+pub due_after_step : DueAfterStep
+due_after_step (Lead ones undriven switch zeros) seen s t h = due_stays h.1 t (ap (λ p. p.link.due) h.3.after) h.4
+due_after_step (Ask q) seen s t h = due_after_request q seen s t h
+due_after_step Take seen s t h = due_stays h.1 t (ap (λ p. p.link.due) h.3.after) h.4
+due_after_step (Give sent) seen s t h = due_stays h.1 t (ap (λ p. p.link.due) h.3.after) h.4
+due_after_step Pass seen s t h = due_stays h.1 t (ap (λ p. p.link.due) h.3.after) h.4
 
 -- the numbers over a step and its completions
 counted_around : (s a b t : Port) → Completes s a → b.tally ≡ a.tally → Completes b t → t.tally ≡ s.tally
@@ -91,26 +93,17 @@ counted_around s a b t first u last = let k : Kept s a = kept s a first in let l
     ∙ u ∙ k.tally
 
 pub others_uncounted : OthersUncounted
-others_uncounted = record {
-  taken = λ bits s t h. counted_around s h.0 h.1 t h.2 (ap (λ p. p.tally) h.3.after) h.4;
-  given = λ sent s t h. counted_around s h.0 h.1 t h.2 (ap (λ p. p.tally) h.3.after) h.4;
-  passed = λ s t h. counted_around s h.0 h.1 t h.2 (ap (λ p. p.tally) h.3.after) h.4;
-  led = λ ones s t h. counted_around s h.0 h.1 t h.2 (ap (λ p. p.tally) h.3.after) h.4;
-}
+others_uncounted (Lead ones undriven switch zeros) seen s t other h = counted_around s h.0 h.1 t h.2 (ap (λ p. p.tally) h.3.after) h.4
+others_uncounted (Ask q) seen s t other h = grind arith
+others_uncounted Take seen s t other h = counted_around s h.0 h.1 t h.2 (ap (λ p. p.tally) h.3.after) h.4
+others_uncounted (Give sent) seen s t other h = counted_around s h.0 h.1 t h.2 (ap (λ p. p.tally) h.3.after) h.4
+others_uncounted Pass seen s t other h = counted_around s h.0 h.1 t h.2 (ap (λ p. p.tally) h.3.after) h.4
 
 -- what DPIDR gives over a step and its completions
 identified_around : (s a b t : Port) → Completes s a → b.target.identification ≡ a.target.identification → Completes b t
     → t.target.identification ≡ s.target.identification
 identified_around s a b t first u last = let k : Kept s a = kept s a first in let l : Kept b t = kept b t last in
     l.identification ∙ u ∙ k.identification
-
-pub identification_kept : IdentificationKept
-identification_kept = record {
-  taken = λ bits s t h. identified_around s h.0 h.1 t h.2 (ap (λ p. p.target.identification) h.3.after) h.4;
-  given = λ sent s t h. identified_around s h.0 h.1 t h.2 (ap (λ p. p.target.identification) h.3.after) h.4;
-  passed = λ s t h. identified_around s h.0 h.1 t h.2 (ap (λ p. p.target.identification) h.3.after) h.4;
-  led = λ ones s t h. identified_around s h.0 h.1 t h.2 (ap (λ p. p.target.identification) h.3.after) h.4;
-}
 
 one_disturbed : (mark : Mark) → disturbs mark ≤ 1
 one_disturbed Clean = omega arith
@@ -154,56 +147,57 @@ request_counted q seen s t (a, b, mark, c, first, now, last) =
       identification = l.identification ∙ y.identification ∙ k.identification;
     }
 
+pub identification_kept : IdentificationKept
+identification_kept (Lead ones undriven switch zeros) seen s t h =
+    identified_around s h.0 h.1 t h.2 (ap (λ p. p.target.identification) h.3.after) h.4
+identification_kept (Ask q) seen s t h = let c : Asked s t = request_counted q seen s t h in c.identification
+identification_kept Take seen s t h =
+    identified_around s h.0 h.1 t h.2 (ap (λ p. p.target.identification) h.3.after) h.4
+identification_kept (Give sent) seen s t h =
+    identified_around s h.0 h.1 t h.2 (ap (λ p. p.target.identification) h.3.after) h.4
+identification_kept Pass seen s t h =
+    identified_around s h.0 h.1 t h.2 (ap (λ p. p.target.identification) h.3.after) h.4
+
 -- another number of requests
 completed_apart : (n : ℕ) (s t : Port) → Completes s t → Completes (with_asked n s) (with_asked n t)
 completed_apart n s t (inl e) = inl (ap (with_asked n) e)
 completed_apart n s t (inr (c, fits, e)) = inr (c, fits, ap (with_asked n) e)
 
+-- a step that doesn't count, and its completions
+moved_apart : (Step : Port → Port → Type 0) (n : ℕ) (s t : Port)
+    → ((a b : Port) → Step a b → Step (with_asked n a) (with_asked n b)) → Around Step s t
+    → Around Step (with_asked n s) (with_asked (n + 0) t)
+moved_apart Step n s t apart h = subst (λ m. Around Step (with_asked n s) (with_asked m t)) (omega arith) (
+  with_asked n h.0,
+  with_asked n h.1,
+  completed_apart n s h.0 h.2,
+  apart h.0 h.1 h.3,
+  completed_apart n h.1 t h.4,
+)
+
 pub counted_apart : CountedApart
-counted_apart = record {
-  asked = λ n q seen s t h. (
-    with_asked n h.0,
-    with_asked (n + 1) h.1,
-    h.2,
-    h.3,
-    completed_apart n s h.0 h.4,
-    record {
-      legal = h.5.legal;
-      choice = h.5.choice;
-      settled = h.5.settled;
-      word = h.5.word;
-      sees = h.5.sees;
-      after =
-          ap (with_asked (n + 1)) h.5.after;
-    },
-    completed_apart (n + 1) h.1 t h.6,
-  );
-  taken = λ n bits s t h. (
-    with_asked n h.0,
-    with_asked n h.1,
-    completed_apart n s h.0 h.2,
-    record { gets = h.3.gets; after = ap (with_asked n) h.3.after },
-    completed_apart n h.1 t h.4,
-  );
-  given = λ n sent s t h. (
-    with_asked n h.0,
-    with_asked n h.1,
-    completed_apart n s h.0 h.2,
-    record { after = ap (with_asked n) h.3.after },
-    completed_apart n h.1 t h.4,
-  );
-  passed = λ n s t h. (
-    with_asked n h.0,
-    with_asked n h.1,
-    completed_apart n s h.0 h.2,
-    record { after = ap (with_asked n) h.3.after },
-    completed_apart n h.1 t h.4,
-  );
-  led = λ n ones s t h. (
-    with_asked n h.0,
-    with_asked n h.1,
-    completed_apart n s h.0 h.2,
-    record { after = ap (with_asked n) h.3.after },
-    completed_apart n h.1 t h.4,
-  );
-}
+counted_apart n (Lead ones undriven switch zeros) seen s t h =
+    moved_apart (λ a b. LeadsNow a ones b) n s t (λ a b now. record { after = ap (with_asked n) now.after }) h
+counted_apart n (Ask q) seen s t h = (
+  with_asked n h.0,
+  with_asked (n + 1) h.1,
+  h.2,
+  h.3,
+  completed_apart n s h.0 h.4,
+  record {
+    legal = h.5.legal;
+    choice = h.5.choice;
+    settled = h.5.settled;
+    word = h.5.word;
+    sees = h.5.sees;
+    after = ap (with_asked (n + 1)) h.5.after;
+  },
+  completed_apart (n + 1) h.1 t h.6,
+)
+counted_apart n Take seen s t h =
+    moved_apart (λ a b. TakesNow a seen b) n s t
+    (λ a b now. record { gets = now.gets; after = ap (with_asked n) now.after }) h
+counted_apart n (Give sent) seen s t h =
+    moved_apart (λ a b. GivesNow a sent b) n s t (λ a b now. record { after = ap (with_asked n) now.after }) h
+counted_apart n Pass seen s t h =
+    moved_apart PassesNow n s t (λ a b now. record { after = ap (with_asked n) now.after }) h

@@ -14,5 +14,6 @@ pub mod StatusLaws
 pub mod CallLaws
 pub mod AccessLaws
 mod NeverStuckLaws
+mod SessionLaws
 pub mod ReadLists
 pub mod WorkedLaws

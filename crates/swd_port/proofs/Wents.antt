@@ -1,72 +1,59 @@
--- What a call more makes of a transport.
-use Rattle.std.proofs.Common.{◌≡◌, ℕ, Bool, true, false, List, [], ◌∷◌, ◌++◌, refl, sym, ap, ◌∙◌, subst, Result, Ok}
-use Rattle.std.proofs.Common.{append_assoc, append-nil}
-use Rattle.swd_port.specs.declared.call.Call.{Call}
-use Rattle.swd_port.specs.declared.call.Call.TheVariants.{Took, Asked}
-use Rattle.swd_port.specs.declared.outside.Gone.{Gone}
-use Rattle.swd_port.specs.declared.outside.Reply.{Reply}
-use Rattle.swd_port.specs.declared.outside.Reply.TheVariants.{Seen, Fetched, Lost}
+-- What a call of a wire makes of its transport: for the calls of `Outside`.
+use Rattle.std.proofs.Common.{◌≡◌, ℕ, Bool, true, false, List, [], ◌∷◌, ◌++◌, refl, sym, ap, ◌∙◌, subst, Result, Ok, arith}
+use Rattle.std.proofs.Common.{append_assoc}
 use Rattle.swd_bits.specs.declared.request.Request.{Request}
-use Rattle.swd_port.specs.Transports.{Made, Ask, Take, Makes, MakesBy, Sees, fetches, breaks, IsByteOf, IsFetched}
-use Rattle.swd_port.specs.Transports.{AreMadeOf, Went, Goes, Fetches, seen_of, is_lost, fetched_of}
+use Rattle.swd_port.specs.declared.cue.Cue.{Cue}
+use Rattle.swd_port.specs.declared.cue.Cue.TheVariants.{Lead, Ask, Take, Give, Pass}
+use Rattle.swd_port.specs.declared.call.Call.{Call}
+use Rattle.swd_port.specs.declared.outside.Disconnected.{Disconnected}
+use Rattle.swd_port.specs.declared.outside.Met.{Met}
+use Rattle.swd_port.specs.Stories.{is_send}
+use Rattle.swd_port.specs.Transports.{Attempt, attempt, Sends, Makes, MakesBy, AreMadeOf, Went, Goes, Fetches}
 
--- some calls more, or none
-pub went_on : {T : Type 0} (Tells : List Made → T → Type 0) (calls after : List Call) (call : Call) (more : List Made)
-    (was gone : Bool)
-    (had fetched : ℕ) (s t : T) → after ≡ call ∷ calls → ((made : List Made) → Tells made s → Tells (made ++ more) t)
-    → MakesBy was call more gone had fetched → Went Tells calls was had s → Went Tells after gone fetched t
-went_on Tells calls after call more was gone had fetched s t is tells makes h = record {
-  made = h.made ++ more;
-  told = tells h.made h.told;
-  of = subst (λ l. AreMadeOf l (h.made ++ more) gone fetched) (sym is) (h.made, more, was, had, refl, h.of, makes);
+-- the calls of the transport are those of the wire, one more of which was made
+pub went_on : {T : Type 0} (Tells : List Attempt → T → Type 0) (calls after : List Call) (cue : Cue) (was : Bool) (had : ℕ)
+    (met : Met) (s t : T) → after ≡ record { cue = cue; seen = met.seen } ∷ calls → Goes Tells cue was had met s t
+    → Went Tells calls was had s → Went Tells after met.gone met.fetched t
+went_on Tells calls after cue was had met s t is goes h = record {
+  made = h.made ++ goes.more;
+  told = goes.tells h.made h.told;
+  of = subst (λ l. AreMadeOf l (h.made ++ goes.more) met.gone met.fetched) (sym is)
+      (h.made, goes.more, was, had, refl, h.of, goes.makes);
 }
 
-pub none_more : {T : Type 0} (Tells : List Made → T → Type 0) (t : T) → (made : List Made) → Tells made t
-    → Tells (made ++ []) t
-none_more Tells t = λ made h. subst (λ l. Tells l t) (sym (append-nil made)) h
-
-pub two_more : {T : Type 0} (Tells : List Made → T → Type 0) (one two : Made) (s m t : T)
-    → ((made : List Made) → Tells made s → Tells (made ++ one ∷ []) m)
-    → ((made : List Made) → Tells made m → Tells (made ++ two ∷ []) t)
-    → (made : List Made) → Tells made s → Tells (made ++ one ∷ two ∷ []) t
+two_more : {T : Type 0} (Tells : List Attempt → T → Type 0) (one two : Attempt) (s m t : T)
+    → ((made : List Attempt) → Tells made s → Tells (made ++ one ∷ []) m)
+    → ((made : List Attempt) → Tells made m → Tells (made ++ two ∷ []) t)
+    → (made : List Attempt) → Tells made s → Tells (made ++ one ∷ two ∷ []) t
 two_more Tells one two s m t p q = λ made h.
     subst (λ l. Tells l t) (append_assoc made (one ∷ []) (two ∷ [])) (q (made ++ one ∷ []) (p made h))
 
-pub takes_none : (gone : Bool) (had : ℕ) → MakesBy gone (Took had) [] gone had had
-takes_none true had = (refl, refl, refl, refl)
-takes_none false had = (refl, refl, refl, refl)
+-- a transport that hasn't failed is called
+pub goes_on : {T : Type 0} (Tells : List Attempt → T → Type 0) (cue : Cue) (was : Bool) (had : ℕ) (met : Met)
+    (more : List Attempt) (s t : T) → was ≡ false → ((made : List Attempt) → Tells made s → Tells (made ++ more) t)
+    → Makes cue more had met → Goes Tells cue was had met s t
+goes_on Tells cue was had met more s t e tells makes = record {
+  more = more;
+  tells = tells;
+  makes = subst (λ b. MakesBy b cue more had met) (sym e) makes;
+}
 
--- the calls of a transport that hasn't failed
-pub goes_once : {T : Type 0} (Tells : List Made → T → Type 0) (was gone : Bool) (call : Call) (fetched : ℕ → ℕ)
-    (more : List Made) (s t : T)
-    → was ≡ false → ((made : List Made) → Tells made s → Tells (made ++ more) t)
-    → ((had : ℕ) → Makes call more gone had (fetched had)) → Goes Tells was call gone fetched s t
-goes_once Tells was gone call fetched more s t e tells makes =
-    record {
-      more = more;
-      tells = tells;
-      makes = λ had. subst (λ b. MakesBy b call more gone had (fetched had)) (sym e) (makes had);
-    }
+-- a call at which nothing is seen
+pub makes_sent : (cue : Cue) (made : List Attempt) (had : ℕ) (met : Met) → is_send cue ≡ true → Sends cue made had met
+    → Makes cue made had met
+makes_sent (Lead ones undriven switch zeros) made had met sends h = h
+makes_sent (Ask request) made had met sends h = grind arith
+makes_sent Take made had met sends h = grind arith
+makes_sent (Give bits) made had met sends h = h
+makes_sent Pass made had met sends h = h
 
--- a data phase that was fetched, or that was lost
-sees_fetched : (request : Request) (byte : ℕ) (reply : Reply) (told : Result ℕ Gone) (had : ℕ) → IsByteOf request byte
-    → request.read ≡ true → IsFetched reply told
-    → Sees request (seen_of reply) (Ask byte (Ok 1) ∷ Take told ∷ []) (is_lost reply) had (fetched_of reply had)
-sees_fetched request byte (Seen seen) told had b r h = absurd h
-sees_fetched request byte (Fetched word) told had b r h =
-    fetches byte b r refl (ap (λ x. Ask byte (Ok 1) ∷ Take x ∷ []) h) refl
-sees_fetched request byte Lost told had b r h = breaks byte told b r refl refl refl refl
-
-pub goes_fetched : {T : Type 0} (Tells : List Made → T → Type 0) (was : Bool) (request : Request) (byte seen : ℕ)
-    (reply : Reply)
-    (result : Result ℕ Gone) (s m t : T) → was ≡ false → IsByteOf request byte → request.read ≡ true → result ≡ Ok seen
-    → seen ≡ 1
-    → ((made : List Made) → Tells made s → Tells (made ++ Ask byte result ∷ []) m) → Fetches Tells reply m t
-    → Goes Tells was (Asked request (seen_of reply)) (is_lost reply) (fetched_of reply) s t
-goes_fetched Tells was request byte seen reply result s m t e b r is one first h =
-    let first' = subst (λ x. (made : List Made) → Tells made s → Tells (made ++ Ask byte x ∷ []) m) (is ∙ ap Ok one)
-    first in
-    goes_once Tells was (is_lost reply) (Asked request (seen_of reply)) (fetched_of reply)
-    (Ask byte (Ok 1) ∷ Take h.told ∷ []) s t e
-    (two_more Tells (Ask byte (Ok 1)) (Take h.told) s m t first' h.tells)
-    (λ had. sees_fetched request byte reply h.told had b r h.is)
+-- a read that was answered OK, and its data phase
+pub goes_fetched : {T : Type 0} (Tells : List Attempt → T → Type 0) (was : Bool) (request : Request) (seen had : ℕ)
+    (met : Met) (result : Result ℕ Disconnected) (s m t : T) → was ≡ false → request.read ≡ true → result ≡ Ok seen → seen ≡ 1
+    → ((made : List Attempt) → Tells made s → Tells (made ++ attempt (Ask request) result ∷ []) m)
+    → Fetches Tells request had met m t → Goes Tells (Ask request) was had met s t
+goes_fetched Tells was request seen had met result s m t e read is one first h =
+    let first' = subst (λ x. (made : List Attempt) → Tells made s → Tells (made ++ attempt (Ask request) x ∷ []) m)
+    (is ∙ ap Ok one) first in
+    goes_on Tells (Ask request) was had met (attempt (Ask request) (Ok 1) ∷ attempt Take h.told ∷ []) s t e
+    (two_more Tells (attempt (Ask request) (Ok 1)) (attempt Take h.told) s m t first' h.tells) (h.makes read)

@@ -12,3 +12,4 @@ pub mod WordsRead
 pub mod LineResets
 pub mod Accesses
 pub mod NeverStuck
+pub mod Sessions

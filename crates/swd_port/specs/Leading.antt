@@ -1,4 +1,4 @@
--- Ones and zeros outside of transactions: line resets and idle cycles. The call `lead`.
+-- Ones and zeros outside of transactions: line resets and idle cycles.
 -- Source: IHI 0031, B4, "Connection and line reset sequence", "Idle cycles".
 use Rattle.std.specs.Prelude.{ℕ, ◌≡◌, ◌≢◌, ◌≤◌, ◌⊎◌, ◌||◌, ◌&&◌, ◌==◌, not, Bool, true, false, if◌then◌else◌}
 use Rattle.swd_port.specs.declared.wire.Due.{Due}
@@ -15,6 +15,12 @@ pub record MayLead (due : Due) (ones : ℕ) (switch : Bool) (zeros : ℕ) : Type
   pub switched : switch ≡ true → ones ≢ 0
   -- inside a transaction a hundred ones: 34 of them may go by as the rest of a data phase (this project's choice)
   pub inside : due ≢ Nothing → (100 ≤ ones) × (switch ≡ false)
+
+-- For how many of these ones, from the first on, a host may leave the line undriven. Inside a transaction the target
+-- may be driving it for the 34 cycles that the rest of a data phase takes.
+pub record MayRelease (due : Due) (ones undriven : ℕ) : Type 0 where
+  pub few : undriven ≤ ones
+  pub inside : due ≢ Nothing → 34 ≤ undriven
 
 -- write data is awaited
 abbrev pub is_awaiting : Line → Bool
@@ -35,7 +41,7 @@ after_lead ones s =
       };
     }
 
--- one call of `lead`, and completion before and after
+-- ones and zeros, and completion before and after
 pub record LeadsNow (s : Port) (ones : ℕ) (t : Port) : Type 0 where
   pub after : t ≡ after_lead ones s
 

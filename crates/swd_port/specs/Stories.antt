@@ -1,20 +1,62 @@
--- The calls of a wire to an end of which nothing is proved, and the stories of a port machine that they fit.
-use Rattle.std.specs.Prelude.{ℕ, List, [], ◌∷◌, length}
+-- What a call of a wire is, the calls so far, and the stories of a port machine that they fit.
+use Rattle.std.specs.Prelude.{ℕ, ◌≡◌, ◌<◌, ◌^◌, Bool, true, false, List, [], ◌∷◌, length}
+use Rattle.swd_port.specs.declared.cue.Cue.{Cue}
+use Rattle.swd_port.specs.declared.cue.Cue.TheVariants.{Lead, Ask as CueAsk, Take as CueTake, Give as CueGive}
+use Rattle.swd_port.specs.declared.cue.Cue.TheVariants.{Pass as CuePass}
 use Rattle.swd_port.specs.declared.call.Call.{Call}
-use Rattle.swd_port.specs.declared.call.Call.TheVariants.{Led, Asked, Took, Gave, Passed}
 use Rattle.swd_port.specs.declared.wire.Due.{Due}
-use Rattle.swd_port.specs.declared.wire.Due.TheVariants.{Nothing}
+use Rattle.swd_port.specs.declared.wire.Due.TheVariants.{Nothing, Take, Give, Pass}
 use Rattle.swd_port.specs.Port.{Port}
 use Rattle.swd_port.specs.Answers.{due_after}
 use Rattle.swd_port.specs.Asking.{Asks}
 use Rattle.swd_port.specs.Moving.{Takes, Gives, Passes}
-use Rattle.swd_port.specs.Leading.{Leads}
+use Rattle.swd_port.specs.Leading.{MayLead, MayRelease, Leads}
+
+-- what a host may do next, by what is due
+abbrev pub MayStep : Due → Cue → Type 0
+MayStep due (Lead ones undriven switch zeros) = MayLead due ones switch zeros × MayRelease due ones undriven
+MayStep due (CueAsk request) = due ≡ Nothing
+MayStep due CueTake = due ≡ Take
+MayStep due (CueGive bits) = (due ≡ Give) × (bits < 2 ^ 33)
+MayStep due CuePass = due ≡ Pass
+
+-- what may be seen of it: three bits at a request, 33 bits of a read's data phase, else nothing, which is 0
+abbrev pub IsSeen : Cue → ℕ → Type 0
+IsSeen (CueAsk request) seen = seen < 8
+IsSeen CueTake seen = seen < 2 ^ 33
+IsSeen cue seen = seen ≡ 0
+
+-- what has to come next
+abbrev pub due_once : Cue → ℕ → Due
+due_once (CueAsk request) seen = due_after request.read seen
+due_once cue seen = Nothing
+
+-- the kinds of cues, by what is seen: three bits, 33 bits, nothing
+abbrev pub is_ask : Cue → Bool
+is_ask (CueAsk request) = true
+is_ask cue = false
+
+abbrev pub is_take : Cue → Bool
+is_take CueTake = true
+is_take cue = false
+
+abbrev pub is_send : Cue → Bool
+is_send (CueAsk request) = false
+is_send CueTake = false
+is_send cue = true
+
+-- what the host did and saw is a step of the port machine
+abbrev pub IsStep : Cue → ℕ → Port → Port → Type 0
+IsStep (Lead ones undriven switch zeros) seen s t = Leads s ones t
+IsStep (CueAsk request) seen s t = Asks s request seen t
+IsStep CueTake seen s t = Takes s seen t
+IsStep (CueGive bits) seen s t = Gives s bits t
+IsStep CuePass seen s t = Passes s t
 
 -- what has to come next after these calls, the last one first
 abbrev pub due_by : List Call → Due
 due_by [] = Nothing
-due_by (Asked request seen ∷ calls) = due_after request.read seen
-due_by (call ∷ calls) = Nothing
+due_by (call ∷ calls) = due_once call.cue call.seen
 
 -- the port after these calls, by a story: its state before any call, and after each. What is due is known without it.
 abbrev pub port_at : (ℕ → Port) → List Call → Port
@@ -22,16 +64,8 @@ port_at story calls =
     let s = story (length calls) in
     record s { link = record s.link { due = due_by calls } }
 
--- a call is a step of the port machine
-abbrev pub IsStep : Call → Port → Port → Type 0
-IsStep (Led ones) s t = Leads s ones t
-IsStep (Asked request seen) s t = Asks s request seen t
-IsStep (Took bits) s t = Takes s bits t
-IsStep (Gave bits) s t = Gives s bits t
-IsStep Passed s t = Passes s t
-
 -- each of the calls is a step of the story
 abbrev pub FitsStory : (ℕ → Port) → List Call → Type 0
 FitsStory story [] = Unit {0}
 FitsStory story (call ∷ calls) =
-    FitsStory story calls × IsStep call (port_at story calls) (port_at story (call ∷ calls))
+    FitsStory story calls × IsStep call.cue call.seen (port_at story calls) (port_at story (call ∷ calls))

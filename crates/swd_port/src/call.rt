@@ -1,18 +1,12 @@
 //! The calls of a wire.
 
-use swd_bits::Request;
+use crate::cue::Cue;
 
-/// One call of a wire, with what was sent and seen.
+/// A call of a wire: what the host did, and what it saw.
 #[derive(Clone, Copy, Debug, PartialEq, Eq)]
-pub enum Call {
-    /// So many ones, and then zeros.
-    Led(u32),
-    /// A request, and the three bits that were seen.
-    Asked(Request, u8),
-    /// The 33 bits that were taken.
-    Took(u64),
-    /// The 33 bits that were sent.
-    Gave(u64),
-    /// A turnaround.
-    Passed,
+pub struct Call {
+    pub cue: Cue,
+    /// The three bits that were seen at a request, the 33 bits that were taken, the first in time least
+    /// significant; 0 at any other cue.
+    pub seen: u64,
 }

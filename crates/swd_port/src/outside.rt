@@ -1,15 +1,16 @@
 //! A wire to an end of which nothing is proved.
 ghost use Rattle.std.specs.Prelude.{◌≡◌, ◌<◌, ◌^◌, ◌++◌, ◌∷◌, ℕ, Bool, List, [], true, false};
 ghost use Rattle.swd_port.specs.Port.{Port};
-ghost use Rattle.swd_port.specs.Stories.{due_by, port_at, FitsStory};
-ghost use Rattle.swd_port.specs.Transports.{Made, Goes, Fetches, Went, WentOver, seen_of, is_lost, fetched_of};
-ghost use Rattle.swd_port.specs.Transports.{Lead as Leads, Ask as Asks, Take as Takes, Give as Gives, Pass as Passes};
+ghost use Rattle.swd_port.specs.Stories.{due_by, due_once, port_at, is_send, FitsStory, IsSeen};
+ghost use Rattle.swd_port.specs.Transports.{Attempt, attempt, Goes, Fetches, Went, WentOver};
+ghost use Rattle.swd_port.specs.declared.cue.Cue.TheVariants.{Ask, Take};
 
 use crate::call::Call;
+use crate::cue::Cue;
 use crate::noted::Noted;
 use crate::wire::{Due, Wire};
 use std::marker::PhantomData;
-use swd_bits::{Ack, Request};
+use swd_bits::Request;
 
 /// A story of the other end: the state of a port machine before any call, and after each. It is for
 /// contracts alone, and what is proved under it is proved of every story.
@@ -19,35 +20,24 @@ pub trait Story {
 
 /// The other end went away.
 #[derive(Clone, Copy, Debug, PartialEq, Eq)]
-pub struct Gone;
+pub struct Disconnected;
 
 /// The way to the other end. It has no law: anything may come back, and every call may fail.
 pub trait Transport {
     /// What a transport tells of the calls that were made of it, the first one first. It is for implementers who
     /// want to say what went over the line; nobody has to.
-    ghost tells: { List Made → Self → Type 0 } = { λ _ _. Unit {0} };
+    ghost tells: { List Attempt → Self → Type 0 } = { λ _ _. Unit {0} };
 
-    /// Drives ones, and then zeros.
-    fn lead(&mut self, ones: u32, switch: bool, zeros: u32) -> Result<(), Gone>
-        ensures told { (made : List Made) → tells made self.old
-            → tells (made ++ Leads ones switch zeros result ∷ []) self.new };
-
-    /// Sends the eight bits of a request, the first in time least significant, and sees three bits.
-    fn ask(&mut self, request: u8) -> Result<u8, Gone>
-        ensures told { (made : List Made) → tells made self.old → tells (made ++ Asks request result ∷ []) self.new };
-
-    /// Takes the 33 bits of a read's data phase, and the turnaround: directly after `ask`, where it saw
-    /// OK for a read.
-    fn take(&mut self) -> Result<u64, Gone>
-        ensures told { (made : List Made) → tells made self.old → tells (made ++ Takes result ∷ []) self.new };
-
-    /// Sends 33 bits.
-    fn give(&mut self, bits: u64) -> Result<(), Gone>
-        ensures told { (made : List Made) → tells made self.old → tells (made ++ Gives bits result ∷ []) self.new };
-
-    /// The turnaround after WAIT or FAULT.
-    fn pass(&mut self) -> Result<(), Gone>
-        ensures told { (made : List Made) → tells made self.old → tells (made ++ Passes result ∷ []) self.new };
+    /// Does what the cue says, and gives what is seen: the three bits after a request, the 33 bits of a read's data
+    /// phase, the first in time least significant; of any other cue the number means nothing. `Cue::Take` comes
+    /// directly after a request for a read at which OK was seen. Where a cue leaves the line undriven, the target may
+    /// be driving it: drive nothing then.
+    ///
+    /// # Errors
+    ///
+    /// `Disconnected` where the other end can't be reached. It isn't called again then.
+    fn step(&mut self, cue: Cue) -> Result<u64, Disconnected>
+        ensures told { (made : List Attempt) → tells made self.old → tells (made ++ attempt cue result ∷ []) self.new };
 }
 
 /// Whether a wire tells of the calls that it made of its transport. It is for contracts alone.
@@ -95,133 +85,130 @@ impl<T: Transport, S: Story, K: Tie> Wire for Outside<T, S, K> {
 
     ghost lawful = { λ wire. FitsStory S.at wire.noted.calls };
 
+    ghost notes = { λ calls wire. wire.noted.calls ≡ calls };
+
     fn due(&self) -> Due {
         self.due
     }
 
-    fn lead(&mut self, ones: u32, switch: bool, zeros: u32) {
-        self.gone = lead_on(&mut self.transport, self.gone, ones, switch, zeros);
-        self.noted = self.noted.and(&Call::Led(ones));
-        self.due = Due::Nothing;
-    }
-
-    fn ask(&mut self, request: Request) -> u8 {
-        let reply = reply_on(&mut self.transport, self.gone, request);
-        let seen = seen_of(reply);
-        self.fetched = fetched_of(reply, self.fetched);
-        self.gone = is_lost(reply);
-        self.noted = self.noted.and(&Call::Asked(request, seen));
-        self.due = Due::after(request.read, seen);
+    #[inline(always)]
+    fn step(&mut self, cue: Cue) -> u64 {
+        let Met {
+            seen,
+            gone,
+            fetched,
+        } = meet(&mut self.transport, cue, self.gone, self.fetched);
+        self.gone = gone;
+        self.fetched = fetched;
+        self.noted = self.noted.and(&Call { cue, seen });
+        self.due = due_once(cue, seen);
         seen
     }
+}
 
-    fn take(&mut self) -> u64 {
-        let bits = self.fetched;
-        self.noted = self.noted.and(&Call::Took(bits));
-        self.due = Due::Nothing;
-        bits
-    }
-
-    fn give(&mut self, bits: u64) {
-        self.gone = give_on(&mut self.transport, self.gone, bits);
-        self.noted = self.noted.and(&Call::Gave(bits));
-        self.due = Due::Nothing;
-    }
-
-    fn pass(&mut self) {
-        self.gone = pass_on(&mut self.transport, self.gone);
-        self.noted = self.noted.and(&Call::Passed);
-        self.due = Due::Nothing;
+// What has to come next, once this was seen.
+fn due_once(cue: Cue, seen: u64) -> Due
+    requires { IsSeen cue seen }
+    ensures { result ≡ due_once cue seen }
+{
+    match cue {
+        Cue::Ask(request) => Due::after(request.read, seen as u8),
+        _ => Due::Nothing,
     }
 }
 
-// Each of these calls a transport that hasn't failed, and says whether it has then.
-fn lead_on<T: Transport>(transport: &mut T, gone: bool, ones: u32, switch: bool, zeros: u32) -> bool
-    ensures { Goes T.tells gone (Call.Led ones) result (λ had. had) transport.old transport.new }
-{
-    gone || transport.lead(ones, switch, zeros).is_err()
-}
-
-fn give_on<T: Transport>(transport: &mut T, gone: bool, bits: u64) -> bool
-    ensures { Goes T.tells gone (Call.Gave bits) result (λ had. had) transport.old transport.new }
-{
-    gone || transport.give(bits).is_err()
-}
-
-fn pass_on<T: Transport>(transport: &mut T, gone: bool) -> bool
-    ensures { Goes T.tells gone Call.Passed result (λ had. had) transport.old transport.new }
-{
-    gone || transport.pass().is_err()
-}
-
-// What a request comes to.
+// What came of a call.
 #[derive(Clone, Copy)]
-enum Reply {
-    // Three bits, which are no OK to a read.
-    Seen(u8),
-    // The data phase of a read that was answered OK.
-    Fetched(u64),
-    // The transport failed, or gave a number that has too many bits.
-    Lost,
+struct Met {
+    seen: u64,
+    // Whether the transport has failed.
+    gone: bool,
+    // The data phase of the read that was answered last.
+    fetched: u64,
 }
 
-fn seen_of(reply: Reply) -> u8
-    ensures { result ≡ seen_of reply }
+// A call of the wire, over a transport that has failed before or not, as that of its transport.
+#[inline(always)]
+fn meet<T: Transport>(transport: &mut T, cue: Cue, gone: bool, fetched: u64) -> Met
+    requires { fetched < 2 ^ 33 }
+    ensures goes { Goes T.tells cue gone fetched result transport.old transport.new }
+    ensures seen { IsSeen cue result.seen }
+    ensures range { result.fetched < 2 ^ 33 }
 {
-    match reply {
-        Reply::Seen(seen) => seen,
-        Reply::Fetched(_) => Ack::Ok.bits(),
-        Reply::Lost => 7,
+    match cue {
+        Cue::Take => Met {
+            seen: fetched,
+            gone,
+            fetched,
+        },
+        Cue::Ask(request) => ask(transport, request, gone, fetched),
+        _ => send(transport, cue, gone, fetched),
     }
 }
 
-fn is_lost(reply: Reply) -> bool
-    ensures { result ≡ is_lost reply }
+// A call at which nothing is seen.
+fn send<T: Transport>(transport: &mut T, cue: Cue, gone: bool, fetched: u64) -> Met
+    requires { is_send cue ≡ true }
+    ensures goes { Goes T.tells cue gone fetched result transport.old transport.new }
+    ensures seen { result.seen ≡ 0 }
+    ensures fetched { result.fetched ≡ fetched }
 {
-    matches!(&reply, Reply::Lost)
-}
-
-// The data phase that was fetched last.
-fn fetched_of(reply: Reply, had: u64) -> u64
-    ensures { result ≡ fetched_of reply had }
-{
-    match reply {
-        Reply::Fetched(bits) => bits,
-        _ => had,
+    Met {
+        seen: 0,
+        gone: gone || transport.step(cue).is_err(),
+        fetched,
     }
 }
 
-// A request, where the transport hasn't failed.
-fn reply_on<T: Transport>(transport: &mut T, gone: bool, request: Request) -> Reply
-    ensures goes { Goes T.tells gone (Call.Asked request (seen_of result)) (is_lost result) (fetched_of result)
-        transport.old transport.new }
-    ensures range { seen_of result < 8 }
-    ensures data { (had : ℕ) → had < 2 ^ 33 → fetched_of result had < 2 ^ 33 }
+// A request, with the data phase of a read that is answered OK.
+fn ask<T: Transport>(transport: &mut T, request: Request, gone: bool, fetched: u64) -> Met
+    requires { fetched < 2 ^ 33 }
+    ensures goes { Goes T.tells (Ask request) gone fetched result transport.old transport.new }
+    ensures seen { result.seen < 8 }
+    ensures range { result.fetched < 2 ^ 33 }
 {
+    let lost = Met {
+        seen: 7,
+        gone: true,
+        fetched,
+    };
     if gone {
-        return Reply::Lost;
+        return lost;
     }
-    let Ok(seen) = transport.ask(request.bits()) else {
-        return Reply::Lost;
+    let Ok(seen) = transport.step(Cue::Ask(request)) else {
+        return lost;
     };
     if seen > 7 {
-        return Reply::Lost;
+        return lost;
     }
     if request.read && seen == 1 {
-        return fetch(transport);
+        return fetch(transport, request, fetched);
     }
-    Reply::Seen(seen)
+    Met {
+        seen,
+        gone: false,
+        fetched,
+    }
 }
 
 // The data phase of a read that was answered OK, and what is seen of its acknowledgement by that.
-fn fetch<T: Transport>(transport: &mut T) -> Reply
-    ensures fetches { Fetches T.tells result transport.old transport.new }
-    ensures range { seen_of result < 8 }
-    ensures data { (had : ℕ) → had < 2 ^ 33 → fetched_of result had < 2 ^ 33 }
+fn fetch<T: Transport>(transport: &mut T, request: Request, fetched: u64) -> Met
+    requires { fetched < 2 ^ 33 }
+    ensures fetches { Fetches T.tells request fetched result transport.old transport.new }
+    ensures seen { result.seen < 8 }
+    ensures range { result.fetched < 2 ^ 33 }
 {
-    match transport.take() {
-        Ok(bits) if bits < 0x2_0000_0000 => Reply::Fetched(bits),
-        _ => Reply::Lost,
+    match transport.step(Cue::Take) {
+        Ok(bits) if bits < 0x2_0000_0000 => Met {
+            seen: 1,
+            gone: false,
+            fetched: bits,
+        },
+        _ => Met {
+            seen: 7,
+            gone: true,
+            fetched,
+        },
     }
 }
 

@@ -1,5 +1,5 @@
 //! The wire between a host and a target, with the law that the other end keeps.
-ghost use Rattle.std.specs.Prelude.{◌≡◌, ◌<◌, ◌^◌, List, []};
+ghost use Rattle.std.specs.Prelude.{◌≡◌, ◌≢◌, ◌<◌, ◌^◌, List, [], ◌∷◌};
 ghost use Rattle.swd_port.specs.Answers.{due_after};
 ghost use Rattle.swd_port.specs.declared.wire.Due.TheVariants.{Nothing, Take, Give, Pass};
 ghost use Rattle.swd_port.specs.Port.{Port};
@@ -7,8 +7,15 @@ ghost use Rattle.swd_port.specs.Choices.{Mark};
 ghost use Rattle.swd_port.specs.Leading.{MayLead, Leads};
 ghost use Rattle.swd_port.specs.Asking.{Asks};
 ghost use Rattle.swd_port.specs.Moving.{Takes, Gives, Passes};
+ghost use Rattle.swd_port.specs.Stories.{MayStep, IsSeen, IsStep, due_once};
+ghost use Rattle.swd_port.specs.declared.call.Call.{Call};
 
+use crate::cue::Cue;
 use swd_bits::Request;
+
+// For how many of the first ones of a line reset the line is left undriven where the target may be driving it: as many
+// as the longest rest of a transaction, a turnaround and the 33 bits of a data phase.
+const UNDRIVEN: u32 = 34;
 
 /// What has to come next on a wire, as the host sees it.
 #[derive(Clone, Copy, Debug, PartialEq, Eq)]
@@ -37,11 +44,24 @@ impl Due {
             _ => Due::Lost,
         }
     }
+
+    /// For how many of the first ones of a line reset the host leaves the line undriven: 34 where the target may be
+    /// driving it, else none (which of the ones: this project's choice).
+    pub fn undriven(self) -> u32
+        ensures none { self ≡ Nothing → result ≡ 0 }
+        ensures some { self ≢ Nothing → result ≡ 34 }
+    {
+        match self {
+            Due::Nothing => 0,
+            _ => UNDRIVEN,
+        }
+    }
 }
 
 /// One end of a serial wire, for the host that drives it (IHI 0031, B4). Its law: each call is a
 /// step of the port machine at the other end, whose state contracts see as `port`.
 ///
+/// An implementer writes `due` and `step`. The other calls are cues of `step` with names of their own.
 /// Bits are numbers with the first bit in time least significant. No call fails. What has to come
 /// next is told by `due`, and follows from what was seen:
 ///
@@ -73,18 +93,42 @@ pub trait Wire {
     /// holds; of hardware nobody can prove it, and what is told of a run is told where it holds.
     ghost lawful: { Self → Type 0 } = { λ _. Unit {0} };
 
+    /// The calls so far, the last one first, where a wire notes them; nobody has to.
+    ghost notes: { List Call → Self → Type 0 } = { λ _ _. Unit {0} };
+
     /// What has to come next.
     fn due(&self) -> Due
         ensures { result ≡ (port self.now).link.due };
 
+    /// Does what the cue says, and gives what is seen: the three bits after a request, of which 1 is OK, 2 WAIT, 4
+    /// FAULT, and every other number no acknowledgement; the 33 bits of a read's data phase; and 0 at any other cue.
+    fn step(&mut self, cue: Cue) -> u64
+        requires { MayStep (port self.old).link.due cue }
+        ensures seen { IsSeen cue result }
+        ensures due { (port self.new).link.due ≡ due_once cue result }
+        ensures step { lawful self.new → lawful self.old × IsStep cue result (port self.old) (port self.new) }
+        ensures plan { plan self.new ≡ plan self.old }
+        ensures notes { (calls : List Call) → notes calls self.old
+            → notes (record { cue = cue; seen = result } ∷ calls) self.new };
+
     /// Drives `ones` cycles high, with `switch` then the sixteen bits 0111100111100111, the first in
     /// time first, and the ones again, and then `zeros` cycles low. With ones this is a line reset.
     /// Where something other than `Due::Nothing` was due, the first 34 of the ones are left undriven.
-    fn lead(&mut self, ones: u32, switch: bool, zeros: u32)
+    #[inline(always)]
+    final fn lead(&mut self, ones: u32, switch: bool, zeros: u32)
         requires { MayLead (port self.old).link.due ones switch zeros }
         ensures due { (port self.new).link.due ≡ Nothing }
         ensures step { lawful self.new → lawful self.old × Leads (port self.old) ones (port self.new) }
-        ensures plan { plan self.new ≡ plan self.old };
+        ensures plan { plan self.new ≡ plan self.old }
+    {
+        let undriven = self.due().undriven();
+        let _ = self.step(Cue::Lead {
+            ones,
+            undriven,
+            switch,
+            zeros,
+        });
+    }
 
     /// A line reset: 56 ones and two zeros. The target then waits for its identification to be read, and no register
     /// has changed (IHI 0031, B4, "Connection and line reset sequence").
@@ -109,37 +153,53 @@ pub trait Wire {
 
     /// Sends the eight bits of a request, and after a turnaround sees three bits: 1 is OK, 2 WAIT,
     /// 4 FAULT, and every other number is no acknowledgement.
-    fn ask(&mut self, request: Request) -> u8
+    #[inline(always)]
+    final fn ask(&mut self, request: Request) -> u8
         requires { (port self.old).link.due ≡ Nothing }
         ensures range { result < 8 }
         ensures due { (port self.new).link.due ≡ due_after request.read result }
         ensures step { lawful self.new → lawful self.old × Asks (port self.old) request result (port self.new) }
-        ensures plan { plan self.new ≡ plan self.old };
+        ensures plan { plan self.new ≡ plan self.old }
+    {
+        self.step(Cue::Ask(request)) as u8
+    }
 
     /// Takes the 33 bits of a read's data phase, 32 of the word and above them the parity, and the
     /// turnaround.
-    fn take(&mut self) -> u64
+    #[inline(always)]
+    final fn take(&mut self) -> u64
         requires { (port self.old).link.due ≡ Take }
         ensures range { result < 2 ^ 33 }
         ensures due { (port self.new).link.due ≡ Nothing }
         ensures step { lawful self.new → lawful self.old × Takes (port self.old) result (port self.new) }
-        ensures plan { plan self.new ≡ plan self.old };
+        ensures plan { plan self.new ≡ plan self.old }
+    {
+        self.step(Cue::Take)
+    }
 
     /// Sends the turnaround and the 33 bits of a write's data phase, 32 of the word and above them
     /// the parity.
-    fn give(&mut self, bits: u64)
+    #[inline(always)]
+    final fn give(&mut self, bits: u64)
         requires due { (port self.old).link.due ≡ Give }
         requires range { bits < 2 ^ 33 }
         ensures due { (port self.new).link.due ≡ Nothing }
         ensures step { lawful self.new → lawful self.old × Gives (port self.old) bits (port self.new) }
-        ensures plan { plan self.new ≡ plan self.old };
+        ensures plan { plan self.new ≡ plan self.old }
+    {
+        let _ = self.step(Cue::Give(bits));
+    }
 
-    /// The turnaround after WAIT or FAULT.
-    fn pass(&mut self)
+    /// Sends the turnaround after WAIT or FAULT.
+    #[inline(always)]
+    final fn pass(&mut self)
         requires { (port self.old).link.due ≡ Pass }
         ensures due { (port self.new).link.due ≡ Nothing }
         ensures step { lawful self.new → lawful self.old × Passes (port self.old) (port self.new) }
-        ensures plan { plan self.new ≡ plan self.old };
+        ensures plan { plan self.new ≡ plan self.old }
+    {
+        let _ = self.step(Cue::Pass);
+    }
 }
 
 impl<W: Wire> Wire for &mut W {
@@ -149,27 +209,14 @@ impl<W: Wire> Wire for &mut W {
 
     ghost lawful = { λ wire. W.Wire.lawful wire.now };
 
+    ghost notes = { λ calls wire. W.Wire.notes calls wire.now };
+
     fn due(&self) -> Due {
         (**self).due()
     }
 
-    fn lead(&mut self, ones: u32, switch: bool, zeros: u32) {
-        (**self).lead(ones, switch, zeros)
-    }
-
-    fn ask(&mut self, request: Request) -> u8 {
-        (**self).ask(request)
-    }
-
-    fn take(&mut self) -> u64 {
-        (**self).take()
-    }
-
-    fn give(&mut self, bits: u64) {
-        (**self).give(bits)
-    }
-
-    fn pass(&mut self) {
-        (**self).pass()
+    #[inline(always)]
+    fn step(&mut self, cue: Cue) -> u64 {
+        (**self).step(cue)
     }
 }

@@ -1,6 +1,6 @@
--- The calls of a wire with nothing at its other end, for the tests.
-use Rattle.std.proofs.Common.{◌≡◌, ◌+◌, ℕ, true, false, [], refl, inl}
-use Rattle.std.specs.Prelude.{◌==◌}
+-- The steps of a wire with nothing at its other end, for the tests.
+use Rattle.std.proofs.Common.{◌≡◌, ◌+◌, ℕ, Bool, true, false, [], refl, sym, subst, inl}
+use Rattle.std.specs.Prelude.{◌==◌, if◌then◌else◌}
 use Rattle.std.specs.FinMap.{empty}
 use Rattle.swd_bits.specs.declared.request.Request.{Request}
 use Rattle.swd_port.specs.declared.wire.Due.{Due}
@@ -11,9 +11,11 @@ use Rattle.swd_port.specs.declared.state.Line.TheVariants.{Idle}
 use Rattle.swd_port.specs.Port.{Port, made_target}
 use Rattle.swd_port.specs.Phases.{undriven}
 use Rattle.swd_port.specs.declared.mark.Mark.TheVariants.{Deaf}
+use Rattle.swd_port.specs.declared.cue.Cue.{Cue}
+use Rattle.swd_port.specs.declared.cue.Cue.TheVariants.{Lead, Ask, Take, Give, Pass}
 use Rattle.swd_port.specs.Asking.{Asks}
-use Rattle.swd_port.specs.Moving.{Takes, Gives, Passes}
 use Rattle.swd_port.specs.Leading.{Leads}
+use Rattle.swd_port.specs.Stories.{IsStep}
 use Rattle.swd_port.proofs.WorkedLaws.{choice, choice_fits}
 
 -- the port machine behind it, of which nothing but the line resets is seen
@@ -24,7 +26,7 @@ open_port due reset asked = record {
   tally = record { asked = asked; disturbed = 0; lost = asked };
 }
 
-pub open_asked : (q : Request) (due : Due) (reset : Reset) (n : ℕ)
+open_asked : (q : Request) (due : Due) (reset : Reset) (n : ℕ)
     → Asks (open_port due reset n) q 7 (open_port Lost reset (n + 1))
 open_asked q due reset n = (
   open_port due reset n,
@@ -44,31 +46,38 @@ open_asked q due reset n = (
   inl refl,
 )
 
-pub open_taken : (due : Due) (reset : Reset) (n : ℕ)
-    → Takes (open_port due reset n) undriven (open_port Nothing reset n)
-open_taken due reset n = (
-  open_port due reset n,
-  open_port Nothing reset n,
-  inl refl,
-  record { gets = refl; after = refl },
-  inl refl,
-)
+open_led : (b : Bool) (ones : ℕ) (due : Due) (reset : Reset) (n : ℕ) → (ones == 0) ≡ b
+    → Leads (open_port due reset n) ones (open_port Nothing (if b then reset else Fresh) n)
+open_led true ones due reset n e =
+    (open_port due reset n, open_port Nothing reset n, inl refl, record { after = rw e refl }, inl refl)
+open_led false ones due reset n e =
+    (open_port due reset n, open_port Nothing Fresh n, inl refl, record { after = rw e refl }, inl refl)
 
-pub open_given : (sent : ℕ) (due : Due) (reset : Reset) (n : ℕ)
-    → Gives (open_port due reset n) sent (open_port Nothing reset n)
-open_given sent due reset n =
+-- what is seen at a cue, what is due then, and whether the target was reset or asked
+abbrev pub open_seen : Cue → ℕ
+open_seen (Ask request) = 7
+open_seen Take = undriven
+open_seen cue = 0
+
+abbrev pub open_after : Cue → Due → Reset → ℕ → Port
+open_after (Lead ones released switch zeros) due reset n = open_port Nothing (if ones == 0 then reset else Fresh) n
+open_after (Ask request) due reset n = open_port Lost reset (n + 1)
+open_after cue due reset n = open_port Nothing reset n
+
+step_of : (cue : Cue) (due : Due) (reset : Reset) (n : ℕ)
+    → IsStep cue (open_seen cue) (open_port due reset n) (open_after cue due reset n)
+step_of (Lead ones released switch zeros) due reset n = open_led (ones == 0) ones due reset n refl
+step_of (Ask request) due reset n = open_asked request due reset n
+step_of Take due reset n =
+    (open_port due reset n, open_port Nothing reset n, inl refl, record { gets = refl; after = refl }, inl refl)
+step_of (Give bits) due reset n =
+    (open_port due reset n, open_port Nothing reset n, inl refl, record { after = refl }, inl refl)
+step_of Pass due reset n =
     (open_port due reset n, open_port Nothing reset n, inl refl, record { after = refl }, inl refl)
 
-pub open_passed : (due : Due) (reset : Reset) (n : ℕ) → Passes (open_port due reset n) (open_port Nothing reset n)
-open_passed due reset n =
-    (open_port due reset n, open_port Nothing reset n, inl refl, record { after = refl }, inl refl)
-
-pub open_idle : (ones : ℕ) (due : Due) (reset : Reset) (n : ℕ) → (ones == 0) ≡ true
-    → Leads (open_port due reset n) ones (open_port Nothing reset n)
-open_idle ones due reset n none =
-    (open_port due reset n, open_port Nothing reset n, inl refl, record { after = rw none refl }, inl refl)
-
-pub open_reset : (ones : ℕ) (due : Due) (reset : Reset) (n : ℕ) → (ones == 0) ≡ false
-    → Leads (open_port due reset n) ones (open_port Nothing Fresh n)
-open_reset ones due reset n other =
-    (open_port due reset n, open_port Nothing Fresh n, inl refl, record { after = rw other refl }, inl refl)
+-- each cue is a step of that port machine, for `OpenWire::step`
+pub open_step : (cue found : Cue) (due : Due) (reset : Reset) (n : ℕ) → cue ≡ found
+    → IsStep cue (open_seen found) (open_port due reset n) (open_after found due reset n)
+open_step cue found due reset n is =
+    subst (λ x. IsStep x (open_seen found) (open_port due reset n) (open_after found due reset n)) (sym is)
+    (step_of found due reset n)

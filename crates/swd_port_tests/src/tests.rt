@@ -1,8 +1,9 @@
 //! Registers by worked words, a wire with nothing at its other end, wires to the outside, and how accesses, marks and
 //! answers are written.
-ghost use Rattle.std.specs.Prelude.{◌≡◌, []};
+ghost use Rattle.std.specs.Prelude.{◌≡◌, ◌==◌, [], if◌then◌else◌};
 ghost use Rattle.std.specs.FinMap.{empty};
 ghost use Rattle.swd_port.specs.declared.state.Line.TheVariants.{Idle};
+ghost use Rattle.swd_port.specs.declared.state.Reset.TheVariants.{Fresh};
 ghost use Rattle.swd_port.specs.declared.wire.Due.TheVariants.{Nothing};
 ghost use Rattle.swd_port.specs.Port.{made_target, made};
 
@@ -11,10 +12,10 @@ mod expect;
 use bitflags::Flags;
 use expect::{expect_at, expect_eq, expect_eq_at};
 use std::test::Fail;
-use swd_bits::{Request, word_of};
+use swd_bits::word_of;
 use swd_port::{
-    Abort, Access, Answer, Count, Csw, CtrlStat, Due, Gone, Mark, Outside, Register, Reset, Select,
-    Story, Transport, Wire,
+    Abort, Access, Answer, Count, Csw, CtrlStat, Cue, Disconnected, Due, Mark, Outside, Register,
+    Reset, Select, Story, Transport, Wire,
 };
 
 // A wire with nothing at its other end, where every bit reads 1. It keeps the law: no request is
@@ -37,34 +38,29 @@ impl Wire for OpenWire {
         self.due
     }
 
-    fn lead(&mut self, ones: u32, switch: bool, zeros: u32) {
-        let _ = (switch, zeros);
+    fn step(&mut self, cue: Cue) -> u64 {
         self.due = Due::Nothing;
-        if ones != 0 {
-            self.reset = Reset::Fresh;
+        match cue {
+            Cue::Lead { ones, .. } => {
+                self.reset = reset_after(ones, self.reset);
+                0
+            }
+            Cue::Ask(_) => {
+                self.asked.tick();
+                self.due = Due::Lost;
+                7
+            }
+            Cue::Take => 0x1_ffff_ffff,
+            Cue::Give(_) | Cue::Pass => 0,
         }
     }
+}
 
-    fn ask(&mut self, request: Request) -> u8 {
-        let _ = request;
-        self.asked.tick();
-        self.due = Due::Lost;
-        7
-    }
-
-    fn take(&mut self) -> u64 {
-        self.due = Due::Nothing;
-        0x1_ffff_ffff
-    }
-
-    fn give(&mut self, bits: u64) {
-        let _ = bits;
-        self.due = Due::Nothing;
-    }
-
-    fn pass(&mut self) {
-        self.due = Due::Nothing;
-    }
+// Ones are a line reset.
+fn reset_after(ones: u32, reset: Reset) -> Reset
+    ensures { result ≡ (if ones == 0 then reset else Fresh) }
+{
+    if ones == 0 { reset } else { Reset::Fresh }
 }
 
 // What DPIDR reads after a line reset. `None` where the target doesn't answer, or its data is
@@ -183,27 +179,19 @@ struct Agreeing {
 }
 
 impl Transport for Agreeing {
-    fn lead(&mut self, ones: u32, switch: bool, zeros: u32) -> Result<(), Gone> {
-        let _ = (ones, switch, zeros);
-        Ok(())
+    fn step(&mut self, cue: Cue) -> Result<u64, Disconnected> {
+        match cue {
+            Cue::Ask(_) if self.failing => Err(Disconnected),
+            _ => Ok(agreed(cue)),
+        }
     }
+}
 
-    fn ask(&mut self, request: u8) -> Result<u8, Gone> {
-        let _ = request;
-        if self.failing { Err(Gone) } else { Ok(1) }
-    }
-
-    fn take(&mut self) -> Result<u64, Gone> {
-        Ok(0)
-    }
-
-    fn give(&mut self, bits: u64) -> Result<(), Gone> {
-        let _ = bits;
-        Ok(())
-    }
-
-    fn pass(&mut self) -> Result<(), Gone> {
-        Ok(())
+// What is seen where all is answered OK, and all data are zeros.
+fn agreed(cue: Cue) -> u64 {
+    match cue {
+        Cue::Ask(_) => 1,
+        _ => 0,
     }
 }
 
@@ -214,41 +202,13 @@ struct Breaking {
     fails_at: u8,
 }
 
-impl Breaking {
-    fn call(&mut self) -> Result<(), Gone> {
+impl Transport for Breaking {
+    fn step(&mut self, cue: Cue) -> Result<u64, Disconnected> {
         self.calls = self.calls.saturating_add(1);
         if self.calls == self.fails_at {
-            Err(Gone)
-        } else {
-            Ok(())
+            return Err(Disconnected);
         }
-    }
-}
-
-impl Transport for Breaking {
-    fn lead(&mut self, ones: u32, switch: bool, zeros: u32) -> Result<(), Gone> {
-        let _ = (ones, switch, zeros);
-        self.call()
-    }
-
-    fn ask(&mut self, request: u8) -> Result<u8, Gone> {
-        let _ = request;
-        self.call()?;
-        Ok(1)
-    }
-
-    fn take(&mut self) -> Result<u64, Gone> {
-        self.call()?;
-        Ok(0)
-    }
-
-    fn give(&mut self, bits: u64) -> Result<(), Gone> {
-        let _ = bits;
-        self.call()
-    }
-
-    fn pass(&mut self) -> Result<(), Gone> {
-        self.call()
+        Ok(agreed(cue))
     }
 }
 

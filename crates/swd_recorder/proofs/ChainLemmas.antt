@@ -1,10 +1,11 @@
--- Lists of items as a host sends them.
+-- Lists of items as a host sends them: they are read as themselves, and one more leaves them such a list. For the
+-- proofs of `Items`, of `Recorder::items` and of what calls add.
 use Rattle.std.proofs.Common.{◌≡◌, ◌≢◌, ℕ, zero, suc, ◌+◌, ◌-◌, ◌^◌, ◌<◌, ◌≤◌, Bool, true, false, List, []}
 use Rattle.std.proofs.Common.{◌∷◌, ◌++◌}
-use Rattle.std.proofs.Common.{length, replicate, nat_le, Some, refl, sym, ap, ◌∙◌, arith, inl, inr}
-use Rattle.std.specs.Prelude.{◌&&◌, ◌||◌, ◌==◌, nat_lt, slice_get, slice_set, ◌⊎◌, not, if◌then◌else◌}
+use Rattle.std.proofs.Common.{length, replicate, nat_le, Some, refl, sym, ap, ◌∙◌, arith}
+use Rattle.std.specs.Prelude.{◌&&◌, nat_lt, slice_get, slice_set}
 use Rattle.std.proofs.lemmas.Bool.{leb-true, ltb-true, le-leb, lt-ltb}
-use Rattle.std.proofs.lemmas.List.{drop_at}
+use Rattle.std.proofs.lemmas.List.{drop_at, append_assoc, append-nil}
 use Rattle.swd_bits.specs.Transactions.{spelling, IsEnd}
 use Rattle.swd_bits.specs.declared.tx.TxEnd.{TxEnd}
 use Rattle.swd_bits.specs.declared.tx.TxEnd.TheVariants.{Moved, Wait, Fault, NoAck}
@@ -20,9 +21,10 @@ use Rattle.swd_trace.proofs.SpellingLemmas.{spelling_stands, length_of, length_s
 use Rattle.swd_trace.proofs.ReadingLemmas.{reading_none, switch_law, no_switch, tx_law}
 use Rattle.swd_trace.proofs.RereadLemmas.{StartsWith, reset_any, idle_any}
 use Rattle.swd_recorder.specs.Chains.{Place, Clear, Low, High, Switched, Silent, place_of_end, place_after}
-use Rattle.swd_recorder.specs.Chains.{place_behind, place_of, may_reset, may_idle, may_ask, may_lower, may_lead}
+use Rattle.swd_recorder.specs.Chains.{place_behind, place_of, may_reset, may_idle, may_ask, may_lower}
 use Rattle.swd_recorder.specs.Chains.{is_none, is_end, may_follow, is_chained}
-use Rattle.swd_recorder.specs.Recordings.{joined, with_item, idle_in, idle_at_end, high_items, low_items}
+use Rattle.swd_recorder.specs.Items.{joined, with_item, with_items}
+use Rattle.swd_recorder.specs.Items.{idle_in, idle_at_end}
 use Rattle.swd_recorder.specs.Steps.{transactions}
 
 -- both of two tests
@@ -31,14 +33,11 @@ both true true e = (refl, refl)
 both true false e = absurd cc
 both false b e = absurd cc
 
+-- and the other way round
 pub both_are : (a b : Bool) → a ≡ true → b ≡ true → (a && b) ≡ true
 both_are true true e f = refl
 both_are true false e f = absurd cc
 both_are false b e f = absurd cc
-
-either : (a b : Bool) → (a || b) ≡ true → (a ≡ true) ⊎ (b ≡ true)
-either true b e = inl refl
-either false b e = inr e
 
 -- ---- a chain is read as itself
 
@@ -73,7 +72,7 @@ high_first (Cut bits ∷ items) e = absurd cc
 none_is : (seen : ℕ) → is_none seen ≡ true → IsEnd (NoAck seen)
 none_is seen e = grind arith
 
-pub end_is : (end : TxEnd) → is_end end ≡ true → IsEnd end
+end_is : (end : TxEnd) → is_end end ≡ true → IsEnd end
 end_is (Moved word ok) e = ltb-true word (2 ^ 32) e
 end_is Wait e = tt
 end_is Fault e = tt
@@ -105,6 +104,7 @@ idle_after_reset zero tail h = absurd (omega arith)
 idle_after_reset (suc zero) tail h = absurd (omega arith)
 idle_after_reset (suc (suc n)) tail h = refl
 
+-- each item of such a list is read again from its own bits
 pub chained_read : (place : Place) (items : List Item) → is_chained place items ≡ true
     → reading (mode_at place) (bits_of_items items) ≡ items
 chained_read place [] e = reading_none (mode_at place)
@@ -173,7 +173,7 @@ chained_legal place (Cut bits ∷ items) e = absurd cc
 -- ---- one item more
 
 -- an item that may stand there is no idle cycles behind others
-pub pushed : (place : Place) (items : List Item) (item : Item) → may_follow (place_behind place items) item ≡ true
+pushed : (place : Place) (items : List Item) (item : Item) → may_follow (place_behind place items) item ≡ true
     → with_item items item ≡ items ++ item ∷ []
 pushed place [] item e = refl
 pushed place (last ∷ []) item e = apart last item e
@@ -192,16 +192,16 @@ pushed place (last ∷ []) item e = apart last item e
     apart (Cut bits) item e = refl
 pushed place (first ∷ second ∷ items) item e = ap (λ x. first ∷ x) (pushed (place_after first) (second ∷ items) item e)
 
-pub chained_push : (place : Place) (items : List Item) (item : Item) → is_chained place items ≡ true
-    → may_follow (place_behind place items) item ≡ true →
-    is_chained place (items ++ item ∷ []) ≡ true
-chained_push place [] item e f = both_are (may_follow place item) true f refl
-chained_push place (first ∷ items) item e f =
+-- others that may stand behind the items
+pub chained_append : (place : Place) (items more : List Item) → is_chained place items ≡ true
+    → is_chained (place_behind place items) more ≡ true → is_chained place (items ++ more) ≡ true
+chained_append place [] more e f = f
+chained_append place (first ∷ items) more e f =
     let (here, rest) = both (may_follow place first) (is_chained (place_after first) items) e in
-    both_are (may_follow place first) (is_chained (place_after first) (items ++ item ∷ [])) here
-    (chained_push (place_after first) items item rest f)
+    both_are (may_follow place first) (is_chained (place_after first) (items ++ more)) here
+    (chained_append (place_after first) items more rest f)
 
--- where it stands, and how many transactions there are then
+-- what stands before the next item then
 pub place_with : (place : Place) (items : List Item) (item : Item)
     → place_behind place (with_item items item) ≡ place_after item
 place_with place [] item = refl
@@ -221,6 +221,17 @@ place_with place (last ∷ []) item = at_end last item
     at_end (Cut bits) item = refl
 place_with place (first ∷ second ∷ items) item = place_with (place_after first) (second ∷ items) item
 
+-- items that may stand there are added behind the others
+pub appended : (items more : List Item) → is_chained (place_of items) more ≡ true
+    → with_items items more ≡ items ++ more
+appended items [] e = sym (append-nil items)
+appended items (item ∷ more) e =
+    let (here, rest) = both (may_follow (place_of items) item) (is_chained (place_after item) more) e in
+    appended (with_item items item) more
+    (ap (λ place. is_chained place more) (place_with Clear items item) ∙ rest)
+    ∙ ap (λ l. l ++ more) (pushed Clear items item here)
+    ∙ append_assoc items (item ∷ []) more
+
 -- ---- idle cycles joined to others
 
 -- the last item, by its place
@@ -232,12 +243,13 @@ last_at (first ∷ []) (suc k) item l e = absurd (omega arith)
 last_at (first ∷ second ∷ items) zero item l e = absurd (omega arith)
 last_at (first ∷ second ∷ items) (suc k) item l e = last_at (second ∷ items) k item (omega arith) e
 
+-- the last item has the idle cycles at the end
 pub last_is : (items : List Item) (item : Item) → slice_get items (length items - 1) ≡ Some item
     → idle_at_end items ≡ idle_in item
 last_is [] item e = absurd cc
 last_is (first ∷ items) item e = last_at (first ∷ items) (length (first ∷ items) - 1) item (omega arith) e
 
-pub some_last : (items : List Item) → 0 < idle_at_end items → 0 < length items
+some_last : (items : List Item) → 0 < idle_at_end items → 0 < length items
 some_last [] h = absurd (omega arith)
 some_last (item ∷ items) h = omega arith
 
@@ -257,6 +269,7 @@ joined_at (item ∷ []) (suc k) n l h = absurd (omega arith)
 joined_at (first ∷ second ∷ items) zero n l h = absurd (omega arith)
 joined_at (first ∷ second ∷ items) (suc k) n l h = ap (λ x. first ∷ x) (joined_at (second ∷ items) k n (omega arith) h)
 
+-- more zeros make the last item one of more idle cycles
 pub joined_last : (items : List Item) (n : ℕ) → 0 < idle_at_end items
     → slice_set items (length items - 1) (Idle (idle_at_end items + n)) ≡ with_item items (Idle n)
 joined_last items n h = let some : 0 < length items = some_last items h in joined_at items (length items - 1) n
@@ -285,6 +298,7 @@ chained_one place (Tx tx) n e h fits = absurd (omega arith)
 chained_one place (Junk b) n e h fits = absurd (omega arith)
 chained_one place (Cut bits) n e h fits = absurd (omega arith)
 
+-- and leave each item where it may stand
 pub chained_join : (place : Place) (items : List Item) (n : ℕ) → is_chained place items ≡ true → 0 < idle_at_end items
     → idle_at_end items + n < 2 ^ 64 →
     is_chained place (with_item items (Idle n)) ≡ true
@@ -349,7 +363,7 @@ apart (item ∷ items) n e h may fits =
 abbrev pub counted_one : Item → ℕ
 counted_one item = transactions (item ∷ [])
 
-pub count_with : (items : List Item) (item : Item)
+count_with : (items : List Item) (item : Item)
     → transactions (with_item items item) ≡ transactions items + counted_one item
 count_with [] item = omega arith
 count_with (last ∷ []) item = at_end last item
@@ -373,21 +387,20 @@ count_with (Idle n ∷ second ∷ items) item = count_with (second ∷ items) it
 count_with (Junk b ∷ second ∷ items) item = count_with (second ∷ items) item
 count_with (Cut bits ∷ second ∷ items) item = count_with (second ∷ items) item
 
--- ---- ones and zeros
+count_cons : (item : Item) (more : List Item) → transactions (item ∷ more) ≡ counted_one item + transactions more
+count_cons (Tx tx) more = omega arith
+count_cons (Reset n) more = omega arith
+count_cons Switch more = omega arith
+count_cons (Idle n) more = omega arith
+count_cons (Junk b) more = omega arith
+count_cons (Cut bits) more = omega arith
 
-pub not_zero : (n : ℕ) → n ≢ 0 → (n == 0) ≡ false
-not_zero zero h = absurd (h refl)
-not_zero (suc n) h = grind arith
-
-pub fifty_led : (place : Place) (ones : ℕ) (switches : Bool) → ones ≢ 0 → may_lead place ones switches ≡ true
-    → (may_reset place ≡ true) × (nat_le 50 ones ≡ true)
-fifty_led place ones switches h e =
-    both (may_reset place) (nat_le 50 ones)
-    (sym (ap (λ t. if t then not switches else (may_reset place && nat_le 50 ones)) (not_zero ones h)) ∙ e)
-
-pub high_is : (ones : ℕ) (switches : Bool) → ones ≢ 0 → switches ≡ true
-    → high_items ones switches ≡ Reset ones ∷ Switch ∷ Reset ones ∷ []
-high_is ones switches h e = rw (not_zero ones h, e) refl
-
-pub low_is : (count : ℕ) → count ≢ 0 → low_items count ≡ Idle count ∷ []
-low_is count h = rw (not_zero count h) refl
+-- and in items with others
+pub count_added : (items more : List Item)
+    → transactions (with_items items more) ≡ transactions items + transactions more
+count_added items [] = omega arith
+count_added items (item ∷ more) =
+    let a = count_added (with_item items item) more in
+    let b = count_with items item in
+    let d = count_cons item more in
+    omega (arith, a, b, d)

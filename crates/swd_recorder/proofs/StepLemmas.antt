@@ -1,8 +1,9 @@
--- A recording keeps step with its wire.
+-- The items keep step with the wire that their calls are made of: where they end, and how many transactions there are.
+-- For the proofs of `Recording::record` and of `Recorder`.
 use Rattle.std.proofs.Common.{◌≡◌, ◌≢◌, ℕ, zero, suc, ◌+◌, ◌≤◌, Bool, true, false, List, [], ◌∷◌, ◌++◌, Option, Some}
-use Rattle.std.proofs.Common.{None, refl, ap, ◌∙◌, subst, arith, inl, inr}
-use Rattle.std.specs.Prelude.{◌||◌, ◌==◌, not, if◌then◌else◌, nat_le, ◌&&◌, ◌↔◌, ◌⊎◌}
-use Rattle.std.proofs.lemmas.Bool.{le-leb, leb-true}
+use Rattle.std.proofs.Common.{None, refl, sym, ap, ◌∙◌, subst, arith}
+use Rattle.std.specs.Prelude.{◌||◌, ◌==◌, if◌then◌else◌, ◌↔◌}
+use Rattle.swd_bits.specs.Bits.{bit}
 use Rattle.swd_bits.specs.declared.ack.Ack.{Ack}
 use Rattle.swd_bits.specs.declared.ack.Ack.TheVariants.{Ok as AckOk, Wait as AckWait, Fault as AckFault}
 use Rattle.swd_bits.specs.declared.request.Request.{Request}
@@ -10,315 +11,209 @@ use Rattle.swd_bits.specs.declared.tx.TxEnd.{TxEnd}
 use Rattle.swd_bits.specs.declared.tx.TxEnd.TheVariants.{Moved, Wait, Fault, NoAck}
 use Rattle.swd_trace.specs.declared.item.Item.{Item}
 use Rattle.swd_trace.specs.declared.item.Item.TheVariants.{Reset, Switch, Idle, Tx, Junk, Cut}
+use Rattle.swd_port.specs.declared.call.Call.{Call}
+use Rattle.swd_port.specs.declared.cue.Cue.{Cue}
+use Rattle.swd_port.specs.declared.cue.Cue.TheVariants.{Lead, Ask, Take as CueTake, Give as CueGive, Pass as CuePass}
 use Rattle.swd_port.specs.declared.wire.Due.{Due}
 use Rattle.swd_port.specs.declared.wire.Due.TheVariants.{Nothing, Take, Give, Pass, Lost}
-use Rattle.swd_port.specs.Answers.{due_after}
 use Rattle.swd_port.specs.Leading.{MayLead}
-use Rattle.swd_recorder.specs.declared.recording.InHand.{InHand}
+use Rattle.swd_port.specs.Stories.{MayStep, IsStep, is_ask, due_by, due_once}
+use Rattle.swd_port.specs.Port.{Port}
+use Rattle.swd_port.specs.Laws.Calls.{with_asked}
+use Rattle.swd_port.proofs.CallLaws.{counted_apart}
+use Rattle.swd_recorder.specs.declared.in_hand.InHand.{InHand}
 use Rattle.swd_recorder.specs.Chains.{Place, Clear, Low, High, Switched, Silent, place_of_end, place_after}
-use Rattle.swd_recorder.specs.Chains.{place_behind, place_of, may_ask, may_reset, may_lead, is_between, may_follow}
+use Rattle.swd_recorder.specs.Chains.{place_behind, place_of, may_follow}
 use Rattle.swd_recorder.specs.Chains.{is_chained}
-use Rattle.swd_recorder.specs.Recordings.{Kept, with_items, Adds, lead_items, answered, ack_seen, unanswered, Refuses}
-use Rattle.swd_recorder.specs.Recordings.{RecordsLead, RecordsAsk, RecordsPhase, RecordsRefusal}
-use Rattle.swd_recorder.specs.Steps.{is_held, is_at, transactions, pending, is_placed, is_counted}
+use Rattle.swd_recorder.specs.Items.{with_item, with_items, high_items, low_items, answered, unanswered, items_of}
+use Rattle.swd_recorder.specs.Items.{moved, refused, in_hand_once, in_hand_by}
+use Rattle.swd_recorder.specs.Kept.{Kept, Adds}
+use Rattle.swd_recorder.specs.Steps.{is_at, transactions, pending, held, is_inside, IsPlaced, asks_in}
 use Rattle.swd_recorder.specs.Steps.{EndsUnacknowledged}
-use Rattle.swd_recorder.proofs.ChainLemmas.{both, both_are, place_with, count_with, not_zero}
-use Rattle.swd_recorder.proofs.AddLemmas.{placed_one, counted, place_lead, count_lead, adds_most, adds_nothing}
-use Rattle.swd_recorder.proofs.AddLemmas.{none_in_lead}
+use Rattle.swd_recorder.proofs.ChainLemmas.{both, place_with, count_added}
 
--- a recording in step with a wire
-pub record InStep (due : Due) (kept : Kept) (asked : ℕ) : Type 0 where
-  pub held : is_held due kept.in_hand ≡ true
-  pub placed : is_placed due kept ≡ true
-  pub counted : is_counted due kept asked ≡ true
+-- ---- a request
 
-open_or : (cut b : Bool) → (cut ≡ false → b ≡ true) → (cut || b) ≡ true
-open_or true b h = refl
-open_or false b h = h refl
+abbrev due_tests : Bool → Bool → Bool → Bool → Due
+due_tests read one two four = if one then (if read then Take else Give) else if two || four then Pass else Lost
 
-when_open : (cut b : Bool) → (cut || b) ≡ true → cut ≡ false → b ≡ true
-when_open true b h e = absurd cc
-when_open false b h e = h
+abbrev ack_tests : Bool → Bool → Bool → Option Ack
+ack_tests one two four = if one then Some AckOk else if two then Some AckWait else if four then Some AckFault else None
 
-same_number : (a b : ℕ) → (a == b) ≡ true → a ≡ b
-same_number a b e = grind arith
+held_tests : (q : Request) (read one two four : Bool)
+    → pending (due_tests read one two four) ≡ held (answered q (ack_tests one two four))
+held_tests q true true two four = refl
+held_tests q false true two four = refl
+held_tests q read false true four = refl
+held_tests q read false false true = refl
+held_tests q read false false false = refl
 
-number_same : (a b : ℕ) → a ≡ b → (a == b) ≡ true
-number_same a b e = grind arith
+-- a transaction is in hand where the rest of one is due
+pub held_by : (calls : List Call) → pending (due_by calls) ≡ held (in_hand_by calls)
+held_by [] = refl
+held_by (call ∷ calls) = after call.cue call.seen
+  where
+    after : (cue : Cue) (seen : ℕ) → pending (due_once cue seen) ≡ held (in_hand_once cue seen)
+    after (Lead ones undriven switch zeros) seen = refl
+    after (Ask q) seen = held_tests q q.read (seen == 1) (seen == 2) (seen == 4)
+    after CueTake seen = refl
+    after (CueGive bits) seen = refl
+    after CuePass seen = refl
 
--- how many transactions there are
-pub most_of : (due : Due) (kept : Kept) (n : ℕ) → is_counted due kept n ≡ true → transactions kept.items ≤ n
-most_of due kept n e =
-    leb-true (transactions kept.items) n
-    (both (nat_le (transactions kept.items) n) (kept.is_cut || (transactions kept.items + pending due == n)) e).0
+place_tests : (q : Request) (seen : ℕ) (items : List Item) (read one two four : Bool)
+    → is_at Nothing (place_of items) ≡ true →
+    is_at (due_tests read one two four) (place_of (with_items items (unanswered q seen (ack_tests one two four))))
+    ≡ true
+place_tests q seen items true true two four e = e
+place_tests q seen items false true two four e = e
+place_tests q seen items read false true four e = e
+place_tests q seen items read false false true e = e
+place_tests q seen items read false false false e = ap (is_at Lost)
+    (place_with Clear items (Tx (record { request = q; result = NoAck seen })))
 
-pub whole_of : (due : Due) (kept : Kept) (n : ℕ) → is_counted due kept n ≡ true → kept.is_cut ≡ false
-    → transactions kept.items + pending due ≡ n
-whole_of due kept n e uncut =
-    let rest = (both (nat_le (transactions kept.items) n) (kept.is_cut || (transactions kept.items + pending due == n))
-    e).1 in
-    same_number (transactions kept.items + pending due) n
-    (when_open kept.is_cut (transactions kept.items + pending due == n) rest uncut)
+count_tests : (q : Request) (seen : ℕ) (read one two four : Bool)
+    → transactions (unanswered q seen (ack_tests one two four)) + pending (due_tests read one two four) ≡ 1
+count_tests q seen true true two four = refl
+count_tests q seen false true two four = refl
+count_tests q seen read false true four = refl
+count_tests q seen read false false true = refl
+count_tests q seen read false false false = refl
 
-counted_as : (due : Due) (kept : Kept) (n : ℕ) → transactions kept.items ≤ n
-    → (kept.is_cut ≡ false → transactions kept.items + pending due ≡ n) → is_counted due kept n ≡ true
-counted_as due kept n most whole =
-    both_are (nat_le (transactions kept.items) n) (kept.is_cut || (transactions kept.items + pending due == n))
-    (le-leb (transactions kept.items) n most)
-    (open_or kept.is_cut (transactions kept.items + pending due == n)
-    (λ e. number_same (transactions kept.items + pending due) n (whole e)))
-
--- ---- what each call of the recording asks for
-
--- while a transaction is under way a request may stand where the items end
-asks_at : (due : Due) (place : Place) → due ≢ Lost → is_at due place ≡ true → may_ask place ≡ true
-asks_at due Clear h e = refl
-asks_at due Low h e = refl
-asks_at Lost High h e = absurd cc
-asks_at Nothing High h e = absurd cc
-asks_at Take High h e = absurd cc
-asks_at Give High h e = absurd cc
-asks_at Pass High h e = absurd cc
-asks_at Lost Switched h e = absurd cc
-asks_at Nothing Switched h e = absurd cc
-asks_at Take Switched h e = absurd cc
-asks_at Give Switched h e = absurd cc
-asks_at Pass Switched h e = absurd cc
-asks_at Lost Silent h e = absurd (h refl)
-asks_at Nothing Silent h e = absurd cc
-asks_at Take Silent h e = absurd cc
-asks_at Give Silent h e = absurd cc
-asks_at Pass Silent h e = absurd cc
-
--- where the wire is lost, or at rest
-at_due : (due : Due) (place : Place) → is_at due place ≡ true → (place ≡ Clear) ⊎ (place ≡ Low)
-    ⊎ ((place ≡ Silent) × (due ≡ Lost))
-at_due due Clear e = inl refl
-at_due due Low e = inr (inl refl)
-at_due Lost Silent e = inr (inr (refl, refl))
-at_due Nothing Silent e = absurd cc
-at_due Take Silent e = absurd cc
-at_due Give Silent e = absurd cc
-at_due Pass Silent e = absurd cc
-at_due Lost High e = absurd cc
-at_due Nothing High e = absurd cc
-at_due Take High e = absurd cc
-at_due Give High e = absurd cc
-at_due Pass High e = absurd cc
-at_due Lost Switched e = absurd cc
-at_due Nothing Switched e = absurd cc
-at_due Take Switched e = absurd cc
-at_due Give Switched e = absurd cc
-at_due Pass Switched e = absurd cc
-
-lost_not_rest : (due : Due) → due ≡ Lost → due ≢ Nothing
-lost_not_rest due e f = cc
-
-resets_at : (due : Due) (place : Place) → is_at due place ≡ true → may_reset place ≡ true
-resets_at due place e = elim (at_due due place e) [
-  | inl p ↦ ap may_reset p
-  | inr (inl p) ↦ ap may_reset p
-  | inr (inr (p, d)) ↦ ap may_reset p
-]
-
-may_lead_by : (due : Due) (place : Place) (ones lows : ℕ) (switches : Bool) → MayLead due ones switches lows
-    → is_at due place ≡ true → may_lead place ones switches ≡ true
-may_lead_by due place zero lows true m e = absurd (m.switched refl refl)
-may_lead_by due place zero lows false m e = refl
-may_lead_by due place (suc n) lows switches m e =
-    let some : suc n ≢ 0 = λ z. omega (arith, z) in
-    let fifty : 50 ≤ suc n = elim m.high [ inl z ↦ absurd (some z) | inr h ↦ h ] in
-    ap (λ t. if t then not switches else (may_reset place && nat_le 50 (suc n))) (not_zero (suc n) some)
-    ∙ both_are (may_reset place) (nat_le 50 (suc n)) (resets_at due place e) (le-leb 50 (suc n) fifty)
+-- ---- a lead
 
 some_ones : (due : Due) (ones lows : ℕ) (switches : Bool) → MayLead due ones switches lows → due ≢ Nothing → ones ≢ 0
 some_ones due ones lows switches m h z = let (many, none) = m.inside h in omega (arith, many, z)
 
-is_between_by : (due : Due) (place : Place) (ones lows : ℕ) (switches : Bool) → MayLead due ones switches lows
-    → is_at due place ≡ true → is_between place ones ≡ true
-is_between_by due place ones lows switches m e = elim (at_due due place e) [
-  | inl p ↦ ap (λ q. is_between q ones) p
-  | inr (inl p) ↦ ap (λ q. is_between q ones) p
-  | inr (inr (p, d)) ↦ ap (λ q. is_between q ones) p
-      ∙ ap not (not_zero ones (some_ones due ones lows switches m (lost_not_rest due d)))
-]
-
--- ---- a request
-
-abbrev due_by : Bool → Bool → Bool → Bool → Due
-due_by read one two four = if one then (if read then Take else Give) else if two || four then Pass else Lost
-
-abbrev ack_by : Bool → Bool → Bool → Option Ack
-ack_by one two four = if one then Some AckOk else if two then Some AckWait else if four then Some AckFault else None
-
-held_by : (q : Request) (read one two four : Bool)
-    → is_held (due_by read one two four) (answered q (ack_by one two four)) ≡ true
-held_by q true true two four = refl
-held_by q false true two four = refl
-held_by q read false true four = refl
-held_by q read false false true = refl
-held_by q read false false false = refl
-
-at_any : (due : Due) (place : Place) → due ≢ Lost → is_at Nothing place ≡ true → is_at due place ≡ true
-at_any Nothing place h e = e
-at_any Lost place h e = absurd (h refl)
-at_any Take Clear h e = refl
-at_any Take Low h e = refl
-at_any Take High h e = absurd cc
-at_any Take Switched h e = absurd cc
-at_any Take Silent h e = absurd cc
-at_any Give Clear h e = refl
-at_any Give Low h e = refl
-at_any Give High h e = absurd cc
-at_any Give Switched h e = absurd cc
-at_any Give Silent h e = absurd cc
-at_any Pass Clear h e = refl
-at_any Pass Low h e = refl
-at_any Pass High h e = absurd cc
-at_any Pass Switched h e = absurd cc
-at_any Pass Silent h e = absurd cc
-
-place_by : (q : Request) (seen : ℕ) (items : List Item) (read one two four : Bool)
-    → is_at Nothing (place_of items) ≡ true →
-    is_at (due_by read one two four) (place_of (with_items items (unanswered q seen (ack_by one two four)))) ≡ true
-place_by q seen items true true two four e = at_any Take (place_of items) (λ f. cc) e
-place_by q seen items false true two four e = at_any Give (place_of items) (λ f. cc) e
-place_by q seen items read false true four e = at_any Pass (place_of items) (λ f. cc) e
-place_by q seen items read false false true e = at_any Pass (place_of items) (λ f. cc) e
-place_by q seen items read false false false e = ap (is_at Lost)
-    (place_with Clear items (Tx (record { request = q; result = NoAck seen })))
-
-count_by : (q : Request) (seen : ℕ) (items : List Item) (read one two four : Bool) →
-    transactions (with_items items (unanswered q seen (ack_by one two four))) + pending (due_by read one two four) ≡
-    transactions items + 1
-count_by q seen items true true two four = refl
-count_by q seen items false true two four = refl
-count_by q seen items read false true four = refl
-count_by q seen items read false false true = refl
-count_by q seen items read false false false = let d = count_with items
-    (Tx (record { request = q; result = NoAck seen })) in omega (arith, d)
-
-unanswered_most : (q : Request) (seen : ℕ) (a : Option Ack) → transactions (unanswered q seen a) ≤ 1
-unanswered_most q seen None = omega arith
-unanswered_most q seen (Some a) = omega arith
-
-pub asked : (q : Request) (seen : ℕ) (old new : Kept) (n : ℕ) → InStep Nothing old n → RecordsAsk q seen old new
-    → InStep (due_after q.read seen) new (n + 1)
-asked q seen old new n s r = record {
-  held = ap (is_held (due_after q.read seen)) r.in_hand ∙ held_by q q.read (seen == 1) (seen == 2) (seen == 4);
-  placed = open_or new.is_cut (is_at (due_after q.read seen) (place_of new.items))
-      (λ e. let (o, items) = r.adds.whole e in
-      ap (λ l. is_at (due_after q.read seen) (place_of l)) items
-      ∙ place_by q seen old.items q.read (seen == 1) (seen == 2) (seen == 4)
-      (when_open old.is_cut (is_at Nothing (place_of old.items)) s.placed o));
-  counted = counted_as (due_after q.read seen) new (n + 1)
-      (let most = adds_most (unanswered q seen (ack_seen seen)) old new r.adds in
-      let few = unanswered_most q seen (ack_seen seen) in
-      let before = most_of Nothing old n s.counted in
-      omega (arith, most, few, before))
-      (λ e. let (o, items) = r.adds.whole e in
-      let before = whole_of Nothing old n s.counted o in
-      let now = count_by q seen old.items q.read (seen == 1) (seen == 2) (seen == 4) in
-      ap (λ l. transactions l + pending (due_after q.read seen)) items ∙ now ∙ omega (arith, before));
-}
-
--- ---- a transaction that becomes whole
-
-whole_now : (due : Due) (q : Request) (end : TxEnd) (old new : Kept) (n : ℕ) → pending due ≡ 1
-    → place_of_end end ≡ Clear → InStep due old n →
-    Adds (Tx (record { request = q; result = end }) ∷ []) old new → new.in_hand ≡ None → InStep Nothing new n
-whole_now due q end old new n p clear s adds rest = record {
-  held = ap (is_held Nothing) rest;
-  placed = open_or new.is_cut (is_at Nothing (place_of new.items)) (λ e.
-      ap (is_at Nothing) (placed_one (Tx (record { request = q; result = end })) old new adds e ∙ clear));
-  counted = counted_as Nothing new n (most old.is_cut refl) (λ e. let (o, items) = adds.whole e in
-      let before = whole_of due old n s.counted o in
-      let now = counted (Tx (record { request = q; result = end })) old new adds e in
-      omega (arith, before, now, p));
-}
-  where
-    most : (cut : Bool) → old.is_cut ≡ cut → transactions new.items ≤ n
-    most true e =
-        let same = adds_nothing (Tx (record { request = q; result = end }) ∷ []) old new adds e in
-        let before = most_of due old n s.counted in
-        omega (arith, same, before)
-    most false e =
-        let now = adds_most (Tx (record { request = q; result = end }) ∷ []) old new adds in
-        let before = whole_of due old n s.counted e in
-        omega (arith, now, before, p)
-
-pub moved : (due : Due) (bits : ℕ) (old new : Kept) (n : ℕ) → pending due ≡ 1 → InStep due old n
-    → RecordsPhase bits old new → InStep Nothing new n
-moved due bits old new n p s r = whole_now due r.asked.request r.result old new n p (ap place_of_end r.moved.is) s
-    r.adds r.in_hand
-
-refused_clear : (a : Ack) (end : TxEnd) → Refuses a end → place_of_end end ≡ Clear
-refused_clear AckOk end h = absurd h
-refused_clear AckWait end h = ap place_of_end h
-refused_clear AckFault end h = ap place_of_end h
-
-pub refused : (old new : Kept) (n : ℕ) → InStep Pass old n → RecordsRefusal old new → InStep Nothing new n
-refused old new n s r = whole_now Pass r.asked.request r.result old new n refl
-    (refused_clear r.asked.ack r.result r.refuses) s r.adds r.in_hand
-
--- ---- a lead
-
-not_cut : (b : Bool) → b ≡ true → b ≡ false → ⊥
-not_cut b e f = cc
-
--- nothing was in hand where the recording goes on
-none_inside : (in_hand : Option InHand) → (in_hand ≢ None → ⊥) → in_hand ≡ None
-none_inside None h = refl
-none_inside (Some asked) h = absurd (h (λ e. cc))
-
-pending_none : (due : Due) (in_hand : Option InHand) → in_hand ≡ None → is_held due in_hand ≡ true → pending due ≡ 0
-pending_none Nothing in_hand e h = refl
-pending_none Lost in_hand e h = refl
-pending_none Take None e h = absurd cc
-pending_none Take (Some asked) e h = absurd cc
-pending_none Give None e h = absurd cc
-pending_none Give (Some asked) e h = absurd cc
-pending_none Pass None e h = absurd cc
-pending_none Pass (Some asked) e h = absurd cc
-
 at_rest : (due : Due) (place : Place) (switches : Bool) → MayLead due 0 switches 0 → is_at due place ≡ true
     → is_at Nothing place ≡ true
-at_rest due place switches m e = elim (at_due due place e) [
-  | inl p ↦ ap (is_at Nothing) p
-  | inr (inl p) ↦ ap (is_at Nothing) p
-  | inr (inr (p, d)) ↦ absurd (some_ones due 0 0 switches m (lost_not_rest due d) refl)
-]
+at_rest Nothing place switches m e = e
+at_rest due place switches m e = absurd (some_ones due 0 0 switches m (λ f. cc) refl)
+
+none_in_tests : (no_ones switches no_lows : Bool) (n m : ℕ) →
+    transactions ((if no_ones then [] else Reset n ∷ (if switches then Switch ∷ Reset n ∷ [] else []))
+    ++ (if no_lows then [] else Idle m ∷ [])) ≡ 0
+none_in_tests true switches true n m = refl
+none_in_tests true switches false n m = refl
+none_in_tests false true true n m = refl
+none_in_tests false true false n m = refl
+none_in_tests false false true n m = refl
+none_in_tests false false false n m = refl
+
+-- zeros come last
+placed_last : (items more : List Item) (item : Item)
+    → place_of (with_items items (more ++ item ∷ [])) ≡ place_after item
+placed_last items [] item = place_with Clear items item
+placed_last items (first ∷ more) item = placed_last (with_item items first) more item
+
+not_zero : (n : ℕ) → n ≢ 0 → (n == 0) ≡ false
+not_zero zero h = absurd (h refl)
+not_zero (suc n) h = grind arith
+
+place_lead : (items : List Item) (ones lows : ℕ) (switches : Bool) → lows ≢ 0
+    → place_of (with_items items (high_items ones switches ++ low_items lows)) ≡ Low
+place_lead items ones lows switches h =
+    ap (λ t. place_of (with_items items (high_items ones switches ++ (if t then [] else Idle lows ∷ []))))
+    (not_zero lows h) ∙ placed_last items (high_items ones switches) (Idle lows)
 
 lead_at : (due : Due) (items : List Item) (ones lows : ℕ) (switches : Bool) → MayLead due ones switches lows
     → is_at due (place_of items) ≡ true →
-    is_at Nothing (place_of (with_items items (lead_items ones switches lows))) ≡ true
+    is_at Nothing (place_of (with_items items (high_items ones switches ++ low_items lows))) ≡ true
 lead_at due items ones (suc n) switches m e = let some : suc n ≢ 0 = λ z. omega (arith, z) in ap (is_at Nothing)
     (place_lead items ones (suc n) switches some)
 lead_at due items (suc k) zero switches m e =
     let two : 2 ≤ 0 = m.low (λ z. omega (arith, z)) in absurd (omega (arith, two))
 lead_at due items zero zero switches m e = at_rest due (place_of items) switches m e
 
-pub led : (due : Due) (ones lows : ℕ) (switches : Bool) (old new : Kept) (n : ℕ) → MayLead due ones switches lows
-    → InStep due old n →
-    RecordsLead ones switches lows old new → InStep Nothing new n
-led due ones lows switches old new n m s r = record {
-  held = ap (is_held Nothing) r.in_hand;
-  placed = open_or new.is_cut (is_at Nothing (place_of new.items)) (λ e. let (o, items) = r.adds.whole e in
-      ap (λ l. is_at Nothing (place_of l)) items
-      ∙ lead_at due old.items ones lows switches m (when_open old.is_cut (is_at due (place_of old.items)) s.placed o));
-  counted = counted_as Nothing new n
-      (let most = adds_most (lead_items ones switches lows) old new r.adds in
-      let none = none_in_lead ones lows switches in
-      let before = most_of due old n s.counted in
-      omega (arith, most, none, before))
-      (λ e. let (o, items) = r.adds.whole e in
-      let none : old.in_hand ≡ None = none_inside old.in_hand (λ h. not_cut new.is_cut (r.inside h).0 e) in
-      let rest : pending due ≡ 0 = pending_none due old.in_hand none s.held in
-      let before = whole_of due old n s.counted o in
-      let now : transactions new.items ≡ transactions old.items = ap transactions items
-      ∙ count_lead old.items ones lows switches in
-      omega (arith, before, now, rest));
-}
+-- ---- any call
+
+-- a transaction is added for each request, once it is whole
+items_counted : (due : Due) (in_hand : Option InHand) (cue : Cue) (seen : ℕ) → MayStep due cue
+    → pending due ≡ held in_hand → is_inside in_hand cue ≡ false →
+    transactions (items_of in_hand cue seen) + pending (due_once cue seen) ≡ pending due + bit (is_ask cue)
+items_counted due None (Lead ones undriven switch zeros) seen m h i =
+    let none = none_in_tests (ones == 0) switch (zeros == 0) ones zeros in omega (arith, none, h)
+items_counted due (Some asked) (Lead ones undriven switch zeros) seen m h i = absurd cc
+items_counted due in_hand (Ask q) seen m h i =
+    let one = count_tests q seen q.read (seen == 1) (seen == 2) (seen == 4) in
+    let none : pending due ≡ 0 = ap pending m in
+    one ∙ omega (arith, none)
+items_counted due None CueTake seen m h i = omega (arith, h)
+items_counted due (Some asked) CueTake seen m h i = omega (arith, h)
+items_counted due None (CueGive bits) seen m h i = omega (arith, h)
+items_counted due (Some asked) (CueGive bits) seen m h i = omega (arith, h)
+items_counted due None CuePass seen m h i = omega (arith, h)
+items_counted due (Some asked) CuePass seen m h i = omega (arith, h)
+
+refused_clear : (a : Ack) → place_of_end (refused a) ≡ Clear
+refused_clear AckOk = refl
+refused_clear AckWait = refl
+refused_clear AckFault = refl
+
+-- where it stands then
+items_placed : (due : Due) (in_hand : Option InHand) (cue : Cue) (seen : ℕ) (items : List Item) → MayStep due cue
+    → pending due ≡ held in_hand → is_inside in_hand cue ≡ false → is_at due (place_of items) ≡ true →
+    is_at (due_once cue seen) (place_of (with_items items (items_of in_hand cue seen))) ≡ true
+items_placed due in_hand (Lead ones undriven switch zeros) seen items m h i e =
+    lead_at due items ones zeros switch m.0 e
+items_placed due in_hand (Ask q) seen items m h i e =
+    place_tests q seen items q.read (seen == 1) (seen == 2) (seen == 4)
+    (subst (λ d. is_at d (place_of items) ≡ true) m e)
+items_placed due None CueTake seen items m h i e = let one = ap pending m in absurd (omega (arith, one, h))
+items_placed due None (CueGive bits) seen items m h i e = let one = ap pending m.0 in absurd (omega (arith, one, h))
+items_placed due None CuePass seen items m h i e = let one = ap pending m in absurd (omega (arith, one, h))
+items_placed due (Some asked) CueTake seen items m h i e = ap (is_at Nothing)
+    (place_with Clear items (Tx (record { request = asked.request; result = moved seen })))
+items_placed due (Some asked) (CueGive bits) seen items m h i e = ap (is_at Nothing)
+    (place_with Clear items (Tx (record { request = asked.request; result = moved bits })))
+items_placed due (Some asked) CuePass seen items m h i e = ap (is_at Nothing)
+    (place_with Clear items (Tx (record { request = asked.request; result = refused asked.ack }))
+    ∙ refused_clear asked.ack)
+
+-- nothing is cut off inside a transaction where the recording goes on
+outside : (inside cut : Bool) → (inside ≡ true → cut ≡ true) → cut ≡ false → inside ≡ false
+outside true cut h e = absurd (let f = h refl in cc)
+outside false cut h e = refl
+
+-- the items end as they do where this is due, once a call has added its own
+pub stepped_place : (due : Due) (in_hand : Option InHand) (cue : Cue) (seen : ℕ) (old new : Kept) → MayStep due cue
+    → pending due ≡ held in_hand → Adds (items_of in_hand cue seen) old new
+    → (is_inside in_hand cue ≡ true → new.is_cut ≡ true) → IsPlaced due old → IsPlaced (due_once cue seen) new
+stepped_place due in_hand cue seen old new m h adds inside placed uncut =
+    let (o, items) = adds.whole uncut in
+    ap (λ l. is_at (due_once cue seen) (place_of l)) items
+    ∙ items_placed due in_hand cue seen old.items m h (outside (is_inside in_hand cue) new.is_cut inside uncut)
+    (placed o)
+
+-- a transaction for each request, but one that isn't whole yet
+pub stepped_count : (due : Due) (in_hand : Option InHand) (cue : Cue) (seen : ℕ) (old new : Kept) (n : ℕ)
+    → MayStep due cue → pending due ≡ held in_hand → Adds (items_of in_hand cue seen) old new
+    → (is_inside in_hand cue ≡ true → new.is_cut ≡ true)
+    → (old.is_cut ≡ false → transactions old.items + pending due ≡ n) →
+    new.is_cut ≡ false → transactions new.items + pending (due_once cue seen) ≡ n + bit (is_ask cue)
+stepped_count due in_hand cue seen old new n m h adds inside counted uncut =
+    let (o, items) = adds.whole uncut in
+    let before = counted o in
+    let now = ap transactions items ∙ count_added old.items (items_of in_hand cue seen) in
+    let one = items_counted due in_hand cue seen m h (outside (is_inside in_hand cue) new.is_cut inside uncut) in
+    omega (arith, before, now, one)
+
+-- no more transactions than requests, cut off or not
+pub stepped_most : (due : Due) (cue : Cue) (more : List Item) (old new : Kept) (n : ℕ) → Adds more old new
+    → transactions old.items ≤ n → (new.is_cut ≡ false → transactions new.items + pending due ≡ n + bit (is_ask cue)) →
+    transactions new.items ≤ n + bit (is_ask cue)
+stepped_most due cue more old new n adds most counted = by new.is_cut refl
+  where
+    by : (cut : Bool) → new.is_cut ≡ cut → transactions new.items ≤ n + bit (is_ask cue)
+    by false e = let all = counted e in omega (arith, all)
+    by true e = let same = ap transactions (adds.cut e).0 in omega (arith, most, same)
+
+-- a step of the wire is one with a number of requests of the recorder's own
+pub step_counted : (cue : Cue) (seen : ℕ) (calls now : List Call) (s t : Port)
+    → now ≡ record { cue = cue; seen = seen } ∷ calls → IsStep cue seen s t →
+    IsStep cue seen (with_asked (asks_in calls) s) (with_asked (asks_in now) t)
+step_counted cue seen calls now s t e h =
+    subst (λ l. IsStep cue seen (with_asked (asks_in calls) s) (with_asked (asks_in l) t)) (sym e)
+    (counted_apart (asks_in calls) cue seen s t h)
 
 -- ---- the last item
 
@@ -348,11 +243,8 @@ ends_silent place [] q seen = refl
 ends_silent place (item ∷ front) q seen = ends_silent (place_after item) front q seen
 
 silent_due : (due : Due) (place : Place) → is_at due place ≡ true → place ≡ Silent → due ≡ Lost
-silent_due due place e f = elim (at_due due place e) [
-  | inl p ↦ absurd cc
-  | inr (inl p) ↦ absurd cc
-  | inr (inr (p, d)) ↦ d
-]
+silent_due Lost place e f = refl
+silent_due due place e f = let none : is_at due place ≡ false = ap (is_at due) f in absurd cc
 
 lost_silent : (place : Place) → is_at Lost place ≡ true → place ≡ Silent
 lost_silent Silent e = refl
@@ -366,11 +258,10 @@ unacknowledged : (items : List Item) → is_chained Clear items ≡ true → pla
 unacknowledged [] c e = absurd cc
 unacknowledged (item ∷ items) c e = silent_last Clear item items c e
 
-pub ends_lost : (due : Due) (kept : Kept) → is_chained Clear kept.items ≡ true → is_placed due kept ≡ true
-    → kept.is_cut ≡ false → EndsUnacknowledged kept.items ↔ (due ≡ Lost)
-ends_lost due kept c placed uncut =
-    let e = when_open kept.is_cut (is_at due (place_of kept.items)) placed uncut in (
-      λ (front, q, seen, is). silent_due due (place_of kept.items) e (ap place_of is ∙ ends_silent Clear front q seen),
-      λ d. unacknowledged kept.items c
-          (lost_silent (place_of kept.items) (subst (λ x. is_at x (place_of kept.items) ≡ true) d e)),
-    )
+-- the wire is lost exactly where the last item is a transaction without an acknowledgement
+pub ends_lost : (due : Due) (items : List Item) → is_chained Clear items ≡ true → is_at due (place_of items) ≡ true
+    → EndsUnacknowledged items ↔ (due ≡ Lost)
+ends_lost due items c e = (
+  λ (front, q, seen, is). silent_due due (place_of items) e (ap place_of is ∙ ends_silent Clear front q seen),
+  λ d. unacknowledged items c (lost_silent (place_of items) (subst (λ x. is_at x (place_of items) ≡ true) d e)),
+)

@@ -1,7 +1,6 @@
 -- Lists of items as a host sends them: which item may follow which. That a recording is such a list, and the division
 -- into items, is this project's choice.
-use Rattle.std.specs.Prelude.{ℕ, ◌^◌, nat_le, nat_lt, ◌==◌, ◌&&◌, ◌||◌, not, Bool, true, false, List, [], ◌∷◌}
-use Rattle.std.specs.Prelude.{if◌then◌else◌}
+use Rattle.std.specs.Prelude.{ℕ, ◌^◌, nat_le, nat_lt, ◌==◌, ◌&&◌, ◌||◌, Bool, true, false, List, [], ◌∷◌}
 use Rattle.swd_bits.specs.declared.tx.TxEnd.{TxEnd}
 use Rattle.swd_bits.specs.declared.tx.TxEnd.TheVariants.{Moved, Wait, Fault, NoAck}
 use Rattle.swd_trace.specs.declared.item.Item.{Item}
@@ -93,20 +92,7 @@ abbrev pub is_chained : Place → List Item → Bool
 is_chained place [] = true
 is_chained place (item ∷ items) = may_follow place item && is_chained (place_after item) items
 
--- ones may stand there, where there are any, and the switch behind them
-abbrev pub may_lead : Place → ℕ → Bool → Bool
-may_lead place ones switch = if ones == 0 then not switch else may_reset place && nat_le 50 ones
-
 -- zeros may stand there, and join others
 abbrev pub may_lower : Place → ℕ → Bool
 may_lower Low n = true
 may_lower place n = may_idle place n
-
--- nothing was left open: a line reset without its zeros, or a switch without its ones; and a transaction that was not
--- acknowledged is followed by ones
-abbrev pub is_between : Place → ℕ → Bool
-is_between Clear ones = true
-is_between Low ones = true
-is_between High ones = false
-is_between Switched ones = false
-is_between Silent ones = not (ones == 0)

@@ -1,6 +1,22 @@
--- What a recording keeps, and the idle cycles at its end.
-use Rattle.swd_recorder.specs.declared.recording.Recording.{Recording}
-use Rattle.swd_recorder.specs.Recordings.{Kept}
+-- What is kept of the items of a wire's calls.
+use Rattle.std.specs.Prelude.{◌≡◌, ◌≢◌, Bool, true, false, List, []}
+use Rattle.swd_trace.specs.declared.item.Item.{Item}
+use Rattle.swd_recorder.specs.declared.items.Items.{Items}
+use Rattle.swd_recorder.specs.Items.{with_items}
 
-abbrev pub kept_of : {A : Type 0} → Recording A → Kept
-kept_of recording = record { items = recording.items.items; in_hand = recording.in_hand; is_cut = recording.is_cut }
+-- the items, and whether they were cut off
+pub record Kept : Type 0 where
+  pub items : List Item
+  pub is_cut : Bool
+
+-- nothing yet
+abbrev pub nothing_kept : Kept
+nothing_kept = record { items = []; is_cut = false }
+
+abbrev pub kept_of : {A : Type 0} → Items A → Kept
+kept_of items = record { items = items.list.items; is_cut = items.is_cut }
+
+-- These items are added, all or none; with none of them the items are cut off. What was cut before stays as it is.
+pub record Adds (more : List Item) (old new : Kept) : Type 0 where
+  pub whole : new.is_cut ≡ false → (old.is_cut ≡ false) × (new.items ≡ with_items old.items more)
+  pub cut : new.is_cut ≡ true → (new.items ≡ old.items) × (old.is_cut ≡ false → more ≢ [])

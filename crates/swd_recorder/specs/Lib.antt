@@ -1,5 +1,5 @@
 pub mod Chains
-pub mod Recordings
-pub mod Steps
+pub mod Items
 pub mod Kept
+pub mod Steps
 pub mod Recorders

@@ -1,39 +1,32 @@
 -- How a recording keeps step with the wire that it is of.
-use Rattle.std.specs.Prelude.{ℕ, suc, ◌≡◌, ◌+◌, ◌==◌, nat_le, ◌&&◌, ◌||◌, not, Bool, true, false, List, [], ◌∷◌, ◌++◌}
+use Rattle.std.specs.Prelude.{ℕ, suc, ◌≡◌, ◌+◌, Bool, true, false, List, [], ◌∷◌, ◌++◌}
 use Rattle.std.specs.Prelude.{Option, Some, None}
-use Rattle.swd_bits.specs.declared.ack.Ack.{Ack}
-use Rattle.swd_bits.specs.declared.ack.Ack.TheVariants.{Ok as AckOk, Wait as AckWait, Fault as AckFault}
+use Rattle.swd_bits.specs.Bits.{bit}
 use Rattle.swd_bits.specs.declared.request.Request.{Request}
 use Rattle.swd_bits.specs.declared.tx.TxEnd.TheVariants.{NoAck}
 use Rattle.swd_trace.specs.declared.item.Item.{Item}
 use Rattle.swd_trace.specs.declared.item.Item.TheVariants.{Reset, Switch, Idle, Tx, Junk, Cut}
+use Rattle.swd_port.specs.declared.call.Call.{Call}
+use Rattle.swd_port.specs.declared.cue.Cue.{Cue}
+use Rattle.swd_port.specs.declared.cue.Cue.TheVariants.{Lead}
+use Rattle.swd_port.specs.Leading.{MayLead}
+use Rattle.swd_port.specs.Stories.{MayStep, is_ask}
 use Rattle.swd_port.specs.declared.wire.Due.{Due}
 use Rattle.swd_port.specs.declared.wire.Due.TheVariants.{Nothing, Take, Give, Pass, Lost}
-use Rattle.swd_recorder.specs.declared.recording.InHand.{InHand}
-use Rattle.swd_recorder.specs.Chains.{Place, Clear, Low, Silent, place_of}
-use Rattle.swd_recorder.specs.Recordings.{Kept}
+use Rattle.swd_recorder.specs.declared.in_hand.InHand.{InHand}
+use Rattle.swd_recorder.specs.Chains.{Place, Silent, place_of, may_ask}
+use Rattle.swd_recorder.specs.Kept.{Kept}
 
-abbrev pub is_ok : Ack → Bool
-is_ok AckOk = true
-is_ok AckWait = false
-is_ok AckFault = false
-
--- a transaction is in hand exactly where the rest of one is due, and it is the one that is due
-abbrev pub is_held : Due → Option InHand → Bool
-is_held Nothing None = true
-is_held Lost None = true
-is_held Take (Some asked) = is_ok asked.ack
-is_held Give (Some asked) = is_ok asked.ack
-is_held Pass (Some asked) = not (is_ok asked.ack)
-is_held due in_hand = false
+-- how many of the calls are requests
+abbrev pub asks_in : List Call → ℕ
+asks_in [] = 0
+asks_in (call ∷ calls) = asks_in calls + bit (is_ask call.cue)
 
 -- the last item is a transaction without an acknowledgement exactly where the wire is lost
 abbrev pub is_at : Due → Place → Bool
 is_at Lost Silent = true
 is_at Lost place = false
-is_at due Clear = true
-is_at due Low = true
-is_at due place = false
+is_at due place = may_ask place
 
 -- how many transactions there are
 abbrev pub transactions : List Item → ℕ
@@ -53,19 +46,27 @@ pending Give = 1
 pending Pass = 1
 pending Lost = 0
 
--- The recording is of the wire, at which these are due and of which so many requests were sent. What was cut off may
--- lack items, and has no more transactions than were begun.
-abbrev pub is_placed : Due → Kept → Bool
-is_placed due kept = kept.is_cut || is_at due (place_of kept.items)
+-- while nothing was cut off, the items end as they do where this is due
+abbrev pub IsPlaced : Due → Kept → Type 0
+IsPlaced due kept = kept.is_cut ≡ false → is_at due (place_of kept.items) ≡ true
 
-abbrev pub is_counted : Due → Kept → ℕ → Bool
-is_counted due kept asked =
-    nat_le (transactions kept.items) asked && (kept.is_cut || (transactions kept.items + pending due == asked))
+-- a transaction is in hand exactly where the rest of one is due
+abbrev pub held : Option InHand → ℕ
+held None = 0
+held (Some asked) = 1
 
--- WAIT or FAULT was seen
-abbrev pub is_refused : Option InHand → Bool
-is_refused None = false
-is_refused (Some asked) = not (is_ok asked.ack)
+-- a line reset inside a transaction
+abbrev pub is_inside : Option InHand → Cue → Bool
+is_inside (Some asked) (Lead ones undriven switch zeros) = true
+is_inside in_hand cue = false
+
+-- the call may be made of a wire that these items are of, while this transaction is in hand
+abbrev pub MayAdd : Option InHand → Cue → Kept → Type 0
+MayAdd in_hand cue kept = (due : Due) × MayStep due cue × (pending due ≡ held in_hand) × IsPlaced due kept
+
+-- so many ones and zeros may be sent on it, outside of a transaction
+abbrev pub MayAddLead : ℕ → Bool → ℕ → Kept → Type 0
+MayAddLead ones switch zeros kept = (due : Due) × MayLead due ones switch zeros × IsPlaced due kept
 
 -- the last item is a transaction without an acknowledgement
 abbrev pub EndsUnacknowledged : List Item → Type 0

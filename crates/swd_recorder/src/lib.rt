@@ -2,6 +2,8 @@
 //! a trace.
 #![tactic(auto)]
 
+mod in_hand;
+mod items;
 mod recorder;
 mod recording;
 

@@ -7,7 +7,8 @@ use Rattle.std.specs.Prelude.{◌==◌, replicate}
 use Rattle.std.proofs.Math.Seq.{drop-cons, drop-length}
 use Rattle.std.proofs.Math.Nat.{pow-suc}
 use Rattle.swd_bits.specs.Bits.{low_bits, bit}
-use Rattle.swd_remote.specs.Characters.{levels, level_character, driven_clock, joined}
+use Rattle.swd_sequences.specs.Clocks.{levels, driven_clock, joined}
+use Rattle.swd_sequences.specs.Alphabet.{level_character}
 
 -- twice a number and a bit more
 twice : (number : ℕ) (b : Bool) → ((number * 2 + bit b) / 2 ≡ number) × (((number * 2 + bit b) % 2 == 1) ≡ b)

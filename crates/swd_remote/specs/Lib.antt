@@ -1,5 +1,4 @@
 pub mod Packets
-pub mod Characters
 pub mod Ways
 pub mod Remotes
 pub mod Runs

@@ -2,17 +2,20 @@
 use Rattle.std.specs.Prelude.{ℕ, ◌≡◌, ◌≢◌, ◌+◌, ◌<◌, ◌^◌, nat_le, Bool, true, false, List, [], ◌∷◌, ◌++◌, length}
 use Rattle.std.specs.Prelude.{Option, Some, None, Result, Ok, Err, slice_index, IsErr}
 use Rattle.std.specs.Io.KnownBytes.{Appends, Consumes, IsAtEnd}
-use Rattle.swd_port.specs.declared.outside.Gone.{Gone}
-use Rattle.swd_remote.specs.declared.probe.Stretch.{Stretch}
+use Rattle.swd_sequences.specs.declared.character.Character.TheVariants.{Quits}
+use Rattle.swd_sequences.specs.Alphabet.{byte_of, level_character}
+use Rattle.swd_port.specs.declared.outside.Disconnected.{Disconnected}
+use Rattle.swd_sequences.specs.declared.sequence.Sequence.{Sequence}
 use Rattle.swd_remote.specs.declared.remote.Fault.{Fault}
 use Rattle.swd_remote.specs.declared.remote.Fault.TheVariants.{Ended, NoLevel, Read, Write, TooMany}
 use Rattle.swd_remote.specs.declared.remote.Remote.{Remote}
-use Rattle.swd_remote.specs.Characters.{characters, is_driven, levels, looks}
+use Rattle.swd_sequences.specs.Clocks.{characters, is_driven, levels, looks}
 use Rattle.swd_remote.specs.Ways.{IsOnItsWay, Lengthens, Delivers, has_broken}
 
 -- this byte is among those that came back, and is no level
 abbrev pub IsNoLevel : ℕ → List ℕ → Type 0
-IsNoLevel byte text = (byte ≢ 48) × (byte ≢ 49) × (place : ℕ) × (place < length text) × (slice_index text place ≡ byte)
+IsNoLevel byte text = ((level : Bool) → byte ≢ level_character level) × (place : ℕ) × (place < length text)
+    × (slice_index text place ≡ byte)
 
 -- fewer bytes were read than were wanted: the text ended there, or the reader failed
 abbrev pub Stops : Fault → ℕ → Option (List ℕ) → Option (List ℕ) → Type 0
@@ -27,22 +30,24 @@ ReadsLevels count (Err (NoLevel byte)) old new =
     (text : List ℕ) × (length text ≡ count) × Consumes old new text × IsNoLevel byte text
 ReadsLevels count (Err fault) old new = Stops fault count old new
 
--- A stretch is queued: exactly its characters more are on their way.
-pub record Queued {R W : Type 0} (contents : W → Option (List ℕ)) (stretch : Stretch) (s t : Remote R W) : Type 0 where
-  pub out : Lengthens contents (characters s.drives stretch) s.outgoing t.outgoing
+-- A sequence is queued: exactly its characters more are on their way.
+pub record Queued {R W : Type 0} (contents : W → Option (List ℕ)) (sequence : Sequence) (s t : Remote R W) :
+    Type 0 where
+  pub out : Lengthens contents (characters s.drives sequence) s.outgoing t.outgoing
   pub reader : t.reader ≡ s.reader
-  pub drives : t.drives ≡ is_driven stretch
-  pub asked : t.asked ≡ s.asked + looks stretch
+  pub drives : t.drives ≡ is_driven sequence
+  pub asked : t.asked ≡ s.asked + looks sequence
   pub fault : t.fault ≡ None
 
-abbrev pub QueuesWithin : {R W : Type 0} → Bool → (W → Option (List ℕ)) → Stretch → Remote R W → Remote R W → Type 0
-QueuesWithin true contents stretch s t = Queued contents stretch s t
-QueuesWithin false contents stretch s t = t ≡ record s { fault = Some TooMany }
+abbrev pub QueuesWithin : {R W : Type 0} → Bool → (W → Option (List ℕ)) → Sequence → Remote R W → Remote R W → Type 0
+QueuesWithin true contents sequence s t = Queued contents sequence s t
+QueuesWithin false contents sequence s t = t ≡ record s { fault = Some TooMany }
 
 -- after a fault nothing is sent, and 64 levels at most are asked for at once
-abbrev pub QueuesAt : {R W : Type 0} → Option Fault → (W → Option (List ℕ)) → Stretch → Remote R W → Remote R W → Type 0
-QueuesAt (Some fault) contents stretch s t = t ≡ s
-QueuesAt None contents stretch s t = QueuesWithin (nat_le (s.asked + looks stretch) 64) contents stretch s t
+abbrev pub QueuesAt : {R W : Type 0} → Option Fault → (W → Option (List ℕ)) → Sequence → Remote R W → Remote R W
+    → Type 0
+QueuesAt (Some fault) contents sequence s t = t ≡ s
+QueuesAt None contents sequence s t = QueuesWithin (nat_le (s.asked + looks sequence) 64) contents sequence s t
 
 -- All that was queued went out, and exactly as many bytes were read as levels were asked for.
 pub record Answered {R W : Type 0} (remaining : R → Option (List ℕ)) (contents : W → Option (List ℕ)) (number : ℕ)
@@ -62,18 +67,18 @@ FailsAs (Some Write) remaining contents s t =
 FailsAs (Some fault) remaining contents s t =
     Delivers contents s.outgoing t.outgoing × ReadsLevels s.asked (Err fault) (remaining s.reader) (remaining t.reader)
 
-abbrev pub ExchangesAt : {R W : Type 0} → Option Fault → (R → Option (List ℕ)) → (W → Option (List ℕ)) → Result ℕ Gone
-    → Remote R W → Remote R W → Type 0
+abbrev pub ExchangesAt : {R W : Type 0} → Option Fault → (R → Option (List ℕ)) → (W → Option (List ℕ))
+    → Result ℕ Disconnected → Remote R W → Remote R W → Type 0
 ExchangesAt (Some fault) remaining contents result s t = IsErr result × (t ≡ s)
 ExchangesAt None remaining contents (Ok number) s t = Answered remaining contents number s t
 ExchangesAt None remaining contents (Err gone) s t = FailsAs t.fault remaining contents s t
 
 -- The host is done: all that was queued and Q went out.
-abbrev pub QuitsAt : {R W : Type 0} → Option Fault → (W → Option (List ℕ)) → Result (Unit {0}) Gone → Remote R W
+abbrev pub QuitsAt : {R W : Type 0} → Option Fault → (W → Option (List ℕ)) → Result (Unit {0}) Disconnected → Remote R W
     → Remote R W → Type 0
 QuitsAt (Some fault) contents result s t = IsErr result × (t ≡ s)
 QuitsAt None contents (Ok u) s t =
     (t.reader ≡ s.reader) × ((start : Option (List ℕ)) (text : List ℕ) → IsOnItsWay contents start s.outgoing text
-    → Appends start (contents t.outgoing.writer) (text ++ 81 ∷ []))
+    → Appends start (contents t.outgoing.writer) (text ++ byte_of Quits ∷ []))
 QuitsAt None contents (Err gone) s t =
-    (t.reader ≡ s.reader) × (t.fault ≡ Some Write) × Lengthens contents (81 ∷ []) s.outgoing t.outgoing
+    (t.reader ≡ s.reader) × (t.fault ≡ Some Write) × Lengthens contents (byte_of Quits ∷ []) s.outgoing t.outgoing

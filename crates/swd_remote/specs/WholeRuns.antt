@@ -4,7 +4,7 @@ use Rattle.swd_port.specs.declared.access.Access.{Access}
 use Rattle.swd_port.specs.declared.call.Call.{Call}
 use Rattle.swd_port.specs.Port.{Port}
 use Rattle.swd_port.specs.Stories.{due_by, port_at, FitsStory}
-use Rattle.swd_port.specs.Transports.{Made, AreMadeOf}
+use Rattle.swd_port.specs.Transports.{Attempt, AreMadeOf}
 use Rattle.swd_host.specs.declared.outcome.Refused.{Refused}
 use Rattle.swd_host.specs.declared.outcome.Report.{Report}
 use Rattle.swd_host.specs.Reports.{Closes, RunsOver, told_of}
@@ -16,7 +16,7 @@ use Rattle.swd_remote.specs.Kept.{HangsUp}
 pub record GoesOver {R W : Type 0} (remaining : R → Option (List ℕ)) (contents : W → Option (List ℕ))
     (sent left : Option (List ℕ))
     (line : Line R W) (calls : List Call) : Type 0 where
-  pub made : List Made
+  pub made : List Attempt
   pub gone : Bool
   pub fetched : ℕ
   pub of : AreMadeOf calls made gone fetched

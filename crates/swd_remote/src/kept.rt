@@ -1,12 +1,12 @@
 //! A transport over remote_bitbang characters that tells of its calls, so that a whole run can be told of.
 ghost use Rattle.std.specs.Prelude.{◌≡◌, ℕ, List, [], Option, None};
-ghost use Rattle.swd_port.specs.Transports.{Made};
+ghost use Rattle.swd_port.specs.Transports.{Attempt};
 
 use crate::probe_transport::ProbeTransport;
 use crate::remote::{Fault, Remote};
 use std::io::{Read, Write};
 use std::marker::{Brand, PhantomData};
-use swd_port::{Gone, Transport};
+use swd_port::{Cue, Disconnected, Transport};
 
 /// What a line begins with: what its writer holds, and what its reader has. It is for contracts alone; a caller
 /// passes [`Brand`], and its proof says what these are.
@@ -72,7 +72,7 @@ impl<R: Read, W: Write, B: Beginning> Kept<R, W, B> {
 
     /// Says that the host is done, and hands back the line.
     pub fn hang_up(self) -> Line<R, W>
-        ensures { (calls : List Made) → ∥ IsTold R.remaining W.contents B.sent B.left calls self.transport ∥₁
+        ensures { (calls : List Attempt) → ∥ IsTold R.remaining W.contents B.sent B.left calls self.transport ∥₁
             → ∥ HangsUp R.remaining W.contents B.sent B.left calls result ∥₁ }
     {
         let Kept { transport, .. } = self;
@@ -93,23 +93,7 @@ impl<R: Read, W: Write, B: Beginning> Transport for Kept<R, W, B> {
 
     ghost tells = { λ calls kept. ∥ IsTold R.remaining W.contents B.sent B.left calls kept.transport ∥₁ };
 
-    fn lead(&mut self, ones: u32, switch: bool, zeros: u32) -> Result<(), Gone> {
-        self.transport.lead(ones, switch, zeros)
-    }
-
-    fn ask(&mut self, request: u8) -> Result<u8, Gone> {
-        self.transport.ask(request)
-    }
-
-    fn take(&mut self) -> Result<u64, Gone> {
-        self.transport.take()
-    }
-
-    fn give(&mut self, bits: u64) -> Result<(), Gone> {
-        self.transport.give(bits)
-    }
-
-    fn pass(&mut self) -> Result<(), Gone> {
-        self.transport.pass()
+    fn step(&mut self, cue: Cue) -> Result<u64, Disconnected> {
+        self.transport.step(cue)
     }
 }

@@ -1,11 +1,12 @@
 //! The levels that come back.
-ghost use Rattle.std.specs.Prelude.{◌≡◌, ◌≢◌, ◌<◌, ◌≤◌, ◌^◌, length, OnOk, IfOk, IfErr, IfSome, IfNone};
+ghost use Rattle.std.specs.Prelude.{◌≡◌, ◌<◌, ◌≤◌, ◌^◌, length, OnOk, IfOk, IfErr};
 ghost use Rattle.std.specs.Io.KnownBytes.{Consumes};
-ghost use Rattle.swd_remote.specs.Characters.{levels, level_character};
+ghost use Rattle.swd_sequences.specs.Clocks.{levels};
 ghost use Rattle.swd_remote.specs.Remotes.{ReadsLevels, IsNoLevel, Stops};
 
 use crate::remote::Fault;
 use std::io::Read;
+use swd_sequences::level_of;
 
 /// How many levels are read at once, at most.
 pub(crate) const MOST: usize = 64;
@@ -29,18 +30,6 @@ fn fill<R: Read>(reader: &mut R, buffer: &mut [u8]) -> Result<(), Fault>
         }
     }
     Ok(())
-}
-
-// The level that this byte tells.
-fn level_of(byte: u8) -> Option<bool>
-    ensures level { IfSome result (λ level. byte ≡ level_character level) }
-    ensures none { IfNone result ((byte ≢ 48) × (byte ≢ 49)) }
-{
-    match byte {
-        b'0' => Some(false),
-        b'1' => Some(true),
-        _ => None,
-    }
 }
 
 // The number of these levels, of which the first is the least significant.

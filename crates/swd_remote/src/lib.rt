@@ -1,4 +1,4 @@
-//! A way to a target by stretches of clocks, and the host over it, as over OpenOCD's remote_bitbang characters for
+//! A way to a target by sequences of clocks, and the host over it, as over OpenOCD's remote_bitbang characters for
 //! serial wire.
 #![tactic(auto)]
 
@@ -12,7 +12,8 @@ mod remote;
 mod whole_run;
 
 pub use kept::{Beginning, Kept, Line};
-pub use probe::{Probe, Stretch};
+pub use probe::Probe;
 pub use probe_transport::ProbeTransport;
 pub use remote::{Fault, Remote};
+pub use swd_sequences::Sequence;
 pub use whole_run::run_over_line;

@@ -2,14 +2,16 @@
 ghost use Rattle.std.specs.Prelude.{◌≡◌, ◌<◌, ◌≤◌, ℕ, List, Option, None, true, length, map, replicate};
 ghost use Rattle.std.specs.Io.KnownBytes.{Appends};
 ghost use Rattle.swd_bits.specs.Bits.{low_bits};
-ghost use Rattle.swd_remote.specs.Characters.{characters, clocks, turned, driven_clock, joined, looks, is_driven};
+ghost use Rattle.swd_sequences.specs.Clocks.{characters, clocks, turned, driven_clock, seen_clock, joined};
+ghost use Rattle.swd_sequences.specs.Clocks.{looks, is_driven};
 ghost use Rattle.swd_remote.specs.Ways.{IsOnItsWay, Lengthens};
 
 use crate::levels::{MOST, read_levels};
 use crate::outgoing::Outgoing;
-use crate::probe::{Probe, Stretch};
+use crate::probe::Probe;
 use std::io::{Read, Write};
-use swd_port::Gone;
+use swd_port::Disconnected;
+use swd_sequences::{Character, Sequence};
 
 /// Why the other end is gone.
 #[derive(Clone, Copy, Debug, PartialEq, Eq)]
@@ -76,19 +78,19 @@ impl<R: Read, W: Write> Remote<R, W> {
     ///
     /// # Errors
     ///
-    /// `Gone` where the other end was gone before, or the writer fails now.
-    pub fn quit(&mut self) -> Result<(), Gone>
+    /// `Disconnected` where the other end was gone before, or the writer fails now.
+    pub fn quit(&mut self) -> Result<(), Disconnected>
         ensures { QuitsAt self.old.fault W.contents result self.old self.new }
     {
         if self.fault.is_some() {
-            return Err(Gone);
+            return Err(Disconnected);
         }
-        self.outgoing.put(b"Q");
+        self.outgoing.put(&[Character::Quits.byte()]);
         if self.outgoing.flush() {
             Ok(())
         } else {
             self.fault = Some(Fault::Write);
-            Err(Gone)
+            Err(Disconnected)
         }
     }
 
@@ -117,31 +119,31 @@ impl<R: Read, W: Write> Remote<R, W> {
 impl<R: Read, W: Write> Probe for Remote<R, W> {
     ghost use Rattle.swd_remote.specs.Remotes.{QueuesAt, ExchangesAt};
 
-    ghost queues = { λ stretch s t. QueuesAt s.fault W.contents stretch s t };
+    ghost queues = { λ sequence s t. QueuesAt s.fault W.contents sequence s t };
 
     ghost exchanges = { λ result s t. ExchangesAt s.fault R.remaining W.contents result s t };
 
-    fn queue(&mut self, stretch: Stretch) {
+    fn queue(&mut self, sequence: Sequence) {
         if self.fault.is_some() {
             return;
         }
-        let asked = self.asked + looks(stretch);
+        let asked = self.asked + looks(sequence);
         if asked > MOST {
             self.fault = Some(Fault::TooMany);
             return;
         }
-        put_stretch(&mut self.outgoing, self.drives, stretch);
+        put_sequence(&mut self.outgoing, self.drives, sequence);
         self.asked = asked;
-        self.drives = is_driven(stretch);
+        self.drives = is_driven(sequence);
     }
 
-    fn exchange(&mut self) -> Result<u64, Gone> {
+    fn exchange(&mut self) -> Result<u64, Disconnected> {
         if self.fault.is_some() {
-            return Err(Gone);
+            return Err(Disconnected);
         }
         if !self.outgoing.flush() {
             self.fault = Some(Fault::Write);
-            return Err(Gone);
+            return Err(Disconnected);
         }
         match read_levels(&mut self.reader, self.asked) {
             Ok(number) => {
@@ -150,67 +152,82 @@ impl<R: Read, W: Write> Probe for Remote<R, W> {
             }
             Err(fault) => {
                 self.fault = Some(fault);
-                Err(Gone)
+                Err(Disconnected)
             }
         }
     }
 }
 
-// How many levels a stretch asks for.
-fn looks(stretch: Stretch) -> usize
-    ensures value { result ≡ looks stretch }
+// How many levels a sequence asks for.
+fn looks(sequence: Sequence) -> usize
+    ensures value { result ≡ looks sequence }
     ensures few { result < 256 }
 {
-    match stretch {
-        Stretch::Sample { count } => usize::from(count),
+    match sequence {
+        Sequence::Sample { count } => usize::from(count),
         _ => 0,
     }
 }
 
 // Whether the host drives.
-fn is_driven(stretch: Stretch) -> bool
-    ensures { result ≡ is_driven stretch }
+fn is_driven(sequence: Sequence) -> bool
+    ensures { result ≡ is_driven sequence }
 {
-    matches!(&stretch, Stretch::Drive { .. } | Stretch::Hold { .. })
+    matches!(&sequence, Sequence::Drive { .. } | Sequence::Hold { .. })
 }
 
-// The characters of a stretch, after a time in which the host drove or not.
-fn put_stretch<W: Write>(outgoing: &mut Outgoing<W>, drives: bool, stretch: Stretch)
-    ensures { Lengthens W.contents (characters drives stretch) outgoing.old outgoing.new }
+// The characters of a sequence, after a time in which the host drove or not.
+fn put_sequence<W: Write>(outgoing: &mut Outgoing<W>, drives: bool, sequence: Sequence)
+    ensures { Lengthens W.contents (characters drives sequence) outgoing.old outgoing.new }
 {
-    put_turn(outgoing, drives, is_driven(stretch));
-    put_clocks(outgoing, stretch);
+    put_turn(outgoing, drives, is_driven(sequence));
+    put_clocks(outgoing, sequence);
 }
 
 // The host drives from here on, or not.
 fn put_turn<W: Write>(outgoing: &mut Outgoing<W>, drives: bool, wanted: bool)
     ensures { Lengthens W.contents (turned drives wanted) outgoing.old outgoing.new }
 {
-    let turn: &[u8] = match (drives, wanted) {
-        (false, true) => b"O",
-        (true, false) => b"o",
-        _ => b"",
-    };
-    outgoing.put(turn);
-}
-
-// The clocks of a stretch.
-fn put_clocks<W: Write>(outgoing: &mut Outgoing<W>, stretch: Stretch)
-    ensures { Lengthens W.contents (clocks stretch) outgoing.old outgoing.new }
-{
-    match stretch {
-        Stretch::Drive { bits, count } => put_bits(outgoing, bits, count),
-        Stretch::Hold { level, count } => put_times(outgoing, driven_clock(level), count),
-        Stretch::Release { count } => put_times(outgoing, b"df", count),
-        Stretch::Sample { count } => put_times(outgoing, b"dcf", u32::from(count)),
+    if drives == wanted {
+        outgoing.put(b"");
+    } else {
+        outgoing.put(&[Character::Drives(wanted).byte()]);
     }
 }
 
-// A clock in which the host drives a bit.
-fn driven_clock(bit: bool) -> &'static [u8]
-    ensures { result.now ≡ driven_clock bit }
+// The clocks of a sequence.
+fn put_clocks<W: Write>(outgoing: &mut Outgoing<W>, sequence: Sequence)
+    ensures { Lengthens W.contents (clocks sequence) outgoing.old outgoing.new }
 {
-    if bit { b"eg" } else { b"df" }
+    match sequence {
+        Sequence::Drive { bits, count } => put_bits(outgoing, bits, count),
+        Sequence::Hold { level, count } => put_times(outgoing, &driven_clock(level), count),
+        Sequence::Release { count } => put_times(outgoing, &driven_clock(false), count),
+        Sequence::Sample { count } => put_times(outgoing, &seen_clock(), u32::from(count)),
+    }
+}
+
+// A clock in which the host drives a bit, or in which nobody looks.
+#[inline(always)]
+fn driven_clock(bit: bool) -> [u8; 2]
+    ensures { result ≡ driven_clock bit }
+{
+    [
+        Character::Moves(false, bit).byte(),
+        Character::Moves(true, bit).byte(),
+    ]
+}
+
+// A clock whose level is asked for.
+#[inline(always)]
+fn seen_clock() -> [u8; 3]
+    ensures { result ≡ seen_clock }
+{
+    [
+        Character::Moves(false, false).byte(),
+        Character::Looks.byte(),
+        Character::Moves(true, false).byte(),
+    ]
 }
 
 // Clocks in which the host drives the low bits of a number.
@@ -219,7 +236,7 @@ fn put_bits<W: Write>(outgoing: &mut Outgoing<W>, bits: u64, count: u8)
 {
     let mut rest = bits;
     for place in 0..count {
-        outgoing.put(driven_clock(rest % 2 == 1));
+        outgoing.put(&driven_clock(rest % 2 == 1));
         rest /= 2;
     }
 }

@@ -1,3 +1,4 @@
+pub mod EngineLemmas
 pub mod ReportLemmas
 pub mod RunLemmas
 pub mod WentLemmas

@@ -1,6 +1,6 @@
 -- What a run over a simulated target says in terms of its plan.
-use Rattle.std.proofs.Common.{◌≡◌, ℕ, ◌+◌, ◌%◌, ◌≤◌, ◌∙◌, List, length, Option, Some, None, Result, Ok, Err, Bool}
-use Rattle.std.proofs.Common.{false, inl, inr, refl, sym, ap}
+use Rattle.std.proofs.Common.{◌≡◌, ℕ, ◌+◌, ◌%◌, ◌≤◌, ◌∙◌, List, length, Some, None, Result, Ok}
+use Rattle.std.proofs.Common.{refl, sym, ap}
 use Rattle.std.proofs.Common.{subst, arith}
 use Rattle.std.specs.Prelude.{◌↔◌, IfOk, IfSome, is_some, if◌then◌else◌}
 use Rattle.swd_trace.specs.declared.item.Item.{Item}
@@ -18,15 +18,10 @@ use Rattle.swd_port.specs.declared.access.Access.{Access}
 use Rattle.swd_port.specs.PlainMemory.{PlainMemory, reads}
 use Rattle.swd_script.specs.Laws.{IsBlock}
 use Rattle.swd_host.specs.Reports.{Closes, EndsAt, IsAtRest, RunFits, RunsWithin, Told}
-use Rattle.swd_script.specs.Scripts.{Listed, Meaning}
-use Rattle.swd_run.specs.Running.{IsExcused, RunsAs, RunsScript, RunsText, AreRead, Ran, most_begun}
-use Rattle.swd_run.specs.declared.closing.Finished.{Finished}
-use Rattle.swd_run.specs.Closing.{WritesBoth, WritesSession}
-use Rattle.swd_run.specs.Sessions.{Done, ended_of, requests_of}
-use Rattle.swd_text.specs.declared.fault.EngineFault.{EngineFault}
-use Rattle.swd_text.specs.declared.fault.EngineFault.TheVariants.{Script, Plan, Text, List as Listing, Read, Write}
-use Rattle.swd_text.specs.declared.fault.EngineFault.TheVariants.{Memory, TraceCut}
-use Rattle.swd_run.specs.Tracing.{AreItems, IsTraceOf, IsOfTrace, IsRecorded, RunsTraced}
+use Rattle.swd_script.specs.Scripts.{Listed}
+use Rattle.swd_run.specs.Running.{IsExcused, RunsAs}
+use Rattle.swd_run.specs.Sessions.{most_begun}
+use Rattle.swd_run.specs.Engine.{AreItems, IsTraceOf, IsOfTrace}
 
 pub excused : (ended : End) (tries : ℕ) (marks : List Mark) (s t : Port) →
     t.tally.disturbed ≤ disturbed_among marks → t.tally.lost ≤ lost_among marks → EndsAt ended tries s t
@@ -93,6 +88,12 @@ module _ {A : Type 0} (batch : Listed) (P : ℕ → List Access → Report A →
 
 -- ---- what a recorded run leaves
 
+-- how runs leave the wire that was recorded from its start
+pub record IsRecorded (requests : ℕ) (ended : End) (port : Port) : Type 0 where
+  pub asked : port.tally.asked ≡ requests
+  pub rests : pending port.link.due ≡ 0
+  pub lost : (port.link.due ≡ DueLost) ↔ (ended ≡ Lost)
+
 pub ends_at : (ended : End) (tries : ℕ) (s t : Port) → EndsAt ended tries s t
     → (pending t.link.due ≡ 0) × ((t.link.due ≡ DueLost) ↔ (ended ≡ Lost))
 ends_at All tries s t e = (ap pending e.0.due, (λ d. absurd (apart t.link.due e.0.due d), λ f. absurd cc))
@@ -127,49 +128,3 @@ of_trace requests ended port items recorded read most = record {
   read = read;
   counted = (let asked = recorded.asked in omega (arith, most, asked));
 }
-
--- ---- what was read, and what came of it
-
-abbrev pub ran_as : (tries resumes : ℕ) (script plan : Option (List ℕ)) (m : Meaning) (marks : List Mark)
-    (runs : List Done)
-    → AreRead script plan m marks → RunsScript tries resumes m marks runs → Ran tries resumes script plan
-ran_as tries resumes script plan m marks runs read are =
-    record { meaning = m; marks = marks; read = read; runs = runs; are = are }
-
--- what was written of the runs, as an answer to the texts
-pub text_runs : (tries resumes : ℕ) (script plan : Option (List ℕ)) (result : Result Finished EngineFault)
-    (ran : Ran tries resumes script plan)
-    (old new : Option (List ℕ)) → WritesSession ran.meaning.batches ran.runs result old new
-    → RunsText tries resumes result script plan old new
-text_runs tries resumes script plan (Ok finished) ran old new h = (ran, h.0, h.1)
-text_runs tries resumes script plan (Err (Write written)) ran old new h = (ran, h)
-text_runs tries resumes script plan (Err (Script fault)) ran old new h = absurd h
-text_runs tries resumes script plan (Err (Plan fault)) ran old new h = absurd h
-text_runs tries resumes script plan (Err Read) ran old new h = absurd h
-text_runs tries resumes script plan (Err Memory) ran old new h = absurd h
-text_runs tries resumes script plan (Err (Text fault)) ran old new h = absurd h
-text_runs tries resumes script plan (Err (Listing fault)) ran old new h = absurd h
-text_runs tries resumes script plan (Err TraceCut) ran old new h = absurd h
-
--- and of their trace
-pub traced_runs : (tries resumes : ℕ) (script plan : Option (List ℕ)) (result : Result Finished EngineFault)
-    (cut : Bool)
-    (ran : Ran tries resumes script plan) (items : List Item) (old new before after : Option (List ℕ))
-    → IsOfTrace (requests_of ran.runs) items
-    → (cut ≡ false → IsTraceOf (requests_of ran.runs) (ended_of ran.runs) items)
-    → WritesBoth cut ran.meaning.batches ran.runs result items old new before after
-    → RunsTraced tries resumes result script plan old new before after
-traced_runs tries resumes script plan (Ok finished) cut ran items old new before after of whole h =
-    (ran, h.1, h.2, items, whole h.0, h.3)
-traced_runs tries resumes script plan (Err (Write written)) cut ran items old new before after of whole (inl short) =
-    (ran, inl short)
-traced_runs tries resumes script plan (Err (Write written)) cut ran items old new before after of whole (inr short) =
-    (ran, inr (short.0, items, of, short.1))
-traced_runs tries resumes script plan (Err TraceCut) cut ran items old new before after of whole h =
-    (ran, h.1, items, of, h.2)
-traced_runs tries resumes script plan (Err (Script fault)) cut ran items old new before after of whole h = absurd h
-traced_runs tries resumes script plan (Err (Plan fault)) cut ran items old new before after of whole h = absurd h
-traced_runs tries resumes script plan (Err Read) cut ran items old new before after of whole h = absurd h
-traced_runs tries resumes script plan (Err Memory) cut ran items old new before after of whole h = absurd h
-traced_runs tries resumes script plan (Err (Text fault)) cut ran items old new before after of whole h = absurd h
-traced_runs tries resumes script plan (Err (Listing fault)) cut ran items old new before after of whole h = absurd h

@@ -15,11 +15,11 @@ use Rattle.swd_host.specs.declared.outcome.End.TheVariants.{All, Lost}
 use Rattle.swd_host.specs.Reports.{IsAtRest, due_at}
 use Rattle.swd_script.specs.Scripts.{Listed, Meaning}
 use Rattle.swd_run.specs.GoingOn.{in_all}
-use Rattle.swd_run.specs.Running.{RunsScript, Session, memory_of, most_begun}
+use Rattle.swd_run.specs.Running.{RunsScript, Session, memory_of}
+use Rattle.swd_run.specs.Sessions.{most_begun}
 use Rattle.swd_run.specs.Running.{none as no_run, then as then_run}
 use Rattle.swd_run.specs.Sessions.{Done, GoesOn, Runs, RunsAll, ended_of, none, then, requests_of}
-use Rattle.swd_run.specs.Tracing.{IsRecorded}
-use Rattle.swd_run.proofs.RunLemmas.{made_rests}
+use Rattle.swd_run.proofs.RunLemmas.{IsRecorded, made_rests}
 use Rattle.swd_run.proofs.WentLemmas.{asked, due_after, ending, law_before, plan_kept, rests, runs_on}
 
 -- ---- lists of runs
@@ -183,10 +183,3 @@ module _ {W : Type 0} (port : W → Port) (plan : W → List Mark) (lawful : W �
             (ap (λ x. x.target.memory) is_made) session;
         whole = all.whole;
       }
-
-  -- what they leave on a wire that was recorded from its start
-  pub script_recorded : IsRecorded (requests_of runs) (ended_of runs) (port t)
-  script_recorded =
-      recorded port plan lawful tries resumes s (made_rests (memory_of script) (port s) is_made)
-      (take (length runs) script.batches) runs t
-      (ap (λ x. x.tally.asked) is_made) all.runs_are law

@@ -28,7 +28,8 @@ use Rattle.swd_script.specs.Scripts.{Listed}
 use Rattle.swd_run.specs.declared.going_on.Stop.{Stop}
 use Rattle.swd_run.specs.GoingOn.{Went, ran, resumed, stop_of, stops_of, requests_before, IsCall, AreCalls}
 use Rattle.swd_run.specs.GoingOn.{answered_first, begun_first, ToldInTurn, ToldAgain, ToldReads, TellOf}
-use Rattle.swd_run.specs.Running.{IsExcused, RunsOn, most_begun}
+use Rattle.swd_run.specs.Running.{IsExcused, RunsOn}
+use Rattle.swd_run.specs.Sessions.{most_begun}
 use Rattle.swd_run.specs.Sessions.{Done, GoesOn}
 use Rattle.swd_run.proofs.RunLemmas.{ends_at, excused, run_as}
 

@@ -1,7 +1,6 @@
-pub mod Closing
+pub mod Engine
 pub mod GoingOn
 pub mod Sessions
 pub mod Reports
 pub mod Verified
 pub mod Running
-pub mod Tracing

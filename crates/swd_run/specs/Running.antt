@@ -1,9 +1,7 @@
 -- What an answer to a script and a plan says: the theorem of the host, over texts.
 use Rattle.std.specs.Prelude.{◌≡◌, ℕ, ◌+◌, ◌*◌, ◌<◌, ◌≤◌, List, [], ◌∷◌, ◌++◌, length, take, Option, Result, Ok, Err}
 use Rattle.std.specs.Prelude.{IfSome}
-use Rattle.std.specs.Prelude.{IsOk, is_some, if◌then◌else◌, min}
-use Rattle.std.specs.Io.KnownBytes.{Appends}
-use Rattle.swd_io.specs.Blocks.{Stopped}
+use Rattle.std.specs.Prelude.{IsOk, min}
 use Rattle.swd_io.specs.Pieces.{IsText}
 use Rattle.swd_io.specs.declared.pieces.Unread.{Unread}
 use Rattle.swd_io.specs.declared.pieces.Unread.TheVariants.{Reader, Consumer}
@@ -18,15 +16,16 @@ use Rattle.swd_script.specs.Scripts.{Listed, Meaning, script_of}
 use Rattle.swd_script.specs.Plans.{plan_of}
 use Rattle.swd_script.specs.Readers.{IsScriptFault, IsPlanFault}
 use Rattle.swd_script.specs.declared.fault.ScriptFault.{ScriptFault}
-use Rattle.swd_text.specs.declared.fault.EngineFault.{EngineFault}
-use Rattle.swd_text.specs.declared.fault.EngineFault.TheVariants.{Script, Plan, Text, List as Listing, Read, Write}
-use Rattle.swd_text.specs.declared.fault.EngineFault.TheVariants.{Memory, TraceCut}
 use Rattle.swd_run.specs.declared.going_on.Stop.{Stop}
-use Rattle.swd_run.specs.declared.closing.Finished.{Finished}
-use Rattle.swd_run.specs.Closing.{IsFinished}
+use Rattle.swd_run.specs.declared.engine.Finished.{Finished}
+use Rattle.swd_run.specs.declared.fault.EngineFault.{EngineFault}
+use Rattle.swd_run.specs.declared.fault.RunFault.{RunFault}
+use Rattle.swd_run.specs.declared.fault.RunFault.TheVariants.{Texts, Engine}
+use Rattle.swd_run.specs.declared.fault.TextsFault.{TextsFault}
+use Rattle.swd_run.specs.declared.fault.TextsFault.TheVariants.{Script, Plan, Read}
+use Rattle.swd_run.specs.Engine.{Answers, IsLeft, IsOfTrace, IsTraceOf, ForTrace}
 use Rattle.swd_run.specs.GoingOn.{TellOf, in_all}
-use Rattle.swd_run.specs.Sessions.{Done, ended_of}
-use Rattle.swd_run.specs.Reports.{session_text}
+use Rattle.swd_run.specs.Sessions.{Done, ended_of, most_begun, requests_of}
 
 -- the memory of a script, before its run
 abbrev pub memory_of : Meaning → PlainMemory
@@ -39,10 +38,6 @@ IsExcused Lost tries marks = 0 < lost_among marks
 IsExcused TriesOut tries marks = tries < disturbed_among marks
 IsExcused (WrongId word) tries marks = ⊥
 IsExcused Confused tries marks = ⊥
-
--- how many accesses are begun at most that aren't answered: of a block two
-abbrev pub most_begun : Listed → ℕ
-most_begun batch = if is_some batch.block then 2 else 1
 
 -- What a run comes to over a memory under a plan. The report fits the memory before it, and that after it.
 pub record RunsAs (tries : ℕ) (batch : Listed) (before : PlainMemory) (marks : List Mark) (told : Told)
@@ -99,17 +94,26 @@ pub record AreRead (script plan : Option (List ℕ)) (meaning : Meaning) (marks 
   pub is_plan : IsText plan plan_text
   pub plans : plan_of plan_text ≡ Ok marks
 
--- and these were the runs of them
-pub record Ran (tries resumes : ℕ) (script plan : Option (List ℕ)) : Type 0 where
+-- the runs of a script over a target that was just made
+pub record RanScript (tries resumes : ℕ) (script : Meaning) (marks : List Mark) : Type 0 where
+  pub runs : List Done
+  pub are : RunsScript tries resumes script marks runs
+
+-- What the engine's answer says of a script over a target that was just made.
+abbrev pub AnswersScript : ℕ → ℕ → Meaning → List Mark → Result Finished EngineFault → Option (List ℕ)
+    → Option (List ℕ) → Option (Option (List ℕ)) → Option (Option (List ℕ)) → Type 0
+AnswersScript tries resumes script marks answer old new before after =
+    Answers {Came = RanScript tries resumes script marks} script.batches (λ ran. ran.runs)
+    (λ ran items. IsTraceOf (requests_of ran.runs) (ended_of ran.runs) items)
+    (λ ran items. IsOfTrace (requests_of ran.runs) items) answer old new before after
+
+-- the readers' texts were read, and this is what came of them
+pub record RanText (tries resumes : ℕ) (answer : Result Finished EngineFault) (script plan old new : Option (List ℕ))
+    (before after : Option (Option (List ℕ))) : Type 0 where
   pub meaning : Meaning
   pub marks : List Mark
   pub read : AreRead script plan meaning marks
-  pub runs : List Done
-  pub are : RunsScript tries resumes meaning marks runs
-
--- the text of its report
-abbrev pub report_of : {tries resumes : ℕ} {script plan : Option (List ℕ)} → Ran tries resumes script plan → List ℕ
-report_of ran = session_text ran.meaning.batches ran.runs
+  pub answers : AnswersScript tries resumes meaning marks answer old new before after
 
 -- the text, where it is known, is a script, or a plan
 abbrev pub IsScript : Option (List ℕ) → Type 0
@@ -118,40 +122,28 @@ IsScript known = IfSome known (λ text. IsOk (script_of text))
 abbrev pub IsPlan : Option (List ℕ) → Type 0
 IsPlan known = IfSome known (λ text. IsOk (plan_of text))
 
--- why the texts were not run: the first fault of the script, or of the plan of a good script, or a reader failed
-abbrev pub AreUnread : EngineFault → Option (List ℕ) → Option (List ℕ) → Type 0
+-- why the texts were not read: the first fault of the script, or of the plan of a good script, or a reader failed
+abbrev pub AreUnread : TextsFault → Option (List ℕ) → Option (List ℕ) → Type 0
 AreUnread (Script fault) script plan = IfSome script (IsScriptFault fault)
 AreUnread (Plan fault) script plan = IsScript script × IfSome plan (IsPlanFault fault)
 AreUnread Read script plan = Unit {0}
-AreUnread Memory script plan = ⊥
-AreUnread (Write written) script plan = ⊥
-AreUnread (Text fault) script plan = ⊥
-AreUnread (Listing fault) script plan = ⊥
-AreUnread TraceCut script plan = ⊥
 
--- What an answer says of the readers' texts, where their bytes are known, and of what the writer holds before and
--- after.
-abbrev pub RunsText : ℕ → ℕ → Result Finished EngineFault → Option (List ℕ) → Option (List ℕ) → Option (List ℕ)
-    → Option (List ℕ) → Type 0
-RunsText tries resumes (Ok finished) script plan old new =
-    (ran : Ran tries resumes script plan) × IsFinished ran.meaning.batches ran.runs finished
-    × Appends old new (report_of ran)
-RunsText tries resumes (Err (Write written)) script plan old new =
-    (ran : Ran tries resumes script plan) × Stopped written old new (report_of ran)
-RunsText tries resumes (Err (Script fault)) script plan old new = AreUnread (Script fault) script plan
-    × Appends old new []
-RunsText tries resumes (Err (Plan fault)) script plan old new = AreUnread (Plan fault) script plan × Appends old new []
-RunsText tries resumes (Err Read) script plan old new = Appends old new []
-RunsText tries resumes (Err Memory) script plan old new = IsScript script × IsPlan plan × Appends old new []
-RunsText tries resumes (Err (Text fault)) script plan old new = ⊥
-RunsText tries resumes (Err (Listing fault)) script plan old new = ⊥
-RunsText tries resumes (Err TraceCut) script plan old new = ⊥
+-- What an answer says of the readers' texts, where their bytes are known, of what the report's writer holds before and
+-- after, and that of the trace, where there is one.
+abbrev pub RunsText : ℕ → ℕ → Result Finished RunFault → Option (List ℕ) → Option (List ℕ) → Option (List ℕ)
+    → Option (List ℕ) → Option (Option (List ℕ)) → Option (Option (List ℕ)) → Type 0
+RunsText tries resumes (Ok finished) script plan old new before after =
+    RanText tries resumes (Ok finished) script plan old new before after
+RunsText tries resumes (Err (Engine fault)) script plan old new before after =
+    RanText tries resumes (Err fault) script plan old new before after
+RunsText tries resumes (Err (Texts fault)) script plan old new before after =
+    AreUnread fault script plan × IsLeft old new × ForTrace IsLeft before after
 
 -- a fault of a script, or of its reader
-abbrev pub script_fault : Unread ScriptFault → EngineFault
+abbrev pub script_fault : Unread ScriptFault → TextsFault
 script_fault Reader = Read
 script_fault (Consumer fault) = Script fault
 
-abbrev pub plan_fault : Unread ScriptFault → EngineFault
+abbrev pub plan_fault : Unread ScriptFault → TextsFault
 plan_fault Reader = Read
 plan_fault (Consumer fault) = Plan fault

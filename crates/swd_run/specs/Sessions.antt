@@ -1,5 +1,5 @@
 -- The runs of a script, one after the other over one wire.
-use Rattle.std.specs.Prelude.{ℕ, ◌≡◌, ◌+◌, ◌≤◌, List, [], ◌∷◌, ◌++◌, length, take}
+use Rattle.std.specs.Prelude.{ℕ, ◌≡◌, ◌+◌, ◌≤◌, List, [], ◌∷◌, ◌++◌, length, take, is_some, if◌then◌else◌}
 use Rattle.swd_port.specs.declared.mark.Mark.{Mark}
 use Rattle.swd_port.specs.Port.{Port}
 use Rattle.swd_host.specs.declared.outcome.End.{End}
@@ -17,6 +17,10 @@ pub record Done : Type 0 where
 
 abbrev pub done_of : {A : Type 0} → Resumed A → Done
 done_of resumed = record { stops = resumed.stops.items; told = told_of resumed.report }
+
+-- how many accesses are begun at most that aren't answered: of a block two
+abbrev pub most_begun : Listed → ℕ
+most_begun batch = if is_some batch.block then 2 else 1
 
 -- how the last run ended; where there is none, all is done
 abbrev pub ended_of : List Done → End

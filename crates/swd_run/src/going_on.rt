@@ -7,9 +7,8 @@ ghost use Rattle.swd_host.specs.Reports.{told_of};
 ghost use Rattle.swd_host.specs.Again.{Continues, ResumesOver};
 ghost use Rattle.swd_script.specs.Readers.{listed};
 ghost use Rattle.swd_script.specs.Laws.{IsBatch};
-ghost use Rattle.swd_run.specs.Running.{most_begun};
 ghost use Rattle.swd_run.specs.GoingOn.{stop_of};
-ghost use Rattle.swd_run.specs.Sessions.{GoesOn, done_of};
+ghost use Rattle.swd_run.specs.Sessions.{GoesOn, done_of, most_begun};
 
 use crate::running::run_over;
 use std::alloc::Allocator;

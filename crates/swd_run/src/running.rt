@@ -1,5 +1,5 @@
 //! A script and a plan, to the report of their run.
-ghost use Rattle.std.specs.Prelude.{◌≡◌, map, IfSome};
+ghost use Rattle.std.specs.Prelude.{◌≡◌, IfSome};
 ghost use Rattle.swd_port.specs.declared.wire.Due.TheVariants.{Nothing};
 ghost use Rattle.swd_port.specs.Port.{made};
 ghost use Rattle.swd_host.specs.Plain.{AreAccesses};
@@ -8,11 +8,12 @@ ghost use Rattle.swd_script.specs.Readers.{listed, meaning};
 ghost use Rattle.swd_script.specs.Laws.{IsBatch, IsRunnable};
 ghost use Rattle.swd_target.specs.Marks.{IsPlan};
 ghost use Rattle.swd_target.specs.Benches.{port_of, plan_of};
-ghost use Rattle.swd_run.specs.Sessions.{done_of, ended_of};
-ghost use Rattle.swd_run.specs.Running.{RunsScript, RunsText, memory_of, most_begun};
+ghost use Rattle.swd_run.specs.Sessions.{most_begun};
+ghost use Rattle.swd_run.specs.Engine.{held};
+ghost use Rattle.swd_run.specs.Running.{AnswersScript, RunsText, memory_of};
 
-use crate::closing::{Finished, write_session};
-use crate::session::{Session, run_all};
+use crate::engine::{Finished, run_batches};
+use crate::fault::{EngineFault, RunFault};
 use crate::texts::{Texts, read_texts};
 use std::alloc::Allocator;
 use std::io::{Read, Write};
@@ -21,7 +22,6 @@ use swd_port::{Mark, Wire};
 use swd_script::{Batch, Script};
 use swd_target::laws::marks_used;
 use swd_target::{Bench, MakeFault, Memory, Quirks};
-use swd_text::EngineFault;
 
 /// What the standard leaves to a target, as the simulated target of a script has it.
 pub const QUIRKS: Quirks = Quirks {
@@ -43,7 +43,7 @@ pub fn zero_memory<A: Allocator + Copy>(alloc: A, script: &Script<A>) -> Option<
 }
 
 /// The simulated target of a script, whose requests meet these marks. `None` where memory was refused.
-pub(crate) fn target_of<A: Allocator + Copy>(
+fn target_of<A: Allocator + Copy>(
     alloc: A,
     script: &Script<A>,
     plan: Vec<Mark, A>,
@@ -87,62 +87,61 @@ pub(crate) fn run_over<W: Wire, A: Allocator + Copy>(
     }
 }
 
-// Runs a script over a simulated target, whose requests meet these marks, and resumes each of its calls at most
-// so many times. `None` where memory was refused.
-fn run_script<A: Allocator + Copy>(
+// Runs a script over a simulated target, whose requests meet these marks, and writes its report, and its trace where
+// one is wanted.
+fn run_script<W: Write, T: Write, A: Allocator + Copy>(
     alloc: A,
     script: &Script<A>,
     plan: Vec<Mark, A>,
     tries: u32,
     resumes: u32,
-) -> Option<Session<A>>
+    writer: &mut W,
+    trace: &mut Option<T>,
+) -> Result<Finished, EngineFault>
     requires script { IsRunnable (meaning script.now) }
     requires plan { IsPlan plan.items }
-    ensures runs { IfSome result (λ session. RunsScript tries resumes (meaning script.now) plan.items
-        (map done_of session.runs.items)) }
-    ensures ended { IfSome result (λ session. session.ended ≡ ended_of (map done_of session.runs.items)) }
+    ensures { AnswersScript tries resumes (meaning script.now) plan.items result (W.contents writer.old)
+        (W.contents writer.new) (held T.contents trace.old) (held T.contents trace.new) }
 {
-    let mut bench = target_of(alloc, script, plan)?;
+    let Some(bench) = target_of(alloc, script, plan) else {
+        return Err(EngineFault::Memory);
+    };
     // The marks that a run meets are among those of the plan.
     marks_used::<A>();
     let batches = script.batches.as_slice();
-    let session = run_all(alloc, &mut bench, batches, tries, resumes)?;
-    Some(session)
+    let (answer, _) = run_batches(alloc, bench, batches, tries, resumes, writer, trace);
+    answer
 }
 
-/// Reads a script and a plan, runs the script's calls one after the other over a simulated target whose
-/// requests meet the plan's marks, as long as each is done whole, and writes their reports. Returns how the
-/// last one ended, and the first read that gave another word than the script tells.
+/// Reads a script and a plan, and runs the script's calls by [`run_batches`](crate::run_batches) over a simulated
+/// target whose requests meet the plan's marks. Returns how the last one ended, and the first read that gave another
+/// word than the script tells.
 ///
-/// The target is a `Bench` whose memory has the script's words, all zero. Each access, or each opening,
-/// may meet as many events as `tries`. Where an acknowledgement is lost the call goes on by
-/// `swd_host::resume`, at most `resumes` times, and the report has a line there. Memory is taken for the
-/// accesses, the marks, the memory and the answers, the latter of each call before its first bit is sent, and
-/// then each time that it is resumed. Nothing is written before the last call ended.
+/// The target is a `Bench` whose memory has the script's words, all zero. Memory is taken for the accesses, the marks
+/// and the memory, too, before anything is run.
 ///
 /// # Errors
 ///
-/// `Script` and `Plan` for the first fault of these texts, the script's before the plan's. `Read` where
-/// a reader failed. `Memory` where memory was refused for the target or for the answers, also where a
-/// call was to be resumed. Nothing was written then. `Write` where the writer failed, or took no bytes, after
-/// exactly the first `written` bytes of the report went out. Nothing is tried again.
-pub fn run_text<S: Read, P: Read, W: Write, A: Allocator + Copy>(
+/// `Texts` for the first fault of these texts, the script's before the plan's, and where a reader failed: nothing was
+/// written then. `Engine` as `run_batches` has it; `Memory` also where memory was refused for the target.
+pub fn run_text<S: Read, P: Read, W: Write, T: Write, A: Allocator + Copy>(
     alloc: A,
     script: &mut S,
     plan: &mut P,
     tries: u32,
     resumes: u32,
     writer: &mut W,
-) -> Result<Finished, EngineFault>
+    trace: &mut Option<T>,
+) -> Result<Finished, RunFault>
     ensures { RunsText tries resumes result (S.remaining script.old) (P.remaining plan.old)
-        (W.contents writer.old) (W.contents writer.new) }
+        (W.contents writer.old) (W.contents writer.new) (held T.contents trace.old) (held T.contents trace.new) }
 {
     let Texts { script, plan } = match read_texts(alloc, script, plan) {
         Ok(texts) => texts,
-        Err(fault) => return Err(fault),
+        Err(fault) => return Err(RunFault::Texts(fault)),
     };
-    let Some(session) = run_script(alloc, &script, plan, tries, resumes) else {
-        return Err(EngineFault::Memory);
-    };
-    write_session(writer, script.batches.as_slice(), &session)
+    match run_script(alloc, &script, plan, tries, resumes, writer, trace) {
+        Ok(finished) => Ok(finished),
+        Err(fault) => Err(RunFault::Engine(fault)),
+    }
 }

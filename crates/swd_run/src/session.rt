@@ -3,8 +3,7 @@ ghost use Rattle.std.specs.Prelude.{◌≡◌, All as Each, map, IfSome};
 ghost use Rattle.swd_port.specs.declared.wire.Due.TheVariants.{Nothing};
 ghost use Rattle.swd_script.specs.Readers.{listed};
 ghost use Rattle.swd_script.specs.Laws.{IsBatch};
-ghost use Rattle.swd_run.specs.Running.{most_begun};
-ghost use Rattle.swd_run.specs.Sessions.{RunsAll, done_of, ended_of};
+ghost use Rattle.swd_run.specs.Sessions.{RunsAll, done_of, ended_of, most_begun};
 
 use crate::going_on::{Resumed, run_on};
 use std::alloc::Allocator;
@@ -14,16 +13,16 @@ use swd_script::Batch;
 
 /// The runs that were made, and how the last one ended.
 #[derive(Debug, Drop)]
-pub struct Session<A: Allocator> {
+pub(crate) struct Session<A: Allocator> {
     /// The first one first.
-    pub runs: Vec<Resumed<A>, A>,
+    pub(crate) runs: Vec<Resumed<A>, A>,
     /// How the last one ended; `All` where none was made.
-    pub ended: End,
+    pub(crate) ended: End,
 }
 
 /// Runs one batch after the other over a wire, as long as each is done whole, and resumes each at most so many
 /// times. `None` where memory was refused.
-pub fn run_all<W: Wire, A: Allocator + Copy>(
+pub(crate) fn run_all<W: Wire, A: Allocator + Copy>(
     alloc: A,
     wire: &mut W,
     batches: &[Batch<A>],

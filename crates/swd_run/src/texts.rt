@@ -4,12 +4,12 @@ ghost use Rattle.swd_script.specs.Readers.{meaning};
 ghost use Rattle.swd_run.specs.Running.{AreRead, AreUnread};
 ghost use Rattle.swd_run.specs.Running.{plan_fault as plan_fault_of, script_fault as script_fault_of};
 
+use crate::fault::TextsFault;
 use std::alloc::Allocator;
 use std::io::Read;
 use swd_io::Unread;
 use swd_port::Mark;
 use swd_script::{Script, ScriptFault, read_plan, read_script};
-use swd_text::EngineFault;
 
 /// A script and the marks of a plan.
 #[derive(Drop)]
@@ -18,23 +18,23 @@ pub struct Texts<A: Allocator> {
     pub plan: Vec<Mark, A>,
 }
 
-/// The fault of a script that was not read: `Read` where its reader failed, else `Script`.
-pub fn script_fault(unread: Unread<ScriptFault>) -> EngineFault
+// The fault of a script that was not read.
+fn script_fault(unread: Unread<ScriptFault>) -> TextsFault
     ensures { result ≡ script_fault_of unread }
 {
     match unread {
-        Unread::Reader => EngineFault::Read,
-        Unread::Consumer(fault) => EngineFault::Script(fault),
+        Unread::Reader => TextsFault::Read,
+        Unread::Consumer(fault) => TextsFault::Script(fault),
     }
 }
 
 // The fault of a plan that was not read.
-fn plan_fault(unread: Unread<ScriptFault>) -> EngineFault
+fn plan_fault(unread: Unread<ScriptFault>) -> TextsFault
     ensures { result ≡ plan_fault_of unread }
 {
     match unread {
-        Unread::Reader => EngineFault::Read,
-        Unread::Consumer(fault) => EngineFault::Plan(fault),
+        Unread::Reader => TextsFault::Read,
+        Unread::Consumer(fault) => TextsFault::Plan(fault),
     }
 }
 
@@ -48,7 +48,7 @@ pub fn read_texts<S: Read, P: Read, A: Allocator + Copy>(
     alloc: A,
     script: &mut S,
     plan: &mut P,
-) -> Result<Texts<A>, EngineFault>
+) -> Result<Texts<A>, TextsFault>
     ensures read { IfOk result (λ texts. AreRead (S.remaining script.old) (P.remaining plan.old)
         (meaning texts.script) texts.plan.items) }
     ensures fault { IfErr result (λ fault. AreUnread fault (S.remaining script.old) (P.remaining plan.old)) }

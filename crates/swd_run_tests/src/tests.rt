@@ -4,9 +4,11 @@ use std::test::Fail;
 use swd_fakes::{FailingReader, ShortWriter};
 use swd_host::End;
 use swd_port::{Access, Answer};
-use swd_run::{Finished, Stop, answer_line, last_line, resume_line, run_text};
+use swd_run::{
+    EngineFault, Finished, RunFault, Stop, TextsFault, answer_line, last_line, resume_line,
+    run_text,
+};
 use swd_script::ScriptFault;
-use swd_text::EngineFault;
 
 mod expect;
 mod faults;
@@ -25,12 +27,12 @@ mod tracing;
 // What a run answers, and what it writes.
 #[derive(Drop)]
 struct Ran {
-    answer: Result<Finished, EngineFault>,
+    answer: Result<Finished, RunFault>,
     text: Vec<u8>,
 }
 
 // A run that ended so, in which no word differed and no access met a bus error.
-fn ended(ended: End) -> Result<Finished, EngineFault> {
+fn ended<F>(ended: End) -> Result<Finished, F> {
     Ok(Finished {
         ended,
         differs: None,
@@ -46,7 +48,7 @@ fn has_bus_fault(report: &[u8]) -> bool {
 }
 
 // A run that ended so, in which no word differed, where this is the report that it has to write.
-fn ended_with(ended: End, report: &[u8]) -> Result<Finished, EngineFault> {
+fn ended_with<F>(ended: End, report: &[u8]) -> Result<Finished, F> {
     Ok(Finished {
         ended,
         differs: None,
@@ -70,6 +72,7 @@ fn resumed_on(rt: &HostRuntime, script: &[u8], plan: &[u8], tries: u32, resumes:
         tries,
         resumes,
         &mut text,
+        &mut None::<Vec<u8>>,
     );
     Ran { answer, text }
 }
@@ -119,19 +122,27 @@ fn texts_at_fault_are_not_run(rt: HostRuntime) {
     ] {
         // The plan is at fault, too.
         let run = run_on(&rt, script, b"flip 33".as_slice(), TRIES);
-        expect_eq(&rt, &run.answer, &Err(EngineFault::Script(fault)));
+        expect_eq(
+            &rt,
+            &run.answer,
+            &Err(RunFault::Texts(TextsFault::Script(fault))),
+        );
         assert!(rt; run.text.is_empty());
     }
     let script = b"memory 20000000 2\nblock 20000000 3\nr 20000000".as_slice();
     let run = run_on(&rt, script, b"".as_slice(), TRIES);
     let fault = ScriptFault::Word { line: 3 };
-    expect_eq(&rt, &run.answer, &Err(EngineFault::Script(fault)));
+    expect_eq(
+        &rt,
+        &run.answer,
+        &Err(RunFault::Texts(TextsFault::Script(fault))),
+    );
     assert!(rt; run.text.is_empty());
     let run = run_on(&rt, WORKED, b"flip 33".as_slice(), TRIES);
     expect_eq(
         &rt,
         &run.answer,
-        &Err(EngineFault::Plan(ScriptFault::Range { line: 1 })),
+        &Err(RunFault::Texts(TextsFault::Plan(ScriptFault::Range { line: 1 }))),
     );
     assert!(rt; run.text.is_empty());
 }
@@ -142,16 +153,32 @@ fn a_run_at_each_read_that_fails(rt: HostRuntime) {
         let mut script = FailingReader::new(ONE_READ, i);
         let mut plan = b"flip 33".as_slice();
         let mut text = Vec::new(rt.alloc());
-        let answer = run_text(rt.alloc(), &mut script, &mut plan, TRIES, 0, &mut text);
-        expect_eq_at(&rt, &i, &answer, &Err(EngineFault::Read));
+        let answer = run_text(
+            rt.alloc(),
+            &mut script,
+            &mut plan,
+            TRIES,
+            0,
+            &mut text,
+            &mut None::<Vec<u8>>,
+        );
+        expect_eq_at(&rt, &i, &answer, &Err(RunFault::Texts(TextsFault::Read)));
         assert!(rt; text.is_empty());
     }
     for i in 0..=THREE_WAITS.len() {
         let mut script = ONE_READ;
         let mut plan = FailingReader::new(THREE_WAITS, i);
         let mut text = Vec::new(rt.alloc());
-        let answer = run_text(rt.alloc(), &mut script, &mut plan, TRIES, 0, &mut text);
-        expect_eq_at(&rt, &i, &answer, &Err(EngineFault::Read));
+        let answer = run_text(
+            rt.alloc(),
+            &mut script,
+            &mut plan,
+            TRIES,
+            0,
+            &mut text,
+            &mut None::<Vec<u8>>,
+        );
+        expect_eq_at(&rt, &i, &answer, &Err(RunFault::Texts(TextsFault::Read)));
         assert!(rt; text.is_empty());
     }
 }
@@ -163,9 +190,21 @@ fn a_run_at_each_write_that_fails(rt: HostRuntime) {
             let mut script = WORKED;
             let mut plan = b"".as_slice();
             let mut writer = ShortWriter::new(rt.alloc(), room, fails);
-            let answer = run_text(rt.alloc(), &mut script, &mut plan, TRIES, 0, &mut writer);
+            let answer = run_text(
+                rt.alloc(),
+                &mut script,
+                &mut plan,
+                TRIES,
+                0,
+                &mut writer,
+                &mut None::<Vec<u8>>,
+            );
             let written = room as u64;
-            expect_eq(&rt, &answer, &Err(EngineFault::Write { written }));
+            expect_eq(
+                &rt,
+                &answer,
+                &Err(RunFault::Engine(EngineFault::Write { written })),
+            );
             expect_eq(&rt, &writer.taken(), &&WORKED_REPORT[..room]);
         }
     }
@@ -191,9 +230,21 @@ fn a_long_report_where_a_write_fails(rt: HostRuntime) -> Result<(), Fail> {
         let mut script = line.as_slice();
         let mut plan = b"".as_slice();
         let mut writer = ShortWriter::new(rt.alloc(), room, true);
-        let answer = run_text(rt.alloc(), &mut script, &mut plan, TRIES, 0, &mut writer);
+        let answer = run_text(
+            rt.alloc(),
+            &mut script,
+            &mut plan,
+            TRIES,
+            0,
+            &mut writer,
+            &mut None::<Vec<u8>>,
+        );
         let written = room as u64;
-        expect_eq(&rt, &answer, &Err(EngineFault::Write { written }));
+        expect_eq(
+            &rt,
+            &answer,
+            &Err(RunFault::Engine(EngineFault::Write { written })),
+        );
         assert!(rt; room <= report.len());
         assert!(rt; writer.taken() == &report.as_slice()[..room]);
     }
@@ -228,7 +279,11 @@ fn a_run_has_at_most_65536_accesses(rt: HostRuntime) {
         0,
     );
     let fault = ScriptFault::Range { line: 3 };
-    expect_eq(&rt, &run.answer, &Err(EngineFault::Script(fault)));
+    expect_eq(
+        &rt,
+        &run.answer,
+        &Err(RunFault::Texts(TextsFault::Script(fault))),
+    );
 }
 
 #[test]

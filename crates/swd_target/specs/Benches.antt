@@ -1,14 +1,11 @@
 -- A bench as a port machine with a plan, and as a simulated target. All of it is this project's choice.
-use Rattle.std.specs.Prelude.{ℕ, List, take}
-use Rattle.swd_bits.specs.declared.request.Request.{Request}
+use Rattle.std.specs.Prelude.{List, take}
 use Rattle.swd_port.specs.declared.mark.Mark.{Mark}
 use Rattle.swd_port.specs.declared.register.Register.TheVariants.{DrwRead}
 use Rattle.swd_port.specs.Port.{Port, Link, Tally}
 use Rattle.swd_port.specs.Choices.{Choice}
-use Rattle.swd_port.specs.Leading.{after_lead}
-use Rattle.swd_port.specs.Moving.{arrival}
 use Rattle.swd_target.specs.declared.bench.Bench.{Bench}
-use Rattle.swd_target.specs.Simulations.{Simulation, stepped, reply_to, phase_to, link_after, arrived}
+use Rattle.swd_target.specs.Simulations.{Simulation}
 use Rattle.swd_target.specs.Targets.{state_of, simulation, choice_for}
 use Rattle.swd_target.specs.Requests.{port_at}
 use Rattle.swd_target.specs.Plans as plans
@@ -44,17 +41,3 @@ next_mark b = plans.mark_next b.plan
 -- what it chooses when a transfer takes effect
 abbrev pub choice_of : {A : Type 0} → Bench A → Choice
 choice_of b = choice_for DrwRead b.target
-
--- the link after a request
-abbrev pub link_asked : {A : Type 0} → Request → Bench A → Link
-link_asked q b =
-    let s = simulation_of b in
-    link_after (next_mark b) q (reply_to (next_mark b) q s) (phase_to (next_mark b) q s) (link_of b)
-
--- the simulated target after a line reset of so many ones, or none
-abbrev pub led : ℕ → Link → Simulation → Simulation
-led ones l s = stepped (λ c t. (after_lead ones (port_at l (record { asked = 0; disturbed = 0; lost = 0 }) t)).target) s
-
--- and after the 33 bits of a write
-abbrev pub given : ℕ → Link → Simulation → Simulation
-given sent l s = arrived (arrival l.line sent) s

@@ -10,3 +10,4 @@ pub mod Fields
 pub mod Elsewhere
 pub mod Requests
 pub mod Benches
+pub mod Stepping

@@ -1,14 +1,16 @@
 //! A simulated target at the end of a wire, with a plan of what happens to each request.
 ghost use Rattle.std.specs.Prelude.{◌≡◌, ◌<◌, ◌^◌};
+ghost use Rattle.swd_port.specs.declared.cue.Cue.TheVariants.{Ask};
 ghost use Rattle.swd_port.specs.declared.wire.Due.TheVariants.{Nothing, Take, Give, Pass};
+ghost use Rattle.swd_port.specs.Stories.{MayStep, IsSeen, IsStep};
 ghost use Rattle.swd_port.specs.Port.{idle_link, made};
 ghost use Rattle.swd_port.specs.Completion.{completed};
 ghost use Rattle.swd_port.specs.Asking.{Asks, tally_after};
-ghost use Rattle.swd_port.specs.Leading.{MayLead, Leads, LeadsNow};
+ghost use Rattle.swd_port.specs.Leading.{LeadsNow};
 ghost use Rattle.swd_port.specs.Moving.{Takes, TakesNow, Gives, Passes, PassesNow, bits_driven};
 ghost use Rattle.swd_target.specs.Marks.{IsPlan};
 ghost use Rattle.swd_target.specs.Flips.{flip_place, awaited_flip};
-ghost use Rattle.swd_target.specs.Simulations.{made_with, transferred, asked, seen_to};
+ghost use Rattle.swd_target.specs.Simulations.{made_with, transferred};
 ghost use Rattle.swd_target.specs.Targets.{IsChosen};
 
 use crate::acknowledgement::seen_under;
@@ -19,7 +21,7 @@ use crate::quirks::Quirks;
 use crate::target::Target;
 use std::alloc::{Allocator, Global};
 use swd_bits::Request;
-use swd_port::{Due, Line, Mark, Wire};
+use swd_port::{Cue, Due, Line, Mark, Wire};
 
 /// A simulated target at the end of a wire. Each request uses the next mark of the plan; after its
 /// end all marks are `Clean`. DPIDR gives 2ba01477.
@@ -46,7 +48,8 @@ pub struct Bench<A: Allocator = Global> {
 }
 
 impl<A: Allocator> Bench<A> {
-    ghost use Rattle.swd_target.specs.Benches.{port_of, link_of, simulation_of, plan_of, choice_of, led};
+    ghost use Rattle.swd_target.specs.Benches.{port_of, link_of, tally_of, simulation_of, plan_of, choice_of, next_mark};
+    ghost use Rattle.swd_target.specs.Stepping.{led, given, seen_by, stepped_by, link_by};
 
     /// Makes a target that had no line reset yet, with this memory behind its access port.
     pub fn new(memory: Memory<A>, quirks: Quirks, plan: Vec<Mark, A>) -> Bench<A>
@@ -81,8 +84,8 @@ impl<A: Allocator> Bench<A> {
         &self.target.memory
     }
 
-    // A line reset, where there are ones.
-    fn reset(&mut self, ones: u32)
+    // A line reset, where there are ones. Neither the sixteen bits of the switch nor zeros change anything at a target.
+    fn lead_now(&mut self, ones: u32)
         ensures now { LeadsNow (port_of self.old) ones (port_of self.new) }
         ensures exact { simulation_of self.new ≡ led ones (link_of self.old) (simulation_of self.old) }
         ensures plan { plan_of self.new ≡ plan_of self.old }
@@ -93,41 +96,18 @@ impl<A: Allocator> Bench<A> {
             self.line = Line::Idle;
         }
     }
-}
 
-impl<A: Allocator> Wire for Bench<A> {
-    ghost use Rattle.swd_target.specs.Benches.{port_of, link_of, tally_of, simulation_of, plan_of, next_mark};
-    ghost use Rattle.swd_target.specs.Benches.{link_asked, led, given};
-
-    ghost port = { port_of };
-
-    ghost plan = { plan_of };
-
-    fn due(&self) -> Due {
-        self.due
-    }
-
-    fn lead(&mut self, ones: u32, switch: bool, zeros: u32)
-        requires { MayLead (port_of self.old).link.due ones switch zeros }
-        ensures step { Leads (port_of self.old) ones (port_of self.new) }
-        ensures now { LeadsNow (port_of self.old) ones (port_of self.new) }
-        ensures exact { simulation_of self.new ≡ led ones (link_of self.old) (simulation_of self.old) }
-        ensures plan { plan_of self.new ≡ plan_of self.old }
-    {
-        // Neither the sixteen bits of the switch nor zeros change anything at a target.
-        let _ = (switch, zeros);
-        self.reset(ones);
-    }
-
-    /// The mark of the request is the one in the plan with the number of requests before it.
+    // A request under the next mark.
     #[inline(always)]
-    fn ask(&mut self, request: Request) -> u8
+    fn ask_now(&mut self, request: Request) -> u8
         requires { (port_of self.old).link.due ≡ Nothing }
         ensures range { result < 8 }
         ensures step { Asks (port_of self.old) request result (port_of self.new) }
-        ensures sees { result ≡ seen_to (next_mark self.old) request (simulation_of self.old) }
-        ensures exact { simulation_of self.new ≡ asked (next_mark self.old) request (simulation_of self.old) }
-        ensures link { link_of self.new ≡ link_asked request self.old }
+        ensures sees { result ≡ seen_by (next_mark self.old) (Ask request) (link_of self.old) (simulation_of self.old) }
+        ensures exact { simulation_of self.new
+            ≡ stepped_by (next_mark self.old) (Ask request) (link_of self.old) (simulation_of self.old) }
+        ensures link { link_of self.new
+            ≡ link_by (next_mark self.old) (Ask request) (link_of self.old) (simulation_of self.old) }
         ensures tally { tally_of self.new ≡ tally_after (next_mark self.old) (tally_of self.old) }
         ensures plan { plan_of self.new ≡ plan_of self.old }
     {
@@ -139,8 +119,9 @@ impl<A: Allocator> Wire for Bench<A> {
         seen
     }
 
+    // The data phase of a read.
     #[inline(always)]
-    fn take(&mut self) -> u64
+    fn take_now(&mut self) -> u64
         requires { (port_of self.old).link.due ≡ Take }
         ensures range { result < 2 ^ 33 }
         ensures step { Takes (port_of self.old) result (port_of self.new) }
@@ -154,8 +135,9 @@ impl<A: Allocator> Wire for Bench<A> {
         bits
     }
 
+    // The data phase of a write.
     #[inline(always)]
-    fn give(&mut self, bits: u64)
+    fn give_now(&mut self, bits: u64)
         requires due { (port_of self.old).link.due ≡ Give }
         requires range { bits < 2 ^ 33 }
         ensures step { Gives (port_of self.old) bits (port_of self.new) }
@@ -169,14 +151,53 @@ impl<A: Allocator> Wire for Bench<A> {
         self.line = Line::Idle;
     }
 
-    fn pass(&mut self)
+    // The turnaround after WAIT or FAULT, which changes nothing at the target.
+    #[inline(always)]
+    fn pass_now(&mut self)
         requires { (port_of self.old).link.due ≡ Pass }
         ensures step { Passes (port_of self.old) (port_of self.new) }
         ensures now { PassesNow (port_of self.old) (port_of self.new) }
         ensures exact { simulation_of self.new ≡ simulation_of self.old }
         ensures plan { plan_of self.new ≡ plan_of self.old }
     {
-        // The turnaround changes nothing at the target.
         self.due = Due::Nothing;
+    }
+}
+
+impl<A: Allocator> Wire for Bench<A> {
+    ghost use Rattle.swd_target.specs.Benches.{port_of, link_of, tally_of, simulation_of, plan_of, next_mark};
+    ghost use Rattle.swd_target.specs.Stepping.{seen_by, stepped_by, link_by, tally_by, StepsAlone};
+
+    ghost port = { port_of };
+
+    ghost plan = { plan_of };
+
+    fn due(&self) -> Due {
+        self.due
+    }
+
+    /// The mark of a request is the one in the plan with the number of requests before it.
+    #[inline(always)]
+    fn step(&mut self, cue: Cue) -> u64
+        requires { MayStep (port_of self.old).link.due cue }
+        ensures seen { IsSeen cue result }
+        ensures step { IsStep cue result (port_of self.old) (port_of self.new) }
+        ensures alone { StepsAlone cue result (port_of self.old) (port_of self.new) }
+        ensures sees { result ≡ seen_by (next_mark self.old) cue (link_of self.old) (simulation_of self.old) }
+        ensures exact { simulation_of self.new
+            ≡ stepped_by (next_mark self.old) cue (link_of self.old) (simulation_of self.old) }
+        ensures link { link_of self.new
+            ≡ link_by (next_mark self.old) cue (link_of self.old) (simulation_of self.old) }
+        ensures tally { tally_of self.new ≡ tally_by (next_mark self.old) cue (tally_of self.old) }
+        ensures plan { plan_of self.new ≡ plan_of self.old }
+    {
+        match cue {
+            Cue::Lead { ones, .. } => self.lead_now(ones),
+            Cue::Ask(request) => return u64::from(self.ask_now(request)),
+            Cue::Take => return self.take_now(),
+            Cue::Give(bits) => self.give_now(bits),
+            Cue::Pass => self.pass_now(),
+        }
+        0
     }
 }

@@ -4,7 +4,9 @@ ghost use Rattle.swd_port.specs.Choices.{disturbed_among, lost_among};
 ghost use Rattle.swd_target.specs.declared.bench.Bench.{Bench};
 ghost use Rattle.swd_target.specs.Benches.{port_of, plan_of, marks_so_far};
 
+use crate::bench::Bench;
 use std::alloc::Allocator;
+use swd_port::Wire;
 
 /// The numbers of disturbed and of lost requests of a bench are counts over the marks that it used,
 /// and so at most those over its whole plan.
@@ -13,4 +15,10 @@ pub fn marks_used<A: Allocator>()
     ensures lost { (b : Bench A) → (port_of b).tally.lost ≡ lost_among (marks_so_far b) }
     ensures disturbed_most { (b : Bench A) → (port_of b).tally.disturbed ≤ disturbed_among (plan_of b) }
     ensures lost_most { (b : Bench A) → (port_of b).tally.lost ≤ lost_among (plan_of b) }
+{}
+
+/// What was seen of a bench always fits the port machine: what a run promises of a wire on which it does holds over a
+/// bench with no condition.
+pub fn always_lawful<A: Allocator>()
+    ensures { (b : Bench A) → ⟦<Bench<A> as Wire>⟧.lawful b }
 {}

@@ -11,9 +11,12 @@ use Rattle.swd_trace.specs.Decided.{IsDecided}
 use Rattle.swd_trace.specs.Texts.{listing}
 use Rattle.swd_text.specs.declared.fault.TextFault.{TextFault}
 use Rattle.swd_text.specs.declared.fault.TextFault.TheVariants.{BadChar, TooLong}
-use Rattle.swd_text.specs.declared.fault.EngineFault.{EngineFault}
-use Rattle.swd_text.specs.declared.fault.EngineFault.TheVariants.{Script, Plan, Text, List as Listing, Read, Write}
-use Rattle.swd_text.specs.declared.fault.EngineFault.TheVariants.{Memory, TraceCut}
+use Rattle.swd_text.specs.declared.fault.DecodeFault.{DecodeFault}
+use Rattle.swd_text.specs.declared.fault.DecodeFault.TheVariants.{Text, Read, Write}
+use Rattle.swd_text.specs.declared.fault.TakeFault.{TakeFault}
+use Rattle.swd_text.specs.declared.fault.TakeFault.TheVariants.{Text as NoText, Write as NoWrite}
+use Rattle.swd_io.specs.declared.pieces.Unread.{Unread}
+use Rattle.swd_io.specs.declared.pieces.Unread.TheVariants.{Reader, Consumer}
 
 -- the text has bits, fewer than 2^64, and they decide these items
 pub record DecidedBy (text : List ℕ) (items : List Item) : Type 0 where
@@ -60,7 +63,7 @@ IsDue text items = DecidedBy text items ⊎ ((fault : TextFault) × StopsWith fa
 
 -- What an answer says of the reader's text, where its bytes are known, of what the reader has left of it, and of what
 -- the writer holds before and after.
-abbrev pub Decodes : Result (Unit {0}) EngineFault → Option (List ℕ) → Option (List ℕ) → Option (List ℕ) →
+abbrev pub Decodes : Result (Unit {0}) DecodeFault → Option (List ℕ) → Option (List ℕ) → Option (List ℕ) →
     Option (List ℕ) → Type 0
 Decodes (Ok u) text left old new =
     (items : List Item) × IsAtEnd left × IfSome text (λ bytes. ReadsAs bytes items) × Appends old new (listing items)
@@ -73,21 +76,15 @@ Decodes (Err (Write told)) text left old new =
     (read : List ℕ) × (items : List Item) × Consumes text left read
     × (IsDue read items ⊎ (IsAtEnd left × ReadsAs read items))
     × Stopped told old new (listing items)
-Decodes (Err Memory) text left old new = ⊥
-Decodes (Err (Listing fault)) text left old new = ⊥
-Decodes (Err (Script fault)) text left old new = ⊥
-Decodes (Err (Plan fault)) text left old new = ⊥
-Decodes (Err TraceCut) text left old new = ⊥
+
+-- why a text was not read to its end
+abbrev pub decode_fault : Unread TakeFault → DecodeFault
+decode_fault Reader = Read
+decode_fault (Consumer (NoText fault)) = Text fault
+decode_fault (Consumer (NoWrite told)) = Write told
 
 -- the reading of a whole text went out, all of it or exactly its first bytes
-abbrev pub Finishes : Result (Unit {0}) EngineFault → List ℕ → Option (List ℕ) → Option (List ℕ) → Type 0
+abbrev pub Finishes : Result (Unit {0}) ℕ → List ℕ → Option (List ℕ) → Option (List ℕ) → Type 0
 Finishes (Ok u) text start now = (items : List Item) × ReadsAs text items × Appends start now (listing items)
-Finishes (Err (Write told)) text start now =
+Finishes (Err told) text start now =
     (items : List Item) × ReadsAs text items × Stopped told start now (listing items)
-Finishes (Err Read) text start now = ⊥
-Finishes (Err Memory) text start now = ⊥
-Finishes (Err (Text fault)) text start now = ⊥
-Finishes (Err (Listing fault)) text start now = ⊥
-Finishes (Err (Script fault)) text start now = ⊥
-Finishes (Err (Plan fault)) text start now = ⊥
-Finishes (Err TraceCut) text start now = ⊥

@@ -14,9 +14,8 @@ use Rattle.swd_text.specs.Decoding.{StopsWith, IsDue}
 use Rattle.swd_text.specs.declared.lister.Lister.{Lister}
 use Rattle.swd_text.specs.declared.fault.TextFault.{TextFault}
 use Rattle.swd_text.specs.declared.fault.TextFault.TheVariants.{BadChar, TooLong}
-use Rattle.swd_text.specs.declared.fault.EngineFault.{EngineFault}
-use Rattle.swd_text.specs.declared.fault.EngineFault.TheVariants.{Script, Plan, Text, List as Listing, Read, Write}
-use Rattle.swd_text.specs.declared.fault.EngineFault.TheVariants.{Memory, TraceCut}
+use Rattle.swd_text.specs.declared.fault.TakeFault.{TakeFault}
+use Rattle.swd_text.specs.declared.fault.TakeFault.TheVariants.{Text, Write}
 
 -- The items so far and what the decoder holds are the reading of the bits so far, whatever follows, and the items'
 -- lines are under way.
@@ -88,15 +87,9 @@ pub record TellsCut (start now : Option (List ℕ)) (told : ℕ) (text : List �
   pub cut : Stopped told start now (listing items)
 
 -- what a writer that began with `start` holds at a fault
-abbrev pub EndsBy : EngineFault → Option (List ℕ) → Option (List ℕ) → List ℕ → Type 0
+abbrev pub EndsBy : TakeFault → Option (List ℕ) → Option (List ℕ) → List ℕ → Type 0
 EndsBy (Text fault) start now text = TellsFault start now fault text
 EndsBy (Write told) start now text = TellsCut start now told text
-EndsBy Read start now text = ⊥
-EndsBy Memory start now text = ⊥
-EndsBy (Listing fault) start now text = ⊥
-EndsBy (Script fault) start now text = ⊥
-EndsBy (Plan fault) start now text = ⊥
-EndsBy TraceCut start now text = ⊥
 
-abbrev pub Ends : {W : Type 0} → (W → Option (List ℕ)) → Option (List ℕ) → Lister × W → EngineFault → List ℕ → Type 0
+abbrev pub Ends : {W : Type 0} → (W → Option (List ℕ)) → Option (List ℕ) → Lister × W → TakeFault → List ℕ → Type 0
 Ends contents start state fault text = EndsBy fault start (contents state.1) text

@@ -4,13 +4,13 @@ ghost use Rattle.swd_io.specs.Blocks.{Sends, Writes};
 ghost use Rattle.swd_trace.specs.Listed.{IsLegal};
 ghost use Rattle.swd_trace.specs.Listed.{AreLegal};
 ghost use Rattle.swd_trace.specs.Texts.{item_text, trace_text};
-ghost use Rattle.swd_text.specs.Encoding.{Encodes, fault_in};
+ghost use Rattle.swd_text.specs.Encoding.{Encodes};
 
-use crate::fault::EngineFault;
+use crate::fault::EncodeFault;
 use std::alloc::Allocator;
 use std::io::{Read, Write};
 use swd_io::Block;
-use swd_trace::{Item, ItemBytes, ListFault, read_list};
+use swd_trace::{Item, ItemBytes, read_list};
 
 // How many bytes of an item go out at once.
 const PIECE: usize = 128;
@@ -53,36 +53,25 @@ pub fn write_items<W: Write>(writer: &mut W, items: &[Item]) -> Result<(), u64>
     }
 }
 
-// A fault of the listing, or of the reader or memory behind it.
-fn fault_of(fault: ListFault) -> EngineFault
-    ensures { result ≡ fault_in fault }
-{
-    match fault {
-        ListFault::BadLine { .. } | ListFault::NotNormal { .. } => EngineFault::List(fault),
-        ListFault::Memory => EngineFault::Memory,
-        ListFault::Read => EngineFault::Read,
-    }
-}
-
 /// Reads a listing, and writes the trace text of its items, one line an item. Nothing is written
 /// before the whole list was read and found normal. Memory is taken for the items alone; time is
 /// linear in the listing and in what is written.
 ///
 /// At `Ok` the trace text of all items has been written. At `Write` exactly its first `written` bytes
-/// went out. At `List`, `Read` and `Memory` nothing did. Nothing is tried again.
+/// went out. At `List` nothing did. Nothing is tried again.
 pub fn encode_text<R: Read, W: Write, A: Allocator>(
     alloc: A,
     reader: &mut R,
     writer: &mut W,
-) -> Result<(), EngineFault>
+) -> Result<(), EncodeFault>
     ensures { Encodes result (R.remaining reader.old) (W.contents writer.old) (W.contents writer.new) }
 {
     let items = match read_list(alloc, reader) {
         Ok(items) => items,
-        Err(fault) => return Err(fault_of(fault)),
+        Err(fault) => return Err(EncodeFault::List(fault)),
     };
     match write_items(writer, items.as_slice()) {
         Ok(()) => Ok(()),
-        Err(written) => Err(EngineFault::Write { written }),
+        Err(written) => Err(EncodeFault::Write { written }),
     }
 }

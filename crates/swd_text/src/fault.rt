@@ -1,5 +1,8 @@
 //! Why a text engine stopped.
-use swd_script::ScriptFault;
+ghost use Rattle.std.specs.Prelude.{◌≡◌};
+ghost use Rattle.swd_text.specs.Decoding.{decode_fault};
+
+use swd_io::Unread;
 use swd_trace::ListFault;
 use thiserror::Error;
 
@@ -15,32 +18,51 @@ pub enum TextFault {
     TooLong,
 }
 
-/// Why a text engine stopped.
+/// Why no more of a trace text was taken.
+#[derive(Clone, Copy, Debug, PartialEq, Eq)]
+pub enum TakeFault {
+    /// The trace text is at fault.
+    Text(TextFault),
+    /// The writer failed, as at `DecodeFault::Write`.
+    Write { written: u64 },
+}
+
+/// Why a trace text was not written as something else to its end.
 #[derive(Clone, Copy, Debug, PartialEq, Eq, Error)]
-pub enum EngineFault {
-    /// The script is at fault.
-    #[error("script {0}")]
-    Script(ScriptFault),
-    /// The plan is at fault.
-    #[error("plan {0}")]
-    Plan(ScriptFault),
+pub enum DecodeFault {
     /// The trace text is at fault.
     #[error(transparent)]
     Text(TextFault),
-    /// The listing is at fault: `BadLine` or `NotNormal`.
-    #[error(transparent)]
-    List(ListFault),
-    /// A reader failed.
+    /// The reader failed.
     #[error("read failed")]
     Read,
-    /// A writer failed, or took no bytes, after it took exactly the first `written` bytes of the
+    /// The writer failed, or took no bytes, after it took exactly the first `written` bytes of the
     /// text; more than 2^64 - 1 are told as 2^64 - 1.
     #[error("write failed")]
     Write { written: u64 },
-    /// Memory was refused.
-    #[error("no memory")]
-    Memory,
-    /// The trace of a run was cut off: memory was refused for it.
-    #[error("trace cut")]
-    TraceCut,
+}
+
+impl DecodeFault {
+    /// The fault of a trace text that was not read to its end.
+    pub fn of(unread: Unread<TakeFault>) -> DecodeFault
+        ensures { result ≡ decode_fault unread }
+    {
+        match unread {
+            Unread::Reader => DecodeFault::Read,
+            Unread::Consumer(TakeFault::Text(fault)) => DecodeFault::Text(fault),
+            Unread::Consumer(TakeFault::Write { written }) => DecodeFault::Write { written },
+        }
+    }
+}
+
+/// Why a listing was not written as a trace text.
+#[derive(Clone, Copy, Debug, PartialEq, Eq, Error)]
+pub enum EncodeFault {
+    /// The listing was not read: it is at fault, its reader failed, or memory was refused for its items.
+    #[error(transparent)]
+    List(ListFault),
+    /// The writer failed, or took no bytes, after it took exactly the first `written` bytes of the
+    /// text; more than 2^64 - 1 are told as 2^64 - 1.
+    #[error("write failed")]
+    Write { written: u64 },
 }

@@ -10,4 +10,4 @@ mod tx_line;
 
 pub use decoding::decode_text;
 pub use encoding::{encode_text, write_items};
-pub use fault::{EngineFault, TextFault};
+pub use fault::{DecodeFault, EncodeFault, TakeFault, TextFault};

@@ -18,7 +18,7 @@ ghost use Rattle.swd_text.specs.Decoding.{Finishes};
 ghost use Rattle.swd_text.specs.Listers.{Lists, GoesOn, Listed, HasRead, StopsAt, StopsIn, Ends};
 
 use crate::digits::{WIDTH, digits_of};
-use crate::fault::{EngineFault, TextFault};
+use crate::fault::{TakeFault, TextFault};
 use crate::tx_line::put_tx;
 use arrayvec::ArrayString;
 use std::io::Write;
@@ -447,7 +447,7 @@ impl Lister {
     }
 
     /// Ends a listing whose text was read to its end.
-    pub(crate) fn finish<W: Write>(&mut self, writer: &mut W) -> Result<(), EngineFault>
+    pub(crate) fn finish<W: Write>(&mut self, writer: &mut W) -> Result<(), u64>
         ensures { (start : Option (List ℕ)) (seen : List ℕ) → HasRead W.contents start (self.old, writer.old) seen
             → Finishes result seen start (W.contents writer.new) }
     {
@@ -455,13 +455,13 @@ impl Lister {
         self.put_last(&mut block);
         match block.flush() {
             Ok(_) => Ok(()),
-            Err(written) => Err(EngineFault::Write { written }),
+            Err(written) => Err(written),
         }
     }
 }
 
 impl<W: Write> Consumer<W> for Lister {
-    type Fault = EngineFault;
+    type Fault = TakeFault;
 
     ghost can_take = { λ lister. IsSettled lister.decoder };
 
@@ -470,16 +470,16 @@ impl<W: Write> Consumer<W> for Lister {
     ghost stops = { LeadsToEnd (HasRead W.contents) (Ends W.contents) };
 
     // What the piece decides goes out before more is read.
-    fn take(&mut self, writer: &mut W, piece: &[u8]) -> Result<(), EngineFault> {
+    fn take(&mut self, writer: &mut W, piece: &[u8]) -> Result<(), TakeFault> {
         let mut block = Block::new(writer, self.written);
         let listed = self.bytes(&mut block, piece);
         match block.flush() {
             Ok(written) => self.written = written,
-            Err(written) => return Err(EngineFault::Write { written }),
+            Err(written) => return Err(TakeFault::Write { written }),
         }
         match listed {
             Ok(()) => Ok(()),
-            Err(fault) => Err(EngineFault::Text(fault)),
+            Err(fault) => Err(TakeFault::Text(fault)),
         }
     }
 

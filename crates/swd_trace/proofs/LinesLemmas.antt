@@ -115,19 +115,6 @@ only_none : (others : List Item) → AreLines [] others → others ≡ []
 only_none [] h = refl
 only_none (item ∷ items) h = absurd h
 
--- no text yet
-pub takes_none : (items : List Item) (line : List ℕ) (total : ℕ) → items ≡ [] → line ≡ [] → total ≡ 0
-    → Takes [] items line total
-takes_none items line total e f g = rw (e, f, g) (record {
-  ended = [];
-  parts = λ more. refl;
-  unbroken = tt;
-  each = tt;
-  only = only_none;
-  total_is = refl;
-  counted = omega arith;
-})
-
 -- a byte that is no line feed
 pub takes_more : (seen : List ℕ) (items : List Item) (line new : List ℕ) (total byte : ℕ) → byte ≢ 10
     → new ≡ line ++ byte ∷ [] → Takes seen items line total → Takes (seen ++ byte ∷ []) items new total

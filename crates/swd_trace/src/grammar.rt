@@ -8,9 +8,10 @@ ghost use Rattle.swd_trace.specs.Fronts.{IsFront, IsAtFront};
 use crate::front::Front;
 use swd_bits::{MOVED_BITS, REFUSED_BITS, Request, Tx, TxBits, UNACKNOWLEDGED_BITS};
 
-// What the held bits, of which the first is a one, begin as.
+/// What held bits begin as, of which the first is a one: a whole transaction (IHI 0031, B4), the
+/// beginning of one, or neither.
 #[inline(always)]
-pub(crate) fn front_of(bits: u64, len: u8) -> Front
+pub fn front_of(bits: u64, len: u8) -> Front
     requires whole { bits < 2 ^ len }
     requires started { bits % 2 ≡ 1 }
     requires some { 0 < len }

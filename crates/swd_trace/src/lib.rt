@@ -17,6 +17,8 @@ mod mode;
 pub use decoder::{Decoder, DecoderFields};
 pub use encoder::encode;
 pub use found_tx::FoundTx;
+pub use front::Front;
+pub use grammar::front_of;
 pub use item::Item;
 pub use item_bytes::ItemBytes;
 pub use item_text::{ItemLine, LONGEST_LINE};

@@ -3,7 +3,7 @@ ghost use Rattle.std.specs.Prelude.{◌≡◌, IfOk, false};
 ghost use Rattle.clap.specs.Words.{app_of, found_of, rows_of, rule_of};
 ghost use Rattle.clap.specs.declared.builder.command.Command.TheViews.{out-Command};
 ghost use Rattle.swd_words.specs.Commands.{accesses_rule, count_rule, decode_app, listing_app, made_rule, names_rule};
-ghost use Rattle.swd_words.specs.Commands.{over_file, places_rule, IsDecodeOf};
+ghost use Rattle.swd_words.specs.Commands.{places_rule, IsDecodeOf};
 
 use crate::command::{DecodeLine, LineFault};
 use crate::words::{file_arg, is_asked_for, owned, refused, with_arg};

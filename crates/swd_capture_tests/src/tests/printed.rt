@@ -5,7 +5,7 @@ use std::test::Fail;
 use swd_capture::Printed;
 use swd_capture_text::print_capture;
 use swd_fakes::{FailingReader, OneByteReader, ShortWriter};
-use swd_text::{EngineFault, TextFault};
+use swd_text::{DecodeFault, TextFault};
 
 // A session with each kind of acknowledgement, and each kind of item but a cut end.
 const SESSION: &[u8] = b"reset 56\nswitch\nreset 56\nidle 2\ndp 0 read ok 2ba01477\n\
@@ -154,7 +154,7 @@ fn each_write_that_fails(rt: HostRuntime) -> Result<(), Fail> {
             let mut whole = trace.as_slice();
             let mut writer = ShortWriter::new(rt.alloc(), room, true);
             let answer = print_capture(printed, &mut whole, &mut writer);
-            let fault = EngineFault::Write {
+            let fault = DecodeFault::Write {
                 written: room as u64,
             };
             expect_eq_at(&rt, &name, &answer, &Err(fault));
@@ -170,11 +170,11 @@ type Stopped<'a> = (
     Printed,
     &'a [u8],
     usize,
-    Result<(), EngineFault>,
+    Result<(), DecodeFault>,
     &'a [u8],
 );
 
-const BAD_SIXTH: Result<(), EngineFault> = Err(EngineFault::Text(TextFault::BadChar { place: 6 }));
+const BAD_SIXTH: Result<(), DecodeFault> = Err(DecodeFault::Text(TextFault::BadChar { place: 6 }));
 
 const STOPS: [Stopped; 5] = [
     (
@@ -182,7 +182,7 @@ const STOPS: [Stopped; 5] = [
         PLACES,
         b"0001",
         4,
-        Err(EngineFault::Read),
+        Err(DecodeFault::Read),
         b"@0 idle 3\n",
     ),
     (
@@ -190,7 +190,7 @@ const STOPS: [Stopped; 5] = [
         PLACES,
         b"0001",
         3,
-        Err(EngineFault::Read),
+        Err(DecodeFault::Read),
         b"",
     ),
     (
@@ -198,7 +198,7 @@ const STOPS: [Stopped; 5] = [
         Printed::Counts,
         b"0001",
         4,
-        Err(EngineFault::Read),
+        Err(DecodeFault::Read),
         b"",
     ),
     (

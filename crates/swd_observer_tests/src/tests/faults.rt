@@ -6,7 +6,7 @@ use std::test::Fail;
 use swd_fakes::{FailingReader, OneByteReader, OneByteWriter, ShortWriter};
 use swd_observer::TraceObserver;
 use swd_observer_text::observe_text;
-use swd_text::{EngineFault, TextFault};
+use swd_text::{DecodeFault, TextFault};
 
 const LISTING: &[u8] =
     b"ap c write ok 00000001\nap c write ok 00000002\ndp c read none 7\njunk 0\n";
@@ -32,7 +32,7 @@ fn a_read_that_fails(rt: HostRuntime) -> Result<(), Fail> {
         let mut reader = FailingReader::new(trace.as_slice(), place);
         let mut lines = Vec::new(rt.alloc());
         let answer = observe_text(&mut reader, &mut lines, TraceObserver::of_made());
-        expect_eq_at(&rt, &place, &answer, &Err(EngineFault::Read));
+        expect_eq_at(&rt, &place, &answer, &Err(DecodeFault::Read));
         expect_eq_at(&rt, &place, &TOLD.starts_with(lines.as_slice()), &true);
     }
     Ok(())
@@ -47,7 +47,7 @@ fn a_write_that_fails(rt: HostRuntime) -> Result<(), Fail> {
             let mut writer = ShortWriter::new(rt.alloc(), room, fails);
             let answer = observe_text(&mut reader, &mut writer, TraceObserver::of_made());
             let written = room as u64;
-            expect_eq_at(&rt, &room, &answer, &Err(EngineFault::Write { written }));
+            expect_eq_at(&rt, &room, &answer, &Err(DecodeFault::Write { written }));
             expect_eq_at(&rt, &room, &TOLD.starts_with(writer.taken()), &true);
             expect_eq_at(&rt, &room, &writer.taken().len(), &room);
         }
@@ -69,7 +69,7 @@ fn a_bad_character(rt: HostRuntime) -> Result<(), Fail> {
     let mut reader = trace.as_slice();
     let mut lines = Vec::new(rt.alloc());
     let answer = observe_text(&mut reader, &mut lines, TraceObserver::of_made());
-    let fault = EngineFault::Text(TextFault::BadChar { place });
+    let fault = DecodeFault::Text(TextFault::BadChar { place });
     expect_eq_at(&rt, &"answer", &answer, &Err(fault));
     expect_eq_at(&rt, &"told", &lines.as_slice(), &TOLD);
     Ok(())

@@ -1,14 +1,14 @@
 -- The port machine is never stuck: no state, request or mark is without a step, so that what is told of every step is
 -- told of some.
-use Rattle.std.specs.Prelude.{ℕ, ◌<◌, ◌^◌, IfSome}
+use Rattle.std.specs.Prelude.{ℕ, ◌≡◌, ◌<◌, ◌^◌, IfSome, false}
 use Rattle.swd_bits.specs.declared.request.Request.{Request}
+use Rattle.swd_port.specs.declared.cue.Cue.{Cue}
 use Rattle.swd_port.specs.PlainMemory.{word_at}
 use Rattle.swd_port.specs.Port.{Port, Target}
 use Rattle.swd_port.specs.Choices.{Mark, IsMark, Choice}
 use Rattle.swd_port.specs.Completion.{Completes}
 use Rattle.swd_port.specs.Asking.{AsksNow}
-use Rattle.swd_port.specs.Moving.{Takes, Gives, Passes}
-use Rattle.swd_port.specs.Leading.{Leads}
+use Rattle.swd_port.specs.Stories.{IsStep, is_ask}
 
 -- each value that a read may give is a word of 32 bits
 pub record IsOfWords (x : Target) : Type 0 where
@@ -23,8 +23,5 @@ EachRequestGoes = (mark : Mark) (s : Port) (q : Request) → IsMark mark → IsO
     (seen : ℕ) × (t : Port) × (a : Port) × (c : Choice) × Completes s a × AsksNow mark c a q seen t
 
 -- and every other call has one
-pub record EachCallGoes : Type 0 where
-  pub taken : (s : Port) → (bits : ℕ) × (t : Port) × Takes s bits t
-  pub given : (s : Port) (sent : ℕ) → (t : Port) × Gives s sent t
-  pub passed : (s : Port) → (t : Port) × Passes s t
-  pub led : (s : Port) (ones : ℕ) → (t : Port) × Leads s ones t
+abbrev pub EachCallGoes : Type 0
+EachCallGoes = (cue : Cue) (s : Port) → is_ask cue ≡ false → (seen : ℕ) × (t : Port) × IsStep cue seen s t

@@ -1,7 +1,7 @@
 //! Laws of the calls of a wire: requests and their answers, data phases, turnarounds, line resets.
 ghost use Rattle.swd_port.specs.Laws.Answers.{NeverWaits, AnswersAllowed, WaitsWhereAllowed, WaitsAtWaitOnly};
 ghost use Rattle.swd_port.specs.Laws.Answers.{SeenInRange, SeenIsDriven};
-ghost use Rattle.swd_port.specs.Laws.Calls.{DueAfterRequest, AcknowledgementSeen, NoAcknowledgementSeen, NothingDue};
+ghost use Rattle.swd_port.specs.Laws.Calls.{DueAfterStep, AcknowledgementSeen, NoAcknowledgementSeen};
 ghost use Rattle.swd_port.specs.Laws.Calls.{RequestCounted, OthersUncounted, IdentificationKept};
 ghost use Rattle.swd_port.specs.Laws.Calls.{CountedApart};
 ghost use Rattle.swd_port.specs.Laws.Requests.{ExemptRequest, ExemptRequestAtRest, IdentificationRead};
@@ -29,10 +29,9 @@ pub fn answers()
 /// Every call, whatever the state: what is due after it, and what it adds to the numbers of
 /// requests, of disturbed and of lost ones.
 pub fn calls()
-    ensures due { DueAfterRequest }
+    ensures due { DueAfterStep }
     ensures acknowledged { AcknowledgementSeen }
     ensures unacknowledged { NoAcknowledgementSeen }
-    ensures nothing_due { NothingDue }
     ensures counted { RequestCounted }
     ensures uncounted { OthersUncounted }
     ensures identified { IdentificationKept }

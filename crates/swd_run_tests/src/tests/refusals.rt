@@ -7,9 +7,8 @@ use std::alloc::Allocator;
 use std::process::Abort;
 use std::test::Fail;
 use swd_host::End;
-use swd_run::{Finished, run_text, run_traced};
+use swd_run::{EngineFault, Finished, RunFault, TextsFault, run_text};
 use swd_script::ScriptFault;
-use swd_text::EngineFault;
 
 const TRIES: u32 = 8;
 
@@ -42,12 +41,16 @@ enum Stage {
     Whole,
 }
 
-fn stage_of(answer: Result<Finished, EngineFault>) -> Option<Stage> {
+fn stage_of(answer: Result<Finished, RunFault>) -> Option<Stage> {
     match answer {
-        Err(EngineFault::Script(ScriptFault::Memory { line: 3 | 4 | 6 })) => Some(Stage::Script),
-        Err(EngineFault::Plan(ScriptFault::Memory { line: 1 | 9 })) => Some(Stage::Plan),
-        Err(EngineFault::Memory) => Some(Stage::Run),
-        Err(EngineFault::TraceCut) => Some(Stage::Trace),
+        Err(RunFault::Texts(TextsFault::Script(ScriptFault::Memory { line: 3 | 4 | 6 }))) => Some(
+            Stage::Script,
+        ),
+        Err(RunFault::Texts(TextsFault::Plan(ScriptFault::Memory { line: 1 | 9 }))) => Some(
+            Stage::Plan,
+        ),
+        Err(RunFault::Engine(EngineFault::Memory)) => Some(Stage::Run),
+        Err(RunFault::Engine(EngineFault::TraceCut)) => Some(Stage::Trace),
         Ok(
             Finished {
                 ended: End::All,
@@ -112,7 +115,15 @@ fn a_run_where_memory_ends(rt: HostRuntime) -> Result<(), Fail> {
         let mut script = SCRIPT;
         let mut plan = PLAN;
         let mut report = Vec::new(rt.alloc());
-        let answer = run_text(&heap, &mut script, &mut plan, TRIES, 0, &mut report);
+        let answer = run_text(
+            &heap,
+            &mut script,
+            &mut plan,
+            TRIES,
+            0,
+            &mut report,
+            &mut None::<Vec<u8>>,
+        );
         let Some(stage) = stage_of(answer) else {
             panic!(rt; "{size}: {answer:?}");
         };
@@ -128,7 +139,7 @@ fn a_run_where_memory_ends(rt: HostRuntime) -> Result<(), Fail> {
 // What a traced run answers, what it reports, and its trace.
 #[derive(Drop)]
 struct Traced {
-    answer: Result<Finished, EngineFault>,
+    answer: Result<Finished, RunFault>,
     report: Vec<u8>,
     trace: Vec<u8>,
 }
@@ -137,8 +148,8 @@ fn traced_on<A: Allocator + Copy>(rt: &HostRuntime, alloc: A) -> Traced {
     let mut script = SCRIPT;
     let mut plan = PLAN;
     let mut report = Vec::new(rt.alloc());
-    let mut trace = Vec::new(rt.alloc());
-    let answer = run_traced(
+    let mut trace = Some(Vec::new(rt.alloc()));
+    let answer = run_text(
         alloc,
         &mut script,
         &mut plan,
@@ -147,6 +158,7 @@ fn traced_on<A: Allocator + Copy>(rt: &HostRuntime, alloc: A) -> Traced {
         &mut report,
         &mut trace,
     );
+    let trace = trace.unwrap_or(Vec::new(rt.alloc()));
     Traced {
         answer,
         report,

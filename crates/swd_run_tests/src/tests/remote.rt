@@ -9,13 +9,12 @@ use super::expect::expect_eq;
 use super::recorded::UNDISTURBED;
 use super::sessions::calls_of;
 use std::test::Fail;
-use swd_ends::{run_remote, run_remote_traced};
+use swd_ends::{RemoteFault, run_remote};
 use swd_fakes::ShortWriter;
 use swd_host::End;
 use swd_port::{Answer, Story};
 use swd_remote::Fault;
-use swd_run::{Difference, Finished, run_traced};
-use swd_text::EngineFault;
+use swd_run::{Difference, EngineFault, Finished, run_text};
 
 // Any story.
 struct Untold;
@@ -33,7 +32,7 @@ fn a_script_sends_what_was_recorded(rt: HostRuntime) {
     let mut sent = Vec::new(rt.alloc());
     let mut report = Vec::new(rt.alloc());
     let mut script = SCRIPT;
-    let (answer, line) = run_remote::<Untold, _, _, _, _, _>(
+    let (answer, line) = run_remote::<Untold, _, _, _, _, _, _>(
         rt.alloc(),
         &mut script,
         UNDISTURBED.levels,
@@ -41,6 +40,7 @@ fn a_script_sends_what_was_recorded(rt: HostRuntime) {
         8,
         0,
         &mut report,
+        &mut None::<Vec<u8>>,
     );
     let finished = Finished {
         ended: End::All,
@@ -58,9 +58,9 @@ fn a_script_sends_what_was_recorded(rt: HostRuntime) {
 fn a_remote_run_is_traced(rt: HostRuntime) {
     let mut sent = Vec::new(rt.alloc());
     let mut report = Vec::new(rt.alloc());
-    let mut trace = Vec::new(rt.alloc());
+    let mut trace = Some(Vec::new(rt.alloc()));
     let mut script = SCRIPT;
-    let (answer, line) = run_remote_traced::<Untold, _, _, _, _, _, _>(
+    let (answer, line) = run_remote::<Untold, _, _, _, _, _, _>(
         rt.alloc(),
         &mut script,
         UNDISTURBED.levels,
@@ -70,6 +70,7 @@ fn a_remote_run_is_traced(rt: HostRuntime) {
         &mut report,
         &mut trace,
     );
+    let trace = trace.expect(&rt, "its writer");
     let finished = Finished {
         ended: End::All,
         differs: None,
@@ -82,8 +83,8 @@ fn a_remote_run_is_traced(rt: HostRuntime) {
     let mut script = SCRIPT;
     let mut plan = b"".as_slice();
     let mut told = Vec::new(rt.alloc());
-    let mut simulated = Vec::new(rt.alloc());
-    let answer = run_traced(
+    let mut simulated = Some(Vec::new(rt.alloc()));
+    let answer = run_text(
         rt.alloc(),
         &mut script,
         &mut plan,
@@ -92,6 +93,7 @@ fn a_remote_run_is_traced(rt: HostRuntime) {
         &mut told,
         &mut simulated,
     );
+    let simulated = simulated.expect(&rt, "its writer");
     expect_eq(&rt, &answer, &ended(End::All));
     expect_eq(&rt, &trace.as_slice(), &simulated.as_slice());
 }
@@ -102,9 +104,9 @@ fn a_failed_write_ends_the_session(rt: HostRuntime) {
     for (report_room, trace_room) in [(3usize, 100usize), (REPORT.len(), 100), (REPORT.len(), 0)] {
         let mut sent = Vec::new(rt.alloc());
         let mut report = ShortWriter::new(rt.alloc(), report_room, true);
-        let mut trace = ShortWriter::new(rt.alloc(), trace_room, false);
+        let mut trace = Some(ShortWriter::new(rt.alloc(), trace_room, false));
         let mut script = SCRIPT;
-        let (answer, _) = run_remote_traced::<Untold, _, _, _, _, _, _>(
+        let (answer, _) = run_remote::<Untold, _, _, _, _, _, _>(
             rt.alloc(),
             &mut script,
             UNDISTURBED.levels,
@@ -114,14 +116,15 @@ fn a_failed_write_ends_the_session(rt: HostRuntime) {
             &mut report,
             &mut trace,
         );
+        let trace = trace.expect(&rt, "its writer");
         let whole = report_room == REPORT.len();
         let written = if whole { trace_room } else { report_room };
         expect_eq(
             &rt,
             &answer,
-            &Err(EngineFault::Write {
+            &Err(RemoteFault::Engine(EngineFault::Write {
                 written: written as u64,
-            }),
+            })),
         );
         expect_eq(&rt, &report.taken(), &&REPORT[..report_room]);
         expect_eq(
@@ -140,7 +143,7 @@ fn a_call_that_is_lost_is_the_last_one(rt: HostRuntime) {
     let mut report = Vec::new(rt.alloc());
     let mut script =
         b"memory 20000000 16\nw 20000000 deadbeef\nverify 20000000 5\nnext\nr 20000000\nnext\nr 20000000\n".as_slice();
-    let (answer, line) = run_remote::<Untold, _, _, _, _, _>(
+    let (answer, line) = run_remote::<Untold, _, _, _, _, _, _>(
         rt.alloc(),
         &mut script,
         UNDISTURBED.levels,
@@ -148,6 +151,7 @@ fn a_call_that_is_lost_is_the_last_one(rt: HostRuntime) {
         8,
         0,
         &mut report,
+        &mut None::<Vec<u8>>,
     );
     let differs = Difference {
         line: 3,
@@ -186,7 +190,7 @@ fn a_target_that_goes_away_is_told(rt: HostRuntime) {
         let mut sent = Vec::new(rt.alloc());
         let mut report = Vec::new(rt.alloc());
         let mut script = SCRIPT;
-        let (answer, line) = run_remote::<Untold, _, _, _, _, _>(
+        let (answer, line) = run_remote::<Untold, _, _, _, _, _, _>(
             rt.alloc(),
             &mut script,
             levels,
@@ -194,6 +198,7 @@ fn a_target_that_goes_away_is_told(rt: HostRuntime) {
             8,
             0,
             &mut report,
+            &mut None::<Vec<u8>>,
         );
         let finished = Finished {
             ended: End::Lost,
@@ -212,7 +217,7 @@ fn a_script_at_fault_sends_nothing(rt: HostRuntime) {
     let mut sent = Vec::new(rt.alloc());
     let mut report = Vec::new(rt.alloc());
     let mut script = b"w 20000000 deadbeef\n".as_slice();
-    let (answer, line) = run_remote::<Untold, _, _, _, _, _>(
+    let (answer, line) = run_remote::<Untold, _, _, _, _, _, _>(
         rt.alloc(),
         &mut script,
         UNDISTURBED.levels,
@@ -220,8 +225,9 @@ fn a_script_at_fault_sends_nothing(rt: HostRuntime) {
         8,
         0,
         &mut report,
+        &mut None::<Vec<u8>>,
     );
-    assert!(rt; matches!(&answer, Err(EngineFault::Script(_))));
+    assert!(rt; matches!(&answer, Err(RemoteFault::Script(_))));
     expect_eq(&rt, &line.fault, &None);
     assert!(rt; sent.as_slice().is_empty() && report.as_slice().is_empty());
 }
@@ -233,7 +239,7 @@ fn a_remote_script_of_a_thousand_calls_is_begun(rt: HostRuntime) -> Result<(), F
     let mut script = script.as_slice();
     let mut sent = Vec::new(rt.alloc());
     let mut report = Vec::new(rt.alloc());
-    let (answer, _line) = run_remote::<Untold, _, _, _, _, _>(
+    let (answer, _line) = run_remote::<Untold, _, _, _, _, _, _>(
         rt.alloc(),
         &mut script,
         b"".as_slice(),
@@ -241,6 +247,7 @@ fn a_remote_script_of_a_thousand_calls_is_begun(rt: HostRuntime) -> Result<(), F
         8,
         0,
         &mut report,
+        &mut None::<Vec<u8>>,
     );
     expect_eq(&rt, &answer, &ended(End::Lost));
     expect_eq(&rt, &report.as_slice(), &b"end lost 0 begun 0\n".as_slice());

@@ -5,8 +5,8 @@ use linked_list_allocator::LocalHeap;
 use std::process::Abort;
 use std::test::Fail;
 use swd_host::End;
-use swd_run::{Finished, run_text, run_traced};
-use swd_text::{EngineFault, decode_text};
+use swd_run::{EngineFault, Finished, RunFault, run_text};
+use swd_text::decode_text;
 
 /// The DRW request of a first access is the eleventh: nine requests are the opening's, and one is TAR's.
 pub(super) const LOST_WRITE: &[u8] = b".\n.\n.\n.\n.\n.\n.\n.\n.\n.\nmute 0\n";
@@ -51,8 +51,8 @@ fn a_resumed_run_is_traced_whole(rt: HostRuntime) {
     let mut script = ONE_WRITE;
     let mut plan = LOST_WRITE;
     let mut report = Vec::new(rt.alloc());
-    let mut trace = Vec::new(rt.alloc());
-    let answer = run_traced(
+    let mut trace = Some(Vec::new(rt.alloc()));
+    let answer = run_text(
         rt.alloc(),
         &mut script,
         &mut plan,
@@ -61,6 +61,7 @@ fn a_resumed_run_is_traced_whole(rt: HostRuntime) {
         &mut report,
         &mut trace,
     );
+    let trace = trace.expect(&rt, "its writer");
     expect_eq(&rt, &answer, &ended(End::All));
     expect_eq(
         &rt,
@@ -89,7 +90,15 @@ fn a_resumed_run_where_memory_ends(rt: HostRuntime) -> Result<(), Fail> {
         let mut script = b"memory 20000000 16\nroom 8\nw 20000000 deadbeef\n".as_slice();
         let mut plan = LOST_WRITE;
         let mut report = Vec::new(rt.alloc());
-        let answer = run_text(&heap, &mut script, &mut plan, TRIES, 1, &mut report);
+        let answer = run_text(
+            &heap,
+            &mut script,
+            &mut plan,
+            TRIES,
+            1,
+            &mut report,
+            &mut None::<Vec<u8>>,
+        );
         match answer {
             Ok(
                 Finished {
@@ -100,7 +109,7 @@ fn a_resumed_run_where_memory_ends(rt: HostRuntime) -> Result<(), Fail> {
                 expect_eq(&rt, &report.as_slice(), &whole);
                 done = true;
             }
-            Err(EngineFault::Memory) => {
+            Err(RunFault::Engine(EngineFault::Memory)) => {
                 assert!(rt; report.is_empty());
                 refused = true;
             }

@@ -6,8 +6,8 @@ use std::test::Fail;
 use swd_fakes::ShortWriter;
 use swd_host::End;
 use swd_port::Answer;
-use swd_run::{Difference, Finished, run_text, run_traced};
-use swd_text::{EngineFault, decode_text};
+use swd_run::{Difference, EngineFault, Finished, RunFault, run_text};
+use swd_text::decode_text;
 
 /// A write, the same word read by a block, and the word told.
 pub(super) const CALLS: &[u8] =
@@ -67,8 +67,8 @@ fn the_trace_is_that_of_all_calls(rt: HostRuntime) {
     let mut script = CALLS;
     let mut plan = b"".as_slice();
     let mut report = Vec::new(rt.alloc());
-    let mut trace = Vec::new(rt.alloc());
-    let answer = run_traced(
+    let mut trace = Some(Vec::new(rt.alloc()));
+    let answer = run_text(
         rt.alloc(),
         &mut script,
         &mut plan,
@@ -77,6 +77,7 @@ fn the_trace_is_that_of_all_calls(rt: HostRuntime) {
         &mut report,
         &mut trace,
     );
+    let trace = trace.expect(&rt, "its writer");
     expect_eq(&rt, &answer, &ended_with(End::All, REPORTS));
     expect_eq(&rt, &report.as_slice(), &REPORTS);
     let mut text = trace.as_slice();
@@ -98,9 +99,21 @@ fn a_writer_that_fails_has_the_first_bytes_of_all_reports(rt: HostRuntime) {
             let mut script = CALLS;
             let mut plan = b"".as_slice();
             let mut writer = ShortWriter::new(rt.alloc(), room, fails);
-            let answer = run_text(rt.alloc(), &mut script, &mut plan, TRIES, 0, &mut writer);
+            let answer = run_text(
+                rt.alloc(),
+                &mut script,
+                &mut plan,
+                TRIES,
+                0,
+                &mut writer,
+                &mut None::<Vec<u8>>,
+            );
             let written = room as u64;
-            expect_eq(&rt, &answer, &Err(EngineFault::Write { written }));
+            expect_eq(
+                &rt,
+                &answer,
+                &Err(RunFault::Engine(EngineFault::Write { written })),
+            );
             expect_eq(&rt, &writer.taken(), &&REPORTS[..room]);
         }
     }

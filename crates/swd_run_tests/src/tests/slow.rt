@@ -5,7 +5,7 @@ use std::alloc::Global;
 use std::test::Fail;
 use swd_fakes::{OneByteReader, OneByteWriter};
 use swd_host::End;
-use swd_run::{run_text, run_traced};
+use swd_run::run_text;
 use swd_text::decode_text;
 
 // A text so many times over, after another one.
@@ -39,7 +39,15 @@ fn long_texts_are_run_byte_by_byte(rt: HostRuntime) -> Result<(), Fail> {
     let mut script = OneByteReader::new(&script);
     let mut plan = OneByteReader::new(&plan);
     let mut report = OneByteWriter::new(rt.alloc());
-    let answer = run_text(rt.alloc(), &mut script, &mut plan, TRIES, 0, &mut report);
+    let answer = run_text(
+        rt.alloc(),
+        &mut script,
+        &mut plan,
+        TRIES,
+        0,
+        &mut report,
+        &mut None::<Vec<u8>>,
+    );
     expect_eq(&rt, &answer, &ended(End::All));
     assert!(rt; report.taken == report_of(rt.alloc(), 50_000)?);
     Ok(())
@@ -72,8 +80,8 @@ fn a_long_run_is_traced_byte_by_byte(rt: HostRuntime) -> Result<(), Fail> {
     let mut script = OneByteReader::new(&text);
     let mut plan = OneByteReader::new(b"".as_slice());
     let mut report = OneByteWriter::new(rt.alloc());
-    let mut trace = OneByteWriter::new(rt.alloc());
-    let answer = run_traced(
+    let mut trace = Some(OneByteWriter::new(rt.alloc()));
+    let answer = run_text(
         rt.alloc(),
         &mut script,
         &mut plan,
@@ -82,6 +90,7 @@ fn a_long_run_is_traced_byte_by_byte(rt: HostRuntime) -> Result<(), Fail> {
         &mut report,
         &mut trace,
     );
+    let trace = trace.expect(&rt, "its writer");
     expect_eq(&rt, &answer, &ended(End::All));
     assert!(rt; report.taken == report_of(rt.alloc(), count)?);
     let mut trace = trace.taken.as_slice();

@@ -4,9 +4,9 @@ use super::expect::expect_eq;
 use std::test::Fail;
 use swd_fakes::ShortWriter;
 use swd_host::End;
-use swd_run::{Finished, run_traced};
+use swd_run::{EngineFault, Finished, RunFault, TextsFault, run_text};
 use swd_script::ScriptFault;
-use swd_text::{EngineFault, decode_text, encode_text};
+use swd_text::{decode_text, encode_text};
 
 const TRIES: u32 = 8;
 
@@ -27,7 +27,7 @@ const OPENING: &[u8] = b"reset 56\nswitch\nreset 56\nidle 2\ndp 0 read ok 2ba014
 // What a run answers, what it reports, and its trace.
 #[derive(Drop)]
 struct Traced {
-    answer: Result<Finished, EngineFault>,
+    answer: Result<Finished, RunFault>,
     report: Vec<u8>,
     trace: Vec<u8>,
 }
@@ -36,8 +36,8 @@ fn run_on(rt: &HostRuntime, script: &[u8], plan: &[u8]) -> Traced {
     let mut script = script;
     let mut plan = plan;
     let mut report = Vec::new(rt.alloc());
-    let mut trace = Vec::new(rt.alloc());
-    let answer = run_traced(
+    let mut trace = Some(Vec::new(rt.alloc()));
+    let answer = run_text(
         rt.alloc(),
         &mut script,
         &mut plan,
@@ -46,6 +46,7 @@ fn run_on(rt: &HostRuntime, script: &[u8], plan: &[u8]) -> Traced {
         &mut report,
         &mut trace,
     );
+    let trace = trace.unwrap_or(Vec::new(rt.alloc()));
     Traced {
         answer,
         report,
@@ -185,11 +186,19 @@ fn damage_is_traced_as_the_host_sees_it(rt: HostRuntime) -> Result<(), Fail> {
 fn texts_at_fault_leave_both_empty(rt: HostRuntime) {
     let run = run_on(&rt, b"r 20000000\n".as_slice(), b"".as_slice());
     let fault = ScriptFault::NoMemoryLine { line: 1 };
-    expect_eq(&rt, &run.answer, &Err(EngineFault::Script(fault)));
+    expect_eq(
+        &rt,
+        &run.answer,
+        &Err(RunFault::Texts(TextsFault::Script(fault))),
+    );
     assert!(rt; run.report.is_empty() && run.trace.is_empty());
     let run = run_on(&rt, NO_ACCESS, b"flip 33\n".as_slice());
     let fault = ScriptFault::Range { line: 1 };
-    expect_eq(&rt, &run.answer, &Err(EngineFault::Plan(fault)));
+    expect_eq(
+        &rt,
+        &run.answer,
+        &Err(RunFault::Texts(TextsFault::Plan(fault))),
+    );
     assert!(rt; run.report.is_empty() && run.trace.is_empty());
 }
 
@@ -203,8 +212,8 @@ fn traces_at_each_write_that_fails(rt: HostRuntime) {
             let mut script = NO_ACCESS;
             let mut plan = b"".as_slice();
             let mut report = Vec::new(rt.alloc());
-            let mut trace = ShortWriter::new(rt.alloc(), room, fails);
-            let answer = run_traced(
+            let mut trace = Some(ShortWriter::new(rt.alloc(), room, fails));
+            let answer = run_text(
                 rt.alloc(),
                 &mut script,
                 &mut plan,
@@ -213,8 +222,13 @@ fn traces_at_each_write_that_fails(rt: HostRuntime) {
                 &mut report,
                 &mut trace,
             );
+            let trace = trace.expect(&rt, "its writer");
             let written = room as u64;
-            expect_eq(&rt, &answer, &Err(EngineFault::Write { written }));
+            expect_eq(
+                &rt,
+                &answer,
+                &Err(RunFault::Engine(EngineFault::Write { written })),
+            );
             expect_eq(&rt, &report.as_slice(), &NO_ACCESS_REPORT);
             assert!(rt; room <= whole.trace.len());
             assert!(rt; trace.taken() == &whole.trace.as_slice()[..room]);
@@ -230,8 +244,8 @@ fn a_report_that_fails_leaves_no_trace(rt: HostRuntime) {
             let mut script = NO_ACCESS;
             let mut plan = b"".as_slice();
             let mut report = ShortWriter::new(rt.alloc(), room, fails);
-            let mut trace = Vec::new(rt.alloc());
-            let answer = run_traced(
+            let mut trace = Some(Vec::new(rt.alloc()));
+            let answer = run_text(
                 rt.alloc(),
                 &mut script,
                 &mut plan,
@@ -240,8 +254,13 @@ fn a_report_that_fails_leaves_no_trace(rt: HostRuntime) {
                 &mut report,
                 &mut trace,
             );
+            let trace = trace.expect(&rt, "its writer");
             let written = room as u64;
-            expect_eq(&rt, &answer, &Err(EngineFault::Write { written }));
+            expect_eq(
+                &rt,
+                &answer,
+                &Err(RunFault::Engine(EngineFault::Write { written })),
+            );
             expect_eq(&rt, &report.taken(), &&NO_ACCESS_REPORT[..room]);
             assert!(rt; trace.is_empty());
         }

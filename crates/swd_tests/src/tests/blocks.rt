@@ -7,8 +7,8 @@ use std::alloc::Global;
 use std::process::Abort;
 use std::test::Fail;
 use swd_clocked::ClockedBench;
-use swd_host::{Cue, End, Engine, Outcome, run_block};
-use swd_port::{Access, Answer, Due, Transfer};
+use swd_host::{End, Engine, Outcome, run_block};
+use swd_port::{Access, Answer, Cue, Due, Transfer};
 use swd_target::{Bench, Mark, Quirks};
 
 // A block of so many words at an address, what has to come of it, and what is tried by it, in words.
@@ -479,13 +479,13 @@ fn replied(engine: &mut Engine, reply: Reply) {
         Reply::Okay(word) => {
             seen(engine, 1);
             taken(engine, word);
-            if let Cue::Give(_) = engine.cue() {
+            if let Some(Cue::Give(_)) = engine.cue() {
                 engine.done();
             }
         }
         Reply::Damaged => {
             seen(engine, 1);
-            if let Cue::Take = engine.cue() {
+            if let Some(Cue::Take) = engine.cue() {
                 engine.taken(1);
             }
         }

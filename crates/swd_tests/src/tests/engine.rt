@@ -5,8 +5,8 @@ use std::alloc::Global;
 use std::process::Abort;
 use std::test::Fail;
 use swd_bits::{Reg4, Request, data_bits};
-use swd_host::{Cue, End, Engine, Outcome};
-use swd_port::{Access, Answer, Due, Wire};
+use swd_host::{End, Engine, Outcome};
+use swd_port::{Access, Answer, Cue, Due, Wire};
 use swd_target::Bench;
 
 /// What an engine is told, and what it has to say then.
@@ -34,8 +34,8 @@ pub(super) enum Turn {
     Faults(u8),
     /// The request with this byte is its cue, and gets WAIT.
     Waits(u8),
-    /// Its cue.
-    Cue(Cue),
+    /// Its cue, where it has one.
+    Cue(Option<Cue>),
     /// The byte of the request that is its cue.
     Asks(u8),
     /// What it has come to.
@@ -59,27 +59,27 @@ type Place = (&'static str, usize, usize);
 
 /// What is seen after the request that is its cue.
 pub(super) fn seen(engine: &mut Engine, seen: u8) {
-    if let Cue::Ask(_) = engine.cue() {
+    if let Some(Cue::Ask(_)) = engine.cue() {
         engine.seen(seen % 8);
     }
 }
 
 /// The word that is read, where its cue is to take one.
 pub(super) fn taken(engine: &mut Engine, word: u32) {
-    if let Cue::Take = engine.cue() {
+    if let Some(Cue::Take) = engine.cue() {
         engine.taken(data_bits(word));
     }
 }
 
 /// The turnaround, where that is its cue.
 pub(super) fn passed(engine: &mut Engine) {
-    if let Cue::Pass = engine.cue() {
+    if let Some(Cue::Pass) = engine.cue() {
         engine.done();
     }
 }
 
 fn lead(engine: &mut Engine) {
-    if let Cue::Lead { .. } = engine.cue() {
+    if let Some(Cue::Lead { .. }) = engine.cue() {
         engine.done();
     }
 }
@@ -88,8 +88,8 @@ fn lead(engine: &mut Engine) {
 fn answered(engine: &mut Engine, word: u32) {
     seen(engine, 1);
     match engine.cue() {
-        Cue::Take => engine.taken(data_bits(word)),
-        Cue::Give(_) => engine.done(),
+        Some(Cue::Take) => engine.taken(data_bits(word)),
+        Some(Cue::Give(_)) => engine.done(),
         _ => {}
     }
 }
@@ -118,7 +118,7 @@ pub(super) fn starts(engine: &mut Engine, access: Access, following: Option<Acce
 // The byte of the request that is its cue; 0 where it has another one.
 fn asked(engine: &Engine) -> u8 {
     match engine.cue() {
-        Cue::Ask(request) => request.bits(),
+        Some(Cue::Ask(request)) => request.bits(),
         _ => 0,
     }
 }
@@ -133,8 +133,8 @@ fn asks<R: Abort>(rt: &R, place: &Place, engine: &mut Engine, byte: u8, number: 
 // The word of the data phase that is due.
 fn moves<R: Abort>(rt: &R, place: &Place, engine: &mut Engine, word: u32) {
     match engine.cue() {
-        Cue::Take => engine.taken(data_bits(word)),
-        Cue::Give(bits) => {
+        Some(Cue::Take) => engine.taken(data_bits(word)),
+        Some(Cue::Give(bits)) => {
             expect_eq_at(rt, place, &bits, &data_bits(word));
             engine.done();
         }
@@ -144,7 +144,7 @@ fn moves<R: Abort>(rt: &R, place: &Place, engine: &mut Engine, word: u32) {
 
 // A word with wrong parity, where its cue is to take one.
 fn damaged(engine: &mut Engine) {
-    if let Cue::Take = engine.cue() {
+    if let Some(Cue::Take) = engine.cue() {
         engine.taken(0x1_0000_0000);
     }
 }
@@ -210,18 +210,18 @@ const LOST: Option<Outcome> = Some(Outcome::Stopped(End::Lost));
 // An engine that stopped at its first request.
 const LOST_AT_ONCE: &[Turn] = &[
     Turn::Finished(LOST),
-    Turn::Cue(Cue::Rest),
+    Turn::Cue(None),
     Turn::Begun(0),
     Turn::Requests(1),
 ];
 
 // An engine that has a turnaround to send, and then stops at its first request.
 const CONFUSED_AT_ONCE: &[Turn] = &[
-    Turn::Cue(Cue::Pass),
+    Turn::Cue(Some(Cue::Pass)),
     Turn::Finished(None),
     Turn::Passed,
     Turn::Finished(CONFUSED),
-    Turn::Cue(Cue::Rest),
+    Turn::Cue(None),
     Turn::Begun(0),
     Turn::Requests(1),
 ];
@@ -236,16 +236,12 @@ const REFUSED: &[Turn] = &[
     Turn::Passed,
 ];
 
-const CONFUSED_IN_A_WRITE: &[Turn] = &[
-    Turn::Finished(CONFUSED),
-    Turn::Cue(Cue::Rest),
-    Turn::Begun(1),
-];
+const CONFUSED_IN_A_WRITE: &[Turn] = &[Turn::Finished(CONFUSED), Turn::Cue(None), Turn::Begun(1)];
 
 // An engine that clears a flag.
 const CLEARS_IN_A_WRITE: &[Turn] = &[
     Turn::Finished(None),
-    Turn::Cue(Cue::Ask(ABORT_WRITE)),
+    Turn::Cue(Some(Cue::Ask(ABORT_WRITE))),
     Turn::Begun(1),
 ];
 
@@ -258,13 +254,14 @@ const ROWS: [Row; 21] = [
         name: "an engine begins with the lead and DPIDR",
         tries: 8,
         turns: &[&[
-            Turn::Cue(Cue::Lead {
+            Turn::Cue(Some(Cue::Lead {
                 ones: 56,
+                undriven: 0,
                 switch: true,
                 zeros: 2,
-            }),
+            })),
             Turn::Led,
-            Turn::Cue(Cue::Ask(DPIDR_READ)),
+            Turn::Cue(Some(Cue::Ask(DPIDR_READ))),
             Turn::Finished(None),
             Turn::Requests(0),
         ]],
@@ -310,7 +307,7 @@ const ROWS: [Row; 21] = [
         turns: &[&[
             Turn::Led,
             Turn::Seen(1),
-            Turn::Cue(Cue::Take),
+            Turn::Cue(Some(Cue::Take)),
             Turn::Finished(None),
             Turn::Requests(1),
         ]],
@@ -323,7 +320,7 @@ const ROWS: [Row; 21] = [
             Turn::Seen(1),
             Turn::Taken(0x2ba0_1476),
             Turn::Finished(Some(Outcome::Stopped(End::WrongId(0x2ba0_1476)))),
-            Turn::Cue(Cue::Rest),
+            Turn::Cue(None),
             Turn::Begun(0),
             Turn::Requests(1),
         ]],
@@ -336,7 +333,7 @@ const ROWS: [Row; 21] = [
             Turn::Seen(1),
             Turn::Taken(0x2ba0_1477),
             Turn::Finished(None),
-            Turn::Cue(Cue::Ask(ABORT_WRITE)),
+            Turn::Cue(Some(Cue::Ask(ABORT_WRITE))),
         ]],
     },
     Row {
@@ -400,29 +397,32 @@ fn an_engine_does_what_each_reply_asks_for(rt: HostRuntime) {
 pub(super) fn goes_on(wire: &mut Bench, engine: &mut Engine) -> bool {
     match (engine.cue(), wire.due()) {
         (
-            Cue::Lead {
-                ones: 56,
-                switch: true,
-                zeros: 2,
-            },
+            Some(
+                Cue::Lead {
+                    ones: 56,
+                    undriven: 0,
+                    switch: true,
+                    zeros: 2,
+                },
+            ),
             Due::Nothing,
         ) => {
             wire.lead(56, true, 2);
             engine.done();
         }
-        (Cue::Ask(request), Due::Nothing) => {
+        (Some(Cue::Ask(request)), Due::Nothing) => {
             let number = wire.ask(request);
             engine.seen(number);
         }
-        (Cue::Take, Due::Take) => {
+        (Some(Cue::Take), Due::Take) => {
             let bits = wire.take();
             engine.taken(bits);
         }
-        (Cue::Give(bits), Due::Give) => {
+        (Some(Cue::Give(bits)), Due::Give) => {
             wire.give(bits);
             engine.done();
         }
-        (Cue::Pass, Due::Pass) => {
+        (Some(Cue::Pass), Due::Pass) => {
             wire.pass();
             engine.done();
         }

@@ -4,7 +4,8 @@ use super::expect::expect_eq_at;
 use super::row::{QUIRKS, READ, WRITE, run_of, target_of};
 use std::alloc::Global;
 use std::test::Fail;
-use swd_host::{Cue, End, Engine, Outcome};
+use swd_host::{End, Engine, Outcome};
+use swd_port::Cue;
 use swd_target::Bench;
 
 // The two accesses send fifteen requests.
@@ -23,7 +24,9 @@ fn engine_at(alloc: Global, place: u64) -> Result<Option<Engine>, Fail> {
     let mut engine = Engine::new(8);
     let mut accesses = [WRITE, READ].into_iter();
     for _ in 0..100u8 {
-        if matches!(engine.cue(), Cue::Ask(_)) && engine.requests().saturating_add(1) >= place {
+        if matches!(engine.cue(), Some(Cue::Ask(_)))
+            && engine.requests().saturating_add(1) >= place
+        {
             return Ok(Some(engine));
         }
         if goes_on(&mut bench, &mut engine) {
@@ -73,7 +76,7 @@ fn each_reply_that_no_target_gives_stops_an_engine_at_each_request(
             let ended = Some(Outcome::Stopped(end));
             expect_eq_at(&rt, &(place, number), &engine.finished(), &ended);
             expect_eq_at(&rt, &(place, number), &engine.requests(), &requests);
-            expect_eq_at(&rt, &(place, number), &engine.cue(), &Cue::Rest);
+            expect_eq_at(&rt, &(place, number), &engine.cue(), &None);
         }
     }
     Ok(())

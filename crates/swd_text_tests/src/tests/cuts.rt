@@ -4,7 +4,7 @@ use std::alloc::Global;
 use std::io;
 use std::io::Read;
 use std::test::Fail;
-use swd_text::{EngineFault, decode_text, encode_text};
+use swd_text::{DecodeFault, decode_text, encode_text};
 
 // A run without accesses, from its line reset to its idle cycles.
 const RUN: &[u8] = b"reset 56\nswitch\nreset 56\nidle 2\ndp 0 read ok 2ba01477\n\
@@ -66,7 +66,7 @@ fn a_trace_cut_off_at_each_bit(rt: HostRuntime) -> Result<(), Fail> {
         let mut reader = CutReader { text: bits };
         let mut decided = Vec::new(rt.alloc());
         let answer = decode_text(&mut reader, &mut decided);
-        expect_eq(&rt, &answer, &Err(EngineFault::Read));
+        expect_eq(&rt, &answer, &Err(DecodeFault::Read));
         expect_at(&rt, &len, RUN.starts_with(decided.as_slice()));
     }
     Ok(())

@@ -8,7 +8,7 @@ use std::process::Abort;
 use std::test::Fail;
 use swd_bits::{OneFault, one_text};
 use swd_fakes::{CountingWriter, FailingReader, ShortWriter, WatchingReader};
-use swd_text::{EngineFault, TextFault, decode_text, encode_text};
+use swd_text::{DecodeFault, EncodeFault, TextFault, decode_text, encode_text};
 use swd_trace::ListFault;
 
 // Forty-nine ones and a zero; fifty ones and a zero; a line reset, the switch, and a line reset again.
@@ -202,7 +202,7 @@ fn listed_in_two(
     alloc: Global,
     text: &[u8],
     cut: usize,
-) -> Result<(Result<(), EngineFault>, Vec<u8>), Fail> {
+) -> Result<(Result<(), DecodeFault>, Vec<u8>), Fail> {
     let (first, second) = text.split_at_checked(cut).ok_or("cut")?;
     let mut reader = first.chain(second);
     let mut out = Vec::new(alloc);
@@ -216,7 +216,7 @@ fn is_listed<R: Abort>(
     alloc: Global,
     name: &str,
     trace: &[u8],
-    wanted: &Result<(), EngineFault>,
+    wanted: &Result<(), DecodeFault>,
     listing: &[u8],
 ) -> Result<(), Fail> {
     for cut in 0..=trace.len() {
@@ -231,7 +231,7 @@ fn is_listed<R: Abort>(
 fn a_trace_is_listed_however_it_is_cut(rt: HostRuntime) -> Result<(), Fail> {
     for (name, trace, listing, fault) in DECODED {
         let wanted = match fault {
-            Some(fault) => Err(EngineFault::Text(fault)),
+            Some(fault) => Err(DecodeFault::Text(fault)),
             None => Ok(()),
         };
         is_listed(&rt, rt.alloc(), name, trace, &wanted, listing)?;
@@ -251,7 +251,7 @@ fn a_trace_is_listed_however_it_is_cut(rt: HostRuntime) -> Result<(), Fail> {
 fn a_listing_has_its_trace_or_its_fault(rt: HostRuntime) {
     for (name, listing, trace, fault) in ENCODED {
         let wanted = match fault {
-            Some(fault) => Err(EngineFault::List(fault)),
+            Some(fault) => Err(EncodeFault::List(fault)),
             None => Ok(()),
         };
         let mut reader = listing;
@@ -309,7 +309,7 @@ fn decoding_at_each_read_that_fails(rt: HostRuntime) {
             &rt,
             &i,
             &decode_text(&mut reader, &mut out),
-            &Err(EngineFault::Read),
+            &Err(DecodeFault::Read),
         );
         // The zero ends the reset. Directly after it 01 may go on as a switch, and 010 not.
         let lines = match i {
@@ -328,7 +328,7 @@ fn encoding_at_each_read_that_fails(rt: HostRuntime) {
         let mut reader = FailingReader::new(listing, i);
         let mut out = Vec::new(rt.alloc());
         let answer = encode_text(rt.alloc(), &mut reader, &mut out);
-        expect_eq_at(&rt, &i, &answer, &Err(EngineFault::Read));
+        expect_eq_at(&rt, &i, &answer, &Err(EncodeFault::List(ListFault::Read)));
         assert!(rt; out.is_empty());
     }
 }
@@ -342,7 +342,7 @@ fn decoding_at_each_write_that_fails(rt: HostRuntime) {
             let mut reader = RESET;
             let answer = decode_text(&mut reader, &mut writer);
             let written = room as u64;
-            expect_eq(&rt, &answer, &Err(EngineFault::Write { written }));
+            expect_eq(&rt, &answer, &Err(DecodeFault::Write { written }));
             expect_eq(&rt, &writer.taken(), &&lines[..room]);
         }
     }
@@ -365,7 +365,7 @@ fn decoding_more_than_a_block_where_a_write_fails(rt: HostRuntime) -> Result<(),
             let mut reader = trace.as_slice();
             let answer = decode_text(&mut reader, &mut writer);
             let written = room as u64;
-            expect_eq(&rt, &answer, &Err(EngineFault::Write { written }));
+            expect_eq(&rt, &answer, &Err(DecodeFault::Write { written }));
             assert!(rt; room <= lines.len());
             expect_eq(&rt, &writer.taken(), &&lines.as_slice()[..room]);
         }
@@ -384,7 +384,7 @@ fn encoding_at_each_write_that_fails(rt: HostRuntime) {
             let mut reader = b"reset 58\nidle 1\ndp 0 read ok 2ba01477\n".as_slice();
             let answer = encode_text(rt.alloc(), &mut reader, &mut writer);
             let written = room as u64;
-            expect_eq(&rt, &answer, &Err(EngineFault::Write { written }));
+            expect_eq(&rt, &answer, &Err(EncodeFault::Write { written }));
             expect_eq(&rt, &writer.taken(), &&trace[..room]);
         }
     }
@@ -406,7 +406,7 @@ fn encoding_with_memory_refused(rt: HostRuntime) -> Result<(), Fail> {
         match encode_text(&heap, &mut reader, &mut out) {
             Ok(()) => done = done.saturating_add(1),
             Err(fault) => {
-                expect_eq(&rt, &fault, &EngineFault::Memory);
+                expect_eq(&rt, &fault, &EncodeFault::List(ListFault::Memory));
                 assert!(rt; out.is_empty());
                 refused = refused.saturating_add(1);
             }

@@ -1,6 +1,6 @@
-use Rattle.std.proofs.Common.{◌≡◌, Option, ap, sym, ◌∙◌, arith}
-use Rattle.swd_host.specs.declared.engine.Cue.{Cue}
-use Rattle.swd_host.specs.declared.engine.Cue.TheVariants.{Lead, Ask, Take, Give, Pass, Rest}
+use Rattle.std.proofs.Common.{◌≡◌, Option, Some, None, ap, sym, ◌∙◌, arith}
+use Rattle.swd_port.specs.declared.cue.Cue.{Cue}
+use Rattle.swd_port.specs.declared.cue.Cue.TheVariants.{Lead, Ask, Take, Give, Pass}
 use Rattle.swd_host.specs.declared.outcome.Outcome.{Outcome}
 use Rattle.swd_host.specs.Engines.{cue_of, finished_of}
 use Rattle.swd_c.specs.declared.cue.SwdCue.{SwdCue}
@@ -8,13 +8,13 @@ use Rattle.swd_c.specs.Cues.{told_cue}
 use Rattle.swd_c.proofs.engine.swd_engine_next.Goals as goal
 
 -- no cue of an engine is told as a refusal
-never_refused : (cue : Cue) (outcome : Option Outcome) → (told_cue cue outcome).kind ≡ 255 → ⊥
-never_refused (Lead ones switch zeros) outcome h = omega arith
-never_refused (Ask q) outcome h = omega arith
-never_refused Take outcome h = omega arith
-never_refused (Give bits) outcome h = omega arith
-never_refused Pass outcome h = omega arith
-never_refused Rest outcome h = omega arith
+never_refused : (cue : Option Cue) (outcome : Option Outcome) → (told_cue cue outcome).kind ≡ 255 → ⊥
+never_refused (Some (Lead ones undriven switch zeros)) outcome h = omega arith
+never_refused (Some (Ask q)) outcome h = omega arith
+never_refused (Some Take) outcome h = omega arith
+never_refused (Some (Give bits)) outcome h = omega arith
+never_refused (Some Pass) outcome h = omega arith
+never_refused None outcome h = omega arith
 
 pub returns-clause-same : goal.returns-clause-same
 returns-clause-same c = λ h.

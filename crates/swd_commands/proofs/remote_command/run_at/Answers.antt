@@ -9,13 +9,13 @@ returns-in_default g c =
     g.O.Write.contents
     (g.O.Write.contents c.args.output) (g.I.Read.remaining c.args.input) (g.S.Read.remaining c.args.script.now))
     (sym c.in_default.is)
-    (ran.0, ran.1, _, _, c.run_remote-answer.ensures, c.reached_status.ensures)
+    (ran.0, ran.1, _, _, _, c.run_remote-answer.ensures, c.reached_status.ensures)
 
 pub returns-in-Ok : goal.returns-in-Ok
 returns-in-Ok g c =
-    let ran = c.run_remote_traced-answer.result in
+    let ran = c.run_remote-answer-in-Ok.result in
     subst (λ trace. PerformsAt g.P.Story.at trace c.args.run.now c.reached_status-in-Ok.result g.I.Read.remaining
     g.O.Write.contents
     (g.O.Write.contents c.args.output) (g.I.Read.remaining c.args.input) (g.S.Read.remaining c.args.script.now))
     (sym c.in-Some.is)
-    (inr (ran.0, ran.1, _, _, _, _, c.run_remote_traced-answer.ensures, c.reached_status-in-Ok.ensures))
+    (inr (ran.0, ran.1, _, _, _, _, c.run_remote-answer-in-Ok.ensures, c.reached_status-in-Ok.ensures))

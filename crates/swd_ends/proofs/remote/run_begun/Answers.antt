@@ -1,60 +1,64 @@
 use Rattle.std.proofs.Common.{List, [], map, refl, sym, subst}
-use Rattle.std.proofs.KnownBytes.{Appends-nil}
 use Rattle.std.specs.Prelude.{All as Each}
 use Rattle.swd_port.specs.declared.call.Call.{Call}
 use Rattle.swd_port.specs.Stories.{port_at, FitsStory}
-use Rattle.swd_remote.specs.WholeRuns.{GoesOver, IsUnused}
+use Rattle.swd_remote.specs.WholeRuns.{GoesOver}
 use Rattle.swd_script.specs.Laws.{IsBatch}
 use Rattle.swd_script.specs.Readers.{listed, meaning}
 use Rattle.swd_script.proofs.TextLaws.{is_runnable}
-use Rattle.swd_run.specs.Closing.{WritesSession}
+use Rattle.swd_run.specs.Engine.{AnswersAt, held}
 use Rattle.swd_ends.specs.RemoteRuns.{RanRemote}
-use Rattle.swd_run.specs.Running.{most_begun}
-use Rattle.swd_run.specs.Sessions.{RunsAll, done_of}
-use Rattle.swd_ends.proofs.RemoteLemmas.{is_script, ran_over, remote_runs, went_over}
+use Rattle.swd_ends.proofs.RemoteLemmas.{ran_remote, went_over}
 use Rattle.swd_ends.proofs.remote.run_begun.Goals as goal
 
-pub run_all-session-requires-clause-batches : goal.run_all-session-requires-clause-batches
-run_all-session-requires-clause-batches g c =
+pub run_batches-answer-requires-clause-batches : goal.run_batches-answer-requires-clause-batches
+run_batches-answer-requires-clause-batches g c =
     let read = c.in-Ok.ensures.ok in
     subst (λ batches. Each IsBatch (map listed batches)) (sym c.as_slice-batches.ensures.value)
     (is_runnable read.0 (meaning c.in-Ok.script) read.2).batches
 
-pub returns-in_default : goal.returns-in_default
-returns-in_default g c =
-    let read = c.in-Ok.ensures.ok in (
-      is_script (g.S.Read.remaining c.args.script.now) read.0 (meaning c.in-Ok.script) read.1 read.2,
-      Appends-nil (g.O.Write.contents c.args.report.now),
-      c.run_all-session.new.wire.noted.calls,
-      went_over g.R.Read.remaining g.W.Write.contents g.B.Beginning.sent g.B.Beginning.left
-          c.run_all-session.new.wire.noted.calls
-          c.run_all-session.new.wire.gone c.into_transport.result c.hang_up-line.result (c.into_transport.ensures refl)
-          c.hang_up-line.ensures,
-    )
+pub returns-in-Ok-answer : goal.returns-in-Ok-answer
+returns-in-Ok-answer g c =
+    let read = c.in-Ok.ensures.ok in
+    let story = g.P.Story.at in
+    let ran = c.run_batches-answer in
+    let wire = ran.result.1 in
+    let text = g.S.Read.remaining c.args.script.now in
+    let old = g.O.Write.contents c.args.report.now in
+    let new = g.O.Write.contents ran.new.report in
+    let before = held g.T.Write.contents c.args.trace.now in
+    let after = held g.T.Write.contents ran.new.trace in
+    let Over : List Call → Type 0 = λ calls. ∥ GoesOver g.R.Read.remaining g.W.Write.contents g.B.Beginning.sent
+    g.B.Beginning.left c.hang_up-line.result calls ∥₁ in
+    subst (λ answer. RanRemote story c.args.tries c.args.resumes Over answer text old new before after) c.in-Ok-answer.is
+    (ran_remote (λ w. w.noted.calls) story c.args.tries c.args.resumes Over text read.0 (meaning c.in-Ok.script)
+    c.begun-wire.result wire read.1 read.2 c.begun-wire.ensures
+    (went_over g.R.Read.remaining g.W.Write.contents g.B.Beginning.sent g.B.Beginning.left wire.noted.calls wire.gone
+    c.into_transport.result c.hang_up-line.result (c.into_transport.ensures refl) c.hang_up-line.ensures)
+    ran.result.0 old new before after
+    (subst (λ batches. AnswersAt (λ w. port_at story w.noted.calls) (λ w. []) (λ w. FitsStory story w.noted.calls)
+    c.args.tries c.args.resumes (map listed batches) c.begun-wire.result wire ran.result.0 old new before after)
+    c.as_slice-batches.ensures.value ran.ensures.answer))
 
 pub returns : goal.returns
 returns g c =
     let read = c.in-Ok.ensures.ok in
-    let script = c.in-Ok.script in
     let story = g.P.Story.at in
-    let runs = map done_of c.in-Some.session.runs.items in
+    let ran = c.run_batches-answer in
+    let wire = ran.result.1 in
     let text = g.S.Read.remaining c.args.script.now in
-    let wire = c.run_all-session.new.wire in
-    let line = c.hang_up-line.result in
     let old = g.O.Write.contents c.args.report.now in
-    let new = g.O.Write.contents c.write_session.new.writer in
+    let new = g.O.Write.contents ran.new.report in
+    let before = held g.T.Write.contents c.args.trace.now in
+    let after = held g.T.Write.contents ran.new.trace in
     let Over : List Call → Type 0 = λ calls. ∥ GoesOver g.R.Read.remaining g.W.Write.contents g.B.Beginning.sent
-    g.B.Beginning.left line calls ∥₁ in
-    let done : RanRemote story c.args.tries c.args.resumes text =
-    ran_over (λ w. w.noted.calls) (port_at story) (FitsStory story) [] c.args.tries c.args.resumes text
-    read.0 (meaning script) runs c.begun-wire.result wire read.1 read.2 c.begun-wire.ensures
-    (subst (λ batches. RunsAll (λ w. port_at story w.noted.calls) (λ w. []) (λ w. FitsStory story w.noted.calls)
-    most_begun c.args.tries c.args.resumes (map listed batches) c.begun-wire.result runs wire)
-    c.as_slice-batches.ensures.value c.in-Some.ensures.runs) in
-    remote_runs story c.args.tries c.args.resumes Over
-    (IsUnused g.R.Read.remaining g.W.Write.contents g.B.Beginning.sent g.B.Beginning.left line)
-    text c.write_session.result done old new
-    (subst (λ batches. WritesSession (map listed batches) runs c.write_session.result old new)
-    c.as_slice-batches.ensures.value c.write_session.ensures)
+    g.B.Beginning.left c.hang_up-line.result calls ∥₁ in
+    subst (λ answer. RanRemote story c.args.tries c.args.resumes Over answer text old new before after) c.in-Err-answer.is
+    (ran_remote (λ w. w.noted.calls) story c.args.tries c.args.resumes Over text read.0 (meaning c.in-Ok.script)
+    c.begun-wire.result wire read.1 read.2 c.begun-wire.ensures
     (went_over g.R.Read.remaining g.W.Write.contents g.B.Beginning.sent g.B.Beginning.left wire.noted.calls wire.gone
-    c.into_transport.result line (c.into_transport.ensures refl) c.hang_up-line.ensures)
+    c.into_transport.result c.hang_up-line.result (c.into_transport.ensures refl) c.hang_up-line.ensures)
+    ran.result.0 old new before after
+    (subst (λ batches. AnswersAt (λ w. port_at story w.noted.calls) (λ w. []) (λ w. FitsStory story w.noted.calls)
+    c.args.tries c.args.resumes (map listed batches) c.begun-wire.result wire ran.result.0 old new before after)
+    c.as_slice-batches.ensures.value ran.ensures.answer))

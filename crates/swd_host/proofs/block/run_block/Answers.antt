@@ -2,6 +2,8 @@ use Rattle.swd_host.proofs.Words.{◌≤◌, ◌∙◌, false, length, subst, sy
 use Rattle.swd_host.proofs.Blocked.{may_read}
 use Rattle.swd_host.proofs.Alone.{closes_as}
 use Rattle.swd_host.proofs.Runs.{runs_as}
+use Rattle.swd_host.specs.Sent.{TellsSent}
+use Rattle.swd_host.proofs.Making.{made_as}
 use Rattle.swd_host.proofs.block.run_block.Goals as goal
 
 pub returns-in_default-reads_of-clause-refused : goal.returns-in_default-reads_of-clause-refused
@@ -29,3 +31,8 @@ returns-clause-closes g c =
     subst (λ list. Closes 0 2 list c.args.tries (told_of c.conduct.result) (g.W.Wire.port c.conduct.new.wire).link.due)
     (c.deref.ensures.value ∙ c.in-Ok.ensures)
     (closes_as _ false 0 c.args.tries _ c.blocks-2.result _ _ c.blocks-2.ensures.new c.conduct.ensures.closes)
+
+pub returns-clause-told : goal.returns-clause-told
+returns-clause-told g c = made_as g.W.Wire.notes _ _ _ _
+    (λ calls. subst (λ list. TellsSent list (told_of c.conduct.result) calls) (c.deref.ensures.value ∙ c.in-Ok.ensures))
+    c.conduct.ensures.told

@@ -1,6 +1,7 @@
 use Rattle.swd_host.proofs.Words.{false}
 use Rattle.swd_host.proofs.Starts.{start_due, start_access}
 use Rattle.swd_host.proofs.Ends.{not_opened}
+use Rattle.swd_host.proofs.Making.{made_as}
 use Rattle.swd_host.proofs.running.access.Goals as goal
 
 pub drive-requires : goal.drive-requires
@@ -24,3 +25,11 @@ pub returns-in-Stopped-clause-goes : goal.returns-in-Stopped-clause-goes
 returns-in-Stopped-clause-goes g c = λ lawful.
     let was = c.drive.ensures.goes lawful in
     (was.0, (c.start.new.self, c.start.ensures.starts, was.1))
+
+pub returns-in-Answered-clause-made : goal.returns-in-Answered-clause-made
+returns-in-Answered-clause-made g c = made_as g.W.Wire.notes _ _ _ _
+    (λ calls turns. (c.start.new.self, c.start.ensures.starts, turns)) c.drive.ensures.made
+
+pub returns-in-Stopped-clause-made : goal.returns-in-Stopped-clause-made
+returns-in-Stopped-clause-made g c = made_as g.W.Wire.notes _ _ _ _
+    (λ calls turns. (c.start.new.self, c.start.ensures.starts, turns)) c.drive.ensures.made

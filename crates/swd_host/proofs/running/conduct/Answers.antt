@@ -1,7 +1,12 @@
-use Rattle.swd_host.proofs.Words.{ap, false, ◌∙◌, ◌++◌, told_by}
+use Rattle.swd_host.proofs.Words.{ap, arith, [], false, ◌∙◌, ◌++◌, told_by}
 use Rattle.std.proofs.Common.{rules}
 use Rattle.swd_host.proofs.Alone.{opening_closes, list_closes, closes_told}
 use Rattle.swd_host.proofs.Runs.{opening_stops, list_fits, told_as}
+use Rattle.swd_host.specs.Calls.{Turns}
+use Rattle.swd_host.specs.Stages.{Tells}
+use Rattle.swd_host.proofs.Making.{made_as, made_then}
+use Rattle.swd_host.proofs.SendingTurns.{opening_counts, opening_ends}
+use Rattle.swd_host.proofs.SendingRuns.{closes_small, tells_told}
 use Rattle.swd_host.proofs.running.conduct.Goals as goal
 
 pub returns-in-Err-clause-fits : goal.returns-in-Err-clause-fits
@@ -46,3 +51,27 @@ returns-clause-closes g c =
     (list_closes c.args.engine.bursts false c.args.engine.tries c.args.engine c.open.new.engine (search rules)
     c.requires.new c.open.ensures.works c.args.accesses.now c.perform-ended.new.engine c.perform-ended.result _
     c.args.answers.items c.perform-ended.new.answers.items p)
+
+pub returns-in-Err-clause-told : goal.returns-in-Err-clause-told
+returns-in-Err-clause-told g c = made_as g.W.Wire.notes _ _ _ _
+    (λ calls turns. tells_told c.args.accesses.now [] c.open.new.engine c.in-Err.end _ calls
+    (c.report_of.ensures ∙ ap (λ l. told_by l c.open.new.engine c.in-Err.end) c.requires.none)
+    (closes_small 0 _ c.args.accesses.now c.args.engine.tries _ _ (omega arith) c.requires.accepted.0 (search rules)
+    (returns-in-Err-clause-closes g c))
+    (opening_ends c.args.accesses.now c.args.engine.bursts false c.args.engine.tries c.args.engine c.open.new.engine
+    c.in-Err.end calls c.requires.new turns))
+    c.open.ensures.made
+
+pub returns-clause-told : goal.returns-clause-told
+returns-clause-told g c = made_then g.W.Wire.notes (λ calls. Turns c.args.engine calls c.open.new.engine)
+    (Tells c.args.accesses.now c.open.new.engine c.perform-ended.new.engine c.args.answers.items
+    c.perform-ended.new.answers.items c.perform-ended.result) _ _ _ _
+    (λ early late turns tells. tells_told c.args.accesses.now tells.answers c.perform-ended.new.engine
+    c.perform-ended.result _ (late ++ early)
+    (c.report_of-2.ensures ∙ ap (λ l. told_by l c.perform-ended.new.engine c.perform-ended.result)
+    (tells.added ∙ ap (λ l. l ++ tells.answers) c.requires.none))
+    (closes_small 0 _ c.args.accesses.now c.args.engine.tries _ _ (omega arith) c.requires.accepted.0 (search rules)
+    (returns-clause-closes g c))
+    (tells.ends early (opening_counts c.args.accesses.now c.args.engine.bursts false c.args.engine.tries c.args.engine
+    c.open.new.engine early c.requires.new turns c.in_default.ensures.finished)))
+    c.open.ensures.made c.perform-ended.ensures.told

@@ -5,6 +5,8 @@ use Rattle.swd_host.proofs.Lists.{some_follows}
 use Rattle.swd_host.proofs.Ends.{stopped_state}
 use Rattle.swd_host.proofs.Alone.{opened_stays, access_performs, answered_stays, all_performs, stop_never, start_never}
 use Rattle.swd_host.proofs.Performing.{opened_stands, access_does, answered_stands, all_does}
+use Rattle.swd_host.proofs.Making.{made_none, made_then}
+use Rattle.swd_host.proofs.SendingRuns.{answered_follows, stopped_tells, all_tells}
 use Rattle.swd_host.proofs.running.perform.Goals as goal
 
 pub loop-index-init : goal.loop-index-init
@@ -17,6 +19,7 @@ loop-index-init g c = record {
     opened_stands c.args.accesses.now c.args.engine.now (g.W.Wire.port c.args.wire.now)
         c.requires.opened c.requires.due,
   );
+  told = made_none g.W.Wire.notes _ _ (λ past counts. counts);
   capacity = omega (arith, c.requires.room);
   plan = refl;
 }
@@ -75,6 +78,11 @@ loop-index-preserved g c =
                 soon.1 late.1.1 late.1.2 c.access.ensures.due c.in-Ok.answer (v.added.part ++ c.in-Ok.answer ∷ []) refl
                 (some_follows _ _ _ c.following-following.ensures) c.in-Ok.ensures.finished,
           ));
+      told = made_then g.W.Wire.notes _ _ _ _ _ _
+          (answered_follows c.loop-index.index c.args.accesses.now c.args.engine.now c.loop-index.engine
+          c.access.new.engine v.added.part (g.W.Wire.port c.loop-index.wire) _ _ v.stays c.loop-index-test.true
+          (some_follows _ _ _ c.following-following.ensures) c.in-Ok.answer c.in-Ok.ensures.finished)
+          v.told c.access.ensures.made;
       capacity = omega (arith, v.capacity, c.push.ensures.capacity);
       plan = c.access.ensures.plan ∙ v.plan;
     }
@@ -94,5 +102,24 @@ returns-clause-does g c = λ lawful.
           c.loop-index.invariant.added.part (g.W.Wire.port c.args.wire.now) (g.W.Wire.port c.loop-index.wire)
           c.requires.opened
           (omega arith) soon.1 c.args.answers.now.items c.loop-index.answers.items
-          (g.W.Wire.port c.idle.new.self) c.loop-index.invariant.added.whole late.1,
+          (g.W.Wire.port c.idle.new.wire) c.loop-index.invariant.added.whole late.1,
     )
+
+pub returns-in-Err-clause-told : goal.returns-in-Err-clause-told
+returns-in-Err-clause-told g c =
+    let works = c.access.ensures.works in
+    let at = stopped_state c.access.new.engine.state c.access.new.engine.task c.in-Err.end c.in-Err.ensures.finished in
+    made_then g.W.Wire.notes _ _ _ _ _ _
+    (stopped_tells c.loop-index.index c.args.accesses.now c.args.engine.now c.loop-index.engine c.access.new.engine
+    c.loop-index.invariant.added.part (g.W.Wire.port c.loop-index.wire) _ _ c.loop-index.invariant.stays
+    c.loop-index-test.true (some_follows _ _ _ c.following-following.ensures) c.in-Err.end at
+    (stop_never works.0 _ c.in-Err.end works.2 (start_never _ _ c.loop-index.engine works.0 works.1) at)
+    c.args.answers.now.items c.loop-index.answers.items c.loop-index.invariant.added.whole)
+    c.loop-index.invariant.told c.access.ensures.made
+
+pub returns-clause-told : goal.returns-clause-told
+returns-clause-told g c = made_then g.W.Wire.notes _ _ _ _ _ _
+    (all_tells c.loop-index.index c.args.accesses.now c.args.engine.now c.loop-index.engine
+    c.loop-index.invariant.added.part (g.W.Wire.port c.loop-index.wire) c.loop-index.invariant.stays (omega arith)
+    c.args.answers.now.items c.loop-index.answers.items c.loop-index.invariant.added.whole)
+    c.loop-index.invariant.told c.idle.ensures.made

@@ -1,6 +1,8 @@
 use Rattle.swd_host.proofs.Words.{◌≡◌, ◌+◌, ◌≤◌, ◌++◌, List, length, Answer, Stands}
 use Rattle.std.specs.Vec.{vec_capacity}
 use Rattle.swd_host.specs.Standing.{Stays}
+use Rattle.swd_host.specs.Sent.{Made}
+use Rattle.swd_host.proofs.SendingRuns.{Keeping}
 use Rattle.swd_host.proofs.running.perform.Given as goal
 
 -- these answers were added
@@ -15,5 +17,6 @@ invariant-loop-index g l = record {
   stands : g.W.Wire.lawful l.wire → g.W.Wire.lawful l.fn.wire
       × Stands l.index l.accesses l.fn.engine (g.W.Wire.port l.fn.wire) l.engine added.part (g.W.Wire.port l.wire);
   capacity : length l.fn.answers.items + length l.accesses ≤ vec_capacity l.answers;
+  told : Made g.W.Wire.notes (Keeping l.accesses added.part l.fn.engine l.engine) l.fn.wire l.wire;
   plan : g.W.Wire.plan l.wire ≡ g.W.Wire.plan l.fn.wire;
 }

@@ -1,5 +1,5 @@
 use Rattle.std.proofs.Common.{◌≡◌, ◌+◌, ◌-◌, ◌*◌, ◌^◌, ◌<◌, length, drop, sym, subst, lit<}
-use Rattle.swd_remote.specs.Characters.{levels}
+use Rattle.swd_sequences.specs.Clocks.{levels}
 use Rattle.swd_remote.proofs.LevelLemmas.{next_level, next_bound, no_levels, from_bit}
 use Rattle.swd_remote.proofs.levels.number_of.Goals as goal
 

@@ -1,5 +1,5 @@
 use Rattle.std.proofs.Common.{◌≡◌, ◌-◌, ◌^◌, ◌<◌, length, drop}
-use Rattle.swd_remote.specs.Characters.{levels}
+use Rattle.swd_sequences.specs.Clocks.{levels}
 use Rattle.swd_remote.proofs.levels.number_of.Given as goal
 
 abbrev pub invariant-loop-place : goal.invariant-loop-place

@@ -1,6 +1,6 @@
 use Rattle.std.proofs.Common.{◌%◌, List, ℕ, ◌++◌, ◌∙◌, ap, sym, append_assoc, subst}
 use Rattle.std.specs.Prelude.{◌==◌}
-use Rattle.swd_remote.specs.Characters.{driven_clock}
+use Rattle.swd_sequences.specs.Clocks.{driven_clock}
 use Rattle.swd_remote.specs.Ways.{Lengthens}
 use Rattle.swd_remote.proofs.WayLemmas.{longer_twice, all_put}
 use Rattle.swd_remote.proofs.LevelLemmas.{next_clock, none_left}

@@ -1,6 +1,6 @@
 use Rattle.std.proofs.Common.{◌≡◌, ℕ, ◌-◌, List, ◌++◌, map}
 use Rattle.swd_bits.specs.Bits.{low_bits}
-use Rattle.swd_remote.specs.Characters.{driven_clock, joined}
+use Rattle.swd_sequences.specs.Clocks.{driven_clock, joined}
 use Rattle.swd_remote.specs.Ways.{Lengthens}
 use Rattle.swd_remote.proofs.remote.put_bits.Given as goal
 

@@ -1,6 +1,6 @@
 use Rattle.std.proofs.Common.{◌≡◌, ℕ, ◌-◌, List, ◌++◌}
 use Rattle.std.specs.Prelude.{replicate}
-use Rattle.swd_remote.specs.Characters.{joined}
+use Rattle.swd_sequences.specs.Clocks.{joined}
 use Rattle.swd_remote.specs.Ways.{Lengthens}
 use Rattle.swd_remote.proofs.remote.put_times.Given as goal
 

@@ -3,7 +3,7 @@ use Rattle.std.proofs.lemmas.List.{length-append}
 use Rattle.swd_host.specs.Reports.{told_of}
 use Rattle.swd_script.specs.Readers.{listed}
 use Rattle.swd_run.specs.declared.going_on.Stop.{Stop}
-use Rattle.swd_run.specs.Running.{most_begun}
+use Rattle.swd_run.specs.Sessions.{most_begun}
 use Rattle.swd_run.specs.GoingOn.{Went, ran, resumed, stop_of}
 use Rattle.swd_run.proofs.going_on.run_on.Goals as goal
 

@@ -1,7 +1,7 @@
 use Rattle.std.proofs.Common.{◌≡◌, ◌≤◌, length}
 use Rattle.swd_host.specs.Reports.{told_of}
 use Rattle.swd_script.specs.Readers.{listed}
-use Rattle.swd_run.specs.Running.{most_begun}
+use Rattle.swd_run.specs.Sessions.{most_begun}
 use Rattle.swd_run.specs.GoingOn.{Went}
 use Rattle.swd_run.proofs.going_on.run_on.Given as goal
 

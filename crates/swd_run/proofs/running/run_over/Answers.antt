@@ -5,7 +5,7 @@ use Rattle.std.proofs.lemmas.Result.{IfOk-weaker}
 use Rattle.swd_host.specs.Plain.{AreAccesses}
 use Rattle.swd_host.specs.Reports.{Closes, RunsWithin, told_of}
 use Rattle.swd_script.specs.Readers.{listed}
-use Rattle.swd_run.specs.Running.{most_begun}
+use Rattle.swd_run.specs.Sessions.{most_begun}
 use Rattle.swd_run.proofs.RunLemmas.{block_over, list_over}
 use Rattle.swd_run.proofs.running.run_over.Goals as goal
 use Rattle.swd_run.proofs.running.run_over.Goals.{in-Some, in-None}

@@ -1,34 +1,41 @@
 use Rattle.std.proofs.Common.{◌≤◌, List, map, sym, ap, subst}
+use Rattle.std.proofs.KnownBytes.{Appends-nil}
 use Rattle.std.specs.Prelude.{All as Each}
 use Rattle.swd_port.specs.declared.mark.Mark.{Mark}
 use Rattle.swd_port.specs.Choices.{disturbed_among, lost_among}
 use Rattle.swd_target.specs.Benches.{plan_of, port_of}
 use Rattle.swd_script.specs.Laws.{IsBatch}
 use Rattle.swd_script.specs.Readers.{listed, meaning}
-use Rattle.swd_run.specs.Running.{most_begun}
-use Rattle.swd_run.specs.Sessions.{RunsAll, done_of}
-use Rattle.swd_run.proofs.SessionLemmas.{script_runs}
+use Rattle.swd_run.specs.Engine.{AnswersAt, held}
+use Rattle.swd_run.proofs.EngineLemmas.{left_alone, script_answers}
 use Rattle.swd_run.proofs.running.run_script.Goals as goal
 
-pub run_all-requires-clause-batches : goal.run_all-requires-clause-batches
-run_all-requires-clause-batches g c =
+pub run_batches-answer-requires-clause-batches : goal.run_batches-answer-requires-clause-batches
+run_batches-answer-requires-clause-batches g c =
     subst (λ batches. Each IsBatch (map listed batches)) (sym c.as_slice-batches.ensures.value)
     c.requires.script.batches
 
-pub run_all-requires-clause-due : goal.run_all-requires-clause-due
-run_all-requires-clause-due g c = ap (λ x. x.link.due) c.in_ok-bench.ensures.port
+pub run_batches-answer-requires-clause-due : goal.run_batches-answer-requires-clause-due
+run_batches-answer-requires-clause-due g c = ap (λ x. x.link.due) c.in-Some.ensures.port
 
-pub returns-clause-runs : goal.returns-clause-runs
-returns-clause-runs g c =
-    let runs = map done_of c.in_ok-session.session.runs.items in
-    script_runs port_of plan_of (λ bench. Unit {0}) c.args.tries c.args.resumes (meaning c.args.script.now)
-    c.args.plan.items runs
-    c.in_ok-bench.bench c.run_all.new.wire c.in_ok-bench.ensures.port c.in_ok-bench.ensures.plan
+pub returns-in_default : goal.returns-in_default
+returns-in_default g c =
+    (Appends-nil (g.W.Write.contents c.args.writer.now), left_alone (held g.T.Write.contents c.args.trace.now))
+
+pub returns : goal.returns
+returns g c =
+    let ran = c.run_batches-answer in
+    let old = g.W.Write.contents c.args.writer.now in
+    let new = g.W.Write.contents ran.new.report in
+    let before = held g.T.Write.contents c.args.trace.now in
+    let after = held g.T.Write.contents ran.new.trace in
+    script_answers port_of plan_of (λ bench. Unit {0}) c.args.tries c.args.resumes (meaning c.args.script.now)
+    c.args.plan.items c.in-Some.bench ran.result.1 c.in-Some.ensures.port c.in-Some.ensures.plan
     (λ bench same. (
       subst (λ (x : List Mark). (port_of bench).tally.disturbed ≤ disturbed_among x) same
           (c.marks_used.ensures.disturbed_most bench),
       subst (λ (x : List Mark). (port_of bench).tally.lost ≤ lost_among x) same (c.marks_used.ensures.lost_most bench),
-    )) tt
-    (subst (λ batches. RunsAll port_of plan_of (λ bench. Unit {0}) most_begun c.args.tries c.args.resumes
-    (map listed batches) c.in_ok-bench.bench runs c.run_all.new.wire)
-    c.as_slice-batches.ensures.value c.in_ok-session.ensures.runs)
+    )) tt ran.result.0 old new before after
+    (subst (λ batches. AnswersAt port_of plan_of (λ bench. Unit {0}) c.args.tries c.args.resumes (map listed batches)
+    c.in-Some.bench ran.result.1 ran.result.0 old new before after)
+    c.as_slice-batches.ensures.value ran.ensures.answer)

@@ -1,7 +1,7 @@
 use Rattle.std.proofs.Common.{◌≡◌, ◌∙◌, ◌+◌, [], length, map, take, refl, sym, ap, subst, arith}
 use Rattle.swd_script.specs.Readers.{listed}
 use Rattle.swd_script.specs.Laws.{IsBatch}
-use Rattle.swd_run.specs.Running.{most_begun}
+use Rattle.swd_run.specs.Sessions.{most_begun}
 use Rattle.swd_run.specs.Sessions.{Runs, done_of, ended_of, none}
 use Rattle.swd_run.proofs.SessionLemmas.{batch_at, due_then, ended_after, length_after, map_length, runs_after}
 use Rattle.swd_run.proofs.session.run_all.Goals as goal

@@ -2,7 +2,7 @@ use Rattle.std.proofs.Common.{◌≡◌, ◌≤◌, length, map, take}
 use Rattle.swd_port.specs.declared.wire.Due.TheVariants.{Nothing}
 use Rattle.swd_host.specs.declared.outcome.End.TheVariants.{All}
 use Rattle.swd_script.specs.Readers.{listed}
-use Rattle.swd_run.specs.Running.{most_begun}
+use Rattle.swd_run.specs.Sessions.{most_begun}
 use Rattle.swd_run.specs.Sessions.{Runs, done_of, ended_of}
 use Rattle.swd_run.proofs.session.run_all.Given as goal
 

@@ -1,34 +1,19 @@
-use Rattle.std.proofs.Common.{ℕ, List, [], ◌++◌, Option, None, Some, IfSome, Result, Ok, Err, inl, inr, sym, subst}
-use Rattle.std.specs.Io.KnownBytes.{Consumes, IsAtEnd}
+use Rattle.std.proofs.Common.{ℕ, List, [], ◌++◌, Option, None, Some, IfSome, Ok, Err, inl, inr, sym, subst}
+use Rattle.std.specs.Io.KnownBytes.{Consumes}
 use Rattle.std.proofs.KnownBytes.{Consumes-whole}
-use Rattle.swd_io.specs.Pieces.{Reads, LeadsOn, LeadsToEnd, fault_or}
+use Rattle.swd_io.specs.Pieces.{Reads, LeadsOn, LeadsToEnd}
 use Rattle.swd_io.specs.declared.pieces.Unread.{Unread}
 use Rattle.swd_io.specs.declared.pieces.Unread.TheVariants.{Reader, Consumer}
 use Rattle.swd_trace.specs.declared.item.Item.{Item}
-use Rattle.swd_text.specs.Decoding.{Decodes, Finishes, ReadsAs, StopsWith}
+use Rattle.swd_text.specs.Decoding.{Decodes, Finishes, ReadsAs, StopsWith, decode_fault}
 use Rattle.swd_text.specs.Listers.{HasRead, Ends}
 use Rattle.swd_text.specs.declared.fault.TextFault.{TextFault}
-use Rattle.swd_text.specs.declared.fault.EngineFault.{EngineFault}
-use Rattle.swd_text.specs.declared.fault.EngineFault.TheVariants.{Script, Plan, Text, List as Listing, Read, Write}
-use Rattle.swd_text.specs.declared.fault.EngineFault.TheVariants.{Memory, TraceCut}
+use Rattle.swd_text.specs.declared.fault.TakeFault.{TakeFault}
+use Rattle.swd_text.specs.declared.fault.TakeFault.TheVariants.{Text, Write}
 use Rattle.swd_text.specs.declared.lister.Lister.{Lister}
 use Rattle.swd_text.proofs.DecodingLemmas.{decided_by}
 use Rattle.swd_text.proofs.ListerLemmas.{has_read_nothing}
 use Rattle.swd_text.proofs.decoding.decode_text.Goals as goal
-
-finished : (r : Result (Unit {0}) EngineFault) (text left start now : Option (List ℕ)) (read : List ℕ)
-    → Consumes text left read → IsAtEnd left →
-    Finishes r read start now → Decodes r text left start now
-finished (Ok u) text left start now read h e f =
-    (f.0, e, Consumes-whole text left read (λ bytes. ReadsAs bytes f.0) h e f.1, f.2)
-finished (Err (Write told)) text left start now read h e f = (read, f.0, h, inr (e, f.1), f.2)
-finished (Err Read) text left start now read h e f = absurd f
-finished (Err Memory) text left start now read h e f = absurd f
-finished (Err (Text fault)) text left start now read h e f = absurd f
-finished (Err (Listing fault)) text left start now read h e f = absurd f
-finished (Err (Script fault)) text left start now read h e f = absurd f
-finished (Err (Plan fault)) text left start now read h e f = absurd f
-finished (Err TraceCut) text left start now read h e f = absurd f
 
 -- a fault that was found, whatever follows
 found : (text left : Option (List ℕ)) (read : List ℕ) (fault : TextFault) (items : List Item) → Consumes text left read
@@ -38,40 +23,54 @@ found None left read fault items h f = tt
 found (Some x) None read fault items h f = absurd h
 found (Some x) (Some rest) read fault items h f = subst (StopsWith fault items) (sym h) (f rest)
 
-ended : {W : Type 0} (contents : W → Option (List ℕ)) (fault : EngineFault) (text left start : Option (List ℕ))
+ended : {W : Type 0} (contents : W → Option (List ℕ)) (fault : TakeFault) (text left start : Option (List ℕ))
     (state : Lister × W) (read : List ℕ) →
     Consumes text left read → Ends contents start state fault read
-    → Decodes (Err fault) text left start (contents state.1)
+    → Decodes (Err (decode_fault (Consumer fault))) text left start (contents state.1)
 ended contents (Text fault) text left start state read h e =
     (e.items, found text left read fault e.items h e.stops, e.gone)
 ended contents (Write told) text left start state read h e = (read, e.items, h, inl e.due, e.cut)
-ended contents Read text left start state read h e = absurd e
-ended contents Memory text left start state read h e = absurd e
-ended contents (Listing fault) text left start state read h e = absurd e
-ended contents (Script fault) text left start state read h e = absurd e
-ended contents (Plan fault) text left start state read h e = absurd e
-ended contents TraceCut text left start state read h e = absurd e
 
-unread : {W : Type 0} (contents : W → Option (List ℕ)) (fault : Unread EngineFault) (text left start : Option (List ℕ))
+unread : {W : Type 0} (contents : W → Option (List ℕ)) (fault : Unread TakeFault) (text left start : Option (List ℕ))
     (before after : Lister × W) →
     HasRead contents start before [] →
     Reads (LeadsOn (HasRead contents)) (LeadsToEnd (HasRead contents) (Ends contents)) (Err fault) text left before
     after →
-    Decodes (Err (fault_or fault Read)) text left start (contents after.1)
+    Decodes (Err (decode_fault fault)) text left start (contents after.1)
 unread contents Reader text left start before after h r =
     let read = r.2 start [] h in
     (r.0, read.read.items, r.1, decided_by after.0.decoder after.0.scan r.0 read.read, read.gone)
 unread contents (Consumer fault) text left start before after h r = ended contents fault text left start after r.0 r.1
     (r.2 start [] h)
 
-pub returns-in-Ok : goal.returns-in-Ok
-returns-in-Ok g c =
+pub returns-in-Ok-finish : goal.returns-in-Ok-finish
+returns-in-Ok-finish g c =
     let new = c.new-lister.ensures in
     let start = g.W.Write.contents c.args.writer.now in
     let nothing = has_read_nothing g.W.Write.contents c.new-lister.result c.args.writer.now new.law new.fed new.scan
     new.place new.written in
     let read = c.in-Ok.ensures in
-    finished c.finish.result _ _ start _ read.0 read.1 read.2 (c.finish.ensures start read.0 (read.3 start [] nothing))
+    let finished : Finishes (Ok tt) read.0 start (g.W.Write.contents c.finish.new.writer) =
+    subst (λ r. Finishes r read.0 start (g.W.Write.contents c.finish.new.writer)) c.in-Ok-finish.is
+    (c.finish.ensures start read.0 (read.3 start [] nothing)) in (
+      finished.0,
+      read.2,
+      Consumes-whole (g.R.Read.remaining c.args.reader.now) (g.R.Read.remaining c.read_pieces.new.reader) read.0
+          (λ bytes. ReadsAs bytes finished.0) read.1 read.2 finished.1,
+      finished.2,
+    )
+
+pub returns-in-Err-finish : goal.returns-in-Err-finish
+returns-in-Err-finish g c =
+    let new = c.new-lister.ensures in
+    let start = g.W.Write.contents c.args.writer.now in
+    let nothing = has_read_nothing g.W.Write.contents c.new-lister.result c.args.writer.now new.law new.fed new.scan
+    new.place new.written in
+    let read = c.in-Ok.ensures in
+    let finished : Finishes (Err c.in-Err-finish.written) read.0 start (g.W.Write.contents c.finish.new.writer) =
+    subst (λ r. Finishes r read.0 start (g.W.Write.contents c.finish.new.writer)) c.in-Err-finish.is
+    (c.finish.ensures start read.0 (read.3 start [] nothing)) in
+    (read.0, finished.0, read.1, inr (read.2, finished.1), finished.2)
 
 pub returns-in-Err : goal.returns-in-Err
 returns-in-Err g c =
@@ -81,6 +80,6 @@ returns-in-Err g c =
     new.place new.written in
     subst (λ fault. Decodes (Err fault) (g.R.Read.remaining c.args.reader.now)
     (g.R.Read.remaining c.read_pieces.new.reader) start (g.W.Write.contents c.read_pieces.new.writer))
-    (sym c.fault_or.ensures)
+    (sym c.of.ensures)
     (unread g.W.Write.contents c.in-Err.unread _ _ start (c.new-lister.result, c.args.writer.now)
     (c.read_pieces.new.consumer, c.read_pieces.new.writer) nothing c.in-Err.ensures)

@@ -1,7 +1,7 @@
 use Rattle.std.proofs.Common.{◌≡◌, ◌+◌, [], ◌∷◌, ◌++◌, length, refl, sym, ◌∙◌, subst, arith}
 use Rattle.std.proofs.lemmas.List.{length-append}
 use Rattle.swd_bitbang.specs.declared.pins.Pins.{Pins}
-use Rattle.swd_bitbang.specs.Characters.{character}
+use Rattle.swd_sequences.specs.Alphabet.{character}
 use Rattle.swd_bitbang.specs.Sessions.{told, Session}
 use Rattle.swd_bitbang.proofs.SessionLemmas.{session_more, open_sign, ended_by}
 use Rattle.swd_bitbang.proofs.serving.Server.byte.Goals as goal

@@ -1,7 +1,6 @@
 use Rattle.std.proofs.Common.{Ok, Err, sym, ◌∙◌, subst}
 use Rattle.swd_trace.specs.Reading.{reading_of}
 use Rattle.swd_text.proofs.DecodingLemmas.{reads_as}
-use Rattle.swd_text.specs.declared.fault.EngineFault.TheVariants.{Write}
 use Rattle.swd_capture.specs.Printing.{told, printout}
 use Rattle.swd_capture_text.specs.Captures.{Finishes}
 use Rattle.swd_capture_text.proofs.lister.Lister.finish.Goals as goal
@@ -36,7 +35,7 @@ returns-in-Err g c = λ start printed seen h.
     let last = c.put_last.ensures.lists start printed r.bits r.items
     (record { law = r.law; count = r.count; counted = r.counted; after = h.after; sends = sends }) in
     let all = c.put_rows.ensures.sends start printed (reading_of r.bits) last.0 last.1 in
-    subst (λ w. Finishes printed (Err (Write c.in-Err.written)) seen start (contents w)) (sym same) (
+    subst (λ w. Finishes printed (Err c.in-Err.written) seen start (contents w)) (sym same) (
       reading_of r.bits,
       reads_as lister.decoder lister.scan seen r,
       c.in-Err.ensures.err start (printout printed (reading_of r.bits)) all,

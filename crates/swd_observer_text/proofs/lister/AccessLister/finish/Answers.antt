@@ -1,6 +1,5 @@
 use Rattle.std.proofs.Common.{Ok, Err, sym, ◌∙◌, subst}
 use Rattle.swd_trace.specs.Reading.{reading_of}
-use Rattle.swd_text.specs.declared.fault.EngineFault.TheVariants.{Write}
 use Rattle.swd_text.proofs.DecodingLemmas.{reads_as}
 use Rattle.swd_observer_text.specs.Accesses.{accesses, all_accesses}
 use Rattle.swd_observer_text.specs.Observes.{Finishes}
@@ -32,7 +31,7 @@ returns-in-Err g c = λ start seen h.
     let sends = c.new-block.ensures.sends start.0 (accesses r.items start.1) h.gone h.written in
     let all = c.put_last.ensures.sends start r.bits r.items
     (record { law = r.law; count = r.count; counted = r.counted; watched = h.watched; sends = sends }) in
-    subst (λ w. Finishes start.1 (Err (Write c.in-Err.written)) seen start.0 (contents w)) (sym same) (
+    subst (λ w. Finishes start.1 (Err c.in-Err.written) seen start.0 (contents w)) (sym same) (
       reading_of r.bits,
       reads_as lister.decoder lister.scan seen r,
       c.in-Err.ensures.err start.0 (all_accesses (reading_of r.bits) start.1) all,

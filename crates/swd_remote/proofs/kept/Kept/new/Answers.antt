@@ -7,16 +7,15 @@ use Rattle.swd_remote.proofs.kept.Kept.new.Goals as goal
 
 pub returns : goal.returns
 returns g c =
-    let probe = c.new-transport.ensures.probe in
+    let probe = c.new-transport.ensures in
     let contents = g.W.Write.contents in
     let way = c.new.ensures.out (contents c.args.writer) [] (Appends-nil (contents c.args.writer)) in
     merely (record {
-      start = c.new-transport.result;
+      start = c.new-transport.result.probe;
       fresh = record {
         well = ap (λ (r : Remote g.row.R.Denot g.row.W.Denot). r.fault) probe ∙ c.new.ensures.fault;
         asked = ap (λ (r : Remote g.row.R.Denot g.row.W.Denot). r.asked) probe ∙ c.new.ensures.asked;
         drives = ap (λ (r : Remote g.row.R.Denot g.row.W.Denot). r.drives) probe ∙ c.new.ensures.drives;
-        owes = c.new-transport.ensures.owes;
         writer = subst (λ o. IsOnItsWay contents o c.new-transport.result.probe.outgoing []) (sym c.requires.sent)
             (subst (λ (r : Remote g.row.R.Denot g.row.W.Denot). IsOnItsWay contents (contents c.args.writer) r.outgoing
             []) (sym probe) way);

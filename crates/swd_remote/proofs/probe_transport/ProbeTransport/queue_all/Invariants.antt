@@ -1,11 +1,9 @@
-use Rattle.std.proofs.Common.{◌≡◌, drop}
+use Rattle.std.proofs.Common.{drop}
 use Rattle.swd_remote.specs.Packets.{Queues}
 use Rattle.swd_remote.proofs.probe_transport.ProbeTransport.queue_all.Given as goal
 
--- the stretches that are left make it whole
-abbrev pub invariant-loop-stretch : goal.invariant-loop-stretch
-invariant-loop-stretch g l = record {
-  owes : l.self.owes ≡ l.fn.self.owes;
-  leads : (t : g.row.P.Denot) → Queues g.P.Probe.queues (drop l.stretch-index l.stretches) l.self.probe t
-      → Queues g.P.Probe.queues l.stretches l.fn.self.probe t;
-}
+-- the sequences that are left make it whole
+abbrev pub invariant-loop-sequence : goal.invariant-loop-sequence
+invariant-loop-sequence g l = (t : g.row.P.Denot)
+    → Queues g.P.Probe.queues (drop l.sequence-index l.sequences) l.self.probe t
+    → Queues g.P.Probe.queues l.sequences l.fn.self.probe t

@@ -2,7 +2,6 @@ use Rattle.std.proofs.Common.{Ok, Err, sym, ◌∙◌, subst}
 use Rattle.swd_trace.specs.Reading.{reading_of}
 use Rattle.swd_trace.specs.Texts.{listing}
 use Rattle.swd_text.specs.Decoding.{Finishes}
-use Rattle.swd_text.specs.declared.fault.EngineFault.TheVariants.{Write}
 use Rattle.swd_text.proofs.DecodingLemmas.{reads_as}
 use Rattle.swd_text.proofs.lister.Lister.finish.Goals as goal
 
@@ -32,7 +31,7 @@ returns-in-Err g c = λ start seen h.
     let sends = c.new-block.ensures.sends start (listing r.items) h.gone h.written in
     let all = c.put_last.ensures.sends start r.bits r.items
     (record { law = r.law; count = r.count; counted = r.counted; sends = sends }) in
-    subst (λ w. Finishes (Err (Write c.in-Err.written)) seen start (contents w)) (sym same) (
+    subst (λ w. Finishes (Err c.in-Err.written) seen start (contents w)) (sym same) (
       reading_of r.bits,
       reads_as lister.decoder lister.scan seen r,
       c.in-Err.ensures.err start

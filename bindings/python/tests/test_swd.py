@@ -1,0 +1,689 @@
+"""Tests of swd.py. `python3 -m unittest` in this folder runs them; SWD_LIBRARY names the library.
+
+SWD names the program `swd`, which random lists and traces are then compared with. COUNT is how many random lists are
+run, 300 without it, and SEED where they begin."""
+import concurrent.futures
+import contextlib
+import io
+import itertools
+import os
+import random
+import re
+import subprocess
+import tempfile
+import unittest
+
+import plain
+import swd
+from plain import Damaged, MemoryBus, PlainMemory, PlainTarget
+from swd import BusFault, End, Read, Value, Write, Written
+
+ROOT = os.path.abspath(os.path.join(os.path.dirname(__file__), "..", "..", ".."))
+PROGRAM = os.environ.get("SWD")
+COUNT = int(os.environ.get("COUNT", "300"))
+SEED = int(os.environ.get("SEED", "1"))
+BASE = 0x20000000
+WORD = 0xDEADBEEF
+
+
+def library_target(memory):
+    return swd.Target(MemoryBus(memory))
+
+
+TARGETS = {"the library's target": library_target, "the plain target": PlainTarget}
+
+
+def plan_of(marks):
+    """A plan from marks by the number of their request, from 1."""
+    return [marks.get(number, ".") for number in range(1, max(marks, default=0) + 1)]
+
+
+def reads(addr, count):
+    return [Read(addr + 4 * index) for index in range(count)]
+
+
+# name, marks, tries, words, room, accesses or a block's count, answers, begun, requests, end, log
+ROWS = [
+    ("no access", {}, 8, 16, 16, [], [], 0, 9, "all", []),
+    ("a write and a read", {}, 8, 16, 16, [Write(BASE, WORD), Read(BASE)], [Written(), Value(WORD)], 0, 15, "all",
+     [("w", BASE, WORD), ("r", BASE, WORD)]),
+    ("past the end of the memory", {}, 8, 16, 16, [Read(0x30000000), Read(BASE)], [BusFault(), Value(0)], 0, 18, "all",
+     [("r", BASE, 0)]),
+    ("across a kilobyte", {}, 8, 512, 16, [Write(BASE + 0x3FC, 0x11111111), Write(BASE + 0x400, 0x22222222)],
+     [Written(), Written()], 0, 15, "all", [("w", BASE + 0x3FC, 0x11111111), ("w", BASE + 0x400, 0x22222222)]),
+    ("a log that is full", {}, 8, 16, 2, [Write(BASE, 1), Write(BASE + 4, 2), Write(BASE + 8, 3)],
+     [Written(), Written(), BusFault()], 0, 17, "all", [("w", BASE, 1), ("w", BASE + 4, 2)]),
+    ("three waits", {12: "wait", 13: "wait", 14: "wait"}, 3, 16, 16, [Read(BASE)], [Value(0)], 0, 15, "all",
+     [("r", BASE, 0)]),
+    ("past the tries", {12: "wait", 13: "wait", 14: "wait"}, 2, 16, 16, [Read(BASE)], [], 1, 14, "tries",
+     [("r", BASE, 0)]),
+    ("a changed bit of the word", {12: "flip 0"}, 8, 16, 16, [Read(BASE)], [Value(0)], 0, 13, "all", [("r", BASE, 0)]),
+    ("a changed parity bit", {12: "flip 32"}, 8, 16, 16, [Read(BASE)], [Value(0)], 0, 13, "all", [("r", BASE, 0)]),
+    ("a changed bit of a posted read", {11: "flip 0"}, 8, 16, 16, [Read(BASE)], [Value(0)], 0, 12, "all",
+     [("r", BASE, 0)]),
+    ("a changed bit of a write", {11: "flip 17"}, 8, 16, 16, [Write(BASE, WORD)], [Written()], 0, 17, "all",
+     [("w", BASE, WORD)]),
+    ("a changed bit of ABORT, too", {11: "flip 17", 14: "flip 5"}, 8, 16, 16, [Write(BASE, WORD)], [Written()], 0, 19,
+     "all", [("w", BASE, WORD)]),
+    ("a changed bit of the address", {10: "flip 3"}, 8, 16, 16, [Write(BASE + 8, 1)], [Written()], 0, 17, "all",
+     [("w", BASE + 8, 1)]),
+    ("a write's acknowledgement is lost", {11: "mute 0"}, 8, 16, 16, [Write(BASE, WORD)], [], 1, 11, "lost", []),
+    ("the confirmation's acknowledgement is lost", {12: "deaf"}, 8, 16, 16, [Write(BASE, WORD)], [], 1, 12, "lost",
+     [("w", BASE, WORD)]),
+    ("a block", {}, 8, 16, 16, 4, [Value(0)] * 4, 0, 15, "all", [("r", BASE + 4 * i, 0) for i in range(4)]),
+    ("the same reads one by one", {}, 8, 16, 16, reads(BASE, 4), [Value(0)] * 4, 0, 18, "all",
+     [("r", BASE + 4 * i, 0) for i in range(4)]),
+]
+
+
+class Rows(unittest.TestCase):
+    """Worked runs, over the library's target and over a plain one."""
+
+    def test_rows(self):
+        for row, (target, make) in itertools.product(ROWS, TARGETS.items()):
+            name, marks, tries, words, room, accesses, answers, begun, requests, ended, log = row
+            with self.subTest(name, target=target):
+                memory = PlainMemory(BASE, words, room)
+                host = swd.Host(Damaged(make(memory), plan_of(marks)), tries)
+                report = host.run_block(BASE, accesses) if isinstance(accesses, int) else host.run(accesses)
+                self.assertEqual(report, swd.Report(tuple(answers), begun, requests, End(ended)))
+                self.assertEqual(memory.log, log)
+
+    def test_runs_one_after_the_other(self):
+        """Over one target: words that one run writes are read by the next ones, one by one and as a block."""
+        words = [WORD, 0, 0xFFFFFFFF, 7]
+        for target, make in TARGETS.items():
+            with self.subTest(target):
+                host = swd.Host(Damaged(make(PlainMemory(BASE, 16, 16)), []))
+                written = host.run([Write(BASE + 4 * index, word) for index, word in enumerate(words)])
+                self.assertEqual(written.answers, (Written(),) * 4)
+                for report in (host.run(reads(BASE, 4)), host.run_block(BASE, 4)):
+                    self.assertEqual(report.answers, tuple(map(Value, words)))
+
+    def test_resume(self):
+        """The acknowledgement behind the second write is lost. That write is in the log twice."""
+        accesses = [Write(BASE, WORD), Write(BASE + 16, 1)]
+        for target, make in TARGETS.items():
+            with self.subTest(target):
+                memory = PlainMemory(BASE, 16, 16)
+                host = swd.Host(Damaged(make(memory), plan_of({15: "deaf"})))
+                lost = host.run(accesses)
+                self.assertEqual(lost, swd.Report((Written(),), 1, 15, End.LOST))
+                whole = host.resume(accesses, lost)
+                self.assertEqual(whole, swd.Report((Written(), Written()), 0, 12, End.ALL))
+                self.assertEqual(memory.log, [("w", BASE, WORD), ("w", BASE + 16, 1), ("w", BASE + 16, 1)])
+
+    def test_resume_past_the_tries(self):
+        """Nine requests of the opening, TAR, DRW and RDBUFF. The read is in the log twice."""
+        for target, make in TARGETS.items():
+            with self.subTest(target):
+                memory = PlainMemory(BASE, 16, 16)
+                host = swd.Host(Damaged(make(memory), plan_of({12: "wait", 13: "wait"})), tries=1)
+                stopped = host.run([Read(BASE)])
+                self.assertEqual(stopped, swd.Report((), 1, 13, End.TRIES))
+                whole = host.resume([Read(BASE)], stopped)
+                self.assertEqual(whole, swd.Report((Value(0),), 0, 12, End.ALL))
+                self.assertEqual(memory.log, [("r", BASE, 0)] * 2)
+
+    def test_resume_that_is_lost(self):
+        """What an earlier call started stays begun until it is answered: here in a resumed opening that is lost, past
+        its tries, or whose line fails."""
+        accesses = [Write(BASE, WORD), Write(BASE + 16, 1)]
+        ends = {"deaf": (End.LOST, 1), "flip 0": (End.TRIES, 1), None: (End.LOST, 1)}
+        for mark, (ended, requests) in ends.items():
+            with self.subTest(mark):
+                line = Damaged(PlainTarget(PlainMemory(BASE, 16, 16)), plan_of({15: "deaf", 16: mark or "."}))
+                host = swd.Host(line, tries=0)
+                lost = host.run(accesses)
+                self.assertEqual(lost, swd.Report((Written(),), 1, 15, End.LOST))
+                if mark is None:
+                    line.cycle = None
+                    with self.assertRaises(swd.LineFailed) as caught:
+                        host.resume(accesses, lost)
+                    report = caught.exception.report
+                else:
+                    report = host.resume(accesses, lost)
+                self.assertEqual(report, swd.Report((Written(),), 1, requests, ended))
+
+    def test_wrong_identification(self):
+        """The target's DPIDR is read as 2ba01476: its first bit and the parity bit are changed."""
+        line = Damaged(PlainTarget(PlainMemory(BASE, 1, 1)), [])
+        sample, count = line.sample, itertools.count()
+        line.sample = lambda: sample() ^ (next(count) in (3, 35))
+        report = swd.Host(line).run([Read(BASE)])
+        self.assertEqual(report, swd.Report((), 0, 1, End.WRONG_ID, 0x2BA01476))
+        self.assertEqual(report.lines([Read(BASE)]), ["end id 2ba01476"])
+
+    def test_nobody_there(self):
+        report = swd.Host((lambda bit: None, lambda: 1)).run([Read(BASE)])
+        self.assertEqual(report, swd.Report((), 0, 1, End.LOST))
+
+    def test_confused(self):
+        """FAULT for the read of DPIDR."""
+        levels = itertools.chain([1, 0, 0, 1], itertools.repeat(1))
+        report = swd.Host((lambda bit: None, lambda: next(levels))).run([])
+        self.assertEqual(report, swd.Report((), 0, 1, End.CONFUSED))
+
+
+class Clocks(unittest.TestCase):
+    """Which clocks are driven, released and sampled."""
+
+    LEAD = "1" * 56 + plain.SWITCH + "1" * 56 + "00"
+    ASK = "10100101-???"
+
+    def test_a_run(self):
+        line = Damaged(PlainTarget(PlainMemory(BASE, 1, 1)), [])
+        swd.Host(line).run([])
+        calls = "".join(line.calls)
+        self.assertTrue(calls.startswith(self.LEAD + self.ASK + "?" * 33 + "-"), calls)
+        self.assertTrue(calls.endswith("?" * 33 + "-" + "0" * 8), calls)
+
+    def test_nothing_after_a_lost_acknowledgement(self):
+        line = Damaged(PlainTarget(PlainMemory(BASE, 1, 1)), ["deaf"])
+        swd.Host(line).run([])
+        self.assertEqual("".join(line.calls), self.LEAD + self.ASK)
+
+    def test_the_lead_of_resume_is_released(self):
+        """The target may still drive a data phase: 34 of the hundred ones are released, and no switch is sent."""
+        for mark in ("mute 0", "mute 1", "deaf"):
+            with self.subTest(mark):
+                target = PlainTarget(PlainMemory(BASE, 4, 4))
+                line = Damaged(target, plan_of({12: mark}))
+                host = swd.Host(line)
+                lost = host.run([Read(BASE)])
+                self.assertIs(lost.ended, End.LOST)
+                before = len(line.calls)
+                host.resume([Read(BASE)], lost)
+                calls = "".join(line.calls[before:])
+                self.assertTrue(calls.startswith("-" * 34 + "1" * 66 + "00" + self.ASK), calls)
+                self.assertEqual(target.contended, 0)
+
+    def test_two_functions(self):
+        """The second function samples, and is called where the line is released."""
+        target = swd.Target(MemoryBus(PlainMemory(BASE, 4, 4)))
+        driven, sampled = [], []
+
+        def drive(bit):
+            driven.append(bit)
+            target.drive(bit)
+
+        def sample():
+            sampled.append(target.sample())
+            return sampled[-1]
+
+        report = swd.Host((drive, sample)).run([Write(BASE, WORD), Read(BASE)])
+        self.assertEqual(report, swd.Report((Written(), Value(WORD)), 0, 15, End.ALL))
+        self.assertEqual(len(driven) + len(sampled), target.cycles)
+
+
+def random_mark(rng):
+    kind = rng.choice(["wait", "wait", "flip", "flip", "flip", "deaf", "mute"])
+    return {"flip": f"flip {rng.randrange(33)}", "mute": f"mute {rng.randrange(3)}"}.get(kind, kind)
+
+
+class Session:
+    """A random list over a random plan."""
+
+    WORDS = 520
+
+    def __init__(self, seed):
+        self.rng = rng = random.Random(seed)
+        bad = rng.choice([0, 0.02, 0.1, 0.3])
+        self.plan = [random_mark(rng) if rng.random() < bad else "." for _ in range(rng.randrange(400))]
+        self.tries, self.resumes = rng.choice([0, 1, 2, 8]), rng.choice([0, 0, 1, 3])
+        self.room = rng.randrange(40) if rng.random() < 0.2 and self.resumes == 0 else 65_536
+        self.block = rng.random() < 0.25
+        self.accesses = self._block() if self.block else self._list()
+
+    def _addr(self):
+        pick = self.rng.random()
+        if pick < 0.1:
+            return self.rng.choice([0, 0x30000000, 0xFFFFFFFC, BASE + 4 * self.WORDS])
+        if pick < 0.4:
+            return BASE + 1024 * self.rng.randrange(1, 3) - 4 * self.rng.randrange(1, 5)
+        return BASE + 4 * self.rng.randrange(self.WORDS)
+
+    def _block(self):
+        return swd.block(BASE + 4 * self.rng.randrange(self.WORDS), self.rng.randrange(1, 40))
+
+    def _list(self):
+        accesses = []
+        while len(accesses) < 30 and self.rng.random() < 0.92:
+            addr, reads_them = self._addr(), self.rng.random() < 0.5
+            for index in range(self.rng.choice([1, 1, 2, 6])):
+                at = addr + 4 * index & 0xFFFFFFFF
+                accesses.append(Read(at) if reads_them else Write(at, self.rng.getrandbits(32)))
+        return accesses
+
+    def run(self, host):
+        """The reports of the run and of each time that it was resumed."""
+        if self.block:
+            reports = [host.run_block(self.accesses[0].addr, len(self.accesses))]
+        else:
+            reports = [host.run(self.accesses)]
+        while reports[-1].ended is End.LOST and len(reports) <= self.resumes:
+            reports.append(host.resume(self.accesses, reports[-1]))
+        return reports
+
+    def lines(self, reports):
+        """What `swd run` prints of them."""
+        lines = reports[-1].lines(self.accesses)
+        for report in reversed(reports[:-1]):
+            place = len(report.answers)
+            lines.insert(place, f"resume {place} begun {report.begun}")
+        return lines
+
+    def script(self):
+        lines = [f"memory {BASE:08x} {self.WORDS}", f"room {self.room}"]
+        if self.block:
+            return lines + [f"block {self.accesses[0].addr:08x} {len(self.accesses)}"]
+        for access in self.accesses:
+            word = f" {access.word:08x}" if isinstance(access, Write) else ""
+            lines.append(f"{'w' if word else 'r'} {access.addr:08x}{word}")
+        return lines
+
+    def over(self, make):
+        """The reports over a target of this kind, its memory, its line and itself."""
+        memory = PlainMemory(BASE, self.WORDS, self.room)
+        target = make(memory)
+        line = Damaged(target, self.plan)
+        return self.run(swd.Host(line, self.tries)), memory, line, target
+
+
+def sure_of(test, accesses, report, memory, room, words):
+    """The answers are those of a plain memory. The transfers are those of the answered accesses, and of no more
+    accesses behind them than were begun."""
+    model = PlainMemory(BASE, words, room)
+    answers = tuple(model.answer(access) for access in accesses[:len(report.answers)])
+    test.assertEqual(report.answers, answers)
+    possible = [list(model.log)]
+    for access in accesses[len(answers):len(answers) + report.begun]:
+        model.answer(access)
+        possible.append(list(model.log))
+    test.assertIn(memory.log, possible)
+    left = len(accesses) - len(answers)
+    test.assertLessEqual(report.begun, left)
+    if accesses:
+        test.assertEqual(report.ended is End.ALL, left == 0)
+
+
+class Random(unittest.TestCase):
+    """Random lists of accesses under random damage."""
+
+    def test_against_plain_models(self):
+        ends = {end: 0 for end in End}
+        for seed in range(SEED, SEED + COUNT):
+            with self.subTest(seed=seed):
+                session = Session(seed)
+                reports, memory, line, target = session.over(PlainTarget)
+                again, logged, levels, _ = session.over(library_target)
+                self.assertEqual(again, reports)
+                self.assertEqual(logged.log, memory.log)
+                self.assertEqual(levels.levels, line.levels)
+                self.assertEqual(target.contended, 0)
+                ends[reports[-1].ended] += 1
+                sure_of(self, session.accesses, reports[0], self.first(session), session.room, session.WORDS)
+                self.assert_resumed(session, reports[-1], memory)
+                for report, opening in zip(reports, itertools.chain([10], itertools.repeat(15))):
+                    self.assertLessEqual(
+                        report.requests,
+                        opening + 5 * session.tries + (6 + 5 * session.tries) * len(session.accesses),
+                    )
+        if COUNT >= 100:
+            self.assertTrue(all(ends[end] for end in (End.ALL, End.LOST, End.TRIES)), ends)
+
+    def first(self, session):
+        """The memory after the run alone."""
+        resumes, session.resumes = session.resumes, 0
+        _, memory, _, _ = session.over(PlainTarget)
+        session.resumes = resumes
+        return memory
+
+    def assert_resumed(self, session, report, memory):
+        """Answers, and words once all is done, are those of a run without a loss."""
+        model = PlainMemory(BASE, session.WORDS, session.room)
+        answered = session.accesses[:len(report.answers)]
+        self.assertEqual(report.answers, tuple(model.answer(access) for access in answered))
+        if report.ended is End.ALL:
+            self.assertEqual(memory.words, model.words)
+
+    @unittest.skipUnless(PROGRAM, "SWD names no program")
+    def test_against_the_program(self):
+        """The report is the program's; and where the run wasn't resumed, each clock is that of its trace."""
+        with tempfile.TemporaryDirectory() as folder:
+            for seed in range(SEED, SEED + COUNT):
+                with self.subTest(seed=seed):
+                    session = Session(seed)
+                    reports, _, line, _ = session.over(library_target)
+                    for name, lines in (("script", session.script()), ("plan", session.plan)):
+                        with open(os.path.join(folder, name), "w", encoding="ascii") as written:
+                            written.write("".join(f"{line}\n" for line in lines))
+                    told = subprocess.run(
+                        [PROGRAM, "run", "script", "--plan", "plan", "--tries", str(session.tries), "--resume",
+                         str(session.resumes), "--trace", "trace"],
+                        cwd=folder, stdout=subprocess.PIPE, check=False, universal_newlines=True,
+                    ).stdout.splitlines()
+                    self.assertEqual(session.lines(reports), told)
+                    with open(os.path.join(folder, "trace"), encoding="ascii") as trace:
+                        bits = swd.trace_bits(trace.read())
+                    if len(reports) == 1:
+                        self.assertEqual("".join(map(str, line.levels)), bits)
+
+    def test_lines_that_fail(self):
+        """The line raises an exception at each clock in turn. Nothing is called after it, and what the report says is
+        sure."""
+        lists = ([Write(BASE, WORD), Write(BASE + 4, 2), Read(BASE), Read(0x30000000)], [Read(BASE), Write(BASE, WORD)])
+        for accesses, tries in itertools.product(lists, (0, 8)):
+            whole = Damaged(PlainTarget(PlainMemory(BASE, 16, 16)), [])
+            swd.Host(whole, tries).run(accesses)
+            for at in range(len(whole.calls)):
+                with self.subTest(clock=at, tries=tries):
+                    self.fails(accesses, tries, at)
+
+    def fails(self, accesses, tries, at):
+        memory = PlainMemory(BASE, 16, 16)
+        line = Damaged(PlainTarget(memory), [])
+        cycle, left = line.cycle, iter(range(at, -1, -1))
+
+        def failing(drive):
+            if next(left) == 0:
+                raise OSError("unplugged")
+            return cycle(drive)
+
+        line.cycle = failing
+        with self.assertRaises(swd.LineFailed) as caught:
+            swd.Host(line, tries).run(accesses)
+        report = caught.exception.report
+        self.assertIsInstance(caught.exception.__cause__, OSError)
+        self.assertEqual(len(line.calls), at + 1)
+        sure_of(self, accesses, report, memory, 16, 16)
+        self.assertIs(report.ended, End.ALL if len(report.answers) == len(accesses) else End.LOST)
+
+
+class Quirks(unittest.TestCase):
+    """What a target is made with, by requests that no host of this module sends."""
+
+    def items(self, **quirks):
+        """What TAR reads, and the buffer, after a write at the end of a kilobyte."""
+        target = swd.Target(MemoryBus(PlainMemory(BASE, 512, 16)), **quirks)
+        levels = [target.cycle(int(bit)) for bit in "1" * 50 + "00"]
+
+        def read(byte):
+            levels.extend(target.cycle(byte >> place & 1) for place in range(8))
+            levels.extend(target.cycle(None) for _ in range(38))
+
+        def write(byte, word):
+            levels.extend(target.cycle(byte >> place & 1) for place in range(8))
+            levels.extend(target.cycle(None) for _ in range(5))
+            levels.extend(target.cycle((word | plain.parity(word) << 32) >> place & 1) for place in range(33))
+
+        read(plain.DPIDR)
+        for byte, word in ((plain.CTRL_STAT_WRITE, 0x50000000), (plain.CSW_WRITE, 0x23000012),
+                           (plain.TAR, BASE + 0x3FC), (plain.DRW_WRITE, WORD)):
+            write(byte, word)
+        for byte in (plain.TAR_READ, plain.RDBUFF, plain.RDBUFF):
+            read(byte)
+        self.assertEqual(target.cycles, len(levels))
+        return [item.word for item in swd.decode(levels)[-2:]]
+
+    def test_quirks(self):
+        self.assertEqual(self.items(), [BASE, 0])
+        self.assertEqual(self.items(wraps=True, filler=WORD), [BASE, WORD])
+        self.assertEqual(self.items(wraps=False, filler=7), [BASE + 0x400, 7])
+
+
+class Decoding(unittest.TestCase):
+    """The decoder against the reading of docs/PROTOCOL.md, and against the program."""
+
+    def traces(self):
+        rng = random.Random(SEED)
+        for seed in range(SEED, SEED + 20):
+            _, _, line, _ = Session(seed).over(PlainTarget)
+            bits = "".join(map(str, line.levels))
+            yield bits
+            yield bits[:rng.randrange(len(bits))]
+        for length in [0, 1, 7, 8, 11, 12, 13, 45, 46, 49, 50, 51, 63, 64, 65, *range(100, 3000, 100)]:
+            chance = rng.random()
+            bits = "".join(rng.choice("01") if rng.random() < chance else "1" for _ in range(length))
+            yield bits
+            yield "1" * 50 + plain.SWITCH + bits
+            yield "0" + bits
+
+    def test_against_the_reading(self):
+        for number, bits in enumerate(self.traces()):
+            with self.subTest(trace=number):
+                self.assertEqual([str(item) for item in swd.decode(bits)], plain.reading(bits))
+
+    def test_pieces(self):
+        rng = random.Random(SEED)
+        for number, bits in enumerate(self.traces()):
+            with self.subTest(trace=number):
+                decoder, items, at = swd.Decoder(), [], 0
+                while at < len(bits):
+                    size = rng.choice([1, 2, 63, 64, 65, 500])
+                    items += decoder.feed([int(bit) for bit in bits[at:at + size]])
+                    at += size
+                self.assertEqual(decoder.fed, len(bits))
+                self.assertEqual(items + decoder.finish(), swd.decode(bits))
+
+    def test_the_example(self):
+        with open(os.path.join(ROOT, "examples", "session.trace"), encoding="ascii") as trace:
+            items = swd.decode(swd.trace_bits(trace.read()))
+        with open(os.path.join(ROOT, "examples", "session.list"), encoding="ascii") as listing:
+            self.assertEqual([str(item) for item in items], listing.read().splitlines())
+
+    def test_items(self):
+        bits = "1" * 50 + "0" + "10100101" + "1" + "100" + f"{0x2BA01477:032b}"[::-1] + "0" + "1"
+        word = swd.Transaction(ap=False, read=True, addr=0, ack=1, word=0x2BA01477, parity_ok=True)
+        self.assertEqual(swd.decode(bits), [swd.Reset(50), swd.Idle(1), word])
+        self.assertEqual(swd.decode(bits[:51] + "10100101" + "1" + "010" + "1"),
+                         [swd.Reset(50), swd.Idle(1), swd.Transaction(False, True, 0, 2)])
+        self.assertEqual(swd.decode(bits[:55]), [swd.Reset(50), swd.Idle(1), swd.Cut("1010")])
+        self.assertEqual(swd.decode("1" * 50 + plain.SWITCH), [swd.Reset(50), swd.Switch()])
+        self.assertEqual(swd.decode("10000011"), [swd.Junk(int(bit)) for bit in "10000011"])
+
+    @unittest.skipUnless(PROGRAM, "SWD names no program")
+    def test_against_the_program(self):
+        for number, bits in enumerate(self.traces()):
+            with self.subTest(trace=number):
+                told = subprocess.run([PROGRAM, "decode"], input=bits, stdout=subprocess.PIPE, check=True,
+                                      universal_newlines=True).stdout
+                self.assertEqual("".join(f"{item}\n" for item in swd.decode(bits)), told)
+
+
+class FailingBus:
+    """A bus that answers something else than a word, or fails."""
+
+    def read(self, addr):
+        return -1
+
+    def write(self, addr, word):
+        raise OSError("no bus")
+
+
+class Refusals(unittest.TestCase):
+    """Each refusal has its exception, and its message names the argument."""
+
+    def refused(self, kind, words, call, *arguments, **named):
+        with self.subTest(words):
+            with self.assertRaises(kind) as caught:
+                call(*arguments, **named)
+            self.assertIn(words, str(caught.exception))
+            self.assertTrue(issubclass(kind, swd.SwdError))
+
+    def test_arguments(self):
+        calls = []
+        host = swd.Host((calls.append, lambda: calls.append("?") or 1))
+        lost = swd.Report((), 0, 1, End.LOST)
+        self.refused(swd.NotABit, "bits[2] is 'x'", swd.decode, "01x")
+        self.refused(swd.NotABit, "bits[1] is 2", swd.decode, [0, 2])
+        self.refused(swd.NotABit, "line 2 has '2'", swd.trace_bits, "01 # 2\n0\t2\r\n")
+        self.refused(swd.Unaligned, "accesses[1].addr is 0x20000002", host.run, [Read(BASE), Write(BASE + 2, 0)])
+        self.refused(swd.OutOfRange, "accesses[0].addr is 0x100000000", host.run, [Read(1 << 32)])
+        self.refused(swd.OutOfRange, "accesses[0].addr is -0x4", host.run, [Read(-4)])
+        self.refused(swd.OutOfRange, "accesses[0].addr is '20000000'", host.run, [Read("20000000")])
+        self.refused(swd.OutOfRange, "accesses[0].word is 0x100000000", host.run, [Write(BASE, 1 << 32)])
+        self.refused(swd.NotAnAccess, "accesses[0] is (1, 2)", host.run, [(1, 2)])
+        self.refused(swd.TooManyAccesses, "65537", host.run, [Read(BASE)] * 65_537)
+        self.refused(swd.TooManyAccesses, "65537", host.run_block, BASE, 65_537)
+        self.refused(swd.Unaligned, "addr is 0x20000001", host.run_block, BASE + 1, 1)
+        self.refused(swd.OutOfRange, "pass the end", host.run_block, 0xFFFFFFFC, 2)
+        self.refused(swd.OutOfRange, "count is -0x1", host.run_block, BASE, -1)
+        self.refused(swd.NotResumable, "ended with 'all'", host.resume, [], swd.Report((), 0, 9, End.ALL))
+        self.refused(swd.NotResumable, "2 answers", host.resume, [Read(BASE)],
+                     swd.Report((Written(), Written()), 0, 9, End.LOST))
+        self.refused(swd.Unaligned, "accesses[0].addr", host.resume, [Read(BASE + 1)], lost)
+        self.refused(swd.NotALine, "release()", swd.Host, type("Half", (), {"drive": print, "sample": print})())
+        self.refused(swd.NotALine, "two functions", swd.Host, (print,))
+        self.refused(swd.OutOfRange, "tries is -0x1", swd.Host, (print, print), -1)
+        self.refused(swd.OutOfRange, "filler is 0x100000000", swd.Target, None, filler=1 << 32)
+        self.refused(swd.NotABit, "drive is 2", swd.Target(None).cycle, 2)
+        self.refused(swd.NotABit, "bit is None", swd.Target(None).drive, None)
+        self.assertEqual(calls, [])
+
+    def test_addresses_at_the_end(self):
+        memory = PlainMemory(0xFFFFFFF8, 2, 16)
+        report = swd.Host(swd.Target(MemoryBus(memory))).run_block(0xFFFFFFF8, 2)
+        self.assertEqual(report.answers, (Value(0), Value(0)))
+
+    def test_a_level_that_is_none(self):
+        with self.assertRaises(swd.LineFailed) as caught:
+            swd.Host((lambda bit: None, lambda: None)).run([])
+        self.assertIsInstance(caught.exception.__cause__, swd.NotABit)
+
+    def test_an_interrupt_passes(self):
+        def interrupt(bit):
+            raise KeyboardInterrupt
+
+        self.assertRaises(KeyboardInterrupt, swd.Host((interrupt, lambda: 1)).run, [])
+
+    def test_a_bus_that_fails(self):
+        for access, cause in ((Read(BASE), swd.OutOfRange), (Write(BASE, 1), OSError)):
+            with self.subTest(access), self.assertRaises(swd.LineFailed) as caught:
+                swd.Host(swd.Target(FailingBus())).run([access])
+            self.assertIsInstance(caught.exception.__cause__, cause)
+
+    def test_a_finished_decoder(self):
+        decoder = swd.Decoder()
+        decoder.finish()
+        self.refused(swd.DecoderFinished, "finish()", decoder.feed, "0")
+        self.refused(swd.DecoderFinished, "finish()", decoder.finish)
+
+    def test_structs_that_are_none(self):
+        """Zeros are no engine, decoder or target."""
+        decoder, target = swd.Decoder(), swd.Target(None)
+        for struct in (decoder._decoder, target._target):
+            swd.ctypes.memset(swd.ctypes.byref(struct), 0, swd.ctypes.sizeof(struct))
+        self.refused(swd.LibraryRefused, "swd_decoder_take", decoder.feed, "0")
+        self.refused(swd.LibraryRefused, "swd_target_cycle", target.cycle, 0)
+        self.refused(swd.LibraryRefused, "swd_target_hold", target.hold, True)
+
+
+class Libraries(unittest.TestCase):
+    """How the library is found, and what is refused as one."""
+
+    def test_an_argument(self):
+        library = swd.Library(swd.Library().path)
+        self.assertEqual(swd.decode("000", library=library), [swd.Idle(3)])
+        self.assertEqual(swd.decode("000", library=library.path), [swd.Idle(3)])
+
+    def test_threads(self):
+        """Objects are independent: sessions in eight threads at once come to what they come to one by one."""
+        def reports(seed):
+            return Session(seed).over(library_target)[0]
+
+        seeds = range(SEED, SEED + 40)
+        with concurrent.futures.ThreadPoolExecutor(8) as threads:
+            self.assertEqual(list(threads.map(reports, seeds)), [reports(seed) for seed in seeds])
+
+    def test_no_library(self):
+        with self.assertRaises(swd.LibraryNotFound) as caught:
+            swd.Library("/nowhere/libswd_c.so")
+        self.assertIn("/nowhere/libswd_c.so", str(caught.exception))
+
+    def test_another_library(self):
+        with self.assertRaises(swd.LibraryMismatch) as caught:
+            swd.Library(swd.ctypes.util.find_library("c"))
+        self.assertIn("has no function swd_layout", str(caught.exception))
+
+    def test_other_structs(self):
+        """A struct whose last field is its first, and one with a field more."""
+        library = swd.Library()
+        fields = list(swd._Access._fields_)
+        for name, others in (("order", [fields[2], *fields[:2]]), ("more", [*fields, ("more", swd._u32)])):
+            access = swd._struct("_Access", *others)
+            crossing = tuple((name, access if name == "access" else kind) for name, kind in swd._CROSSING)
+            layout = swd._struct("_Layout", *crossing, *swd._Layout._fields_[len(crossing):])
+            kept = swd._CROSSING, swd._Layout
+            swd._CROSSING, swd._Layout = crossing, layout
+            try:
+                with self.subTest(name), self.assertRaises(swd.LibraryMismatch):
+                    library._check_layout()
+            finally:
+                swd._CROSSING, swd._Layout = kept
+        library._check_layout()
+
+    def test_the_names_of_the_fields(self):
+        """They are those of the C example that checks the header, in that order."""
+        with open(os.path.join(ROOT, "examples", "c", "layout.c"), encoding="ascii") as source:
+            fields = re.findall(r"\tCHECK\(([a-z_.]+), [0-9]+\);", source.read())
+        layout = swd._Layout()
+        paths = [path for name, _ in swd._CROSSING for path, _, _ in swd._leaves(name, getattr(layout, name))]
+        self.assertEqual(paths, fields)
+
+    def test_the_version(self):
+        with open(os.path.join(ROOT, "include", "swd.h"), encoding="ascii") as header:
+            self.assertIn(f'#define SWD_VERSION "{swd.__version__}"', header.read())
+
+
+def programs_of_the_page():
+    with open(os.path.join(ROOT, "bindings", "python", "README.md"), encoding="utf-8") as page:
+        return re.findall(r"```python\n(.*?)```", page.read(), re.DOTALL)
+
+
+class Pages(unittest.TestCase):
+    """The programs of README.md, one after the other in one namespace."""
+
+    @unittest.skipUnless(PROGRAM, "SWD names no program")
+    def test_remote_bitbang(self):
+        """The line of that page, at the program's target: its log, and the report."""
+        names = {}
+        exec(programs_of_the_page()[2], names)  # pylint: disable=exec-used
+        accesses = [Write(BASE, WORD), Write(BASE + 4, 2), Read(BASE), Read(0x30000000), Read(BASE + 4)]
+        answers = (Written(), Written(), Value(WORD), BusFault(), Value(2))
+        with tempfile.TemporaryDirectory() as folder:
+            for name, text in (("script", f"memory {BASE:08x} 16\n"), ("plan", ".\n" * 11 + "wait\nflip 3\n")):
+                with open(os.path.join(folder, name), "w", encoding="ascii") as written:
+                    written.write(text)
+            with subprocess.Popen([PROGRAM, "target", "script", "--plan", "plan", "--log", "log"], cwd=folder,
+                                  stdin=subprocess.PIPE, stdout=subprocess.PIPE) as target:
+                report = swd.Host(names["RemoteBitbang"](target.stdin, target.stdout)).run(accesses)
+                target.communicate(b"Q")
+            with open(os.path.join(folder, "log"), encoding="ascii") as log:
+                logged = log.read().splitlines()
+        self.assertEqual((report.answers, report.ended), (answers, End.ALL))
+        transfers = ["w 20000000 deadbeef", "w 20000004 00000002", "r 20000000 deadbeef", "r 20000004 00000002"]
+        self.assertEqual(logged[:-1], transfers)
+        self.assertTrue(logged[-1].endswith(f" requests {report.requests}"), logged[-1])
+
+    def test_programs(self):
+        programs = programs_of_the_page()
+        line = library_target(PlainMemory(BASE, 16, 16))
+        names = {"swd": swd, "MyProbe": lambda: line}
+        printed = []
+        for program in programs:
+            output, here = io.StringIO(), os.getcwd()
+            os.chdir(os.path.join(ROOT, "examples"))
+            try:
+                with contextlib.redirect_stdout(output):
+                    exec(program, names)  # pylint: disable=exec-used
+            finally:
+                os.chdir(here)
+            printed.append(output.getvalue())
+        with open(os.path.join(ROOT, "examples", "session.list"), encoding="ascii") as listing:
+            self.assertEqual(printed, [listing.read(), "", "", "(Written(), Value(word=7))\n"])
+        self.assertEqual(names["report"].answers, (Written(), Value(WORD)))
+
+
+if __name__ == "__main__":
+    unittest.main()

@@ -1,0 +1,186 @@
+//! The items of a wire's calls, one call after the other.
+ghost use Rattle.std.specs.Prelude.{◌≡◌, ◌≢◌, ◌^◌, ◌<◌, true, false, [], ◌∷◌, ◌++◌, None, Some};
+ghost use Rattle.swd_port.specs.Stories.{IsSeen};
+ghost use Rattle.swd_trace.specs.declared.item.Item.{Item};
+ghost use Rattle.swd_recorder.specs.Chains.{Clear, is_chained, is_end};
+ghost use Rattle.swd_recorder.specs.Items.{moved, refused, idle_in};
+
+use crate::in_hand::{InHand, ack_seen};
+use std::alloc::Allocator;
+use swd_bits::{Ack, Request, Tx, TxEnd};
+use swd_port::Cue;
+use swd_trace::Item;
+
+/// The items of calls so far. Where what a call adds can't be kept, none of it is, and nothing of the calls after it.
+#[derive(Drop)]
+pub(crate) struct Items<A: Allocator> {
+    pub(crate) list: Vec<Item, A>,
+    pub(crate) is_cut: bool,
+    ghost chained: { is_chained Clear list.items ≡ true },
+}
+
+impl<A: Allocator> Items<A> {
+    ghost use Rattle.swd_recorder.specs.Chains.{place_of, may_lower, may_ask};
+    ghost use Rattle.swd_recorder.specs.Items.{high_items, low_items, tx_item, ack_seen, unanswered, items_of};
+    ghost use Rattle.swd_recorder.specs.Items.{idle_at_end};
+    ghost use Rattle.swd_recorder.specs.Kept.{Adds, kept_of, nothing_kept};
+    ghost use Rattle.swd_recorder.specs.Steps.{MayAdd, MayAddLead, is_inside};
+
+    /// Nothing yet.
+    pub(crate) fn new(alloc: A) -> Items<A>
+        ensures { kept_of result ≡ nothing_kept }
+    {
+        Items {
+            list: Vec::new(alloc),
+            is_cut: false,
+        }
+    }
+
+    /// Adds what a call adds, at which this was seen, while this transaction is in hand. A line reset inside a
+    /// transaction cuts the list off: what the line carries there is no item.
+    pub(crate) fn add(&mut self, in_hand: Option<InHand>, cue: Cue, seen: u64)
+        requires may { MayAdd in_hand cue (kept_of self.old) }
+        requires seen { IsSeen cue seen }
+        ensures adds { Adds (items_of in_hand cue seen) (kept_of self.old) (kept_of self.new) }
+        ensures inside { is_inside in_hand cue ≡ true → self.new.is_cut ≡ true }
+    {
+        match (cue, in_hand) {
+            (Cue::Lead { .. }, Some(_)) => self.is_cut = true,
+            (
+                Cue::Lead {
+                    ones,
+                    switch,
+                    zeros,
+                    ..
+                },
+                None,
+            ) => self.lead(ones, switch, zeros),
+            (Cue::Ask(request), _) => self.ask(request, seen),
+            (Cue::Take, Some(asked)) => self.whole(asked.request, moved(seen)),
+            (Cue::Give(bits), Some(asked)) => self.whole(asked.request, moved(bits)),
+            (Cue::Pass, Some(asked)) => self.whole(asked.request, refused(asked.ack)),
+            (_, None) => {}
+        }
+    }
+
+    // Ones, the switch and the ones again, and zeros.
+    fn lead(&mut self, ones: u32, switch: bool, zeros: u32)
+        requires { MayAddLead ones switch zeros (kept_of self.old) }
+        ensures { Adds (high_items ones switch ++ low_items zeros) (kept_of self.old) (kept_of self.new) }
+    {
+        let reset = Item::Reset(u64::from(ones));
+        let idle = Item::Idle(u64::from(zeros));
+        if switch {
+            self.append(&[reset, Item::Switch, reset, idle]);
+        } else if ones > 0 {
+            self.append(&[reset, idle]);
+        } else if zeros > 0 {
+            self.idle(u64::from(zeros));
+        }
+    }
+
+    // A request, and the number of the three bits that were seen after it.
+    fn ask(&mut self, request: Request, seen: u64)
+        requires range { seen < 8 }
+        requires place { self.old.is_cut ≡ false → may_ask (place_of self.old.list.items) ≡ true }
+        ensures { Adds (unanswered request seen (ack_seen seen)) (kept_of self.old) (kept_of self.new) }
+    {
+        match ack_seen(seen) {
+            Some(_) => {}
+            None => self.whole(request, TxEnd::NoAck(seen as u8)),
+        }
+    }
+
+    // A whole transaction.
+    fn whole(&mut self, request: Request, end: TxEnd)
+        requires is_end { is_end end ≡ true }
+        requires place { self.old.is_cut ≡ false → may_ask (place_of self.old.list.items) ≡ true }
+        ensures { Adds (tx_item request end) (kept_of self.old) (kept_of self.new) }
+    {
+        self.append(&[Item::Tx(Tx {
+            request,
+            result: end,
+        })]);
+    }
+
+    // Items of which none is idle cycles behind others.
+    fn append(&mut self, more: &[Item])
+        requires some { more.now ≢ [] }
+        requires chained { self.old.is_cut ≡ false → is_chained (place_of self.old.list.items) more.now ≡ true }
+        ensures { Adds more.now (kept_of self.old) (kept_of self.new) }
+    {
+        if self.is_cut {
+            return;
+        }
+        match self.list.extend_from_slice(more) {
+            Ok(()) => {}
+            Err(_) => self.is_cut = true,
+        }
+    }
+
+    // Zeros after zeros are one item.
+    fn idle(&mut self, zeros: u64)
+        requires { self.old.is_cut ≡ false → may_lower (place_of self.old.list.items) zeros ≡ true }
+        ensures { Adds (Item.Idle zeros ∷ []) (kept_of self.old) (kept_of self.new) }
+    {
+        if self.is_cut {
+            return;
+        }
+        let so_far = self.idle_so_far();
+        if so_far == 0 {
+            self.append(&[Item::Idle(zeros)]);
+            return;
+        }
+        match so_far.checked_add(zeros) {
+            Some(sum) => {
+                let last = self.list.len() - 1;
+                self.list[last] = Item::Idle(sum);
+            }
+            None => self.is_cut = true,
+        }
+    }
+
+    // How many idle cycles the last item has, where it is idle cycles.
+    fn idle_so_far(&self) -> u64
+        ensures { result ≡ idle_at_end self.now.list.items }
+    {
+        match self.list.last() {
+            Some(last) => idle_cycles(last),
+            None => 0,
+        }
+    }
+}
+
+// How many idle cycles an item is.
+fn idle_cycles(item: &Item) -> u64
+    ensures { result ≡ idle_in item.now }
+{
+    match item {
+        Item::Idle(count) => *count,
+        _ => 0,
+    }
+}
+
+// How a transaction ends whose data phase has these bits.
+fn moved(bits: u64) -> TxEnd
+    requires { bits < 2 ^ 33 }
+    ensures is { result ≡ moved bits }
+    ensures end { is_end result ≡ true }
+{
+    // The parity bit makes the number of ones even.
+    TxEnd::Moved {
+        word: (bits & 0xffff_ffff) as u32,
+        parity_ok: bits.count_ones() % 2 == 0,
+    }
+}
+
+// How a transaction ends that was refused.
+fn refused(ack: Ack) -> TxEnd
+    ensures is { result ≡ refused ack }
+    ensures end { is_end result ≡ true }
+{
+    match ack {
+        Ack::Fault => TxEnd::Fault,
+        _ => TxEnd::Wait,
+    }
+}

@@ -1,0 +1,52 @@
+-- Where few bits are held behind some of the first ones, few are held behind the run of zeros.
+use Rattle.std.proofs.Common.{◌≡◌, ◌+◌, ◌<◌, ◌≤◌, Bool, true, false, List, [], ◌∷◌, ◌++◌, length, drop}
+use Rattle.std.proofs.Common.{replicate, arith, ap, ◌∙◌, subst, inl, inr}
+use Rattle.std.specs.Prelude.{Option, Some, None, IfNone}
+use Rattle.std.proofs.lemmas.List.{length-append, drop-append-le}
+use Rattle.std.proofs.lemmas.Bool.{cases_lt}
+use Rattle.swd_bits.specs.Bits.{low_bits}
+use Rattle.swd_bits.proofs.BitsLemmas.{length-low_bits}
+use Rattle.swd_resync.specs.declared.queue.Queue.{Queue}
+use Rattle.swd_resync.specs.Parts.{past_zeros}
+use Rattle.swd_resync.specs.Queues.{queued, IsHeld}
+use Rattle.swd_resync.specs.Holding.{IsNear}
+use Rattle.swd_resync.proofs.QueueLemmas.{past_run, past_alone}
+
+pub none_more : {A : Type 0} (r : Option A) (P Q : Type 0) → (P → Q) → IfNone r P → IfNone r Q
+none_more (Some a) P Q f h = h
+none_more None P Q f h = f h
+
+past_longer : (x y : List Bool) → length (past_zeros y) ≤ length (past_zeros (x ++ y))
+past_longer [] y = omega arith
+past_longer (false ∷ x) y = past_longer x y
+past_longer (true ∷ x) y =
+    let h = shorter y in
+    let l : length (x ++ y) ≡ length x + length y = length-append x y in
+    omega arith
+  where
+    shorter : (y : List Bool) → length (past_zeros y) ≤ length y
+    shorter [] = omega arith
+    shorter (false ∷ y) = let h = shorter y in omega arith
+    shorter (true ∷ y) = omega arith
+
+pub near_room : (q : Queue) → IsHeld q → IsNear 92 (queued q) → q.back_len < 50
+near_room q held near = elim (cases_lt 0 q.back_len) [
+  | inr none ↦ omega arith
+  | inl some ↦
+      let front : List Bool = low_bits q.front_len q.front in
+      let back : List Bool = low_bits q.back_len q.back in
+      let others : List Bool = replicate q.zeros false ++ back in
+      let full : q.front_len ≡ 92 = held.full (omega arith) in
+      let within : near.place ≤ 92 = near.within in
+      let l : length front ≡ q.front_len = length-low_bits q.front_len q.front in
+      let m : length back ≡ q.back_len = length-low_bits q.back_len q.back in
+      let split : drop near.place (queued q) ≡ drop near.place front ++ others =
+      drop-append-le near.place front others (omega arith) in
+      let few : length (past_zeros (drop near.place front ++ others)) < 50 =
+      subst (λ x. length (past_zeros x) < 50) split near.few in
+      let more : length (past_zeros others) ≤ length (past_zeros (drop near.place front ++ others)) =
+      past_longer (drop near.place front) others in
+      let same : past_zeros others ≡ back = past_run q.zeros back ∙ past_alone q.back_len q.back held.ends some in
+      let all : length (past_zeros others) ≡ length back = ap length same in
+      omega arith
+]

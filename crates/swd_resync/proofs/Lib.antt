@@ -1,0 +1,12 @@
+pub mod WorkedCaptures
+pub mod FirstLemmas
+pub mod StepLemmas
+pub mod PartLemmas
+pub mod EqualLemmas
+pub mod QueueLemmas
+pub mod SightLemmas
+pub mod JudgeLemmas
+pub mod StageLemmas
+pub mod MoveLemmas
+pub mod PairLemmas
+pub mod HoldLemmas

@@ -1,0 +1,275 @@
+-- Laws of numbers that hold a queue of bits.
+use Rattle.std.proofs.Common.{◌≡◌, ℕ, zero, suc, ◌+◌, ◌-◌, ◌*◌, ◌/◌, ◌%◌, ◌^◌, ◌<◌, ◌≤◌, Bool, true, false, List, []}
+use Rattle.std.proofs.Common.{◌∷◌, ◌++◌, replicate, arith, refl, sym, ap, ◌∙◌, bit_or, bit_and, length, drop, lit<}
+use mir.Val.{bool_byte}
+use Rattle.std.specs.Prelude.{min, ◌==◌}
+use Rattle.std.proofs.lemmas.List.{append_assoc, append-nil, replicate-append-replicate, drop_at, length-replicate}
+use Rattle.std.proofs.lemmas.Nat.{one_shl, and_mask, or_shifted, pow_pos, pow-add, mul-add-lt}
+use Rattle.std.proofs.Math.Pow.{shl_lt}
+use Rattle.std.proofs.Math.Nat.{mod-eq_of_lt, pow-le-pow_right, mul_comm, mod-lt}
+use lib.Count.{count_trailing_zeros, trailing_of_zero}
+use Rattle.swd_bits.specs.Bits.{low_bits}
+use Rattle.swd_bits.proofs.BitsLemmas.{low_bits-cat, length-low_bits}
+use Rattle.swd_trace.proofs.NumberLemmas.{low_zeros, low_mod, parted, no_bits, zeros_front, trailing, Trailing, next_bit}
+use Rattle.swd_trace.proofs.GrammarLemmas.{odd_first}
+use Rattle.swd_resync.specs.Parts.{past_zeros}
+use Rattle.swd_resync.specs.declared.queue.Queue.{Queue}
+use Rattle.swd_resync.specs.Queues.{queued, IsFull, IsHeld}
+use Rattle.std.proofs.lemmas.Bool.{cases_lt, eqb-true}
+use Rattle.std.proofs.Common.{inl, inr}
+
+-- a queue's bits, from its numbers
+abbrev pub three : ℕ → ℕ → ℕ → ℕ → ℕ → List Bool
+three len front run back_len back = low_bits len front ++ (replicate run false ++ low_bits back_len back)
+
+-- ---- numbers that are joined
+
+no_loss : (w m n a : ℕ) → a < 2 ^ n → m + n ≤ w → a * 2 ^ m % 2 ^ w ≡ a * 2 ^ m
+no_loss w m n a k room =
+    let moved : a * 2 ^ m < 2 ^ (n + m) = shl_lt n m k in
+    let room' : n + m ≤ w = omega arith in
+    let most : 2 ^ (n + m) ≤ 2 ^ w = pow-le-pow_right (lit< tt) room' in
+    mod-eq_of_lt (omega arith)
+
+pub join : (w m n a b : ℕ) → a < 2 ^ n → b < 2 ^ m → m + n ≤ w
+    → low_bits (m + n) (bit_or (a * 2 ^ m % 2 ^ w) b) ≡ low_bits m b ++ low_bits n a
+join w m n a b k h room = rw (no_loss w m n a k room, or_shifted a m b h, low_bits-cat m n a b h) refl
+
+pub join_lt : (w m n a b : ℕ) → a < 2 ^ n → b < 2 ^ m → m + n ≤ w → bit_or (a * 2 ^ m % 2 ^ w) b < 2 ^ (m + n)
+join_lt w m n a b k h room =
+    let e : m + n ≡ n + m = omega arith in
+    rw (no_loss w m n a k room, or_shifted a m b h, e, pow-add 2 n m, mul_comm (2 ^ n) (2 ^ m))
+    (mul-add-lt a (2 ^ m) b (2 ^ n) k h)
+
+pub mask : (w n v : ℕ) → n < w → bit_and v (1 * 2 ^ n % 2 ^ w - 1) ≡ v % 2 ^ n
+mask w n v h = rw (one_shl n w h) (and_mask v n)
+
+pub wider : (m n v : ℕ) → v < 2 ^ m → m ≤ n → v < 2 ^ n
+wider m n v h k = let most : 2 ^ m ≤ 2 ^ n = pow-le-pow_right (lit< tt) k in omega arith
+
+-- ---- zeros
+
+pub zeros_join : (a b : ℕ) (x : List Bool) → replicate a false ++ (replicate b false ++ x) ≡ replicate (a + b) false ++ x
+zeros_join a b x = sym (append_assoc (replicate a false) (replicate b false) x)
+    ∙ ap (λ y. y ++ x) (replicate-append-replicate a b false)
+
+-- the front takes zeros of the run
+pub more_zeros : (len front m : ℕ) → front < 2 ^ len → low_bits (len + m) front ≡ low_bits len front ++ replicate m false
+more_zeros len front m h =
+    let e : 0 * 2 ^ len + front ≡ front = omega arith in
+    ap (low_bits (len + m)) (sym e) ∙ low_bits-cat len m 0 front h ∙ ap (λ x. low_bits len front ++ x) (low_zeros m)
+
+pub zeros_taken : (len front run m back_len back : ℕ) → front < 2 ^ len → m ≤ run →
+    three (len + m) front (run - m) back_len back ≡ three len front run back_len back
+zeros_taken len front run m back_len back h k =
+    let s : m + (run - m) ≡ run = omega arith in
+    ap (λ x. x ++ (replicate (run - m) false ++ low_bits back_len back)) (more_zeros len front m h)
+    ∙ append_assoc (low_bits len front) (replicate m false) (replicate (run - m) false ++ low_bits back_len back)
+    ∙ ap (λ x. low_bits len front ++ x) (zeros_join m (run - m) (low_bits back_len back)
+    ∙ ap (λ n. replicate n false ++ low_bits back_len back) s)
+
+-- ---- bits from behind
+
+pub bits_taken : (len front run m back_len back : ℕ) → front < 2 ^ len → run ≡ 0 → m ≤ back_len → len + m ≤ 128 →
+    three (len + m) (bit_or (back % 2 ^ m * 2 ^ len % 2 ^ 128) front) 0 (back_len - m) (back / 2 ^ m)
+    ≡ three len front run back_len back
+bits_taken len front run m back_len back h z k room =
+    let low : back % 2 ^ m < 2 ^ m = mod-lt back (pow_pos m) in
+    ap (λ x. x ++ low_bits (back_len - m) (back / 2 ^ m)) (join 128 len m (back % 2 ^ m) front low h room
+    ∙ ap (λ x. low_bits len front ++ x) (low_mod m back))
+    ∙ append_assoc (low_bits len front) (low_bits m back) (low_bits (back_len - m) (back / 2 ^ m))
+    ∙ ap (λ x. low_bits len front ++ x) (sym (parted m back_len back k))
+    ∙ ap (λ n. low_bits len front ++ (replicate n false ++ low_bits back_len back)) (sym z)
+
+-- zeros at the front of the bits behind
+pub run_taken : (len front run c back_len back : ℕ) → run ≡ 0 → c ≤ back_len → c ≤ count_trailing_zeros 64 back →
+    three len front c (back_len - c) (back / 2 ^ c) ≡ three len front run back_len back
+run_taken len front run c back_len back z k t =
+    ap (λ x. low_bits len front ++ (x ++ low_bits (back_len - c) (back / 2 ^ c))) (sym (zeros_front 64 c back t))
+    ∙ ap (λ x. low_bits len front ++ x) (sym (parted c back_len back k))
+    ∙ ap (λ n. low_bits len front ++ (replicate n false ++ low_bits back_len back)) (sym z)
+
+-- behind all of them is a one
+pub run_ends : (back_len back c : ℕ) → back < 2 ^ back_len → back_len ≤ 63 →
+    c ≡ min (count_trailing_zeros 64 back) back_len → 0 < back_len - c → back / 2 ^ c % 2 ≡ 1
+run_ends back_len zero c h k e some = let t : count_trailing_zeros 64 zero ≡ 64 = trailing_of_zero 64 in absurd (omega arith)
+run_ends back_len (suc back) c h k e some =
+    let r : Trailing back_len (suc back) (count_trailing_zeros 64 (suc back)) =
+    trailing 64 back_len (suc back) (omega arith) (omega arith) h in
+    let all : c ≡ count_trailing_zeros 64 (suc back) = omega arith in
+    ap (λ n. suc back / 2 ^ n % 2) all ∙ r.one
+
+-- ---- bits at the front
+
+pub dropped : (len front c run back_len back : ℕ) → c ≤ len →
+    three (len - c) (front / 2 ^ c) run back_len back ≡ drop c (three len front run back_len back)
+dropped len front c run back_len back h =
+    let others : List Bool = replicate run false ++ low_bits back_len back in
+    sym (ap (λ x. drop c (x ++ others)) (parted c len front h)
+    ∙ ap (drop c) (append_assoc (low_bits c front) (low_bits (len - c) (front / 2 ^ c)) others)
+    ∙ drop_at (low_bits c front) (low_bits (len - c) (front / 2 ^ c) ++ others) c (length-low_bits c front))
+
+pub empty : (len front run back_len back : ℕ) → len ≡ 0 → run + back_len ≡ 0 → three len front run back_len back ≡ []
+empty len front run back_len back e f =
+    let none : run ≡ 0 = omega arith in
+    ap (λ x. x ++ (replicate run false ++ low_bits back_len back)) (no_bits len front e)
+    ∙ ap (λ n. replicate n false ++ low_bits back_len back) none ∙ no_bits back_len back (omega arith)
+
+-- with nothing behind
+pub alone : (len front run back_len back : ℕ) → run + back_len ≡ 0 → three len front run back_len back ≡ low_bits len front
+alone len front run back_len back f =
+    let none : run ≡ 0 = omega arith in
+    ap (λ n. low_bits len front ++ (replicate n false ++ low_bits back_len back)) none
+    ∙ ap (λ x. low_bits len front ++ x) (no_bits back_len back (omega arith)) ∙ append-nil (low_bits len front)
+
+pub first_of : (len front run back_len back : ℕ) → 0 < len → three len front run back_len back
+    ≡ (front % 2 == 1) ∷ three (len - 1) (front / 2) run back_len back
+first_of len front run back_len back h =
+    ap (λ x. x ++ (replicate run false ++ low_bits back_len back)) (next_bit len front h)
+
+-- ---- behind zeros
+
+pub past_run : (n : ℕ) (x : List Bool) → past_zeros (replicate n false ++ x) ≡ past_zeros x
+past_run zero x = refl
+past_run (suc n) x = past_run n x
+
+pub past_odd : (len v : ℕ) → (0 < len → v % 2 ≡ 1) → (x : List Bool) → 0 < len → past_zeros (low_bits len v ++ x) ≡ low_bits len v ++ x
+past_odd len v h x some =
+    let e : low_bits len v ≡ true ∷ low_bits (len - 1) (v / 2) = odd_first len v some (h some) in
+    ap (λ y. past_zeros (y ++ x)) e ∙ sym (ap (λ y. y ++ x) e)
+
+-- bits that begin with a one
+pub past_alone : (len v : ℕ) → (0 < len → v % 2 ≡ 1) → 0 < len → past_zeros (low_bits len v) ≡ low_bits len v
+past_alone len v h some =
+    let e : low_bits len v ++ [] ≡ low_bits len v = append-nil (low_bits len v) in
+    sym (ap past_zeros e) ∙ past_odd len v h [] some ∙ e
+
+-- all zeros in front
+pub past_none : (len front run back_len back : ℕ) → front ≡ 0 → (0 < back_len → back % 2 ≡ 1) →
+    three back_len back 0 0 0 ≡ past_zeros (three len front run back_len back)
+past_none len front run back_len back e h =
+    alone back_len back 0 0 0 refl
+    ∙ sym (ap (λ v. past_zeros (low_bits len v ++ (replicate run false ++ low_bits back_len back))) e
+    ∙ ap (λ x. past_zeros (x ++ (replicate run false ++ low_bits back_len back))) (low_zeros len)
+    ∙ past_run len (replicate run false ++ low_bits back_len back) ∙ past_run run (low_bits back_len back) ∙ behind back_len back h)
+  where
+    behind : (len v : ℕ) → (0 < len → v % 2 ≡ 1) → past_zeros (low_bits len v) ≡ low_bits len v
+    behind zero v h = ap past_zeros (no_bits zero v refl) ∙ sym (no_bits zero v refl)
+    behind (suc len) v h = past_alone (suc len) v h (omega arith)
+
+pub past_some : (len front run back_len back : ℕ) → len ≤ 128 → 0 < front → front < 2 ^ len →
+    (count_trailing_zeros 128 front ≤ len) × (drop (count_trailing_zeros 128 front) (three len front run back_len back)
+    ≡ past_zeros (three len front run back_len back))
+past_some len front run back_len back k some h =
+    let z = count_trailing_zeros 128 front in
+    let r : Trailing len front z = trailing 128 len front k some h in
+    let within : z < len = r.within in
+    let others : List Bool = replicate run false ++ low_bits back_len back in
+    let last : List Bool = low_bits (len - z) (front / 2 ^ z) in
+    let split : three len front run back_len back ≡ replicate z false ++ (last ++ others) =
+    ap (λ x. x ++ others) r.front ∙ append_assoc (replicate z false) last others in (
+      omega arith,
+      ap (drop z) split ∙ drop_at (replicate z false) (last ++ others) z (length-replicate z false)
+          ∙ sym (ap past_zeros split ∙ past_run z (last ++ others)
+          ∙ past_odd (len - z) (front / 2 ^ z) (λ p. r.one) others (omega arith)),
+    )
+
+-- ---- one bit more
+
+byte_lt : (b : ℕ) (bit : Bool) → b ≡ bool_byte bit → b < 2 ^ 1
+byte_lt b true e = omega arith
+byte_lt b false e = omega arith
+
+bit_of : (b : ℕ) (bit : Bool) → b ≡ bool_byte bit → low_bits 1 b ≡ bit ∷ []
+unfolding low_bits
+bit_of b true e = rw e refl
+bit_of b false e = rw e refl
+
+pub pushed : (w len v b : ℕ) (bit : Bool) → v < 2 ^ len → len + 1 ≤ w → b ≡ bool_byte bit →
+    low_bits (len + 1) (bit_or (b * 2 ^ len % 2 ^ w) v) ≡ low_bits len v ++ bit ∷ []
+pushed w len v b bit h k e =
+    join w len 1 b v (byte_lt b bit e) h k ∙ ap (λ x. low_bits len v ++ x) (bit_of b bit e)
+
+pub pushed_lt : (w len v b : ℕ) (bit : Bool) → v < 2 ^ len → len + 1 ≤ w → b ≡ bool_byte bit →
+    bit_or (b * 2 ^ len % 2 ^ w) v < 2 ^ (len + 1)
+pushed_lt w len v b bit h k e = join_lt w len 1 b v (byte_lt b bit e) h k
+
+abbrev head_or : List Bool → Bool
+head_or [] = false
+head_or (b ∷ bits) = b
+
+-- at the end of the front
+pub front_pushed : (len front run back_len back b : ℕ) (bit : Bool) → front < 2 ^ len → len < 92 → run + back_len ≡ 0
+    → b ≡ bool_byte bit → three (len + 1) (bit_or (b * 2 ^ len % 2 ^ 128) front) run back_len back
+    ≡ three len front run back_len back ++ bit ∷ []
+front_pushed len front run back_len back b bit h k n e =
+    alone (len + 1) (bit_or (b * 2 ^ len % 2 ^ 128) front) run back_len back n ∙ pushed 128 len front b bit h (omega arith) e
+    ∙ sym (ap (λ x. x ++ bit ∷ []) (alone len front run back_len back n))
+
+-- at the end of the run
+pub run_pushed : (len front run back_len back : ℕ) (bit : Bool) → back_len ≡ 0 → bit ≡ false
+    → three len front (run + 1) back_len back ≡ three len front run back_len back ++ bit ∷ []
+run_pushed len front run back_len back bit e f =
+    let none : low_bits back_len back ≡ [] = no_bits back_len back e in
+    ap (λ x. low_bits len front ++ (replicate (run + 1) false ++ x)) none
+    ∙ ap (λ x. low_bits len front ++ x) (append-nil (replicate (run + 1) false)
+    ∙ sym (replicate-append-replicate run 1 false) ∙ ap (λ b. replicate run false ++ b ∷ []) (sym f)
+    ∙ ap (λ x. x ++ bit ∷ []) (sym (append-nil (replicate run false)) ∙ ap (λ x. replicate run false ++ x) (sym none)))
+    ∙ sym (append_assoc (low_bits len front) (replicate run false ++ low_bits back_len back) (bit ∷ []))
+
+-- behind it
+pub back_pushed : (len front run back_len back b : ℕ) (bit : Bool) → back < 2 ^ back_len → back_len < 63
+    → b ≡ bool_byte bit → three len front run (back_len + 1) (bit_or (b * 2 ^ back_len % 2 ^ 64) back)
+    ≡ three len front run back_len back ++ bit ∷ []
+back_pushed len front run back_len back b bit h k e =
+    ap (λ x. low_bits len front ++ (replicate run false ++ x)) (pushed 64 back_len back b bit h (omega arith) e)
+    ∙ ap (λ x. low_bits len front ++ x) (sym (append_assoc (replicate run false) (low_bits back_len back) (bit ∷ [])))
+    ∙ sym (append_assoc (low_bits len front) (replicate run false ++ low_bits back_len back) (bit ∷ []))
+
+-- the bits behind still begin with a one
+pub back_odd : (back_len back b : ℕ) (bit : Bool) → back < 2 ^ back_len → back_len < 63 → b ≡ bool_byte bit
+    → (0 < back_len → back % 2 ≡ 1) → (back_len ≡ 0 → bit ≡ true) → bit_or (b * 2 ^ back_len % 2 ^ 64) back % 2 ≡ 1
+back_odd back_len back b bit h k e odd one =
+    let v : ℕ = bit_or (b * 2 ^ back_len % 2 ^ 64) back in
+    let front : (v % 2 == 1) ∷ low_bits (back_len + 1 - 1) (v / 2) ≡ low_bits back_len back ++ bit ∷ [] =
+    sym (next_bit (back_len + 1) v (omega arith)) ∙ pushed 64 back_len back b bit h (omega arith) e in
+    let is_one : (v % 2 == 1) ≡ true = ap head_or front ∙ head back_len odd one in
+    eqb-true (v % 2) 1 is_one
+  where
+    head : (len : ℕ) → (0 < len → back % 2 ≡ 1) → (len ≡ 0 → bit ≡ true)
+        → head_or (low_bits len back ++ bit ∷ []) ≡ true
+    head zero odd one = ap (λ x. head_or (x ++ bit ∷ [])) (no_bits zero back refl) ∙ one refl
+    head (suc len) odd one = ap (λ x. head_or (x ++ bit ∷ [])) (odd_first (suc len) back (omega arith) (odd (omega arith)))
+
+-- ---- of a queue that is held
+
+pub none_behind : (q : Queue) → IsFull q → q.front_len < 92 → q.zeros + q.back_len ≡ 0
+none_behind q full h = elim (cases_lt 0 (q.zeros + q.back_len)) [
+  | inl some ↦ (let n : q.front_len ≡ 92 = full some in absurd (omega arith))
+  | inr none ↦ omega arith
+]
+
+pub front_holds : (q : Queue) → IsFull q → (c : ℕ) → c ≤ 92 → c ≤ length (queued q) → c ≤ q.front_len
+front_holds q full c h k = elim (cases_lt q.front_len 92) [
+  | inl less ↦
+      let none = none_behind q full less in
+      let l : length (queued q) ≡ q.front_len = ap length (alone q.front_len q.front q.zeros q.back_len q.back none)
+      ∙ length-low_bits q.front_len q.front in
+      omega arith
+  | inr most ↦ omega arith
+]
+
+pub window_front : (q : Queue) → IsHeld q → (n : ℕ) → n ≡ min q.front_len 50 →
+    (back : List Bool) × (queued q ≡ low_bits n (bit_and q.front (1 * 2 ^ n % 2 ^ 128 - 1)) ++ back) × (n < 50 → back ≡ [])
+window_front q held n e =
+    let within : n ≤ q.front_len = omega arith in
+    let bits : low_bits n (bit_and q.front (1 * 2 ^ n % 2 ^ 128 - 1)) ≡ low_bits n q.front =
+    ap (low_bits n) (mask 128 n q.front (omega arith)) ∙ low_mod n q.front in
+    let others : List Bool = replicate q.zeros false ++ low_bits q.back_len q.back in (
+      low_bits (q.front_len - n) (q.front / 2 ^ n) ++ others,
+      ap (λ x. x ++ others) (parted n q.front_len q.front within)
+          ∙ append_assoc (low_bits n q.front) (low_bits (q.front_len - n) (q.front / 2 ^ n)) others
+          ∙ sym (ap (λ x. x ++ (low_bits (q.front_len - n) (q.front / 2 ^ n) ++ others)) bits),
+      (λ few. empty (q.front_len - n) (q.front / 2 ^ n) q.zeros q.back_len q.back (omega arith)
+          (none_behind q held.full (omega arith))),
+    )

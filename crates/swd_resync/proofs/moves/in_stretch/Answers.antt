@@ -1,0 +1,32 @@
+use Rattle.std.proofs.Common.{refl}
+use Rattle.swd_trace.specs.declared.mode.Mode.TheVariants.{Synced}
+use Rattle.swd_resync.specs.Parts.{InStretch}
+use Rattle.swd_resync.proofs.PartLemmas.{parts_none}
+use Rattle.swd_resync.specs.Holding.{held_bits}
+use Rattle.swd_resync.specs.declared.stage.Stage.TheVariants.{Stretch}
+use Rattle.swd_resync.proofs.MoveLemmas.{still_few, still_none, stretch_idles, ones_pass, junk_passes, cut_passes}
+use Rattle.swd_resync.proofs.moves.in_stretch.Goals as goal
+
+pub returns-in-Wait : goal.returns-in-Wait
+returns-in-Wait c = still_few c.args.over c.args.ended (Stretch 0) (held_bits c.args.held.now) c.in-Wait.ensures.0
+    c.in-Wait.ensures.1
+
+pub returns-in-Zero : goal.returns-in-Zero
+returns-in-Zero c = stretch_idles c.args.over c.args.ended (held_bits c.args.held.now) c.in-Zero.ensures.0 c.in-Zero.ensures.1
+
+pub returns-in-Ones : goal.returns-in-Ones
+returns-in-Ones c = ones_pass c.args.over c.args.ended (Stretch 0) Synced (held_bits c.args.held.now) c.in-Ones.ensures.0
+    c.in-Ones.ensures.1 (λ x. refl)
+
+pub returns-in-Junk : goal.returns-in-Junk
+returns-in-Junk c = junk_passes c.args.over c.args.ended (held_bits c.args.held.now) c.in-Junk.ensures.0 c.in-Junk.ensures.1
+
+pub returns-in-Cut : goal.returns-in-Cut
+returns-in-Cut c =
+    let h = c.in-Cut.ensures in
+    cut_passes c.args.over (Stretch 0) Synced c.in-Cut.bits (held_bits c.args.held.now) c.args.ended h.0 h.1 h.2 h.3.some
+    h.3.few h.3.first (λ x. refl)
+
+pub returns-in-End : goal.returns-in-End
+returns-in-End c = still_none c.args.over c.args.ended (Stretch 0) (held_bits c.args.held.now) c.in-End.ensures.1
+    (parts_none c.args.over (InStretch Synced))

@@ -1,0 +1,11 @@
+pub mod Parts
+pub mod Divisions
+pub mod Queues
+pub mod Holding
+pub mod Sights
+pub mod Seen
+pub mod Judged
+pub mod Stages
+pub mod Fed
+pub mod Decoding
+pub mod PartTexts

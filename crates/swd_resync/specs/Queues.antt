@@ -1,0 +1,28 @@
+-- A queue of bits with a run of zeros in it.
+use Rattle.std.specs.Prelude.{◌≡◌, ◌+◌, ◌%◌, ◌^◌, ◌<◌, ◌≤◌, Bool, false, List, ◌++◌, replicate}
+use Rattle.swd_bits.specs.Bits.{low_bits}
+use Rattle.swd_resync.specs.declared.queue.Queue.{Queue}
+
+-- the bits of a queue: some, a run of zeros, and more of them
+abbrev pub queued : Queue → List Bool
+queued q = low_bits q.front_len q.front ++ (replicate q.zeros false ++ low_bits q.back_len q.back)
+
+-- the numbers hold no more bits than are counted
+pub record IsQueue (q : Queue) : Type 0 where
+  pub front_whole : q.front < 2 ^ q.front_len
+  pub front_short : q.front_len ≤ 92
+  pub back_whole : q.back < 2 ^ q.back_len
+  pub back_short : q.back_len ≤ 63
+
+-- nothing stands behind a front that isn't full
+abbrev pub IsFull : Queue → Type 0
+IsFull q = 0 < q.zeros + q.back_len → q.front_len ≡ 92
+
+-- behind the run is a one
+abbrev pub EndsRun : Queue → Type 0
+EndsRun q = 0 < q.back_len → q.back % 2 ≡ 1
+
+pub record IsHeld (q : Queue) : Type 0 where
+  pub queue : IsQueue q
+  pub full : IsFull q
+  pub ends : EndsRun q

@@ -1,0 +1,122 @@
+//! Whether a stretch begins or goes on at a place of a capture. `over` is with overrun detection, `ended` where no bit
+//! follows those that are held. `None` where more bits decide.
+ghost use Rattle.std.specs.Prelude.{◌≡◌, ◌+◌, ◌-◌, ◌<◌, ◌≤◌, List, Bool, ◌++◌, length, false, IfSome, IfNone};
+ghost use Rattle.swd_trace.specs.Reading.{whole};
+ghost use Rattle.swd_resync.specs.Parts.{sound, sound_next, pair, begins, goes_on, ended_or_reset, followed_by};
+ghost use Rattle.swd_resync.specs.Parts.{before_pair, in_stretch};
+ghost use Rattle.swd_resync.specs.Holding.{held_bits, IsNear};
+ghost use Rattle.swd_resync.specs.Sights.{IsTxSeen, May};
+ghost use Rattle.swd_resync.specs.Judged.{Judges, IsClear, IsMost, tx_step};
+
+use crate::held::Held;
+use crate::look::look;
+use swd_bits::{Tx, TxEnd};
+
+// How many bits a transaction at the front has that was acknowledged, with a word of right parity where one was moved:
+// 0 where none stands there.
+fn sound_bits(over: bool, ended: bool, held: &Held) -> Option<u8>
+    ensures judges { Judges ended 0 (λ bits. sound over bits) (held_bits held.now) result }
+    ensures clear { IsClear ended (held_bits held.now) result }
+    ensures short { IsMost 46 result }
+    ensures fits { IsMost (length (held_bits held.now)) result }
+{
+    look(over, ended, held).sound_bits()
+}
+
+// Whether such a transaction stands behind zeros or none.
+fn sound_follows(over: bool, ended: bool, held: &Held) -> Option<bool>
+    ensures { Judges ended 0 (λ bits. sound_next over bits) (held_bits held.now) result }
+{
+    match sound_bits(over, ended, &held.behind_zeros()) {
+        None => None,
+        Some(len) => Some(len > 0),
+    }
+}
+
+// Whether two of them stand at the front, with zeros or nothing between them.
+fn pair_stands(over: bool, ended: bool, held: &Held) -> Option<bool>
+    ensures { Judges ended 46 (λ bits. pair over bits) (held_bits held.now) result }
+{
+    match sound_bits(over, ended, held) {
+        None => None,
+        Some(0) => Some(false),
+        Some(len) => sound_follows(over, ended, &held.without(len)),
+    }
+}
+
+/// Whether a stretch begins here: fifty ones stand, or two transactions.
+pub(crate) fn stretch_begins(over: bool, ended: bool, held: &Held) -> Option<bool>
+    ensures { Judges ended 46 (λ bits. begins over bits) (held_bits held.now) result }
+{
+    match look(over, ended, held).is_reset() {
+        None => None,
+        Some(true) => Some(true),
+        Some(false) => pair_stands(over, ended, held),
+    }
+}
+
+// Whether what stands behind zeros or none isn't a bit that belongs to nothing.
+fn reading_goes_on(over: bool, ended: bool, held: &Held) -> Option<bool>
+    ensures { Judges ended 0 (λ bits. goes_on over bits) (held_bits held.now) result }
+{
+    match look(over, ended, &held.behind_zeros()).is_junk() {
+        None => None,
+        Some(junk) => Some(!junk),
+    }
+}
+
+// Whether nothing stands here, or fifty ones.
+fn ends_or_resets(over: bool, ended: bool, held: &Held) -> Option<bool>
+    ensures { Judges ended 0 (λ bits. ended_or_reset bits) (held_bits held.now) result }
+{
+    look(over, ended, held).is_end_or_reset()
+}
+
+/// Whether a stretch goes on behind a transaction, where these bits follow it.
+pub(crate) fn stretch_goes_on(over: bool, ended: bool, tx: &Tx, behind: &Held) -> Option<bool>
+    ensures { Judges ended 0 (λ bits. followed_by over tx.now.result bits) (held_bits behind.now) result }
+{
+    match tx.result {
+        TxEnd::NoAck(_) => ends_or_resets(over, ended, behind),
+        _ => reading_goes_on(over, ended, behind),
+    }
+}
+
+// How many of the first `count` bits stand before two transactions, all where none of them is where two stand.
+fn bits_before_pair(over: bool, ended: bool, held: &Held, count: u8) -> Option<u8>
+    requires short { count ≤ 45 }
+    requires held { count ≤ length (held_bits held.now) }
+    ensures judges { Judges ended (46 + count) (λ bits. before_pair over count bits) (held_bits held.now) result }
+    ensures most { IsMost count result }
+{
+    if count == 0 {
+        return Some(0);
+    }
+    match pair_stands(over, ended, held) {
+        None => None,
+        Some(true) => Some(0),
+        Some(false) => match bits_before_pair(over, ended, &held.without(1), count - 1) {
+            None => None,
+            Some(before) => Some(before + 1),
+        },
+    }
+}
+
+/// How many bits of the transaction at the front, which has `len`, are skipped since a stretch begins inside of it: 0
+/// where it is told.
+pub(crate) fn bits_withdrawn(over: bool, ended: bool, held: &Held, tx: &Tx, len: u8) -> Option<u8>
+    requires { IsTxSeen over tx.now len (held_bits held.now) }
+    ensures most { IsMost len result }
+    ensures told { IfSome result (λ n. (more : List Bool) → May ended more
+        → in_stretch over (whole tx.now len) (held_bits held.now ++ more) ≡ tx_step tx.now len n) }
+    ensures waits { IfNone result ((ended ≡ false) × IsNear 92 (held_bits held.now)) }
+{
+    match stretch_goes_on(over, ended, tx, &held.without(len)) {
+        None => None,
+        Some(true) => Some(0),
+        Some(false) => match bits_before_pair(over, ended, &held.without(1), len - 1) {
+            None => None,
+            Some(before) => Some(if before == len - 1 { 0 } else { before + 1 }),
+        },
+    }
+}

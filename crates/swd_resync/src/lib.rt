@@ -1,0 +1,20 @@
+//! The reading of captures, which begin in mid-session and lose bits: the stretches that are read as a trace is, and
+//! the bits between them.
+#![tactic(auto)]
+
+mod decoder;
+mod held;
+mod judge;
+mod laws;
+mod look;
+mod moves;
+mod part;
+mod queue;
+mod sight;
+mod stage;
+
+pub use decoder::CaptureDecoder;
+pub use laws::{
+    a_pair_is_found, parts_divide_a_capture, tests_of_a_capture, what_is_never_lost_is_told,
+};
+pub use part::Part;

@@ -1,0 +1,86 @@
+//! What held bits begin as.
+ghost use Rattle.std.specs.Prelude.{◌≡◌, ◌%◌, ◌<◌, ◌≤◌, true, false, List, Bool, [], ◌++◌, ◌&&◌, replicate};
+ghost use Rattle.swd_bits.specs.BitLists.{bits_of, IsSpelled};
+ghost use Rattle.swd_trace.specs.Reading.{all_ones};
+ghost use Rattle.swd_resync.specs.Parts.{is_refusal};
+ghost use Rattle.swd_resync.specs.Holding.{held_bits};
+ghost use Rattle.swd_resync.specs.Sights.{IsSeen};
+
+use crate::held::{Held, WINDOW_BITS};
+use crate::sight::Sight;
+use swd_bits::{MOVED_BITS, Tx, TxBits, TxEnd};
+use swd_trace::{Front, front_of};
+
+/// What stands at the front of held bits: `over` with overrun detection, `ended` where no bit follows.
+pub(crate) fn look(over: bool, ended: bool, held: &Held) -> Sight
+    ensures { IsSeen over ended result (held_bits held.now) }
+{
+    let window = held.window();
+    if window.len == 0 {
+        return if ended { Sight::End } else { Sight::Wait };
+    }
+    if window.bits % 2 == 0 {
+        return Sight::Zero;
+    }
+    if !is_ones(window) {
+        return seen(over, ended, window);
+    }
+    if window.len == WINDOW_BITS {
+        return Sight::Ones;
+    }
+    begun(ended, window)
+}
+
+// What stands at the front, where it begins with a one and isn't ones alone.
+fn seen(over: bool, ended: bool, window: TxBits) -> Sight
+    requires spelled { IsSpelled window }
+    requires most { window.len ≤ 50 }
+    requires one { window.bits % 2 ≡ 1 }
+    requires some { 0 < window.len }
+    requires zero { all_ones (bits_of window) ≡ false }
+    ensures { (back : List Bool) → (window.len < 50 → back ≡ [])
+        → IsSeen over ended result (bits_of window ++ back) }
+{
+    match front_of(window.bits, window.len) {
+        Front::Begun(_) => begun(ended, window),
+        Front::Broken => Sight::Junk,
+        Front::Whole(tx, len) => {
+            if !has_phase(over, &tx) {
+                return Sight::Tx(tx, len);
+            }
+            if window.len < MOVED_BITS {
+                return begun(ended, window);
+            }
+            Sight::Tx(tx, MOVED_BITS)
+        }
+    }
+}
+
+// The beginning of a transaction or of fifty ones.
+fn begun(ended: bool, window: TxBits) -> Sight
+    ensures cut { ended ≡ true → result ≡ Sight.Cut window }
+    ensures wait { ended ≡ false → result ≡ Sight.Wait }
+{
+    if ended {
+        Sight::Cut(window)
+    } else {
+        Sight::Wait
+    }
+}
+
+/// Whether all bits are ones.
+pub(crate) fn is_ones(window: TxBits) -> bool
+    requires spelled { IsSpelled window }
+    requires most { window.len ≤ 50 }
+    ensures ones { result ≡ true → bits_of window ≡ replicate window.len true }
+    ensures zero { result ≡ false → all_ones (bits_of window) ≡ false }
+{
+    window.bits == (1 << window.len) - 1
+}
+
+// Whether a data phase follows WAIT or FAULT.
+fn has_phase(over: bool, tx: &Tx) -> bool
+    ensures { result ≡ (over && is_refusal tx.now.result) }
+{
+    over && matches!(tx.result, TxEnd::Wait | TxEnd::Fault)
+}

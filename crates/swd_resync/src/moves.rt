@@ -1,0 +1,287 @@
+//! The steps of a reader of captures. `over` is with overrun detection, `ended` where no bit follows those that are
+//! held. `None` where more bits decide, or none are left.
+ghost use Rattle.std.specs.Prelude.{◌≡◌, ◌+◌, ◌^◌, ◌<◌, ◌≤◌, List, Bool, true, false, length};
+ghost use Rattle.swd_trace.specs.Reading.{switch, mode_after};
+ghost use Rattle.swd_resync.specs.Parts.{parts, place_after};
+ghost use Rattle.swd_resync.specs.Holding.{held_bits};
+ghost use Rattle.swd_resync.specs.Sights.{IsTxSeen};
+ghost use Rattle.swd_resync.specs.Stages.{Moves, counted, rank, rest_at, SeesSwitch};
+
+use crate::held::{Held, WINDOW_BITS};
+use crate::judge::{bits_withdrawn, stretch_begins, stretch_goes_on};
+use crate::look::{is_ones, look};
+use crate::part::Part;
+use crate::sight::Sight;
+use crate::stage::{Move, Stage};
+use swd_bits::{SWITCH, SWITCH_BITS, Tx, TxBits, TxEnd};
+use swd_trace::Item;
+
+// How many ones make a line reset: as many as are looked at.
+const RESET_ONES: u64 = 50;
+
+/// The next step.
+pub(crate) fn next_move(over: bool, ended: bool, stage: Stage, held: &Held) -> Option<Move>
+    requires { counted stage + length (held_bits held.now) < 2 ^ 64 }
+    ensures { Moves over ended stage (held_bits held.now) result }
+{
+    match stage {
+        Stage::Start(zeros) => at_start(over, ended, zeros, held),
+        Stage::Stretch(zeros) => {
+            if zeros == 0 {
+                in_stretch(over, ended, held)
+            } else {
+                behind_idle(over, ended, zeros, held)
+            }
+        }
+        Stage::Reset(ones) => in_reset(over, ended, ones, held),
+        Stage::AfterReset => behind_reset(over, ended, held),
+        Stage::AfterSwitch => behind_switch(over, ended, held),
+        Stage::Between(count) => between(over, ended, count, held),
+    }
+}
+
+// At the front of the capture, behind zeros.
+fn at_start(over: bool, ended: bool, zeros: u64, held: &Held) -> Option<Move>
+    requires { zeros + length (held_bits held.now) < 2 ^ 64 }
+    ensures { Moves over ended (Stage.Start zeros) (held_bits held.now) result }
+{
+    match look(over, ended, held) {
+        Sight::Wait => None,
+        Sight::Zero => Some(Move {
+            count: 1,
+            stage: Stage::Start(zeros + 1),
+            part: None,
+        }),
+        Sight::Tx(tx, len) => match stretch_goes_on(over, ended, &tx, &held.without(len)) {
+            None => None,
+            Some(true) => Some(stay(Stage::Stretch(zeros))),
+            Some(false) => Some(stay(Stage::Between(zeros))),
+        },
+        Sight::Junk => Some(stay(Stage::Between(zeros))),
+        Sight::End => Some(stay(Stage::Stretch(zeros))),
+        Sight::Ones => Some(stay(Stage::Stretch(zeros))),
+        Sight::Cut(_) => Some(stay(Stage::Stretch(zeros))),
+    }
+}
+
+// No bit is passed.
+fn stay(stage: Stage) -> Move
+    ensures { result ≡ record { count = 0; stage = stage; part = None } }
+{
+    Move {
+        count: 0,
+        stage,
+        part: None,
+    }
+}
+
+// In a stretch.
+fn in_stretch(over: bool, ended: bool, held: &Held) -> Option<Move>
+    requires { length (held_bits held.now) < 2 ^ 64 }
+    ensures { Moves over ended (Stage.Stretch 0) (held_bits held.now) result }
+{
+    match look(over, ended, held) {
+        Sight::Wait => None,
+        Sight::End => None,
+        Sight::Zero => Some(Move {
+            count: 1,
+            stage: Stage::Stretch(1),
+            part: None,
+        }),
+        Sight::Ones => Some(Move {
+            count: WINDOW_BITS,
+            stage: Stage::Reset(RESET_ONES),
+            part: None,
+        }),
+        Sight::Junk => Some(Move {
+            count: 1,
+            stage: Stage::Between(1),
+            part: None,
+        }),
+        Sight::Cut(bits) => Some(Move {
+            count: bits.len,
+            stage: Stage::Stretch(0),
+            part: Some(Part::Item(Item::Cut(bits))),
+        }),
+        Sight::Tx(tx, len) => tx_move(over, ended, &tx, len, held),
+    }
+}
+
+// The stage behind a transaction that is told.
+fn behind_tx(tx: &Tx) -> Stage
+    ensures rest { (over : Bool) (bits : List Bool) → rest_at over result bits
+        ≡ parts over (place_after (mode_after tx.now.result)) bits }
+    ensures counted { counted result ≡ 0 }
+    ensures rank { rank result ≤ 2 }
+{
+    match tx.result {
+        TxEnd::NoAck(_) => Stage::Between(0),
+        _ => Stage::Stretch(0),
+    }
+}
+
+// A transaction of a stretch.
+fn tx_move(over: bool, ended: bool, tx: &Tx, len: u8, held: &Held) -> Option<Move>
+    requires { IsTxSeen over tx.now len (held_bits held.now) }
+    ensures { Moves over ended (Stage.Stretch 0) (held_bits held.now) result }
+{
+    match bits_withdrawn(over, ended, held, tx, len) {
+        None => None,
+        Some(count) => {
+            if count == 0 {
+                Some(Move {
+                    count: len,
+                    stage: behind_tx(tx),
+                    part: Some(Part::Item(Item::Tx(*tx))),
+                })
+            } else {
+                Some(Move {
+                    count,
+                    stage: Stage::Between(0),
+                    part: Some(Part::Skip(u64::from(count))),
+                })
+            }
+        }
+    }
+}
+
+// In a stretch, behind idle cycles.
+fn behind_idle(over: bool, ended: bool, zeros: u64, held: &Held) -> Option<Move>
+    requires some { 0 < zeros }
+    requires count { zeros + length (held_bits held.now) < 2 ^ 64 }
+    ensures { Moves over ended (Stage.Stretch zeros) (held_bits held.now) result }
+{
+    let told = Move {
+        count: 0,
+        stage: Stage::Stretch(0),
+        part: Some(Part::Item(Item::Idle(zeros))),
+    };
+    match held.first() {
+        None => { if ended { Some(told) } else { None } }
+        Some(true) => Some(told),
+        Some(false) => Some(Move {
+            count: 1,
+            stage: Stage::Stretch(zeros + 1),
+            part: None,
+        }),
+    }
+}
+
+// In a stretch, behind ones of a reset.
+fn in_reset(over: bool, ended: bool, ones: u64, held: &Held) -> Option<Move>
+    requires { ones + length (held_bits held.now) < 2 ^ 64 }
+    ensures { Moves over ended (Stage.Reset ones) (held_bits held.now) result }
+{
+    let told = Move {
+        count: 0,
+        stage: Stage::AfterReset,
+        part: Some(Part::Item(Item::Reset(ones))),
+    };
+    match held.first() {
+        None => { if ended { Some(told) } else { None } }
+        Some(true) => Some(Move {
+            count: 1,
+            stage: Stage::Reset(ones + 1),
+            part: None,
+        }),
+        Some(false) => Some(told),
+    }
+}
+
+// Directly after a reset.
+fn behind_reset(over: bool, ended: bool, held: &Held) -> Option<Move>
+    ensures { Moves over ended Stage.AfterReset (held_bits held.now) result }
+{
+    match sees_switch(ended, held.window()) {
+        None => None,
+        Some(false) => Some(stay(Stage::Stretch(0))),
+        Some(true) => Some(Move {
+            count: SWITCH_BITS,
+            stage: Stage::AfterSwitch,
+            part: Some(Part::Item(Item::Switch)),
+        }),
+    }
+}
+
+// Whether the bits begin with the switch from JTAG.
+fn sees_switch(ended: bool, window: TxBits) -> Option<bool>
+    requires { window.len ≤ 50 }
+    ensures { SeesSwitch ended window result }
+{
+    let seen = window.len.min(SWITCH_BITS);
+    let mask = (1 << seen) - 1;
+    if window.bits & mask != SWITCH & mask {
+        return Some(false);
+    }
+    if window.len >= SWITCH_BITS {
+        return Some(true);
+    }
+    if ended { Some(false) } else { None }
+}
+
+// Directly after a switch.
+fn behind_switch(over: bool, ended: bool, held: &Held) -> Option<Move>
+    ensures { Moves over ended Stage.AfterSwitch (held_bits held.now) result }
+{
+    let window = held.window();
+    if !is_ones(window) {
+        return Some(stay(Stage::Between(0)));
+    }
+    if window.len == WINDOW_BITS {
+        return Some(Move {
+            count: WINDOW_BITS,
+            stage: Stage::Reset(RESET_ONES),
+            part: None,
+        });
+    }
+    if !ended || window.len == 0 {
+        return None;
+    }
+    Some(Move {
+        count: window.len,
+        stage: Stage::Stretch(0),
+        part: Some(Part::Item(Item::Cut(window))),
+    })
+}
+
+// Between two stretches, behind bits that are skipped.
+fn between(over: bool, ended: bool, count: u64, held: &Held) -> Option<Move>
+    requires { count + length (held_bits held.now) < 2 ^ 64 }
+    ensures { Moves over ended (Stage.Between count) (held_bits held.now) result }
+{
+    match held.first() {
+        None => {
+            if ended && count > 0 {
+                Some(skipped(count))
+            } else {
+                None
+            }
+        }
+        Some(_) => match stretch_begins(over, ended, held) {
+            None => None,
+            Some(true) => {
+                if count > 0 {
+                    Some(skipped(count))
+                } else {
+                    Some(stay(Stage::Stretch(0)))
+                }
+            }
+            Some(false) => Some(Move {
+                count: 1,
+                stage: Stage::Between(count + 1),
+                part: None,
+            }),
+        },
+    }
+}
+
+// The bits before here are a part.
+fn skipped(count: u64) -> Move
+    ensures { result ≡ record { count = 0; stage = Stage.Between 0; part = Some (Part.Skip count) } }
+{
+    Move {
+        count: 0,
+        stage: Stage::Between(0),
+        part: Some(Part::Skip(count)),
+    }
+}

@@ -1,0 +1,35 @@
+//! The parts of a capture.
+ghost use Rattle.std.specs.Prelude.{◌≡◌, ◌+◌, ◌≤◌, ◌++◌};
+ghost use Rattle.arrayvec.specs.ArrayString.{array_string_len};
+
+use arrayvec::ArrayString;
+use swd_trace::{Item, LONGEST_LINE};
+
+/// One part of a capture (the division is this project's choice).
+#[derive(Clone, Copy, Debug, PartialEq, Eq)]
+pub enum Part {
+    /// An item of a stretch that is read as a trace is.
+    Item(Item),
+    /// That many bits, at least one, which belong to no stretch.
+    Skip(u64),
+}
+
+impl Part {
+    ghost use Rattle.swd_resync.specs.PartTexts.{part_line};
+
+    /// Adds the part's line to a text, without its end: an item's, or as in `skip 26`.
+    pub fn push_line<const N: usize>(&self, text: &mut ArrayString<N>)
+        requires { array_string_len text.old + LONGEST_LINE ≤ N }
+        ensures bytes { text.new.bytes ≡ text.old.bytes ++ part_line self.now }
+        ensures len { array_string_len text.new ≤ array_string_len text.old + LONGEST_LINE }
+    {
+        match self {
+            Part::Item(item) => item.push_line(text),
+            Part::Skip(count) => {
+                let mut digits = itoa::Buffer::new();
+                text.push_str("skip ");
+                text.push_str(digits.format(*count));
+            }
+        }
+    }
+}

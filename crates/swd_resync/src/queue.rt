@@ -1,0 +1,142 @@
+//! A queue of bits with a run of zeros in it.
+ghost use Rattle.std.specs.Prelude.{◌≡◌, ◌+◌, ◌-◌, ◌^◌, ◌<◌, ◌≤◌, [], ◌∷◌, ◌++◌, drop};
+ghost use Rattle.swd_resync.specs.Queues.{queued, IsQueue, IsFull, EndsRun, IsHeld};
+
+/// How many bits are held one by one before a run of zeros is counted: those of a transaction, and of one that begins
+/// inside of it.
+pub(crate) const FRONT_BITS: u8 = 92;
+
+/// Bits in time order: some, then a run of zeros, then more of them. The first of them is least significant.
+#[derive(Clone, Copy, Debug)]
+pub(crate) struct Queue {
+    pub(crate) front: u128,
+    pub(crate) front_len: u8,
+    pub(crate) zeros: u64,
+    pub(crate) back: u64,
+    pub(crate) back_len: u8,
+}
+
+impl Queue {
+    /// No bits.
+    pub(crate) fn new() -> Queue
+        ensures bits { queued result ≡ [] }
+        ensures held { IsHeld result }
+        ensures room { result.back_len ≡ 0 }
+    {
+        Queue {
+            front: 0,
+            front_len: 0,
+            zeros: 0,
+            back: 0,
+            back_len: 0,
+        }
+    }
+
+    /// The bits with one more at their end.
+    pub(crate) fn with(self, bit: bool) -> Queue
+        requires held { IsHeld self }
+        requires room { self.back_len < 63 }
+        requires count { self.zeros < 2 ^ 64 - 1 }
+        ensures bits { queued result ≡ queued self ++ bit ∷ [] }
+        ensures held { IsHeld result }
+        ensures room { result.back_len ≤ self.back_len + 1 }
+    {
+        if self.front_len < FRONT_BITS {
+            Queue {
+                front: u128::from(bit) << self.front_len | self.front,
+                front_len: self.front_len + 1,
+                ..self
+            }
+        } else if self.back_len == 0 && !bit {
+            Queue {
+                zeros: self.zeros + 1,
+                ..self
+            }
+        } else {
+            Queue {
+                back: u64::from(bit) << self.back_len | self.back,
+                back_len: self.back_len + 1,
+                ..self
+            }
+        }
+    }
+
+    /// The bits behind the first ones, of which there are so many.
+    pub(crate) fn shifted(self, count: u8) -> Queue
+        requires held { IsHeld self }
+        requires within { count ≤ self.front_len }
+        ensures bits { queued result ≡ drop count (queued self) }
+        ensures held { IsHeld result }
+        ensures room { result.back_len ≤ self.back_len }
+    {
+        let others = Queue {
+            front: self.front >> count,
+            front_len: self.front_len - count,
+            ..self
+        };
+        others.with_zeros().with_bits().with_run()
+    }
+
+    // Zeros of the run fill up the front.
+    fn with_zeros(self) -> Queue
+        requires { IsQueue self }
+        ensures queue { IsQueue result }
+        ensures bits { queued result ≡ queued self }
+        ensures full { 0 < result.zeros → result.front_len ≡ 92 }
+        ensures back { result.back ≡ self.back }
+        ensures back_len { result.back_len ≡ self.back_len }
+    {
+        let count = self.zeros.min(u64::from(FRONT_BITS - self.front_len));
+        Queue {
+            front_len: self.front_len + count as u8,
+            zeros: self.zeros - count,
+            ..self
+        }
+    }
+
+    // Where no run is, the bits behind it fill up the front.
+    fn with_bits(self) -> Queue
+        requires queue { IsQueue self }
+        requires full { 0 < self.zeros → self.front_len ≡ 92 }
+        requires ends { EndsRun self }
+        ensures queue { IsQueue result }
+        ensures bits { queued result ≡ queued self }
+        ensures full { IsFull result }
+        ensures ends { 0 < result.zeros → EndsRun result }
+        ensures room { result.back_len ≤ self.back_len }
+    {
+        if self.zeros > 0 {
+            return self;
+        }
+        let count = self.back_len.min(FRONT_BITS - self.front_len);
+        let moved = self.back & ((1 << count) - 1);
+        Queue {
+            front: u128::from(moved) << self.front_len | self.front,
+            front_len: self.front_len + count,
+            zeros: 0,
+            back: self.back >> count,
+            back_len: self.back_len - count,
+        }
+    }
+
+    // Where no run is, zeros at the front of the bits behind it are one.
+    fn with_run(self) -> Queue
+        requires queue { IsQueue self }
+        requires full { IsFull self }
+        requires ends { 0 < self.zeros → EndsRun self }
+        ensures bits { queued result ≡ queued self }
+        ensures held { IsHeld result }
+        ensures room { result.back_len ≤ self.back_len }
+    {
+        if self.zeros > 0 {
+            return self;
+        }
+        let count = (self.back.trailing_zeros() as u8).min(self.back_len);
+        Queue {
+            zeros: u64::from(count),
+            back: self.back >> count,
+            back_len: self.back_len - count,
+            ..self
+        }
+    }
+}

@@ -1,0 +1,5 @@
+//! The reader of captures, run on worked captures.
+#![tactic(auto)]
+
+#[cfg(test)]
+mod tests;

@@ -1,0 +1,197 @@
+-- The engine's answers, from one account of what ran to another.
+use Rattle.std.proofs.Common.{◌≡◌, ℕ, List, Option, None, Some, Result, Ok, Err, Bool, true, false, inl, inr, refl, ap, ap₂}
+use Rattle.std.proofs.Common.{subst}
+use Rattle.std.proofs.KnownBytes.{Appends-nil}
+use Rattle.std.specs.Prelude.{◌≤◌, is_some, take, length}
+use Rattle.std.specs.Io.KnownBytes.{Appends}
+use Rattle.swd_trace.specs.declared.item.Item.{Item}
+use Rattle.swd_port.specs.declared.access.Access.{Access}
+use Rattle.swd_port.specs.declared.mark.Mark.{Mark}
+use Rattle.swd_port.specs.Choices.{disturbed_among, lost_among}
+use Rattle.swd_port.specs.PlainMemory.{PlainMemory}
+use Rattle.swd_port.specs.Port.{Port, made}
+use Rattle.swd_port.specs.Laws.Calls.{with_asked}
+use Rattle.swd_port.specs.declared.wire.Wire.{Ghosts}
+use Rattle.swd_recorder.specs.declared.recorder.Recorder.{Recorder}
+use Rattle.swd_recorder.specs.Recorders.{lawful_by, plan_by, port_by, wire_under}
+use Rattle.swd_host.specs.Reports.{IsAtRest, Told}
+use Rattle.swd_script.specs.Scripts.{Listed, Meaning}
+use Rattle.swd_run.specs.declared.engine.Finished.{Finished}
+use Rattle.swd_run.specs.declared.fault.EngineFault.{EngineFault}
+use Rattle.swd_run.specs.declared.fault.EngineFault.TheVariants.{Memory, Write, TraceCut}
+use Rattle.swd_run.specs.declared.going_on.Stop.{Stop}
+use Rattle.swd_run.specs.Engine.{Answers, AnswersAt, AnswersOver, ForTrace, IsFinished, IsLeft, IsOfTraceOver, IsTraceOver}
+use Rattle.swd_run.specs.Engine.{IsOfTrace, IsTraceOf, Ran, TellsTrace, port_seen, whole, short, stopped}
+use Rattle.swd_run.specs.GoingOn.{Went, ran, resumed}
+use Rattle.swd_run.specs.Reports.{session_text}
+use Rattle.swd_run.specs.Running.{AnswersScript, memory_of}
+use Rattle.swd_run.specs.Sessions.{Done, Runs, ended_of, most_begun, none, requests_of, then}
+use Rattle.swd_run.proofs.RunLemmas.{made_rests}
+use Rattle.swd_run.proofs.SessionLemmas.{script_runs}
+
+-- what is said of a trace's writer says what follows
+pub for_trace : (P Q : Option (List ℕ) → Option (List ℕ) → Type 0) (before after : Option (Option (List ℕ)))
+    → ((old new : Option (List ℕ)) → P old new → Q old new) → ForTrace P before after → ForTrace Q before after
+for_trace P Q None after f h = h
+for_trace P Q (Some old) after f h = (h.0, h.1, f old h.0 h.2)
+
+pub left_alone : (trace : Option (Option (List ℕ))) → ForTrace IsLeft trace trace
+left_alone None = refl
+left_alone (Some held) = (held, refl, Appends-nil held)
+
+-- each account of what ran is one of another kind, with the same runs and the same traces
+pub answers_as : {X Y : Type 0} (batches : List Listed) (runs : Y → List Done) (IsWhole IsPart : X → List Item → Type 0)
+    (IsWholeToo IsPartToo : Y → List Item → Type 0) (f : X → Y)
+    → ((x : X) (items : List Item) → IsWhole x items → IsWholeToo (f x) items)
+    → ((x : X) (items : List Item) → IsPart x items → IsPartToo (f x) items)
+    → (answer : Result Finished EngineFault) (old new : Option (List ℕ)) (before after : Option (Option (List ℕ)))
+    → Answers {Came = X} batches (λ x. runs (f x)) IsWhole IsPart answer old new before after
+    → Answers {Came = Y} batches runs IsWholeToo IsPartToo answer old new before after
+answers_as batches runs IsWhole IsPart IsWholeToo IsPartToo f w p (Ok finished) old new before after h =
+    (f h.0, h.1, h.2, for_trace _ _ before after (λ start now t. (t.0, w h.0 t.0 t.1, t.2)) h.3)
+answers_as batches runs IsWhole IsPart IsWholeToo IsPartToo f w p (Err Memory) old new before after h = h
+answers_as batches runs IsWhole IsPart IsWholeToo IsPartToo f w p (Err (Write written)) old new before after
+    (x, inl stop) = (f x, inl stop)
+answers_as batches runs IsWhole IsPart IsWholeToo IsPartToo f w p (Err (Write written)) old new before after
+    (x, inr stop) =
+    (f x, inr (stop.0, stop.1, for_trace _ _ before after (λ start now t. (t.0, p x t.0 t.1, t.2)) stop.2))
+answers_as batches runs IsWhole IsPart IsWholeToo IsPartToo f w p (Err TraceCut) old new before after h =
+    (f h.0, h.1, h.2, for_trace _ _ before after (λ start now t. (t.0, p h.0 t.0 t.1, t.2)) h.3)
+
+-- runs over wires are runs over all that the wires are known by
+module _ {W V : Type 0} (by : W → V) (port : V → Port) (plan : V → List Mark) (lawful : V → Type 0) (tries resumes : ℕ)
+  where
+    went_by : (limit : ℕ) (list : List Access) (s : W) (stops : List Stop) (told : Told) (t : W)
+        → Went (λ w. port (by w)) (λ w. plan (by w)) (λ w. lawful (by w)) limit list tries s stops told t
+        → Went port plan lawful limit list tries (by s) stops told (by t)
+    went_by limit list s stops told t (ran same closes over) = ran same closes over
+    went_by limit list s stops told t (resumed {stops = before} {earlier = e} {t = u} went lost same goes over) =
+        resumed (went_by limit list s before e u went) lost same goes over
+
+    runs_by : (s : W) (batches : List Listed) (runs : List Done) (t : W)
+        → Runs (λ w. port (by w)) (λ w. plan (by w)) (λ w. lawful (by w)) most_begun tries resumes s batches runs t
+        → Runs port plan lawful most_begun tries resumes (by s) batches runs (by t)
+    runs_by s batches runs t none = none
+    runs_by s batches runs t
+        (then {batches = before} {runs = earlier} {t = u} {u = v} {batch = batch} {run = run} prior all goes) =
+        then (runs_by s before earlier u prior) all (record {
+          went = went_by (most_begun batch) batch.accesses u run.stops run.told v goes.went;
+          few = goes.few;
+          lost = goes.lost;
+        })
+
+    -- and so are the answers
+    pub answers_by : (batches : List Listed) (s t : W) (start end : V) → by s ≡ start → by t ≡ end
+        → (answer : Result Finished EngineFault) (old new : Option (List ℕ)) (before after : Option (Option (List ℕ)))
+        → AnswersOver (λ w. port (by w)) (λ w. plan (by w)) (λ w. lawful (by w)) tries resumes batches s t answer old new
+        before after → AnswersOver port plan lawful tries resumes batches start end answer old new before after
+    answers_by batches s t start end begins ends answer old new before after h =
+        subst (λ x. AnswersOver port plan lawful tries resumes batches x end answer old new before after) begins
+        (subst (λ x. AnswersOver port plan lawful tries resumes batches (by s) x answer old new before after) ends
+        (answers_as batches (λ ran. ran.runs) IsTraceOver IsOfTraceOver IsTraceOver IsOfTraceOver
+        (λ over. record {
+          runs = over.runs;
+          are = record {
+            runs_are = runs_by s (take (length over.runs) batches) over.runs t over.are.runs_are;
+            whole = over.are.whole;
+          };
+        })
+        (λ over items is. record { read = is.read; whole = is.whole })
+        (λ over items is. record { read = is.read; part = is.part }) answer old new before after h))
+
+-- also beside a count
+pub answers_at_by : {W V : Type 0} (by : W → V) (port : V → Port) (plan : V → List Mark) (lawful : V → Type 0)
+    (tries resumes : ℕ) (batches : List Listed) (s t : W) (start : V) → by s ≡ start
+    → (answer : Result Finished EngineFault) (old new : Option (List ℕ)) (before after : Option (Option (List ℕ)))
+    → AnswersAt (λ w. port (by w)) (λ w. plan (by w)) (λ w. lawful (by w)) tries resumes batches s t answer old new
+    before after → AnswersAt port plan lawful tries resumes batches start (by t) answer old new before after
+answers_at_by by port plan lawful tries resumes batches s t start begins answer old new None after h = (
+  h.0,
+  answers_by (λ seen. (seen.0, by seen.1)) (port_seen false port) (λ seen. plan seen.1) (λ seen. lawful seen.1) tries
+      resumes batches (0, s) (h.0, t) (0, start) (h.0, by t) (ap (λ v. (0, v)) begins) refl answer old new None after h.1,
+)
+answers_at_by by port plan lawful tries resumes batches s t start begins answer old new (Some held) after h = (
+  h.0,
+  answers_by (λ seen. (seen.0, by seen.1)) (port_seen true port) (λ seen. plan seen.1) (λ seen. lawful seen.1) tries
+      resumes batches (0, s) (h.0, t) (0, start) (h.0, by t) (ap (λ v. (0, v)) begins) refl answer old new (Some held)
+      after h.1,
+)
+
+-- ---- a trace after the report
+
+module _ {W : Type 0} (port : W → Port) (plan : W → List Mark) (lawful : W → Type 0) (tries resumes : ℕ)
+    (batches : List Listed) (start end : W) (old new : Option (List ℕ)) where
+  -- it was written
+  pub traced : (finished : Finished) (cut : Bool) (items : List Item) (over : Ran port plan lawful tries resumes batches
+      start end) → IsFinished batches over.runs finished → Appends old new (session_text batches over.runs)
+      → (cut ≡ false → IsTraceOver over items) → IsOfTraceOver over items → (before after : Option (List ℕ))
+      (answer : Result Finished EngineFault) → TellsTrace finished cut items before after answer
+      → AnswersOver port plan lawful tries resumes batches start end answer old new (Some before) (Some after)
+  traced finished cut items over is gone of part before after answer (whole uncut all) =
+      (over, is, gone, (after, refl, (items, of uncut, all)))
+  traced finished cut items over is gone of part before after answer (short is_cut all) =
+      (over, refl, gone, (after, refl, (items, part, all)))
+  traced finished cut items over is gone of part before after answer (stopped some) =
+      (over, inr (refl, gone, (after, refl, (items, part, some))))
+
+  -- where there was no report it was not
+  pub untraced : (fault : EngineFault) (held : Option (List ℕ))
+      → AnswersOver port plan lawful tries resumes batches start end (Err fault) old new None None
+      → AnswersOver port plan lawful tries resumes batches start end (Err fault) old new (Some held) (Some held)
+  untraced Memory held h = (h.0, (held, refl, Appends-nil held))
+  untraced (Write written) held (over, inl stop) = (over, inl (stop.0, (held, refl, Appends-nil held)))
+  untraced (Write written) held (over, inr stop) = absurd cc
+  untraced TraceCut held h = let never = h.1 in absurd cc
+
+-- where the wire was recorded from its start
+pub recorded_by : {W A : Type 0} {g : Ghosts W} (tries resumes : ℕ) (batches : List Listed) (s t : Recorder W A g)
+    (start end : W) → wire_under s ≡ start → (port_by s).tally.asked ≡ 0 → wire_under t ≡ end
+    → (answer : Result Finished EngineFault) (old new : Option (List ℕ)) (before after : Option (Option (List ℕ)))
+    → AnswersOver port_by plan_by lawful_by tries resumes batches s t answer old new before after
+    → (counted : ℕ)
+    × AnswersOver (port_seen true g.port) (λ seen. g.plan seen.1) (λ seen. g.lawful seen.1) tries resumes batches
+    (0, start) (counted, end) answer old new before after
+recorded_by {g} tries resumes batches s t start end begins no_request ends answer old new before after h = (
+  (port_by t).tally.asked,
+  answers_by (λ r. ((port_by r).tally.asked, wire_under r)) (port_seen true g.port) (λ seen. g.plan seen.1)
+      (λ seen. g.lawful seen.1) tries resumes batches s t (0, start) ((port_by t).tally.asked, end)
+      (ap₂ (λ n w. (n, w)) no_request begins) (ap (λ w. ((port_by t).tally.asked, w)) ends) answer old new before after h,
+)
+
+-- ---- over a target that was just made
+
+made_seen : {W : Type 0} (traced : Bool) (port : W → Port) (m : PlainMemory) (w : W) → port w ≡ made 731911287 m
+    → port_seen traced port (0, w) ≡ made 731911287 m
+made_seen false port m w is_made = is_made
+made_seen true port m w is_made = ap (with_asked 0) is_made
+
+marks_seen : {W : Type 0} (traced : Bool) (port : W → Port) (disturbed lost n : ℕ) (w : W)
+    → ((port w).tally.disturbed ≤ disturbed) × ((port w).tally.lost ≤ lost)
+    → ((port_seen traced port (n, w)).tally.disturbed ≤ disturbed) × ((port_seen traced port (n, w)).tally.lost ≤ lost)
+marks_seen false port disturbed lost n w h = h
+marks_seen true port disturbed lost n w h = h
+
+pub script_answers : {W : Type 0} (port : W → Port) (plan : W → List Mark) (lawful : W → Type 0) (tries resumes : ℕ)
+    (script : Meaning) (marks : List Mark) (s t : W) → port s ≡ made 731911287 (memory_of script) → plan s ≡ marks
+    → ((w : W) → plan w ≡ marks
+    → ((port w).tally.disturbed ≤ disturbed_among marks) × ((port w).tally.lost ≤ lost_among marks)) → lawful t
+    → (answer : Result Finished EngineFault) (old new : Option (List ℕ)) (before after : Option (Option (List ℕ)))
+    → AnswersAt port plan lawful tries resumes script.batches s t answer old new before after
+    → AnswersScript tries resumes script marks answer old new before after
+script_answers port plan lawful tries resumes script marks s t is_made planned marked law answer old new before after
+    h =
+    let traced : Bool = is_some before in
+    let seen = port_seen traced port in
+    let begins : seen (0, s) ≡ made 731911287 (memory_of script) = made_seen traced port (memory_of script) s is_made in
+    let rest : IsAtRest (seen (0, s)) = made_rests (memory_of script) (seen (0, s)) begins in
+    answers_as script.batches (λ ran. ran.runs) IsTraceOver IsOfTraceOver
+    (λ ran items. IsTraceOf (requests_of ran.runs) (ended_of ran.runs) items)
+    (λ ran items. IsOfTrace (requests_of ran.runs) items)
+    (λ over. record {
+      runs = over.runs;
+      are = script_runs seen (λ x. plan x.1) (λ x. lawful x.1) tries resumes script marks over.runs (0, s) (h.0, t)
+          begins planned
+          (λ x same. marks_seen traced port (disturbed_among marks) (lost_among marks) x.0 x.1 (marked x.1 same)) law
+          over.are;
+    })
+    (λ over items is. is.whole law rest) (λ over items is. is.part law rest) answer old new before after h.1

@@ -1,0 +1,3 @@
+pub mod Alphabet
+pub mod Clocks
+pub mod Going

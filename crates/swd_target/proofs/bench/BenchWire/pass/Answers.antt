@@ -1,5 +1,0 @@
-use Rattle.std.proofs.Common.{inl, refl}
-use Rattle.swd_target.proofs.bench.BenchWire.pass.Goals as goal
-
-pub returns-clause-step : goal.returns-clause-step
-returns-clause-step g c = (_, _, inl refl, record { after = refl }, inl refl)
