@@ -14,6 +14,7 @@ mod late_power;
 mod listing;
 mod losses;
 mod order;
+mod outside;
 mod recorder;
 mod refusals;
 mod replies;
