@@ -30,11 +30,13 @@ The library, libswd_c.so, is searched in this order; `Library` checks it once, f
 import ctypes
 import ctypes.util
 import enum
+import operator
 import os
 import re
 from dataclasses import dataclass
 from typing import (
-    Any, Callable, Dict, Iterable, Iterator, List, NoReturn, Optional, Protocol, Sequence, Tuple, Union,
+    Any, Callable, Dict, Iterable, Iterator, List, NoReturn, Optional, Protocol, Sequence, SupportsIndex, Tuple, Union,
+    cast,
 )
 
 __version__ = "0.1.0"
@@ -124,7 +126,7 @@ def _number(name: str, value: object, most: int) -> int:
     """Returns the argument as an `int` from 0 to `most`."""
     if isinstance(value, bool) or not hasattr(value, "__index__"):
         _fail(name, value, f"an int from 0 to {most:#x}")
-    number = value.__index__()  # type: ignore[attr-defined]
+    number = operator.index(cast(SupportsIndex, value))
     if not 0 <= number <= most:
         _fail(name, number, f"from 0 to {most:#x}")
     return number
@@ -752,7 +754,7 @@ class Host:
         except LineFailed as failed:
             raise LineFailed(_since(failed.report, report)) from failed.__cause__
 
-    def _conduct(self, begin: Any, accesses: List[Access], earlier: Tuple[Answer, ...] = ()) -> Report:
+    def _conduct(self, begin: Any, accesses: Sequence[Access], earlier: Tuple[Answer, ...] = ()) -> Report:
         """Drives an engine through the accesses after the `earlier` answers. Nothing else calls an engine."""
         functions, wire, engine = self._functions, _Wire(self._line), _Engine()
         here, answers, count = ctypes.byref(engine), list(earlier), len(accesses)
