@@ -1,5 +1,6 @@
 //! Runs over a transport: at a simulated target that can be reached for some calls only.
 ghost use Rattle.std.specs.FinMap.{empty};
+ghost use Rattle.std.specs.Prelude.{[]};
 ghost use Rattle.swd_port.specs.Port.{made};
 
 use super::expect::{expect_eq, expect_eq_at};
