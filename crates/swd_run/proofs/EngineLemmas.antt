@@ -21,13 +21,15 @@ use Rattle.swd_run.specs.declared.fault.EngineFault.{EngineFault}
 use Rattle.swd_run.specs.declared.fault.EngineFault.TheVariants.{Memory, Write, TraceCut}
 use Rattle.swd_run.specs.declared.going_on.Stop.{Stop}
 use Rattle.swd_run.specs.Engine.{Answers, AnswersAt, AnswersOver, ForTrace, IsFinished, IsLeft, IsOfTraceOver, IsTraceOver}
-use Rattle.swd_run.specs.Engine.{IsOfTrace, IsTraceOf, Ran, TellsTrace, port_seen, whole, short, stopped}
+use Rattle.swd_run.specs.Engine.{IsOfTrace, IsTraceOf, Ran, RanShort, TellsTrace, port_seen, whole, short, stopped}
 use Rattle.swd_run.specs.GoingOn.{Went, ran, resumed}
 use Rattle.swd_run.specs.Reports.{session_text}
 use Rattle.swd_run.specs.Running.{AnswersScript, memory_of}
-use Rattle.swd_run.specs.Sessions.{Done, Runs, ended_of, most_begun, none, requests_of, then}
+use Rattle.swd_run.specs.Sessions.{AreDone, Done, IsRefused, Runs, ended_of, most_begun, none, requests_of, then}
+use Rattle.swd_run.specs.Sessions.{unresumed, unsent}
 use Rattle.swd_run.proofs.RunLemmas.{made_rests}
 use Rattle.swd_run.proofs.SessionLemmas.{script_runs}
+use Rattle.swd_run.proofs.WentLemmas.{law_before}
 
 -- what is said of a trace's writer says what follows
 pub for_trace : (P Q : Option (List ℕ) → Option (List ℕ) → Type 0) (before after : Option (Option (List ℕ)))
@@ -40,23 +42,31 @@ left_alone None = refl
 left_alone (Some held) = (held, refl, Appends-nil held)
 
 -- each account of what ran is one of another kind, with the same runs and the same traces
-pub answers_as : {X Y : Type 0} (batches : List Listed) (runs : Y → List Done) (IsWhole IsPart : X → List Item → Type 0)
-    (IsWholeToo IsPartToo : Y → List Item → Type 0) (f : X → Y)
+pub answers_as : {X U Y V : Type 0} (batches : List Listed) (runs : Y → List Done) (before : V → List Done)
+    (IsWhole IsPart : X → List Item → Type 0) (IsWholeToo IsPartToo : Y → List Item → Type 0) (f : X → Y) (e : U → V)
     → ((x : X) (items : List Item) → IsWhole x items → IsWholeToo (f x) items)
     → ((x : X) (items : List Item) → IsPart x items → IsPartToo (f x) items)
-    → (answer : Result Finished EngineFault) (old new : Option (List ℕ)) (before after : Option (Option (List ℕ)))
-    → Answers {Came = X} batches (λ x. runs (f x)) IsWhole IsPart answer old new before after
-    → Answers {Came = Y} batches runs IsWholeToo IsPartToo answer old new before after
-answers_as batches runs IsWhole IsPart IsWholeToo IsPartToo f w p (Ok finished) old new before after h =
-    (f h.0, h.1, h.2, for_trace _ _ before after (λ start now t. (t.0, w h.0 t.0 t.1, t.2)) h.3)
-answers_as batches runs IsWhole IsPart IsWholeToo IsPartToo f w p (Err Memory) old new before after h = h
-answers_as batches runs IsWhole IsPart IsWholeToo IsPartToo f w p (Err (Write written)) old new before after
+    → (answer : Result Finished EngineFault) (old new : Option (List ℕ)) (held now : Option (Option (List ℕ)))
+    → Answers {Came = X} {Short = U} batches (λ x. runs (f x)) (λ u. before (e u)) IsWhole IsPart answer old new held now
+    → Answers {Came = Y} {Short = V} batches runs before IsWholeToo IsPartToo answer old new held now
+answers_as batches runs before IsWhole IsPart IsWholeToo IsPartToo f e w p (Ok finished) old new held now h =
+    (f h.0, h.1, h.2, h.3, for_trace _ _ held now (λ start end t. (t.0, w h.0 t.0 t.1, t.2)) h.4)
+answers_as batches runs before IsWhole IsPart IsWholeToo IsPartToo f e w p (Err Memory) old new held now h =
+    (e h.0, h.1, h.2)
+answers_as batches runs before IsWhole IsPart IsWholeToo IsPartToo f e w p (Err (Write written)) old new held now
     (x, inl stop) = (f x, inl stop)
-answers_as batches runs IsWhole IsPart IsWholeToo IsPartToo f w p (Err (Write written)) old new before after
-    (x, inr stop) =
-    (f x, inr (stop.0, stop.1, for_trace _ _ before after (λ start now t. (t.0, p x t.0 t.1, t.2)) stop.2))
-answers_as batches runs IsWhole IsPart IsWholeToo IsPartToo f w p (Err TraceCut) old new before after h =
-    (f h.0, h.1, h.2, for_trace _ _ before after (λ start now t. (t.0, p h.0 t.0 t.1, t.2)) h.3)
+answers_as batches runs before IsWhole IsPart IsWholeToo IsPartToo f e w p (Err (Write written)) old new held now
+    (x, inr stop) = (
+      f x,
+      inr (
+        stop.0,
+        stop.1,
+        stop.2,
+        for_trace _ _ held now (λ start end t. (t.0, p x t.0 t.1, t.2)) stop.3,
+      ),
+    )
+answers_as batches runs before IsWhole IsPart IsWholeToo IsPartToo f e w p (Err TraceCut) old new held now h =
+    (f h.0, h.1, h.2, h.3, for_trace _ _ held now (λ start end t. (t.0, p h.0 t.0 t.1, t.2)) h.4)
 
 -- runs over wires are runs over all that the wires are known by
 module _ {W V : Type 0} (by : W → V) (port : V → Port) (plan : V → List Mark) (lawful : V → Type 0) (tries resumes : ℕ)
@@ -80,6 +90,34 @@ module _ {W V : Type 0} (by : W → V) (port : V → Port) (plan : V → List Ma
           lost = goes.lost;
         })
 
+    refused_by : (limit : ℕ) (batch : Listed) (s t : W)
+        → IsRefused (λ w. port (by w)) (λ w. plan (by w)) (λ w. lawful (by w)) limit tries resumes batch s t
+        → IsRefused port plan lawful limit tries resumes batch (by s) (by t)
+    refused_by limit batch s t (unsent same) = unsent (ap by same)
+    refused_by limit batch s t (unresumed {stops = stops} {told = told} went lost few) =
+        unresumed (went_by limit batch.accesses s stops told t went) lost few
+
+    abbrev ran_by : (batches : List Listed) (s t : W)
+        → Ran (λ w. port (by w)) (λ w. plan (by w)) (λ w. lawful (by w)) tries resumes batches s t
+        → Ran port plan lawful tries resumes batches (by s) (by t)
+    ran_by batches s t over = record {
+      runs = over.runs;
+      are = runs_by s (take (length over.runs) batches) over.runs t over.are;
+    }
+
+    abbrev short_by : (batches : List Listed) (s t : W)
+        → RanShort (λ w. port (by w)) (λ w. plan (by w)) (λ w. lawful (by w)) tries resumes batches s t
+        → RanShort port plan lawful tries resumes batches (by s) (by t)
+    short_by batches s t over = record {
+      between = by over.between;
+      before = ran_by batches s over.between over.before;
+      all = over.all;
+      batch = over.batch;
+      later = over.later;
+      next = over.next;
+      refused = refused_by (most_begun over.batch) over.batch over.between t over.refused;
+    }
+
     -- and so are the answers
     pub answers_by : (batches : List Listed) (s t : W) (start end : V) → by s ≡ start → by t ≡ end
         → (answer : Result Finished EngineFault) (old new : Option (List ℕ)) (before after : Option (Option (List ℕ)))
@@ -88,14 +126,8 @@ module _ {W V : Type 0} (by : W → V) (port : V → Port) (plan : V → List Ma
     answers_by batches s t start end begins ends answer old new before after h =
         subst (λ x. AnswersOver port plan lawful tries resumes batches x end answer old new before after) begins
         (subst (λ x. AnswersOver port plan lawful tries resumes batches (by s) x answer old new before after) ends
-        (answers_as batches (λ ran. ran.runs) IsTraceOver IsOfTraceOver IsTraceOver IsOfTraceOver
-        (λ over. record {
-          runs = over.runs;
-          are = record {
-            runs_are = runs_by s (take (length over.runs) batches) over.runs t over.are.runs_are;
-            whole = over.are.whole;
-          };
-        })
+        (answers_as batches (λ over. over.runs) (λ over. over.before.runs) IsTraceOver IsOfTraceOver IsTraceOver
+        IsOfTraceOver (ran_by batches s t) (short_by batches s t)
         (λ over items is. record { read = is.read; whole = is.whole })
         (λ over items is. record { read = is.read; part = is.part }) answer old new before after h))
 
@@ -123,22 +155,22 @@ module _ {W : Type 0} (port : W → Port) (plan : W → List Mark) (lawful : W �
     (batches : List Listed) (start end : W) (old new : Option (List ℕ)) where
   -- it was written
   pub traced : (finished : Finished) (cut : Bool) (items : List Item) (over : Ran port plan lawful tries resumes batches
-      start end) → IsFinished batches over.runs finished → Appends old new (session_text batches over.runs)
-      → (cut ≡ false → IsTraceOver over items) → IsOfTraceOver over items → (before after : Option (List ℕ))
+      start end) → AreDone batches over.runs → IsFinished batches over.runs finished
+      → Appends old new (session_text batches over.runs) → (cut ≡ false → IsTraceOver over items) → IsOfTraceOver over items → (before after : Option (List ℕ))
       (answer : Result Finished EngineFault) → TellsTrace finished cut items before after answer
       → AnswersOver port plan lawful tries resumes batches start end answer old new (Some before) (Some after)
-  traced finished cut items over is gone of part before after answer (whole uncut all) =
-      (over, is, gone, (after, refl, (items, of uncut, all)))
-  traced finished cut items over is gone of part before after answer (short is_cut all) =
-      (over, refl, gone, (after, refl, (items, part, all)))
-  traced finished cut items over is gone of part before after answer (stopped some) =
-      (over, inr (refl, gone, (after, refl, (items, part, some))))
+  traced finished cut items over done is gone of part before after answer (whole uncut all) =
+      (over, done, is, gone, (after, refl, (items, of uncut, all)))
+  traced finished cut items over done is gone of part before after answer (short is_cut all) =
+      (over, refl, done, gone, (after, refl, (items, part, all)))
+  traced finished cut items over done is gone of part before after answer (stopped some) =
+      (over, inr (refl, done, gone, (after, refl, (items, part, some))))
 
   -- where there was no report it was not
   pub untraced : (fault : EngineFault) (held : Option (List ℕ))
       → AnswersOver port plan lawful tries resumes batches start end (Err fault) old new None None
       → AnswersOver port plan lawful tries resumes batches start end (Err fault) old new (Some held) (Some held)
-  untraced Memory held h = (h.0, (held, refl, Appends-nil held))
+  untraced Memory held h = (h.0, h.1, (held, refl, Appends-nil held))
   untraced (Write written) held (over, inl stop) = (over, inl (stop.0, (held, refl, Appends-nil held)))
   untraced (Write written) held (over, inr stop) = absurd cc
   untraced TraceCut held h = let never = h.1 in absurd cc
@@ -159,6 +191,13 @@ recorded_by {g} tries resumes batches s t start end begins no_request ends answe
 )
 
 -- ---- over a target that was just made
+
+law_refused : {W : Type 0} (port : W → Port) (plan : W → List Mark) (lawful : W → Type 0) (tries resumes : ℕ)
+    (batch : Listed) (s t : W) → IsRefused port plan lawful (most_begun batch) tries resumes batch s t → lawful t
+    → lawful s
+law_refused port plan lawful tries resumes batch s t (unsent same) law = subst lawful same law
+law_refused port plan lawful tries resumes batch s t (unresumed {stops = stops} {told = told} went lost few) law =
+    law_before port plan lawful (most_begun batch) batch.accesses tries s stops told t went law
 
 made_seen : {W : Type 0} (traced : Bool) (port : W → Port) (m : PlainMemory) (w : W) → port w ≡ made 731911287 m
     → port_seen traced port (0, w) ≡ made 731911287 m
@@ -184,14 +223,20 @@ script_answers port plan lawful tries resumes script marks s t is_made planned m
     let seen = port_seen traced port in
     let begins : seen (0, s) ≡ made 731911287 (memory_of script) = made_seen traced port (memory_of script) s is_made in
     let rest : IsAtRest (seen (0, s)) = made_rests (memory_of script) (seen (0, s)) begins in
-    answers_as script.batches (λ ran. ran.runs) IsTraceOver IsOfTraceOver
+    let runs_at = λ (runs : List Done) (end : ℕ × _) (law : lawful end.1)
+    (are : Runs seen (λ x. plan x.1) (λ x. lawful x.1) most_begun tries resumes (0, s)
+    (take (length runs) script.batches) runs end).
+    script_runs seen (λ x. plan x.1) (λ x. lawful x.1) tries resumes script marks runs (0, s) end begins planned
+    (λ x same. marks_seen traced port (disturbed_among marks) (lost_among marks) x.0 x.1 (marked x.1 same)) law are in
+    answers_as script.batches (λ over. over.runs) (λ over. over.runs) IsTraceOver IsOfTraceOver
     (λ ran items. IsTraceOf (requests_of ran.runs) (ended_of ran.runs) items)
     (λ ran items. IsOfTrace (requests_of ran.runs) items)
+    (λ over. record { runs = over.runs; are = runs_at over.runs (h.0, t) law over.are })
     (λ over. record {
-      runs = over.runs;
-      are = script_runs seen (λ x. plan x.1) (λ x. lawful x.1) tries resumes script marks over.runs (0, s) (h.0, t)
-          begins planned
-          (λ x same. marks_seen traced port (disturbed_among marks) (lost_among marks) x.0 x.1 (marked x.1 same)) law
-          over.are;
+      runs = over.before.runs;
+      are = runs_at over.before.runs over.between
+          (law_refused seen (λ x. plan x.1) (λ x. lawful x.1) tries resumes over.batch over.between (h.0, t) over.refused
+          law) over.before.are;
+      all = over.all;
     })
     (λ over items is. is.whole law rest) (λ over items is. is.part law rest) answer old new before after h.1

@@ -3,5 +3,6 @@ pub mod ReportLemmas
 pub mod RunLemmas
 pub mod WentLemmas
 pub mod SessionLemmas
+pub mod Reported
 pub mod VerifiedLemmas
 pub mod WorkedReports

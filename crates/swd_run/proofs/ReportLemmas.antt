@@ -1,7 +1,7 @@
 -- Laws of the text of a report.
 use Rattle.std.proofs.lemmas.List.{append-nil, drop_all, drop_min, drop-take, length-take, take_all, take_min}
 use Rattle.std.proofs.Math.Seq.{drop-cons}
-use Rattle.std.proofs.Common.{◌≡◌, ℕ, zero, suc, ◌+◌, ◌-◌, ◌<◌, ◌≤◌, List, [], ◌∷◌, ◌++◌, length, map, take, drop}
+use Rattle.std.proofs.Common.{◌≡◌, ℕ, zero, suc, ◌+◌, ◌-◌, ◌<◌, ◌≤◌, List, [], ◌∷◌, ◌++◌, length, take, drop}
 use Rattle.std.proofs.Common.{get_or, min, refl, sym, ap, ap₂, ◌∙◌, append_assoc, arith, add-one}
 use Rattle.swd_port.specs.declared.access.Access.{Access}
 use Rattle.swd_port.specs.declared.access.Answer.{Answer}
@@ -37,12 +37,27 @@ pairs_whole text (x ∷ xs) [] (suc i) h = absurd (omega arith)
 pairs_whole text (x ∷ xs) (y ∷ ys) zero h = absurd (omega arith)
 pairs_whole text (x ∷ xs) (y ∷ ys) (suc i) h = ap (λ t. text x y ++ t) (pairs_whole text xs ys i (omega arith))
 
--- the texts of what items say
-pub pairs_map : {X Y U V : Type 0} (text : U → V → List ℕ) (f : X → U) (h : Y → V) (xs : List X) (ys : List Y)
-    → pair_texts text (map f xs) (map h ys) ≡ pair_texts (λ x y. text (f x) (h y)) xs ys
-pairs_map text f h [] ys = refl
-pairs_map text f h (x ∷ xs) [] = refl
-pairs_map text f h (x ∷ xs) (y ∷ ys) = ap (λ t. text (f x) (h y) ++ t) (pairs_map text f h xs ys)
+pub no_pairs : {X Y : Type 0} (text : X → Y → List ℕ) (xs : List X) → pair_texts text xs [] ≡ []
+no_pairs text [] = refl
+no_pairs text (x ∷ xs) = refl
+
+-- the text of one pair more
+pub pairs_last : {X Y : Type 0} (text : X → Y → List ℕ) (xs : List X) (ys : List Y) (x : X) (y : Y)
+    → length ys ≡ length xs → pair_texts text (xs ++ x ∷ []) (ys ++ y ∷ []) ≡ pair_texts text xs ys ++ text x y
+pairs_last text [] [] x y same = append-nil (text x y)
+pairs_last text [] (v ∷ ys) x y same = absurd (omega (arith, same))
+pairs_last text (u ∷ xs) [] x y same = absurd (omega (arith, same))
+pairs_last text (u ∷ xs) (v ∷ ys) x y same =
+    ap (λ t. text u v ++ t) (pairs_last text xs ys x y (omega (arith, same)))
+    ∙ sym (append_assoc (text u v) (pair_texts text xs ys) (text x y))
+
+-- more items of one list alone add nothing
+pub pairs_front : {X Y : Type 0} (text : X → Y → List ℕ) (xs : List X) (ys : List Y)
+    → pair_texts text (take (length ys) xs) ys ≡ pair_texts text xs ys
+pairs_front text [] [] = refl
+pairs_front text [] (v ∷ ys) = refl
+pairs_front text (u ∷ xs) [] = refl
+pairs_front text (u ∷ xs) (v ∷ ys) = ap (λ t. text u v ++ t) (pairs_front text xs ys)
 
 -- ---- the parts of a report that was resumed
 
@@ -88,21 +103,3 @@ pub lines_end : (accesses : List Access) (answers : List Answer) (stops : List S
     → text ++ answer_lines (drop from accesses) (drop from answers) ≡ whole
 lines_end accesses answers stops i from text whole high e =
     ap (λ l. text ++ lines_from from l accesses answers) (sym (drop_all i stops high)) ∙ e
-
--- a text up to some pairs, and the rest
-pub pairs_rest : {X Y : Type 0} (text : X → Y → List ℕ) (xs : List X) (ys : List Y) (i : ℕ)
-    → pair_texts text (take i xs) (take i ys) ++ pair_texts text (drop i xs) (drop i ys) ≡ pair_texts text xs ys
-pairs_rest text [] [] zero = refl
-pairs_rest text [] [] (suc i) = refl
-pairs_rest text [] (y ∷ ys) zero = refl
-pairs_rest text [] (y ∷ ys) (suc i) = refl
-pairs_rest text (x ∷ xs) [] zero = refl
-pairs_rest text (x ∷ xs) [] (suc i) = none (drop i xs)
-  where
-    none : (rest : List _) → pair_texts text rest [] ≡ []
-    none [] = refl
-    none (first ∷ rest) = refl
-pairs_rest text (x ∷ xs) (y ∷ ys) zero = refl
-pairs_rest text (x ∷ xs) (y ∷ ys) (suc i) =
-    append_assoc (text x y) (pair_texts text (take i xs) (take i ys)) (pair_texts text (drop i xs) (drop i ys))
-    ∙ ap (λ t. text x y ++ t) (pairs_rest text xs ys i)

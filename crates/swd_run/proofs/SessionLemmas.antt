@@ -1,10 +1,10 @@
 -- Runs of a script, one after the other.
-use Rattle.std.proofs.Common.{◌≡◌, ℕ, zero, suc, ◌+◌, ◌<◌, ◌≤◌, ◌∙◌, List, [], ◌∷◌, ◌++◌, length, take, map, get_or}
+use Rattle.std.proofs.Common.{◌≡◌, ℕ, zero, suc, ◌+◌, ◌<◌, ◌≤◌, ◌∙◌, List, [], ◌∷◌, ◌++◌, length, take, drop, map, get_or}
 use Rattle.std.proofs.Common.{refl, sym, ap, subst}
 use Rattle.std.proofs.Common.{arith, add-one}
 use Rattle.std.specs.Prelude.{◌↔◌, All as Each}
 use Rattle.std.proofs.lemmas.List.{length-append}
-use Rattle.std.proofs.Math.Seq.{take-suc}
+use Rattle.std.proofs.Math.Seq.{drop-cons, take-suc}
 use Rattle.swd_port.specs.declared.mark.Mark.{Mark}
 use Rattle.swd_port.specs.declared.wire.Due.{Due}
 use Rattle.swd_port.specs.declared.wire.Due.TheVariants.{Nothing, Lost as DueLost}
@@ -18,7 +18,7 @@ use Rattle.swd_run.specs.GoingOn.{in_all}
 use Rattle.swd_run.specs.Running.{RunsScript, Session, memory_of}
 use Rattle.swd_run.specs.Sessions.{most_begun}
 use Rattle.swd_run.specs.Running.{none as no_run, then as then_run}
-use Rattle.swd_run.specs.Sessions.{Done, GoesOn, Runs, RunsAll, ended_of, none, then, requests_of}
+use Rattle.swd_run.specs.Sessions.{Done, GoesOn, Runs, ended_of, none, then, requests_of}
 use Rattle.swd_run.proofs.RunLemmas.{IsRecorded, made_rests}
 use Rattle.swd_run.proofs.WentLemmas.{asked, due_after, ending, law_before, plan_kept, rests, runs_on}
 
@@ -33,10 +33,6 @@ requests_last : (runs : List Done) (run : Done)
     → requests_of (runs ++ run ∷ []) ≡ requests_of runs + (in_all run.stops run.told).requests
 requests_last [] run = omega arith
 requests_last (first ∷ runs) run = let h = requests_last runs run in omega (arith, h)
-
-pub map_last : {X Y : Type 0} (f : X → Y) (xs : List X) (x : X) → map f (xs ++ x ∷ []) ≡ map f xs ++ f x ∷ []
-map_last f [] x = refl
-map_last f (first ∷ xs) x = ap (λ ys. f first ∷ ys) (map_last f xs x)
 
 pub map_length : {X Y : Type 0} (f : X → Y) (xs : List X) → length (map f xs) ≡ length xs
 map_length f [] = refl
@@ -55,7 +51,27 @@ one_more_of f xs i d low =
     ap (λ n. take n (map f xs)) (add-one i) ∙ take-suc (map f xs) i (f d) (omega (arith, many, low))
     ∙ ap (λ y. take i (map f xs) ++ y ∷ []) (map_at f xs i d)
 
+-- what is left of a list from an item on
+pub left_of : {X Y : Type 0} (f : X → Y) (xs : List X) (i : ℕ) (d : X) → i < length xs
+    → drop i (map f xs) ≡ f (get_or xs i d) ∷ drop (suc i) (map f xs)
+left_of f xs i d low =
+    let many : length (map f xs) ≡ length xs = map_length f xs in
+    drop-cons (map f xs) i (f d) (omega (arith, many, low))
+    ∙ ap (λ y. y ∷ drop (suc i) (map f xs)) (map_at f xs i d)
+
 -- ---- runs over a wire
+
+-- there are as many as batches
+pub as_many : {W : Type 0} (port : W → Port) (plan : W → List Mark) (lawful : W → Type 0) (most : Listed → ℕ)
+    (tries resumes : ℕ) (s : W) (batches : List Listed) (runs : List Done) (t : W)
+    → Runs port plan lawful most tries resumes s batches runs t → length runs ≡ length batches
+as_many port plan lawful most tries resumes s batches runs t none = refl
+as_many port plan lawful most tries resumes s batches runs t
+    (then {batches = before} {runs = earlier} {t = u} {batch = batch} {run = run} all_before all goes) =
+    let many = as_many port plan lawful most tries resumes s before earlier u all_before in
+    let runs_are = length-append earlier (run ∷ []) in
+    let batches_are = length-append before (batch ∷ []) in
+    omega (arith, many, runs_are, batches_are)
 
 module _ {W : Type 0} (port : W → Port) (plan : W → List Mark) (lawful : W → Type 0) (tries resumes : ℕ) (s : W) where
   pub due_then : (batch : Listed) (run : Done) (t u : W) → run.told.ended ≡ All
@@ -138,30 +154,6 @@ pub batch_at : {X : Type 0} (P : Listed → Type 0) (f : X → Listed) (xs : Lis
 batch_at P f xs i x each is low =
     subst P (map_at f xs i x ∙ ap f (sym is)) (each i (f x) (let many = map_length f xs in omega (arith, many, low)))
 
--- one run more of a list of batches, in the form of the lists that are kept
-pub runs_after : {W X Y : Type 0} (port : W → Port) (plan : W → List Mark) (lawful : W → Type 0) (tries resumes : ℕ)
-    (s t u : W)
-    (f : X → Listed) (h : Y → Done) (xs : List X) (ys : List Y) (i : ℕ) (x : X) (y : Y) (now : List Y)
-    → Runs port plan lawful most_begun tries resumes s (take i (map f xs)) (map h ys) t → ended_of (map h ys) ≡ All
-    → x ≡ get_or xs i x → i < length xs → now ≡ ys ++ y ∷ []
-    → GoesOn port plan lawful (most_begun (f x)) tries resumes (f x) t (h y) u
-    → Runs port plan lawful most_begun tries resumes s (take (i + 1) (map f xs)) (map h now) u
-runs_after port plan lawful tries resumes s t u f h xs ys i x y now before all is low pushed goes =
-    let batches : take i (map f xs) ++ f x ∷ [] ≡ take (i + 1) (map f xs) =
-    ap (λ z. take i (map f xs) ++ f z ∷ []) is ∙ sym (one_more_of f xs i x low) in
-    let runs : map h ys ++ h y ∷ [] ≡ map h now = sym (map_last h ys y) ∙ ap (map h) (sym pushed) in
-    subst (λ z. Runs port plan lawful most_begun tries resumes s z (map h now) u) batches
-    (subst (λ z. Runs port plan lawful most_begun tries resumes s (take i (map f xs) ++ f x ∷ []) z u) runs
-    (then before all goes))
-
-pub ended_after : {Y : Type 0} (h : Y → Done) (ys : List Y) (y : Y) (now : List Y) → now ≡ ys ++ y ∷ []
-    → ended_of (map h now) ≡ (h y).told.ended
-ended_after h ys y now pushed = ap (λ l. ended_of (map h l)) pushed ∙ ap ended_of (map_last h ys y)
-    ∙ ended_last (map h ys) (h y)
-
-pub length_after : {Y : Type 0} (ys : List Y) (y : Y) (now : List Y) → now ≡ ys ++ y ∷ [] → length now ≡ length ys + 1
-length_after ys y now pushed = ap length pushed ∙ length-append ys (y ∷ [])
-
 -- ---- a script over a target that was just made
 
 module _ {W : Type 0} (port : W → Port) (plan : W → List Mark) (lawful : W → Type 0) (tries resumes : ℕ)
@@ -170,16 +162,15 @@ module _ {W : Type 0} (port : W → Port) (plan : W → List Mark) (lawful : W �
     (planned : plan s ≡ marks)
     (marked : (w : W) → plan w ≡ marks
     → ((port w).tally.disturbed ≤ disturbed_among marks) × ((port w).tally.lost ≤ lost_among marks)) (law : lawful t)
-    (all : RunsAll port plan lawful most_begun tries resumes script.batches s runs t) where
+    (all : Runs port plan lawful most_begun tries resumes s (take (length runs) script.batches) runs t) where
   pub script_runs : RunsScript tries resumes script marks runs
   script_runs =
       let rest : IsAtRest (port s) = made_rests (memory_of script) (port s) is_made in
       let batches : List Listed = take (length runs) script.batches in
-      let (same, session) = sessions port plan lawful tries resumes s rest marks planned marked batches runs t
-      all.runs_are law in
+      let (same, session) = sessions port plan lawful tries resumes s rest marks planned marked batches runs t all
+      law in
       record {
         memory = (port t).target.memory;
         session = subst (λ m. Session tries resumes marks m batches runs (port t).target.memory)
             (ap (λ x. x.target.memory) is_made) session;
-        whole = all.whole;
       }

@@ -1,8 +1,7 @@
 -- Words that a script tells, and what was read.
-use Rattle.std.proofs.Common.{◌≡◌, ℕ, suc, ◌+◌, ◌<◌, ◌≤◌, ◌∙◌, List, [], ◌∷◌, length, drop, get_or, map, min, Option}
-use Rattle.std.proofs.Common.{Some, None, Bool, true, false, inl, inr, refl, sym, ap, arith, add-one}
-use Rattle.std.specs.Prelude.{◌⊎◌, nat_le}
-use Rattle.std.proofs.lemmas.Bool.Decides.{nat_tests}
+use Rattle.std.proofs.Common.{◌≡◌, ℕ, ◌+◌, ◌<◌, ◌≤◌, ◌∙◌, List, [], ◌∷◌, ◌++◌, length, take, drop, get_or, Option}
+use Rattle.std.proofs.Common.{Some, None, Bool, true, false, refl, sym, ap, arith, add-one}
+use Rattle.std.specs.Prelude.{◌||◌}
 use Rattle.std.proofs.Math.Seq.{drop-cons}
 use Rattle.std.proofs.lemmas.List.{drop_all}
 use Rattle.swd_port.specs.declared.access.Answer.{Answer}
@@ -10,11 +9,7 @@ use Rattle.swd_script.specs.declared.batch.Expected.{Expected}
 use Rattle.swd_script.specs.Scripts.{Listed}
 use Rattle.swd_run.specs.declared.verified.Difference.{Difference}
 use Rattle.swd_run.specs.Sessions.{Done}
-use Rattle.swd_run.specs.Verified.{difference_in, differs_among, first_difference, or_else}
-
-split : {X : Type 0} (xs : List X) (i : ℕ) (x : X) → x ≡ get_or xs i x → i < length xs → drop i xs ≡ x ∷ drop (i + 1) xs
-split xs i x is low =
-    drop-cons xs i x low ∙ ap (λ y. y ∷ drop (suc i) xs) (sym is) ∙ ap (λ n. x ∷ drop n xs) (sym (add-one i))
+use Rattle.swd_run.specs.Verified.{difference_in, differs_among, first_difference, has_bus_fault, met_bus_fault, or_else}
 
 -- what is left of the reads of a run
 pub reads_left : (reads : List Expected) (answers : List Answer) (i : ℕ) (d : Expected) → i < length reads
@@ -37,32 +32,49 @@ pub found_later : (result later whole : Option Difference) → result ≡ None �
     → whole ≡ later
 found_later result later whole is e = e ∙ ap (λ r. or_else r later) is
 
-module _ {X Y : Type 0} (f : X → Listed) (h : Y → Done) (xs : List X) (ys : List Y) where
-  -- what is left of the runs
-  pub runs_left : (i : ℕ) (x : X) (y : Y) → x ≡ get_or xs i x → y ≡ get_or ys i y → i < length xs → i < length ys
-      → first_difference (map f (drop i xs)) (map h (drop i ys))
-      ≡ or_else (difference_in (f x).expected (h y).told.answers)
-      (first_difference (map f (drop (i + 1) xs)) (map h (drop (i + 1) ys)))
-  runs_left i x y is_x is_y low_x low_y =
-      ap (λ l. first_difference (map f l) (map h (drop i ys))) (split xs i x is_x low_x)
-      ∙ ap (λ l. first_difference (map f (x ∷ drop (i + 1) xs)) (map h l)) (split ys i y is_y low_y)
+-- ---- one run more
 
-  pub no_run_left : (i : ℕ) → i ≡ min (length xs) (length ys)
-      → first_difference (map f (drop i xs)) (map h (drop i ys)) ≡ None
-  no_run_left i end = ended (drop i xs) (drop i ys) (one_ends i xs ys end)
-    where
-      one_ends : (i : ℕ) (xs : List X) (ys : List Y) → i ≡ min (length xs) (length ys)
-          → (drop i xs ≡ []) ⊎ (drop i ys ≡ [])
-      one_ends i xs ys end = by_le (nat_le (length xs) (length ys)) refl
-        where
-          by_le : (t : Bool) → nat_le (length xs) (length ys) ≡ t → (drop i xs ≡ []) ⊎ (drop i ys ≡ [])
-          by_le true e = inl (drop_all i xs (grind (arith, nat_tests)))
-          by_le false e = inr (drop_all i ys (grind (arith, nat_tests)))
+or_none : (first : Option Difference) → or_else first None ≡ first
+or_none (Some found) = refl
+or_none None = refl
 
-      without : (batches : List Listed) → first_difference batches [] ≡ None
-      without [] = refl
-      without (batch ∷ batches) = refl
+or_later : (first second third : Option Difference)
+    → or_else first (or_else second third) ≡ or_else (or_else first second) third
+or_later (Some found) second third = refl
+or_later None second third = refl
 
-      ended : (us : List X) (vs : List Y) → (us ≡ []) ⊎ (vs ≡ []) → first_difference (map f us) (map h vs) ≡ None
-      ended us vs (inl none) = ap (λ l. first_difference (map f l) (map h vs)) none
-      ended us vs (inr none) = ap (λ l. first_difference (map f us) (map h l)) none ∙ without (map f us)
+either_later : (a b c : Bool) → (a || (b || c)) ≡ ((a || b) || c)
+either_later true b c = refl
+either_later false b c = refl
+
+either_none : (a : Bool) → (a || false) ≡ a
+either_none true = refl
+either_none false = refl
+
+pub difference_last : (batches : List Listed) (runs : List Done) (batch : Listed) (run : Done)
+    → length runs ≡ length batches
+    → first_difference (batches ++ batch ∷ []) (runs ++ run ∷ [])
+    ≡ or_else (first_difference batches runs) (difference_in batch.expected run.told.answers)
+difference_last [] [] batch run same = or_none (difference_in batch.expected run.told.answers)
+difference_last [] (v ∷ runs) batch run same = absurd (omega (arith, same))
+difference_last (u ∷ batches) [] batch run same = absurd (omega (arith, same))
+difference_last (u ∷ batches) (v ∷ runs) batch run same =
+    let first = difference_in u.expected v.told.answers in
+    ap (or_else first) (difference_last batches runs batch run (omega (arith, same)))
+    ∙ or_later first (first_difference batches runs) (difference_in batch.expected run.told.answers)
+
+-- batches that were not run add nothing
+pub difference_front : (batches : List Listed) (runs : List Done)
+    → first_difference (take (length runs) batches) runs ≡ first_difference batches runs
+difference_front [] [] = refl
+difference_front [] (v ∷ runs) = refl
+difference_front (u ∷ batches) [] = refl
+difference_front (u ∷ batches) (v ∷ runs) =
+    ap (or_else (difference_in u.expected v.told.answers)) (difference_front batches runs)
+
+pub fault_last : (runs : List Done) (run : Done)
+    → met_bus_fault (runs ++ run ∷ []) ≡ (met_bus_fault runs || has_bus_fault run.told.answers)
+fault_last [] run = either_none (has_bus_fault run.told.answers)
+fault_last (first ∷ runs) run =
+    ap (λ later. has_bus_fault first.told.answers || later) (fault_last runs run)
+    ∙ either_later (has_bus_fault first.told.answers) (met_bus_fault runs) (has_bus_fault run.told.answers)

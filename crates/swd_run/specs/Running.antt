@@ -78,12 +78,10 @@ pub data Session (tries resumes : ℕ) (marks : List Mark) (m : PlainMemory) : L
       → RunsOn tries resumes batch before marks run.stops run.told after
       → Session tries resumes marks m (batches ++ batch ∷ []) (runs ++ run ∷ []) after
 
--- The runs of a script over a target that was just made with its memory: all of them, or those up to one that did not
--- end all.
+-- The runs of the first calls of a script over a target that was just made with its memory.
 pub record RunsScript (tries resumes : ℕ) (script : Meaning) (marks : List Mark) (runs : List Done) : Type 0 where
   pub memory : PlainMemory
   pub session : Session tries resumes marks (memory_of script) (take (length runs) script.batches) runs memory
-  pub whole : ended_of runs ≡ All → length runs ≡ length script.batches
 
 -- the readers' texts are a script and a plan with these meanings
 pub record AreRead (script plan : Option (List ℕ)) (meaning : Meaning) (marks : List Mark) : Type 0 where
@@ -99,11 +97,18 @@ pub record RanScript (tries resumes : ℕ) (script : Meaning) (marks : List Mark
   pub runs : List Done
   pub are : RunsScript tries resumes script marks runs
 
+-- such runs, each of which ended all, before one for which memory was refused
+pub record RanScriptShort (tries resumes : ℕ) (script : Meaning) (marks : List Mark) : Type 0 where
+  pub runs : List Done
+  pub are : RunsScript tries resumes script marks runs
+  pub all : ended_of runs ≡ All
+
 -- What the engine's answer says of a script over a target that was just made.
 abbrev pub AnswersScript : ℕ → ℕ → Meaning → List Mark → Result Finished EngineFault → Option (List ℕ)
     → Option (List ℕ) → Option (Option (List ℕ)) → Option (Option (List ℕ)) → Type 0
 AnswersScript tries resumes script marks answer old new before after =
-    Answers {Came = RanScript tries resumes script marks} script.batches (λ ran. ran.runs)
+    Answers {Came = RanScript tries resumes script marks} {Short = RanScriptShort tries resumes script marks}
+    script.batches (λ ran. ran.runs) (λ short. short.runs)
     (λ ran items. IsTraceOf (requests_of ran.runs) (ended_of ran.runs) items)
     (λ ran items. IsOfTrace (requests_of ran.runs) items) answer old new before after
 

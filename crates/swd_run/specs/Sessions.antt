@@ -1,5 +1,5 @@
 -- The runs of a script, one after the other over one wire.
-use Rattle.std.specs.Prelude.{ℕ, ◌≡◌, ◌+◌, ◌≤◌, List, [], ◌∷◌, ◌++◌, length, take, is_some, if◌then◌else◌}
+use Rattle.std.specs.Prelude.{ℕ, ◌≡◌, ◌+◌, ◌<◌, ◌≤◌, List, [], ◌∷◌, ◌++◌, length, is_some, if◌then◌else◌}
 use Rattle.swd_port.specs.declared.mark.Mark.{Mark}
 use Rattle.swd_port.specs.Port.{Port}
 use Rattle.swd_host.specs.declared.outcome.End.{End}
@@ -50,8 +50,14 @@ pub data Runs {W : Type 0} (port : W → Port) (plan : W → List Mark) (lawful 
       → GoesOn port plan lawful (most batch) tries resumes batch t run u
       → Runs port plan lawful most tries resumes s (batches ++ batch ∷ []) (runs ++ run ∷ []) u
 
--- they are all runs of these batches, or those up to one that did not end all
-pub record RunsAll {W : Type 0} (port : W → Port) (plan : W → List Mark) (lawful : W → Type 0) (most : Listed → ℕ)
-    (tries resumes : ℕ) (batches : List Listed) (s : W) (runs : List Done) (t : W) : Type 0 where
-  pub runs_are : Runs port plan lawful most tries resumes s (take (length runs) batches) runs t
-  pub whole : ended_of runs ≡ All → length runs ≡ length batches
+-- a run of each batch, or of those up to one that did not end all
+abbrev pub AreDone : List Listed → List Done → Type 0
+AreDone batches runs = ended_of runs ≡ All → length runs ≡ length batches
+
+-- A run over a wire for which memory was refused, from the wire s to the wire t: before its first bit, or where it was
+-- to be resumed at a lost acknowledgement.
+pub data IsRefused {W : Type 0} (port : W → Port) (plan : W → List Mark) (lawful : W → Type 0)
+    (limit tries resumes : ℕ) (batch : Listed) (s t : W) : Type 0 where
+  unsent : t ≡ s → IsRefused port plan lawful limit tries resumes batch s t
+  unresumed : {stops : List Stop} {told : Told} → Went port plan lawful limit batch.accesses tries s stops told t
+      → told.ended ≡ Lost → length stops < resumes → IsRefused port plan lawful limit tries resumes batch s t

@@ -1,17 +1,18 @@
 //! The engine of a script's run over any wire: its calls, their report, and the trace where one is wanted.
-ghost use Rattle.std.specs.Prelude.{◌≡◌, All as Each, None, Some, map};
+ghost use Rattle.std.specs.Prelude.{◌≡◌, All as Each, List, [], ◌∷◌, ◌++◌, None, Some, length, map};
 ghost use Rattle.swd_port.specs.declared.wire.Due.TheVariants.{Nothing};
 ghost use Rattle.swd_trace.specs.Listed.{AreLegal};
 ghost use Rattle.swd_recorder.specs.Recorders.{lawful_by, plan_by, port_by};
 ghost use Rattle.swd_script.specs.Readers.{listed};
 ghost use Rattle.swd_script.specs.Laws.{IsBatch};
-ghost use Rattle.swd_run.specs.Sessions.{done_of, ended_of};
+ghost use Rattle.swd_script.specs.Scripts.{Listed};
+ghost use Rattle.swd_run.specs.Sessions.{Done, done_of};
 ghost use Rattle.swd_run.specs.Engine.{AnswersAt, AnswersOver, IsFinished, TellsTrace, held};
 
 use crate::fault::EngineFault;
-use crate::report::write_report;
-use crate::session::{Session, run_all};
-use crate::verified::{Difference, first_difference, met_bus_fault};
+use crate::going_on::{Resumed, run_on};
+use crate::report::write_run;
+use crate::verified::{Difference, or_bus_fault, or_difference_in};
 use std::alloc::Allocator;
 use std::io::Write;
 use swd_host::End;
@@ -32,19 +33,32 @@ pub struct Finished {
     pub bus_fault: bool,
 }
 
-// How the runs of a session came out.
-fn outcome_of<A: Allocator>(batches: &[Batch<A>], session: &Session<A>) -> Finished
-    requires { session.now.ended ≡ ended_of (map done_of session.now.runs.items) }
-    ensures { IsFinished (map listed batches.now) (map done_of session.now.runs.items) result }
-{
-    Finished {
-        ended: session.ended,
-        differs: first_difference(batches, session.runs.as_slice()),
-        bus_fault: met_bus_fault(session.runs.as_slice()),
+impl Finished {
+    // No run yet.
+    const NONE: Finished = Finished {
+        ended: End::All,
+        differs: None,
+        bus_fault: false,
+    };
+
+    // How the runs came out with this one, the last.
+    fn and<A: Allocator>(self, batch: &Batch<A>, run: &Resumed<A>) -> Finished
+        ensures ended { result.ended ≡ (done_of run.now).told.ended }
+        ensures finished { (batches : List Listed) (runs : List Done) → length runs ≡ length batches
+            → IsFinished batches runs self
+            → IsFinished (batches ++ listed batch.now ∷ []) (runs ++ done_of run.now ∷ []) result }
+    {
+        let reads = batch.expected.as_slice();
+        let answers = run.report.answers.as_slice();
+        Finished {
+            ended: run.report.ended,
+            differs: or_difference_in(self.differs, reads, answers),
+            bus_fault: or_bus_fault(self.bus_fault, answers),
+        }
     }
 }
 
-// Runs the batches over a wire, and writes their report.
+// Runs the batches over a wire, as long as each is done whole, and writes the report of each once it ended.
 fn run_reported<W: Wire, O: Write, A: Allocator + Copy>(
     alloc: A,
     wire: &mut W,
@@ -59,13 +73,25 @@ fn run_reported<W: Wire, O: Write, A: Allocator + Copy>(
         result (O.contents report.old) (O.contents report.new) None None }
     ensures plan { W.plan wire.new ≡ W.plan wire.old }
 {
-    let Some(session) = run_all(alloc, wire, batches, tries, resumes) else {
-        return Err(EngineFault::Memory);
-    };
-    match write_report(report, batches, session.runs.as_slice()) {
-        Ok(()) => Ok(outcome_of(batches, &session)),
-        Err(written) => Err(EngineFault::Write { written }),
+    let mut finished = Finished::NONE;
+    let mut written = 0u64;
+    for batch in batches {
+        let Some(run) = run_on(alloc, wire, batch, tries, resumes) else {
+            return Err(EngineFault::Memory);
+        };
+        match write_run(report, batch, &run) {
+            Ok(more) => written = written.saturating_add(more),
+            Err(more) => {
+                let written = written.saturating_add(more);
+                return Err(EngineFault::Write { written });
+            }
+        }
+        finished = finished.and(batch, &run);
+        let End::All = finished.ended else {
+            return Ok(finished);
+        };
     }
+    Ok(finished)
 }
 
 // Writes the trace of these items, of which the last ones were cut off or not, for a run that came out so.
@@ -88,7 +114,7 @@ fn write_trace<T: Write>(
     }
 }
 
-// Runs the batches over a wire that is recorded from its start, and writes their report, and then their trace.
+// Runs the batches over a wire that is recorded from its start, and writes the report of each, and then their trace.
 fn run_traced<W: Wire, O: Write, T: Write, A: Allocator + Copy>(
     alloc: A,
     recorder: &mut Recorder<W, A>,
@@ -113,13 +139,12 @@ fn run_traced<W: Wire, O: Write, T: Write, A: Allocator + Copy>(
 }
 
 /// Runs the calls of a script one after the other over a wire on which nothing is due, as long as each is done
-/// whole, writes their report, and then, where a trace's writer is passed, the trace of what went over the wire.
-/// Hands the wire back.
+/// whole, and writes the report of each once it ended, before the first bit of the next. Then, where a trace's writer
+/// is passed, it writes the trace of what went over the wire. Hands the wire back.
 ///
 /// Each access, or each opening, may meet as many events as `tries`. Where an acknowledgement is lost the call goes
 /// on by `swd_host::resume`, at most `resumes` times, and the report has a line there. Memory is taken for the
-/// answers of each call before its first bit is sent, and then each time that it is resumed. Nothing is written
-/// before the last call ended.
+/// answers of each call before its first bit is sent, and then each time that it is resumed.
 ///
 /// The trace is the trace text of the items, one line an item, the ones and zeros of each opening among them. A word
 /// that arrived damaged stands there as it arrived, one that was sent as it was sent. Memory is taken for the items
@@ -128,11 +153,13 @@ fn run_traced<W: Wire, O: Write, T: Write, A: Allocator + Copy>(
 ///
 /// # Errors
 ///
-/// `Memory` where memory was refused for the answers, also where a call was to be resumed: nothing was written then.
-/// `Write` where the report's writer failed, or took no bytes, after exactly the first `written` bytes of the report
-/// went out, and nothing of the trace; or the trace's: the report then stands whole, and exactly the first `written`
-/// bytes of the trace went out. `TraceCut` where memory was refused for an item: the report stands whole, and the
-/// trace of the items before it. Nothing is tried again.
+/// `Memory` where memory was refused for a call's answers, also where it was to be resumed: the report of the calls
+/// before it stands whole, nothing of its own was written, and no other call was made. `Write` where the report's
+/// writer failed, or took no bytes, in the lines of a call: exactly the first `written` bytes of the report went
+/// out, those of the calls before it among them, and no call was made after it. In both cases nothing of the trace
+/// was written. `Write` also where the trace's writer failed: the report then stands whole, and exactly the first
+/// `written` bytes of the trace went out. `TraceCut` where memory was refused for an item: the report stands whole,
+/// and the trace of the items before it. Nothing is tried again.
 pub fn run_batches<W: Wire, O: Write, T: Write, A: Allocator + Copy>(
     alloc: A,
     wire: W,

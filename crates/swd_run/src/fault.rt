@@ -19,7 +19,7 @@ pub enum TextsFault {
 /// Why the calls of a script were not run, or not told.
 #[derive(Clone, Copy, Debug, PartialEq, Eq, Error)]
 pub enum EngineFault {
-    /// Memory was refused.
+    /// Memory was refused for a call: the report of the calls before it stands whole.
     #[error("no memory")]
     Memory,
     /// A writer failed, or took no bytes, after it took exactly the first `written` bytes of the

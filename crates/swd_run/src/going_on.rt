@@ -1,5 +1,5 @@
 //! A run that goes on after a lost acknowledgement.
-ghost use Rattle.std.specs.Prelude.{◌≡◌, ◌≤◌, IfSome, length};
+ghost use Rattle.std.specs.Prelude.{◌≡◌, ◌≤◌, IfNone, IfSome, length};
 ghost use Rattle.swd_port.specs.declared.wire.Due.TheVariants.{Nothing};
 ghost use Rattle.swd_host.specs.declared.outcome.End.TheVariants.{Lost};
 ghost use Rattle.swd_host.specs.Plain.{AreAccesses};
@@ -8,7 +8,7 @@ ghost use Rattle.swd_host.specs.Again.{Continues, ResumesOver};
 ghost use Rattle.swd_script.specs.Readers.{listed};
 ghost use Rattle.swd_script.specs.Laws.{IsBatch};
 ghost use Rattle.swd_run.specs.GoingOn.{stop_of};
-ghost use Rattle.swd_run.specs.Sessions.{GoesOn, done_of, most_begun};
+ghost use Rattle.swd_run.specs.Sessions.{GoesOn, IsRefused, done_of, most_begun};
 
 use crate::running::run_over;
 use std::alloc::Allocator;
@@ -65,6 +65,7 @@ fn resume_over<W: Wire, A: Allocator + Copy>(
     ensures fits { IfSome result (λ told. W.lawful wire.new → W.lawful wire.old
         × ResumesOver (listed batch.now).accesses tries (told_of report.now) (told_of told)
         (W.port wire.old) (W.port wire.new)) }
+    ensures untouched { IfNone result (wire.new ≡ wire.old) }
     ensures plan { W.plan wire.new ≡ W.plan wire.old }
 {
     match resume(alloc, wire, batch.accesses.as_slice(), report, tries) {
@@ -74,7 +75,8 @@ fn resume_over<W: Wire, A: Allocator + Copy>(
 }
 
 /// Runs the accesses of a batch over a wire, and resumes the run where it ends at a lost acknowledgement, at
-/// most so many times. `None` where memory was refused: for the target's answers, or for a place.
+/// most so many times. `None` where memory was refused: for the answers, before the first bit, or for a place or the
+/// answers where the run was to be resumed.
 pub(crate) fn run_on<W: Wire, A: Allocator + Copy>(
     alloc: A,
     wire: &mut W,
@@ -86,6 +88,8 @@ pub(crate) fn run_on<W: Wire, A: Allocator + Copy>(
     requires due { (W.port wire.old).link.due ≡ Nothing }
     ensures goes { IfSome result (λ resumed. GoesOn W.port W.plan W.lawful (most_begun (listed batch.now)) tries resumes
         (listed batch.now) wire.old (done_of resumed) wire.new) }
+    ensures refused { IfNone result (IsRefused W.port W.plan W.lawful (most_begun (listed batch.now)) tries resumes
+        (listed batch.now) wire.old wire.new) }
     ensures plan { W.plan wire.new ≡ W.plan wire.old }
 {
     let mut stops = Vec::new(alloc);

@@ -1,7 +1,7 @@
 //! The engine of `swd run`: a script's calls over any wire, each access once, whatever happens on the wire, and
-//! where a call is resumed at a lost acknowledgement; their report, as text, the first word that isn't the
-//! script's, and the trace of what went over the wire. And the same over a simulated target whose requests meet a
-//! plan.
+//! where a call is resumed at a lost acknowledgement; the report of each, as text, once it ended, the first
+//! word that isn't the script's, and the trace of what went over the wire. And the same over a simulated target whose
+//! requests meet a plan.
 #![tactic(auto)]
 
 mod engine;
@@ -9,7 +9,6 @@ mod fault;
 mod going_on;
 mod report;
 mod running;
-mod session;
 mod texts;
 mod verified;
 

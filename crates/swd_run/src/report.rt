@@ -1,12 +1,12 @@
 //! The report of a run, as text.
-ghost use Rattle.std.specs.Prelude.{◌≡◌, ℕ, ◌+◌, ◌≤◌, List, ◌++◌, Option, take, drop, map};
+ghost use Rattle.std.specs.Prelude.{◌≡◌, ℕ, ◌+◌, ◌≤◌, List, ◌++◌, Option, take, drop};
 ghost use Rattle.std.specs.Fmt.{decimal};
 ghost use Rattle.arrayvec.specs.ArrayString.{array_string_len};
 ghost use Rattle.swd_host.specs.Reports.{told_of};
-ghost use Rattle.swd_io.specs.Blocks.{Sends, Writes};
+ghost use Rattle.swd_io.specs.Blocks.{Sends};
 ghost use Rattle.swd_script.specs.Readers.{listed};
 ghost use Rattle.swd_run.specs.Reports.{answer_line, answer_lines, last_line, lines_from, report_text, resume_line};
-ghost use Rattle.swd_run.specs.Reports.{session_text, stop_text, HasWritten, WritesOn};
+ghost use Rattle.swd_run.specs.Reports.{run_report, stop_text, WritesOn};
 ghost use Rattle.swd_run.specs.Sessions.{done_of};
 
 use crate::going_on::{Resumed, Stop};
@@ -173,44 +173,22 @@ fn put_report<W: Write, A: Allocator>(
     block.put_line(last.as_str().as_bytes());
 }
 
-// Writes the report of one run, after so many bytes of a text that went out before, and counts on.
-fn write_run<W: Write, A: Allocator>(
-    writer: &mut W,
-    written: u64,
-    accesses: &[Access],
-    stops: &[Stop],
-    report: &Report<A>,
-) -> Result<u64, u64>
-    ensures { (start : Option (List ℕ)) (all : List ℕ) → HasWritten start (W.contents writer.old) all written
-        → WritesOn result start (W.contents writer.new) (all ++ report_text accesses.now stops.now
-        (told_of report.now)) }
-{
-    let mut block = Block::new(writer, written);
-    put_report(&mut block, accesses, stops, report);
-    block.flush()
-}
-
-/// Writes the reports of runs of these batches, one after the other. It takes no memory.
+/// Writes the report of one run of a batch, and tells how many bytes that were, at most 2^64 - 1. It takes no memory.
 ///
 /// # Errors
 ///
-/// How many bytes of the text went out, where the writer failed or took no bytes: exactly its first
-/// ones. Nothing is tried again.
-pub(crate) fn write_report<W: Write, A: Allocator>(
+/// How many bytes of the report went out, where the writer failed or took no bytes: exactly its first ones, and not
+/// all. Nothing is tried again.
+pub(crate) fn write_run<W: Write, A: Allocator>(
     writer: &mut W,
-    batches: &[Batch<A>],
-    runs: &[Resumed<A>],
-) -> Result<(), u64>
-    ensures { Writes result (W.contents writer.old) (W.contents writer.new)
-        (session_text (map listed batches.now) (map done_of runs.now)) }
+    batch: &Batch<A>,
+    run: &Resumed<A>,
+) -> Result<u64, u64>
+    ensures { WritesOn result (W.contents writer.old) (W.contents writer.new)
+        (run_report (listed batch.now) (done_of run.now)) }
 {
-    let mut written = 0;
-    for (batch, run) in batches.iter().zip(runs.iter()) {
-        let accesses = batch.accesses.as_slice();
-        match write_run(writer, written, accesses, run.stops.as_slice(), &run.report) {
-            Ok(told) => written = told,
-            Err(told) => return Err(told),
-        }
-    }
-    Ok(())
+    let mut block = Block::new(writer, 0);
+    let accesses = batch.accesses.as_slice();
+    put_report(&mut block, accesses, run.stops.as_slice(), &run.report);
+    block.flush()
 }

@@ -1,5 +1,5 @@
 //! A script and a plan, to the report of their run.
-ghost use Rattle.std.specs.Prelude.{◌≡◌, IfSome};
+ghost use Rattle.std.specs.Prelude.{◌≡◌, IfNone, IfSome};
 ghost use Rattle.swd_port.specs.declared.wire.Due.TheVariants.{Nothing};
 ghost use Rattle.swd_port.specs.Port.{made};
 ghost use Rattle.swd_host.specs.Plain.{AreAccesses};
@@ -73,6 +73,7 @@ pub(crate) fn run_over<W: Wire, A: Allocator + Copy>(
         × RunsWithin (most_begun (listed batch.now)) (listed batch.now).accesses tries (told_of report)
         (W.port wire.old) (W.port wire.new)) }
     ensures accepted { IfSome result (λ _. AreAccesses (listed batch.now).accesses) }
+    ensures untouched { IfNone result (wire.new ≡ wire.old) }
     ensures plan { W.plan wire.new ≡ W.plan wire.old }
 {
     let accesses = batch.accesses.as_slice();

@@ -1,14 +1,10 @@
 //! Words that a script tells, and what was read; and accesses that were answered by a bus error.
-ghost use Rattle.std.specs.Prelude.{◌≡◌, map};
-ghost use Rattle.swd_script.specs.Readers.{listed};
-ghost use Rattle.swd_run.specs.Sessions.{done_of};
-ghost use Rattle.swd_run.specs.Verified.{difference_in, differs, differs_among, first_difference};
-ghost use Rattle.swd_run.specs.Verified.{has_bus_fault, is_bus_fault, met_bus_fault};
+ghost use Rattle.std.specs.Prelude.{◌≡◌, ◌||◌};
+ghost use Rattle.swd_run.specs.Verified.{difference_in, differs, differs_among, has_bus_fault, is_bus_fault};
+ghost use Rattle.swd_run.specs.Verified.{or_else};
 
-use crate::going_on::Resumed;
-use std::alloc::Allocator;
 use swd_port::Answer;
-use swd_script::{Batch, Expected};
+use swd_script::Expected;
 
 /// A read that was answered, and not by the word that the script tells.
 #[derive(Clone, Copy, Debug, PartialEq, Eq)]
@@ -61,20 +57,18 @@ fn difference_in(reads: &[Expected], answers: &[Answer]) -> Option<Difference>
     None
 }
 
-/// The first read of all runs that was answered, and not by the word that the script tells.
-pub(crate) fn first_difference<A: Allocator>(
-    batches: &[Batch<A>],
-    runs: &[Resumed<A>],
+/// What differed first in earlier runs, or in this one where nothing did.
+pub(crate) fn or_difference_in(
+    earlier: Option<Difference>,
+    reads: &[Expected],
+    answers: &[Answer],
 ) -> Option<Difference>
-    ensures { result ≡ first_difference (map listed batches.now) (map done_of runs.now) }
+    ensures { result ≡ or_else earlier (difference_in reads.now answers.now) }
 {
-    for (batch, run) in batches.iter().zip(runs.iter()) {
-        let reads = batch.expected.as_slice();
-        if let Some(found) = difference_in(reads, run.report.answers.as_slice()) {
-            return Some(found);
-        }
+    match earlier {
+        Some(found) => Some(found),
+        None => difference_in(reads, answers),
     }
-    None
 }
 
 fn is_bus_fault(answer: Answer) -> bool
@@ -95,14 +89,9 @@ fn has_bus_fault(answers: &[Answer]) -> bool
     false
 }
 
-/// Whether an access of these runs was answered by a bus error.
-pub(crate) fn met_bus_fault<A: Allocator>(runs: &[Resumed<A>]) -> bool
-    ensures { result ≡ met_bus_fault (map done_of runs.now) }
+/// Whether an access of earlier runs was answered by a bus error, or one of this run.
+pub(crate) fn or_bus_fault(earlier: bool, answers: &[Answer]) -> bool
+    ensures { result ≡ (earlier || has_bus_fault answers.now) }
 {
-    for run in runs {
-        if has_bus_fault(run.report.answers.as_slice()) {
-            return true;
-        }
-    }
-    false
+    earlier || has_bus_fault(answers)
 }

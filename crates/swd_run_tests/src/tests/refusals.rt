@@ -1,7 +1,7 @@
-//! Runs on heaps of each size: where memory ended is told, and nothing has been written but what was
-//! decided before.
+//! Runs on heaps of each size: where memory ended is told, and nothing has been written but the report of the calls
+//! before.
 use super::ended_with;
-use super::expect::{expect_eq, expect_eq_at};
+use super::expect::{expect_at, expect_eq, expect_eq_at};
 use linked_list_allocator::LocalHeap;
 use std::alloc::Allocator;
 use std::process::Abort;
@@ -133,6 +133,48 @@ fn a_run_where_memory_ends(rt: HostRuntime) -> Result<(), Fail> {
         stages.add(&rt, stage)?;
     }
     stages.are(&rt, &STAGES);
+    Ok(())
+}
+
+// The second call has more accesses than the first, and takes more memory.
+const TWO_CALLS: &[u8] =
+    b"memory 20000000 16\nroom 20\nw 20000000 deadbeef\nnext\nrn 20000000 16\n";
+
+const FIRST_REPORT: &[u8] = b"w 20000000 written\nend all 1\n";
+
+// Where memory is refused for a call, the report of the call before it stands whole.
+#[test]
+fn a_second_call_where_memory_ends(rt: HostRuntime) -> Result<(), Fail> {
+    let mut first_alone = false;
+    let mut whole = false;
+    for size in 1..100usize {
+        let heap = LocalHeap::new(rt.alloc(), size * STEP)?;
+        let mut script = TWO_CALLS;
+        let mut plan = b"".as_slice();
+        let mut report = Vec::new(rt.alloc());
+        let answer = run_text(
+            &heap,
+            &mut script,
+            &mut plan,
+            TRIES,
+            0,
+            &mut report,
+            &mut None::<Vec<u8>>,
+        );
+        let report = report.as_slice();
+        match answer {
+            Ok(_) => whole = true,
+            Err(RunFault::Engine(EngineFault::Memory)) if !report.is_empty() => first_alone = true,
+            Err(_) => expect_eq_at(&rt, &size, &report, &b"".as_slice()),
+        }
+        if !report.is_empty() {
+            expect_at(&rt, &size, report.starts_with(FIRST_REPORT));
+            let alone = report.len() == FIRST_REPORT.len();
+            expect_eq_at(&rt, &size, &alone, &answer.is_err());
+        }
+        expect_eq_at(&rt, &size, &heap.used(), &0);
+    }
+    assert!(rt; first_alone && whole);
     Ok(())
 }
 

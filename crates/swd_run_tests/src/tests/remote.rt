@@ -5,12 +5,13 @@ ghost use Rattle.std.specs.FinMap.{empty};
 ghost use Rattle.swd_port.specs.Port.{made};
 
 use super::ended;
-use super::expect::expect_eq;
+use super::expect::{expect_eq, expect_eq_at};
 use super::recorded::UNDISTURBED;
 use super::sessions::calls_of;
+use std::cell::Cell;
 use std::test::Fail;
 use swd_ends::{RemoteFault, run_remote};
-use swd_fakes::ShortWriter;
+use swd_fakes::{CountingWriter, ShortWriter, WatchingReader};
 use swd_host::End;
 use swd_port::{Answer, Story};
 use swd_remote::Fault;
@@ -133,6 +134,70 @@ fn a_failed_write_ends_the_session(rt: HostRuntime) {
             &if whole { trace_room } else { 0 },
         );
         expect_eq(&rt, &sent.as_slice(), &UNDISTURBED.characters);
+    }
+}
+
+// A second call, of which nothing comes back.
+const TWO_CALLS: &[u8] = b"memory 20000000 16\nw 20000000 deadbeef\nr 20000000\nnext\nr 20000000\n";
+
+const BOTH_REPORTS: &[u8] =
+    b"w 20000000 written\nr 20000000 deadbeef\nend all 2\nend lost 0 begun 0\n";
+
+// The report of a call goes out once it ended: before its last level is read nothing was written, and all of it before
+// the first level of the next call is.
+#[test]
+fn a_report_is_written_before_the_next_call(rt: HostRuntime) {
+    let taken = Cell::new(0);
+    let mut reader = WatchingReader::new(rt.alloc(), UNDISTURBED.levels, &taken);
+    let mut sent = Vec::new(rt.alloc());
+    let mut report = CountingWriter { taken: &taken };
+    let mut script = TWO_CALLS;
+    let (answer, _line) = run_remote::<Untold, _, _, _, _, _, _>(
+        rt.alloc(),
+        &mut script,
+        &mut reader,
+        &mut sent,
+        8,
+        0,
+        &mut report,
+        &mut None::<Vec<u8>>,
+    );
+    expect_eq(&rt, &answer, &ended(End::Lost));
+    let noted = reader.noted.as_slice();
+    let first = UNDISTURBED.levels.len();
+    assert!(rt; noted.len() > first);
+    for (level, taken) in noted.iter().enumerate() {
+        let written = if level < first { 0 } else { REPORT.len() };
+        expect_eq_at(&rt, &level, taken, &written);
+    }
+    expect_eq(&rt, &taken.get(), &BOTH_REPORTS.len());
+}
+
+// Where the report of a call can't be written, no other call is made: what goes out is the first call, and that the host
+// is done.
+#[test]
+fn no_call_is_made_after_a_failed_write(rt: HostRuntime) {
+    for room in 0..REPORT.len() {
+        let mut sent = Vec::new(rt.alloc());
+        let mut report = ShortWriter::new(rt.alloc(), room, true);
+        let mut script = TWO_CALLS;
+        let (answer, line) = run_remote::<Untold, _, _, _, _, _, _>(
+            rt.alloc(),
+            &mut script,
+            UNDISTURBED.levels,
+            &mut sent,
+            8,
+            0,
+            &mut report,
+            &mut None::<Vec<u8>>,
+        );
+        let fault = EngineFault::Write {
+            written: room as u64,
+        };
+        expect_eq_at(&rt, &room, &answer, &Err(RemoteFault::Engine(fault)));
+        expect_eq_at(&rt, &room, &line.fault, &None);
+        expect_eq_at(&rt, &room, &report.taken(), &&REPORT[..room]);
+        expect_eq_at(&rt, &room, &sent.as_slice(), &UNDISTURBED.characters);
     }
 }
 

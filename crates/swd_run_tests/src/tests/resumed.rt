@@ -79,7 +79,7 @@ fn a_resumed_run_is_traced_whole(rt: HostRuntime) {
     expect_eq(&rt, &lines_with(listing, b"ap c write ok deadbeef"), &1);
 }
 
-// Nothing is written where memory is refused, also where it is for a resumed run.
+// Nothing of a call is written where memory is refused for it, also where it was to be resumed.
 #[test]
 fn a_resumed_run_where_memory_ends(rt: HostRuntime) -> Result<(), Fail> {
     let whole = b"resume 0 begun 1\nw 20000000 written\nend all 1\n".as_slice();

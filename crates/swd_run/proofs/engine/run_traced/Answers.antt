@@ -19,10 +19,10 @@ returns-in-Ok-clause-answer g c =
     → IsRecorded (requests_of over.runs) (ended_of over.runs) (port_by end) =
     λ law rest.
     recorded port_by plan_by lawful_by c.args.tries c.args.resumes start rest (take (length over.runs) batches) over.runs
-    end c.requires.start over.are.runs_are law in
+    end c.requires.start over.are law in
     traced port_by plan_by lawful_by c.args.tries c.args.resumes batches start end
     (g.O.Write.contents c.args.report.now) (g.O.Write.contents c.run_reported.new.report) c.in-Ok.finished
-    c.is_cut.result items over c.in-Ok.ensures.answer.1 c.in-Ok.ensures.answer.2
+    c.is_cut.result items over c.in-Ok.ensures.answer.1 c.in-Ok.ensures.answer.2 c.in-Ok.ensures.answer.3
     (λ whole.
     let uncut = sym c.is_cut.ensures ∙ whole in
     record {

@@ -1,11 +1,17 @@
-use Rattle.std.proofs.Common.{◌≡◌, ◌∙◌, ◌+◌, List, [], ◌∷◌, ◌++◌, length, sym, ap, subst}
+use Rattle.std.proofs.Common.{◌≡◌, ◌∙◌, ◌+◌, List, [], ◌∷◌, ◌++◌, Option, None, Some, length, sym, ap, subst, arith}
+use Rattle.std.specs.Prelude.{IfNone}
 use Rattle.std.proofs.lemmas.List.{length-append}
 use Rattle.swd_host.specs.Reports.{told_of}
 use Rattle.swd_script.specs.Readers.{listed}
 use Rattle.swd_run.specs.declared.going_on.Stop.{Stop}
-use Rattle.swd_run.specs.Sessions.{most_begun}
+use Rattle.swd_run.specs.Sessions.{IsRefused, most_begun, unresumed}
 use Rattle.swd_run.specs.GoingOn.{Went, ran, resumed, stop_of}
 use Rattle.swd_run.proofs.going_on.run_on.Goals as goal
+
+-- what holds anyway
+if_none : {X P : Type 0} (answer : Option X) → P → IfNone answer P
+if_none None p = p
+if_none (Some x) p = tt
 
 pub loop-done-init : goal.loop-done-init
 loop-done-init g c =
@@ -40,3 +46,19 @@ loop-done-preserved g c =
           batch.accesses c.args.tries c.args.wire.now stops told c.resume_over.new.wire)
           (sym items) (resumed c.loop-done.invariant.went c.in-Lost.is plan ensures.continues ensures.fits);
     }
+
+pub returns-in_default-push-clause-refused : goal.returns-in_default-push-clause-refused
+returns-in_default-push-clause-refused g c =
+    let count = c.loop-done.invariant.count in
+    let low = c.loop-done-test.true in
+    unresumed c.loop-done.invariant.went c.in-Lost.is (omega (arith, count, low))
+
+pub returns-in_err-report-2-clause-refused : goal.returns-in_err-report-2-clause-refused
+returns-in_err-report-2-clause-refused g c =
+    let batch = listed c.args.batch.now in
+    let count = c.loop-done.invariant.count in
+    let low = c.loop-done-test.true in
+    if_none c.from_residual-in_err-report-2.result
+    (subst (IsRefused g.W.Wire.port g.W.Wire.plan g.W.Wire.lawful (most_begun batch) c.args.tries c.args.resumes batch
+    c.args.wire.now) (sym c.in_err-report-2.ensures.untouched)
+    (unresumed c.loop-done.invariant.went c.in-Lost.is (omega (arith, count, low))))

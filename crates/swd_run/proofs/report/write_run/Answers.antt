@@ -1,9 +1,12 @@
-use Rattle.std.proofs.Common.{rules, ◌≡◌, ℕ, ◌++◌, ◌-◌, ◌^◌, List, length, Option, Result, Ok, Err}
+use Rattle.std.proofs.Common.{rules, ◌≡◌, ◌∙◌, ℕ, ◌-◌, ◌^◌, List, [], length, Option, Result, Ok, Err, ap, refl, subst}
+use Rattle.std.proofs.KnownBytes.{Appends-nil}
 use Rattle.std.specs.Prelude.{min, IfOk, IfErr}
 use Rattle.std.specs.Io.KnownBytes.{Appends}
 use Rattle.swd_io.specs.Blocks.{Sends, Stopped}
 use Rattle.swd_host.specs.Reports.{told_of}
-use Rattle.swd_run.specs.Reports.{report_text, WritesOn}
+use Rattle.swd_script.specs.Readers.{listed}
+use Rattle.swd_run.specs.Reports.{report_text, run_report, WritesOn}
+use Rattle.swd_run.specs.Sessions.{done_of}
 use Rattle.swd_run.proofs.report.write_run.Goals as goal
 
 -- what went out, however the last of it was sent
@@ -17,12 +20,20 @@ written_on P (Ok told) start now text h ok err = let gone = ok start text h in r
 written_on P (Err told) start now text h ok err = err start text h
 
 pub returns : goal.returns
-returns g c = λ start all h.
-    let text = all ++ report_text c.args.accesses.now c.args.stops.now (told_of c.args.report.now) in
-    let begun : Sends g.W.Write.contents start c.new-block.result all = c.new-block.ensures.sends start all h.gone
-    h.count in
-    let on : WritesOn c.flush.result start (g.W.Write.contents c.flush.new.self.writer.now) text =
+returns g c =
+    let start = g.W.Write.contents c.args.writer.now in
+    let run = c.args.run.now in
+    let text : report_text c.as_slice-accesses.result.now c.as_slice.result.now (told_of run.report) ≡ run_report
+    (listed c.args.batch.now) (done_of run) =
+    ap (λ list. report_text list c.as_slice.result.now (told_of run.report)) c.as_slice-accesses.ensures.value
+    ∙ ap (λ stops. report_text c.args.batch.now.accesses.items stops (told_of run.report)) c.as_slice.ensures.value in
+    let begun : Sends g.W.Write.contents start c.new-block.result [] = c.new-block.ensures.sends start []
+    (Appends-nil start) refl in
+    let put = subst (Sends g.W.Write.contents start c.put_report.new.block) text
+    (c.put_report.ensures.sends start [] begun) in
+    let on : WritesOn c.flush.result start (g.W.Write.contents c.flush.new.self.writer.now) (run_report
+    (listed c.args.batch.now) (done_of run)) =
     written_on (λ s a. Sends g.W.Write.contents s c.put_report.new.block a) c.flush.result start
-    (g.W.Write.contents c.flush.new.self.writer.now) text
-    (c.put_report.ensures.sends start all begun) c.flush.ensures.ok c.flush.ensures.err in
+    (g.W.Write.contents c.flush.new.self.writer.now) (run_report (listed c.args.batch.now) (done_of run)) put
+    c.flush.ensures.ok c.flush.ensures.err in
     search rules

@@ -1,4 +1,4 @@
-use Rattle.std.proofs.Common.{◌≤◌, List, map, sym, ap, subst}
+use Rattle.std.proofs.Common.{◌≤◌, List, [], map, refl, sym, ap, subst}
 use Rattle.std.proofs.KnownBytes.{Appends-nil}
 use Rattle.std.specs.Prelude.{All as Each}
 use Rattle.swd_port.specs.declared.mark.Mark.{Mark}
@@ -6,7 +6,11 @@ use Rattle.swd_port.specs.Choices.{disturbed_among, lost_among}
 use Rattle.swd_target.specs.Benches.{plan_of, port_of}
 use Rattle.swd_script.specs.Laws.{IsBatch}
 use Rattle.swd_script.specs.Readers.{listed, meaning}
+use Rattle.std.specs.Io.KnownBytes.{Appends}
 use Rattle.swd_run.specs.Engine.{AnswersAt, held}
+use Rattle.swd_run.specs.Reports.{run_report}
+use Rattle.swd_run.specs.Running.{memory_of, none}
+use Rattle.swd_run.proofs.ReportLemmas.{no_pairs}
 use Rattle.swd_run.proofs.EngineLemmas.{left_alone, script_answers}
 use Rattle.swd_run.proofs.running.run_script.Goals as goal
 
@@ -20,7 +24,12 @@ run_batches-answer-requires-clause-due g c = ap (λ x. x.link.due) c.in-Some.ens
 
 pub returns-in_default : goal.returns-in_default
 returns-in_default g c =
-    (Appends-nil (g.W.Write.contents c.args.writer.now), left_alone (held g.T.Write.contents c.args.trace.now))
+    let writer = g.W.Write.contents c.args.writer.now in
+    let script = meaning c.args.script.now in (
+      record { runs = []; are = record { memory = memory_of script; session = none }; all = refl },
+      subst (Appends writer writer) (sym (no_pairs run_report script.batches)) (Appends-nil writer),
+      left_alone (held g.T.Write.contents c.args.trace.now),
+    )
 
 pub returns : goal.returns
 returns g c =

@@ -1,0 +1,16 @@
+use Rattle.std.proofs.Common.{◌≡◌, ◌≤◌, length, map}
+use Rattle.swd_port.specs.declared.wire.Due.TheVariants.{Nothing}
+use Rattle.swd_host.specs.declared.outcome.End.TheVariants.{All}
+use Rattle.swd_script.specs.Readers.{listed}
+use Rattle.swd_run.proofs.Reported.{SoFar}
+use Rattle.swd_run.proofs.engine.run_reported.Given as goal
+
+abbrev pub invariant-loop-batch : goal.invariant-loop-batch
+invariant-loop-batch g l = record {
+  so_far : SoFar g.W.Wire.port g.W.Wire.plan g.W.Wire.lawful l.tries l.resumes (map listed l.batches) l.fn.wire
+      (g.O.Write.contents l.fn.report) l.batch-index l.wire (g.O.Write.contents l.report) l.finished l.written;
+  all : l.finished.ended ≡ All;
+  low : l.batch-index ≤ length l.batches;
+  due : (g.W.Wire.port l.wire).link.due ≡ Nothing;
+  plan : g.W.Wire.plan l.wire ≡ g.W.Wire.plan l.fn.wire;
+}
