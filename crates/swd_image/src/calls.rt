@@ -1,5 +1,5 @@
 //! One call whose accesses all have to take place.
-ghost use Rattle.std.specs.Prelude.{◌≡◌, true, IfErr, IfOk, None, length};
+ghost use Rattle.std.specs.Prelude.{◌≡◌, IfErr, IfOk, None, length};
 ghost use Rattle.swd_port.specs.PlainMemory.{address};
 ghost use Rattle.swd_port.specs.declared.wire.Due.TheVariants.{Nothing};
 ghost use Rattle.swd_host.specs.declared.outcome.End.TheVariants.{All};

@@ -1,12 +1,9 @@
 //! Reads the words of a range.
-ghost use Rattle.std.specs.Prelude.{◌≡◌, ◌+◌, ◌*◌, ◌%◌, ◌≤◌, ◌^◌, ◌∷◌, ◌++◌, [], IfErr, IfOk, OnOk, Some, map};
+ghost use Rattle.std.specs.Prelude.{◌≡◌, ◌+◌, ◌*◌, ◌%◌, ◌≤◌, ◌^◌, ◌++◌, [], IfErr, IfOk, OnOk, Some};
 ghost use Rattle.swd_port.specs.PlainMemory.{reads};
-ghost use Rattle.swd_port.specs.declared.access.Access.TheVariants.{Read};
 ghost use Rattle.swd_port.specs.declared.wire.Due.TheVariants.{Nothing};
-ghost use Rattle.swd_host.specs.Reports.{IsAtRest};
 ghost use Rattle.swd_script.specs.Readers.{listed};
 ghost use Rattle.swd_image.specs.declared.fault.ImageFault.TheVariants.{Memory};
-ghost use Rattle.swd_image.specs.Bytes.{words_at};
 ghost use Rattle.swd_image.specs.Sessions.{FailsAs, ReadsAs, word_told, words_told};
 
 use crate::calls::run_call;
