@@ -77,7 +77,7 @@ fn resume_over<W: Wire, A: Allocator + Copy>(
 /// Runs the accesses of a batch over a wire, and resumes the run where it ends at a lost acknowledgement, at
 /// most so many times. `None` where memory was refused: for the answers, before the first bit, or for a place or the
 /// answers where the run was to be resumed.
-pub(crate) fn run_on<W: Wire, A: Allocator + Copy>(
+pub fn run_on<W: Wire, A: Allocator + Copy>(
     alloc: A,
     wire: &mut W,
     batch: &Batch<A>,

@@ -14,7 +14,7 @@ mod verified;
 
 pub use engine::{Finished, run_batches};
 pub use fault::{EngineFault, RunFault, TextsFault};
-pub use going_on::{Resumed, Stop};
+pub use going_on::{Resumed, Stop, run_on};
 pub use report::{ReportLine, answer_line, last_line, resume_line};
 pub use running::{QUIRKS, run_text, zero_memory};
 pub use texts::{Texts, read_texts};

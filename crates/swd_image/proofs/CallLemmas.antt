@@ -1,0 +1,302 @@
+-- Calls one after the other: what they are together, and what they leave.
+use Rattle.std.proofs.Common.{◌≡◌, ◌+◌, ◌<◌, ◌≤◌, ℕ, true, false, refl, sym, ap, subst, arith, ◌∙◌, List, []}
+use Rattle.std.proofs.Common.{add-one, get_or, ◌∷◌, ◌++◌, length, drop, append_assoc, Some, None, inl}
+use Rattle.std.specs.Prelude.{if◌then◌else◌, Option, Bool}
+use Rattle.std.proofs.Math.Seq.{drop-cons}
+use Rattle.std.proofs.lemmas.List.{append-nil, drop_all, length-append, length-drop}
+use Rattle.std.specs.Ordering.{nat_cmp}
+use Rattle.std.specs.FinMap.{FinMap}
+use Rattle.swd_port.specs.declared.access.Access.{Access}
+use Rattle.swd_port.specs.declared.access.Answer.{Answer}
+use Rattle.swd_port.specs.declared.mark.Mark.{Mark}
+use Rattle.swd_port.specs.PlainMemory.{address}
+use Rattle.swd_port.specs.Port.{Port}
+use Rattle.swd_host.specs.declared.outcome.End.TheVariants.{All}
+use Rattle.swd_host.specs.Again.{added_in}
+use Rattle.swd_host.specs.Reports.{Told, IsAtRest}
+use Rattle.swd_script.specs.Scripts.{Listed}
+use Rattle.swd_run.specs.GoingOn.{Went, ran, resumed}
+use Rattle.swd_run.specs.Sessions.{Done, most_begun}
+use Rattle.swd_run.specs.declared.going_on.Stop.{Stop}
+use Rattle.swd_run.proofs.WentLemmas.{law_before, rests, tell_of}
+use Rattle.swd_image.specs.Sessions.{AreDone, Call, Calls, Fails, FailsAs, MadeAll, ReadsAs, first_failed, is_done}
+use Rattle.swd_image.specs.Sessions.{none, more}
+use Rattle.swd_image.specs.Sessions.{words_told}
+use Rattle.swd_image.specs.declared.fault.ImageFault.{ImageFault}
+use Rattle.swd_image.specs.declared.fault.ImageFault.TheVariants.{Range, Memory, Stopped, BusFault as FaultAt}
+use Rattle.swd_image.proofs.ChainLemmas.{AllIn, AllTell, Held, Kept, chain_keeps, all_later}
+
+-- ---- answers
+
+-- where none failed, and there is an answer for each, all are done
+pub all_done : (list : List Access) (answers : List Answer) → length answers ≡ length list
+    → first_failed list answers ≡ None → AreDone list answers
+all_done [] [] l f = tt
+all_done [] (x ∷ answers) l f = absurd (omega arith)
+all_done (a ∷ list) [] l f = absurd (omega arith)
+all_done (a ∷ list) (x ∷ answers) l f =
+    let test : Bool → Option ℕ = λ b. if b then first_failed list answers else Some (address a) in
+    elim (is_done a x) as (λ b. is_done a x ≡ b → (is_done a x ≡ true) × AreDone list answers) [
+      | true ↦ λ e. (e, all_done list answers (omega arith) (sym (ap test e) ∙ f))
+      | false ↦ λ e. absurd (let g : Some (address a) ≡ None = sym (ap test e) ∙ f in cc)
+    ] refl
+
+-- the first access that failed is the first one of those from here on, or among those after it
+failed_left : (list : List Access) (answers : List Answer) (i : ℕ) (d : Access) (e : Answer) → i < length list
+    → i < length answers
+    → first_failed (drop i list) (drop i answers) ≡ (if is_done (get_or list i d) (get_or answers i e)
+    then first_failed (drop (i + 1) list) (drop (i + 1) answers) else Some (address (get_or list i d)))
+failed_left list answers i d e low few =
+    ap (λ l. first_failed l (drop i answers))
+    (drop-cons list i d low ∙ ap (λ n. get_or list i d ∷ drop n list) (sym (add-one i)))
+    ∙ ap (λ l. first_failed (get_or list i d ∷ drop (i + 1) list) l)
+    (drop-cons answers i e few ∙ ap (λ n. get_or answers i e ∷ drop n answers) (sym (add-one i)))
+
+pub failed_here : (list : List Access) (answers : List Answer) (i : ℕ) (d : Access) (e : Answer) → i < length list
+    → i < length answers → is_done (get_or list i d) (get_or answers i e) ≡ false
+    → first_failed (drop i list) (drop i answers) ≡ Some (address (get_or list i d))
+failed_here list answers i d e low few is =
+    failed_left list answers i d e low few
+    ∙ ap (λ b. if b then first_failed (drop (i + 1) list) (drop (i + 1) answers)
+    else Some (address (get_or list i d))) is
+
+pub failed_later : (list : List Access) (answers : List Answer) (i : ℕ) (d : Access) (e : Answer) → i < length list
+    → i < length answers → is_done (get_or list i d) (get_or answers i e) ≡ true
+    → first_failed (drop i list) (drop i answers) ≡ first_failed (drop (i + 1) list) (drop (i + 1) answers)
+failed_later list answers i d e low few is =
+    failed_left list answers i d e low few
+    ∙ ap (λ b. if b then first_failed (drop (i + 1) list) (drop (i + 1) answers)
+    else Some (address (get_or list i d))) is
+
+pub none_left : (list : List Access) (answers : List Answer) (i : ℕ) → length list ≤ i
+    → first_failed (drop i list) (drop i answers) ≡ None
+none_left list answers i high = ap (λ l. first_failed l (drop i answers)) (drop_all i list high)
+
+done_append : (xs ys : List Access) (vs ws : List Answer) → AreDone xs vs → AreDone ys ws
+    → AreDone (xs ++ ys) (vs ++ ws)
+done_append [] ys [] ws h g = g
+done_append [] ys (v ∷ vs) ws h g = absurd h
+done_append (x ∷ xs) ys [] ws h g = absurd h
+done_append (x ∷ xs) ys (v ∷ vs) ws h g = (h.0, done_append xs ys vs ws h.1 g)
+
+pub words_append : (xs ys : List Answer) → words_told (xs ++ ys) ≡ words_told xs ++ words_told ys
+words_append [] ys = refl
+words_append (x ∷ xs) ys = grind (arith, words_append xs ys)
+
+-- ---- lists that are as they have to be
+
+module _ (want : ℕ → ℕ) (P : ℕ → Type 0) (words : FinMap nat_cmp ℕ) where
+  all_front : (xs ys : List Access) → AllIn want P words (xs ++ ys) → AllIn want P words xs
+  all_front [] ys h = tt
+  all_front (x ∷ xs) ys h = (h.0, all_front xs ys h.1)
+
+  all_back : (xs ys : List Access) → AllIn want P words (xs ++ ys) → AllIn want P words ys
+  all_back [] ys h = h
+  all_back (x ∷ xs) ys h = all_back xs ys h.1
+
+  tells_both : (now : FinMap nat_cmp ℕ) (xs ys : List Access) (vs ws : List Answer) → AreDone xs vs
+      → AllTell want P words now xs vs → AllTell want P words now ys ws
+      → AllTell want P words now (xs ++ ys) (vs ++ ws)
+  tells_both now [] ys [] ws d h g = g
+  tells_both now [] ys (v ∷ vs) ws d h g = absurd d
+  tells_both now (x ∷ xs) ys [] ws d h g = absurd d
+  tells_both now (x ∷ xs) ys (v ∷ vs) ws d h g = (h.0, tells_both now xs ys vs ws d.1 h.1 g)
+
+-- ---- one call
+
+module _ {W : Type 0} (port : W → Port) (plan : W → List Mark) (lawful : W → Type 0) (limit : ℕ) (list : List Access)
+    (tries : ℕ) (s : W) where
+  -- a run that ended all answered each access
+  pub answered_all : (stops : List Stop) (told : Told) (t : W) → Went port plan lawful limit list tries s stops told t
+      → told.ended ≡ All → length told.answers ≡ length list
+  answered_all stops told t (ran same closes over) all = closes.whole all
+  answered_all stops told t (resumed {earlier = e} {told = a} went lost same goes over) all =
+      let h = goes.closes.whole all in
+      let kept = ap length goes.kept ∙ length-append e.answers (added_in e a) in
+      let rest = length-drop (length e.answers) list in
+      let number = goes.number in
+      omega (arith, h, kept, rest, number)
+
+-- ---- calls one after the other
+
+module _ {W : Type 0} (port : W → Port) (plan : W → List Mark) (lawful : W → Type 0) (tries resumes : ℕ) where
+  pub one_call : (s t : W) (batch : Listed) (run : Done) → Call port plan lawful tries resumes batch s run t
+      → run.told.ended ≡ All → AreDone batch.accesses run.told.answers
+      → Calls port plan lawful tries resumes s batch.accesses run.told.answers t
+  one_call s t batch run call all done = more none call all done
+
+  pub calls_append : (s t u : W) (xs ys : List Access) (vs ws : List Answer)
+      → Calls port plan lawful tries resumes s xs vs t → Calls port plan lawful tries resumes t ys ws u
+      → Calls port plan lawful tries resumes s (xs ++ ys) (vs ++ ws) u
+  calls_append s t u xs ys vs ws h none =
+      subst (λ l. Calls port plan lawful tries resumes s l (vs ++ []) t) (sym (append-nil xs))
+      (subst (λ l. Calls port plan lawful tries resumes s xs l t) (sym (append-nil vs)) h)
+  calls_append s t u xs ys vs ws h
+      (more {list = list} {answers = answers} {t = r} {u = v} {batch = batch} {run = run} before call all done) =
+      subst (λ l. Calls port plan lawful tries resumes s l (vs ++ (answers ++ run.told.answers)) v)
+      (append_assoc xs list batch.accesses)
+      (subst (λ l. Calls port plan lawful tries resumes s ((xs ++ list) ++ batch.accesses) l v)
+      (append_assoc vs answers run.told.answers)
+      (more (calls_append s t r xs list vs answers h before) call all done))
+
+  after : (s t u : W) (xs ys : List Access) (vs : List Answer) (P : Listed → Done → Type 0)
+      → Calls port plan lawful tries resumes s xs vs t → Fails port plan lawful tries resumes ys t u P
+      → Fails port plan lawful tries resumes (xs ++ ys) s u P
+  after s t u xs ys vs P h f = record {
+    before = xs ++ f.before;
+    answers = vs ++ f.answers;
+    reached = f.reached;
+    calls = calls_append s t f.reached xs f.before vs f.answers h f.calls;
+    batch = f.batch;
+    run = f.run;
+    last = f.last;
+    rest = f.rest;
+    split = ap (λ l. xs ++ l) f.split ∙ sym (append_assoc xs f.before (f.batch.accesses ++ f.rest));
+    ended = f.ended;
+  }
+
+  sooner : (s u : W) (xs ys : List Access) (P : Listed → Done → Type 0)
+      → Fails port plan lawful tries resumes xs s u P → Fails port plan lawful tries resumes (xs ++ ys) s u P
+  sooner s u xs ys P f = record {
+    before = f.before;
+    answers = f.answers;
+    reached = f.reached;
+    calls = f.calls;
+    batch = f.batch;
+    run = f.run;
+    last = f.last;
+    rest = f.rest ++ ys;
+    split = ap (λ l. l ++ ys) f.split ∙ append_assoc f.before (f.batch.accesses ++ f.rest) ys
+        ∙ ap (λ l. f.before ++ l) (append_assoc f.batch.accesses f.rest ys);
+    ended = f.ended;
+  }
+
+  -- a call that failed
+  pub call_fails : (s u : W) (batch : Listed) (run : Done) (P : Listed → Done → Type 0)
+      → Call port plan lawful tries resumes batch s run u → P batch run
+      → Fails port plan lawful tries resumes batch.accesses s u P
+  call_fails s u batch run P call ended = record {
+    before = [];
+    answers = [];
+    reached = s;
+    calls = none;
+    batch = batch;
+    run = run;
+    last = call;
+    rest = [];
+    split = sym (append-nil batch.accesses);
+    ended = ended;
+  }
+
+  -- calls that failed, after others
+  pub fails_after : (s t u : W) (xs ys : List Access) (vs : List Answer) (fault : ImageFault)
+      → Calls port plan lawful tries resumes s xs vs t → FailsAs port plan lawful tries resumes ys t u fault
+      → FailsAs port plan lawful tries resumes (xs ++ ys) s u fault
+  fails_after s t u xs ys vs Range h f = absurd f
+  fails_after s t u xs ys vs Memory h f = tt
+  fails_after s t u xs ys vs (Stopped end) h f = after s t u xs ys vs _ h f
+  fails_after s t u xs ys vs (FaultAt at) h f = after s t u xs ys vs _ h f
+
+  -- and where more was to come
+  pub fails_before : (s u : W) (xs ys : List Access) (fault : ImageFault)
+      → FailsAs port plan lawful tries resumes xs s u fault
+      → FailsAs port plan lawful tries resumes (xs ++ ys) s u fault
+  fails_before s u xs ys Range f = absurd f
+  fails_before s u xs ys Memory f = tt
+  fails_before s u xs ys (Stopped end) f = sooner s u xs ys _ f
+  fails_before s u xs ys (FaultAt at) f = sooner s u xs ys _ f
+
+  -- a call more, of a list and its words
+  pub reads_more : (s t u : W) (list : List Access) (words now : List ℕ) (batch : Listed) (run : Done)
+      (next : List Access)
+      → ReadsAs port plan lawful tries resumes list words s t → Call port plan lawful tries resumes batch t run u
+      → run.told.ended ≡ All → AreDone batch.accesses run.told.answers → now ≡ words ++ words_told run.told.answers
+      → next ≡ list ++ batch.accesses → ReadsAs port plan lawful tries resumes next now s u
+  reads_more s t u list words now batch run next h call all done pushed longer = record {
+    answers = h.answers ++ run.told.answers;
+    calls = subst (λ l. Calls port plan lawful tries resumes s l (h.answers ++ run.told.answers) u) (sym longer)
+        (more h.calls call all done);
+    told = pushed ∙ ap (λ l. l ++ words_told run.told.answers) h.told ∙ sym (words_append h.answers run.told.answers);
+  }
+
+  pub made_more : (s t u : W) (list : List Access) (batch : Listed) (run : Done) (next : List Access)
+      → MadeAll port plan lawful tries resumes list s t → Call port plan lawful tries resumes batch t run u
+      → run.told.ended ≡ All → AreDone batch.accesses run.told.answers → next ≡ list ++ batch.accesses
+      → MadeAll port plan lawful tries resumes next s u
+  made_more s t u list batch run next h call all done longer = record {
+    answers = h.answers ++ run.told.answers;
+    calls = subst (λ l. Calls port plan lawful tries resumes s l (h.answers ++ run.told.answers) u) (sym longer)
+        (more h.calls call all done);
+  }
+
+  pub reads_append : (s t u : W) (xs ys : List Access) (vs ws : List ℕ)
+      → ReadsAs port plan lawful tries resumes xs vs s t → ReadsAs port plan lawful tries resumes ys ws t u
+      → ReadsAs port plan lawful tries resumes (xs ++ ys) (vs ++ ws) s u
+  reads_append s t u xs ys vs ws h g = record {
+    answers = h.answers ++ g.answers;
+    calls = calls_append s t u xs ys h.answers g.answers h.calls g.calls;
+    told = ap (λ l. l ++ ws) h.told ∙ ap (λ l. words_told h.answers ++ l) g.told
+        ∙ sym (words_append h.answers g.answers);
+  }
+
+  -- each access was done
+  pub calls_done : (s t : W) (list : List Access) (answers : List Answer)
+      → Calls port plan lawful tries resumes s list answers t → AreDone list answers
+  calls_done s t list answers none = tt
+  calls_done s t list answers
+      (more {list = xs} {answers = vs} {t = r} {batch = batch} {run = run} before call all done) =
+      done_append xs batch.accesses vs run.told.answers (calls_done s r xs vs before) done
+
+  -- so it was lawful from the start
+  pub calls_law : (s t : W) (list : List Access) (answers : List Answer)
+      → Calls port plan lawful tries resumes s list answers t → lawful t → lawful s
+  calls_law s t list answers none law = law
+  calls_law s t list answers
+      (more {list = xs} {answers = vs} {t = r} {u = v} {batch = batch} {run = run} before call all done) law =
+      calls_law s r xs vs before
+      (law_before port plan lawful (most_begun batch) batch.accesses tries r run.stops run.told v call.goes.went law)
+
+  -- a call that failed in a list, after those before it
+  pub fails_in : (s t u : W) (xs ys zs list : List Access) (vs : List Answer) (fault : ImageFault)
+      → Calls port plan lawful tries resumes s xs vs t → FailsAs port plan lawful tries resumes ys t u fault
+      → list ≡ xs ++ (ys ++ zs) → FailsAs port plan lawful tries resumes list s u fault
+  fails_in s t u xs ys zs list vs fault h f is =
+      subst (λ l. FailsAs port plan lawful tries resumes l s u fault) (sym is)
+      (fails_after s t u xs (ys ++ zs) vs fault h (fails_before t u ys zs fault f))
+
+  -- ---- what they leave, from a target at rest
+
+  pub record Leaves (want : ℕ → ℕ) (P : ℕ → Type 0) (s : W) (list : List Access) (answers : List Answer) (t : W)
+      : Type 0 where
+    pub at_rest : IsAtRest (port t)
+    pub held : Held want P (port s).target.memory.words (port t).target.memory.words
+    pub tells : AllTell want P (port s).target.memory.words (port t).target.memory.words list answers
+
+  module _ (want : ℕ → ℕ) (P : ℕ → Type 0) (s : W) (rest : IsAtRest (port s)) where
+    pub leaves : (t : W) (list : List Access) (answers : List Answer)
+        → Calls port plan lawful tries resumes s list answers t
+        → AllIn want P (port s).target.memory.words list → lawful t → Leaves want P s list answers t
+    leaves t list answers none i law =
+        record { at_rest = rest; held = λ q. inl refl; tells = tt }
+    leaves t list answers
+        (more {list = xs} {answers = vs} {t = r} {u = v} {batch = batch} {run = run} before call all done) i law =
+        let words = (port s).target.memory.words in
+        let n : ℕ = most_begun batch in
+        let went = call.goes.went in
+        let back : lawful r = law_before port plan lawful n batch.accesses tries r run.stops run.told v went law in
+        let h = leaves r xs vs before (all_front want P words xs batch.accesses i) back in
+        let turns = (tell_of port plan lawful n batch.accesses tries r h.at_rest run.stops run.told v went law).turns in
+        let kept = chain_keeps want P words n batch.accesses (port r).target.memory turns.calls run.told turns.memory
+        (all_back want P words xs batch.accesses i) h.held turns.chain in
+        let there : Kept want P words batch.accesses (port r).target.memory.words (port v).target.memory.words
+        run.told.answers =
+        subst (λ m. Kept want P words batch.accesses (port r).target.memory.words m.words run.told.answers)
+        (turns.left all) kept in
+        record {
+          at_rest = rests port plan lawful n batch.accesses tries r h.at_rest run.stops run.told v went law all;
+          held = there.held;
+          tells = tells_both want P words (port v).target.memory.words xs batch.accesses vs run.told.answers
+              (calls_done s r xs vs before)
+              (all_later want P words (port r).target.memory.words (port v).target.memory.words xs vs there.later
+              h.tells) there.tells;
+        }

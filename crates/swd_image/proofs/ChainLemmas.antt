@@ -1,0 +1,220 @@
+-- What a call leaves of the words, however often it was resumed, and whatever room the log has: each word is the one
+-- before, or the one that is written at its address; what was read is the word before; what was written is there.
+use Rattle.std.proofs.Common.{◌≡◌, ◌+◌, ◌≤◌, ℕ, zero, suc, true, false, refl, sym, ap, subst, arith, ◌∙◌, List, []}
+use Rattle.std.proofs.Common.{◌∷◌, ◌++◌, length, take, drop, Some, inl, inr, ◌⊎◌}
+use Rattle.std.specs.Prelude.{unwrap_or}
+use Rattle.std.proofs.lemmas.Bool.{cases_eq}
+use Rattle.std.specs.Ordering.{nat_cmp}
+use Rattle.std.specs.FinMap.{FinMap, get}
+use Rattle.swd_port.specs.declared.access.Access.{Access}
+use Rattle.swd_port.specs.declared.access.Access.TheVariants.{Read, Write}
+use Rattle.swd_port.specs.declared.access.Answer.{Answer}
+use Rattle.swd_port.specs.declared.access.Answer.TheVariants.{Value, Written, BusFault}
+use Rattle.swd_port.specs.PlainMemory.{PlainMemory, address, answer_of, done, plain_after, plain_answer, succeeds_at}
+use Rattle.swd_port.proofs.MapLemmas.{get_other, get_same}
+use Rattle.swd_host.specs.Again.{added_in}
+use Rattle.swd_host.specs.Chains.{Chain, first, again}
+use Rattle.swd_host.specs.Plain.{memory_after, answers_of}
+use Rattle.swd_host.specs.Reports.{Told}
+use Rattle.swd_image.specs.Bytes.{word_in}
+
+after_true : (a : Access) (p : PlainMemory) → succeeds_at (address a) p ≡ true → plain_after a p ≡ done a p
+after_true a p e = rw e refl
+
+after_false : (a : Access) (p : PlainMemory) → succeeds_at (address a) p ≡ false → plain_after a p ≡ p
+after_false a p e = rw e refl
+
+answer_true : (a : Access) (p : PlainMemory) → succeeds_at (address a) p ≡ true → plain_answer a p ≡ answer_of a p
+answer_true a p e = rw e refl
+
+answer_false : (a : Access) (p : PlainMemory) → succeeds_at (address a) p ≡ false → plain_answer a p ≡ BusFault
+answer_false a p e = rw e refl
+
+-- Each write is of the word for its address, and only some addresses are written; these are the words before.
+module _ (want : ℕ → ℕ) (P : ℕ → Type 0) (words : FinMap nat_cmp ℕ) where
+  abbrev pub IsIn : Access → Type 0
+  IsIn (Read at) = Unit {0}
+  IsIn (Write at word) = (word ≡ want at) × P at
+
+  abbrev pub AllIn : List Access → Type 0
+  AllIn [] = Unit {0}
+  AllIn (a ∷ list) = IsIn a × AllIn list
+
+  -- a word is the one before, or what is written there
+  abbrev pub Held : FinMap nat_cmp ℕ → Type 0
+  Held now = (q : ℕ) → (get now q ≡ get words q) ⊎ (P q × (get now q ≡ Some (want q)))
+
+  -- what was written stays
+  abbrev pub Later : FinMap nat_cmp ℕ → FinMap nat_cmp ℕ → Type 0
+  Later old now = (q : ℕ) → get old q ≡ Some (want q) → get now q ≡ Some (want q)
+
+  -- what an answer tells of an access
+  abbrev pub Tells : FinMap nat_cmp ℕ → Access → Answer → Type 0
+  Tells now (Read at) (Value word) = (word ≡ word_in words at) ⊎ P at
+  Tells now (Read at) Written = Unit {0}
+  Tells now (Read at) BusFault = Unit {0}
+  Tells now (Write at word) Written = get now at ≡ Some (want at)
+  Tells now (Write at word) (Value other) = Unit {0}
+  Tells now (Write at word) BusFault = Unit {0}
+
+  abbrev pub AllTell : FinMap nat_cmp ℕ → List Access → List Answer → Type 0
+  AllTell now [] answers = Unit {0}
+  AllTell now (a ∷ list) [] = Unit {0}
+  AllTell now (a ∷ list) (x ∷ answers) = Tells now a x × AllTell now list answers
+
+  pub all_drop : (n : ℕ) (list : List Access) → AllIn list → AllIn (drop n list)
+  all_drop zero list h = h
+  all_drop (suc n) [] h = tt
+  all_drop (suc n) (a ∷ list) h = all_drop n list h.1
+
+  tells_later : (old now : FinMap nat_cmp ℕ) (a : Access) (x : Answer) → Later old now → Tells old a x → Tells now a x
+  tells_later old now (Read at) (Value word) l h = h
+  tells_later old now (Read at) Written l h = tt
+  tells_later old now (Read at) BusFault l h = tt
+  tells_later old now (Write at word) Written l h = l at h
+  tells_later old now (Write at word) (Value other) l h = tt
+  tells_later old now (Write at word) BusFault l h = tt
+
+  pub all_later : (old now : FinMap nat_cmp ℕ) (list : List Access) (xs : List Answer) → Later old now
+      → AllTell old list xs → AllTell now list xs
+  all_later old now [] xs l h = tt
+  all_later old now (a ∷ list) [] l h = tt
+  all_later old now (a ∷ list) (x ∷ xs) l h = (tells_later old now a x l h.0, all_later old now list xs l h.1)
+
+  -- ONE ACCESS
+  record Stepped (a : Access) (p : PlainMemory) : Type 0 where
+    held : Held (plain_after a p).words
+    later : Later p.words (plain_after a p).words
+    tells : Tells (plain_after a p).words a (plain_answer a p)
+
+  refused : (a : Access) (p : PlainMemory) → Held p.words → succeeds_at (address a) p ≡ false → Stepped a p
+  refused a p h e =
+      let same : (plain_after a p).words ≡ p.words = ap (λ x. x.words) (after_false a p e) in
+      record {
+        held = subst Held (sym same) h;
+        later = subst (Later p.words) (sym same) (λ q is. is);
+        tells = subst (Tells (plain_after a p).words a) (sym (answer_false a p e)) (none a);
+      }
+    where
+      none : (a : Access) → Tells (plain_after a p).words a BusFault
+      none (Read at) = tt
+      none (Write at word) = tt
+
+  read_told : (at : ℕ) (p : PlainMemory) → Held p.words → (word_in p.words at ≡ word_in words at) ⊎ P at
+  read_told at p h =
+      elim (h at) [ inl same ↦ inl (ap (λ o. unwrap_or o 0) same) | inr both ↦ inr both.0 ]
+
+  made : (a : Access) (p : PlainMemory) → IsIn a → Held p.words → succeeds_at (address a) p ≡ true → Stepped a p
+  made (Read at) p i h e =
+      let same : (plain_after (Read at) p).words ≡ p.words = ap (λ x. x.words) (after_true (Read at) p e) in
+      record {
+        held = subst Held (sym same) h;
+        later = subst (Later p.words) (sym same) (λ q is. is);
+        tells = subst (Tells (plain_after (Read at) p).words (Read at)) (sym (answer_true (Read at) p e))
+            (read_told at p h);
+      }
+  made (Write at word) p i h e =
+      let now : FinMap nat_cmp ℕ = (done (Write at word) p).words in
+      let same : (plain_after (Write at word) p).words ≡ now = ap (λ x. x.words) (after_true (Write at word) p e) in
+      record {
+        held = subst Held (sym same) (λ q. held_at q (cases_eq q at));
+        later = subst (Later p.words) (sym same) (λ q is. later_at q is (cases_eq q at));
+        tells = subst (Tells (plain_after (Write at word) p).words (Write at word))
+            (sym (answer_true (Write at word) p e)) (ap (λ w. get w at) same ∙ written at refl);
+      }
+    where
+      written : (q : ℕ) → q ≡ at → get (done (Write at word) p).words q ≡ Some (want q)
+      written q e = get_same p.words at word q e ∙ ap (λ w. Some w) (i.0 ∙ ap want (sym e))
+
+      held_at : (q : ℕ) → (q ≡ at) ⊎ (q ≡ at → ⊥) → (get (done (Write at word) p).words q ≡ get words q)
+          ⊎ (P q × (get (done (Write at word) p).words q ≡ Some (want q)))
+      held_at q (inl e) = inr (subst P (sym e) i.1, written q e)
+      held_at q (inr none) =
+          let same : get (done (Write at word) p).words q ≡ get p.words q = get_other p.words at word q none in
+          elim (h q) [ inl old ↦ inl (same ∙ old) | inr both ↦ inr (both.0, same ∙ both.1) ]
+
+      later_at : (q : ℕ) → get p.words q ≡ Some (want q) → (q ≡ at) ⊎ (q ≡ at → ⊥)
+          → get (done (Write at word) p).words q ≡ Some (want q)
+      later_at q is (inl e) = written q e
+      later_at q is (inr none) = get_other p.words at word q none ∙ is
+
+  stepped : (a : Access) (p : PlainMemory) → IsIn a → Held p.words → Stepped a p
+  stepped a p i h = elim (succeeds_at (address a) p) as (λ b. succeeds_at (address a) p ≡ b → Stepped a p)
+      [ true ↦ λ e. made a p i h e | false ↦ λ e. refused a p h e ] refl
+
+  -- SOME ACCESSES OF A LIST
+  record Ran (n : ℕ) (list : List Access) (p : PlainMemory) : Type 0 where
+    held : Held (memory_after (take n list) p).words
+    later : Later p.words (memory_after (take n list) p).words
+
+  ran : (n : ℕ) (list : List Access) (p : PlainMemory) → AllIn list → Held p.words → Ran n list p
+  ran zero list p i h = record { held = h; later = λ q is. is }
+  ran (suc n) [] p i h = record { held = h; later = λ q is. is }
+  ran (suc n) (a ∷ list) p i h =
+      let s = stepped a p i.0 h in
+      let r = ran n list (plain_after a p) i.1 s.held in
+      record { held = r.held; later = λ q is. r.later q (s.later q is) }
+
+  ran_tells : (k n : ℕ) (list : List Access) (p : PlainMemory) → k ≤ n → AllIn list → Held p.words
+      → AllTell (memory_after (take n list) p).words list (answers_of (take k list) p)
+  ran_tells k n [] p l i h = tt
+  ran_tells zero n (a ∷ list) p l i h = tt
+  ran_tells (suc k) zero (a ∷ list) p l i h = absurd (omega arith)
+  ran_tells (suc k) (suc n) (a ∷ list) p l i h =
+      let s = stepped a p i.0 h in
+      let now = memory_after (take n list) (plain_after a p) in (
+        tells_later (plain_after a p).words now.words a (plain_answer a p)
+            (ran n list (plain_after a p) i.1 s.held).later s.tells,
+        ran_tells k n list (plain_after a p) (omega arith) i.1 s.held,
+      )
+
+  tells_append : (now : FinMap nat_cmp ℕ) (list : List Access) (xs ys : List Answer) → AllTell now list xs
+      → AllTell now (drop (length xs) list) ys → AllTell now list (xs ++ ys)
+  tells_append now [] xs ys h g = tt
+  tells_append now (a ∷ list) [] ys h g = g
+  tells_append now (a ∷ list) (x ∷ xs) ys h g = (h.0, tells_append now list xs ys h.1 g)
+
+  -- A CALL, RESUMED
+  pub record Kept (list : List Access) (old now : FinMap nat_cmp ℕ) (answers : List Answer) : Type 0 where
+    pub held : Held now
+    pub later : Later old now
+    pub tells : AllTell now list answers
+
+  pub chain_keeps : (limit : ℕ) (list : List Access) (m : PlainMemory) (calls : List Told) (told : Told)
+      (now : PlainMemory)
+      → AllIn list → Held m.words → Chain limit list m calls told now → Kept list m.words now.words told.answers
+  chain_keeps limit list m calls told now i h (first fits) =
+      let k = fits.0 in
+      let fit = fits.1 in
+      let j = fit.memory.0 in
+      let is : now ≡ memory_after (take (k + j) list) m = fit.memory.2 in
+      let r = ran (k + j) list m i h in
+      record {
+        held = subst (λ x. Held x.words) (sym is) r.held;
+        later = subst (λ x. Later m.words x.words) (sym is) r.later;
+        tells = subst (AllTell now.words list) (sym fit.answers)
+            (subst (λ x. AllTell x.words list (answers_of (take k list) m)) (sym is)
+            (ran_tells k (k + j) list m (omega arith) i h));
+      }
+  chain_keeps limit list m calls told now i h
+      (again {calls = before} {earlier = earlier} {before = left} chain own kept begun fits) =
+      let c = chain_keeps limit list m before earlier left i h chain in
+      let k = fits.0 in
+      let fit = fits.1 in
+      let j = fit.memory.0 in
+      let rest : List Access = drop (length earlier.answers) list in
+      let inside : AllIn rest = all_drop (length earlier.answers) list i in
+      let is : now ≡ memory_after (take (k + j) rest) left = fit.memory.2 in
+      let r = ran (k + j) rest left inside c.held in
+      let later : Later left.words now.words = subst (λ x. Later left.words x.words) (sym is) r.later in
+      let added : AllTell now.words rest (added_in earlier told) =
+      subst (AllTell now.words rest) (sym fit.answers)
+      (subst (λ x. AllTell x.words rest (answers_of (take k rest) left)) (sym is)
+      (ran_tells k (k + j) rest left (omega arith) inside c.held)) in
+      record {
+        held = subst (λ x. Held x.words) (sym is) r.held;
+        later = λ q is. later q (c.later q is);
+        tells = subst (AllTell now.words list) (sym kept)
+            (tells_append now.words list earlier.answers (added_in earlier told)
+            (all_later left.words now.words list earlier.answers later c.tells) added);
+      }

@@ -1,0 +1,202 @@
+-- What the calls of a load and of a dump leave, and what they read.
+use Rattle.std.proofs.Common.{◌≡◌, ◌+◌, ◌*◌, ◌<◌, ◌≤◌, ◌^◌, ℕ, zero, suc, Bool, true, false, refl, ap, subst}
+use Rattle.std.proofs.Common.{arith, ◌∙◌}
+use Rattle.std.proofs.Common.{List, [], ◌∷◌, ◌++◌, length, map, get_or, Some, inl, inr, ◌⊎◌}
+use Rattle.std.specs.Ordering.{nat_cmp}
+use Rattle.std.specs.FinMap.{FinMap, get}
+use Rattle.swd_port.specs.declared.access.Access.{Access}
+use Rattle.swd_port.specs.declared.access.Access.TheVariants.{Read, Write}
+use Rattle.swd_port.specs.declared.access.Answer.{Answer}
+use Rattle.swd_port.specs.declared.access.Answer.TheVariants.{Value, Written, BusFault}
+use Rattle.swd_port.specs.declared.mark.Mark.{Mark}
+use Rattle.swd_port.specs.PlainMemory.{address, reads}
+use Rattle.swd_port.specs.Port.{Port}
+use Rattle.swd_host.specs.Chains.{AreReads}
+use Rattle.swd_host.specs.Reports.{IsAtRest}
+use Rattle.swd_image.specs.declared.fault.ImageFault.{ImageFault}
+use Rattle.swd_image.specs.declared.fault.ImageFault.TheVariants.{Range, Memory, Stopped, BusFault as FaultAt}
+use Rattle.swd_image.specs.Bytes.{word_in, word_of, words_at}
+use Rattle.swd_image.specs.Images.{IsLoaded}
+use Rattle.swd_image.specs.Lists.{edge_list, edge_words, last_word, load_list, loaded_word, needs_head, needs_tail}
+use Rattle.swd_image.specs.Lists.{read_if, word_count, word_if, writes}
+use Rattle.swd_image.specs.Loads.{LoadFails}
+use Rattle.swd_image.specs.Sessions.{AreDone, FailsAs, MadeAll, ReadsAs, words_told}
+use Rattle.swd_image.proofs.ChainLemmas.{AllIn, AllTell}
+use Rattle.swd_image.proofs.CallLemmas.{calls_done, calls_law, leaves}
+use Rattle.swd_image.proofs.ImageLemmas.{InWords, bytes_are, others}
+
+-- ---- lists of reads
+
+abbrev Never : ℕ → Type 0
+Never q = ⊥
+
+abbrev no_word : ℕ → ℕ
+no_word q = 0
+
+all_reads : (words : FinMap nat_cmp ℕ) (list : List Access) → AreReads list → AllIn no_word Never words list
+all_reads words [] h = tt
+all_reads words (Read at ∷ list) h = (tt, all_reads words list h)
+all_reads words (Write at word ∷ list) h = absurd h
+
+-- they are answered by the words that were there
+told_words : (words now : FinMap nat_cmp ℕ) (list : List Access) (answers : List Answer) → AreReads list
+    → AreDone list answers → AllTell no_word Never words now list answers
+    → words_told answers ≡ map (λ a. word_in words (address a)) list
+told_words words now [] [] r d h = refl
+told_words words now [] (x ∷ answers) r d h = absurd d
+told_words words now (a ∷ list) [] r d h = absurd d
+told_words words now (Write at word ∷ list) (x ∷ answers) r d h = absurd r
+told_words words now (Read at ∷ list) (Written ∷ answers) r d h = absurd (let e = d.0 in cc)
+told_words words now (Read at ∷ list) (BusFault ∷ answers) r d h = absurd (let e = d.0 in cc)
+told_words words now (Read at ∷ list) (Value word ∷ answers) r d h =
+    let rest = told_words words now list answers r d.1 h.1 in
+    elim h.0 [
+      | inl is ↦ ap (λ w. w ∷ words_told answers) is ∙ ap (λ l. word_in words at ∷ l) rest
+      | inr never ↦ absurd never
+    ]
+
+pub are_reads : (at count : ℕ) → AreReads (reads at count)
+are_reads at zero = tt
+are_reads at (suc count) = are_reads (at + 4) count
+
+pub reads_words : (words : FinMap nat_cmp ℕ) (at count : ℕ)
+    → map (λ a. word_in words (address a)) (reads at count) ≡ words_at words at count
+reads_words words at zero = refl
+reads_words words at (suc count) = ap (λ l. word_in words at ∷ l) (reads_words words (at + 4) count)
+
+edge_reads : (h t : Bool) (x y : ℕ) → AreReads (read_if h x ++ read_if t y)
+edge_reads true true x y = tt
+edge_reads true false x y = tt
+edge_reads false true x y = tt
+edge_reads false false x y = tt
+
+-- the words of the edges, from what was read
+record Edged (f : Access → ℕ) (h t : Bool) (x y head tail : ℕ) : Type 0 where
+  is_head : h ≡ true → head ≡ f (Read x)
+  is_tail : t ≡ true → tail ≡ f (Read y)
+
+edged : (f : Access → ℕ) (h t : Bool) (x y head tail : ℕ)
+    → word_if h head ++ word_if t tail ≡ map f (read_if h x ++ read_if t y) → Edged f h t x y head tail
+edged f true true x y head tail e = record { is_head = λ h. cc; is_tail = λ t. cc }
+edged f true false x y head tail e = record { is_head = λ h. cc; is_tail = λ t. absurd cc }
+edged f false true x y head tail e = record { is_head = λ h. absurd cc; is_tail = λ t. cc }
+edged f false false x y head tail e = record { is_head = λ h. absurd cc; is_tail = λ t. absurd cc }
+
+-- ---- lists of writes
+
+all_writes : (word : ℕ → ℕ) (P : ℕ → Type 0) (words : FinMap nat_cmp ℕ) (at count : ℕ)
+    → ((k : ℕ) → k < count → P (at + 4 * k)) → AllIn word P words (writes word at count)
+all_writes word P words at zero h = tt
+all_writes word P words at (suc count) h =
+    let here : at + 4 * 0 ≡ at = omega arith in (
+      (refl, subst P here (h 0 (omega arith))),
+      all_writes word P words (at + 4) count (λ k low.
+          (let e : at + 4 * (k + 1) ≡ at + 4 + 4 * k = omega arith in subst P e (h (k + 1) (omega arith)))),
+    )
+
+-- each of their words is there
+written_at : (word : ℕ → ℕ) (P : ℕ → Type 0) (words now : FinMap nat_cmp ℕ) (at count k : ℕ) (answers : List Answer)
+    → AreDone (writes word at count) answers → AllTell word P words now (writes word at count) answers → k < count
+    → get now (at + 4 * k) ≡ Some (word (at + 4 * k))
+written_at word P words now at zero k answers d h low = absurd (omega arith)
+written_at word P words now at (suc count) k [] d h low = absurd d
+written_at word P words now at (suc count) k (Value other ∷ answers) d h low = absurd (let e = d.0 in cc)
+written_at word P words now at (suc count) k (BusFault ∷ answers) d h low = absurd (let e = d.0 in cc)
+written_at word P words now at (suc count) zero (Written ∷ answers) d h low =
+    let e : at ≡ at + 4 * zero = omega arith in subst (λ q. get now q ≡ Some (word q)) e h.0
+written_at word P words now at (suc count) (suc k) (Written ∷ answers) d h low =
+    let e : at + 4 + 4 * k ≡ at + 4 * suc k = omega arith in
+    subst (λ q. get now q ≡ Some (word q)) e
+    (written_at word P words now (at + 4) count k answers d.1 h.1 (omega arith))
+
+-- ---- over a wire
+
+module _ {W : Type 0} (port : W → Port) (plan : W → List Mark) (lawful : W → Type 0) (tries resumes : ℕ) where
+  -- what some reads leave and gave, from a target at rest
+  pub record HasRead (list : List Access) (words : List ℕ) (s t : W) : Type 0 where
+    pub at_rest : IsAtRest (port t)
+    pub same : (q : ℕ) → get (port t).target.memory.words q ≡ get (port s).target.memory.words q
+    pub words_are : words ≡ map (λ a. word_in (port s).target.memory.words (address a)) list
+
+  pub has_read : (s t : W) (list : List Access) (words : List ℕ) → AreReads list
+      → ReadsAs port plan lawful tries resumes list words s t → lawful t → IsAtRest (port s)
+      → HasRead list words s t
+  has_read s t list words r h law rest =
+      let before = (port s).target.memory.words in
+      let l = leaves port plan lawful tries resumes no_word Never s rest t list h.answers h.calls
+      (all_reads before list r) law in
+      record {
+        at_rest = l.at_rest;
+        same = λ q. elim (l.held q) [ inl e ↦ e | inr both ↦ absurd both.0 ];
+        words_are = h.told ∙ told_words before (port t).target.memory.words list h.answers r
+            (calls_done port plan lawful tries resumes s t list h.answers h.calls) l.tells;
+      }
+
+  -- how many words were read
+  pub reads_many : (s t : W) (list : List Access) (words : List ℕ)
+      → ReadsAs port plan lawful tries resumes list words s t → length words ≡ length list
+  reads_many s t list words h =
+      ap length h.told ∙ many list h.answers (calls_done port plan lawful tries resumes s t list h.answers h.calls)
+    where
+      many : (xs : List Access) (vs : List Answer) → AreDone xs vs → length (words_told vs) ≡ length xs
+      many [] [] d = refl
+      many [] (v ∷ vs) d = absurd d
+      many (x ∷ xs) [] d = absurd d
+      many (x ∷ xs) (v ∷ vs) d = ap suc (many xs vs d.1)
+
+  module _ (addr : ℕ) (bytes : List ℕ) (s t : W) where
+    pub loaded : ((k : ℕ) → get_or bytes k 0 < 256) → (head tail : ℕ) (reached : W)
+        → ReadsAs port plan lawful tries resumes (edge_list addr (length bytes))
+        (edge_words addr (length bytes) head tail) s reached
+        → MadeAll port plan lawful tries resumes (load_list addr bytes head tail) reached t
+        → lawful t → IsAtRest (port s)
+        → IsLoaded addr bytes (port s).target.memory (port t).target.memory × IsAtRest (port t)
+    loaded small head tail reached edges made law rest =
+        let len : ℕ = length bytes in
+        let word : ℕ → ℕ = loaded_word addr bytes head tail in
+        let list : List Access = load_list addr bytes head tail in
+        let old : FinMap nat_cmp ℕ = (port s).target.memory.words in
+        let middle : FinMap nat_cmp ℕ = (port reached).target.memory.words in
+        let now : FinMap nat_cmp ℕ = (port t).target.memory.words in
+        let back : lawful reached = calls_law port plan lawful tries resumes reached t list made.answers made.calls law
+        in
+        let r = has_read s reached (edge_list addr len) (edge_words addr len head tail)
+        (edge_reads (needs_head addr len) (needs_tail addr len) (word_of addr) (last_word addr len)) edges back rest in
+        let e = edged (λ a. word_in old (address a)) (needs_head addr len) (needs_tail addr len) (word_of addr)
+        (last_word addr len) head tail r.words_are in
+        let l = leaves port plan lawful tries resumes word (InWords addr len) reached r.at_rest t list made.answers
+        made.calls (all_writes word (InWords addr len) middle (word_of addr) (word_count addr len)
+        (λ k low. record { low = omega arith; high = omega arith; aligned = omega arith })) law in
+        let written : (k : ℕ) → k < word_count addr len
+        → get now (word_of addr + 4 * k) ≡ Some (word (word_of addr + 4 * k))
+        = λ k low. written_at word (InWords addr len) middle now (word_of addr) (word_count addr len) k made.answers
+        (calls_done port plan lawful tries resumes reached t list made.answers made.calls) l.tells low in
+        let held : (q : ℕ) → (get now q ≡ get old q) ⊎ InWords addr len q =
+        λ q. elim (l.held q) [ inl same ↦ inl (same ∙ r.same q) | inr both ↦ inr both.0 ] in (
+          record {
+            bytes_are = bytes_are addr bytes head tail old now small e.is_head e.is_tail written held;
+            others = others addr bytes head tail old now small e.is_head e.is_tail written held;
+          },
+          l.at_rest,
+        )
+
+    -- why a load failed, among its reads, or among its writes
+    pub fails_early : (fault : ImageFault) → addr + length bytes ≤ 2 ^ 32
+        → FailsAs port plan lawful tries resumes (edge_list addr (length bytes)) s t fault
+        → LoadFails port plan lawful tries resumes addr bytes s t fault
+    fails_early Range fits f = absurd f
+    fails_early Memory fits f = fits
+    fails_early (Stopped end) fits f = (fits, inl f)
+    fails_early (FaultAt at) fits f = (fits, inl f)
+
+    pub fails_late : (fault : ImageFault) → addr + length bytes ≤ 2 ^ 32 → (head tail : ℕ) (reached : W)
+        → ReadsAs port plan lawful tries resumes (edge_list addr (length bytes))
+        (edge_words addr (length bytes) head tail) s reached
+        → FailsAs port plan lawful tries resumes (load_list addr bytes head tail) reached t fault
+        → LoadFails port plan lawful tries resumes addr bytes s t fault
+    fails_late Range fits head tail reached edges f = absurd f
+    fails_late Memory fits head tail reached edges f = fits
+    fails_late (Stopped end) fits head tail reached edges f =
+        (fits, inr (record { head = head; tail = tail; reached = reached; edges = edges; writes = f }))
+    fails_late (FaultAt at) fits head tail reached edges f =
+        (fits, inr (record { head = head; tail = tail; reached = reached; edges = edges; writes = f }))

@@ -1,0 +1,17 @@
+use Rattle.std.proofs.Common.{◌≡◌, ◌-◌, ◌≤◌}
+use Rattle.swd_port.specs.declared.wire.Due.TheVariants.{Nothing}
+use Rattle.swd_port.specs.PlainMemory.{reads}
+use Rattle.swd_image.specs.Sessions.{ReadsAs}
+use Rattle.swd_image.proofs.reading.read_words.Given as goal
+
+abbrev pub invariant-loop-done : goal.invariant-loop-done
+invariant-loop-done g l = record {
+  read : ReadsAs g.W.Wire.port g.W.Wire.plan g.W.Wire.lawful l.tries l.resumes (reads l.first l.done) l.words.items
+      l.fn.wire l.wire;
+  few : l.done ≤ l.count;
+  due : (g.W.Wire.port l.wire).link.due ≡ Nothing;
+  plan : g.W.Wire.plan l.wire ≡ g.W.Wire.plan l.fn.wire;
+}
+
+abbrev pub decreases-loop-done : goal.decreases-loop-done
+decreases-loop-done g l = l.count - l.done

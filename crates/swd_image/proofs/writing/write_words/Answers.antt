@@ -1,0 +1,60 @@
+use Rattle.std.proofs.Common.{◌∙◌, ◌+◌, ◌-◌, ◌*◌, ◌++◌, [], ap, arith, refl, subst, sym}
+use Rattle.std.proofs.lemmas.Result.{err_from_is_err_and}
+use Rattle.swd_script.specs.Laws.{IsBatch}
+use Rattle.swd_script.specs.Readers.{listed}
+use Rattle.swd_run.specs.Sessions.{done_of}
+use Rattle.swd_image.specs.Lists.{loaded_word, writes}
+use Rattle.swd_image.specs.Sessions.{none}
+use Rattle.swd_image.proofs.CallLemmas.{fails_in, made_more}
+use Rattle.swd_image.proofs.ListLemmas.{writes_batch, writes_left, writes_split}
+use Rattle.swd_image.proofs.writing.write_words.Goals as goal
+
+pub loop-done-init : goal.loop-done-init
+loop-done-init g c = record {
+  made = record { answers = []; calls = none };
+  few = omega arith;
+  due = c.requires.due;
+  plan = refl;
+}
+
+pub run_call-requires-clause-batch : goal.run_call-requires-clause-batch
+run_call-requires-clause-batch g c =
+    let word = loaded_word c.args.addr c.args.bytes.now c.args.edges.head c.args.edges.tail in
+    let least = c.min-many.ensures in
+    subst IsBatch (sym c.in_ok-batch.ensures.batch)
+    (writes_batch word (c.args.first + 4 * c.loop-done.done) c.min-many.result (omega (arith, c.requires.aligned))
+    (omega (arith, least)))
+
+pub returns-in_err-run_call-clause-fault : goal.returns-in_err-run_call-clause-fault
+returns-in_err-run_call-clause-fault g c =
+    let word = loaded_word c.args.addr c.args.bytes.now c.args.edges.head c.args.edges.tail in
+    let done = c.loop-done.done in
+    let many = c.min-many.result in
+    let batch = listed c.in_ok-batch.batch in
+    let least = c.min-many.ensures in
+    let rest = writes word (c.args.first + 4 * done + 4 * many) (c.args.count - (done + many)) in
+    let p = err_from_is_err_and c.from_residual-in_err-run_call.result c.from_residual-in_err-run_call.ensures.1 in
+    rw (p.1, p.2) (fails_in g.W.Wire.port g.W.Wire.plan g.W.Wire.lawful c.args.tries c.args.resumes c.args.wire.now
+    c.loop-done.wire c.run_call.new.wire (writes word c.args.first done) batch.accesses rest
+    (writes word c.args.first c.args.count) c.loop-done.invariant.made.answers _ c.loop-done.invariant.made.calls
+    c.in_err-run_call.ensures.fault
+    (writes_left word c.args.first done many c.args.count (omega (arith, least))
+    ∙ ap (λ b. writes word c.args.first done ++ (b.accesses ++ rest)) (sym c.in_ok-batch.ensures.batch)))
+
+pub loop-done-preserved : goal.loop-done-preserved
+loop-done-preserved g c =
+    let word = loaded_word c.args.addr c.args.bytes.now c.args.edges.head c.args.edges.tail in
+    let done = c.loop-done.done in
+    let many = c.min-many.result in
+    let least = c.min-many.ensures in
+    record {
+      made = made_more g.W.Wire.port g.W.Wire.plan g.W.Wire.lawful c.args.tries c.args.resumes c.args.wire.now
+          c.loop-done.wire c.run_call.new.wire (writes word c.args.first done) (listed c.in_ok-batch.batch)
+          (done_of c.in_ok-run_call.field-0) (writes word c.args.first (done + many)) c.loop-done.invariant.made
+          c.in_ok-run_call.ensures.call c.in_ok-run_call.ensures.all c.in_ok-run_call.ensures.done
+          (writes_split word c.args.first done many
+          ∙ ap (λ b. writes word c.args.first done ++ b.accesses) (sym c.in_ok-batch.ensures.batch));
+      few = omega (arith, least);
+      due = c.in_ok-run_call.ensures.due;
+      plan = c.in_ok-run_call.ensures.plan ∙ c.loop-done.invariant.plan;
+    }

@@ -1,0 +1,51 @@
+-- What a dump and a verification come to over a wire.
+use Rattle.std.specs.Prelude.{ℕ, ◌≡◌, ◌+◌, ◌<◌, ◌≤◌, ◌%◌, ◌^◌, List, length, Option, None, Some}
+use Rattle.std.specs.FinMap.{get}
+use Rattle.swd_port.specs.declared.mark.Mark.{Mark}
+use Rattle.swd_port.specs.Port.{Port}
+use Rattle.swd_host.specs.Reports.{IsAtRest}
+use Rattle.swd_image.specs.declared.fault.ImageFault.{ImageFault}
+use Rattle.swd_image.specs.declared.fault.ImageFault.TheVariants.{Range, Memory, Stopped, BusFault as FaultAt}
+use Rattle.swd_image.specs.declared.verifying.ByteDifference.{ByteDifference}
+use Rattle.swd_image.specs.Bytes.{bytes_at, bytes_of}
+use Rattle.swd_image.specs.Images.{DiffersAt}
+use Rattle.swd_image.specs.Lists.{dump_list}
+use Rattle.swd_image.specs.Sessions.{FailsAs, ReadsAs}
+
+module _ {W : Type 0} (port : W → Port) (plan : W → List Mark) (lawful : W → Type 0) (tries resumes : ℕ) where
+  -- So many bytes were read. Whatever came back, they are those of the words that its calls read. Where it was lawful,
+  -- and the target at rest, they are the memory's, and no word of it changed.
+  pub record Dumps (addr count : ℕ) (bytes : List ℕ) (s t : W) : Type 0 where
+    pub fits : addr + count ≤ 2 ^ 32
+    pub words : List ℕ
+    pub reads : ReadsAs port plan lawful tries resumes (dump_list addr count) words s t
+    pub are : bytes ≡ bytes_of words (addr % 4) count
+    pub memory : lawful t → IsAtRest (port s) → bytes ≡ bytes_at (port s).target.memory addr count
+    pub same : lawful t → IsAtRest (port s)
+        → (q : ℕ) → get (port t).target.memory.words q ≡ get (port s).target.memory.words q
+    pub rests : lawful t → IsAtRest (port s) → IsAtRest (port t)
+
+  -- why a dump failed: no call was made of a range that extends past the addresses
+  abbrev pub DumpFails : ℕ → ℕ → W → W → ImageFault → Type 0
+  DumpFails addr count s t Range = (2 ^ 32 < addr + count) × (t ≡ s)
+  DumpFails addr count s t Memory = addr + count ≤ 2 ^ 32
+  DumpFails addr count s t (Stopped end) =
+      (addr + count ≤ 2 ^ 32) × FailsAs port plan lawful tries resumes (dump_list addr count) s t (Stopped end)
+  DumpFails addr count s t (FaultAt at) =
+      (addr + count ≤ 2 ^ 32) × FailsAs port plan lawful tries resumes (dump_list addr count) s t (FaultAt at)
+
+-- these bytes are the image's, or this is the first that isn't
+abbrev pub Compares : ℕ → List ℕ → List ℕ → Option ByteDifference → Type 0
+Compares addr bytes found None = found ≡ bytes
+Compares addr bytes found (Some difference) =
+    DiffersAt addr bytes found difference.addr difference.found difference.expected
+
+-- An image was verified: the bytes of its range were read, and compared. So, where it was lawful and the target at
+-- rest, the memory's were.
+pub record Verifies {W : Type 0} (port : W → Port) (plan : W → List Mark) (lawful : W → Type 0) (tries resumes addr : ℕ)
+    (bytes : List ℕ) (difference : Option ByteDifference) (s t : W) : Type 0 where
+  pub found : List ℕ
+  pub dumps : Dumps port plan lawful tries resumes addr (length bytes) found s t
+  pub tells : Compares addr bytes found difference
+  pub memory : lawful t → IsAtRest (port s)
+      → Compares addr bytes (bytes_at (port s).target.memory addr (length bytes)) difference

@@ -1,0 +1,6 @@
+pub mod Bytes
+pub mod Images
+pub mod Lists
+pub mod Sessions
+pub mod Loads
+pub mod Dumps

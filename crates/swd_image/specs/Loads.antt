@@ -1,0 +1,47 @@
+-- What a load comes to over a wire.
+use Rattle.std.specs.Prelude.{ℕ, ◌≡◌, ◌+◌, ◌<◌, ◌≤◌, ◌^◌, ◌⊎◌, List, length}
+use Rattle.swd_port.specs.declared.mark.Mark.{Mark}
+use Rattle.swd_port.specs.Port.{Port}
+use Rattle.swd_host.specs.Reports.{IsAtRest}
+use Rattle.swd_image.specs.declared.fault.ImageFault.{ImageFault}
+use Rattle.swd_image.specs.declared.fault.ImageFault.TheVariants.{Range, Memory, Stopped, BusFault as FaultAt}
+use Rattle.swd_image.specs.Images.{IsLoaded}
+use Rattle.swd_image.specs.Lists.{edge_list, edge_words, load_list}
+use Rattle.swd_image.specs.Sessions.{FailsAs, MadeAll, ReadsAs}
+
+module _ {W : Type 0} (port : W → Port) (plan : W → List Mark) (lawful : W → Type 0) (tries resumes addr : ℕ)
+    (bytes : List ℕ) (s t : W) where
+  -- It was loaded. Whatever came back, these are its calls: the partial words were read, and then each word was
+  -- written, the partial ones as they were read with the image's bytes in them. Where it was lawful, and the target at
+  -- rest, the memory has the image, and nothing else of it changed.
+  pub record Loads : Type 0 where
+    pub fits : addr + length bytes ≤ 2 ^ 32
+    pub head : ℕ
+    pub tail : ℕ
+    pub reached : W
+    pub edges : ReadsAs port plan lawful tries resumes (edge_list addr (length bytes))
+        (edge_words addr (length bytes) head tail) s reached
+    pub writes : MadeAll port plan lawful tries resumes (load_list addr bytes head tail) reached t
+    pub memory : lawful t → IsAtRest (port s)
+        → IsLoaded addr bytes (port s).target.memory (port t).target.memory × IsAtRest (port t)
+
+  -- It failed among the writes.
+  pub record FailsLate (fault : ImageFault) : Type 0 where
+    pub head : ℕ
+    pub tail : ℕ
+    pub reached : W
+    pub edges : ReadsAs port plan lawful tries resumes (edge_list addr (length bytes))
+        (edge_words addr (length bytes) head tail) s reached
+    pub writes : FailsAs port plan lawful tries resumes (load_list addr bytes head tail) reached t fault
+
+  -- Why a load failed: no call was made of an image that extends past the addresses; else a call of its reads, or of
+  -- its writes.
+  abbrev pub LoadFails : ImageFault → Type 0
+  LoadFails Range = (2 ^ 32 < addr + length bytes) × (t ≡ s)
+  LoadFails Memory = addr + length bytes ≤ 2 ^ 32
+  LoadFails (Stopped end) = (addr + length bytes ≤ 2 ^ 32)
+      × (FailsAs port plan lawful tries resumes (edge_list addr (length bytes)) s t (Stopped end)
+      ⊎ FailsLate (Stopped end))
+  LoadFails (FaultAt at) = (addr + length bytes ≤ 2 ^ 32)
+      × (FailsAs port plan lawful tries resumes (edge_list addr (length bytes)) s t (FaultAt at)
+      ⊎ FailsLate (FaultAt at))

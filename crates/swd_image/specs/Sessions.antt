@@ -1,0 +1,97 @@
+-- What the calls of a load, a verification or a dump are, over any wire, whatever came back.
+use Rattle.std.specs.Prelude.{ℕ, ◌≡◌, ◌≢◌, Bool, true, false, List, [], ◌∷◌, ◌++◌, map, Option, Some, None}
+use Rattle.std.specs.Prelude.{if◌then◌else◌}
+use Rattle.swd_port.specs.declared.access.Access.{Access}
+use Rattle.swd_port.specs.declared.access.Access.TheVariants.{Read, Write}
+use Rattle.swd_port.specs.declared.access.Answer.{Answer}
+use Rattle.swd_port.specs.declared.access.Answer.TheVariants.{Value, Written, BusFault}
+use Rattle.swd_port.specs.declared.mark.Mark.{Mark}
+use Rattle.swd_port.specs.PlainMemory.{address}
+use Rattle.swd_port.specs.Port.{Port}
+use Rattle.swd_host.specs.declared.outcome.End.TheVariants.{All}
+use Rattle.swd_script.specs.Scripts.{Listed}
+use Rattle.swd_script.specs.Laws.{IsBatch}
+use Rattle.swd_run.specs.Sessions.{Done, GoesOn, most_begun}
+use Rattle.swd_image.specs.declared.fault.ImageFault.{ImageFault}
+use Rattle.swd_image.specs.declared.fault.ImageFault.TheVariants.{Range, Memory, Stopped, BusFault as FaultAt}
+
+-- ANSWERS
+-- the access took place: a read was answered by a word, a write as written
+abbrev pub is_done : Access → Answer → Bool
+is_done (Read at) (Value word) = true
+is_done (Read at) Written = false
+is_done (Read at) BusFault = false
+is_done (Write at word) Written = true
+is_done (Write at word) (Value other) = false
+is_done (Write at word) BusFault = false
+
+-- all of them did
+abbrev pub AreDone : List Access → List Answer → Type 0
+AreDone [] [] = Unit {0}
+AreDone [] (x ∷ answers) = ⊥
+AreDone (a ∷ list) [] = ⊥
+AreDone (a ∷ list) (x ∷ answers) = (is_done a x ≡ true) × AreDone list answers
+
+-- the address of the first one that didn't
+abbrev pub first_failed : List Access → List Answer → Option ℕ
+first_failed [] answers = None
+first_failed (a ∷ list) [] = None
+first_failed (a ∷ list) (x ∷ answers) = if is_done a x then first_failed list answers else Some (address a)
+
+-- the words that were read
+abbrev pub word_told : Answer → ℕ
+word_told (Value word) = word
+word_told Written = 0
+word_told BusFault = 0
+
+abbrev pub words_told : List Answer → List ℕ
+words_told answers = map word_told answers
+
+-- THE CALLS
+module _ {W : Type 0} (port : W → Port) (plan : W → List Mark) (lawful : W → Type 0) (tries resumes : ℕ) where
+  -- one call over a wire, from one state of it to another, with its report: a batch of at most 65,536 accesses, which
+  -- may have been resumed
+  pub record Call (batch : Listed) (s : W) (run : Done) (t : W) : Type 0 where
+    pub fits : IsBatch batch
+    pub goes : GoesOn port plan lawful (most_begun batch) tries resumes batch s run t
+
+  -- Calls one after the other, each of which ended `All` with each access done: their accesses, and their answers.
+  pub data Calls (s : W) : List Access → List Answer → W → Type 0 where
+    none : Calls s [] [] s
+    more : {list : List Access} {answers : List Answer} {t u : W} {batch : Listed} {run : Done}
+        → Calls s list answers t → Call batch t run u → run.told.ended ≡ All
+        → AreDone batch.accesses run.told.answers
+        → Calls s (list ++ batch.accesses) (answers ++ run.told.answers) u
+
+  -- the same, which read these words
+  pub record ReadsAs (list : List Access) (words : List ℕ) (s t : W) : Type 0 where
+    pub answers : List Answer
+    pub calls : Calls s list answers t
+    pub told : words ≡ words_told answers
+
+  -- the same, whatever they were answered
+  pub record MadeAll (list : List Access) (s t : W) : Type 0 where
+    pub answers : List Answer
+    pub calls : Calls s list answers t
+
+  -- The calls of which the last one ended otherwise: the accesses up to its end, and then those that this list has
+  -- more; how it ended.
+  pub record Fails (list : List Access) (s u : W) (P : Listed → Done → Type 0) : Type 0 where
+    pub before : List Access
+    pub answers : List Answer
+    pub reached : W
+    pub calls : Calls s before answers reached
+    pub batch : Listed
+    pub run : Done
+    pub last : Call batch reached run u
+    pub rest : List Access
+    pub split : list ≡ before ++ (batch.accesses ++ rest)
+    pub ended : P batch run
+
+  -- Why a load or a dump with these accesses failed, from one state of the wire to another.
+  abbrev pub FailsAs : List Access → W → W → ImageFault → Type 0
+  FailsAs list s u Range = ⊥
+  FailsAs list s u Memory = Unit {0}
+  FailsAs list s u (Stopped end) = Fails list s u (λ batch run. (run.told.ended ≡ end) × (end ≢ All))
+  FailsAs list s u (FaultAt at) =
+      Fails list s u (λ batch run. (run.told.ended ≡ All) × (first_failed batch.accesses run.told.answers ≡ Some at))

@@ -1,0 +1,89 @@
+//! Reads the words of a range.
+ghost use Rattle.std.specs.Prelude.{◌≡◌, ◌+◌, ◌*◌, ◌%◌, ◌≤◌, ◌^◌, ◌++◌, [], IfErr, IfOk, OnOk, Some};
+ghost use Rattle.swd_port.specs.PlainMemory.{reads};
+ghost use Rattle.swd_port.specs.declared.wire.Due.TheVariants.{Nothing};
+ghost use Rattle.swd_script.specs.Readers.{listed};
+ghost use Rattle.swd_image.specs.declared.fault.ImageFault.TheVariants.{Memory};
+ghost use Rattle.swd_image.specs.Sessions.{FailsAs, ReadsAs, word_told, words_told};
+
+use crate::calls::run_call;
+use crate::fault::ImageFault;
+use std::alloc::Allocator;
+use swd_port::{Answer, MOST_ACCESSES, Wire, push_reads};
+use swd_script::Batch;
+
+// The call that reads so many words as a block.
+fn block_at<A: Allocator + Copy>(alloc: A, at: u32, count: u32) -> Result<Batch<A>, ImageFault>
+    requires { at + 4 * count ≤ 2 ^ 32 }
+    ensures batch { IfOk result (λ batch. listed batch ≡ record {
+      accesses = reads at count;
+      block = Some at;
+      expected = [];
+    }) }
+    ensures fault { IfErr result (λ fault. fault ≡ Memory) }
+{
+    let Ok(mut accesses) = Vec::with_capacity(alloc, count as usize) else {
+        return Err(ImageFault::Memory);
+    };
+    let Ok(()) = push_reads(&mut accesses, at, count) else {
+        return Err(ImageFault::Memory);
+    };
+    Ok(Batch {
+        accesses,
+        block: Some(at),
+        expected: Vec::new(alloc),
+    })
+}
+
+// The word of an answer; 0 where it has none.
+fn word_told(answer: Answer) -> u32
+    ensures { result ≡ word_told answer }
+{
+    match answer {
+        Answer::Value(word) => word,
+        Answer::Written | Answer::BusFault => 0,
+    }
+}
+
+// Adds the words of these answers.
+fn push_words<A: Allocator>(words: &mut Vec<u32, A>, answers: &[Answer]) -> Result<(), ImageFault>
+    ensures pushed { OnOk result (words.new.items ≡ words.old.items ++ words_told answers.now) }
+    ensures fault { IfErr result (λ fault. fault ≡ Memory) }
+{
+    for answer in answers {
+        let Ok(()) = words.push(word_told(*answer)) else {
+            return Err(ImageFault::Memory);
+        };
+    }
+    Ok(())
+}
+
+/// Reads `count` words from `first` on by calls of blocks, each of at most 65,536 words.
+pub(crate) fn read_words<W: Wire, A: Allocator + Copy>(
+    alloc: A,
+    wire: &mut W,
+    first: u32,
+    count: u32,
+    tries: u32,
+    resumes: u32,
+) -> Result<Vec<u32, A>, ImageFault>
+    requires aligned { first % 4 ≡ 0 }
+    requires range { first + 4 * count ≤ 2 ^ 32 }
+    requires due { (W.port wire.old).link.due ≡ Nothing }
+    ensures read { IfOk result (λ words. ReadsAs W.port W.plan W.lawful tries resumes (reads first count) words.items
+        wire.old wire.new) }
+    ensures due { IfOk result (λ words. (W.port wire.new).link.due ≡ Nothing) }
+    ensures fault { IfErr result (FailsAs W.port W.plan W.lawful tries resumes (reads first count) wire.old wire.new) }
+    ensures plan { W.plan wire.new ≡ W.plan wire.old }
+{
+    let mut words = Vec::new(alloc);
+    let mut done = 0;
+    while done < count {
+        let many = (count - done).min(MOST_ACCESSES);
+        let batch = block_at(alloc, first + 4 * done, many)?;
+        let resumed = run_call(alloc, wire, &batch, tries, resumes)?;
+        push_words(&mut words, resumed.report.answers.as_slice())?;
+        done += many;
+    }
+    Ok(words)
+}

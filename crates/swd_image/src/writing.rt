@@ -1,0 +1,122 @@
+//! Writes the words of an image.
+ghost use Rattle.std.specs.Prelude.{◌≡◌, ◌+◌, ◌*◌, ◌%◌, ◌≤◌, ◌^◌, [], IfErr, IfOk, None, OnOk};
+ghost use Rattle.swd_port.specs.declared.wire.Due.TheVariants.{Nothing};
+ghost use Rattle.swd_script.specs.Readers.{listed};
+ghost use Rattle.swd_image.specs.declared.fault.ImageFault.TheVariants.{Memory};
+ghost use Rattle.swd_image.specs.Images.{image_byte};
+ghost use Rattle.swd_image.specs.Lists.{edge_word, loaded_word, writes};
+ghost use Rattle.swd_image.specs.Sessions.{FailsAs, MadeAll};
+
+use crate::calls::run_call;
+use crate::fault::ImageFault;
+use std::alloc::Allocator;
+use swd_port::{Access, MOST_ACCESSES, Wire};
+use swd_script::Batch;
+
+/// What the partial words of an image's range are: the first and the last.
+#[derive(Clone, Copy, Debug, PartialEq, Eq)]
+pub(crate) struct Edges {
+    pub(crate) head: u32,
+    pub(crate) tail: u32,
+}
+
+// The byte at an address once the image is loaded over this word.
+fn image_byte(addr: u32, bytes: &[u8], word: u32, at: u32) -> u8
+    ensures { result ≡ image_byte addr bytes.now word at }
+{
+    if addr <= at && ((at - addr) as usize) < bytes.len() {
+        bytes[(at - addr) as usize]
+    } else {
+        word.to_le_bytes()[(at % 4) as usize]
+    }
+}
+
+impl Edges {
+    // The one that a partial word at this address is.
+    fn word(self, addr: u32, at: u32) -> u32
+        ensures { result ≡ edge_word addr self.head self.tail at }
+    {
+        if addr < at { self.tail } else { self.head }
+    }
+}
+
+// The word at an address once the image is loaded over partial words that are these.
+fn loaded_word(addr: u32, bytes: &[u8], edges: Edges, at: u32) -> u32
+    requires { at % 4 ≡ 0 }
+    ensures { result ≡ loaded_word addr bytes.now edges.head edges.tail at }
+{
+    let word = edges.word(addr, at);
+    u32::from_le_bytes([
+        image_byte(addr, bytes, word, at),
+        image_byte(addr, bytes, word, at + 1),
+        image_byte(addr, bytes, word, at + 2),
+        image_byte(addr, bytes, word, at + 3),
+    ])
+}
+
+// The call that writes so many words of the image.
+fn writes_at<A: Allocator + Copy>(
+    alloc: A,
+    addr: u32,
+    bytes: &[u8],
+    edges: Edges,
+    at: u32,
+    count: u32,
+) -> Result<Batch<A>, ImageFault>
+    requires aligned { at % 4 ≡ 0 }
+    requires range { at + 4 * count ≤ 2 ^ 32 }
+    ensures batch { IfOk result (λ batch. listed batch ≡ record {
+      accesses = writes (loaded_word addr bytes.now edges.head edges.tail) at count;
+      block = None;
+      expected = [];
+    }) }
+    ensures fault { IfErr result (λ fault. fault ≡ Memory) }
+{
+    let Ok(mut accesses) = Vec::with_capacity(alloc, count as usize) else {
+        return Err(ImageFault::Memory);
+    };
+    for index in 0..count {
+        let here = at + 4 * index;
+        let word = loaded_word(addr, bytes, edges, here);
+        let Ok(()) = accesses.push(Access::Write(here, word)) else {
+            return Err(ImageFault::Memory);
+        };
+    }
+    Ok(Batch {
+        accesses,
+        block: None,
+        expected: Vec::new(alloc),
+    })
+}
+
+/// Writes `count` words of the image from `first` on by calls of at most 65,536 writes, each word once.
+pub(crate) fn write_words<W: Wire, A: Allocator + Copy>(
+    alloc: A,
+    wire: &mut W,
+    addr: u32,
+    bytes: &[u8],
+    edges: Edges,
+    first: u32,
+    count: u32,
+    tries: u32,
+    resumes: u32,
+) -> Result<(), ImageFault>
+    requires aligned { first % 4 ≡ 0 }
+    requires range { first + 4 * count ≤ 2 ^ 32 }
+    requires due { (W.port wire.old).link.due ≡ Nothing }
+    ensures made { OnOk result (MadeAll W.port W.plan W.lawful tries resumes
+        (writes (loaded_word addr bytes.now edges.head edges.tail) first count) wire.old wire.new) }
+    ensures due { OnOk result ((W.port wire.new).link.due ≡ Nothing) }
+    ensures fault { IfErr result (FailsAs W.port W.plan W.lawful tries resumes
+        (writes (loaded_word addr bytes.now edges.head edges.tail) first count) wire.old wire.new) }
+    ensures plan { W.plan wire.new ≡ W.plan wire.old }
+{
+    let mut done = 0;
+    while done < count {
+        let many = (count - done).min(MOST_ACCESSES);
+        let batch = writes_at(alloc, addr, bytes, edges, first + 4 * done, many)?;
+        let _ = run_call(alloc, wire, &batch, tries, resumes)?;
+        done += many;
+    }
+    Ok(())
+}

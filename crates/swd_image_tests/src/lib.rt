@@ -1,0 +1,6 @@
+//! The tests of loads, dumps and verifications, over a simulated target. They stand apart, so that no crate is proved a
+//! second time for its tests.
+#![tactic(auto)]
+
+#[cfg(test)]
+mod tests;
