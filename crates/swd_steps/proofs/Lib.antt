@@ -1,0 +1,7 @@
+mod Turning
+mod Lists
+mod Standing
+mod Keeping
+mod Running
+mod Reporting
+mod Stepping
