@@ -4,7 +4,7 @@ pub use Rattle.swd_host.proofs.Turning.{ask_goes, take_goes, give_goes, pass_goe
 pub use Rattle.swd_host.proofs.Working.{works_refl, works_then, moves_works, ask_works, ask_due_framed}
 pub use Rattle.swd_host.proofs.Going.{goes_refl, goes_then}
 pub use Rattle.swd_host.proofs.Lists.{are_next, is_access}
-pub use Rattle.swd_host.proofs.Starts.{ahead_burst, start_access, start_due}
+pub use Rattle.swd_host.proofs.Starts.{ahead_burst, start_access, start_due, start_left}
 pub use Rattle.swd_host.proofs.Ends.{stopped_state, opened_state, not_opened}
 pub use Rattle.swd_host.proofs.Alone.{opened_stays, access_performs, answered_stays, all_performs, stop_never}
 pub use Rattle.swd_host.proofs.Alone.{start_never, opening_closes, list_closes, closes_told}

@@ -4,4 +4,5 @@ mod Standing
 mod Keeping
 mod Running
 mod Reporting
+mod Ending
 mod Stepping

@@ -1,5 +1,5 @@
 -- The theorem of a run that is driven from outside.
-use Rattle.std.specs.Prelude.{ℕ, ◌≡◌, ◌<◌, ◌^◌, ◌++◌, List, length, drop}
+use Rattle.std.specs.Prelude.{ℕ, ◌≡◌, ◌+◌, ◌*◌, ◌<◌, ◌≤◌, ◌^◌, ◌++◌, Bool, List, length, drop}
 use Rattle.swd_port.specs.declared.access.Access.{Access}
 use Rattle.swd_port.specs.declared.access.Answer.{Answer}
 use Rattle.swd_port.specs.declared.call.Call.{Call}
@@ -36,6 +36,16 @@ abbrev pub ClosesAnyhow : Type 0
 ClosesAnyhow = (how : Beginning) (accesses : List Access) (calls : List Call) (run : Run) (answers : List Answer)
     (end : End) → how.tries < 2 ^ 32 → Ran how accesses calls run answers → run.stage ≡ Ended end
     → Closed how (drop how.from accesses) calls (told run answers end)
+
+-- whatever came back, a run ends: it makes no more calls than so many for the opening, so many for each access, and one
+abbrev pub most_calls : Bool → ℕ → ℕ → ℕ
+most_calls again tries count =
+    2 * (10 + 5 * tries + stray_left again) + 1 + count * (2 * (6 + 5 * tries) + 1) + 1
+
+abbrev pub Ends : Type 0
+Ends = (how : Beginning) (accesses : List Access) (calls : List Call) (run : Run) (answers : List Answer)
+    → Ran how accesses calls run answers
+    → length calls ≤ most_calls how.again how.tries (length (drop how.from accesses))
 
 -- Where the calls of the line, those of the run and those before them, fit a story of a port machine, the report of a
 -- new run is that of the theorem, from the port before it to the port after it.
