@@ -1,5 +1,6 @@
 -- How many calls are made for a run.
-use Rattle.std.proofs.Common.{arith, refl, sym, ap, subst, ◌∙◌, ◌≡◌, ◌+◌, ◌*◌, ◌<◌, ◌≤◌, ℕ, Bool, true, false, inl, inr}
+use Rattle.std.proofs.Common.{arith, refl, sym, ap, subst, ◌∙◌, ◌≡◌, ◌+◌, ◌*◌, ◌<◌, ◌≤◌, ℕ, Bool, true, false}
+use Rattle.std.proofs.Common.{inl, inr}
 use Rattle.std.proofs.Common.{List, [], ◌∷◌, ◌++◌, length, length-append}
 use Rattle.std.specs.Prelude.{◌⊎◌, Some, slice_get, drop}
 use Rattle.std.proofs.lemmas.Option.{slice_get_within}
@@ -23,7 +24,8 @@ use Rattle.swd_host.proofs.Folding.{not_opened, start_access, start_left}
 use Rattle.swd_steps.specs.declared.run.Stage.{Stage}
 use Rattle.swd_steps.specs.declared.run.Stage.TheVariants.{Driving, Between, Ended}
 use Rattle.swd_steps.specs.Laws.{Ends, most_calls}
-use Rattle.swd_steps.specs.Runs.{Beginning, Came, has_begun, has_turned, has_opened, has_answered, has_started, has_idled}
+use Rattle.swd_steps.specs.Runs.{Beginning, Came, has_begun, has_turned, has_opened, has_answered}
+use Rattle.swd_steps.specs.Runs.{has_started, has_idled}
 use Rattle.swd_steps.specs.Runs.{has_stopped}
 use Rattle.swd_steps.proofs.Keeping.{not_answered}
 use Rattle.swd_steps.proofs.Running.{few_answers}
@@ -36,7 +38,8 @@ moves_few x = grind arith
 quiet_moves : (x : State) → is_quiet x ≡ true → moves_first x ≡ 0
 quiet_moves x h = grind arith
 
-sends_moves : (x : State) (stray : Bool) (task : Task) (cue : Cue) → cue_at x stray task ≡ Some cue → is_ask cue ≡ false
+sends_moves : (x : State) (stray : Bool) (task : Task) (cue : Cue) → cue_at x stray task ≡ Some cue → is_ask cue ≡
+    false
     → moves_first x ≡ 1
 sends_moves x stray task cue h other = grind arith
 
@@ -80,14 +83,14 @@ abbrev for_access : Beginning → ℕ
 for_access how = 2 * (6 + 5 * how.tries) + 1
 
 -- the calls so far, and those that are left of the opening or the access
-abbrev Made : Beginning → List Access → List Call → Engine → Stage → List Answer → Type 0
-Made how list calls e Driving answers = (e.tries ≡ how.tries)
+abbrev Spends : Beginning → List Access → List Call → Engine → Stage → List Answer → Type 0
+Spends how list calls e Driving answers = (e.tries ≡ how.tries)
     × (((is_state_of true e.state ≡ true) × (length calls + calls_left e ≤ for_opening how))
     ⊎ ((is_state_of false e.state ≡ true) × (length answers < length list)
     × (length calls + calls_left e ≤ for_opening how + (length answers + 1) * for_access how)))
-Made how list calls e Between answers = (e.tries ≡ how.tries) × (length answers ≤ length list)
+Spends how list calls e Between answers = (e.tries ≡ how.tries) × (length answers ≤ length list)
     × (length calls ≤ for_opening how + length answers * for_access how)
-Made how list calls e (Ended end) answers = length calls ≤ for_opening how + length list * for_access how + 1
+Spends how list calls e (Ended end) answers = length calls ≤ for_opening how + length list * for_access how + 1
 
 new_calls : (kind : Bursts) (again : Bool) (tries : ℕ) (e : Engine) → IsNew kind again tries e
     → calls_left e ≤ 2 * (10 + 5 * tries + stray_left again) + 1
@@ -105,7 +108,7 @@ products a b c h = grind arith
 
 module _ (how : Beginning) (list : List Access) where
   turned_made : (calls : List Call) (answers : List Answer) (call : Call) (e f : Engine) → Turned call e f
-      → Made how list calls e Driving answers → Made how list (call ∷ calls) f Driving answers
+      → Spends how list calls e Driving answers → Spends how list (call ∷ calls) f Driving answers
   turned_made calls answers call e f turned (same, inl h) = (
     (turned_works call e f turned).tries ∙ same,
     inl ((turned_works call e f turned).part true h.0, omega (arith, h.1, turned_falls call e f turned)),
@@ -116,14 +119,16 @@ module _ (how : Beginning) (list : List Access) where
   )
 
   opened_made : (calls : List Call) (answers : List Answer) (e : Engine) → finished_of e ≡ Some Opened
-      → length answers ≤ length list → Made how list calls e Driving answers → Made how list calls e Between answers
+      → length answers ≤ length list → Spends how list calls e Driving answers → Spends how list calls e Between
+      answers
   opened_made calls answers e finished few (same, inl h) = (same, few, omega (arith, h.1))
   opened_made calls answers e finished few (same, inr h) = absurd (not_opened e.state e.task h.0 finished)
 
   answered_made : (calls : List Call) (answers : List Answer) (e : Engine) (answer : Answer)
-      → finished_of e ≡ Some (Answered answer) → Made how list calls e Driving answers
-      → Made how list calls e Between (answers ++ answer ∷ [])
-  answered_made calls answers e answer finished (same, inl h) = absurd (not_answered e.state e.task answer h.0 finished)
+      → finished_of e ≡ Some (Answered answer) → Spends how list calls e Driving answers
+      → Spends how list calls e Between (answers ++ answer ∷ [])
+  answered_made calls answers e answer finished (same, inl h) = absurd (not_answered e.state e.task answer h.0
+      finished)
   answered_made calls answers e answer finished (same, inr h) =
       let long : length answers + 1 ≡ length (answers ++ answer ∷ []) = sym (length-append answers (answer ∷ [])) in (
         same,
@@ -133,7 +138,7 @@ module _ (how : Beginning) (list : List Access) where
 
   started_made : (calls : List Call) (answers : List Answer) (a : Access) (e f : Engine)
       → slice_get list (length answers) ≡ Some a → Starts a (slice_get list (length answers + 1)) e f
-      → Made how list calls e Between answers → Made how list calls f Driving answers
+      → Spends how list calls e Between answers → Spends how list calls f Driving answers
   started_made calls answers a e f at starts (same, few, h) = (
     starts.tries ∙ same,
     inr (
@@ -154,24 +159,24 @@ module _ (how : Beginning) (list : List Access) where
   )
 
   idled_made : (calls : List Call) (answers : List Answer) (e : Engine) (call : Call) → length answers ≡ length list
-      → Made how list calls e Between answers
+      → Spends how list calls e Between answers
       → length (call ∷ calls) ≤ for_opening how + length list * for_access how + 1
   idled_made calls answers e call all (same, few, h) =
       subst (λ k. length (call ∷ calls) ≤ for_opening how + k * for_access how + 1) all (omega (arith, h))
 
-  stopped_made : (calls : List Call) (answers : List Answer) (e : Engine) → Made how list calls e Driving answers
+  stopped_made : (calls : List Call) (answers : List Answer) (e : Engine) → Spends how list calls e Driving answers
       → length calls ≤ for_opening how + length list * for_access how + 1
   stopped_made calls answers e (same, inl h) = omega (arith, h.1)
   stopped_made calls answers e (same, inr h) =
       omega (arith, h.2, products (length answers + 1) (length list) (for_access how) (omega (arith, h.1)))
 
-  rested_made : (calls : List Call) (answers : List Answer) (e : Engine) → Made how list calls e Between answers
+  rested_made : (calls : List Call) (answers : List Answer) (e : Engine) → Spends how list calls e Between answers
       → length calls ≤ for_opening how + length list * for_access how + 1
   rested_made calls answers e (same, few, h) =
       omega (arith, h, products (length answers) (length list) (for_access how) few)
 
   made : {calls : List Call} {e : Engine} {stage : Stage} {answers : List Answer} → Came how list calls e stage answers
-      → Made how list calls e stage answers
+      → Spends how list calls e stage answers
   made (has_begun e new) =
       (new.tries, inl (ap (is_state_of true) new.leads, omega (arith, new_calls how.kind how.again how.tries e new)))
   made (has_turned call e f came turned phase) = turned_made _ _ call e f turned (made came)
@@ -181,7 +186,8 @@ module _ (how : Beginning) (list : List Access) where
   made (has_idled e came all) = idled_made _ _ e eight_idle all (made came)
   made (has_stopped e end came finished) = stopped_made _ _ e (made came)
 
-  any_made : (calls : List Call) (answers : List Answer) (e : Engine) (stage : Stage) → Made how list calls e stage answers
+  any_made : (calls : List Call) (answers : List Answer) (e : Engine) (stage : Stage) → Spends how list calls e stage
+      answers
       → length calls ≤ most_calls how.again how.tries (length list)
   any_made calls answers e Driving h = stopped_made calls answers e h
   any_made calls answers e Between h = rested_made calls answers e h

@@ -74,7 +74,8 @@ module _ (story : ℕ → Port) (past : List Call) (how : Beginning) (list : Lis
     goes = λ fits. (fits, goes_refl e (port []));
   }
 
-  pub opening_turns : (calls : List Call) (call : Call) (e f : Engine) → Opening story past how calls e → Turned call e f
+  pub opening_turns : (calls : List Call) (call : Call) (e f : Engine) → Opening story past how calls e → Turned call
+      e f
       → IsPhaseCue call.cue → Opening story past how (call ∷ calls) f
   opening_turns calls call e f h turned phase =
       let on = turned_moves call e f turned in record {
@@ -94,7 +95,8 @@ module _ (story : ℕ → Port) (past : List Call) (how : Beginning) (list : Lis
   opening_part : (calls : List Call) (e : Engine) → Opening story past how calls e → is_state_of true e.state ≡ true
   opening_part calls e h = h.works.part true (ap (is_state_of true) h.new.leads)
 
-  opened : (calls : List Call) (e : Engine) (h : Opening story past how calls e) → e.state ≡ Resting Opened → HasOpened e
+  opened : (calls : List Call) (e : Engine) (h : Opening story past how calls e) → e.state ≡ Resting Opened →
+      HasOpened e
   opened calls e h at = has_opened how.kind how.again how.tries h.first e small h.new h.works at
 
   pub opening_rests : (calls : List Call) (e : Engine) → Opening story past how calls e → finished_of e ≡ Some Opened
@@ -144,7 +146,8 @@ module _ (story : ℕ → Port) (past : List Call) (how : Beginning) (list : Lis
         works = works_refl f;
         turns = refl;
         due = start_due (get_or list (length answers) (Read 0)) (slice_get list (length answers + 1)) e f (port calls)
-            started h.stays.rests (goes_on (length answers) list h.o e answers (port calls) (Read 0) h.stays) h.stays.due;
+            started h.stays.rests (goes_on (length answers) list h.o e answers (port calls) (Read 0) h.stays)
+            h.stays.due;
         goes = λ fits. (fits, goes_refl f (port calls));
       }
 
@@ -174,72 +177,82 @@ module _ (story : ℕ → Port) (past : List Call) (how : Beginning) (list : Lis
             ));
       }
 
-  pub hand_opened : (calls : List Call) (answers : List Answer) (e : Engine) → InHand story past how list calls e answers
+  pub hand_opened : (calls : List Call) (answers : List Answer) (e : Engine) → InHand story past how list calls e
+      answers
       → finished_of e ≡ Some Opened → ⊥
   hand_opened calls answers e h finished =
       not_opened e.state e.task (h.works.part false (start_access _ h.following h.e h.g h.starts)) finished
 
-  module _ (calls : List Call) (answers : List Answer) (f : Engine) (h : InHand story past how list calls f answers) where
-    abbrev r : Rested story past how list h.before h.e answers
-    r = h.rested
+  module _ (calls : List Call) (answers : List Answer) (f : Engine) (h : InHand story past how list calls f answers)
+    where
+      abbrev r : Rested story past how list h.before h.e answers
+      r = h.rested
 
-    joined : calls ≡ (h.recent ++ r.late) ++ r.early
-    joined = h.parts ∙ (ap (λ l. h.recent ++ l) r.parts ∙ sym (append_assoc h.recent r.late r.early))
+      joined : calls ≡ (h.recent ++ r.late) ++ r.early
+      joined = h.parts ∙ (ap (λ l. h.recent ++ l) r.parts ∙ sym (append_assoc h.recent r.late r.early))
 
-    has : HasOpened r.o
-    has = opened r.early r.o r.opening r.at
+      has : HasOpened r.o
+      has = opened r.early r.o r.opening r.at
 
-    pub hand_answered : (answer : Answer) → finished_of f ≡ Some (Answered answer)
-        → Rested story past how list calls f (answers ++ answer ∷ [])
-    hand_answered answer finished =
-        let long : length answers + 1 ≡ length (answers ++ answer ∷ []) = sym (length-append answers (answer ∷ [])) in
-        record {
-          o = r.o;
-          early = r.early;
-          late = h.recent ++ r.late;
-          parts = joined;
-          opening = r.opening;
-          at = r.at;
-          stays = subst (λ n. Stays n list r.o f (answers ++ answer ∷ []) (port calls)) long
-              (answered_stays (length answers) list r.o h.e h.g f answers (port h.before) (port calls) (Read 0) h.following
-              r.stays h.starts h.works answer (answers ++ answer ∷ []) refl h.due h.next finished);
-          stands = λ fits. (
-              let soon = h.goes fits in
-              let first = r.stands soon.0 in (
-                first.0,
-                subst (λ n. Stands n list r.o (port r.early) f (answers ++ answer ∷ []) (port calls)) long
-                    (answered_stands (length answers) list r.o h.e h.g f answers (port r.early) (port h.before) (port calls)
-                    (Read 0) h.following has (omega (arith, h.low, few)) h.low first.1 h.starts soon.1 h.due answer
-                    (answers ++ answer ∷ []) refl h.next finished),
-              ));
-          keeps = answered_follows (length answers) list r.o h.e f answers (port h.before) (Read 0) h.following r.stays h.low
-              h.next answer finished r.late h.recent r.keeps (h.g, h.starts, h.turns);
-        }
+      pub hand_answered : (answer : Answer) → finished_of f ≡ Some (Answered answer)
+          → Rested story past how list calls f (answers ++ answer ∷ [])
+      hand_answered answer finished =
+          let long : length answers + 1 ≡ length (answers ++ answer ∷ []) = sym (length-append answers (answer ∷ [])) in
+          record {
+            o = r.o;
+            early = r.early;
+            late = h.recent ++ r.late;
+            parts = joined;
+            opening = r.opening;
+            at = r.at;
+            stays = subst (λ n. Stays n list r.o f (answers ++ answer ∷ []) (port calls)) long
+                (answered_stays (length answers) list r.o h.e h.g f answers (port h.before) (port calls) (Read 0)
+                h.following
+                r.stays h.starts h.works answer (answers ++ answer ∷ []) refl h.due h.next finished);
+            stands = λ fits. (
+                let soon = h.goes fits in
+                let first = r.stands soon.0 in (
+                  first.0,
+                  subst (λ n. Stands n list r.o (port r.early) f (answers ++ answer ∷ []) (port calls)) long
+                      (answered_stands (length answers) list r.o h.e h.g f answers (port r.early) (port h.before) (port
+                      calls)
+                      (Read 0) h.following has (omega (arith, h.low, few)) h.low first.1 h.starts soon.1 h.due answer
+                      (answers ++ answer ∷ []) refl h.next finished),
+                ));
+            keeps = answered_follows (length answers) list r.o h.e f answers (port h.before) (Read 0) h.following
+                r.stays h.low
+                h.next answer finished r.late h.recent r.keeps (h.g, h.starts, h.turns);
+          }
 
-    pub hand_stops : (end : End) → finished_of f ≡ Some (Stopped end) → Finished story past how list calls f answers end
-    hand_stops end finished =
-        let at = stopped_state f.state f.task end finished in
-        let never = stop_never h.g f end h.works (start_never _ h.following h.e h.g h.starts) at in
-        performed r.o r.early (h.recent ++ r.late) joined r.opening r.at
-        (access_performs (length answers) list r.o h.e h.g f answers (port h.before) (port calls) (Read 0) h.following r.stays
-        h.starts h.works end h.low h.due at never [] answers refl)
-        (λ fits.
-        let soon = h.goes fits in
-        let first = r.stands soon.0 in (
-          first.0,
-          access_does (length answers) list r.o h.e h.g f answers (port r.early) (port h.before) (port calls) (Read 0)
-              h.following has (omega (arith, h.low, few)) h.low first.1 h.starts soon.1 h.due [] answers end refl
-              h.next finished,
-        ))
-        (stopped_tells (length answers) list r.o h.e f answers (port h.before) (Read 0) h.following r.stays h.low h.next
-        end at never [] answers refl r.late h.recent r.keeps (h.g, h.starts, h.turns))
+      pub hand_stops : (end : End) → finished_of f ≡ Some (Stopped end) → Finished story past how list calls f answers
+          end
+      hand_stops end finished =
+          let at = stopped_state f.state f.task end finished in
+          let never = stop_never h.g f end h.works (start_never _ h.following h.e h.g h.starts) at in
+          performed r.o r.early (h.recent ++ r.late) joined r.opening r.at
+          (access_performs (length answers) list r.o h.e h.g f answers (port h.before) (port calls) (Read 0) h.following
+          r.stays
+          h.starts h.works end h.low h.due at never [] answers refl)
+          (λ fits.
+          let soon = h.goes fits in
+          let first = r.stands soon.0 in (
+            first.0,
+            access_does (length answers) list r.o h.e h.g f answers (port r.early) (port h.before) (port calls) (Read 0)
+                h.following has (omega (arith, h.low, few)) h.low first.1 h.starts soon.1 h.due [] answers end refl
+                h.next finished,
+          ))
+          (stopped_tells (length answers) list r.o h.e f answers (port h.before) (Read 0) h.following r.stays h.low
+          h.next
+          end at never [] answers refl r.late h.recent r.keeps (h.g, h.starts, h.turns))
 
   -- ALL ARE ANSWERED
-  pub rested_idles : (calls : List Call) (answers : List Answer) (e : Engine) → Rested story past how list calls e answers
+  pub rested_idles : (calls : List Call) (answers : List Answer) (e : Engine) → Rested story past how list calls e
+      answers
       → length answers ≡ length list → Finished story past how list (eight_idle ∷ calls) e answers All
   rested_idles calls answers e r all =
       performed r.o r.early (eight_idle ∷ r.late) (ap (λ l. eight_idle ∷ l) r.parts) r.opening r.at
-      (all_performs (length answers) list r.o e answers (port calls) (port (eight_idle ∷ calls)).link.due r.stays all refl
+      (all_performs (length answers) list r.o e answers (port calls) (port (eight_idle ∷ calls)).link.due r.stays all
+      refl
       [] answers refl)
       (λ fits.
       let first = r.stands fits.0 in (

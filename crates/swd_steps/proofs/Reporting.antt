@@ -33,7 +33,8 @@ use Rattle.swd_steps.proofs.Standing.{Finished, never_opened, performed}
 
 -- A RUN THAT ENDED
 -- calls were made for it
-ended_calls : (from : ℕ) (accesses : List Access) (how : Beginning) (list : List Access) (calls : List Call) (e : Engine)
+ended_calls : (from : ℕ) (accesses : List Access) (how : Beginning) (list : List Access) (calls : List Call) (e :
+    Engine)
     (answers : List Answer) (end : End) → Came how list calls e (Ended end) answers → Accepted from accesses calls
     → (length accesses ≤ 65536) × AreAccesses accesses × (from ≤ length accesses)
 ended_calls from accesses how list [] e answers end came h = absurd (let first = (begins came).0 in cc)
@@ -72,11 +73,13 @@ closed_by : (how : Beginning) (list : List Access) (calls : List Call) (e : Engi
     → Closed how list calls (told_by answers e end)
 closed_by how list calls e answers end small few (never_opened h at none) =
     let due : due_by (calls ++ []) ≡ due_by calls = ap due_by (append-nil calls) in
-    let closes : Closes (stray_left how.again) (most_of how.kind) list how.tries (told_by answers e end) (due_by calls) =
+    let closes : Closes (stray_left how.again) (most_of how.kind) list how.tries (told_by answers e end) (due_by
+    calls) =
     subst (λ d. Closes (stray_left how.again) (most_of how.kind) list how.tries (told_by answers e end) d) due
     (closes_told (stray_left how.again) (most_of how.kind) list how.tries (told_by [] e end) (told_by answers e end)
     (due_by (calls ++ [])) (ap (λ l. told_by l e end) none)
-    (opening_closes how.kind how.again how.tries h.first e small h.new h.works list end (due_by (calls ++ [])) at h.due)) in
+    (opening_closes how.kind how.again how.tries h.first e small h.new h.works list end (due_by (calls ++ [])) at
+    h.due)) in
     record {
       closes = closes;
       sent = tells_told list [] e end (told_by answers e end) calls (ap (λ l. told_by l e end) none)
@@ -86,11 +89,13 @@ closed_by how list calls e answers end small few (never_opened h at none) =
     }
 closed_by how list calls e answers end small few (performed o early late parts h at performs does tells) =
     let due : due_by (calls ++ []) ≡ due_by calls = ap due_by (append-nil calls) in
-    let closes : Closes (stray_left how.again) (most_of how.kind) list how.tries (told_by answers e end) (due_by calls) =
+    let closes : Closes (stray_left how.again) (most_of how.kind) list how.tries (told_by answers e end) (due_by
+    calls) =
     subst (λ d. Closes (stray_left how.again) (most_of how.kind) list how.tries (told_by answers e end) d) due
     (closes_told (stray_left how.again) (most_of how.kind) list how.tries (told_by performs.answers e end)
     (told_by answers e end) (due_by (calls ++ [])) (ap (λ l. told_by l e end) performs.added)
-    (list_closes how.kind how.again how.tries h.first o small h.new h.works list e end (due_by (calls ++ [])) [] answers
+    (list_closes how.kind how.again how.tries h.first o small h.new h.works list e end (due_by (calls ++ [])) []
+    answers
     performs)) in
     record {
       closes = closes;
@@ -118,7 +123,8 @@ runs_by : (how : Beginning) (list : List Access) (calls : List Call) (e : Engine
 runs_by how list calls e answers end story past small new ok (never_opened h at none) fits rest =
     opening_stops how.kind list how.tries h.first e answers (port_at story past) (port_at story (calls ++ past)) small
     (subst (λ b. IsNew how.kind b how.tries h.first) new h.new) (h.goes fits).1 h.due none rest end at
-runs_by how list calls e answers end story past small new ok (performed o early late parts h at performs does tells) fits
+runs_by how list calls e answers end story past small new ok (performed o early late parts h at performs does tells)
+    fits
     rest =
     let done = does fits in
     let opened = h.goes done.0 in
@@ -148,12 +154,15 @@ does_after list o f before answers end s t h = record {
 resumes_by : (tries : ℕ) (accesses : List Access) (calls : List Call) (e : Engine) (answers : List Answer) (end : End)
     (earlier : Told) (story : ℕ → Port) (past : List Call) → tries < 2 ^ 32 → AreAccesses accesses
     → length earlier.answers ≤ length accesses
-    → Finished story past (after (length earlier.answers) tries) (drop (length earlier.answers) accesses) calls e answers
+    → Finished story past (after (length earlier.answers) tries) (drop (length earlier.answers) accesses) calls e
+    answers
     end
     → FitsStory story (calls ++ past) → IsKnown (port_at story past).target
-    → ResumeFits accesses tries earlier (since (told_by (earlier.answers ++ answers) e end) earlier) (port_at story past)
+    → ResumeFits accesses tries earlier (since (told_by (earlier.answers ++ answers) e end) earlier) (port_at story
+    past)
     (port_at story (calls ++ past))
-resumes_by tries accesses calls e answers end earlier story past small ok reported (never_opened h at none) fits known =
+resumes_by tries accesses calls e answers end earlier story past small ok reported (never_opened h at none) fits known
+    =
     resume_stops accesses tries earlier h.first e (earlier.answers ++ answers) (port_at story past)
     (port_at story (calls ++ past)) small h.new ok reported known (h.goes fits).1 h.due
     (ap (λ l. earlier.answers ++ l) none ∙ append-nil earlier.answers) end at
@@ -161,9 +170,12 @@ resumes_by tries accesses calls e answers end earlier story past small ok report
     (performed o early late parts h at performs does tells) fits known =
     let done = does fits in
     let opened = h.goes done.0 in
-    resume_performs accesses tries earlier h.first o earlier.answers (port_at story past) (port_at story (early ++ past))
-    small h.new ok reported known opened.1 h.due refl end e (earlier.answers ++ answers) (port_at story (calls ++ past)) at
-    (does_after (drop (length earlier.answers) accesses) o e earlier.answers answers end (port_at story (early ++ past))
+    resume_performs accesses tries earlier h.first o earlier.answers (port_at story past) (port_at story (early ++
+    past))
+    small h.new ok reported known opened.1 h.due refl end e (earlier.answers ++ answers) (port_at story (calls ++
+    past)) at
+    (does_after (drop (length earlier.answers) accesses) o e earlier.answers answers end (port_at story (early ++
+    past))
     (port_at story (calls ++ past)) done.1)
 
 pub resumes_as_told : ResumesAsTold

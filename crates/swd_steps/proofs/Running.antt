@@ -22,7 +22,8 @@ use Rattle.swd_host.specs.Progress.{is_state_of}
 use Rattle.swd_host.proofs.Folding.{not_opened, start_access}
 use Rattle.swd_steps.specs.declared.run.Stage.{Stage}
 use Rattle.swd_steps.specs.declared.run.Stage.TheVariants.{Driving, Between, Ended}
-use Rattle.swd_steps.specs.Runs.{Beginning, Came, has_begun, has_turned, has_opened, has_answered, has_started, has_idled}
+use Rattle.swd_steps.specs.Runs.{Beginning, Came, has_begun, has_turned, has_opened, has_answered}
+use Rattle.swd_steps.specs.Runs.{has_started, has_idled}
 use Rattle.swd_steps.specs.Runs.{has_stopped}
 use Rattle.swd_steps.proofs.Standing.{Rested, Finished, Holds}
 use Rattle.swd_steps.proofs.Keeping.{begins_holds, opening_turns, opening_rests, opening_answered, opening_stops}
@@ -58,7 +59,8 @@ module _ (story : ℕ → Port) (past : List Call) (how : Beginning) (list : Lis
   stopped_holds : (calls : List Call) (answers : List Answer) (e : Engine) (end : End)
       → finished_of e ≡ Some (Stopped end) → Holds story past how list calls e Driving answers
       → Finished story past how list calls e answers end
-  stopped_holds calls answers e end finished (inl h) = subst (λ l. Finished story past how list calls e l end) (sym h.1)
+  stopped_holds calls answers e end finished (inl h) = subst (λ l. Finished story past how list calls e l end) (sym
+      h.1)
       (opening_stops story past how list small clear few calls e end h.0 finished)
   stopped_holds calls answers e end finished (inr h) =
       hand_stops story past how list small clear few calls answers e h end finished
@@ -75,34 +77,35 @@ module _ (story : ℕ → Port) (past : List Call) (how : Beginning) (list : Lis
   holds (has_stopped e end came finished) = stopped_holds _ _ e end finished (holds came)
 
 -- HOW MANY ARE ANSWERED
-abbrev Counts : List Access → Stage → Engine → List Answer → Type 0
-Counts list Driving e answers = ((is_state_of true e.state ≡ true) × (length answers ≡ 0))
+abbrev FewAnswers : List Access → Stage → Engine → List Answer → Type 0
+FewAnswers list Driving e answers = ((is_state_of true e.state ≡ true) × (length answers ≡ 0))
     ⊎ ((is_state_of false e.state ≡ true) × (length answers < length list))
-Counts list stage e answers = length answers ≤ length list
+FewAnswers list stage e answers = length answers ≤ length list
 
 opened_counts : (list : List Access) (e : Engine) (answers : List Answer) → finished_of e ≡ Some Opened
-    → Counts list Driving e answers → length answers ≤ length list
+    → FewAnswers list Driving e answers → length answers ≤ length list
 opened_counts list e answers finished (inl h) = omega (arith, h.1)
 opened_counts list e answers finished (inr h) = absurd (not_opened e.state e.task h.0 finished)
 
 answered_counts : (list : List Access) (e : Engine) (answers : List Answer) (answer : Answer)
-    → finished_of e ≡ Some (Answered answer) → Counts list Driving e answers
+    → finished_of e ≡ Some (Answered answer) → FewAnswers list Driving e answers
     → length (answers ++ answer ∷ []) ≤ length list
 answered_counts list e answers answer finished (inl h) = absurd (not_answered e.state e.task answer h.0 finished)
 answered_counts list e answers answer finished (inr h) = omega (arith, h.1, length-append answers (answer ∷ []))
 
 turned_counts : (list : List Access) (e f : Engine) (answers : List Answer) (call : Call) → Turned call e f
-    → Counts list Driving e answers → Counts list Driving f answers
+    → FewAnswers list Driving e answers → FewAnswers list Driving f answers
 turned_counts list e f answers call turned (inl h) = inl ((turned_works call e f turned).part true h.0, h.1)
 turned_counts list e f answers call turned (inr h) = inr ((turned_works call e f turned).part false h.0, h.1)
 
-stopped_counts : (list : List Access) (e : Engine) (answers : List Answer) → Counts list Driving e answers
+stopped_counts : (list : List Access) (e : Engine) (answers : List Answer) → FewAnswers list Driving e answers
     → length answers ≤ length list
 stopped_counts list e answers (inl h) = omega (arith, h.1)
 stopped_counts list e answers (inr h) = omega (arith, h.1)
 
-counts : {how : Beginning} {list : List Access} {calls : List Call} {e : Engine} {stage : Stage} {answers : List Answer}
-    → Came how list calls e stage answers → Counts list stage e answers
+counts : {how : Beginning} {list : List Access} {calls : List Call} {e : Engine} {stage : Stage} {answers : List
+    Answer}
+    → Came how list calls e stage answers → FewAnswers list stage e answers
 counts {how} {list} (has_begun e new) = inl (ap (is_state_of true) new.leads, refl)
 counts {how} {list} (has_turned call e f came turned phase) = turned_counts list e f _ call turned (counts came)
 counts {how} {list} (has_opened e came finished) = opened_counts list e _ finished (counts came)
@@ -112,7 +115,7 @@ counts {how} {list} (has_started a e f came at starts) =
 counts {how} {list} (has_idled e came all) = counts came
 counts {how} {list} (has_stopped e end came finished) = stopped_counts list e _ (counts came)
 
-by_stage : (list : List Access) (stage : Stage) (e : Engine) (answers : List Answer) → Counts list stage e answers
+by_stage : (list : List Access) (stage : Stage) (e : Engine) (answers : List Answer) → FewAnswers list stage e answers
     → length answers ≤ length list
 by_stage list Driving e answers h = stopped_counts list e answers h
 by_stage list Between e answers h = h

@@ -1,4 +1,5 @@
--- What is known of a run after some calls, over any story of the line: in its opening, between two accesses, within one,
+-- What is known of a run after some calls, over any story of the line: in its opening, between two accesses, within
+-- one,
 -- and at its end. `swd_host`'s loops keep the same from one turn to the next.
 use Rattle.std.proofs.Common.{◌≡◌, ◌<◌, ℕ, List, [], ◌++◌, length, get_or}
 use Rattle.std.specs.Prelude.{◌⊎◌, Option, Some}
@@ -24,14 +25,15 @@ use Rattle.swd_steps.specs.declared.run.Stage.TheVariants.{Driving, Between, End
 use Rattle.swd_steps.specs.Runs.{Beginning}
 
 -- in the opening
-pub record Opening (story : ℕ → Port) (past : List Call) (how : Beginning) (calls : List Call) (e : Engine) : Type 0 where
-  pub first : Engine
-  pub new : IsNew how.kind how.again how.tries first
-  pub works : Works first e
-  pub turns : Turns first calls e
-  pub due : DueFits e (port_at story (calls ++ past))
-  pub goes : FitsStory story (calls ++ past) → FitsStory story past
-      × Goes first (port_at story past) e (port_at story (calls ++ past))
+pub record Opening (story : ℕ → Port) (past : List Call) (how : Beginning) (calls : List Call) (e : Engine) : Type 0
+  where
+    pub first : Engine
+    pub new : IsNew how.kind how.again how.tries first
+    pub works : Works first e
+    pub turns : Turns first calls e
+    pub due : DueFits e (port_at story (calls ++ past))
+    pub goes : FitsStory story (calls ++ past) → FitsStory story past
+        × Goes first (port_at story past) e (port_at story (calls ++ past))
 
 -- between two accesses
 pub record Rested (story : ℕ → Port) (past : List Call) (how : Beginning) (list : List Access) (calls : List Call)

@@ -24,7 +24,7 @@ use Rattle.swd_host.specs.Turns.{IsNew, Starts, first_state}
 use Rattle.swd_steps.specs.declared.run.Run.{Run}
 use Rattle.swd_steps.specs.declared.run.Stage.{Stage}
 use Rattle.swd_steps.specs.declared.run.Stage.TheVariants.{Driving, Between, Ended}
-use Rattle.swd_steps.specs.Runs.{Beginning, Came, Follows, GoesOn, HasCome, IsFit, Ran, Turns, call_of, cue_at}
+use Rattle.swd_steps.specs.Runs.{Beginning, Came, Leaves, Extends, HasCome, IsFit, Ran, MakesCall, call_of, cue_at}
 use Rattle.swd_steps.specs.Runs.{has_answered, has_begun, has_idled, has_opened, has_started, has_stopped, has_turned}
 use Rattle.swd_steps.specs.Runs.{is_lead, listed, run_cue, seen_of}
 use Rattle.swd_steps.proofs.Lists.{get_dropped, none_past, rest_dropped}
@@ -111,7 +111,8 @@ module _ (accesses : List Access) (before after : Run)
   pub begun_drives : before.engine.ahead ≡ Unsent → is_ahead before.engine ≡ false → after.stage ≡ Driving
       → is_resting after.engine ≡ false
   begun_drives unsent calm driving = by_option (slice_get accesses before.answered) (is_resting after.engine ≡ false)
-      (λ a at. start_drives a (slice_get accesses (before.answered + 1)) before.engine after.engine (starts a at) unsent
+      (λ a at. start_drives a (slice_get accesses (before.answered + 1)) before.engine after.engine (starts a at)
+      unsent
       calm)
       (λ at. absurd (let both : Driving ≡ Between = sym driving ∙ (none at).1 in cc))
 
@@ -123,7 +124,7 @@ driven how accesses calls run answers at h =
 
 pub stopped_follows : (accesses : List Access) (run : Run) (end : End) → run.stage ≡ Driving
     → finished_of run.engine ≡ Some (Stopped end)
-    → Follows accesses run [] (record { engine = run.engine; stage = Ended end; answered = run.answered })
+    → Leaves accesses run [] (record { engine = run.engine; stage = Ended end; answered = run.answered })
 stopped_follows accesses run end at finished how calls answers h =
     subst (λ l. HasCome how accesses calls (record {
       engine = run.engine;
@@ -137,17 +138,13 @@ stopped_follows accesses run end at finished how calls answers h =
       last = λ is. absurd (cc);
     })
 
-pub same_follows : (accesses : List Access) (run : Run) → Follows accesses run [] run
-same_follows accesses run how calls answers h =
-    subst (λ l. HasCome how accesses calls run l) (sym (append-nil answers)) h
-
 pub opened_follows : (accesses : List Access) (run after : Run) → run.stage ≡ Driving
     → finished_of run.engine ≡ Some Opened
     → ((a : Access) → slice_get accesses run.answered ≡ Some a
     → Starts a (slice_get accesses (run.answered + 1)) run.engine after.engine)
     → ((a : Access) → slice_get accesses run.answered ≡ Some a → after.stage ≡ Driving)
     → (slice_get accesses run.answered ≡ None → (after.engine ≡ run.engine) × (after.stage ≡ Between))
-    → after.answered ≡ run.answered → Follows accesses run [] after
+    → after.answered ≡ run.answered → Leaves accesses run [] after
 opened_follows accesses run after at finished starts drives none same how calls answers h =
     subst (λ l. HasCome how accesses calls after l) (sym (append-nil answers))
     (begun_comes accesses run after starts none drives same how calls answers
@@ -159,7 +156,7 @@ pub answered_follows : (accesses : List Access) (run more after : Run) (answer :
     → Starts a (slice_get accesses (more.answered + 1)) more.engine after.engine)
     → ((a : Access) → slice_get accesses more.answered ≡ Some a → after.stage ≡ Driving)
     → (slice_get accesses more.answered ≡ None → (after.engine ≡ more.engine) × (after.stage ≡ Between))
-    → after.answered ≡ more.answered → Follows accesses run (answer ∷ []) after
+    → after.answered ≡ more.answered → Leaves accesses run (answer ∷ []) after
 answered_follows accesses run more after answer at finished engine one starts drives none same how calls answers h =
     begun_comes accesses more after starts none drives same how calls (answers ++ answer ∷ [])
     (subst (λ x. Came how (drop how.from accesses) calls x Between (answers ++ answer ∷ [])) (sym engine)
@@ -170,7 +167,7 @@ answered_follows accesses run more after answer at finished engine one starts dr
 -- the eight idle cycles
 pub idle_turns : (accesses : List Access) (run : Run) (seen : ℕ) → run.stage ≡ Between
     → HasCue (λ cue. IsSeen cue seen × IsPhaseCue cue) (run_cue run)
-    → HasCue (λ cue. Turns cue seen accesses run [] (record {
+    → HasCue (λ cue. MakesCall cue seen accesses run [] (record {
       engine = run.engine;
       stage = Ended All;
       answered = run.answered;
@@ -178,7 +175,7 @@ pub idle_turns : (accesses : List Access) (run : Run) (seen : ℕ) → run.stage
 idle_turns accesses run seen at asked =
     let cue : run_cue run ≡ Some (Lead 0 0 false 8) = ap (λ x. cue_at x run.engine) at in
     let none : seen ≡ 0 = (subst (HasCue (λ cue. IsSeen cue seen × IsPhaseCue cue)) cue asked).0 in
-    subst (HasCue (λ cue. Turns cue seen accesses run [] (record {
+    subst (HasCue (λ cue. MakesCall cue seen accesses run [] (record {
       engine = run.engine;
       stage = Ended All;
       answered = run.answered;
@@ -203,12 +200,12 @@ idle_turns accesses run seen at asked =
 
 module _ (accesses : List Access) (before mid one two : Run) (seen : ℕ) (first second : Option Answer)
     (came : List Answer) (stage : mid.stage ≡ before.stage) (answered : mid.answered ≡ before.answered)
-    (follows : Follows accesses mid (listed first) one) (goes_on : Follows accesses one (listed second) two)
+    (follows : Leaves accesses mid (listed first) one) (goes_on : Leaves accesses one (listed second) two)
     (is : came ≡ listed first ++ listed second) where
   driving_turns : (o : Option Cue) → cue_of before.engine ≡ o → before.stage ≡ Driving
       → HasCue (λ cue. IsSeen cue seen × IsPhaseCue cue) o
       → IfSome o (λ cue. Replied cue seen before.engine mid.engine)
-      → HasCue (λ cue. Turns cue seen accesses before came two) o
+      → HasCue (λ cue. MakesCall cue seen accesses before came two) o
   driving_turns (Some cue) asks at asked replied = λ how calls answers h.
       let turned : HasCome how accesses (record { cue = cue; seen = seen } ∷ calls) mid answers = record {
         came = subst (λ x. Came how (drop how.from accesses) (record { cue = cue; seen = seen } ∷ calls) mid.engine x
@@ -228,7 +225,7 @@ module _ (accesses : List Access) (before mid one two : Run) (seen : ℕ) (first
   at_stage : (x : Stage) → before.stage ≡ x → (x ≡ Between → ⊥)
       → HasCue (λ cue. IsSeen cue seen × IsPhaseCue cue) (cue_at x before.engine)
       → IfSome (cue_of before.engine) (λ cue. Replied cue seen before.engine mid.engine)
-      → HasCue (λ cue. Turns cue seen accesses before came two) (cue_at x before.engine)
+      → HasCue (λ cue. MakesCall cue seen accesses before came two) (cue_at x before.engine)
   at_stage Driving at never asked replied = driving_turns (cue_of before.engine) refl at asked replied
   at_stage Between at never asked replied = absurd (never refl)
   at_stage (Ended end) at never asked replied = absurd asked
@@ -236,7 +233,7 @@ module _ (accesses : List Access) (before mid one two : Run) (seen : ℕ) (first
   -- a call that the engine asked for, and what it came to
   pub engine_turns : (before.stage ≡ Between → ⊥) → HasCue (λ cue. IsSeen cue seen × IsPhaseCue cue) (run_cue before)
       → IfSome (cue_of before.engine) (λ cue. Replied cue seen before.engine mid.engine)
-      → HasCue (λ cue. Turns cue seen accesses before came two) (run_cue before)
+      → HasCue (λ cue. MakesCall cue seen accesses before came two) (run_cue before)
   engine_turns never asked replied = at_stage before.stage refl never asked replied
 
 by_bool : (b : Bool) (P : Type 0) → (b ≡ true → P) → (b ≡ false → P) → P
@@ -271,8 +268,8 @@ come : {how : Beginning} {accesses : List Access} {calls : List Call} {run : Run
 come ran = record { came = ran.came; number = ran.number; last = ran.last }
 
 pub run_goes_on : (accesses : List Access) (before after : Run) (cue : Cue) (reply seen : ℕ) (came : List Answer)
-    → IsFit accesses before → seen ≡ seen_of cue reply → Turns cue seen accesses before came after
-    → (after.stage ≡ Driving → is_resting after.engine ≡ false) → GoesOn cue reply accesses before came after
+    → IsFit accesses before → seen ≡ seen_of cue reply → MakesCall cue seen accesses before came after
+    → (after.stage ≡ Driving → is_resting after.engine ≡ false) → Extends cue reply accesses before came after
 run_goes_on accesses before after cue reply seen came fit is turns drives how calls answers ran =
     let turned : HasCome how accesses (call_of cue reply ∷ calls) after (answers ++ came) =
     subst (λ n. HasCome how accesses (record { cue = cue; seen = n } ∷ calls) after (answers ++ came)) is
@@ -302,7 +299,7 @@ too_few_before accesses run low how calls answers ran from =
     too_few how accesses calls run answers (come ran) from low
 
 pub too_few_after : (accesses : List Access) (before after : Run) (cue : Cue) (seen : ℕ) (came : List Answer)
-    → Turns cue seen accesses before came after → length accesses < after.answered
+    → MakesCall cue seen accesses before came after → length accesses < after.answered
     → (how : Beginning) (calls : List Call) (answers : List Answer) → Ran how accesses calls before answers
     → how.from ≤ length accesses → ⊥
 too_few_after accesses before after cue seen came turns low how calls answers ran from =

@@ -37,7 +37,8 @@ ClosesAnyhow = (how : Beginning) (accesses : List Access) (calls : List Call) (r
     (end : End) → how.tries < 2 ^ 32 → Ran how accesses calls run answers → run.stage ≡ Ended end
     → Closed how (drop how.from accesses) calls (told run answers end)
 
--- whatever came back, a run ends: it makes no more calls than so many for the opening, so many for each access, and one
+-- whatever came back, a run ends: it makes no more calls than so many for the opening, so many for each access, and
+-- one
 abbrev pub most_calls : Bool → ℕ → ℕ → ℕ
 most_calls again tries count =
     2 * (10 + 5 * tries + stray_left again) + 1 + count * (2 * (6 + 5 * tries) + 1) + 1
@@ -54,11 +55,13 @@ RunsAsTold = (kind : Bursts) (tries : ℕ) (accesses : List Access) (calls : Lis
     (answers : List Answer) (end : End) → tries < 2 ^ 32 → Ran (anew kind tries) accesses calls run answers
     → run.stage ≡ Ended end → (story : ℕ → Port) (past : List Call) → due_by past ≡ Nothing
     → FitsStory story (calls ++ past)
-    → RunsWithin (most_of kind) accesses tries (told run answers end) (port_at story past) (port_at story (calls ++ past))
+    → RunsWithin (most_of kind) accesses tries (told run answers end) (port_at story past) (port_at story (calls ++
+    past))
 
 -- And so is that of a run that goes on after an earlier report.
 abbrev pub ResumesAsTold : Type 0
-ResumesAsTold = (tries : ℕ) (accesses : List Access) (calls : List Call) (run : Run) (answers : List Answer) (end : End)
+ResumesAsTold = (tries : ℕ) (accesses : List Access) (calls : List Call) (run : Run) (answers : List Answer) (end :
+    End)
     (earlier : Told) → tries < 2 ^ 32 → Ran (after (length earlier.answers) tries) accesses calls run answers
     → run.stage ≡ Ended end → (story : ℕ → Port) (past : List Call) → FitsStory story (calls ++ past)
     → ResumesOver accesses tries earlier (since (told run (earlier.answers ++ answers) end) earlier)

@@ -26,7 +26,8 @@ use Rattle.swd_steps.specs.declared.run.Run.{Run}
 use Rattle.swd_steps.specs.declared.run.Stage.{Stage}
 use Rattle.swd_steps.specs.declared.run.Stage.TheVariants.{Driving, Between, Ended}
 
--- How a run was made: for bursts of writes or of reads, anew or going on after so many answers, and with so many tries.
+-- How a run was made: for bursts of writes or of reads, anew or going on after so many answers, and with so many
+-- tries.
 pub record Beginning : Type 0 where
   pub kind : Bursts
   pub again : Bool
@@ -73,7 +74,8 @@ IsLast how accesses run answers = run.stage ≡ Between → length answers ≡ l
 
 -- A run that was made so has come to this over a list of accesses, in these calls, with these answers. As long as it
 -- hasn't ended there is something to send.
-pub record Ran (how : Beginning) (accesses : List Access) (calls : List Call) (run : Run) (answers : List Answer) : Type 0
+pub record Ran (how : Beginning) (accesses : List Access) (calls : List Call) (run : Run) (answers : List Answer) :
+    Type 0
   where
     pub came : Came how (drop how.from accesses) calls run.engine run.stage answers
     pub number : run.answered ≡ how.from + length answers
@@ -116,8 +118,8 @@ abbrev pub call_of : Cue → ℕ → Call
 call_of cue reply = record { cue = cue; seen = seen_of cue reply }
 
 -- a call more was made of the line for a run that has come to this
-abbrev pub GoesOn : Cue → ℕ → List Access → Run → List Answer → Run → Type 0
-GoesOn cue reply accesses before more after =
+abbrev pub Extends : Cue → ℕ → List Access → Run → List Answer → Run → Type 0
+Extends cue reply accesses before more after =
     (how : Beginning) (calls : List Call) (answers : List Answer) → Ran how accesses calls before answers
     → Ran how accesses (call_of cue reply ∷ calls) after (answers ++ more)
 
@@ -129,14 +131,14 @@ pub record HasCome (how : Beginning) (accesses : List Access) (calls : List Call
   pub last : IsLast how accesses run answers
 
 -- no call more: an outcome of the engine was followed, with this answer
-abbrev pub Follows : List Access → Run → List Answer → Run → Type 0
-Follows accesses before more after =
+abbrev pub Leaves : List Access → Run → List Answer → Run → Type 0
+Leaves accesses before more after =
     (how : Beginning) (calls : List Call) (answers : List Answer) → HasCome how accesses calls before answers
     → HasCome how accesses calls after (answers ++ more)
 
 -- a call more, likewise
-abbrev pub Turns : Cue → ℕ → List Access → Run → List Answer → Run → Type 0
-Turns cue seen accesses before more after =
+abbrev pub MakesCall : Cue → ℕ → List Access → Run → List Answer → Run → Type 0
+MakesCall cue seen accesses before more after =
     (how : Beginning) (calls : List Call) (answers : List Answer) → HasCome how accesses calls before answers
     → HasCome how accesses (record { cue = cue; seen = seen } ∷ calls) after (answers ++ more)
 
@@ -152,17 +154,17 @@ pub record IsFit (accesses : List Access) (run : Run) : Type 0 where
   pub are : is_lead (cue_of run.engine) ≡ true → AreAccesses accesses
 
 -- why a call does nothing
-abbrev pub IsRefused : Run → List Access → ℕ → Refusal → Type 0
-IsRefused run accesses reply HasEnded = run_cue run ≡ None
-IsRefused run accesses reply Reply = HasCue (λ cue. IsSeen cue (seen_of cue reply) → ⊥) (run_cue run)
-IsRefused run accesses reply TooMany = RefusedAs accesses HostTooMany
-IsRefused run accesses reply (Unaligned index) = RefusedAs accesses (HostUnaligned index)
-IsRefused run accesses reply TooFew =
+abbrev pub HasReason : Run → List Access → ℕ → Refusal → Type 0
+HasReason run accesses reply HasEnded = run_cue run ≡ None
+HasReason run accesses reply Reply = HasCue (λ cue. IsSeen cue (seen_of cue reply) → ⊥) (run_cue run)
+HasReason run accesses reply TooMany = RefusedAs accesses HostTooMany
+HasReason run accesses reply (Unaligned index) = RefusedAs accesses (HostUnaligned index)
+HasReason run accesses reply TooFew =
     (how : Beginning) (calls : List Call) (answers : List Answer) → Ran how accesses calls run answers
     → how.from ≤ length accesses → ⊥
 
 -- it stopped where a run may go on
-abbrev pub goes_on : Stage → Bool
-goes_on (Ended Lost) = true
-goes_on (Ended TriesOut) = true
-goes_on stage = false
+abbrev pub may_go_on : Stage → Bool
+may_go_on (Ended Lost) = true
+may_go_on (Ended TriesOut) = true
+may_go_on stage = false

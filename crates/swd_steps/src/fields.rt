@@ -6,11 +6,11 @@ ghost use Rattle.swd_steps.specs.Fields.{end_at, end_fields, fields_of, stage_at
 use crate::run::{Run, Stage};
 use swd_host::{End, EngineFields, Outcome, OutcomeFields};
 
-/// The numbers of a run: `Run::fields` gives them, and `run` gives the run back. They are laid out as C does it, and any
-/// numbers may stand in them: `run` gives none where they are those of no run, as zeros are.
+/// The numbers of a run: `Run::fields` gives them, and `run` gives the run back. They are laid out as C does it, and
+/// any numbers may stand in them: `run` gives none where they are those of no run, as zeros are.
 ///
-/// `requests`, `answered`, `begun` and `end` are what the methods of `Run` with these names tell. What the others mean is
-/// this crate's own.
+/// `requests`, `answered` and `begun` are what the methods of `Run` with these names tell, and `end` what `ended` does.
+/// What the others mean is this crate's own.
 #[repr(C)]
 #[derive(Clone, Copy, Debug, PartialEq, Eq)]
 pub struct RunFields {
@@ -45,8 +45,8 @@ fn fields_of_end(stage: Stage) -> OutcomeFields
     }
 }
 
-// Here and below, what is read from numbers that nothing has doesn't matter: `RunFields::run` finds that the run has other
-// numbers.
+// Here and below, what is read from numbers that nothing has doesn't matter: `RunFields::run` finds that the run has
+// other numbers.
 fn end_with(fields: OutcomeFields) -> End
     ensures { result ≡ end_at fields }
 {

@@ -1,5 +1,5 @@
-//! A whole run of the host step by step: each call takes what came of the last cue, begins the next access by itself, and
-//! gives control back. It drives no wire and takes no memory.
+//! A whole run of the host step by step: each call takes what came of the last cue, begins the next access by
+//! itself, and gives control back. It drives no wire and takes no memory.
 #![tactic(auto)]
 
 mod accesses;

@@ -1,17 +1,17 @@
 //! A run, as what has to be sent next and what came of it.
-ghost use Rattle.std.specs.Prelude.{◌≡◌, ◌≢◌, ◌+◌, ◌≤◌, [], length, List, true, false};
-ghost use Rattle.std.specs.Prelude.{IfOk, IfErr, IfNone, IfSome, Some, None, slice_get, ℕ};
-ghost use Rattle.std.specs.Prelude.{◌++◌};
+ghost use Rattle.std.specs.Prelude.{◌≡◌, ◌+◌, ◌≤◌, [], length, List, true, false};
+ghost use Rattle.std.specs.Prelude.{◌++◌, IfOk, IfErr, IfNone, IfSome, Some, None, slice_get, ℕ};
 ghost use Rattle.swd_steps.specs.declared.run.Run.{Run as RunType};
 ghost use Rattle.swd_port.specs.declared.access.Access.{Access as AccessType};
 ghost use Rattle.swd_port.specs.Stories.{IsSeen};
 ghost use Rattle.swd_host.specs.declared.engine.Ahead.TheVariants.{Unsent};
 ghost use Rattle.swd_host.specs.declared.task.Bursts.TheVariants.{Reads, Writes};
-ghost use Rattle.swd_host.specs.Engines.{HasCue, IsPhaseCue, begun_of, cue_of, finished_of, is_ahead, is_resting, may_start, requests_of};
+ghost use Rattle.swd_host.specs.Engines.{HasCue, IsPhaseCue, begun_of, cue_of, finished_of, is_ahead, is_resting};
+ghost use Rattle.swd_host.specs.Engines.{may_start, requests_of};
 ghost use Rattle.swd_host.specs.Plain.{AreAccesses, HasRanges, is_aligned};
 ghost use Rattle.swd_host.specs.Turns.{Starts};
-ghost use Rattle.swd_steps.specs.Runs.{Follows, GoesOn, IsFit, IsRefused, Ran, Turns, after, anew, answered_by, end_of};
-ghost use Rattle.swd_steps.specs.Runs.{goes_on, is_lead, listed, run_cue, seen_of};
+ghost use Rattle.swd_steps.specs.Runs.{Extends, HasReason, IsFit, Leaves, MakesCall, Ran, after, anew, answered_by};
+ghost use Rattle.swd_steps.specs.Runs.{end_of, is_lead, listed, may_go_on, run_cue, seen_of};
 
 use crate::accesses::Accesses;
 use swd_host::{End, Engine, Outcome};
@@ -28,8 +28,8 @@ pub(crate) enum Stage {
     Ended(End),
 }
 
-/// The answers that came with one call, in their order: mostly one or none. Two come in a block of reads, where the next
-/// access was a bus error that was met while the one before it was read.
+/// The answers that came with one call, in their order: mostly one or none. Two come in a block of reads, where the
+/// next access was a bus error that was met while the one before it was read.
 #[derive(Clone, Copy, Debug, PartialEq, Eq)]
 pub struct Answers {
     pub first: Option<Answer>,
@@ -92,9 +92,10 @@ impl Run {
     /// this one didn't end `Lost` or `TriesOut`. That access may be done a second time, where it was begun. `requests`
     /// and `begun` are of the new run alone.
     pub fn again(&self, tries: u32) -> Option<Run>
-        ensures again { IfSome result (λ run. (list : List AccessType) → Ran (after self.now.answered tries) list [] run []) }
-        ensures none { IfNone result (goes_on self.now.stage ≡ false) }
-        ensures some { IfSome result (λ run. goes_on self.now.stage ≡ true) }
+        ensures again { IfSome result (λ run.
+            (list : List AccessType) → Ran (after self.now.answered tries) list [] run []) }
+        ensures none { IfNone result (may_go_on self.now.stage ≡ false) }
+        ensures some { IfSome result (λ run. may_go_on self.now.stage ≡ true) }
     {
         match self.stage {
             Stage::Ended(End::Lost | End::TriesOut) => {
@@ -166,21 +167,22 @@ impl Run {
 
     /// Takes what came of the cue: of a request the three bits that were seen, of a read's data phase its 33 bits, the
     /// first in time least significant each; of any other any number. Begins the next access by itself, and after the
-    /// last one has eight idle cycles sent. Gives the answers that came with it, the first of which is that of the access
-    /// at `answered` before the call.
+    /// last one has eight idle cycles sent. Gives the answers that came with it, the first of which is that of the
+    /// access at `answered` before the call.
     ///
     /// The list is checked as a whole with the first cue alone.
     ///
     /// # Errors
     ///
-    /// `Ended` once the run has ended. `Reply` where the number isn't below 8 at a request, or below 2^33 at a read's data
-    /// phase. `TooMany`, `Unaligned` and `TooFew` where the list isn't one that may be done. The run is as it was then.
+    /// `Ended` once the run has ended. `Reply` where the number isn't below 8 at a request, or below 2^33 at a read's
+    /// data phase. `TooMany`, `Unaligned` and `TooFew` where the list isn't one that may be done. The run is as it was
+    /// then.
     pub fn next<L: Accesses>(&mut self, accesses: &L, reply: u64) -> Result<Answers, Refusal>
         ensures goes { IfOk result (λ came. HasCue (λ cue.
-            GoesOn cue reply (L.list accesses.now) self.old (answered_by came) self.new) (run_cue self.old)) }
+            Extends cue reply (L.list accesses.now) self.old (answered_by came) self.new) (run_cue self.old)) }
         ensures counted { IfOk result (λ came. (self.new.answered ≡ self.old.answered + length (answered_by came))
             × (self.new.answered ≤ length (L.list accesses.now))) }
-        ensures refused { IfErr result (IsRefused self.old (L.list accesses.now) reply) }
+        ensures refused { IfErr result (HasReason self.old (L.list accesses.now) reply) }
         ensures same { IfErr result (λ refusal. self.new ≡ self.old) }
     {
         let Some(cue) = self.cue() else {
@@ -206,7 +208,7 @@ impl Run {
     // Why no call is made for this list.
     fn refusal<L: Accesses>(&self, accesses: &L) -> Option<Refusal>
         ensures none { IfNone result (IsFit (L.list accesses.now) self.now) }
-        ensures some { IfSome result (λ refusal. (reply : ℕ) → IsRefused self.now (L.list accesses.now) reply refusal) }
+        ensures some { IfSome result (λ refusal. (reply : ℕ) → HasReason self.now (L.list accesses.now) reply refusal) }
     {
         let count = accesses.count();
         if count > MOST_ACCESSES as usize {
@@ -233,7 +235,7 @@ impl Run {
     fn turn<L: Accesses>(&mut self, accesses: &L, seen: u64) -> Answers
         requires cue { HasCue (λ cue. IsSeen cue seen × IsPhaseCue cue) (run_cue self.old) }
         requires few { self.old.answered ≤ 65536 }
-        ensures turns { HasCue (λ cue. Turns cue seen (L.list accesses.now) self.old (answered_by result) self.new)
+        ensures turns { HasCue (λ cue. MakesCall cue seen (L.list accesses.now) self.old (answered_by result) self.new)
             (run_cue self.old) }
         ensures counted { self.new.answered ≡ self.old.answered + length (answered_by result) }
         ensures drives { self.new.stage ≡ Stage.Driving → is_resting self.new.engine ≡ false }
@@ -251,7 +253,7 @@ impl Run {
     // Follows an outcome of the engine, where it has come to one.
     fn follow<L: Accesses>(&mut self, accesses: &L) -> Option<Answer>
         requires few { self.old.answered ≤ 65537 }
-        ensures follows { Follows (L.list accesses.now) self.old (listed result) self.new }
+        ensures follows { Leaves (L.list accesses.now) self.old (listed result) self.new }
         ensures counted { self.new.answered ≡ self.old.answered + length (listed result) }
         ensures more { self.new.answered ≤ self.old.answered + 1 }
         ensures same { is_resting self.old.engine ≡ false → self.new ≡ self.old }
@@ -338,7 +340,7 @@ fn unaligned<L: Accesses>(accesses: &L, count: usize) -> Option<Refusal>
     requires few { length (L.list accesses.now) ≤ 65536 }
     ensures none { IfNone result (AreAccesses (L.list accesses.now)) }
     ensures some { IfSome result (λ refusal.
-        (run : RunType) (reply : ℕ) → IsRefused run (L.list accesses.now) reply refusal) }
+        (run : RunType) (reply : ℕ) → HasReason run (L.list accesses.now) reply refusal) }
 {
     for index in 0..count {
         if let Some(access) = accesses.access(index) {

@@ -11,15 +11,18 @@ returns-in-Some-Stopped-clause-follows g c =
 pub returns-in-Some-Opened-clause-follows : goal.returns-in-Some-Opened-clause-follows
 returns-in-Some-Opened-clause-follows g c =
     opened_follows (g.L.Accesses.list c.args.accesses.now) c.args.self.now c.begin.new.self c.in-Driving.is
-    (sym c.in-Some-Opened.ensures ∙ ap Some c.in-Some-Opened.field-0-is) c.begin.ensures.starts c.begin.ensures.drives c.begin.ensures.none c.begin.ensures.answered
+    (sym c.in-Some-Opened.ensures ∙ ap Some c.in-Some-Opened.field-0-is) c.begin.ensures.starts c.begin.ensures.drives
+    c.begin.ensures.none c.begin.ensures.answered
 
 pub returns-in-Some-Opened-clause-calm : goal.returns-in-Some-Opened-clause-calm
 returns-in-Some-Opened-clause-calm g c = λ rests.
-    begun_calm (g.L.Accesses.list c.args.accesses.now) c.args.self.now c.begin.new.self c.begin.ensures.starts c.begin.ensures.none
+    begun_calm (g.L.Accesses.list c.args.accesses.now) c.args.self.now c.begin.new.self c.begin.ensures.starts
+    c.begin.ensures.none
 
 pub returns-in-Some-Opened-clause-drives : goal.returns-in-Some-Opened-clause-drives
 returns-in-Some-Opened-clause-drives g c =
-    begun_drives (g.L.Accesses.list c.args.accesses.now) c.args.self.now c.begin.new.self c.begin.ensures.starts c.begin.ensures.none
+    begun_drives (g.L.Accesses.list c.args.accesses.now) c.args.self.now c.begin.new.self c.begin.ensures.starts
+    c.begin.ensures.none
 
 pub returns-in-Some-Answered-clause-follows : goal.returns-in-Some-Answered-clause-follows
 returns-in-Some-Answered-clause-follows g c =
@@ -28,7 +31,8 @@ returns-in-Some-Answered-clause-follows g c =
       stage = c.args.self.now.stage;
       answered = c.args.self.now.answered + 1;
     }) c.begin-in-Some-Answered.new.self
-    c.in-Some-Answered.answer c.in-Driving.is (sym c.in-Some-Answered.ensures ∙ ap Some c.in-Some-Answered.field-0-is) refl refl c.begin-in-Some-Answered.ensures.starts
+    c.in-Some-Answered.answer c.in-Driving.is (sym c.in-Some-Answered.ensures ∙ ap Some c.in-Some-Answered.field-0-is)
+    refl refl c.begin-in-Some-Answered.ensures.starts
     c.begin-in-Some-Answered.ensures.drives c.begin-in-Some-Answered.ensures.none
     c.begin-in-Some-Answered.ensures.answered
 

@@ -1,6 +1,6 @@
 use Rattle.std.proofs.Common.{arith, sym, subst}
 use Rattle.swd_host.specs.Engines.{HasCue}
-use Rattle.swd_steps.specs.Runs.{GoesOn, Turns, answered_by}
+use Rattle.swd_steps.specs.Runs.{Extends, MakesCall, answered_by}
 use Rattle.swd_steps.proofs.Stepping.{run_goes_on, too_few_after}
 use Rattle.swd_steps.proofs.run.Run.next.Goals as goal
 
@@ -12,17 +12,17 @@ returns-then-next-count-clause-refused g c =
     let list = g.L.Accesses.list c.args.accesses.now in
     too_few_after list c.args.self.now c.turn-came.new.self c.in-Some.cue c.in-Some-seen.seen
     (answered_by c.turn-came.result)
-    (subst (HasCue (λ cue. Turns cue c.in-Some-seen.seen list c.args.self.now (answered_by c.turn-came.result)
+    (subst (HasCue (λ cue. MakesCall cue c.in-Some-seen.seen list c.args.self.now (answered_by c.turn-came.result)
     c.turn-came.new.self)) (sym c.in-Some.ensures.cue) c.turn-came.ensures.turns)
     (omega (arith, c.if-next-count.true, c.count.ensures))
 
 pub returns-clause-goes : goal.returns-clause-goes
 returns-clause-goes g c =
     let list = g.L.Accesses.list c.args.accesses.now in
-    subst (HasCue (λ cue. GoesOn cue c.args.reply list c.args.self.now (answered_by c.turn-came.result)
+    subst (HasCue (λ cue. Extends cue c.args.reply list c.args.self.now (answered_by c.turn-came.result)
     c.turn-came.new.self)) c.in-Some.ensures.cue
     (run_goes_on list c.args.self.now c.turn-came.new.self c.in-Some.cue c.args.reply c.in-Some-seen.seen
     (answered_by c.turn-came.result) c.in_default-refusal.ensures.none c.in-Some-seen.ensures.some.0
-    (subst (HasCue (λ cue. Turns cue c.in-Some-seen.seen list c.args.self.now (answered_by c.turn-came.result)
+    (subst (HasCue (λ cue. MakesCall cue c.in-Some-seen.seen list c.args.self.now (answered_by c.turn-came.result)
     c.turn-came.new.self)) (sym c.in-Some.ensures.cue) c.turn-came.ensures.turns)
     c.turn-came.ensures.drives)
