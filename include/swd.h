@@ -12,7 +12,7 @@
  * The line has a pull-up: where nobody drives it, it reads 1.
  *
  * Each pointer must point to a whole object of its type. An object that a function writes must not overlap
- * another argument. `accesses` must have at least `count` objects.
+ * another argument. `accesses` must have at least `count` objects, and `answers` `room`.
  *
  * Bits in a number are in time order, the first in time least significant. Addresses are in bytes. Flags
  * are 0 or 1.
@@ -28,8 +28,14 @@
 extern "C" {
 #endif
 
-/* The version of library, header and program. */
+/* The version of library, header and program; and as a number, with major, minor and patch in a byte each. */
 #define SWD_VERSION "0.1.0"
+#define SWD_VERSION_NUMBER 0x000100
+
+/*
+ * Returns SWD_VERSION_NUMBER of the library that is linked.
+ */
+uint32_t swd_version(void);
 
 /* ---------------------------------------------------------------------------------------- the host ---- */
 
@@ -47,9 +53,9 @@ enum {
 	SWD_WRITTEN = 3, /* the access wrote its word */
 	SWD_BUS_FAULT = 4, /* the access met a bus error: nothing was read or written */
 	/* From here on the engine has stopped, and starts no other access. */
-	SWD_ALL = 5, /* no call returns it */
-	SWD_LOST = 6, /* no acknowledgement was seen: send nothing more, except by swd_engine_again */
-	SWD_TRIES_OUT = 7, /* the opening or an access met more than `tries` events: see swd_engine_again */
+	SWD_ALL = 5, /* every access of the list is answered; of a run alone */
+	SWD_LOST = 6, /* no acknowledgement was seen: send nothing more, except by swd_engine_again or swd_run_again */
+	SWD_TRIES_OUT = 7, /* the opening or an access met more than `tries` events: see there */
 	SWD_WRONG_ID = 8, /* bit 0 of DPIDR isn't 1; `word` is DPIDR */
 	SWD_CONFUSED = 9 /* the target violated the protocol */
 };
@@ -101,7 +107,7 @@ enum {
 	SWD_TAKE = 3, /* sample 33 bits, which are the reply; then a turnaround */
 	SWD_GIVE = 4, /* a turnaround; then send 33 bits */
 	SWD_PASS = 5, /* a turnaround */
-	SWD_REFUSED = 255 /* the call was refused */
+	SWD_REFUSED = 255 /* the call was refused; of swd_run_next `outcome` says why, below */
 };
 
 /* The sixteen bits that switch from JTAG to serial wire. */
@@ -161,6 +167,100 @@ struct swd_cue swd_engine_next(struct swd_engine *engine, uint64_t reply);
  * address isn't a multiple of 4; or another access must be started first, as said above.
  */
 bool swd_engine_start(struct swd_engine *engine, const struct swd_access *accesses, size_t count, size_t index);
+
+/* ------------------------------------------------------------------------------------------- the run ---- */
+
+/*
+ * A host with the loop over the accesses of a list: it begins the next one by itself, and ends the list with eight idle
+ * cycles. `requests`, `end`, `answered` and `begun` are for the caller; the other fields are private to the library. A
+ * struct of zeros is invalid.
+ *
+ *	struct swd_run run;
+ *	swd_run_new(&run, 8);
+ *	struct swd_cue cue = swd_run_cue(&run);
+ *	while (cue.kind != SWD_REST && cue.kind != SWD_REFUSED)
+ *		cue = swd_run_next(&run, accesses, count, answers, count, reply(&cue));
+ */
+struct swd_run {
+	uint64_t requests; /* number of requests sent; may be read */
+	struct swd_engine engine;
+	struct swd_outcome end; /* how the run ended, SWD_ALL to SWD_CONFUSED; of kind 0 as long as it goes on; may be read */
+	uint32_t answered; /* number of accesses answered; may be read */
+	uint8_t begun; /* number of accesses in flight: DRW request sent, no answer yet; may be read */
+	uint8_t stage;
+};
+
+/*
+ * Why swd_run_next refuses a call, as the `outcome.kind` of its cue.
+ */
+enum {
+	SWD_INVALID = 0, /* *run is invalid */
+	SWD_ENDED = 1, /* the run has ended */
+	SWD_BAD_REPLY = 2, /* `reply` isn't below 8 at SWD_ASK, or below 2^33 at SWD_TAKE */
+	SWD_TOO_MANY = 3, /* more than 65,536 accesses */
+	SWD_UNALIGNED = 4, /* an address isn't a multiple of 4; `outcome.word` is the index of the first such access */
+	SWD_TOO_FEW = 5, /* fewer accesses than are answered */
+	SWD_NO_ROOM = 6 /* room for fewer answers than there are accesses */
+};
+
+/*
+ * Makes a run at its beginning: it opens a target as swd_engine_new does, and then does the accesses in order, each
+ * once. The opening, and each access, may meet `tries` events. Whatever the replies, the run ends, and has then sent at
+ * most 10 + 5 * tries requests, and 6 + 5 * tries for each access.
+ */
+void swd_run_new(struct swd_run *run, uint32_t tries);
+
+/*
+ * Makes the same run for a block of reads at consecutive addresses: the request for the next word returns the word
+ * before it, so that a word takes one request.
+ */
+void swd_run_blocks(struct swd_run *run, uint32_t tries);
+
+/*
+ * Makes the run that continues after one that ended SWD_LOST or SWD_TRIES_OUT, over the same target and the same list,
+ * with the first access that isn't answered. `answered` goes on from there; `requests` and `begun` are those of the new
+ * run alone, whose opening may take five requests more. An access that was in flight may take effect twice. After
+ * swd_run_blocks, the rest of the block is read one by one.
+ *
+ * Returns false: *run is invalid, or didn't end so.
+ */
+bool swd_run_again(struct swd_run *run, uint32_t tries);
+
+/*
+ * Returns what has to be sent next. SWD_REST: the run has ended; `outcome` is `end`. SWD_REFUSED: *run is invalid.
+ */
+struct swd_cue swd_run_cue(const struct swd_run *run);
+
+/*
+ * Takes the reply to the cue, as swd_engine_next does, and returns the next cue. The answer of each access that ended,
+ * SWD_VALUE, SWD_WRITTEN or SWD_BUS_FAULT, is written to `answers`, which has `room` objects, at the access's index. In
+ * each call `accesses` must be the same list of `count`. The call at the first cue checks all of it, each later one only
+ * `count`.
+ *
+ * SWD_REFUSED: for one of the reasons above, in `outcome`. *run and the answers are unchanged.
+ */
+struct swd_cue swd_run_next(struct swd_run *run, const struct swd_access *accesses, size_t count,
+                            struct swd_outcome *answers, size_t room, uint64_t reply);
+
+/*
+ * The name of an outcome, for messages: "value", or as a report of the program says it, "lost".
+ */
+static inline const char *swd_outcome_name(uint8_t kind)
+{
+	static const char *const names[] = { "none", "opened", "value", "written", "bus fault",
+	                                     "all", "lost", "tries", "id", "confused" };
+	return kind < sizeof names / sizeof *names ? names[kind] : "unknown";
+}
+
+/*
+ * The name of a reason why swd_run_next refuses a call.
+ */
+static inline const char *swd_refusal_name(uint8_t kind)
+{
+	static const char *const names[] = { "invalid run", "ended", "bad reply", "too many accesses",
+	                                     "unaligned address", "too few accesses", "no room for the answers" };
+	return kind < sizeof names / sizeof *names ? names[kind] : "unknown";
+}
 
 /* ---------------------------------------------------------------------------------------- the target ---- */
 
@@ -344,6 +444,16 @@ struct swd_layout {
 };
 
 void swd_layout(struct swd_layout *layout);
+
+/*
+ * The same for struct swd_run, with the numbers from 22 on behind those of its engine.
+ */
+struct swd_run_layout {
+	struct swd_run run;
+	uint64_t run_size, layout_size;
+};
+
+void swd_run_layout(struct swd_run_layout *layout);
 
 #ifdef __cplusplus
 }

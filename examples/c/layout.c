@@ -128,6 +128,32 @@ static void check_fields(void)
 	same("struct swd_layout", sizeof(struct swd_layout), layout.layout_size);
 }
 
+static void check_run_fields(void)
+{
+	struct swd_run_layout layout;
+	memset(&layout, 0xee, sizeof layout);
+	swd_run_layout(&layout);
+	CHECK(run.requests, 22);
+	CHECK(run.engine.requests, 1);
+	CHECK(run.engine.stray, 21);
+	CHECK(run.end.word, 23);
+	CHECK(run.end.kind, 24);
+	CHECK(run.answered, 25);
+	CHECK(run.begun, 26);
+	CHECK(run.stage, 27);
+	same("struct swd_run", sizeof(struct swd_run), layout.run_size);
+	same("struct swd_run_layout", sizeof(struct swd_run_layout), layout.layout_size);
+}
+
+static void check_version(void)
+{
+	char version[16];
+	snprintf(version, sizeof version, "%d.%d.%d", SWD_VERSION_NUMBER >> 16, SWD_VERSION_NUMBER >> 8 & 255,
+	         SWD_VERSION_NUMBER & 255);
+	same("SWD_VERSION", (uint64_t)strcmp(version, SWD_VERSION), 0);
+	same("swd_version", swd_version(), SWD_VERSION_NUMBER);
+}
+
 static struct board board;
 
 int line_clock(int drive)
@@ -186,6 +212,45 @@ static void check_outcomes(void)
 		same("start", swd_engine_start(&engine, accesses, 3, i), 1);
 		same("outcome", line_drive(&engine).outcome.kind, kinds[i]);
 	}
+}
+
+/* A run that ends at its first request, and what is refused before and after. */
+static void check_runs(void)
+{
+	static const struct swd_access accesses[3] = { { BOARD_BASE, 1, 1 }, { BOARD_BASE, 0, 0 }, { BOARD_BASE + 2, 0, 0 } };
+	struct swd_outcome answers[3];
+	struct swd_run run, none;
+	struct swd_cue cue;
+	memset(&none, 0, sizeof none);
+	cue = swd_run_next(&none, accesses, 2, answers, 3, 0);
+	same("SWD_INVALID", cue.outcome.kind, SWD_INVALID);
+	same("SWD_REFUSED", cue.kind, SWD_REFUSED);
+	swd_run_new(&run, 8);
+	same("SWD_LEAD", swd_run_cue(&run).kind, SWD_LEAD);
+	cue = swd_run_next(&run, accesses, 3, answers, 3, 0);
+	same("SWD_UNALIGNED", cue.outcome.kind, SWD_UNALIGNED);
+	same("index", cue.outcome.word, 2);
+	same("SWD_TOO_MANY", swd_run_next(&run, NULL, 65537, NULL, 65537, 0).outcome.kind, SWD_TOO_MANY);
+	same("SWD_NO_ROOM", swd_run_next(&run, accesses, 2, answers, 1, 0).outcome.kind, SWD_NO_ROOM);
+	same("SWD_ASK", swd_run_next(&run, accesses, 2, answers, 3, 0).kind, SWD_ASK);
+	same("SWD_BAD_REPLY", swd_run_next(&run, accesses, 2, answers, 3, 8).outcome.kind, SWD_BAD_REPLY);
+	cue = swd_run_next(&run, accesses, 2, answers, 3, 7);
+	same("SWD_REST", cue.kind, SWD_REST);
+	same("SWD_LOST", cue.outcome.kind, SWD_LOST);
+	same("end", run.end.kind, SWD_LOST);
+	same("requests", run.requests, 1);
+	same("SWD_ENDED", swd_run_next(&run, accesses, 2, answers, 3, 7).outcome.kind, SWD_ENDED);
+	same("again", swd_run_again(&run, 8), true);
+	same("again", swd_run_again(&run, 8), false);
+	run.answered = 2;
+	same("SWD_TOO_FEW", swd_run_next(&run, accesses, 1, answers, 3, 0).outcome.kind, SWD_TOO_FEW);
+	board_new(&board);
+	swd_run_blocks(&run, 8);
+	same("SWD_ALL", line_run(&run, accesses, 2, answers).outcome.kind, SWD_ALL);
+	same("answered", run.answered, 2);
+	same("SWD_WRITTEN", answers[0].kind, SWD_WRITTEN);
+	same("SWD_VALUE", answers[1].kind, SWD_VALUE);
+	same("word", answers[1].word, 1);
 }
 
 /* Sends bits to the board's target, the first in time least significant. */
@@ -280,8 +345,11 @@ static void check_items(void)
 int main(void)
 {
 	check_fields();
+	check_run_fields();
+	check_version();
 	check_cues();
 	check_outcomes();
+	check_runs();
 	check_target();
 	check_items();
 	if (!faults)

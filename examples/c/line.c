@@ -1,9 +1,6 @@
 #include <stdio.h>
 #include "line.h"
 
-/* Cycles after the last access, so that the target does it. */
-enum { IDLE_CYCLES = 8 };
-
 enum { MOST_WORDS = 64 };
 
 static void send(uint64_t bits, uint32_t count)
@@ -79,62 +76,45 @@ struct swd_cue line_drive(struct swd_engine *engine)
 	return cue;
 }
 
-/* Does the accesses, and puts the words that were read back over them. Gives how many were answered well. */
-static size_t perform(struct swd_engine *engine, struct swd_access *accesses, size_t count)
+struct swd_cue line_run(struct swd_run *run, const struct swd_access *accesses, size_t count,
+                        struct swd_outcome *answers)
 {
-	size_t i;
-	for (i = 0; i < count; i++) {
-		struct swd_cue cue;
-		if (!swd_engine_start(engine, accesses, count, i))
-			break;
-		cue = line_drive(engine);
-		if (cue.outcome.kind == SWD_VALUE)
-			accesses[i].word = cue.outcome.word;
-		else if (cue.outcome.kind != SWD_WRITTEN)
-			break;
-	}
-	/* After a stop nothing more is sent. */
-	if (i == count)
-		send(0, IDLE_CYCLES);
-	return i;
+	struct swd_cue cue = swd_run_cue(run);
+	while (cue.kind != SWD_REST && cue.kind != SWD_REFUSED)
+		cue = swd_run_next(run, accesses, count, answers, count, reply(&cue));
+	return cue;
 }
 
-static void make_list(struct swd_access *accesses, uint32_t addr, const uint32_t *words, size_t count)
+bool line_program(struct swd_run *run, uint32_t addr, const uint32_t *words, size_t count)
 {
-	size_t i;
-	for (i = 0; i < count; i++) {
-		accesses[i].addr = addr + 4 * (uint32_t)i;
-		accesses[i].word = words ? words[i] : 0;
-		accesses[i].write = words ? 1 : 0;
-	}
-}
-
-bool line_program(struct swd_engine *engine, uint32_t addr, const uint32_t *words, size_t count)
-{
-	struct swd_access accesses[MOST_WORDS];
+	struct swd_access accesses[2 * MOST_WORDS];
+	struct swd_outcome answers[2 * MOST_WORDS];
 	struct swd_cue cue;
-	size_t done, i;
+	size_t i;
 	if (count > MOST_WORDS)
 		return false;
-	cue = line_drive(engine);
-	if (cue.kind != SWD_REST || cue.outcome.kind != SWD_OPENED) {
-		printf("no target: outcome %u\n", cue.outcome.kind);
+	/* All are written, and then all are read. */
+	for (i = 0; i < 2 * count; i++) {
+		accesses[i].addr = addr + 4 * (uint32_t)(i % count);
+		accesses[i].word = words[i % count];
+		accesses[i].write = i < count;
+	}
+	cue = line_run(run, accesses, 2 * count, answers);
+	if (cue.kind == SWD_REFUSED) {
+		printf("%s\n", swd_refusal_name(cue.outcome.kind));
 		return false;
 	}
-	make_list(accesses, addr, words, count);
-	done = perform(engine, accesses, count);
-	if (done < count) {
-		cue = swd_engine_cue(engine);
-		printf("%u of %u words written, %u begun\n", (unsigned)done, (unsigned)count, cue.begun);
-		return false;
-	}
-	make_list(accesses, addr, NULL, count);
-	done = perform(engine, accesses, count);
-	for (i = 0; i < done; i++) {
-		if (accesses[i].word != words[i]) {
-			printf("%08lx: %08lx\n", (unsigned long)accesses[i].addr, (unsigned long)accesses[i].word);
+	for (i = 0; i < run->answered; i++) {
+		if (answers[i].kind == SWD_BUS_FAULT || (i >= count && answers[i].word != words[i - count])) {
+			printf("%08lx: %s %08lx\n", (unsigned long)accesses[i].addr, swd_outcome_name(answers[i].kind),
+			       (unsigned long)answers[i].word);
 			return false;
 		}
 	}
-	return done == count;
+	if (run->end.kind != SWD_ALL) {
+		printf("%s: %u of %u accesses answered, %u begun\n", swd_outcome_name(run->end.kind), (unsigned)run->answered,
+		       2 * (unsigned)count, run->begun);
+		return false;
+	}
+	return true;
 }

@@ -1,5 +1,5 @@
 /*
- * What the hosts of these examples share: an engine's cues, clock by clock.
+ * What the hosts of these examples share: the cues of a run or an engine, clock by clock.
  */
 #ifndef LINE_H
 #define LINE_H
@@ -19,9 +19,16 @@ int line_clock(int drive);
 struct swd_cue line_drive(struct swd_engine *engine);
 
 /*
- * Opens a target, and writes and reads back `count` words from `addr`. Gives whether all were written and
- * are there; says on standard output where not.
+ * Does a list of accesses by a run that was made, and stores their answers, for which there is room. Gives the last
+ * cue: SWD_REST where the run has ended.
  */
-bool line_program(struct swd_engine *engine, uint32_t addr, const uint32_t *words, size_t count);
+struct swd_cue line_run(struct swd_run *run, const struct swd_access *accesses, size_t count,
+                        struct swd_outcome *answers);
+
+/*
+ * Opens a target, and writes and reads back `count` words from `addr`, by a run that was made. Gives whether all were
+ * written and are there; says on standard output where not.
+ */
+bool line_program(struct swd_run *run, uint32_t addr, const uint32_t *words, size_t count);
 
 #endif

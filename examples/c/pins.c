@@ -50,11 +50,11 @@ int line_clock(int drive)
 int main(void)
 {
 	static const uint32_t words[] = { 0xdeadbeef, 0x00000001, 0xffffffff };
-	struct swd_engine engine;
+	struct swd_run run;
 	board_new(&board);
-	swd_engine_new(&engine, 8);
-	if (!line_program(&engine, BOARD_BASE + 0x20, words, 3))
+	swd_run_new(&run, 8);
+	if (!line_program(&run, BOARD_BASE + 0x20, words, 3))
 		return 1;
-	printf("3 words written and verified over pins, %lu requests\n", (unsigned long)engine.requests);
+	printf("3 words written and verified over pins, %lu requests\n", (unsigned long)run.requests);
 	return 0;
 }

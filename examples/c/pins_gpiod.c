@@ -114,7 +114,7 @@ static void open_lines(const char *path)
 int main(int argc, char **argv)
 {
 	uint32_t words[MOST_WORDS];
-	struct swd_engine engine;
+	struct swd_run run;
 	int i, count = argc - 5;
 	if (count < 1 || count > MOST_WORDS) {
 		fprintf(stderr, "usage: pins_gpiod CHIP SWCLK SWDIO ADDRESS WORD.. (at most %d)\n", MOST_WORDS);
@@ -125,9 +125,9 @@ int main(int argc, char **argv)
 	for (i = 0; i < count; i++)
 		words[i] = number(argv[5 + i], 16);
 	open_lines(argv[1]);
-	swd_engine_new(&engine, 8);
-	if (!line_program(&engine, number(argv[4], 16), words, (size_t)count))
+	swd_run_new(&run, 8);
+	if (!line_program(&run, number(argv[4], 16), words, (size_t)count))
 		return 1;
-	printf("%d words written and verified over GPIO lines, %lu requests\n", count, (unsigned long)engine.requests);
+	printf("%d words written and verified over GPIO lines, %lu requests\n", count, (unsigned long)run.requests);
 	return 0;
 }

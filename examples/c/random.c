@@ -119,6 +119,60 @@ static void try_engine(void)
 	}
 }
 
+static struct swd_run make_run(void)
+{
+	struct swd_run run;
+	memset(&run, 0, sizeof run);
+	switch (any() % 4) {
+	case 0:
+		fill(&run, sizeof run);
+		break;
+	case 1:
+		swd_run_blocks(&run, (uint32_t)some());
+		break;
+	default:
+		swd_run_new(&run, (uint32_t)some());
+		break;
+	}
+	return run;
+}
+
+/* Answers that nothing was written over. */
+static const struct swd_outcome unwritten = { 0x55555555, 0x55 };
+
+static void try_run(void)
+{
+	struct swd_run run = make_run();
+	struct swd_access accesses[3];
+	int i;
+	fill(accesses, sizeof accesses);
+	for (i = 0; i < 3; i++)
+		accesses[i].addr &= any() % 8 ? ~(uint32_t)3 : ~(uint32_t)0;
+	for (i = 0; i < 120; i++) {
+		struct swd_run before = run;
+		struct swd_outcome answers[3] = { unwritten, unwritten, unwritten };
+		struct swd_cue cue = swd_run_cue(&run);
+		size_t room = any() % 16 ? 3 : (size_t)(any() % 4), at;
+		count(cue.kind == SWD_REFUSED, &before, &run, sizeof run);
+		if (cue.kind > SWD_PASS && cue.kind != SWD_REFUSED)
+			fail("no cue");
+		cue = swd_run_next(&run, accesses, 3, answers, room, reply(&cue));
+		count(cue.kind == SWD_REFUSED, &before, &run, sizeof run);
+		for (at = 0; at < 3; at++) {
+			bool came = cue.kind != SWD_REFUSED && at >= before.answered && at < run.answered;
+			if ((answers[at].kind != unwritten.kind) != came)
+				fail("an answer at another index");
+		}
+		if (cue.kind == SWD_REFUSED && cue.outcome.kind > SWD_NO_ROOM)
+			fail("refused for no reason");
+		before = run;
+		if (any() % 16 == 0)
+			count(!swd_run_again(&run, (uint32_t)some()), &before, &run, sizeof run);
+		if (any() % 16 == 0)
+			spoil(&run, sizeof run);
+	}
+}
+
 static struct swd_decoder make_decoder(void)
 {
 	struct swd_decoder decoder;
@@ -261,6 +315,7 @@ int main(int argc, char **argv)
 	unsigned long most = argc > 1 ? strtoul(argv[1], NULL, 10) : 10000000;
 	while (calls < most) {
 		try_engine();
+		try_run();
 		try_decoder();
 		try_target();
 	}

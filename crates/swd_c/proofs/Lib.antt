@@ -1,1 +1,2 @@
+mod Cues
 pub mod Targets

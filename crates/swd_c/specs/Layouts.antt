@@ -5,6 +5,7 @@ use Rattle.swd_trace.specs.declared.decoder.fields.DecoderFields.{DecoderFields}
 use Rattle.swd_clocked.specs.declared.fields.ClockedFields.{ClockedFields}
 use Rattle.swd_clocked.specs.declared.fields.FrameFields.{FrameFields}
 use Rattle.swd_target.specs.declared.fields.ContentFields.{ContentFields}
+use Rattle.swd_steps.specs.declared.fields.RunFields.{RunFields}
 use Rattle.swd_c.specs.declared.cue.SwdCue.{SwdCue}
 use Rattle.swd_c.specs.declared.engine.SwdAccess.{SwdAccess}
 use Rattle.swd_c.specs.declared.item.SwdItem.{SwdItem}
@@ -151,4 +152,17 @@ transfer_numbered = record {
   addr = word 82;
   word = word 83;
   kind = 84;
+}
+
+abbrev pub run_numbered : RunFields
+run_numbered = record {
+  requests = double 22;
+  engine = engine_numbered;
+  end = record {
+    word = word 23;
+    kind = 24;
+  };
+  answered = word 25;
+  begun = 26;
+  stage = 27;
 }

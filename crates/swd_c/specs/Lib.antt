@@ -1,5 +1,6 @@
 pub mod Cues
 pub mod Engines
+pub mod Runs
 pub mod Items
 pub mod Decoders
 pub mod Targets

@@ -72,7 +72,7 @@ impl SwdCue {
     }
 
     // A cue, and where nothing has to be sent the outcome.
-    fn told(cue: Option<Cue>, outcome: Option<Outcome>) -> SwdCue
+    pub(crate) fn told(cue: Option<Cue>, outcome: Option<Outcome>) -> SwdCue
         ensures { result ≡ told_cue cue outcome }
     {
         match cue {

@@ -121,7 +121,7 @@ fn access_of(access: SwdAccess) -> Access
     }
 }
 
-fn access_at(accesses: &[SwdAccess], index: usize) -> Option<Access>
+pub(crate) fn access_at(accesses: &[SwdAccess], index: usize) -> Option<Access>
     ensures { result ≡ access_in accesses.now index }
 {
     match accesses.get(index) {

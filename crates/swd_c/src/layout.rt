@@ -2,7 +2,7 @@
 ghost use Rattle.std.specs.Prelude.{◌≡◌, ◌<◌, ◌^◌};
 ghost use Rattle.swd_c.specs.Layouts.{access_numbered, content_numbered, cue_numbered, decoder_numbered, double};
 ghost use Rattle.swd_c.specs.Layouts.{engine_numbered, frame_numbered};
-ghost use Rattle.swd_c.specs.Layouts.{item_numbered, target_numbered, transfer_numbered, word};
+ghost use Rattle.swd_c.specs.Layouts.{item_numbered, run_numbered, target_numbered, transfer_numbered, word};
 
 use crate::cue::SwdCue;
 use crate::engine::SwdAccess;
@@ -11,6 +11,7 @@ use crate::target::SwdTransfer;
 use std::mem::size_of;
 use swd_clocked::{ClockedFields, FrameFields, LineFields};
 use swd_host::{EngineFields, JobFields, OutcomeFields, StateFields, TarFields, TaskFields};
+use swd_steps::RunFields;
 use swd_target::{ContentFields, PendingFields, TargetFields};
 use swd_trace::DecoderFields;
 
@@ -244,4 +245,43 @@ pub extern "C" fn swd_layout(layout: &mut SwdLayout)
         transfer_size: size_of::<SwdTransfer>() as u64,
         layout_size: size_of::<SwdLayout>() as u64,
     };
+}
+
+/// The struct of a run, and its size in bytes.
+#[repr(C)]
+#[derive(Clone, Copy, Debug, PartialEq, Eq)]
+pub struct SwdRunLayout {
+    pub run: RunFields,
+    pub run_size: u64,
+    pub layout_size: u64,
+}
+
+/// The same for the struct of a run.
+#[unsafe(no_mangle)]
+pub extern "C" fn swd_run_layout(layout: &mut SwdRunLayout)
+    ensures run { layout.new.run ≡ run_numbered }
+{
+    *layout = SwdRunLayout {
+        run: RunFields {
+            requests: double(22),
+            engine: engine_numbered(),
+            end: OutcomeFields {
+                word: word(23),
+                kind: 24,
+            },
+            answered: word(25),
+            begun: 26,
+            stage: 27,
+        },
+        run_size: size_of::<RunFields>() as u64,
+        layout_size: size_of::<SwdRunLayout>() as u64,
+    };
+}
+
+/// The version of the library, 0x000100 for 0.1.0: major, minor and patch in a byte each.
+#[unsafe(no_mangle)]
+pub extern "C" fn swd_version() -> u32
+    ensures { result ≡ 0x0000_0100 }
+{
+    0x0000_0100
 }

@@ -1,5 +1,5 @@
-//! The host's engine, the decoder and the clocked target for programs in C: `include/swd.h` declares what
-//! is exported here, and `docs/C.md` says how to build the archive and which promises it keeps.
+//! Whole runs of the host, its engine, the decoder and the clocked target for programs in C: `include/swd.h`
+//! declares what is exported here, and `docs/C.md` says how to build the archive and which promises it keeps.
 //!
 //! All state is in the caller's memory, as structs of numbers. Each call gives back control, takes no
 //! memory, and refuses what it may not be given, whatever those structs hold.
@@ -11,6 +11,7 @@ mod engine;
 mod item;
 mod layout;
 mod nowhere;
+mod run;
 mod target;
 
 pub use cue::SwdCue;
@@ -20,8 +21,9 @@ pub use engine::{
     swd_engine_next, swd_engine_start,
 };
 pub use item::SwdItem;
-pub use layout::{SwdLayout, swd_layout};
+pub use layout::{SwdLayout, SwdRunLayout, swd_layout, swd_run_layout, swd_version};
 pub use nowhere::Nowhere;
+pub use run::{swd_run_again, swd_run_blocks, swd_run_cue, swd_run_new, swd_run_next};
 pub use target::{
     SwdTransfer, swd_target_cycle, swd_target_hold, swd_target_new, swd_target_settle,
     swd_target_wants,

@@ -40,3 +40,4 @@ mod SendingStages
 mod Sending
 mod SendingTurns
 mod SendingRuns
+pub mod Folding

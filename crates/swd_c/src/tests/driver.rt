@@ -1,9 +1,12 @@
 //! A host that goes by the exports alone, over any wire.
-use crate::{SwdAccess, SwdCue, swd_engine_cue, swd_engine_next, swd_engine_start};
+use crate::{
+    SwdAccess, SwdCue, swd_engine_cue, swd_engine_next, swd_engine_start, swd_run_cue, swd_run_next,
+};
 use std::alloc::{AllocError, Global};
 use swd_bits::Request;
 use swd_host::{EngineFields, JobFields, OutcomeFields, StateFields, TarFields, TaskFields};
 use swd_port::{Due, Wire};
+use swd_steps::RunFields;
 
 /// Kinds of cues.
 pub const REST: u8 = 0;
@@ -64,6 +67,16 @@ pub const ZEROS: EngineFields = EngineFields {
     stray: 0,
 };
 
+/// The same of a run.
+pub const NO_RUN: RunFields = RunFields {
+    requests: 0,
+    engine: ZEROS,
+    end: OutcomeFields { word: 0, kind: 0 },
+    answered: 0,
+    begun: 0,
+    stage: 0,
+};
+
 pub const fn read(addr: u32) -> SwdAccess {
     SwdAccess {
         addr,
@@ -99,8 +112,15 @@ pub struct Told {
     pub ended: u8,
 }
 
-// Ones and zeros, where they may stand.
+// Ones and zeros, where they may stand; with no ones idle cycles.
 fn leads<W: Wire>(wire: &mut W, cue: SwdCue) -> bool {
+    if cue.ones == 0 {
+        let Due::Nothing = wire.due() else {
+            return false;
+        };
+        wire.idle(cue.zeros);
+        return cue.with_switch == 0;
+    }
     let outside = match wire.due() {
         Due::Nothing => true,
         _ => cue.ones >= 100 && cue.with_switch == 0,
@@ -180,5 +200,42 @@ pub fn run_from<W: Wire>(
         } else {
             last.outcome.kind
         },
+    }))
+}
+
+/// Drives a run to its end over a wire, and tells what came of it. None where it comes to none after so many calls, or
+/// the wire may not be given what the run wants.
+pub fn run_whole<W: Wire>(
+    alloc: Global,
+    wire: &mut W,
+    run: &mut RunFields,
+    accesses: &[SwdAccess],
+) -> Result<Option<Told>, AllocError> {
+    let mut answers = Vec::with_capacity(alloc, accesses.len())?;
+    for _ in accesses {
+        answers.push(plain(0))?;
+    }
+    let first = run.answered as usize;
+    let mut cue = swd_run_cue(run);
+    for _ in 0..10_000u32 {
+        if cue.kind == REST || cue.kind == REFUSED {
+            break;
+        }
+        let Some(seen) = reply(wire, cue) else {
+            return Ok(None);
+        };
+        cue = swd_run_next(run, accesses, &mut answers, seen);
+    }
+    let mut told = Vec::new(alloc);
+    for (index, answer) in answers.iter().enumerate() {
+        if index >= first && index < run.answered as usize {
+            told.push(*answer)?;
+        }
+    }
+    Ok(Some(Told {
+        answers: told,
+        begun: run.begun,
+        requests: run.requests,
+        ended: run.end.kind,
     }))
 }

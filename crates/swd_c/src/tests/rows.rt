@@ -3,16 +3,21 @@ ghost use Rattle.std.specs.Prelude.{IsTrue};
 ghost use Rattle.swd_target.specs.Marks.{IsPlan};
 
 use super::driver::{
-    ALL, BUS_FAULT, LOST, TRIES_OUT, Told, WRITTEN, ZEROS, plain, read, run_from, value, write,
+    ALL, BUS_FAULT, LOST, NO_RUN, TRIES_OUT, Told, WRITTEN, ZEROS, plain, read, run_from,
+    run_whole, value, write,
 };
 use super::expect::{expect_eq, expect_eq_at};
-use crate::{SwdAccess, swd_engine_again, swd_engine_blocks, swd_engine_new};
+use crate::{
+    SwdAccess, swd_engine_again, swd_engine_blocks, swd_engine_new, swd_run_again, swd_run_blocks,
+    swd_run_new,
+};
 use std::alloc::Global;
 use std::process::Abort;
 use std::test::Fail;
 use swd_clocked::ClockedBench;
 use swd_host::{EngineFields, OutcomeFields};
 use swd_port::{Mark, Transfer};
+use swd_steps::RunFields;
 use swd_target::{Bench, Memory, Quirks};
 
 const BASE: u32 = 0x2000_0000;
@@ -99,24 +104,39 @@ fn is_told<R: Abort>(rt: &R, name: &str, told: Option<Told>, wanted: Wanted) {
     expect_eq_at(rt, &name, &told.answers.as_slice(), &wanted.answers);
 }
 
-// The engine in the caller's memory, and where the list is resumed.
+// The same host twice: as an engine, whose loop over the accesses is the test's, and as a run.
+#[derive(Clone, Copy)]
+struct Host {
+    engine: EngineFields,
+    run: RunFields,
+}
+
 fn comes_to<R: Abort>(
     rt: &R,
     alloc: Global,
     name: &str,
-    engine: EngineFields,
+    host: Host,
     run: Run,
     wanted: Wanted,
 ) -> Result<(), Fail> {
     let plan = plan_of(alloc, run.marks)?;
+    let run_plan = plan_of(alloc, run.marks)?;
     let clocked_plan = plan_of(alloc, run.marks)?;
-    if !are_legal(&plan) || !are_legal(&clocked_plan) {
+    if !are_legal(&plan) || !are_legal(&run_plan) || !are_legal(&clocked_plan) {
         panic!(rt; "{name}: a mark isn't legal");
     }
     let memory = Memory::new(alloc, BASE, run.words, run.room)?;
     let mut bench = Bench::new(memory, run.quirks, plan);
-    let mut fields = engine;
+    let mut fields = host.engine;
     let told = run_from(alloc, &mut bench, &mut fields, run.accesses, 0)?;
+    is_told(rt, name, told, wanted);
+    bench.settle();
+    expect_eq_at(rt, &name, &bench.memory().log(), &wanted.log);
+
+    let memory = Memory::new(alloc, BASE, run.words, run.room)?;
+    let mut bench = Bench::new(memory, run.quirks, run_plan);
+    let mut fields = host.run;
+    let told = run_whole(alloc, &mut bench, &mut fields, run.accesses)?;
     is_told(rt, name, told, wanted);
     bench.settle();
     expect_eq_at(rt, &name, &bench.memory().log(), &wanted.log);
@@ -125,7 +145,7 @@ fn comes_to<R: Abort>(
     let Ok(mut clocked) = ClockedBench::new(alloc, memory, run.quirks, clocked_plan) else {
         panic!(rt; "{name}: no memory");
     };
-    let mut fields = engine;
+    let mut fields = host.engine;
     let told = run_from(alloc, &mut clocked, &mut fields, run.accesses, 0)?;
     is_told(rt, name, told, wanted);
     clocked.settle();
@@ -139,8 +159,28 @@ fn new_engine(tries: u32) -> EngineFields {
     fields
 }
 
+fn new_run(tries: u32) -> RunFields {
+    let mut fields = NO_RUN;
+    swd_run_new(&mut fields, tries);
+    fields
+}
+
+fn new_host(tries: u32) -> Host {
+    Host {
+        engine: new_engine(tries),
+        run: new_run(tries),
+    }
+}
+
+fn block_host(tries: u32) -> Host {
+    let mut host = new_host(tries);
+    swd_engine_blocks(&mut host.engine, tries);
+    swd_run_blocks(&mut host.run, tries);
+    host
+}
+
 fn runs<R: Abort>(rt: &R, alloc: Global, name: &str, run: Run, wanted: Wanted) -> Result<(), Fail> {
-    comes_to(rt, alloc, name, new_engine(run.tries), run, wanted)
+    comes_to(rt, alloc, name, new_host(run.tries), run, wanted)
 }
 
 fn whole<'w, 'l>(
@@ -353,13 +393,11 @@ fn blocks_of_reads(rt: HostRuntime) -> Result<(), Fail> {
         read_of(0x2000_0008, 0),
         read_of(0x2000_000c, 0),
     ];
-    let mut fields = ZEROS;
-    swd_engine_blocks(&mut fields, 8);
     comes_to(
         &rt,
         rt.alloc(),
         "a block",
-        fields,
+        block_host(8),
         run_of(&[], &accesses),
         whole(&answers, 15, &log),
     )?;
@@ -367,10 +405,31 @@ fn blocks_of_reads(rt: HostRuntime) -> Result<(), Fail> {
         &rt,
         rt.alloc(),
         "one by one",
-        new_engine(8),
+        new_host(8),
         run_of(&[], &accesses),
         whole(&answers, 18, &log),
     )
+}
+
+// Over one word: the second read is a bus error, and mostly answered with the first.
+#[test]
+fn bus_errors_in_a_block(rt: HostRuntime) -> Result<(), Fail> {
+    let accesses = [read(BASE), read(0x2000_0004), read(0x2000_0008)];
+    let answers = [value(0), plain(BUS_FAULT), plain(BUS_FAULT)];
+    let log = [read_of(BASE, 0)];
+    let flip = [(12, Mark::Flip(0))];
+    for (name, marks, count, requests) in [
+        ("of the second", 0, 2, 16),
+        ("of the second and the third", 0, 3, 22),
+        ("met by RESEND", 1, 2, 17),
+        ("met by RESEND, and of the third", 1, 3, 23),
+    ] {
+        let mut run = run_of(&flip[..marks], &accesses[..count]);
+        run.words = 1;
+        let wanted = whole(&answers[..count], requests, &log);
+        comes_to(&rt, rt.alloc(), name, block_host(8), run, wanted)?;
+    }
+    Ok(())
 }
 
 // The first run ends with the acknowledgement of the second write's data; the second write is in the
@@ -378,32 +437,52 @@ fn blocks_of_reads(rt: HostRuntime) -> Result<(), Fail> {
 #[test]
 fn going_on_after_a_lost_acknowledgement(rt: HostRuntime) -> Result<(), Fail> {
     let accesses = [write(BASE, WORD), write(0x2000_0010, 1)];
-    let plan = plan_of(rt.alloc(), &[(15, Mark::Deaf)])?;
-    if !are_legal(&plan) {
-        panic!(rt; "a mark isn't legal");
-    }
-    let memory = Memory::new(rt.alloc(), BASE, 16, 16)?;
-    let Ok(mut clocked) = ClockedBench::new(rt.alloc(), memory, QUIRKS, plan) else {
-        panic!(rt; "no memory");
-    };
-    let mut fields = new_engine(8);
-    let told = run_from(rt.alloc(), &mut clocked, &mut fields, &accesses, 0)?;
+    let one = [plain(WRITTEN)];
     let lost = Wanted {
-        answers: &[plain(WRITTEN)],
+        answers: &one,
         begun: 1,
         requests: 15,
         ended: LOST,
         log: &[],
     };
-    is_told(&rt, "lost", told, lost);
-    swd_engine_again(&mut fields, 8);
-    let told = run_from(rt.alloc(), &mut clocked, &mut fields, &accesses, 1)?;
-    is_told(&rt, "again", told, whole(&[plain(WRITTEN)], 12, &[]));
+    let rest = whole(&one, 12, &[]);
     let log = [
         write_of(BASE, WORD),
         write_of(0x2000_0010, 1),
         write_of(0x2000_0010, 1),
     ];
+
+    let mut clocked = deaf_bench(&rt, rt.alloc())?;
+    let mut fields = new_engine(8);
+    let told = run_from(rt.alloc(), &mut clocked, &mut fields, &accesses, 0)?;
+    is_told(&rt, "lost, by the engine", told, lost);
+    swd_engine_again(&mut fields, 8);
+    let told = run_from(rt.alloc(), &mut clocked, &mut fields, &accesses, 1)?;
+    is_told(&rt, "again, by the engine", told, rest);
     expect_eq(&rt, &clocked.memory().log(), &log.as_slice());
+
+    let mut clocked = deaf_bench(&rt, rt.alloc())?;
+    let mut run = new_run(8);
+    let told = run_whole(rt.alloc(), &mut clocked, &mut run, &accesses)?;
+    is_told(&rt, "lost, by a run", told, lost);
+    assert!(rt; swd_run_again(&mut run, 8));
+    let told = run_whole(rt.alloc(), &mut clocked, &mut run, &accesses)?;
+    is_told(&rt, "again, by a run", told, rest);
+    expect_eq(&rt, &clocked.memory().log(), &log.as_slice());
+    // It is whole: there is nothing to go on with.
+    assert!(rt; !swd_run_again(&mut run, 8));
     Ok(())
+}
+
+// A target that doesn't see the fifteenth request.
+fn deaf_bench<R: Abort>(rt: &R, alloc: Global) -> Result<ClockedBench, Fail> {
+    let plan = plan_of(alloc, &[(15, Mark::Deaf)])?;
+    if !are_legal(&plan) {
+        panic!(rt; "a mark isn't legal");
+    }
+    let memory = Memory::new(alloc, BASE, 16, 16)?;
+    let Ok(clocked) = ClockedBench::new(alloc, memory, QUIRKS, plan) else {
+        panic!(rt; "no memory");
+    };
+    Ok(clocked)
 }

@@ -1,0 +1,177 @@
+//! A whole run of the host in the caller's memory.
+ghost use Rattle.std.specs.Prelude.{◌≡◌, ◌≢◌, ◌+◌, ◌≤◌, true, false, [], List, Some, length};
+ghost use Rattle.swd_port.specs.declared.access.Access.{Access as AccessType};
+ghost use Rattle.swd_port.specs.declared.access.Answer.{Answer as AnswerType};
+ghost use Rattle.swd_host.specs.declared.outcome.Outcome.TheVariants.{Answered};
+ghost use Rattle.swd_host.specs.declared.task.Bursts.TheVariants.{Reads, Writes};
+ghost use Rattle.swd_host.specs.Engines.{HasCue};
+ghost use Rattle.swd_steps.specs.declared.run.Run.{Run as RunType};
+ghost use Rattle.swd_steps.specs.Fields.{fields_of};
+ghost use Rattle.swd_steps.specs.Runs.{Ran, after, anew, answered_by, may_go_on, run_cue};
+ghost use Rattle.swd_c.specs.Cues.{refusal};
+ghost use Rattle.swd_c.specs.Runs.{HasNoRun, HasRun, IsSmall, Stores, WhyNot, accesses_told, refused_for, refused_with};
+ghost use Rattle.swd_c.specs.Runs.{run_told, stored};
+
+use crate::cue::SwdCue;
+use crate::engine::{SwdAccess, access_at};
+use swd_host::{Outcome, OutcomeFields};
+use swd_port::Access;
+use swd_steps::{Accesses, Answers, Refusal, Run, RunFields};
+
+// Why a call is refused, where the run itself didn't: there isn't room for all answers.
+const NO_ROOM: u8 = 6;
+
+// The accesses of a list.
+#[derive(Clone, Copy)]
+struct Listed<'a> {
+    accesses: &'a [SwdAccess],
+}
+
+impl Accesses for Listed<'_> {
+    ghost list = { λ listed. accesses_told listed.accesses.now };
+
+    fn count(&self) -> usize {
+        self.accesses.len()
+    }
+
+    fn access(&self, index: usize) -> Option<Access> {
+        access_at(self.accesses, index)
+    }
+}
+
+/// Makes a run at its beginning. The opening and each access may meet as many events as `tries`.
+#[unsafe(no_mangle)]
+pub extern "C" fn swd_run_new(run: &mut RunFields, tries: u32)
+    ensures { HasRun run.new (λ now. (list : List AccessType) → Ran (anew Writes tries) list [] now []) }
+{
+    *run = Run::new(tries).fields();
+}
+
+/// The same for a block of reads: a read gives its word with the request for the next one.
+#[unsafe(no_mangle)]
+pub extern "C" fn swd_run_blocks(run: &mut RunFields, tries: u32)
+    ensures { HasRun run.new (λ now. (list : List AccessType) → Ran (anew Reads tries) list [] now []) }
+{
+    *run = Run::blocks(tries).fields();
+}
+
+/// Makes the run that goes on after this one over the same list, from the first access that isn't answered. Tells
+/// whether it did. It doesn't where the fields are those of no run, or the run didn't end by a lost acknowledgement or
+/// past its tries: then the fields stay as they were.
+#[unsafe(no_mangle)]
+pub extern "C" fn swd_run_again(run: &mut RunFields, tries: u32) -> bool
+    ensures again { (before : RunType) → fields_of before ≡ run.old → result ≡ true
+        → HasRun run.new (λ now. (list : List AccessType) → Ran (after before.answered tries) list [] now []) }
+    ensures told { (before : RunType) → fields_of before ≡ run.old → result ≡ may_go_on before.stage }
+    ensures refused { HasNoRun run.old → result ≡ false }
+    ensures same { result ≡ false → run.new ≡ run.old }
+{
+    let Some(before) = run.run() else {
+        return false;
+    };
+    let Some(now) = before.again(tries) else {
+        return false;
+    };
+    *run = now.fields();
+    true
+}
+
+/// What has to be sent next. Refused where the fields are those of no run.
+#[unsafe(no_mangle)]
+pub extern "C" fn swd_run_cue(run: &RunFields) -> SwdCue
+    ensures cue { (now : RunType) → fields_of now ≡ run.now → result ≡ run_told now }
+    ensures refused { HasNoRun run.now → result ≡ refusal }
+{
+    match run.run() {
+        Some(run) => SwdCue::of_run(&run),
+        None => SwdCue::refusal(),
+    }
+}
+
+/// Tells what came of the cue: of a request the three bits that were seen, of a read's data phase its 33 bits, the
+/// first in time least significant each; else any number. Begins the next access of the list by itself, and stores the
+/// answers of those that ended. Gives the next cue.
+///
+/// Refused where the fields are those of no run, the run has ended, no such bits are that number, the list isn't one
+/// that may be done, or there is less room than accesses: then fields and answers stay as they were.
+#[unsafe(no_mangle)]
+pub extern "C" fn swd_run_next(
+    run: &mut RunFields,
+    accesses: &[SwdAccess],
+    answers: &mut [OutcomeFields],
+    reply: u64,
+) -> SwdCue
+    ensures goes { (before : RunType) → fields_of before ≡ run.old → result.kind ≢ 255
+        → HasCue (λ cue. HasRun run.new (λ now. (more : List AnswerType)
+        × Stores cue reply accesses.now before answers.old now answers.new more × (result ≡ run_told now)))
+        (run_cue before) }
+    ensures refused { result.kind ≡ 255 → WhyNot run.old accesses.now reply (length answers.old) result }
+    ensures same { result.kind ≡ 255 → (run.new ≡ run.old) × (answers.new ≡ answers.old) }
+{
+    let Some(mut now) = run.run() else {
+        return SwdCue::refusal();
+    };
+    if answers.len() < accesses.len() {
+        return SwdCue::refused(NO_ROOM, 0);
+    }
+    let first = now.answered() as usize;
+    match now.next(&Listed { accesses }, reply) {
+        Err(refusal) => SwdCue::refused_for(refusal),
+        Ok(came) => {
+            store(answers, first, came);
+            *run = now.fields();
+            SwdCue::of_run(&now)
+        }
+    }
+}
+
+// Stores the answers that came, from this index on.
+fn store(answers: &mut [OutcomeFields], first: usize, came: Answers)
+    requires { first + length (answered_by came) ≤ length answers.old }
+    ensures { answers.new ≡ stored first (answered_by came) answers.old }
+{
+    let mut index = first;
+    if let Some(answer) = came.first {
+        answers[index] = OutcomeFields::of(Outcome::Answered(answer));
+        index += 1;
+    }
+    if let Some(answer) = came.second {
+        answers[index] = OutcomeFields::of(Outcome::Answered(answer));
+    }
+}
+
+impl SwdCue {
+    // The cue of a run.
+    fn of_run(run: &Run) -> SwdCue
+        ensures { result ≡ run_told run.now }
+    {
+        let mut cue = SwdCue::told(run.cue(), run.ended().map(Outcome::Stopped));
+        cue.begun = run.begun();
+        cue
+    }
+
+    // What is answered where a call of a run is refused: why, and which access.
+    fn refused(why: u8, index: u32) -> SwdCue
+        ensures { result ≡ refused_with why index }
+    {
+        let mut cue = SwdCue::refusal();
+        cue.outcome = OutcomeFields {
+            word: index,
+            kind: why,
+        };
+        cue
+    }
+
+    fn refused_for(refusal: Refusal) -> SwdCue
+        requires { IsSmall refusal }
+        ensures { result ≡ refused_for refusal }
+    {
+        match refusal {
+            Refusal::Ended => SwdCue::refused(1, 0),
+            Refusal::Reply => SwdCue::refused(2, 0),
+            Refusal::TooMany => SwdCue::refused(3, 0),
+            Refusal::Unaligned { index } => SwdCue::refused(4, index as u32),
+            Refusal::TooFew => SwdCue::refused(5, 0),
+        }
+    }
+}

@@ -1,0 +1,8 @@
+mod Turning
+mod Lists
+mod Standing
+mod Keeping
+mod Running
+mod Reporting
+mod Ending
+mod Stepping

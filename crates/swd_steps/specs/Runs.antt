@@ -1,0 +1,170 @@
+-- What a run has come to, by the calls of a line that were made for it, the last one first, and what came of each.
+use Rattle.std.specs.Prelude.{ℕ, ◌≡◌, ◌+◌, ◌≤◌, Bool, true, false, Option, Some, None, List, [], ◌∷◌, ◌++◌}
+use Rattle.std.specs.Prelude.{length, drop, slice_get, if◌then◌else◌}
+use Rattle.swd_port.specs.declared.access.Access.{Access}
+use Rattle.swd_port.specs.declared.access.Answer.{Answer}
+use Rattle.swd_port.specs.declared.call.Call.{Call}
+use Rattle.swd_port.specs.declared.cue.Cue.{Cue}
+use Rattle.swd_port.specs.declared.cue.Cue.TheVariants.{Lead}
+use Rattle.swd_port.specs.Stories.{IsSeen, is_send}
+use Rattle.swd_host.specs.declared.engine.Engine.{Engine}
+use Rattle.swd_host.specs.declared.outcome.End.{End}
+use Rattle.swd_host.specs.declared.outcome.End.TheVariants.{All, Lost, TriesOut}
+use Rattle.swd_host.specs.declared.outcome.Outcome.TheVariants.{Opened, Answered, Stopped}
+use Rattle.swd_host.specs.declared.outcome.Refused.TheVariants.{TooMany as HostTooMany, Unaligned as HostUnaligned}
+use Rattle.swd_host.specs.declared.task.Bursts.{Bursts}
+use Rattle.swd_host.specs.declared.task.Bursts.TheVariants.{Writes}
+use Rattle.swd_host.specs.Calls.{Turned, eight_idle}
+use Rattle.swd_host.specs.Engines.{HasCue, IsPhaseCue, cue_of, finished_of, is_resting}
+use Rattle.swd_host.specs.Plain.{AreAccesses}
+use Rattle.swd_host.specs.Reports.{RefusedAs}
+use Rattle.swd_host.specs.Turns.{IsNew, Starts}
+use Rattle.swd_steps.specs.declared.run.Answers.{Answers}
+use Rattle.swd_steps.specs.declared.run.Refusal.{Refusal}
+use Rattle.swd_steps.specs.declared.run.Refusal.TheVariants.{Ended as HasEnded, Reply, TooMany, Unaligned, TooFew}
+use Rattle.swd_steps.specs.declared.run.Run.{Run}
+use Rattle.swd_steps.specs.declared.run.Stage.{Stage}
+use Rattle.swd_steps.specs.declared.run.Stage.TheVariants.{Driving, Between, Ended}
+
+-- How a run was made: for bursts of writes or of reads, anew or going on after so many answers, and with so many
+-- tries.
+pub record Beginning : Type 0 where
+  pub kind : Bursts
+  pub again : Bool
+  pub tries : ℕ
+  pub from : ℕ
+
+-- a new run, and one that goes on after so many answers
+abbrev pub anew : Bursts → ℕ → Beginning
+anew kind tries = record { kind = kind; again = false; tries = tries; from = 0 }
+
+abbrev pub after : ℕ → ℕ → Beginning
+after from tries = record { kind = Writes; again = true; tries = tries; from = from }
+
+-- What came of these calls for a list: the engine, where the run is, and the answers. An access is begun, with the one
+-- that follows it, where the one before it is answered; when all are, eight idle cycles follow.
+pub data Came (how : Beginning) (list : List Access) : List Call → Engine → Stage → List Answer → Type 0 where
+  has_begun : (e : Engine) → IsNew how.kind how.again how.tries e → Came how list [] e Driving []
+  has_turned : {calls : List Call} {answers : List Answer} (call : Call) (e f : Engine)
+      → Came how list calls e Driving answers → Turned call e f → IsPhaseCue call.cue
+      → Came how list (call ∷ calls) f Driving answers
+  has_opened : {calls : List Call} {answers : List Answer} (e : Engine) → Came how list calls e Driving answers
+      → finished_of e ≡ Some Opened → Came how list calls e Between answers
+  has_answered : {calls : List Call} {answers : List Answer} (e : Engine) (answer : Answer)
+      → Came how list calls e Driving answers → finished_of e ≡ Some (Answered answer)
+      → Came how list calls e Between (answers ++ answer ∷ [])
+  has_started : {calls : List Call} {answers : List Answer} (a : Access) (e f : Engine)
+      → Came how list calls e Between answers → slice_get list (length answers) ≡ Some a
+      → Starts a (slice_get list (length answers + 1)) e f → Came how list calls f Driving answers
+  has_idled : {calls : List Call} {answers : List Answer} (e : Engine) → Came how list calls e Between answers
+      → length answers ≡ length list → Came how list (eight_idle ∷ calls) e (Ended All) answers
+  has_stopped : {calls : List Call} {answers : List Answer} (e : Engine) (end : End)
+      → Came how list calls e Driving answers → finished_of e ≡ Some (Stopped end)
+      → Came how list calls e (Ended end) answers
+
+-- a list of which calls were made may be done, and has the accesses that the run goes on after
+abbrev pub Accepted : ℕ → List Access → List Call → Type 0
+Accepted from accesses [] = Unit {0}
+Accepted from accesses (call ∷ calls) =
+    (length accesses ≤ 65536) × AreAccesses accesses × (from ≤ length accesses)
+
+-- where no access is in hand, all are answered
+abbrev pub IsLast : Beginning → List Access → Run → List Answer → Type 0
+IsLast how accesses run answers = run.stage ≡ Between → length answers ≡ length (drop how.from accesses)
+
+-- A run that was made so has come to this over a list of accesses, in these calls, with these answers. As long as it
+-- hasn't ended there is something to send.
+pub record Ran (how : Beginning) (accesses : List Access) (calls : List Call) (run : Run) (answers : List Answer) :
+    Type 0
+  where
+    pub came : Came how (drop how.from accesses) calls run.engine run.stage answers
+    pub number : run.answered ≡ how.from + length answers
+    pub accepted : Accepted how.from accesses calls
+    pub last : IsLast how accesses run answers
+    pub drives : run.stage ≡ Driving → is_resting run.engine ≡ false
+
+-- WHAT A RUN SHOWS
+abbrev pub cue_at : Stage → Engine → Option Cue
+cue_at Driving e = cue_of e
+cue_at Between e = Some (Lead 0 0 false 8)
+cue_at (Ended end) e = None
+
+-- what has to be sent next
+abbrev pub run_cue : Run → Option Cue
+run_cue run = cue_at run.stage run.engine
+
+abbrev pub end_at : Stage → Option End
+end_at (Ended end) = Some end
+end_at stage = None
+
+-- how it ended
+abbrev pub end_of : Run → Option End
+end_of run = end_at run.stage
+
+-- A CALL MORE
+abbrev pub listed : Option Answer → List Answer
+listed (Some answer) = answer ∷ []
+listed None = []
+
+-- the answers that came
+abbrev pub answered_by : Answers → List Answer
+answered_by came = listed came.first ++ listed came.second
+
+-- what came of a cue, where this is told; only of a request and of a read's data phase anything comes
+abbrev pub seen_of : Cue → ℕ → ℕ
+seen_of cue reply = if is_send cue then 0 else reply
+
+abbrev pub call_of : Cue → ℕ → Call
+call_of cue reply = record { cue = cue; seen = seen_of cue reply }
+
+-- a call more was made of the line for a run that has come to this
+abbrev pub Extends : Cue → ℕ → List Access → Run → List Answer → Run → Type 0
+Extends cue reply accesses before more after =
+    (how : Beginning) (calls : List Call) (answers : List Answer) → Ran how accesses calls before answers
+    → Ran how accesses (call_of cue reply ∷ calls) after (answers ++ more)
+
+-- The same within a call, before it is known that there is something to send.
+pub record HasCome (how : Beginning) (accesses : List Access) (calls : List Call) (run : Run) (answers : List Answer)
+    : Type 0 where
+  pub came : Came how (drop how.from accesses) calls run.engine run.stage answers
+  pub number : run.answered ≡ how.from + length answers
+  pub last : IsLast how accesses run answers
+
+-- no call more: an outcome of the engine was followed, with this answer
+abbrev pub Leaves : List Access → Run → List Answer → Run → Type 0
+Leaves accesses before more after =
+    (how : Beginning) (calls : List Call) (answers : List Answer) → HasCome how accesses calls before answers
+    → HasCome how accesses calls after (answers ++ more)
+
+-- a call more, likewise
+abbrev pub MakesCall : Cue → ℕ → List Access → Run → List Answer → Run → Type 0
+MakesCall cue seen accesses before more after =
+    (how : Beginning) (calls : List Call) (answers : List Answer) → HasCome how accesses calls before answers
+    → HasCome how accesses (record { cue = cue; seen = seen } ∷ calls) after (answers ++ more)
+
+-- the line reset comes next
+abbrev pub is_lead : Option Cue → Bool
+is_lead (Some (Lead ones undriven switch zeros)) = true
+is_lead cue = false
+
+-- a list may go on to be done, of which this run has answered so many accesses
+pub record IsFit (accesses : List Access) (run : Run) : Type 0 where
+  pub few : length accesses ≤ 65536
+  pub answered : run.answered ≤ length accesses
+  pub are : is_lead (cue_of run.engine) ≡ true → AreAccesses accesses
+
+-- why a call does nothing
+abbrev pub HasReason : Run → List Access → ℕ → Refusal → Type 0
+HasReason run accesses reply HasEnded = run_cue run ≡ None
+HasReason run accesses reply Reply = HasCue (λ cue. IsSeen cue (seen_of cue reply) → ⊥) (run_cue run)
+HasReason run accesses reply TooMany = RefusedAs accesses HostTooMany
+HasReason run accesses reply (Unaligned index) = RefusedAs accesses (HostUnaligned index)
+HasReason run accesses reply TooFew =
+    (how : Beginning) (calls : List Call) (answers : List Answer) → Ran how accesses calls run answers
+    → how.from ≤ length accesses → ⊥
+
+-- it stopped where a run may go on
+abbrev pub may_go_on : Stage → Bool
+may_go_on (Ended Lost) = true
+may_go_on (Ended TriesOut) = true
+may_go_on stage = false

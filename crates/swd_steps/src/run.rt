@@ -1,0 +1,362 @@
+//! A run, as what has to be sent next and what came of it.
+ghost use Rattle.std.specs.Prelude.{◌≡◌, ◌+◌, ◌≤◌, [], length, List, true, false};
+ghost use Rattle.std.specs.Prelude.{◌++◌, IfOk, IfErr, IfNone, IfSome, Some, None, slice_get, ℕ};
+ghost use Rattle.swd_steps.specs.declared.run.Run.{Run as RunType};
+ghost use Rattle.swd_port.specs.declared.access.Access.{Access as AccessType};
+ghost use Rattle.swd_port.specs.Stories.{IsSeen};
+ghost use Rattle.swd_host.specs.declared.engine.Ahead.TheVariants.{Unsent};
+ghost use Rattle.swd_host.specs.declared.task.Bursts.TheVariants.{Reads, Writes};
+ghost use Rattle.swd_host.specs.Engines.{HasCue, IsPhaseCue, begun_of, cue_of, finished_of, is_ahead, is_resting};
+ghost use Rattle.swd_host.specs.Engines.{may_start, requests_of};
+ghost use Rattle.swd_host.specs.Plain.{AreAccesses, HasRanges, is_aligned};
+ghost use Rattle.swd_host.specs.Turns.{Starts};
+ghost use Rattle.swd_steps.specs.Runs.{Extends, HasReason, IsFit, Leaves, MakesCall, Ran, after, anew, answered_by};
+ghost use Rattle.swd_steps.specs.Runs.{end_of, is_lead, listed, may_go_on, run_cue, seen_of};
+
+use crate::accesses::Accesses;
+use swd_host::{End, Engine, Outcome};
+use swd_port::{Access, Answer, Cue, MOST_ACCESSES};
+
+/// Where a run is.
+#[derive(Clone, Copy, Debug, PartialEq, Eq)]
+pub(crate) enum Stage {
+    /// The engine has something to send.
+    Driving,
+    /// No access is in hand: the next one is begun, or where all are answered the eight idle cycles follow.
+    Between,
+    /// The run has ended.
+    Ended(End),
+}
+
+/// The answers that came with one call, in their order: mostly one or none. Two come in a block of reads, where the
+/// next access was a bus error that was met while the one before it was read.
+#[derive(Clone, Copy, Debug, PartialEq, Eq)]
+pub struct Answers {
+    pub first: Option<Answer>,
+    /// Nothing, unless there is a first one.
+    pub second: Option<Answer>,
+}
+
+/// Why a call did nothing. The run is as it was.
+#[derive(Clone, Copy, Debug, PartialEq, Eq)]
+pub enum Refusal {
+    /// The run has ended.
+    Ended,
+    /// No such bits come of the cue.
+    Reply,
+    /// There are more than 65,536 accesses.
+    TooMany,
+    /// The first access whose address isn't a multiple of 4.
+    Unaligned { index: usize },
+    /// The list has fewer accesses than are answered: it isn't the one of the calls before.
+    TooFew,
+}
+
+/// A run of the host over a list of accesses, which says what has to be sent next and takes what came of it. The caller
+/// shows the same list with each call.
+///
+/// ```text
+/// let mut run = Run::new(tries);
+/// while let Some(cue) = run.cue() {
+///     let reply = /* do what the cue says; what was seen */;
+///     let answers = run.next(&accesses, reply)?;
+///     /* store them from `run.answered()` before the call on */
+/// }
+/// /* `run.ended()` says how it ended */
+/// ```
+#[derive(Clone, Copy, Debug, PartialEq, Eq)]
+pub struct Run {
+    pub(crate) engine: Engine,
+    pub(crate) stage: Stage,
+    // How many accesses are answered, those of the runs before that this one goes on after among them.
+    pub(crate) answered: u32,
+}
+
+impl Run {
+    /// A run at its beginning. The opening and each access may meet as many events as `tries`.
+    pub fn new(tries: u32) -> Run
+        ensures { (list : List AccessType) → Ran (anew Writes tries) list [] result [] }
+    {
+        Run::beginning(Engine::new(tries), 0)
+    }
+
+    /// The same for a block of reads: its bursts are reads in place of writes. A read gives its word at the request for
+    /// the next one.
+    pub fn blocks(tries: u32) -> Run
+        ensures { (list : List AccessType) → Ran (anew Reads tries) list [] result [] }
+    {
+        Run::beginning(Engine::blocks(tries), 0)
+    }
+
+    /// A run that goes on after this one over the same list, from the first access that isn't answered; nothing where
+    /// this one didn't end `Lost` or `TriesOut`. That access may be done a second time, where it was begun. `requests`
+    /// and `begun` are of the new run alone.
+    pub fn again(&self, tries: u32) -> Option<Run>
+        ensures again { IfSome result (λ run.
+            (list : List AccessType) → Ran (after self.now.answered tries) list [] run []) }
+        ensures none { IfNone result (may_go_on self.now.stage ≡ false) }
+        ensures some { IfSome result (λ run. may_go_on self.now.stage ≡ true) }
+    {
+        match self.stage {
+            Stage::Ended(End::Lost | End::TriesOut) => {
+                Some(Run::beginning(Engine::again(tries), self.answered))
+            }
+            _ => None,
+        }
+    }
+
+    fn beginning(engine: Engine, answered: u32) -> Run
+        ensures engine { result.engine ≡ engine }
+        ensures stage { result.stage ≡ Stage.Driving }
+        ensures answered { result.answered ≡ answered }
+    {
+        Run {
+            engine,
+            stage: Stage::Driving,
+            answered,
+        }
+    }
+
+    /// What has to be sent next; nothing once the run has ended.
+    pub fn cue(&self) -> Option<Cue>
+        ensures cue { result ≡ run_cue self.now }
+        ensures range { IfSome result IsPhaseCue }
+    {
+        match self.stage {
+            Stage::Driving => self.engine.cue(),
+            Stage::Between => Some(Cue::Lead {
+                ones: 0,
+                undriven: 0,
+                switch: false,
+                zeros: 8,
+            }),
+            Stage::Ended(_) => None,
+        }
+    }
+
+    /// How the run ended, once it has.
+    pub fn ended(&self) -> Option<End>
+        ensures { result ≡ end_of self.now }
+    {
+        match self.stage {
+            Stage::Ended(end) => Some(end),
+            _ => None,
+        }
+    }
+
+    /// How many accesses are answered, those of the runs before this one among them.
+    pub fn answered(&self) -> u32
+        ensures { result ≡ self.now.answered }
+    {
+        self.answered
+    }
+
+    /// How many accesses aren't answered and had their DRW request sent by this run.
+    pub fn begun(&self) -> u8
+        ensures { result ≡ begun_of self.now.engine }
+    {
+        self.engine.begun()
+    }
+
+    /// How many requests this run sent.
+    pub fn requests(&self) -> u64
+        ensures { result ≡ requests_of self.now.engine }
+    {
+        self.engine.requests()
+    }
+
+    /// Takes what came of the cue: of a request the three bits that were seen, of a read's data phase its 33 bits, the
+    /// first in time least significant each; of any other any number. Begins the next access by itself, and after the
+    /// last one has eight idle cycles sent. Gives the answers that came with it, the first of which is that of the
+    /// access at `answered` before the call.
+    ///
+    /// The list is checked as a whole with the first cue alone.
+    ///
+    /// # Errors
+    ///
+    /// `Ended` once the run has ended. `Reply` where the number isn't below 8 at a request, or below 2^33 at a read's
+    /// data phase. `TooMany`, `Unaligned` and `TooFew` where the list isn't one that may be done. The run is as it was
+    /// then.
+    pub fn next<L: Accesses>(&mut self, accesses: &L, reply: u64) -> Result<Answers, Refusal>
+        ensures goes { IfOk result (λ came. HasCue (λ cue.
+            Extends cue reply (L.list accesses.now) self.old (answered_by came) self.new) (run_cue self.old)) }
+        ensures counted { IfOk result (λ came. (self.new.answered ≡ self.old.answered + length (answered_by came))
+            × (self.new.answered ≤ length (L.list accesses.now))) }
+        ensures refused { IfErr result (HasReason self.old (L.list accesses.now) reply) }
+        ensures same { IfErr result (λ refusal. self.new ≡ self.old) }
+    {
+        let Some(cue) = self.cue() else {
+            return Err(Refusal::Ended);
+        };
+        if let Some(refusal) = self.refusal(accesses) {
+            return Err(refusal);
+        }
+        let Some(seen) = seen(cue, reply) else {
+            return Err(Refusal::Reply);
+        };
+        let mut next = *self;
+        let came = next.turn(accesses, seen);
+        if next.answered as usize > accesses.count() {
+            return Err(Refusal::TooFew);
+        }
+        *self = next;
+        Ok(came)
+    }
+}
+
+impl Run {
+    // Why no call is made for this list.
+    fn refusal<L: Accesses>(&self, accesses: &L) -> Option<Refusal>
+        ensures none { IfNone result (IsFit (L.list accesses.now) self.now) }
+        ensures some { IfSome result (λ refusal. (reply : ℕ) → HasReason self.now (L.list accesses.now) reply refusal) }
+    {
+        let count = accesses.count();
+        if count > MOST_ACCESSES as usize {
+            return Some(Refusal::TooMany);
+        }
+        if self.answered as usize > count {
+            return Some(Refusal::TooFew);
+        }
+        if self.is_first() {
+            unaligned(accesses, count)
+        } else {
+            None
+        }
+    }
+
+    // The line reset comes next.
+    fn is_first(&self) -> bool
+        ensures { result ≡ is_lead (cue_of self.now.engine) }
+    {
+        matches!(self.engine.cue(), Some(Cue::Lead { .. }))
+    }
+
+    // This came of the cue.
+    fn turn<L: Accesses>(&mut self, accesses: &L, seen: u64) -> Answers
+        requires cue { HasCue (λ cue. IsSeen cue seen × IsPhaseCue cue) (run_cue self.old) }
+        requires few { self.old.answered ≤ 65536 }
+        ensures turns { HasCue (λ cue. MakesCall cue seen (L.list accesses.now) self.old (answered_by result) self.new)
+            (run_cue self.old) }
+        ensures counted { self.new.answered ≡ self.old.answered + length (answered_by result) }
+        ensures drives { self.new.stage ≡ Stage.Driving → is_resting self.new.engine ≡ false }
+    {
+        if let Stage::Between = self.stage {
+            self.stage = Stage::Ended(End::All);
+            return Answers::of(None, None);
+        }
+        self.engine.next(seen);
+        let first = self.follow(accesses);
+        let second = self.follow(accesses);
+        Answers::of(first, second)
+    }
+
+    // Follows an outcome of the engine, where it has come to one.
+    fn follow<L: Accesses>(&mut self, accesses: &L) -> Option<Answer>
+        requires few { self.old.answered ≤ 65537 }
+        ensures follows { Leaves (L.list accesses.now) self.old (listed result) self.new }
+        ensures counted { self.new.answered ≡ self.old.answered + length (listed result) }
+        ensures more { self.new.answered ≤ self.old.answered + 1 }
+        ensures same { is_resting self.old.engine ≡ false → self.new ≡ self.old }
+        ensures driven { self.new.stage ≡ Stage.Driving → self.old.stage ≡ Stage.Driving }
+        ensures calm { is_resting self.old.engine ≡ true → self.new.stage ≡ Stage.Driving
+            → (self.new.engine.ahead ≡ Unsent) × (is_ahead self.new.engine ≡ false) }
+        ensures drives { self.old.engine.ahead ≡ Unsent → is_ahead self.old.engine ≡ false
+            → self.new.stage ≡ Stage.Driving → is_resting self.new.engine ≡ false }
+    {
+        let Stage::Driving = self.stage else {
+            return None;
+        };
+        match self.engine.finished() {
+            None => None,
+            Some(Outcome::Stopped(end)) => {
+                self.stage = Stage::Ended(end);
+                None
+            }
+            Some(Outcome::Opened) => {
+                self.begin(accesses);
+                None
+            }
+            Some(Outcome::Answered(answer)) => {
+                self.answered += 1;
+                self.begin(accesses);
+                Some(answer)
+            }
+        }
+    }
+
+    // Begins the next access, where there is one.
+    fn begin<L: Accesses>(&mut self, accesses: &L)
+        requires rests { may_start (finished_of self.old.engine) ≡ true }
+        requires few { self.old.answered ≤ 65538 }
+        ensures starts { (a : AccessType) → slice_get (L.list accesses.now) self.old.answered ≡ Some a
+            → Starts a (slice_get (L.list accesses.now) (self.old.answered + 1)) self.old.engine self.new.engine }
+        ensures drives { (a : AccessType) → slice_get (L.list accesses.now) self.old.answered ≡ Some a
+            → self.new.stage ≡ Stage.Driving }
+        ensures none { slice_get (L.list accesses.now) self.old.answered ≡ None
+            → (self.new.engine ≡ self.old.engine) × (self.new.stage ≡ Stage.Between) }
+        ensures answered { self.new.answered ≡ self.old.answered }
+    {
+        let index = self.answered as usize;
+        match accesses.access(index) {
+            Some(access) => {
+                self.engine.start(access, accesses.access(index + 1));
+                self.stage = Stage::Driving;
+            }
+            None => self.stage = Stage::Between,
+        }
+    }
+}
+
+impl Answers {
+    fn of(first: Option<Answer>, second: Option<Answer>) -> Answers
+        ensures { answered_by result ≡ listed first ++ listed second }
+    {
+        match first {
+            Some(_) => Answers { first, second },
+            None => Answers {
+                first: second,
+                second: None,
+            },
+        }
+    }
+}
+
+// What came of a cue, where such bits may come of it.
+fn seen(cue: Cue, reply: u64) -> Option<u64>
+    ensures some { IfSome result (λ seen. (seen ≡ seen_of cue reply) × IsSeen cue seen) }
+    ensures none { IfNone result (IsSeen cue (seen_of cue reply) → ⊥) }
+{
+    match cue {
+        Cue::Ask(_) if reply >= 8 => None,
+        Cue::Take if reply >= 1 << 33 => None,
+        Cue::Ask(_) | Cue::Take => Some(reply),
+        Cue::Lead { .. } | Cue::Give(_) | Cue::Pass => Some(0),
+    }
+}
+
+// The first of so many accesses whose address isn't a multiple of 4, as a refusal.
+fn unaligned<L: Accesses>(accesses: &L, count: usize) -> Option<Refusal>
+    requires count { count ≡ length (L.list accesses.now) }
+    requires few { length (L.list accesses.now) ≤ 65536 }
+    ensures none { IfNone result (AreAccesses (L.list accesses.now)) }
+    ensures some { IfSome result (λ refusal.
+        (run : RunType) (reply : ℕ) → HasReason run (L.list accesses.now) reply refusal) }
+{
+    for index in 0..count {
+        if let Some(access) = accesses.access(index) {
+            if !is_aligned(access) {
+                return Some(Refusal::Unaligned { index });
+            }
+        }
+    }
+    None
+}
+
+// The address is a multiple of 4.
+fn is_aligned(access: Access) -> bool
+    ensures aligned { result ≡ is_aligned access }
+    ensures ranges { HasRanges access }
+{
+    let (Access::Read(addr) | Access::Write(addr, _)) = access;
+    addr % 4 == 0
+}
