@@ -20,7 +20,7 @@ _swd() {
         words='--help -h'
         ;;
     decode)
-        words='--places --names --count --accesses --made --help -h'
+        words='--places --names --count --accesses --made --resync --overrun --help -h'
         ;;
     encode)
         words='--help -h'

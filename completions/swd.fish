@@ -16,6 +16,8 @@ complete -c swd -n '__fish_seen_subcommand_from decode' -l names -d 'Name regist
 complete -c swd -n '__fish_seen_subcommand_from decode' -l count -d 'Count each kind of item in place of a listing'
 complete -c swd -n '__fish_seen_subcommand_from decode' -l accesses -d 'Tell what became of each access of memory'
 complete -c swd -n '__fish_seen_subcommand_from decode' -l made -d 'With --accesses, of a target that was just made'
+complete -c swd -n '__fish_seen_subcommand_from decode' -l resync -d 'Read a capture that begins in mid-session or lost bits'
+complete -c swd -n '__fish_seen_subcommand_from decode' -l overrun -d 'With --resync, WAIT and FAULT have a data phase'
 complete -c swd -n '__fish_seen_subcommand_from decode' -s h -l help -d 'Print help'
 complete -c swd -n '__fish_seen_subcommand_from encode' -F
 complete -c swd -n '__fish_seen_subcommand_from encode' -s h -l help -d 'Print help'

@@ -1,12 +1,13 @@
--- The row in which an item is counted has its kind for a name.
+-- The row in which a part is counted has its kind for a name.
 use Rattle.std.proofs.Common.{◌≡◌, ◌+◌, Bool, true, false, ◌++◌, refl}
 use Rattle.swd_bits.specs.Listing.{port, address, direction}
 use Rattle.swd_bits.specs.declared.request.Reg4.{Reg4}
 use Rattle.swd_bits.specs.declared.request.Reg4.TheVariants.{R0, R4, R8, RC}
 use Rattle.swd_bits.specs.declared.tx.TxEnd.{TxEnd}
 use Rattle.swd_bits.specs.declared.tx.TxEnd.TheVariants.{Moved, Wait, Fault, NoAck}
-use Rattle.swd_trace.specs.declared.item.Item.{Item}
 use Rattle.swd_trace.specs.declared.item.Item.TheVariants.{Reset, Switch, Idle, Tx, Junk, Cut}
+use Rattle.swd_resync.specs.declared.part.Part.{Part}
+use Rattle.swd_resync.specs.declared.part.Part.TheVariants.{Item as Told, Skip}
 use Rattle.swd_capture.specs.Tables.{addr_rows, direction_rows, end_row, kind_end, kind_text, port_rows, row_name}
 use Rattle.swd_capture.specs.Tables.{row_of}
 
@@ -94,10 +95,11 @@ named_tx false RC false Wait = refl
 named_tx false RC false Fault = refl
 named_tx false RC false (NoAck seen) = refl
 
-pub named_by_kind : (item : Item) → row_name (row_of item) ≡ kind_text item
-named_by_kind (Tx tx) = named_tx tx.request.ap tx.request.addr tx.request.read tx.result
-named_by_kind (Reset n) = refl
-named_by_kind Switch = refl
-named_by_kind (Idle n) = refl
-named_by_kind (Junk b) = refl
-named_by_kind (Cut bits) = refl
+pub named_by_kind : (part : Part) → row_name (row_of part) ≡ kind_text part
+named_by_kind (Told (Tx tx)) = named_tx tx.request.ap tx.request.addr tx.request.read tx.result
+named_by_kind (Told (Reset n)) = refl
+named_by_kind (Told Switch) = refl
+named_by_kind (Told (Idle n)) = refl
+named_by_kind (Told (Junk b)) = refl
+named_by_kind (Told (Cut bits)) = refl
+named_by_kind (Skip n) = refl

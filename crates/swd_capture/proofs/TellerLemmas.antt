@@ -1,51 +1,96 @@
--- Laws of what is printed of items, one after the other.
-use Rattle.std.proofs.Common.{◌≡◌, ℕ, ◌+◌, ◌-◌, ◌^◌, min, List, [], ◌∷◌, ◌++◌, length, Option, refl, sym, ap, ◌∙◌}
-use Rattle.std.proofs.Common.{append_assoc, arith}
-use Rattle.std.proofs.lemmas.List.{append-nil}
+-- Laws of what is printed of parts, one after the other.
+use Rattle.std.proofs.Common.{◌≡◌, ℕ, zero, suc, ◌+◌, ◌-◌, ◌^◌, ◌<◌, min, Bool, false, List, [], ◌∷◌, ◌++◌, length}
+use Rattle.std.proofs.Common.{Option, None, replicate, refl, sym, ap, ◌∙◌, append_assoc, arith}
+use Rattle.std.proofs.lemmas.List.{append-nil, length-append}
 use Rattle.swd_trace.specs.declared.item.Item.{Item}
-use Rattle.swd_trace.specs.Texts.{item_bits}
-use Rattle.swd_trace.proofs.SizeLemmas.{length_more}
+use Rattle.swd_trace.specs.declared.item.Item.TheVariants.{Junk}
+use Rattle.swd_trace.specs.Texts.{bits_of_items}
+use Rattle.swd_trace.proofs.SizeLemmas.{bits_more}
+use Rattle.swd_resync.specs.declared.part.Part.{Part}
+use Rattle.swd_resync.specs.AsItems.{items_of_part, items_of}
+use Rattle.swd_resync.proofs.ItemLemmas.{items_more}
 use Rattle.swd_port.specs.declared.select.Select.{Select}
+use Rattle.swd_observer.specs.Traces.{after_items}
+use Rattle.swd_observer_text.specs.Accesses.{accesses}
+use Rattle.swd_observer_text.proofs.AccessLemmas.{accesses_join, after_join}
+use Rattle.swd_capture.specs.declared.printed.LineForm.{LineForm}
 use Rattle.swd_capture.specs.declared.printed.Printed.{Printed}
+use Rattle.swd_capture.specs.declared.printed.Printed.TheVariants.{Lines, Counts, Accesses}
 use Rattle.swd_capture.specs.Places.{place_behind}
 use Rattle.swd_capture.specs.Names.{select_after, select_from, select_behind}
 use Rattle.swd_capture.specs.Tables.{counted, count_in}
-use Rattle.swd_capture.specs.Printing.{entry, told_behind, told}
+use Rattle.swd_capture.specs.Printing.{entry, line_behind, lines_behind, observer_of, told}
 
--- one more item, and the place behind it
-pub place_more : (items : List Item) (item : Item)
-    → place_behind (items ++ item ∷ []) ≡ min (place_behind items + length (item_bits item)) (2 ^ 64 - 1)
-place_more items item = let e = length_more items item in omega arith
+-- one more part, and the place behind it
+pub place_more : (over : Bool) (parts : List Part) (part : Part) → place_behind (items_of over (parts ++ part ∷ []))
+    ≡ min (place_behind (items_of over parts) + length (bits_of_items (items_of_part over part))) (2 ^ 64 - 1)
+place_more over parts part =
+    let e : length (bits_of_items (items_of over (parts ++ part ∷ [])))
+    ≡ length (bits_of_items (items_of over parts)) + length (bits_of_items (items_of_part over part)) =
+    ap (λ i. length (bits_of_items i)) (items_more over parts part)
+    ∙ ap length (bits_more (items_of over parts) (items_of_part over part))
+    ∙ length-append (bits_of_items (items_of over parts)) (bits_of_items (items_of_part over part)) in
+    omega arith
 
-select_from_more : (select : Option Select) (items : List Item) (item : Item)
-    → select_from select (items ++ item ∷ []) ≡ select_after (select_from select items) item
-select_from_more select [] item = refl
-select_from_more select (i ∷ items) item = select_from_more (select_after select i) items item
+select_join : (select : Option Select) (items others : List Item)
+    → select_from select (items ++ others) ≡ select_from (select_from select items) others
+select_join select [] others = refl
+select_join select (i ∷ items) others = select_join (select_after select i) items others
 
 -- and what is known of SELECT
-pub select_more : (items : List Item) (item : Item)
-    → select_behind (items ++ item ∷ []) ≡ select_after (select_behind items) item
-select_more items item = select_from_more _ items item
+pub select_more : (over : Bool) (parts : List Part) (part : Part) → select_behind (items_of over (parts ++ part ∷ []))
+    ≡ select_from (select_behind (items_of over parts)) (items_of_part over part)
+select_more over parts part =
+    ap select_behind (items_more over parts part) ∙ select_join _ (items_of over parts) (items_of_part over part)
+
+forgotten : (n : ℕ) → select_from None (replicate n (Junk false)) ≡ None
+forgotten zero = refl
+forgotten (suc n) = forgotten n
+
+-- behind a skip it is unknown
+pub select_skip : (n : ℕ) (select : Option Select) → 0 < n → select_from select (replicate n (Junk false)) ≡ None
+select_skip zero select h = absurd (omega arith)
+select_skip (suc n) select h = forgotten n
+
+-- and the observer
+pub observer_more : (made over : Bool) (parts : List Part) (part : Part)
+    → after_items (items_of over (parts ++ part ∷ [])) (observer_of made)
+    ≡ after_items (items_of_part over part) (after_items (items_of over parts) (observer_of made))
+observer_more made over parts part =
+    ap (λ i. after_items i (observer_of made)) (items_more over parts part)
+    ∙ after_join (items_of over parts) (items_of_part over part) (observer_of made)
 
 -- and what is counted in a row
-pub count_more : (row : ℕ) (items : List Item) (item : Item)
-    → count_in row (items ++ item ∷ []) ≡ count_in row items + counted row item
-count_more row [] item = omega arith
-count_more row (i ∷ items) item = let e = count_more row items item in omega arith
+pub count_more : (row : ℕ) (parts : List Part) (part : Part)
+    → count_in row (parts ++ part ∷ []) ≡ count_in row parts + counted row part
+count_more row [] part = omega arith
+count_more row (p ∷ parts) part = let e = count_more row parts part in omega arith
 
-told_behind_more : (printed : Printed) (before items : List Item) (item : Item)
-    → told_behind printed before (items ++ item ∷ [])
-    ≡ told_behind printed before items ++ entry printed (before ++ items) item
-told_behind_more printed before [] item = append-nil (entry printed before item)
-    ∙ ap (λ b. entry printed b item) (sym (append-nil before))
-told_behind_more printed before (i ∷ items) item =
-    ap (λ x. entry printed before i ++ x) (told_behind_more printed (before ++ i ∷ []) items item)
-    ∙ ap (λ b. entry printed before i ++ (told_behind printed (before ++ i ∷ []) items ++ entry printed b item))
-    (append_assoc before (i ∷ []) items)
-    ∙ sym (append_assoc (entry printed before i) (told_behind printed (before ++ i ∷ []) items)
-    (entry printed (before ++ i ∷ items) item))
+lines_more : (form : LineForm) (over : Bool) (before parts : List Part) (part : Part)
+    → lines_behind form over before (parts ++ part ∷ [])
+    ≡ lines_behind form over before parts ++ line_behind form (items_of over (before ++ parts)) part
+lines_more form over before [] part = append-nil (line_behind form (items_of over before) part)
+    ∙ ap (λ b. line_behind form (items_of over b) part) (sym (append-nil before))
+lines_more form over before (p ∷ parts) part =
+    ap (λ x. line_behind form (items_of over before) p ++ x) (lines_more form over (before ++ p ∷ []) parts part)
+    ∙ ap (λ b. line_behind form (items_of over before) p
+    ++ (lines_behind form over (before ++ p ∷ []) parts ++ line_behind form (items_of over b) part))
+    (append_assoc before (p ∷ []) parts)
+    ∙ sym (append_assoc (line_behind form (items_of over before) p)
+    (lines_behind form over (before ++ p ∷ []) parts)
+    (line_behind form (items_of over (before ++ p ∷ parts)) part))
 
 -- and what is told
-pub told_more : (printed : Printed) (items : List Item) (item : Item)
-    → told printed (items ++ item ∷ []) ≡ told printed items ++ entry printed items item
-told_more printed items item = told_behind_more printed [] items item
+pub told_more : (printed : Printed) (over : Bool) (parts : List Part) (part : Part)
+    → told printed over (parts ++ part ∷ []) ≡ told printed over parts ++ entry printed over parts part
+told_more (Lines form) over parts part = lines_more form over [] parts part
+told_more Counts over parts part = refl
+told_more (Accesses made) over parts part =
+    ap (λ i. accesses i (observer_of made)) (items_more over parts part)
+    ∙ accesses_join (items_of over parts) (items_of_part over part) (observer_of made)
+
+-- nothing is told of no parts
+pub told_none : (printed : Printed) (over : Bool) → told printed over [] ≡ []
+told_none (Lines form) over = refl
+told_none Counts over = refl
+told_none (Accesses made) over = refl

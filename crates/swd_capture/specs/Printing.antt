@@ -1,18 +1,27 @@
--- What is printed of the items of a trace. The text is this project's choice.
-use Rattle.std.specs.Prelude.{ℕ, Bool, true, false, List, [], ◌∷◌, ◌++◌, Option}
+-- What is printed of the parts of a capture; a trace is one whose parts are its items. The text is this project's
+-- choice.
+use Rattle.std.specs.Prelude.{ℕ, zero, suc, Bool, true, false, List, [], ◌∷◌, ◌++◌, Option}
 use Rattle.swd_bits.specs.Listing.{port, direction, outcome}
 use Rattle.swd_bits.specs.declared.tx.Tx.{Tx as Transaction}
 use Rattle.swd_trace.specs.declared.item.Item.{Item}
 use Rattle.swd_trace.specs.declared.item.Item.TheVariants.{Reset, Switch, Idle, Tx, Junk, Cut}
 use Rattle.swd_trace.specs.Texts.{item_line}
+use Rattle.swd_resync.specs.declared.part.Part.{Part}
+use Rattle.swd_resync.specs.declared.part.Part.TheVariants.{Item as Told, Skip}
+use Rattle.swd_resync.specs.PartTexts.{part_line}
+use Rattle.swd_resync.specs.AsItems.{items_of_part, items_of}
 use Rattle.swd_port.specs.declared.select.Select.{Select}
+use Rattle.swd_observer.specs.declared.trace.TraceObserver.{TraceObserver}
+use Rattle.swd_observer.specs.Observing.{last_tells}
+use Rattle.swd_observer.specs.Traces.{after_items, from_made, from_unknown}
+use Rattle.swd_observer_text.specs.Accesses.{accesses, tells_text}
 use Rattle.swd_capture.specs.declared.printed.Printed.{Printed}
-use Rattle.swd_capture.specs.declared.printed.Printed.TheVariants.{Lines, Counts}
+use Rattle.swd_capture.specs.declared.printed.Printed.TheVariants.{Lines, Counts, Accesses}
 use Rattle.swd_capture.specs.declared.printed.LineForm.{LineForm}
 use Rattle.swd_capture.specs.Places.{place_behind, place_text}
 use Rattle.swd_capture.specs.Names.{register, select_behind}
 use Rattle.swd_capture.specs.Flags.{flagged, flags_of}
-use Rattle.swd_capture.specs.Tables.{rows_text}
+use Rattle.swd_capture.specs.Tables.{row_text}
 
 -- a transaction's line with the register's name, and the flags of its word
 abbrev pub named_tx : Option Select → Transaction → List ℕ
@@ -38,30 +47,64 @@ abbrev pub line_if : Bool → Option Select → Item → List ℕ
 line_if true select item = named_line select item
 line_if false select item = item_line item
 
--- the line of an item behind others, and its end
-abbrev pub line_behind : LineForm → List Item → Item → List ℕ
-line_behind form before item = place_if form.places (place_behind before)
-    ++ line_if form.names (select_behind before) item ++ 10 ∷ []
+-- a part's line without its place
+abbrev pub part_text : Bool → Option Select → Part → List ℕ
+part_text names select (Told item) = line_if names select item
+part_text names select (Skip n) = part_line (Skip n)
 
--- what is told of an item behind others as soon as it is decided
-abbrev pub entry : Printed → List Item → Item → List ℕ
-entry (Lines form) before item = line_behind form before item
-entry Counts before item = []
+-- the line of a part behind these items, and its end
+abbrev pub line_behind : LineForm → List Item → Part → List ℕ
+line_behind form before part = place_if form.places (place_behind before)
+    ++ part_text form.names (select_behind before) part ++ 10 ∷ []
 
-abbrev pub told_behind : Printed → List Item → List Item → List ℕ
-told_behind printed before [] = []
-told_behind printed before (item ∷ items) =
-    entry printed before item ++ told_behind printed (before ++ item ∷ []) items
+-- the lines of parts behind others
+abbrev pub lines_behind : LineForm → Bool → List Part → List Part → List ℕ
+lines_behind form over before [] = []
+lines_behind form over before (part ∷ parts) =
+    line_behind form (items_of over before) part ++ lines_behind form over (before ++ part ∷ []) parts
 
--- what is told of the first items of a trace, while more may follow
-abbrev pub told : Printed → List Item → List ℕ
-told printed items = told_behind printed [] items
+-- what is known first of the target whose accesses are told: all where it was just made, else nothing
+abbrev pub observer_of : Bool → TraceObserver
+observer_of true = from_made
+observer_of false = from_unknown
 
--- how many rows stand at the end
+abbrev pub first_observer : Printed → TraceObserver
+first_observer (Lines form) = from_unknown
+first_observer Counts = from_unknown
+first_observer (Accesses made) = observer_of made
+
+-- what is told of a part behind others as soon as it is decided
+abbrev pub entry : Printed → Bool → List Part → Part → List ℕ
+entry (Lines form) over before part = line_behind form (items_of over before) part
+entry Counts over before part = []
+entry (Accesses made) over before part =
+    accesses (items_of_part over part) (after_items (items_of over before) (observer_of made))
+
+-- What is told of the first parts of a capture, while more may follow. Places, SELECT and accesses are those of the
+-- items of a trace that the parts are.
+abbrev pub told : Printed → Bool → List Part → List ℕ
+told (Lines form) over parts = lines_behind form over [] parts
+told Counts over parts = []
+told (Accesses made) over parts = accesses (items_of over parts) (observer_of made)
+
+-- what stands at the end: a number of rows of a table, or the lines of accesses that nothing confirms
 abbrev pub row_count : Printed → ℕ
 row_count (Lines form) = 0
-row_count Counts = 85
+row_count Counts = 86
+row_count (Accesses made) = 1
 
--- what is printed of all items of a trace
-abbrev pub printout : Printed → List Item → List ℕ
-printout printed items = told printed items ++ rows_text items (row_count printed)
+abbrev pub end_row_text : Printed → Bool → List Part → ℕ → List ℕ
+end_row_text (Lines form) over parts row = []
+end_row_text Counts over parts row = row_text parts row
+end_row_text (Accesses made) over parts row =
+    tells_text (last_tells (after_items (items_of over parts) (observer_of made)).observer)
+
+-- the first of these rows
+abbrev pub end_rows_text : Printed → Bool → List Part → ℕ → List ℕ
+end_rows_text printed over parts zero = []
+end_rows_text printed over parts (suc n) =
+    end_rows_text printed over parts n ++ end_row_text printed over parts n
+
+-- what is printed of all parts of a capture
+abbrev pub printout : Printed → Bool → List Part → List ℕ
+printout printed over parts = told printed over parts ++ end_rows_text printed over parts (row_count printed)

@@ -1,5 +1,5 @@
--- How often each kind of item came.
-use Rattle.std.specs.Prelude.{◌≡◌, ℕ, zero, suc, ◌+◌, ◌-◌, ◌/◌, ◌%◌, ◌^◌, ◌<◌, ◌==◌, nat_lt, min, Bool, true}
+-- How often each kind of part came.
+use Rattle.std.specs.Prelude.{◌≡◌, ℕ, ◌+◌, ◌-◌, ◌/◌, ◌%◌, ◌^◌, ◌<◌, ◌==◌, nat_lt, min, Bool, true}
 use Rattle.std.specs.Prelude.{false, List, [], ◌∷◌, ◌++◌, length, codes, if◌then◌else◌, slice_index}
 use Rattle.std.specs.Fmt.{decimal}
 use Rattle.swd_bits.specs.Listing.{port, address, direction}
@@ -9,9 +9,11 @@ use Rattle.swd_bits.specs.declared.tx.TxEnd.{TxEnd}
 use Rattle.swd_bits.specs.declared.tx.TxEnd.TheVariants.{Moved, Wait, Fault, NoAck}
 use Rattle.swd_trace.specs.declared.item.Item.{Item}
 use Rattle.swd_trace.specs.declared.item.Item.TheVariants.{Reset, Switch, Idle, Tx, Junk, Cut}
+use Rattle.swd_resync.specs.declared.part.Part.{Part}
+use Rattle.swd_resync.specs.declared.part.Part.TheVariants.{Item as Told, Skip}
 use Rattle.swd_capture.specs.declared.table.Table.{Table}
 
--- ---- the row in which an item is counted
+-- ---- the row in which a part is counted
 
 abbrev pub port_rows : Bool → ℕ
 port_rows false = 0
@@ -38,35 +40,45 @@ end_row Fault = 3
 end_row (NoAck seen) = 4
 
 -- transactions by port, address, direction and what came of them, and then the other kinds
-abbrev pub row_of : Item → ℕ
-row_of (Tx tx) = port_rows tx.request.ap + addr_rows tx.request.addr + direction_rows tx.request.read
+abbrev pub item_row : Item → ℕ
+item_row (Tx tx) = port_rows tx.request.ap + addr_rows tx.request.addr + direction_rows tx.request.read
     + end_row tx.result
-row_of (Reset n) = 80
-row_of Switch = 81
-row_of (Idle n) = 82
-row_of (Junk b) = 83
-row_of (Cut bits) = 84
+item_row (Reset n) = 80
+item_row Switch = 81
+item_row (Idle n) = 82
+item_row (Junk b) = 83
+item_row (Cut bits) = 84
+
+-- and bits that are skipped
+abbrev pub row_of : Part → ℕ
+row_of (Told item) = item_row item
+row_of (Skip n) = 85
 
 -- idle cycles and bits that are cut off are counted each, and so are bits that belong to nothing
-abbrev pub weight_of : Item → ℕ
-weight_of (Idle n) = n
-weight_of (Cut bits) = bits.len
-weight_of (Tx tx) = 1
-weight_of (Reset n) = 1
-weight_of Switch = 1
-weight_of (Junk b) = 1
+abbrev pub item_weight : Item → ℕ
+item_weight (Idle n) = n
+item_weight (Cut bits) = bits.len
+item_weight (Tx tx) = 1
+item_weight (Reset n) = 1
+item_weight Switch = 1
+item_weight (Junk b) = 1
 
-abbrev pub counted : ℕ → Item → ℕ
-counted row item = if row_of item == row then weight_of item else 0
+-- and so are those that are skipped
+abbrev pub weight_of : Part → ℕ
+weight_of (Told item) = item_weight item
+weight_of (Skip n) = n
+
+abbrev pub counted : ℕ → Part → ℕ
+counted row part = if row_of part == row then weight_of part else 0
 
 -- what is counted in a row
-abbrev pub count_in : ℕ → List Item → ℕ
+abbrev pub count_in : ℕ → List Part → ℕ
 count_in row [] = 0
-count_in row (item ∷ items) = counted row item + count_in row items
+count_in row (part ∷ parts) = counted row part + count_in row parts
 
 -- ---- the text
 
--- what an item is told as where it is counted
+-- what a part is told as where it is counted
 abbrev pub kind_end : TxEnd → List ℕ
 kind_end (Moved word true) = codes "ok"
 kind_end (Moved word false) = codes "bad"
@@ -74,13 +86,17 @@ kind_end Wait = codes "wait"
 kind_end Fault = codes "fault"
 kind_end (NoAck seen) = codes "none"
 
-abbrev pub kind_text : Item → List ℕ
-kind_text (Tx tx) = port tx.request.ap ++ address tx.request.addr ++ direction tx.request.read ++ kind_end tx.result
-kind_text (Reset n) = codes "reset"
-kind_text Switch = codes "switch"
-kind_text (Idle n) = codes "idle"
-kind_text (Junk b) = codes "junk"
-kind_text (Cut bits) = codes "cut"
+abbrev pub item_kind : Item → List ℕ
+item_kind (Tx tx) = port tx.request.ap ++ address tx.request.addr ++ direction tx.request.read ++ kind_end tx.result
+item_kind (Reset n) = codes "reset"
+item_kind Switch = codes "switch"
+item_kind (Idle n) = codes "idle"
+item_kind (Junk b) = codes "junk"
+item_kind (Cut bits) = codes "cut"
+
+abbrev pub kind_text : Part → List ℕ
+kind_text (Told item) = item_kind item
+kind_text (Skip n) = codes "skip"
 
 abbrev pub port_name : ℕ → List ℕ
 port_name n = if n == 0 then codes "dp " else codes "ap "
@@ -99,7 +115,7 @@ end_name n =
 abbrev pub other_name : ℕ → List ℕ
 other_name n =
     if n == 80 then codes "reset" else if n == 81 then codes "switch" else if n == 82 then codes "idle" else
-    if n == 83 then codes "junk" else codes "cut"
+    if n == 83 then codes "junk" else if n == 84 then codes "cut" else codes "skip"
 
 -- a row's name
 abbrev pub row_name : ℕ → List ℕ
@@ -112,15 +128,10 @@ abbrev pub row_line : ℕ → List ℕ → List ℕ
 row_line count name = if count == 0 then [] else (decimal count ++ codes " " ++ name ++ 10 ∷ [])
 
 -- the line of a row, whose number is at most 2^64 - 1
-abbrev pub row_text : List Item → ℕ → List ℕ
-row_text items row = row_line (min (count_in row items) (2 ^ 64 - 1)) (row_name row)
+abbrev pub row_text : List Part → ℕ → List ℕ
+row_text parts row = row_line (min (count_in row parts) (2 ^ 64 - 1)) (row_name row)
 
--- the lines of so many rows, from the first on
-abbrev pub rows_text : List Item → ℕ → List ℕ
-rows_text items zero = []
-rows_text items (suc n) = rows_text items n ++ row_text items n
-
--- the table has what is counted of these items
-pub record IsTableOf (items : List Item) (table : Table) : Type 0 where
-  pub rows : length table.counts ≡ 85
-  pub counts : (row : ℕ) → row < 85 → slice_index table.counts row ≡ min (count_in row items) (2 ^ 64 - 1)
+-- the table has what is counted of these parts
+pub record IsTableOf (parts : List Part) (table : Table) : Type 0 where
+  pub rows : length table.counts ≡ 86
+  pub counts : (row : ℕ) → row < 86 → slice_index table.counts row ≡ min (count_in row parts) (2 ^ 64 - 1)

@@ -1,19 +1,25 @@
--- What a teller keeps of the items that it was given.
-use Rattle.std.specs.Prelude.{◌≡◌, List}
-use Rattle.swd_trace.specs.declared.item.Item.{Item}
+-- What a teller keeps of the parts that it was given.
+use Rattle.std.specs.Prelude.{◌≡◌, Bool, List}
+use Rattle.swd_resync.specs.declared.part.Part.{Part}
+use Rattle.swd_resync.specs.AsItems.{items_of}
+use Rattle.swd_observer.specs.Traces.{after_items}
 use Rattle.swd_capture.specs.declared.printed.Printed.{Printed}
-use Rattle.swd_capture.specs.declared.printed.Printed.TheVariants.{Lines, Counts}
+use Rattle.swd_capture.specs.declared.printed.Printed.TheVariants.{Lines, Counts, Accesses}
 use Rattle.swd_capture.specs.declared.teller.Teller.{Teller}
 use Rattle.swd_capture.specs.Places.{place_behind}
 use Rattle.swd_capture.specs.Names.{select_behind}
+use Rattle.swd_capture.specs.Printing.{observer_of}
 use Rattle.swd_capture.specs.Tables.{IsTableOf}
 
--- place and SELECT where lines are printed, the table where items are counted
-abbrev pub Keeps : Printed → List Item → Teller → Type 0
-Keeps (Lines form) items t = (t.place ≡ place_behind items) × (t.select ≡ select_behind items)
-Keeps Counts items t = IsTableOf items t.table
+-- place and SELECT where lines are printed, the table where parts are counted, the observer where accesses are told
+abbrev pub Keeps : Printed → Bool → List Part → Teller → Type 0
+Keeps (Lines form) over parts t =
+    (t.place ≡ place_behind (items_of over parts)) × (t.select ≡ select_behind (items_of over parts))
+Keeps Counts over parts t = IsTableOf parts t.table
+Keeps (Accesses made) over parts t = t.observer ≡ after_items (items_of over parts) (observer_of made)
 
--- these are the items that it was given, and this is what it prints of them
-pub record IsAfter (printed : Printed) (items : List Item) (t : Teller) : Type 0 where
+-- these are the parts that it was given, and this is what it prints of them
+pub record IsAfter (printed : Printed) (over : Bool) (parts : List Part) (t : Teller) : Type 0 where
   pub prints : t.printed ≡ printed
-  pub keeps : Keeps printed items t
+  pub phases : t.over ≡ over
+  pub keeps : Keeps printed over parts t

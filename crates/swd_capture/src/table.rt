@@ -1,17 +1,19 @@
-//! How often each kind of item came.
+//! How often each kind of part came.
 ghost use Rattle.std.specs.Prelude.{◌≡◌, ◌+◌, ◌-◌, ◌/◌, ◌%◌, ◌^◌, ◌<◌, ◌≤◌, ◌++◌, ◌∷◌, [], length, List};
 ghost use Rattle.arrayvec.specs.ArrayString.{array_string_len};
-ghost use Rattle.swd_trace.specs.declared.item.Item.{Item};
+ghost use Rattle.swd_resync.specs.declared.part.Part.{Part};
+ghost use Rattle.swd_trace.specs.declared.item.Item.TheVariants.{Tx as TxItem};
 ghost use Rattle.swd_capture.specs.Tables.{addr_name, addr_rows, direction_rows, end_name, end_row};
-ghost use Rattle.swd_capture.specs.Tables.{other_name, port_rows, row_line, row_name, row_of};
-ghost use Rattle.swd_capture.specs.Tables.{weight_of};
+ghost use Rattle.swd_capture.specs.Tables.{item_row, item_weight, other_name, port_rows, row_line, row_name};
+ghost use Rattle.swd_capture.specs.Tables.{row_of, weight_of};
 
 use arrayvec::ArrayString;
 use swd_bits::{Reg4, Tx, TxEnd};
+use swd_resync::Part;
 use swd_trace::Item;
 
-/// How many rows a table has: a transaction's port, address, direction and end, and five other kinds.
-pub const ROWS: usize = 85;
+/// How many rows a table has: a transaction's port, address, direction and end, and six other kinds.
+pub const ROWS: usize = 86;
 
 // The rows of the transactions.
 const TRANSACTION_ROWS: usize = 80;
@@ -19,7 +21,7 @@ const TRANSACTION_ROWS: usize = 80;
 /// The most bytes of a row's line, and its end.
 pub(crate) const LONGEST_ROW: usize = 40;
 
-/// How often each kind of item came, each at most 2^64 - 1 times.
+/// How often each kind of part came, each at most 2^64 - 1 times.
 #[derive(Drop)]
 pub(crate) struct Table {
     counts: [u64; ROWS],
@@ -64,7 +66,7 @@ fn rows_of_direction(read: bool) -> usize
 }
 
 fn row_of_tx(tx: &Tx) -> usize
-    ensures row { result ≡ row_of (Item.Tx tx.now) }
+    ensures row { result ≡ item_row (TxItem tx.now) }
     ensures within { result < 80 }
 {
     rows_of_port(tx.request.ap)
@@ -75,7 +77,7 @@ fn row_of_tx(tx: &Tx) -> usize
 
 // The row in which an item is counted.
 fn row_of_item(item: &Item) -> usize
-    ensures row { result ≡ row_of item.now }
+    ensures row { result ≡ item_row item.now }
     ensures within { result < ROWS }
 {
     match item {
@@ -88,14 +90,35 @@ fn row_of_item(item: &Item) -> usize
     }
 }
 
+// The row in which a part is counted.
+fn row_of_part(part: &Part) -> usize
+    ensures row { result ≡ row_of part.now }
+    ensures within { result < ROWS }
+{
+    match part {
+        Part::Item(item) => row_of_item(item),
+        Part::Skip(_) => 85,
+    }
+}
+
 // What an item adds to its row.
 fn weight_of_item(item: &Item) -> u64
-    ensures { result ≡ weight_of item.now }
+    ensures { result ≡ item_weight item.now }
 {
     match item {
         Item::Idle(count) => *count,
         Item::Cut(bits) => u64::from(bits.len),
         Item::Tx(_) | Item::Reset(_) | Item::Switch | Item::Junk(_) => 1,
+    }
+}
+
+// What a part adds to its row.
+fn weight_of_part(part: &Part) -> u64
+    ensures { result ≡ weight_of part.now }
+{
+    match part {
+        Part::Item(item) => weight_of_item(item),
+        Part::Skip(count) => *count,
     }
 }
 
@@ -121,7 +144,8 @@ fn other_text(row: usize) -> &'static str
         81 => "switch",
         82 => "idle",
         83 => "junk",
-        _ => "cut",
+        84 => "cut",
+        _ => "skip",
     }
 }
 
@@ -179,20 +203,20 @@ impl Table {
         Table { counts: [0; ROWS] }
     }
 
-    /// Counts an item in its row.
-    pub(crate) fn add(&mut self, item: &Item)
-        ensures { (items : List Item) → IsTableOf items self.old → IsTableOf (items ++ item.now ∷ []) self.new }
+    /// Counts a part in its row.
+    pub(crate) fn add(&mut self, part: &Part)
+        ensures { (parts : List Part) → IsTableOf parts self.old → IsTableOf (parts ++ part.now ∷ []) self.new }
     {
-        let row = row_of_item(item);
-        self.counts[row] = self.counts[row].saturating_add(weight_of_item(item));
+        let row = row_of_part(part);
+        self.counts[row] = self.counts[row].saturating_add(weight_of_part(part));
     }
 
     /// Adds the line of a row, and its end.
     pub(crate) fn push_row<const N: usize>(&self, row: usize, text: &mut ArrayString<N>)
         requires row { row < ROWS }
         requires room { array_string_len text.old + LONGEST_ROW ≤ N }
-        ensures bytes { (items : List Item) → IsTableOf items self.now
-            → text.new.bytes ≡ text.old.bytes ++ row_text items row }
+        ensures bytes { (parts : List Part) → IsTableOf parts self.now
+            → text.new.bytes ≡ text.old.bytes ++ row_text parts row }
         ensures len { array_string_len text.new ≤ array_string_len text.old + LONGEST_ROW }
     {
         push_row_line(text, self.counts[row], row);

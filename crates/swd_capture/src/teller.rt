@@ -1,34 +1,43 @@
-//! What is printed of the items of a trace, one after the other.
-ghost use Rattle.std.specs.Prelude.{◌≡◌, ◌+◌, ◌<◌, ◌≤◌, ◌++◌, ◌∷◌, [], List};
+//! What is printed of the parts of a capture, one after the other.
+ghost use Rattle.std.specs.Prelude.{◌≡◌, ◌+◌, ◌-◌, ◌^◌, ◌<◌, ◌≤◌, ◌++◌, ◌∷◌, [], List, Bool, length, min};
 ghost use Rattle.arrayvec.specs.ArrayString.{array_string_len};
-ghost use Rattle.swd_trace.specs.declared.item.Item.{Item};
+ghost use Rattle.swd_resync.specs.declared.part.Part.{Part};
+ghost use Rattle.swd_resync.specs.AsItems.{items_of_part};
+ghost use Rattle.swd_trace.specs.Texts.{bits_of_items};
 ghost use Rattle.swd_capture.specs.declared.printed.Printed.{Printed};
-ghost use Rattle.swd_capture.specs.Printing.{place_if, line_if};
+ghost use Rattle.swd_capture.specs.Names.{select_from};
+ghost use Rattle.swd_capture.specs.Printing.{first_observer, line_if, part_text, place_if};
 
 use crate::bit_count::bit_count;
 use crate::names::{LONGEST_NAMED, push_named, selected_after};
 use crate::printed::{LineForm, Printed};
 use crate::table::{ROWS, Table};
 use arrayvec::ArrayString;
+use swd_observer::TraceObserver;
+use swd_observer_text::{push_last, watch_part};
 use swd_port::Select;
+use swd_resync::{Part, phase_len};
 use swd_trace::{Item, LONGEST_LINE};
 
 // The most bytes of a place.
 const LONGEST_PLACE: usize = 22;
 
-/// The most bytes of what is printed of one item, or of one row at the end.
+/// The most bytes of what is printed of one part, or of one row at the end.
 pub const LONGEST_ENTRY: usize = LONGEST_PLACE + LONGEST_LINE + 1;
 
-/// Takes the items of a trace one after the other, and says what is printed of each. It holds some counts, and takes
+/// Takes the parts of a capture one after the other, and says what is printed of each. It holds some counts, and takes
 /// no memory.
 #[derive(Drop)]
 pub struct Teller {
     printed: Printed,
-    // How many bits the items had, at most 2^64 - 1.
+    // Whether a data phase follows WAIT and FAULT.
+    over: bool,
+    // How many bits the parts had, at most 2^64 - 1.
     place: u64,
     // What is known of SELECT.
     select: Option<Select>,
     table: Table,
+    observer: TraceObserver,
 }
 
 // Adds a place, where lines begin with it.
@@ -47,7 +56,7 @@ fn push_place<const N: usize>(text: &mut ArrayString<N>, places: bool, place: u6
 }
 
 // Adds an item's line without its end, with names where they are wanted.
-fn push_line<const N: usize>(
+fn push_item_line<const N: usize>(
     text: &mut ArrayString<N>,
     names: bool,
     select: Option<Select>,
@@ -64,78 +73,134 @@ fn push_line<const N: usize>(
     }
 }
 
+// Adds a part's line without its end.
+fn push_part_line<const N: usize>(
+    text: &mut ArrayString<N>,
+    names: bool,
+    select: Option<Select>,
+    part: &Part,
+)
+    requires { array_string_len text.old + LONGEST_LINE ≤ N }
+    ensures bytes { text.new.bytes ≡ text.old.bytes ++ part_text names select part.now }
+    ensures len { array_string_len text.new ≤ array_string_len text.old + LONGEST_LINE }
+{
+    match part {
+        Part::Item(item) => push_item_line(text, names, select, item),
+        Part::Skip(_) => part.push_line(text),
+    }
+}
+
+// What is known of SELECT after a part.
+fn selected_behind(select: Option<Select>, over: bool, part: &Part) -> Option<Select>
+    ensures { result ≡ select_from select (items_of_part over part.now) }
+{
+    match part {
+        Part::Item(item) => selected_after(select, item),
+        Part::Skip(count) => { if *count == 0 { select } else { None } }
+    }
+}
+
+// The number of bits before what follows a part, at most 2^64 - 1.
+fn place_behind_part(place: u64, over: bool, part: &Part) -> u64
+    ensures { result ≡ min (place + length (bits_of_items (items_of_part over part.now))) (2 ^ 64 - 1) }
+{
+    match part {
+        Part::Item(item) => place
+            .saturating_add(bit_count(item))
+            .saturating_add(u64::from(phase_len(item, over))),
+        Part::Skip(count) => place.saturating_add(*count),
+    }
+}
+
+// What is known first of the target whose accesses are told.
+fn observer_of_printed(printed: Printed) -> TraceObserver
+    ensures { result ≡ first_observer printed }
+{
+    match printed {
+        Printed::Accesses { made: true } => TraceObserver::of_made(),
+        _ => TraceObserver::new(),
+    }
+}
+
 impl Teller {
-    ghost use Rattle.std.specs.Prelude.{◌-◌, ◌^◌, min, length};
-    ghost use Rattle.swd_trace.specs.Texts.{item_bits};
-    ghost use Rattle.swd_capture.specs.Names.{select_after};
-    ghost use Rattle.swd_capture.specs.Printing.{entry, row_count};
-    ghost use Rattle.swd_capture.specs.Tables.{row_text};
+    ghost use Rattle.swd_capture.specs.Printing.{end_row_text, entry, row_count};
     ghost use Rattle.swd_capture.specs.Tellers.{IsAfter};
 
-    /// A teller that was given no item.
-    pub fn new(printed: Printed) -> Teller
-        ensures { IsAfter printed [] result }
+    /// A teller that was given no part; `over` where a data phase follows WAIT and FAULT, since the host uses overrun
+    /// detection.
+    pub fn new(printed: Printed, over: bool) -> Teller
+        ensures { IsAfter printed over [] result }
     {
         Teller {
             printed,
+            over,
             place: 0,
             select: None,
             table: Table::new(),
+            observer: observer_of_printed(printed),
         }
     }
 
-    /// Takes an item, and adds what is printed of it to a text.
-    pub fn tell<const N: usize>(&mut self, item: &Item, text: &mut ArrayString<N>)
+    /// Takes a part, and adds what is printed of it to a text.
+    pub fn tell<const N: usize>(&mut self, part: &Part, text: &mut ArrayString<N>)
         requires { array_string_len text.old + LONGEST_ENTRY ≤ N }
-        ensures after { (printed : Printed) (items : List Item) → IsAfter printed items self.old
-            → IsAfter printed (items ++ item.now ∷ []) self.new }
-        ensures bytes { (printed : Printed) (items : List Item) → IsAfter printed items self.old
-            → text.new.bytes ≡ text.old.bytes ++ entry printed items item.now }
+        ensures after { (printed : Printed) (over : Bool) (parts : List Part) → IsAfter printed over parts self.old
+            → IsAfter printed over (parts ++ part.now ∷ []) self.new }
+        ensures bytes { (printed : Printed) (over : Bool) (parts : List Part) → IsAfter printed over parts self.old
+            → text.new.bytes ≡ text.old.bytes ++ entry printed over parts part.now }
         ensures len { array_string_len text.new ≤ array_string_len text.old + LONGEST_ENTRY }
     {
         match self.printed {
-            Printed::Lines(form) => self.tell_line(form, item, text),
-            Printed::Counts => self.table.add(item),
+            Printed::Lines(form) => self.tell_line(form, part, text),
+            Printed::Counts => self.table.add(part),
+            Printed::Accesses { .. } => watch_part(&mut self.observer, self.over, part, text),
         }
     }
 
-    // Adds the item's line, and goes on behind it.
-    fn tell_line<const N: usize>(&mut self, form: LineForm, item: &Item, text: &mut ArrayString<N>)
+    // Adds the part's line, and continues behind it.
+    fn tell_line<const N: usize>(&mut self, form: LineForm, part: &Part, text: &mut ArrayString<N>)
         requires { array_string_len text.old + LONGEST_ENTRY ≤ N }
-        ensures same { self.new.printed ≡ self.old.printed }
-        ensures place { self.new.place ≡ min (self.old.place + length (item_bits item.now)) (2 ^ 64 - 1) }
-        ensures select { self.new.select ≡ select_after self.old.select item.now }
+        ensures printed { self.new.printed ≡ self.old.printed }
+        ensures over { self.new.over ≡ self.old.over }
+        ensures place { self.new.place
+            ≡ min (self.old.place + length (bits_of_items (items_of_part self.old.over part.now))) (2 ^ 64 - 1) }
+        ensures select { self.new.select ≡ select_from self.old.select (items_of_part self.old.over part.now) }
         ensures bytes { text.new.bytes ≡ text.old.bytes ++ (place_if form.places self.old.place
-            ++ line_if form.names self.old.select item.now ++ 10 ∷ []) }
+            ++ part_text form.names self.old.select part.now ++ 10 ∷ []) }
         ensures len { array_string_len text.new ≤ array_string_len text.old + LONGEST_ENTRY }
     {
         push_place(text, form.places, self.place);
-        push_line(text, form.names, self.select, item);
+        push_part_line(text, form.names, self.select, part);
         text.push_str("\n");
-        self.place = self.place.saturating_add(bit_count(item));
-        self.select = selected_after(self.select, item);
+        self.place = place_behind_part(self.place, self.over, part);
+        self.select = selected_behind(self.select, self.over, part);
     }
 
     /// How many rows stand at the end.
     pub fn rows(&self) -> usize
-        ensures count { (printed : Printed) (items : List Item) → IsAfter printed items self.now
+        ensures count { (printed : Printed) (over : Bool) (parts : List Part) → IsAfter printed over parts self.now
             → result ≡ row_count printed }
         ensures most { result ≤ ROWS }
     {
         match self.printed {
             Printed::Lines(_) => 0,
             Printed::Counts => ROWS,
+            Printed::Accesses { .. } => 1,
         }
     }
 
-    /// Adds a row to a text.
+    /// Adds a row of the end to a text.
     pub fn push_row<const N: usize>(&self, row: usize, text: &mut ArrayString<N>)
         requires row { row < ROWS }
         requires room { array_string_len text.old + LONGEST_ENTRY ≤ N }
-        ensures bytes { (printed : Printed) (items : List Item) → IsAfter printed items self.now
-            → row < row_count printed → text.new.bytes ≡ text.old.bytes ++ row_text items row }
+        ensures bytes { (printed : Printed) (over : Bool) (parts : List Part) → IsAfter printed over parts self.now
+            → text.new.bytes ≡ text.old.bytes ++ end_row_text printed over parts row }
         ensures len { array_string_len text.new ≤ array_string_len text.old + LONGEST_ENTRY }
     {
-        self.table.push_row(row, text);
+        match self.printed {
+            Printed::Lines(_) => {}
+            Printed::Counts => self.table.push_row(row, text),
+            Printed::Accesses { .. } => push_last(&self.observer, text),
+        }
     }
 }

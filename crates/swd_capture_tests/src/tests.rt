@@ -1,4 +1,5 @@
 //! Worked captures, at ends that fail, and cut off at each byte.
+mod captures;
 mod expect;
 mod printed;
 
@@ -6,6 +7,11 @@ use std::alloc::Global;
 use std::test::Fail;
 use swd_capture::{LineForm, Printed};
 use swd_text::encode_text;
+
+const LINES: Printed = Printed::Lines(LineForm {
+    places: false,
+    names: false,
+});
 
 const PLACES: Printed = Printed::Lines(LineForm {
     places: true,

@@ -1,1 +1,3 @@
+pub mod SourceLemmas
+pub mod CaptureLemmas
 pub mod ListerLemmas

@@ -1,101 +1,102 @@
 -- Laws of a trace text of which something is printed as it is read.
-use Rattle.std.proofs.Common.{◌≡◌, ℕ, ◌+◌, ◌^◌, ◌<◌, Bool, false, List, [], ◌∷◌, ◌++◌, length, Option}
-use Rattle.std.proofs.Common.{sym, ap, ◌∙◌, subst, append_assoc, arith, inl, refl}
+use Rattle.std.proofs.Common.{◌≡◌, ℕ, ◌+◌, ◌^◌, ◌<◌, Bool, false, List, [], ◌∷◌, ◌++◌, length, sym, ap}
+use Rattle.std.proofs.Common.{subst, arith, ◌∙◌}
+use Rattle.std.specs.Io.KnownBytes.{Appends}
 use Rattle.std.proofs.KnownBytes.{Appends-nil}
 use Rattle.std.proofs.lemmas.List.{length-append}
+use Rattle.std.specs.Prelude.{Option, Result, Ok, Err, OnOk}
 use Rattle.swd_io.specs.Blocks.{Sends}
 use Rattle.swd_io.specs.declared.block.Block.{Block}
 use Rattle.swd_bits.proofs.ScanLemmas.{reads_none}
-use Rattle.swd_trace.specs.declared.item.Item.{Item}
-use Rattle.swd_trace.specs.declared.decoder.Decoder.{Decoder}
-use Rattle.swd_trace.specs.Reading.{items_after, reading_of}
-use Rattle.swd_trace.specs.Decided.{IsUndecided}
-use Rattle.swd_trace.specs.Held.{rest, fed_of}
-use Rattle.swd_capture.specs.declared.printed.Printed.{Printed}
+use Rattle.swd_resync.specs.declared.part.Part.{Part}
 use Rattle.swd_capture.specs.declared.teller.Teller.{Teller}
-use Rattle.swd_capture.specs.Printing.{entry, told}
-use Rattle.swd_capture.specs.Tellers.{IsAfter}
-use Rattle.swd_capture.proofs.TellerLemmas.{told_more}
-use Rattle.swd_capture_text.specs.Listers.{Lists, Listed, HasRead}
+use Rattle.swd_capture.specs.Printing.{entry}
+use Rattle.swd_capture.proofs.TellerLemmas.{told_more, told_none}
 use Rattle.swd_capture_text.specs.declared.lister.Lister.{Lister}
+use Rattle.swd_capture_text.specs.declared.source.Source.{Source}
+use Rattle.swd_capture_text.specs.Listers.{Start, IsBehind, told_of, Lists, Listed, HasRead}
+use Rattle.swd_capture_text.specs.Readings.{Decides, is_over}
+use Rattle.swd_capture_text.specs.Sources.{Has, fed_of}
 
--- nothing at all decides nothing
-none_undecided : (readings : List Bool → List Item) → readings [] ≡ reading_of [] → IsUndecided readings
-unfolding items_after
-none_undecided readings e = λ item h.
-    let p = h [] (inl refl) in
-    let bad : [] ≡ item ∷ p.0 = sym e ∙ p.1 in
-    absurd cc
+-- what is told of a part behind others
+abbrev pub entry_of : Start → List Part → Part → List ℕ
+entry_of start parts part = entry start.printed (is_over start.reading) parts part
 
 -- a lister that has taken nothing
-pub has_read_nothing : {W : Type 0} (contents : W → Option (List ℕ)) (printed : Printed) (lister : Lister)
-    (writer : W) → ((more : List Bool) → rest lister.decoder more ≡ reading_of more) → fed_of lister.decoder ≡ 0 →
-    lister.scan ≡ false → lister.place ≡ 0 → lister.written ≡ 0 → IsAfter printed [] lister.teller →
-    HasRead contents (contents writer, printed) (lister, writer) []
-has_read_nothing contents printed lister writer law fed scan place written after = record {
-  read = record {
-    bits = [];
-    items = [];
-    reads = reads_none lister.scan scan;
-    undecided = none_undecided _ (law []);
-    law = law;
-    count = fed;
-    counted = omega arith;
-  };
-  after = after;
-  gone = Appends-nil _;
-  written = omega arith;
-  place = omega arith;
-}
-
--- one more item is given, and what is told of it is under way
-pub one_more : {W : Type 0} (contents : W → Option (List ℕ)) (start : Option (List ℕ)) (printed : Printed)
-    (before after : Decoder) (told_before told_after : Teller) (old new : Block W) (bits : List Bool)
-    (items : List Item) (item : Item) →
-    ((more : List Bool) → rest before more ≡ item ∷ rest after more) → fed_of after ≡ fed_of before →
-    (IsAfter printed items told_before → IsAfter printed (items ++ item ∷ []) told_after) →
-    (IsAfter printed items told_before → Sends contents start old (told printed items)
-    → Sends contents start new (told printed items ++ entry printed items item)) →
-    Lists contents start printed before told_before old bits items →
-    Lists contents start printed after told_after new bits (items ++ item ∷ [])
-one_more contents start printed before after told_before told_after old new bits items item law fed goes sends h =
-    record {
-      law = λ more. append_assoc items (item ∷ []) (rest after more) ∙ ap (λ x. items ++ x) (sym (law more))
-          ∙ h.law more;
-      count = fed ∙ h.count;
-      counted = h.counted;
-      after = goes h.after;
-      sends = subst (λ all. Sends contents start new all) (sym (told_more printed items item)) (sends h.after h.sends);
+pub has_read_nothing : {W : Type 0} (contents : W → Option (List ℕ)) (start : Start) (lister : Lister) (writer : W)
+    → contents writer ≡ start.from → Has start.reading lister.source [] [] → Decides start.reading [] []
+    → fed_of lister.source ≡ 0 → lister.scan ≡ false → lister.place ≡ 0 → lister.written ≡ 0
+    → IsBehind start [] lister.teller → HasRead contents start (lister, writer) []
+has_read_nothing contents start lister writer from has decides fed scan place written after =
+    let none : told_of start [] ≡ [] = told_none start.printed (is_over start.reading) in
+    let len : length (told_of start []) ≡ 0 = ap length none in record {
+      read = record {
+        bits = [];
+        parts = [];
+        reads = reads_none lister.scan scan;
+        has = has;
+        decides = decides;
+        count = fed;
+        counted = omega arith;
+      };
+      after = after;
+      gone = subst (Appends start.from (contents writer)) (sym none)
+          (subst (λ s. Appends s (contents writer) []) from (Appends-nil _));
+      written = omega arith;
+      place = omega arith;
     }
 
--- more bits are taken
-pub more_bits : {W : Type 0} (contents : W → Option (List ℕ)) (start : Option (List ℕ)) (printed : Printed)
-    (before after : Decoder) (teller : Teller) (block : Block W) (bits : List Bool) (items : List Item)
-    (next : List Bool) → ((more : List Bool) → rest after more ≡ rest before (next ++ more)) →
-    fed_of after ≡ fed_of before + length next → fed_of before + length next < 2 ^ 64 →
-    Lists contents start printed before teller block bits items →
-    Lists contents start printed after teller block (bits ++ next) items
-more_bits contents start printed before after teller block bits items next law fed few h =
+-- one more part is given, and what is told of it is under way
+pub one_more : {W : Type 0} (contents : W → Option (List ℕ)) (start : Start) (before after : Source)
+    (told_before told_after : Teller) (old new : Block W) (bits : List Bool) (parts : List Part) (part : Part) →
+    (Has start.reading before bits parts → Has start.reading after bits (parts ++ part ∷ []))
+    → fed_of after ≡ fed_of before
+    → (IsBehind start parts told_before → IsBehind start (parts ++ part ∷ []) told_after) →
+    (IsBehind start parts told_before → Sends contents start.from old (told_of start parts)
+    → Sends contents start.from new (told_of start parts ++ entry_of start parts part)) →
+    Lists contents start before told_before old bits parts →
+    Lists contents start after told_after new bits (parts ++ part ∷ [])
+one_more contents start before after told_before told_after old new bits parts part gives fed goes sends h = record {
+  has = gives h.has;
+  count = fed ∙ h.count;
+  counted = h.counted;
+  after = goes h.after;
+  sends = subst (λ all. Sends contents start.from new all)
+      (sym (told_more start.printed (is_over start.reading) parts part)) (sends h.after h.sends);
+}
+
+-- one more bit is taken
+pub more_bits : {W : Type 0} (contents : W → Option (List ℕ)) (start : Start) (before after : Source) (teller : Teller)
+    (block : Block W) (bits : List Bool) (parts : List Part) (bit : Bool) →
+    (Has start.reading before bits parts → Has start.reading after (bits ++ bit ∷ []) parts) →
+    fed_of after ≡ fed_of before + 1 → fed_of before + 1 < 2 ^ 64 →
+    Lists contents start before teller block bits parts →
+    Lists contents start after teller block (bits ++ bit ∷ []) parts
+more_bits contents start before after teller block bits parts bit takes fed few h =
     let count = h.count in
-    let len : length (bits ++ next) ≡ length bits + length next = length-append bits next in
+    let len : length (bits ++ bit ∷ []) ≡ length bits + 1 = length-append bits (bit ∷ []) in
     record {
-      law = λ more. ap (λ x. items ++ x) (law more) ∙ h.law (next ++ more)
-          ∙ ap reading_of (sym (append_assoc bits next more));
+      has = takes h.has;
       count = omega arith;
       counted = omega arith;
       after = h.after;
       sends = h.sends;
     }
 
--- what was listed, by its bits and items
-pub lists_of : {W : Type 0} (contents : W → Option (List ℕ)) (start : Option (List ℕ)) (printed : Printed)
-    (decoder : Decoder) (comment : Bool) (teller : Teller) (block : Block W) (seen : List ℕ) →
-    (h : Listed contents start printed decoder comment teller block seen) →
-    Lists contents start printed decoder teller block h.read.bits h.read.items
-lists_of contents start printed decoder comment teller block seen h = record {
-  law = h.read.law;
+-- what was listed, by its bits and parts
+pub lists_of : {W : Type 0} (contents : W → Option (List ℕ)) (start : Start) (source : Source) (comment : Bool)
+    (teller : Teller) (block : Block W) (seen : List ℕ) →
+    (h : Listed contents start source comment teller block seen) →
+    Lists contents start source teller block h.read.bits h.read.parts
+lists_of contents start source comment teller block seen h = record {
+  has = h.read.has;
   count = h.read.count;
   counted = h.read.counted;
   after = h.after;
   sends = h.sends;
 }
+
+-- what follows from a fact of an Ok
+pub on_ok_then : {A E P Q : Type 0} (r : Result A E) → (P → Q) → OnOk r P → OnOk r Q
+on_ok_then (Ok x) f p = f p
+on_ok_then (Err e) f p = tt

@@ -1,2 +1,4 @@
+pub mod Readings
 pub mod Captures
+pub mod Sources
 pub mod Listers

@@ -3,12 +3,8 @@ use Rattle.std.specs.Prelude.{◌≡◌, ℕ, ◌-◌, ◌^◌, ◌<◌, min, Bo
 use Rattle.std.specs.Io.KnownBytes.{Appends}
 use Rattle.swd_io.specs.Blocks.{Sends, Stopped}
 use Rattle.swd_io.specs.declared.block.Block.{Block}
-use Rattle.swd_trace.specs.declared.item.Item.{Item}
-use Rattle.swd_trace.specs.declared.decoder.Decoder.{Decoder}
-use Rattle.swd_trace.specs.Reading.{reading_of}
-use Rattle.swd_trace.specs.Held.{rest, fed_of}
-use Rattle.swd_text.specs.Decoding.{StopsWith, IsDue}
-use Rattle.swd_text.specs.Listers.{IsRead}
+use Rattle.swd_bits.specs.One.{Reads}
+use Rattle.swd_resync.specs.declared.part.Part.{Part}
 use Rattle.swd_text.specs.declared.fault.TextFault.{TextFault}
 use Rattle.swd_text.specs.declared.fault.TakeFault.{TakeFault}
 use Rattle.swd_text.specs.declared.fault.TakeFault.TheVariants.{Text, Write}
@@ -17,66 +13,87 @@ use Rattle.swd_capture.specs.declared.teller.Teller.{Teller}
 use Rattle.swd_capture.specs.Printing.{told}
 use Rattle.swd_capture.specs.Tellers.{IsAfter}
 use Rattle.swd_capture_text.specs.declared.lister.Lister.{Lister}
+use Rattle.swd_capture_text.specs.declared.reading.Reading.{Reading}
+use Rattle.swd_capture_text.specs.declared.source.Source.{Source}
+use Rattle.swd_capture_text.specs.Captures.{StopsWith, IsDue}
+use Rattle.swd_capture_text.specs.Readings.{Decides, is_over}
+use Rattle.swd_capture_text.specs.Sources.{Has, fed_of}
 
--- The items so far and what the decoder holds are the reading of the bits so far, whatever follows; a teller has the
--- items, and what it tells of them is under way.
-pub record Lists {W : Type 0} (contents : W → Option (List ℕ)) (start : Option (List ℕ)) (printed : Printed)
-    (decoder : Decoder) (teller : Teller) (block : Block W) (bits : List Bool) (items : List Item) : Type 0 where
-  pub law : (more : List Bool) → items ++ rest decoder more ≡ reading_of (bits ++ more)
-  pub count : fed_of decoder ≡ length bits
+-- what a writer began with, and what is asked for
+pub record Start : Type 0 where
+  pub from : Option (List ℕ)
+  pub reading : Reading
+  pub printed : Printed
+
+-- what is told of some parts, and the teller behind them
+abbrev pub told_of : Start → List Part → List ℕ
+told_of start parts = told start.printed (is_over start.reading) parts
+
+abbrev pub IsBehind : Start → List Part → Teller → Type 0
+IsBehind start parts teller = IsAfter start.printed (is_over start.reading) parts teller
+
+-- A source has these bits and parts; a teller has the parts, and what it tells of them is under way.
+pub record Lists {W : Type 0} (contents : W → Option (List ℕ)) (start : Start) (source : Source) (teller : Teller)
+    (block : Block W) (bits : List Bool) (parts : List Part) : Type 0 where
+  pub has : Has start.reading source bits parts
+  pub count : fed_of source ≡ length bits
   pub counted : length bits < 2 ^ 64
-  pub after : IsAfter printed items teller
-  pub sends : Sends contents start block (told printed items)
+  pub after : IsBehind start parts teller
+  pub sends : Sends contents start.from block (told_of start parts)
 
--- A text was read so far, which ends in a comment or outside, and what is told of the items that it decides is under
--- way.
-pub record Listed {W : Type 0} (contents : W → Option (List ℕ)) (start : Option (List ℕ)) (printed : Printed)
-    (decoder : Decoder) (comment : Bool) (teller : Teller) (block : Block W) (seen : List ℕ) : Type 0 where
-  pub read : IsRead decoder comment seen
-  pub after : IsAfter printed read.items teller
-  pub sends : Sends contents start block (told printed read.items)
+-- A text was read so far, which ends in a comment or outside: these are its bits, and the parts that they decide.
+pub record IsRead (reading : Reading) (source : Source) (comment : Bool) (seen : List ℕ) : Type 0 where
+  pub bits : List Bool
+  pub parts : List Part
+  pub reads : Reads seen bits comment
+  pub has : Has reading source bits parts
+  pub decides : Decides reading bits parts
+  pub count : fed_of source ≡ length bits
+  pub counted : length bits < 2 ^ 64
+
+-- the same, and what is told of these parts is under way
+pub record Listed {W : Type 0} (contents : W → Option (List ℕ)) (start : Start) (source : Source) (comment : Bool)
+    (teller : Teller) (block : Block W) (seen : List ℕ) : Type 0 where
+  pub read : IsRead start.reading source comment seen
+  pub after : IsBehind start read.parts teller
+  pub sends : Sends contents start.from block (told_of start read.parts)
 
 -- the same, and the lister reads on from there
-abbrev pub GoesOn : {W : Type 0} → (W → Option (List ℕ)) → Option (List ℕ) → Printed → Lister → Block W → List ℕ
-    → Type 0
-GoesOn contents start printed lister block seen =
-    Listed contents start printed lister.decoder lister.scan lister.teller block seen
+abbrev pub GoesOn : {W : Type 0} → (W → Option (List ℕ)) → Start → Lister → Block W → List ℕ → Type 0
+GoesOn contents start lister block seen = Listed contents start lister.source lister.scan lister.teller block seen
 
--- These bytes were taken, and what is told of the items that they decide went out to a writer that began with what
--- stands first.
-pub record HasRead {W : Type 0} (contents : W → Option (List ℕ)) (from : Option (List ℕ) × Printed)
-    (state : Lister × W) (seen : List ℕ) : Type 0 where
-  pub read : IsRead state.0.decoder state.0.scan seen
-  pub after : IsAfter from.1 read.items state.0.teller
-  pub gone : Appends from.0 (contents state.1) (told from.1 read.items)
-  pub written : state.0.written ≡ min (length (told from.1 read.items)) (2 ^ 64 - 1)
+-- These bytes were taken, and what is told of the parts that they decide went out to the writer.
+pub record HasRead {W : Type 0} (contents : W → Option (List ℕ)) (start : Start) (state : Lister × W) (seen : List ℕ)
+    : Type 0 where
+  pub read : IsRead start.reading state.0.source state.0.scan seen
+  pub after : IsBehind start read.parts state.0.teller
+  pub gone : Appends start.from (contents state.1) (told_of start read.parts)
+  pub written : state.0.written ≡ min (length (told_of start read.parts)) (2 ^ 64 - 1)
   pub place : state.0.place ≡ min (length seen) (2 ^ 64 - 1)
 
 -- The text can't go on, whatever follows, and what is told before that is under way.
-pub record StopsIn {W : Type 0} (contents : W → Option (List ℕ)) (start : Option (List ℕ)) (printed : Printed)
-    (block : Block W) (fault : TextFault) (text : List ℕ) : Type 0 where
-  pub items : List Item
-  pub stops : (more : List ℕ) → StopsWith fault items (text ++ more)
-  pub sends : Sends contents start block (told printed items)
+pub record StopsIn {W : Type 0} (contents : W → Option (List ℕ)) (start : Start) (block : Block W) (fault : TextFault)
+    (text : List ℕ) : Type 0 where
+  pub parts : List Part
+  pub stops : (more : List ℕ) → StopsWith start.reading fault parts (text ++ more)
+  pub sends : Sends contents start.from block (told_of start parts)
 
 -- what is told before a fault of the text went out, all of it
-pub record TellsFault (start now : Option (List ℕ)) (printed : Printed) (fault : TextFault) (text : List ℕ) : Type 0
-  where
-    pub items : List Item
-    pub stops : (more : List ℕ) → StopsWith fault items (text ++ more)
-    pub gone : Appends start now (told printed items)
+pub record TellsFault (start : Start) (now : Option (List ℕ)) (fault : TextFault) (text : List ℕ) : Type 0 where
+  pub parts : List Part
+  pub stops : (more : List ℕ) → StopsWith start.reading fault parts (text ++ more)
+  pub gone : Appends start.from now (told_of start parts)
 
 -- a beginning of what is told went out
-pub record TellsCut (start now : Option (List ℕ)) (printed : Printed) (count : ℕ) (text : List ℕ) : Type 0 where
-  pub items : List Item
-  pub due : IsDue text items
-  pub cut : Stopped count start now (told printed items)
+pub record TellsCut (start : Start) (now : Option (List ℕ)) (count : ℕ) (text : List ℕ) : Type 0 where
+  pub parts : List Part
+  pub due : IsDue start.reading text parts
+  pub cut : Stopped count start.from now (told_of start parts)
 
--- what a writer that began with `start` holds at a fault
-abbrev pub EndsBy : TakeFault → Option (List ℕ) → Option (List ℕ) → Printed → List ℕ → Type 0
-EndsBy (Text fault) start now printed text = TellsFault start now printed fault text
-EndsBy (Write count) start now printed text = TellsCut start now printed count text
+-- what a writer holds at a fault
+abbrev pub EndsBy : TakeFault → Start → Option (List ℕ) → List ℕ → Type 0
+EndsBy (Text fault) start now text = TellsFault start now fault text
+EndsBy (Write count) start now text = TellsCut start now count text
 
-abbrev pub Ends : {W : Type 0} → (W → Option (List ℕ)) → Option (List ℕ) × Printed → Lister × W → TakeFault
-    → List ℕ → Type 0
-Ends contents from state fault text = EndsBy fault from.0 (contents state.1) from.1 text
+abbrev pub Ends : {W : Type 0} → (W → Option (List ℕ)) → Start → Lister × W → TakeFault → List ℕ → Type 0
+Ends contents start state fault text = EndsBy fault start (contents state.1) text

@@ -1,7 +1,10 @@
-//! What is printed of a capture, from its trace text: the engine of `swd decode` with an option.
+//! What is printed of a trace or a capture, from its text: the engine of `swd decode` with an option.
 #![tactic(auto)]
 
 mod lister;
 mod printing;
+mod reading;
+mod source;
 
 pub use printing::print_capture;
+pub use reading::Reading;

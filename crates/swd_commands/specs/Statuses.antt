@@ -9,8 +9,8 @@ use Rattle.swd_text.specs.declared.fault.DecodeFault.{DecodeFault}
 use Rattle.swd_text.specs.declared.fault.EncodeFault.{EncodeFault}
 use Rattle.swd_capture.specs.declared.printed.Printed.{Printed}
 use Rattle.swd_capture_text.specs.Captures.{Prints}
-use Rattle.swd_commands.specs.Decodings.{observer_for, printed_for}
-use Rattle.swd_observer_text.specs.Observes.{Observes}
+use Rattle.swd_capture_text.specs.declared.reading.Reading.{Reading}
+use Rattle.swd_commands.specs.Decodings.{printed_for, reading_for}
 use Rattle.swd_words.specs.declared.command.Line.{Line}
 use Rattle.swd_words.specs.declared.command.Line.TheVariants.{One, Decode, Encode, Run, Target}
 use Rattle.swd_words.specs.declared.command.RunLine.{RunLine}
@@ -73,16 +73,13 @@ abbrev pub PerformsWhere : Bool → RunLine → ℕ → Option (List ℕ) → Op
 PerformsWhere false run status text old new = PerformsRun run.plan run status text old new
 PerformsWhere true run status text old new = NotOpened status old new
 
--- the accesses of a target that was just made or not; or the listing, or something in its place
-abbrev pub PerformsDecode : Bool → Bool → Option Printed → ℕ → Option (List ℕ) → Option (List ℕ) → Option (List ℕ)
+-- the listing of a trace, or something in its place, of a trace or a capture
+abbrev pub PerformsDecode : Reading → Option Printed → ℕ → Option (List ℕ) → Option (List ℕ) → Option (List ℕ)
     → Option (List ℕ) → Type 0
-PerformsDecode true made printed status text left old new =
-    (answer : Result (Unit {0}) DecodeFault) × Observes (observer_for made) answer text left old new
-    × (status ≡ status_of (is_ok answer))
-PerformsDecode false made None status text left old new =
+PerformsDecode reading None status text left old new =
     (answer : Result (Unit {0}) DecodeFault) × Decodes answer text left old new × (status ≡ status_of (is_ok answer))
-PerformsDecode false made (Some printed) status text left old new =
-    (answer : Result (Unit {0}) DecodeFault) × Prints printed answer text left old new
+PerformsDecode reading (Some printed) status text left old new =
+    (answer : Result (Unit {0}) DecodeFault) × Prints reading printed answer text left old new
     × (status ≡ status_of (is_ok answer))
 
 -- A command reads a text and writes another as its engine says, and its status is that of the engine's answer.
@@ -90,7 +87,7 @@ abbrev pub Performs : Line → ℕ → Option (List ℕ) → Option (List ℕ) �
 Performs (One file) status text left old new =
     (answer : Result (Unit {0}) OneFault) × Answers answer text old new × (status ≡ status_of (is_ok answer))
 Performs (Decode decode) status text left old new =
-    PerformsDecode decode.accesses decode.made (printed_for decode) status text left old new
+    PerformsDecode (reading_for decode) (printed_for decode) status text left old new
 Performs (Encode file) status text left old new =
     (answer : Result (Unit {0}) EncodeFault) × Encodes answer text old new × (status ≡ status_of (is_ok answer))
 Performs (Run run) status text left old new = PerformsWhere run.remote run status text old new

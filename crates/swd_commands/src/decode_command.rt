@@ -1,42 +1,45 @@
 //! What `swd decode` does.
 ghost use Rattle.std.specs.Prelude.{◌≡◌};
-ghost use Rattle.swd_commands.specs.Decodings.{observer_for, printed_for};
+ghost use Rattle.swd_commands.specs.Decodings.{printed_for, reading_for};
 ghost use Rattle.swd_commands.specs.Statuses.{PerformsDecode};
 
 use crate::report::engine_status;
 use std::io::{Read, Write};
 use swd_capture::{LineForm, Printed};
-use swd_capture_text::print_capture;
-use swd_observer::TraceObserver;
-use swd_observer_text::observe_text;
+use swd_capture_text::{Reading, print_capture};
 use swd_text::decode_text;
 use swd_words::DecodeLine;
 
-// What is printed in place of a listing, where something is.
+// How the bits are read.
+fn reading(decode: &DecodeLine) -> Reading
+    ensures { result ≡ reading_for decode.now }
+{
+    if decode.resync {
+        Reading::Capture {
+            over: decode.overrun,
+        }
+    } else {
+        Reading::Trace
+    }
+}
+
+// What is printed, where it isn't the listing of a trace.
 fn printed(decode: &DecodeLine) -> Option<Printed>
     ensures { result ≡ printed_for decode.now }
 {
+    if decode.accesses {
+        return Some(Printed::Accesses { made: decode.made });
+    }
     if decode.count {
         return Some(Printed::Counts);
     }
-    if decode.places || decode.names {
+    if decode.places || decode.names || decode.resync {
         return Some(Printed::Lines(LineForm {
             places: decode.places,
             names: decode.names,
         }));
     }
     None
-}
-
-// What is known of a target that was just made, or of another.
-fn observer(made: bool) -> TraceObserver
-    ensures { result ≡ observer_for made }
-{
-    if made {
-        TraceObserver::of_made()
-    } else {
-        TraceObserver::new()
-    }
 }
 
 /// Lists a trace, or prints what is asked for in place of its listing.
@@ -46,15 +49,14 @@ pub(crate) fn perform_decode<R: Read, O: Write, E: Write>(
     output: &mut O,
     errors: &mut E,
 ) -> u8
-    ensures { PerformsDecode decode.now.accesses decode.now.made (printed_for decode.now) result
+    ensures { PerformsDecode (reading_for decode.now) (printed_for decode.now) result
         (R.remaining input.old) (R.remaining input.new) (O.contents output.old) (O.contents output.new) }
 {
-    if decode.accesses {
-        let answer = observe_text(input, output, observer(decode.made));
-        return engine_status(errors, answer);
-    }
     match printed(decode) {
-        Some(printed) => engine_status(errors, print_capture(printed, input, output)),
+        Some(printed) => {
+            let answer = print_capture(reading(decode), printed, input, output);
+            engine_status(errors, answer)
+        }
         None => engine_status(errors, decode_text(input, output)),
     }
 }

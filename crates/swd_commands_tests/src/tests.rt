@@ -16,6 +16,7 @@ use swd_trace::ListFault;
 
 mod accesses;
 mod calls;
+mod captures;
 mod expect;
 mod plan;
 mod remote;

@@ -9,8 +9,7 @@ use Rattle.swd_observer.specs.declared.told.How.TheVariants.{Took, May, Not}
 use Rattle.swd_observer.specs.declared.observer.Tells.{Tells}
 use Rattle.swd_observer.specs.declared.trace.Shown.{Shown}
 use Rattle.swd_observer.specs.declared.trace.TraceObserver.{TraceObserver}
-use Rattle.swd_observer.specs.Observing.{last_tells}
-use Rattle.swd_observer.specs.Traces.{shown_at, after_item, after_items}
+use Rattle.swd_observer.specs.Traces.{shown_at, after_item}
 
 abbrev pub direction : Bool → List ℕ
 direction true = codes " r "
@@ -53,7 +52,3 @@ shown_text s = tells_text s.tells ++ gap_text s.gap
 abbrev pub accesses : List Item → TraceObserver → List ℕ
 accesses [] t = []
 accesses (item ∷ items) t = shown_text (shown_at item t) ++ accesses items (after_item item t)
-
--- and those of a whole trace
-abbrev pub all_accesses : List Item → TraceObserver → List ℕ
-all_accesses items t = accesses items t ++ tells_text (last_tells (after_items items t).observer)

@@ -1,3 +1,1 @@
 pub mod Accesses
-pub mod Observes
-pub mod Listers

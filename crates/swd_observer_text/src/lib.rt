@@ -1,8 +1,9 @@
-//! The text engine of `swd decode --accesses`: a trace text to what it shows of the target's memory, an access a line.
+//! The text of `swd decode --accesses`: the parts of a capture to what they show of the target's memory, an access a
+//! line.
 #![tactic(auto)]
 
+pub mod laws;
 mod line;
-mod lister;
-mod observing;
+mod watching;
 
-pub use observing::observe_text;
+pub use watching::{LONGEST_SHOWN, push_last, watch_part};

@@ -50,3 +50,17 @@ near_room q held near = elim (cases_lt 0 q.back_len) [
       let all : length (past_zeros others) ≡ length back = ap length same in
       omega arith
 ]
+
+-- where no bits are held, none stand before the run of zeros or behind it
+pub nothing_held : (q : Queue) → queued q ≡ [] → q.front_len + q.back_len ≡ 0
+nothing_held q h =
+    let front : List Bool = low_bits q.front_len q.front in
+    let back : List Bool = low_bits q.back_len q.back in
+    let others : List Bool = replicate q.zeros false ++ back in
+    let none : length (queued q) ≡ 0 = ap length h in
+    let whole : length (queued q) ≡ length front + length others = length-append front others in
+    let behind : length others ≡ length (replicate q.zeros false) + length back =
+    length-append (replicate q.zeros false) back in
+    let l : length front ≡ q.front_len = length-low_bits q.front_len q.front in
+    let m : length back ≡ q.back_len = length-low_bits q.back_len q.back in
+    omega arith

@@ -10,3 +10,4 @@ pub mod StageLemmas
 pub mod MoveLemmas
 pub mod PairLemmas
 pub mod HoldLemmas
+pub mod ItemLemmas

@@ -9,3 +9,4 @@ pub mod Stages
 pub mod Fed
 pub mod Decoding
 pub mod PartTexts
+pub mod AsItems

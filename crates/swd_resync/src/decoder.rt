@@ -47,6 +47,7 @@ impl CaptureDecoder {
         ensures read { HasRead over result [] [] }
         ensures fed { fed_of result ≡ 0 }
         ensures settled { IsSettled result }
+        ensures held { held_len result ≡ 0 }
     {
         CaptureDecoder {
             over,

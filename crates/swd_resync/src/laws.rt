@@ -1,7 +1,10 @@
 //! Laws of the reading of captures. The functions do nothing: their contracts are the laws.
-ghost use Rattle.std.specs.Prelude.{◌↔◌, ◌≡◌, ◌⊎◌, ◌≤◌, ℕ, Bool, true, false, List, [], map, drop};
+ghost use Rattle.std.specs.Prelude.{◌↔◌, ◌≡◌, ◌⊎◌, ◌≤◌, ℕ, Bool, true, false, List, [], map, drop, length};
 ghost use Rattle.swd_trace.specs.Reading.{reading_of};
+ghost use Rattle.swd_trace.specs.Texts.{bits_of_items};
+ghost use Rattle.swd_resync.specs.declared.part.Part.{Part};
 ghost use Rattle.swd_resync.specs.declared.part.Part.TheVariants.{Item as Told};
+ghost use Rattle.swd_resync.specs.AsItems.{items_of};
 ghost use Rattle.swd_resync.specs.Parts.{pair, begins, gap, parts_of};
 ghost use Rattle.swd_resync.specs.Divisions.{Divides, AreApart, IsNeverLost, IsPair};
 
@@ -15,6 +18,13 @@ pub fn what_is_never_lost_is_told()
 pub fn parts_divide_a_capture()
     ensures divides { (over : Bool) (bits : List Bool) → Divides over (parts_of over bits) bits }
     ensures apart { (over : Bool) (bits : List Bool) → AreApart (parts_of over bits) }
+{}
+
+/// As the items of a trace, some parts of a capture have as many bits as they take: what stands behind them keeps its
+/// place.
+pub fn places_are_kept()
+    ensures { (over : Bool) (parts : List Part) (bits : List Bool) → Divides over parts bits
+        → length (bits_of_items (items_of over parts)) ≡ length bits }
 {}
 
 /// Between stretches, where two transactions stand, the next stretch begins there or before; and no bit is skipped

@@ -15,6 +15,7 @@ mod stage;
 
 pub use decoder::CaptureDecoder;
 pub use laws::{
-    a_pair_is_found, parts_divide_a_capture, tests_of_a_capture, what_is_never_lost_is_told,
+    a_pair_is_found, parts_divide_a_capture, places_are_kept, tests_of_a_capture,
+    what_is_never_lost_is_told,
 };
-pub use part::Part;
+pub use part::{Part, phase_len};

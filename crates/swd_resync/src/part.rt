@@ -1,8 +1,10 @@
 //! The parts of a capture.
 ghost use Rattle.std.specs.Prelude.{◌≡◌, ◌+◌, ◌≤◌, ◌++◌};
 ghost use Rattle.arrayvec.specs.ArrayString.{array_string_len};
+ghost use Rattle.swd_resync.specs.AsItems.{phase_after};
 
 use arrayvec::ArrayString;
+use swd_bits::{Tx, TxEnd};
 use swd_trace::{Item, LONGEST_LINE};
 
 /// One part of a capture (the division is this project's choice).
@@ -32,4 +34,20 @@ impl Part {
             }
         }
     }
+}
+
+/// How many bits follow an item of a stretch as a data phase that says nothing: 33 behind WAIT and FAULT where the host
+/// uses overrun detection (`over`; IHI 0031, B4), 0 behind any other item.
+pub fn phase_len(item: &Item, over: bool) -> u8
+    ensures value { result ≡ phase_after over item.now }
+    ensures most { result ≤ 33 }
+{
+    let refused = matches!(
+        item,
+        Item::Tx(Tx {
+            result: TxEnd::Wait | TxEnd::Fault,
+            ..
+        })
+    );
+    if over && refused { 33 } else { 0 }
 }

@@ -46,12 +46,25 @@ abbrev pub made_rule : Rule
 made_rule = let rule = new_rule (codes "made") in record rule
     { long = Some (codes "made"); action = Some SetTrue }
 
--- the command that lists a trace, without the words that tell accesses, and with them
+-- whether the trace may begin in mid-session and lose bits, by --resync, and has a data phase behind WAIT and FAULT
+-- then, by --overrun
+abbrev pub resync_rule : Rule
+resync_rule = let rule = new_rule (codes "resync") in record rule
+    { long = Some (codes "resync"); action = Some SetTrue }
+
+abbrev pub overrun_rule : Rule
+overrun_rule = let rule = new_rule (codes "overrun") in record rule
+    { long = Some (codes "overrun"); action = Some SetTrue }
+
+-- the command that lists a trace, without the words that tell accesses, with them, and with the words of captures
 abbrev pub listing_app : App
 listing_app = with_rule (with_rule (with_rule (over_file (codes "decode")) places_rule) names_rule) count_rule
 
+abbrev pub telling_app : App
+telling_app = with_rule (with_rule listing_app accesses_rule) made_rule
+
 abbrev pub decode_app : App
-decode_app = with_rule (with_rule listing_app accesses_rule) made_rule
+decode_app = with_rule (with_rule telling_app resync_rule) overrun_rule
 
 -- the program without its commands: one of them is required
 abbrev pub bare_app : App
@@ -147,6 +160,8 @@ pub record IsDecodeOf (decode : DecodeLine) (rows : List Row) : Type 0 where
   pub count : (decode.count ≡ true) ↔ (first_of (codes "count") rows ≡ Some (codes "true"))
   pub accesses : (decode.accesses ≡ true) ↔ (first_of (codes "accesses") rows ≡ Some (codes "true"))
   pub made : (decode.made ≡ true) ↔ (first_of (codes "made") rows ≡ Some (codes "true"))
+  pub resync : (decode.resync ≡ true) ↔ (first_of (codes "resync") rows ≡ Some (codes "true"))
+  pub overrun : (decode.overrun ≡ true) ↔ (first_of (codes "overrun") rows ≡ Some (codes "true"))
 
 -- the number of tries, at most 1,000, is the one that the word stands for; 8 without a word
 abbrev pub AreTries : ℕ → Option Text → Type 0

@@ -7,7 +7,7 @@ pub enum Line {
     /// `swd one [FILE]`: without a file, standard input.
     One(Option<String>),
     /// `swd decode [FILE] [--places] [--names]`, `swd decode [FILE] --count`, or
-    /// `swd decode [FILE] --accesses [--made]`.
+    /// `swd decode [FILE] --accesses [--made]`, each with `--resync [--overrun]` or without.
     Decode(DecodeLine),
     /// `swd encode [FILE]`: without a file, standard input.
     Encode(Option<String>),
@@ -33,6 +33,10 @@ pub struct DecodeLine {
     pub accesses: bool,
     /// Whether the target was just made then.
     pub made: bool,
+    /// Whether the trace may begin in mid-session and lose bits.
+    pub resync: bool,
+    /// Whether a data phase follows WAIT and FAULT then.
+    pub overrun: bool,
 }
 
 /// What `swd run` is given.

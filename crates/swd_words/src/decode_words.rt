@@ -3,7 +3,7 @@ ghost use Rattle.std.specs.Prelude.{◌≡◌, IfOk, false};
 ghost use Rattle.clap.specs.Words.{app_of, found_of, rows_of, rule_of};
 ghost use Rattle.clap.specs.declared.builder.command.Command.TheViews.{out-Command};
 ghost use Rattle.swd_words.specs.Commands.{accesses_rule, count_rule, decode_app, listing_app, made_rule, names_rule};
-ghost use Rattle.swd_words.specs.Commands.{places_rule, IsDecodeOf};
+ghost use Rattle.swd_words.specs.Commands.{overrun_rule, places_rule, resync_rule, telling_app, IsDecodeOf};
 
 use crate::command::{DecodeLine, LineFault};
 use crate::words::{file_arg, is_asked_for, owned, refused, with_arg};
@@ -42,13 +42,22 @@ begins with the place of its request:
   @925 r 30000000 ???????? not  it didn't: a bus error, or damaged data
   @990 gap                      bits that belong to nothing: they may hide some
 ????????: the trace doesn't show this address or word. With --made it is the
-trace of a target that was just made, without it nothing is known at first.";
+trace of a target that was just made, without it nothing is known at first.
+
+With --resync the trace may begin in mid-session and lose bits. What can be read
+is listed, and the bits between have one line:
+  skip 26                       26 bits that belong to nothing
+Behind it SELECT is unknown. --count counts these bits, and for --accesses they
+are a gap. Give --overrun too if the host uses overrun detection: a data phase
+then follows WAIT and FAULT, so these transactions have 46 bits.";
 
 const COUNT_ALONE: &str = "--count goes with neither --places nor --names";
 
 const ACCESSES_ALONE: &str = "--accesses goes with none of --places, --names and --count";
 
 const MADE_WITH_ACCESSES: &str = "--made goes with --accesses";
+
+const OVERRUN_WITH_RESYNC: &str = "--overrun goes with --resync";
 
 // Whether each line begins with its place.
 fn places_arg<'a>(alloc: Global) -> Arg<'a>
@@ -105,6 +114,28 @@ fn made_arg<'a>(alloc: Global) -> Arg<'a>
         .help("With --accesses, of a target that was just made")
 }
 
+// Whether the trace may begin in mid-session and lose bits.
+fn resync_arg<'a>(alloc: Global) -> Arg<'a>
+    ensures rule { rule_of result ≡ resync_rule }
+    ensures local { result.global ≡ false }
+{
+    Arg::new(alloc, "resync")
+        .long("resync")
+        .action(ArgAction::SetTrue)
+        .help("Read a capture that begins in mid-session or lost bits")
+}
+
+// Whether a data phase follows WAIT and FAULT then.
+fn overrun_arg<'a>(alloc: Global) -> Arg<'a>
+    ensures rule { rule_of result ≡ overrun_rule }
+    ensures local { result.global ≡ false }
+{
+    Arg::new(alloc, "overrun")
+        .long("overrun")
+        .action(ArgAction::SetTrue)
+        .help("With --resync, WAIT and FAULT have a data phase")
+}
+
 // The command that lists a trace, without the words that tell accesses.
 fn listing_command<'a>(alloc: Global) -> Result<Command<'a>, AllocError>
     ensures app { IfOk result (λ c. app_of c ≡ listing_app) }
@@ -119,14 +150,24 @@ fn listing_command<'a>(alloc: Global) -> Result<Command<'a>, AllocError>
     with_arg(names, count_arg(alloc))
 }
 
-/// The command that lists a trace.
-pub(crate) fn decode_command<'a>(alloc: Global) -> Result<Command<'a>, AllocError>
-    ensures app { IfOk result (λ c. app_of c ≡ decode_app) }
+// The command that lists a trace, without the words of captures.
+fn telling_command<'a>(alloc: Global) -> Result<Command<'a>, AllocError>
+    ensures app { IfOk result (λ c. app_of c ≡ telling_app) }
     ensures local { IfOk result (λ c. (out-Command c).has_globals ≡ false) }
 {
     let listing = listing_command(alloc)?;
     let accesses = with_arg(listing, accesses_arg(alloc))?;
     with_arg(accesses, made_arg(alloc))
+}
+
+/// The command that lists a trace.
+pub(crate) fn decode_command<'a>(alloc: Global) -> Result<Command<'a>, AllocError>
+    ensures app { IfOk result (λ c. app_of c ≡ decode_app) }
+    ensures local { IfOk result (λ c. (out-Command c).has_globals ≡ false) }
+{
+    let telling = telling_command(alloc)?;
+    let resync = with_arg(telling, resync_arg(alloc))?;
+    with_arg(resync, overrun_arg(alloc))
 }
 
 /// What `swd decode` is given.
@@ -141,6 +182,8 @@ pub(crate) fn decode_line(alloc: Global, matches: &ArgMatches<'_>) -> Result<Dec
     let count = is_asked_for(matches.get_str("count"));
     let accesses = is_asked_for(matches.get_str("accesses"));
     let made = is_asked_for(matches.get_str("made"));
+    let resync = is_asked_for(matches.get_str("resync"));
+    let overrun = is_asked_for(matches.get_str("overrun"));
     if count && (places || names) {
         return Err(refused(alloc, ErrorKind::ArgumentConflict, COUNT_ALONE));
     }
@@ -151,6 +194,10 @@ pub(crate) fn decode_line(alloc: Global, matches: &ArgMatches<'_>) -> Result<Dec
         let kind = ErrorKind::MissingRequiredArgument;
         return Err(refused(alloc, kind, MADE_WITH_ACCESSES));
     }
+    if overrun && !resync {
+        let kind = ErrorKind::MissingRequiredArgument;
+        return Err(refused(alloc, kind, OVERRUN_WITH_RESYNC));
+    }
     Ok(DecodeLine {
         file,
         places,
@@ -158,5 +205,7 @@ pub(crate) fn decode_line(alloc: Global, matches: &ArgMatches<'_>) -> Result<Dec
         count,
         accesses,
         made,
+        resync,
+        overrun,
     })
 }

@@ -3,7 +3,7 @@ use super::expect::expect_eq_at;
 use super::{BOTH, NAMES, PLACES, trace_of};
 use std::test::Fail;
 use swd_capture::Printed;
-use swd_capture_text::print_capture;
+use swd_capture_text::{Reading, print_capture};
 use swd_fakes::{FailingReader, OneByteReader, ShortWriter};
 use swd_text::{DecodeFault, TextFault};
 
@@ -127,7 +127,7 @@ fn each_row(rt: HostRuntime) -> Result<(), Fail> {
         expect_eq_at(
             &rt,
             &name,
-            &print_capture(printed, &mut whole, &mut out),
+            &print_capture(Reading::Trace, printed, &mut whole, &mut out),
             &Ok(()),
         );
         expect_eq_at(&rt, &name, &out.as_slice(), &wanted);
@@ -137,7 +137,7 @@ fn each_row(rt: HostRuntime) -> Result<(), Fail> {
         expect_eq_at(
             &rt,
             &name,
-            &print_capture(printed, &mut bytes, &mut out),
+            &print_capture(Reading::Trace, printed, &mut bytes, &mut out),
             &Ok(()),
         );
         expect_eq_at(&rt, &name, &out.as_slice(), &wanted);
@@ -153,7 +153,7 @@ fn each_write_that_fails(rt: HostRuntime) -> Result<(), Fail> {
         for room in 0..wanted.len() {
             let mut whole = trace.as_slice();
             let mut writer = ShortWriter::new(rt.alloc(), room, true);
-            let answer = print_capture(printed, &mut whole, &mut writer);
+            let answer = print_capture(Reading::Trace, printed, &mut whole, &mut writer);
             let fault = DecodeFault::Write {
                 written: room as u64,
             };
@@ -227,7 +227,7 @@ fn each_stop(rt: HostRuntime) {
         expect_eq_at(
             &rt,
             &name,
-            &print_capture(printed, &mut reader, &mut out),
+            &print_capture(Reading::Trace, printed, &mut reader, &mut out),
             &wanted,
         );
         expect_eq_at(&rt, &name, &out.as_slice(), &written);

@@ -56,6 +56,10 @@ fn options_that_do_not_go_together_are_refused(rt: HostRuntime) {
         &["--count", "--names"],
         &["--made"],
         &["--made", "--places"],
+        &["--overrun"],
+        &["--overrun", "--places"],
+        &["--resync", "--made"],
+        &["--resync", "--count", "--names"],
     ] {
         let mut words = Vec::new(rt.alloc());
         assert!(rt;

@@ -1,11 +1,9 @@
 //! Texts at fault, and readers and writers that fail at each place.
 use super::expect::expect_eq_at;
-use super::told::trace_of;
+use super::told::{observe, trace_of};
 use std::alloc::Global;
 use std::test::Fail;
 use swd_fakes::{FailingReader, OneByteReader, OneByteWriter, ShortWriter};
-use swd_observer::TraceObserver;
-use swd_observer_text::observe_text;
 use swd_text::{DecodeFault, TextFault};
 
 const LISTING: &[u8] =
@@ -18,7 +16,7 @@ fn byte_by_byte(rt: HostRuntime) -> Result<(), Fail> {
     let trace = trace_of(rt.alloc(), LISTING)?;
     let mut reader = OneByteReader::new(trace.as_slice());
     let mut writer = OneByteWriter::new(rt.alloc());
-    let answer = observe_text(&mut reader, &mut writer, TraceObserver::of_made());
+    let answer = observe(&mut reader, &mut writer, true);
     expect_eq_at(&rt, &"answer", &answer, &Ok(()));
     expect_eq_at(&rt, &"told", &writer.taken.as_slice(), &TOLD);
     Ok(())
@@ -31,7 +29,7 @@ fn a_read_that_fails(rt: HostRuntime) -> Result<(), Fail> {
     for place in 0..trace.len() {
         let mut reader = FailingReader::new(trace.as_slice(), place);
         let mut lines = Vec::new(rt.alloc());
-        let answer = observe_text(&mut reader, &mut lines, TraceObserver::of_made());
+        let answer = observe(&mut reader, &mut lines, true);
         expect_eq_at(&rt, &place, &answer, &Err(DecodeFault::Read));
         expect_eq_at(&rt, &place, &TOLD.starts_with(lines.as_slice()), &true);
     }
@@ -45,7 +43,7 @@ fn a_write_that_fails(rt: HostRuntime) -> Result<(), Fail> {
         for fails in [false, true] {
             let mut reader = trace.as_slice();
             let mut writer = ShortWriter::new(rt.alloc(), room, fails);
-            let answer = observe_text(&mut reader, &mut writer, TraceObserver::of_made());
+            let answer = observe(&mut reader, &mut writer, true);
             let written = room as u64;
             expect_eq_at(&rt, &room, &answer, &Err(DecodeFault::Write { written }));
             expect_eq_at(&rt, &room, &TOLD.starts_with(writer.taken()), &true);
@@ -68,7 +66,7 @@ fn a_bad_character(rt: HostRuntime) -> Result<(), Fail> {
     let (trace, place) = told_before(rt.alloc(), LISTING)?;
     let mut reader = trace.as_slice();
     let mut lines = Vec::new(rt.alloc());
-    let answer = observe_text(&mut reader, &mut lines, TraceObserver::of_made());
+    let answer = observe(&mut reader, &mut lines, true);
     let fault = DecodeFault::Text(TextFault::BadChar { place });
     expect_eq_at(&rt, &"answer", &answer, &Err(fault));
     expect_eq_at(&rt, &"told", &lines.as_slice(), &TOLD);

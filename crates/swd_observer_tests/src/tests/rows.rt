@@ -2,7 +2,6 @@
 use super::expect::expect_eq_at;
 use super::told::told_of;
 use std::test::Fail;
-use swd_observer::TraceObserver;
 
 // A listing, whether its target was just made, and the lines that are told.
 struct Row {
@@ -247,12 +246,7 @@ const ROWS: [Row; 35] = [
 #[test]
 fn listings_and_what_they_tell(rt: HostRuntime) -> Result<(), Fail> {
     for row in &ROWS {
-        let observer = if row.made {
-            TraceObserver::of_made()
-        } else {
-            TraceObserver::new()
-        };
-        let told = told_of(rt.alloc(), row.listing, observer)?;
+        let told = told_of(rt.alloc(), row.listing, row.made)?;
         expect_eq_at(&rt, &row.name, &told.as_slice(), &row.told);
     }
     Ok(())

@@ -21,4 +21,10 @@ returns c = record {
   made = subst (λ (word : Option Text). (c.is_asked_for-made.result ≡ true) ↔ (word ≡ Some (codes "true")))
       (c.get_str-6.ensures ∙ first_value-rows (found_of c.args.matches.now) (codes "made"))
       c.is_asked_for-made.ensures;
+  resync = subst (λ (word : Option Text). (c.is_asked_for-resync.result ≡ true) ↔ (word ≡ Some (codes "true")))
+      (c.get_str-7.ensures ∙ first_value-rows (found_of c.args.matches.now) (codes "resync"))
+      c.is_asked_for-resync.ensures;
+  overrun = subst (λ (word : Option Text). (c.is_asked_for-overrun.result ≡ true) ↔ (word ≡ Some (codes "true")))
+      (c.get_str-8.ensures ∙ first_value-rows (found_of c.args.matches.now) (codes "overrun"))
+      c.is_asked_for-overrun.ensures;
 }

@@ -2,23 +2,23 @@ use Rattle.std.proofs.Common.{◌≡◌, ◌+◌, ◌-◌, ◌^◌, min, [], ◌
 use Rattle.std.proofs.lemmas.List.{length-append}
 use Rattle.swd_bits.proofs.ScanLemmas.{reads_passed, reads_bit, first_bad}
 use Rattle.swd_text.specs.Listers.{StopsAt}
-use Rattle.swd_text.proofs.ListerLemmas.{on_ok, on_err}
+use Rattle.swd_text.proofs.ListerLemmas.{on_err}
 use Rattle.swd_capture_text.specs.Listers.{Listed}
-use Rattle.swd_capture_text.proofs.ListerLemmas.{lists_of}
+use Rattle.swd_capture_text.proofs.ListerLemmas.{lists_of, on_ok_then}
 use Rattle.swd_capture_text.proofs.lister.Lister.byte.Goals as goal
 
 pub returns-in-Passed-clause-ok : goal.returns-in-Passed-clause-ok
-returns-in-Passed-clause-ok g c = λ start printed seen h.
+returns-in-Passed-clause-ok g c = λ start seen h.
     let lister = c.args.self.now in
     let r = h.read in
     record {
       read = record {
         bits = r.bits;
-        items = r.items;
+        parts = r.parts;
         reads = reads_passed seen r.bits lister.scan c.byte.new.self c.args.byte c.in-Passed.ensures.sign
             c.in-Passed.ensures.comment r.reads;
-        undecided = r.undecided;
-        law = r.law;
+        has = r.has;
+        decides = r.decides;
         count = r.count;
         counted = r.counted;
       };
@@ -27,7 +27,7 @@ returns-in-Passed-clause-ok g c = λ start printed seen h.
     }
 
 pub returns-in-Bad-clause-err : goal.returns-in-Bad-clause-err
-returns-in-Bad-clause-err g c = λ start printed seen h.
+returns-in-Bad-clause-err g c = λ start seen h.
     let lister = c.args.self.now in (
       (
         c.saturating_add.ensures,
@@ -38,31 +38,31 @@ returns-in-Bad-clause-err g c = λ start printed seen h.
     )
 
 pub returns-in-Bit-clause-ok : goal.returns-in-Bit-clause-ok
-returns-in-Bit-clause-ok g c = on_ok c.bit.result
-    (λ lists undecided start printed seen h.
+returns-in-Bit-clause-ok g c = on_ok_then c.bit.result
+    (λ lists start seen h.
     let lister = c.args.self.now in
     let r = h.read in
-    let m = lists start printed r.bits r.items
-    (lists_of g.W.Write.contents start printed lister.decoder lister.scan lister.teller c.args.block.now seen h) in
+    let m = lists start r.bits r.parts
+    (lists_of g.W.Write.contents start lister.source lister.scan lister.teller c.args.block.now seen h) in
     record {
       read = record {
         bits = r.bits ++ c.in-Bit.bit ∷ [];
-        items = m.0;
+        parts = m.0;
         reads = reads_bit seen r.bits lister.scan c.bit.new.self.scan c.in-Bit.bit c.args.byte c.in-Bit.ensures.sign
             (c.bit.ensures.scan ∙ c.in-Bit.ensures.comment) r.reads;
-        undecided = undecided;
-        law = m.1.law;
+        has = m.1.has;
+        decides = m.2;
         count = m.1.count;
         counted = m.1.counted;
       };
       after = m.1.after;
       sends = m.1.sends;
     })
-    c.bit.ensures.ok c.bit.ensures.undecided
+    c.bit.ensures.ok
 
 pub returns-in-Bit-clause-err : goal.returns-in-Bit-clause-err
 returns-in-Bit-clause-err g c = on_err c.bit.result
-    (λ fault long same start printed seen h.
+    (λ fault long same start seen h.
     let lister = c.args.self.now in
     let contents = g.W.Write.contents in
     let r = h.read in
@@ -79,9 +79,9 @@ returns-in-Bit-clause-err g c = on_err c.bit.result
       }),
       (
         lister.scan,
-        subst (λ b. Listed contents start printed c.bit.new.self.decoder lister.scan c.bit.new.self.teller b seen)
+        subst (λ b. Listed contents start c.bit.new.self.source lister.scan c.bit.new.self.teller b seen)
             (sym same.1)
-            (subst (λ l. Listed contents start printed l.decoder lister.scan l.teller c.args.block.now seen)
+            (subst (λ l. Listed contents start l.source lister.scan l.teller c.args.block.now seen)
             (sym same.0) h),
       ),
     ))

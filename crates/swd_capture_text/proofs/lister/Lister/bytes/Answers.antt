@@ -3,9 +3,9 @@ use Rattle.std.proofs.Common.{sym, ap, ◌∙◌, subst, append_assoc, add-one, 
 use Rattle.std.proofs.Math.Seq.{take-suc}
 use Rattle.std.proofs.lemmas.List.{length-append, length-take-le}
 use Rattle.swd_bits.proofs.ScanLemmas.{parted}
-use Rattle.swd_text.specs.Decoding.{StopsWith}
 use Rattle.swd_text.specs.Listers.{StopsAt}
-use Rattle.swd_text.proofs.DecodingLemmas.{decided_by, stops_with}
+use Rattle.swd_capture_text.specs.Captures.{StopsWith}
+use Rattle.swd_capture_text.proofs.CaptureLemmas.{decided_by, stops_with}
 use Rattle.swd_capture_text.specs.Listers.{GoesOn}
 use Rattle.swd_capture_text.proofs.lister.Lister.bytes.Goals as goal
 
@@ -14,7 +14,7 @@ least : (place index before seen : ℕ) → place ≡ min before (2 ^ 64 - 1) �
 least place index before seen p q = omega arith
 
 pub returns-in-Err-clause-err : goal.returns-in-Err-clause-err
-returns-in-Err-clause-err g c = λ start printed seen h place.
+returns-in-Err-clause-err g c = λ start seen h place.
     let fault = c.in-Err.fault in
     let piece = c.args.piece.now in
     let index = c.loop-index.index in
@@ -27,14 +27,14 @@ returns-in-Err-clause-err g c = λ start printed seen h place.
     let here : c.loop-index.self.place ≡ c.args.self.now.place = c.loop-index.invariant.place in
     let at : min (c.loop-index.self.place + index) (2 ^ 64 - 1) ≡ min (length so_far) (2 ^ 64 - 1) =
     least c.loop-index.self.place index (length seen) (length so_far) (here ∙ place) far in
-    let s = c.in-Err.ensures.err start printed so_far (c.loop-index.invariant.goes start printed seen h) in
+    let s = c.in-Err.ensures.err start so_far (c.loop-index.invariant.goes start seen h) in
     let listed = s.1.1 in
-    let due = decided_by c.byte.new.self.decoder s.1.0 so_far listed.read in
+    let due = decided_by start.reading c.byte.new.self.source s.1.0 so_far listed.read in
     record {
-      items = listed.read.items;
+      parts = listed.read.parts;
       stops = λ more.
-          subst (StopsWith fault listed.read.items) (parted seen piece more index within)
-          (stops_with fault so_far (drop (suc index) piece ++ more) byte listed.read.items
+          subst (StopsWith start.reading fault listed.read.parts) (parted seen piece more index within)
+          (stops_with start.reading fault so_far (drop (suc index) piece ++ more) byte listed.read.parts
           (subst (λ p. StopsAt fault p so_far byte) at s.0) due);
       sends = listed.sends;
     }
@@ -48,19 +48,19 @@ next_byte seen piece index h = append_assoc seen (take index piece) (get_or piec
 pub loop-index-preserved : goal.loop-index-preserved
 loop-index-preserved g c = record {
   within = omega arith;
-  settled = c.byte.ensures.settled;
+  ready = c.byte.ensures.ready;
   place = c.byte.ensures.place ∙ c.loop-index.invariant.place;
   writer = c.byte.ensures.writer ∙ c.loop-index.invariant.writer;
-  goes = λ start printed seen h.
-      subst (GoesOn g.W.Write.contents start printed c.byte.new.self c.byte.new.block)
+  goes = λ start seen h.
+      subst (GoesOn g.W.Write.contents start c.byte.new.self c.byte.new.block)
       (next_byte seen c.args.piece.now c.loop-index.index c.loop-index-test.true)
-      (c.in_default.ensures.ok start printed (seen ++ take c.loop-index.index c.args.piece.now)
-      (c.loop-index.invariant.goes start printed seen h));
+      (c.in_default.ensures.ok start (seen ++ take c.loop-index.index c.args.piece.now)
+      (c.loop-index.invariant.goes start seen h));
 }
 
 pub returns-clause-ok : goal.returns-clause-ok
-returns-clause-ok g c = λ start printed seen h.
+returns-clause-ok g c = λ start seen h.
     let all : take c.loop-index.index c.args.piece.now ≡ c.args.piece.now = take_all c.loop-index.index c.args.piece.now
     (omega arith) in
-    subst (λ x. GoesOn g.W.Write.contents start printed c.loop-index.self c.loop-index.block (seen ++ x)) all
-    (c.loop-index.invariant.goes start printed seen h)
+    subst (λ x. GoesOn g.W.Write.contents start c.loop-index.self c.loop-index.block (seen ++ x)) all
+    (c.loop-index.invariant.goes start seen h)

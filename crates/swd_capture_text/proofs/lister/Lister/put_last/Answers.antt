@@ -1,21 +1,37 @@
-use Rattle.std.proofs.Common.{[], ◌∷◌, ◌++◌, sym, ap, ◌∙◌, subst, append_assoc}
+use Rattle.std.proofs.Common.{[], ◌∷◌, ◌++◌, refl, sym, ◌∙◌, subst}
 use Rattle.swd_io.specs.Blocks.{Sends}
-use Rattle.swd_trace.specs.Held.{rest}
-use Rattle.swd_capture.specs.Printing.{told}
 use Rattle.swd_capture.proofs.TellerLemmas.{told_more}
+use Rattle.swd_capture_text.specs.Listers.{IsBehind, told_of}
+use Rattle.swd_capture_text.specs.Readings.{is_over}
+use Rattle.swd_capture_text.proofs.SourceLemmas.{ends_at}
 use Rattle.swd_capture_text.proofs.lister.Lister.put_last.Goals as goal
 
-pub loop-item-preserved : goal.loop-item-preserved
-loop-item-preserved g c = record {
-  lists = λ start printed bits items h.
-      let i = c.loop-item.invariant.lists start printed bits items h in (
-        i.0 ++ c.in-Some.item ∷ [],
-        append_assoc i.0 (c.in-Some.item ∷ []) (rest c.last.new.self [])
-            ∙ ap (λ x. i.0 ++ x) (sym c.in-Some.ensures.item) ∙ i.1,
-        c.put_item.ensures.after printed i.0 i.2,
-        subst (λ all. Sends g.W.Write.contents start c.put_item.new.block all)
-            (sym (told_more printed i.0 c.in-Some.item))
-            (c.put_item.ensures.sends printed i.0 i.2 start (told printed i.0) i.3),
-      );
-  writer = c.put_item.ensures.writer ∙ c.loop-item.invariant.writer;
+pub loop-part-init : goal.loop-part-init
+loop-part-init g c = record {
+  lists = λ start bits parts h.
+      (parts, ends_at start.reading c.args.self.now.source bits parts h.has, h.after, h.sends);
+  writer = refl;
 }
+
+pub loop-part-preserved : goal.loop-part-preserved
+loop-part-preserved g c = record {
+  lists = λ start bits parts h.
+      let i = c.loop-part.invariant.lists start bits parts h in
+      let over = is_over start.reading in (
+        i.0 ++ c.in-Some.part ∷ [],
+        c.in-Some.ensures.part start.reading bits i.0 i.1,
+        c.put_part.ensures.after start.printed over i.0 i.2,
+        subst (λ all. Sends g.W.Write.contents start.from c.put_part.new.block all)
+            (sym (told_more start.printed over i.0 c.in-Some.part))
+            (c.put_part.ensures.sends start.printed over i.0 i.2 start.from (told_of start i.0) i.3),
+      );
+  writer = c.put_part.ensures.writer ∙ c.loop-part.invariant.writer;
+}
+
+pub returns-clause-lists : goal.returns-clause-lists
+returns-clause-lists g c = λ start bits parts h.
+    let i = c.loop-part.invariant.lists start bits parts h in
+    let all = c.in_default.ensures.none start.reading bits i.0 i.1 in (
+      subst (λ p. IsBehind start p c.loop-part.self.teller) all i.2,
+      subst (λ p. Sends g.W.Write.contents start.from c.loop-part.block (told_of start p)) all i.3,
+    )

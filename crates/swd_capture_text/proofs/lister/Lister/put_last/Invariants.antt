@@ -1,22 +1,19 @@
-use Rattle.std.proofs.Common.{◌≡◌, List, Option, Bool, ℕ, [], ◌++◌}
+use Rattle.std.proofs.Common.{◌≡◌, List, Bool}
 use Rattle.swd_io.specs.Blocks.{Sends}
-use Rattle.swd_trace.specs.declared.item.Item.{Item}
-use Rattle.swd_trace.specs.Reading.{reading_of}
-use Rattle.swd_trace.specs.Held.{rest, places}
-use Rattle.swd_capture.specs.declared.printed.Printed.{Printed}
-use Rattle.swd_capture.specs.Printing.{told}
-use Rattle.swd_capture.specs.Tellers.{IsAfter}
-use Rattle.swd_capture_text.specs.Listers.{Lists}
+use Rattle.swd_resync.specs.declared.part.Part.{Part}
+use Rattle.swd_capture_text.specs.Listers.{Start, IsBehind, told_of, Lists}
+use Rattle.swd_capture_text.specs.Sources.{EndsAt, steps_left}
 use Rattle.swd_capture_text.proofs.lister.Lister.put_last.Given as goal
 
-abbrev pub invariant-loop-item : goal.invariant-loop-item
-invariant-loop-item g l = record {
-  lists : (start : Option (List ℕ)) (printed : Printed) (bits : List Bool) (items : List Item)
-      → Lists g.W.Write.contents start printed l.fn.self.decoder l.fn.self.teller l.fn.block bits items
-      → (given : List Item) × (given ++ rest l.self.decoder [] ≡ reading_of bits)
-      × IsAfter printed given l.self.teller × Sends g.W.Write.contents start l.block (told printed given);
+abbrev pub invariant-loop-part : goal.invariant-loop-part
+invariant-loop-part g l = record {
+  lists : (start : Start) (bits : List Bool) (parts : List Part)
+      → Lists g.W.Write.contents start l.fn.self.source l.fn.self.teller l.fn.block bits parts
+      → (given : List Part) × EndsAt start.reading l.self.source bits given
+      × IsBehind start given l.self.teller
+      × Sends g.W.Write.contents start.from l.block (told_of start given);
   writer : l.block.writer.ghost_name ≡ l.fn.block.writer.ghost_name;
 }
 
-abbrev pub decreases-loop-item : goal.decreases-loop-item
-decreases-loop-item g l = places l.self.decoder
+abbrev pub decreases-loop-part : goal.decreases-loop-part
+decreases-loop-part g l = steps_left l.self.source

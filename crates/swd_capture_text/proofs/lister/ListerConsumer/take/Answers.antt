@@ -5,30 +5,27 @@ use Rattle.std.specs.Io.KnownBytes.{Appends}
 use Rattle.std.proofs.lemmas.List.{length-append, append-nil}
 use Rattle.swd_io.specs.Blocks.{Sends}
 use Rattle.swd_io.specs.declared.block.Block.{Block}
-use Rattle.swd_trace.specs.declared.item.Item.{Item}
-use Rattle.swd_text.specs.Decoding.{IsDue, StopsWith}
+use Rattle.swd_resync.specs.declared.part.Part.{Part}
 use Rattle.swd_text.specs.declared.fault.TextFault.{TextFault}
-use Rattle.swd_text.proofs.DecodingLemmas.{decided_by}
-use Rattle.swd_capture.specs.declared.printed.Printed.{Printed}
-use Rattle.swd_capture.specs.Printing.{told}
-use Rattle.swd_capture_text.specs.Listers.{GoesOn, StopsIn, TellsCut, TellsFault}
+use Rattle.swd_capture_text.specs.Captures.{IsDue, StopsWith}
+use Rattle.swd_capture_text.specs.Listers.{Start, told_of, GoesOn, StopsIn, TellsCut, TellsFault}
+use Rattle.swd_capture_text.proofs.CaptureLemmas.{decided_by}
+use Rattle.swd_capture_text.proofs.ListerLemmas.{on_ok_then}
 use Rattle.swd_capture_text.specs.declared.lister.Lister.{Lister}
 use Rattle.swd_capture_text.proofs.lister.ListerConsumer.take.Goals as goal
 
 -- what is told of a text is under way, whether it goes on or not
-under_way : {W : Type 0} (contents : W → Option (List ℕ)) (start : Option (List ℕ)) (printed : Printed)
-    (lister : Lister) (block : Block W) (text : List ℕ) (r : Result (Unit {0}) TextFault) →
-    OnOk r (GoesOn contents start printed lister block text) →
-    IfErr r (λ fault. StopsIn contents start printed block fault text) →
-    (items : List Item) × IsDue text items × Sends contents start block (told printed items)
-under_way contents start printed lister block text (Ok u) goes stops =
-    (goes.read.items, inl (decided_by lister.decoder lister.scan text goes.read), goes.sends)
-under_way contents start printed lister block text (Err fault) goes stops =
-    (stops.items, inr (fault, subst (StopsWith fault stops.items) (append-nil text) (stops.stops [])), stops.sends)
-
-on_ok_then : {A E P Q : Type 0} (r : Result A E) → (P → Q) → OnOk r P → OnOk r Q
-on_ok_then (Ok x) f p = f p
-on_ok_then (Err e) f p = tt
+under_way : {W : Type 0} (contents : W → Option (List ℕ)) (start : Start) (lister : Lister) (block : Block W)
+    (text : List ℕ) (r : Result (Unit {0}) TextFault) → OnOk r (GoesOn contents start lister block text)
+    → IfErr r (λ fault. StopsIn contents start block fault text)
+    → (parts : List Part) × IsDue start.reading text parts × Sends contents start.from block (told_of start parts)
+under_way contents start lister block text (Ok u) goes stops =
+    (goes.read.parts, inl (decided_by start.reading lister.source lister.scan text goes.read), goes.sends)
+under_way contents start lister block text (Err fault) goes stops = (
+  stops.parts,
+  inr (fault, subst (StopsWith start.reading fault stops.parts) (append-nil text) (stops.stops [])),
+  stops.sends,
+)
 
 if_err_then : {A E : Type 0} {P Q : E → Type 0} (r : Result A E) → ((e : E) → P e → Q e) → IfErr r P → IfErr r Q
 if_err_then (Ok x) f p = tt
@@ -42,70 +39,64 @@ further seen piece place count p q =
     omega arith
 
 pub returns-in-Err-clause-err : goal.returns-in-Err-clause-err
-returns-in-Err-clause-err g c = λ from seen h.
+returns-in-Err-clause-err g c = λ start seen h.
     let contents = g.W.Write.contents in
-    let start = from.0 in
-    let printed = from.1 in
     let text = seen ++ c.args.piece.now in
     let same = c.writer-1.given.1
     (sym (c.flush.ensures.writer ∙ c.bytes-listed.ensures.writer ∙ c.new-block.ensures.writer)) in
-    let goes : GoesOn contents start printed c.args.self.now c.new-block.result seen =
+    let goes : GoesOn contents start c.args.self.now c.new-block.result seen =
     record {
       read = h.read;
       after = h.after;
-      sends = c.new-block.ensures.sends start (told printed h.read.items) h.gone h.written;
+      sends = c.new-block.ensures.sends start.from (told_of start h.read.parts) h.gone h.written;
     } in
-    let under = under_way contents start printed c.bytes-listed.new.self c.bytes-listed.new.block text
+    let under = under_way contents start c.bytes-listed.new.self c.bytes-listed.new.block text
     c.bytes-listed.result
-    (on_ok_then c.bytes-listed.result (λ f. f start printed seen goes) c.bytes-listed.ensures.ok)
-    (if_err_then c.bytes-listed.result (λ fault f. f start printed seen goes h.place) c.bytes-listed.ensures.err) in
-    subst (λ w. TellsCut start (contents w) printed c.in-Err.written text) (sym same)
+    (on_ok_then c.bytes-listed.result (λ f. f start seen goes) c.bytes-listed.ensures.ok)
+    (if_err_then c.bytes-listed.result (λ fault f. f start seen goes h.place) c.bytes-listed.ensures.err) in
+    subst (λ w. TellsCut start (contents w) c.in-Err.written text) (sym same)
     (record {
-      items = under.0;
+      parts = under.0;
       due = under.1;
-      cut = c.in-Err.ensures.err start (told printed under.0) under.2;
+      cut = c.in-Err.ensures.err start.from (told_of start under.0) under.2;
     })
 
 pub returns-in-Ok-listed-clause-ok : goal.returns-in-Ok-listed-clause-ok
-returns-in-Ok-listed-clause-ok g c = λ from seen h.
+returns-in-Ok-listed-clause-ok g c = λ start seen h.
     let contents = g.W.Write.contents in
-    let start = from.0 in
-    let printed = from.1 in
     let same = c.writer-1.given.1
     (sym (c.flush.ensures.writer ∙ c.bytes-listed.ensures.writer ∙ c.new-block.ensures.writer)) in
-    let goes = c.in-Ok-listed.ensures.ok start printed seen
+    let goes = c.in-Ok-listed.ensures.ok start seen
     (record {
       read = h.read;
       after = h.after;
-      sends = c.new-block.ensures.sends start (told printed h.read.items) h.gone h.written;
+      sends = c.new-block.ensures.sends start.from (told_of start h.read.parts) h.gone h.written;
     }) in
-    let gone = c.in-Ok.ensures.ok start (told printed goes.read.items) goes.sends in
+    let gone = c.in-Ok.ensures.ok start.from (told_of start goes.read.parts) goes.sends in
     record {
       read = goes.read;
       after = goes.after;
-      gone = subst (λ w. Appends start (contents w) (told printed goes.read.items)) (sym same) gone.0;
+      gone = subst (λ w. Appends start.from (contents w) (told_of start goes.read.parts)) (sym same) gone.0;
       written = gone.1;
       place = further seen c.args.piece.now c.args.self.now.place c.bytes-listed.new.self.place h.place
           c.in-Ok-listed.ensures.place;
     }
 
 pub returns-in-Err-listed-clause-err : goal.returns-in-Err-listed-clause-err
-returns-in-Err-listed-clause-err g c = λ from seen h.
+returns-in-Err-listed-clause-err g c = λ start seen h.
     let contents = g.W.Write.contents in
-    let start = from.0 in
-    let printed = from.1 in
     let same = c.writer-1.given.1
     (sym (c.flush.ensures.writer ∙ c.bytes-listed.ensures.writer ∙ c.new-block.ensures.writer)) in
-    let goes : GoesOn contents start printed c.args.self.now c.new-block.result seen =
+    let goes : GoesOn contents start c.args.self.now c.new-block.result seen =
     record {
       read = h.read;
       after = h.after;
-      sends = c.new-block.ensures.sends start (told printed h.read.items) h.gone h.written;
+      sends = c.new-block.ensures.sends start.from (told_of start h.read.parts) h.gone h.written;
     } in
-    let stops = c.in-Err-listed.ensures.err start printed seen goes h.place in
-    subst (λ w. TellsFault start (contents w) printed c.in-Err-listed.fault (seen ++ c.args.piece.now)) (sym same)
+    let stops = c.in-Err-listed.ensures.err start seen goes h.place in
+    subst (λ w. TellsFault start (contents w) c.in-Err-listed.fault (seen ++ c.args.piece.now)) (sym same)
     (record {
-      items = stops.items;
+      parts = stops.parts;
       stops = stops.stops;
-      gone = (c.in-Ok.ensures.ok start (told printed stops.items) stops.sends).0;
+      gone = (c.in-Ok.ensures.ok start.from (told_of start stops.parts) stops.sends).0;
     })

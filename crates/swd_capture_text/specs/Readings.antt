@@ -1,0 +1,29 @@
+-- How the bits of a text are read, and which parts they decide.
+use Rattle.std.specs.Prelude.{◌≡◌, ◌<◌, Bool, false, List, map}
+use Rattle.swd_trace.specs.declared.item.Item.{Item}
+use Rattle.swd_trace.specs.Reading.{reading_of}
+use Rattle.swd_trace.specs.Decided.{IsDecided}
+use Rattle.swd_resync.specs.declared.part.Part.{Part}
+use Rattle.swd_resync.specs.declared.part.Part.TheVariants.{Item as Told}
+use Rattle.swd_resync.specs.declared.decoder.CaptureDecoder.{CaptureDecoder}
+use Rattle.swd_resync.specs.Parts.{parts_of}
+use Rattle.swd_resync.specs.Decoding.{HasRead, held_len}
+use Rattle.swd_capture_text.specs.declared.reading.Reading.{Reading}
+use Rattle.swd_capture_text.specs.declared.reading.Reading.TheVariants.{Trace, Capture}
+
+-- whether a data phase follows WAIT and FAULT
+abbrev pub is_over : Reading → Bool
+is_over Trace = false
+is_over (Capture over) = over
+
+-- the parts of bits: the items of a trace, or a capture's
+abbrev pub parts_by : Reading → List Bool → List Part
+parts_by Trace bits = map Told (reading_of bits)
+parts_by (Capture over) bits = parts_of over bits
+
+-- The parts that bits decide, whatever may follow. Of a trace all of them; of a capture those before what a decoder
+-- holds: fewer than 142 bits, one count of zeros, and one of the bits of a part that isn't over.
+abbrev pub Decides : Reading → List Bool → List Part → Type 0
+Decides Trace bits parts = (items : List Item) × (parts ≡ map Told items) × IsDecided bits items
+Decides (Capture over) bits parts =
+    (decoder : CaptureDecoder) × HasRead over decoder bits parts × (held_len decoder < 142)

@@ -1,0 +1,95 @@
+//! The parts of bits, by either reading.
+use crate::reading::Reading;
+use swd_resync::{CaptureDecoder, Part};
+use swd_trace::Decoder;
+
+/// A decoder of either reading: a trace is a capture whose parts are the trace's items.
+#[derive(Drop)]
+pub(crate) enum Source {
+    Trace(Decoder),
+    Capture(CaptureDecoder),
+}
+
+impl Source {
+    ghost use Rattle.std.specs.Prelude.{◌≡◌, ◌+◌, ◌-◌, ◌^◌, ◌<◌, List, Bool, [], ◌∷◌, ◌++◌, IfSome, IfNone};
+    ghost use Rattle.swd_resync.specs.declared.part.Part;
+    ghost use Rattle.swd_capture_text.specs.declared.reading.Reading;
+    ghost use Rattle.swd_capture_text.specs.Readings.{Decides, parts_by};
+    ghost use Rattle.swd_capture_text.specs.Sources.{EndsAt, Has, IsReady, fed_of, steps_left};
+
+    /// A decoder that was fed no bit.
+    pub(crate) fn new(reading: Reading) -> Source
+        ensures has { Has reading result [] [] }
+        ensures decides { Decides reading [] [] }
+        ensures ready { IsReady result }
+        ensures fed { fed_of result ≡ 0 }
+    {
+        match reading {
+            Reading::Trace => Source::Trace(Decoder::new()),
+            Reading::Capture { over } => Source::Capture(CaptureDecoder::new(over)),
+        }
+    }
+
+    /// How many bits it was fed.
+    #[inline(always)]
+    pub(crate) fn fed(&self) -> u64
+        ensures { result ≡ fed_of self.now }
+    {
+        match self {
+            Source::Trace(decoder) => decoder.fed(),
+            Source::Capture(decoder) => decoder.fed(),
+        }
+    }
+
+    /// Takes a bit. Every part that was due has to be taken before.
+    #[inline(always)]
+    pub(crate) fn take(&mut self, bit: bool)
+        requires ready { IsReady self.old }
+        requires count { fed_of self.old < 2 ^ 64 - 1 }
+        ensures has { (reading : Reading) (bits : List Bool) (parts : List Part) → Has reading self.old bits parts
+            → Has reading self.new (bits ++ bit ∷ []) parts }
+        ensures fed { fed_of self.new ≡ fed_of self.old + 1 }
+    {
+        match self {
+            Source::Trace(decoder) => decoder.take(bit),
+            Source::Capture(decoder) => decoder.take(bit),
+        }
+    }
+
+    /// The next part that is decided, whatever bits may follow. `None` where none is.
+    #[inline(always)]
+    pub(crate) fn due(&mut self) -> Option<Part>
+        ensures part { IfSome result (λ part. (reading : Reading) (bits : List Bool) (parts : List Part)
+            → Has reading self.old bits parts → Has reading self.new bits (parts ++ part ∷ [])) }
+        ensures fewer { IfSome result (λ part. steps_left self.new < steps_left self.old) }
+        ensures none { IfNone result ((reading : Reading) (bits : List Bool) (parts : List Part)
+            → Has reading self.old bits parts → Has reading self.new bits parts × Decides reading bits parts) }
+        ensures ready { IfNone result (IsReady self.new) }
+        ensures fed { fed_of self.new ≡ fed_of self.old }
+    {
+        match self {
+            Source::Trace(decoder) => match decoder.due() {
+                Some(item) => Some(Part::Item(item)),
+                None => None,
+            },
+            Source::Capture(decoder) => decoder.due(),
+        }
+    }
+
+    /// The next part where the bits end here. `None` where all were given.
+    pub(crate) fn last(&mut self) -> Option<Part>
+        ensures part { IfSome result (λ part. (reading : Reading) (bits : List Bool) (parts : List Part)
+            → EndsAt reading self.old bits parts → EndsAt reading self.new bits (parts ++ part ∷ [])) }
+        ensures fewer { IfSome result (λ part. steps_left self.new < steps_left self.old) }
+        ensures none { IfNone result ((reading : Reading) (bits : List Bool) (parts : List Part)
+            → EndsAt reading self.old bits parts → parts ≡ parts_by reading bits) }
+    {
+        match self {
+            Source::Trace(decoder) => match decoder.last() {
+                Some(item) => Some(Part::Item(item)),
+                None => None,
+            },
+            Source::Capture(decoder) => decoder.last(),
+        }
+    }
+}

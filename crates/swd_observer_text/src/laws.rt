@@ -1,0 +1,14 @@
+//! A law of what captures show. The function does nothing: its contract is the law.
+ghost use Rattle.std.specs.Prelude.{◌≡◌, ◌<◌, ℕ, Bool};
+ghost use Rattle.swd_observer.specs.declared.trace.TraceObserver.{TraceObserver};
+ghost use Rattle.swd_observer.specs.Observing.{unknown};
+ghost use Rattle.swd_observer.specs.Traces.{after_items};
+ghost use Rattle.swd_resync.specs.AsItems.{items_of_part};
+ghost use Rattle.swd_resync.specs.declared.part.Part.TheVariants.{Skip};
+
+/// After a skip an observer knows nothing of the target, as at the beginning of a trace: so each stretch is observed as
+/// one that begins anywhere.
+pub fn skips_are_forgotten()
+    ensures { (over : Bool) (n : ℕ) (t : TraceObserver) → 0 < n
+        → (after_items (items_of_part over (Skip n)) t).observer ≡ unknown }
+{}

@@ -1,0 +1,139 @@
+//! What the parts of a capture show of the target's memory.
+ghost use Rattle.std.specs.Prelude.{◌≡◌, ◌+◌, ◌*◌, ◌≤◌, ◌++◌, false, replicate};
+ghost use Rattle.arrayvec.specs.ArrayString.{array_string_len};
+ghost use Rattle.swd_trace.specs.declared.item.Item.TheVariants.{Junk};
+ghost use Rattle.swd_trace.specs.Held.{idle_items};
+ghost use Rattle.swd_resync.specs.AsItems.{items_of_part};
+ghost use Rattle.swd_resync.specs.declared.part.Part.TheVariants.{Item as OfStretch};
+ghost use Rattle.swd_observer.specs.Observing.{last_tells};
+ghost use Rattle.swd_observer.specs.Traces.{after_items};
+ghost use Rattle.swd_observer_text.specs.Accesses.{accesses, gap_text, shown_text, tells_text, told_text};
+
+use crate::line::{LONGEST, line_of, line_of_gap};
+use arrayvec::ArrayString;
+use swd_observer::{Shown, Tells, Told, TraceObserver};
+use swd_resync::{Part, phase_len};
+use swd_trace::Item;
+
+/// The most bytes of the lines of what one part shows.
+pub const LONGEST_SHOWN: usize = 4 * LONGEST;
+
+// Adds the line of an access, where there is one.
+fn push_told<const N: usize>(text: &mut ArrayString<N>, told: Option<Told>)
+    requires { array_string_len text.old + LONGEST ≤ N }
+    ensures bytes { text.new.bytes ≡ text.old.bytes ++ told_text told }
+    ensures len { array_string_len text.new ≤ array_string_len text.old + LONGEST }
+{
+    if let Some(told) = told {
+        text.push_str(line_of(&told).as_str());
+    }
+}
+
+// Adds the lines of the accesses that are reported together.
+fn push_tells<const N: usize>(text: &mut ArrayString<N>, tells: Tells)
+    requires { array_string_len text.old + 3 * LONGEST ≤ N }
+    ensures bytes { text.new.bytes ≡ text.old.bytes ++ tells_text tells }
+    ensures len { array_string_len text.new ≤ array_string_len text.old + 3 * LONGEST }
+{
+    push_told(text, tells.older);
+    push_told(text, tells.before);
+    push_told(text, tells.itself);
+}
+
+// Adds the line of bits that belong to nothing, where there is one.
+fn push_gap<const N: usize>(text: &mut ArrayString<N>, gap: Option<u64>)
+    requires { array_string_len text.old + LONGEST ≤ N }
+    ensures bytes { text.new.bytes ≡ text.old.bytes ++ gap_text gap }
+    ensures len { array_string_len text.new ≤ array_string_len text.old + LONGEST }
+{
+    if let Some(place) = gap {
+        text.push_str(line_of_gap(place).as_str());
+    }
+}
+
+// Adds the lines of what an item shows.
+fn push_shown<const N: usize>(text: &mut ArrayString<N>, shown: Shown)
+    requires { array_string_len text.old + LONGEST_SHOWN ≤ N }
+    ensures bytes { text.new.bytes ≡ text.old.bytes ++ shown_text shown }
+    ensures len { array_string_len text.new ≤ array_string_len text.old + LONGEST_SHOWN }
+{
+    push_tells(text, shown.tells);
+    push_gap(text, shown.gap);
+}
+
+// Takes the data phase behind WAIT or FAULT, where there is one: it shows nothing.
+fn watch_phase(observer: &mut TraceObserver, len: u8)
+    ensures { observer.new ≡ after_items (idle_items len) observer.old }
+{
+    if len > 0 {
+        let _ = observer.watch(&Item::Idle(u64::from(len)));
+    }
+}
+
+// Takes an item of a stretch, and adds the lines of what it shows.
+fn watch_item<const N: usize>(
+    observer: &mut TraceObserver,
+    over: bool,
+    item: &Item,
+    text: &mut ArrayString<N>,
+)
+    requires { array_string_len text.old + LONGEST_SHOWN ≤ N }
+    ensures observer { observer.new ≡ after_items (items_of_part over (OfStretch item.now)) observer.old }
+    ensures bytes { text.new.bytes ≡ text.old.bytes ++ accesses (items_of_part over (OfStretch item.now)) observer.old }
+    ensures len { array_string_len text.new ≤ array_string_len text.old + LONGEST_SHOWN }
+{
+    push_shown(text, observer.watch(item));
+    watch_phase(observer, phase_len(item, over));
+}
+
+// Takes bits that belong to nothing, and adds the lines of what they show: behind the first of them nothing is known.
+fn watch_skip<const N: usize>(observer: &mut TraceObserver, count: u64, text: &mut ArrayString<N>)
+    requires { array_string_len text.old + LONGEST_SHOWN ≤ N }
+    ensures observer { observer.new ≡ after_items (replicate count (Junk false)) observer.old }
+    ensures bytes { text.new.bytes ≡ text.old.bytes ++ accesses (replicate count (Junk false)) observer.old }
+    ensures len { array_string_len text.new ≤ array_string_len text.old + LONGEST_SHOWN }
+{
+    if count == 0 {
+        return;
+    }
+    push_shown(text, observer.watch(&Item::Junk(false)));
+    observer.place = observer.place.saturating_add(count - 1);
+}
+
+/// Takes the next part of a capture, and adds the lines of what it shows to a text; `over` where a data phase follows
+/// WAIT and FAULT.
+///
+/// | Line | What became of the access |
+/// |---|---|
+/// | `@PLACE r ADDR WORD`, `@PLACE w ADDR WORD` | it took place, exactly once |
+/// | the same with ` may` | it took place once, or not at all: the trace doesn't show which |
+/// | the same with ` not` | it did not take place: a bus error, or data that was corrupted on the wire |
+/// | `@PLACE gap` | bits that belong to nothing begin here: they may hide accesses |
+///
+/// `PLACE` is the number of bits before the first bit of its request, in decimal. `ADDR` and `WORD` are eight
+/// lower-case hexadecimal digits, or `????????` where they aren't known. The lines are in the order of the accesses.
+pub fn watch_part<const N: usize>(
+    observer: &mut TraceObserver,
+    over: bool,
+    part: &Part,
+    text: &mut ArrayString<N>,
+)
+    requires { array_string_len text.old + LONGEST_SHOWN ≤ N }
+    ensures observer { observer.new ≡ after_items (items_of_part over part.now) observer.old }
+    ensures bytes { text.new.bytes ≡ text.old.bytes ++ accesses (items_of_part over part.now) observer.old }
+    ensures len { array_string_len text.new ≤ array_string_len text.old + LONGEST_SHOWN }
+{
+    match part {
+        Part::Item(item) => watch_item(observer, over, item, text),
+        Part::Skip(count) => watch_skip(observer, *count, text),
+    }
+}
+
+/// Adds the lines of what a capture that ends here shows of the accesses before its end.
+pub fn push_last<const N: usize>(observer: &TraceObserver, text: &mut ArrayString<N>)
+    requires { array_string_len text.old + LONGEST_SHOWN ≤ N }
+    ensures bytes { text.new.bytes ≡ text.old.bytes ++ tells_text (last_tells observer.now.observer) }
+    ensures len { array_string_len text.new ≤ array_string_len text.old + LONGEST_SHOWN }
+{
+    push_tells(text, observer.last());
+}
