@@ -1,8 +1,9 @@
 -- Laws of a decoder of either reading.
-use Rattle.std.proofs.Common.{◌<◌, Bool, List, [], ◌∷◌, ◌++◌, map, refl, sym, ap, ◌∙◌}
+use Rattle.std.proofs.Common.{◌≡◌, ◌<◌, Bool, false, List, [], ◌∷◌, ◌++◌, map, refl, sym, ap, ◌∙◌}
 use Rattle.std.specs.Prelude.{Option, None, Some, IfNone}
 use Rattle.std.proofs.lemmas.List.{append-nil, map-append}
 use Rattle.swd_trace.specs.declared.item.Item.{Item}
+use Rattle.swd_trace.specs.declared.item.Item.TheVariants.{Reset, Switch, Idle, Tx, Junk, Cut}
 use Rattle.swd_trace.specs.declared.mode.Mode.TheVariants.{Synced}
 use Rattle.swd_trace.specs.Reading.{reading_of}
 use Rattle.swd_trace.specs.declared.decoder.Decoder.{Decoder}
@@ -12,6 +13,7 @@ use Rattle.swd_trace.proofs.ReadingLemmas.{none_undecided}
 use Rattle.swd_resync.specs.declared.decoder.CaptureDecoder.{CaptureDecoder}
 use Rattle.swd_resync.specs.declared.part.Part.{Part}
 use Rattle.swd_resync.specs.declared.part.Part.TheVariants.{Item as Told}
+use Rattle.swd_resync.specs.AsItems.{items_of_part, items_of}
 use Rattle.swd_resync.specs.Parts.{parts_of}
 use Rattle.swd_resync.specs.Decoding as capture
 use Rattle.swd_capture_text.specs.declared.reading.Reading.{Reading}
@@ -61,3 +63,17 @@ decides_nothing = (
   refl,
   longest_of [] (λ more. reading_of more) (λ more. reading_of more) (λ more. refl) (none_undecided Synced),
 )
+
+no_phase : (item : Item) → items_of_part false (Told item) ≡ item ∷ []
+no_phase (Reset n) = refl
+no_phase Switch = refl
+no_phase (Idle n) = refl
+no_phase (Tx tx) = refl
+no_phase (Junk b) = refl
+no_phase (Cut bits) = refl
+
+-- as the items of a trace, the items of a trace are themselves
+pub items_of_trace : (items : List Item) → items_of false (map Told items) ≡ items
+items_of_trace [] = refl
+items_of_trace (item ∷ items) =
+    ap (λ x. x ++ items_of false (map Told items)) (no_phase item) ∙ ap (λ x. item ∷ x) (items_of_trace items)

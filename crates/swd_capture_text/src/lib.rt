@@ -1,6 +1,7 @@
 //! What is printed of a trace or a capture, from its text: the engine of `swd decode` with an option.
 #![tactic(auto)]
 
+pub mod laws;
 mod lister;
 mod printing;
 mod reading;

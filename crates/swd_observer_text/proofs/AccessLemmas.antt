@@ -4,7 +4,6 @@ use Rattle.std.proofs.Common.{replicate, refl, sym, ap, ◌∙◌, append_assoc,
 use Rattle.std.proofs.lemmas.List.{append-nil}
 use Rattle.swd_trace.specs.declared.item.Item.{Item}
 use Rattle.swd_trace.specs.declared.item.Item.TheVariants.{Junk}
-use Rattle.swd_trace.specs.Held.{idle_items}
 use Rattle.swd_observer.specs.declared.trace.TraceObserver.{TraceObserver}
 use Rattle.swd_observer.specs.Observing.{unknown}
 use Rattle.swd_observer.specs.Traces.{shown_at, after_item, after_items}
