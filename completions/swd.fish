@@ -28,7 +28,7 @@ complete -c swd -n '__fish_seen_subcommand_from run' -l resume -x -d 'How often 
 complete -c swd -n '__fish_seen_subcommand_from run' -l trace -r -F -d 'The file to write the trace to; what it held is cut off'
 complete -c swd -n '__fish_seen_subcommand_from run' -l strict -d 'Status 1 also where an access was answered busfault'
 complete -c swd -n '__fish_seen_subcommand_from run' -l remote -d 'The target is a remote_bitbang server on the streams'
-complete -c swd -n '__fish_seen_subcommand_from run' -l report -r -F -d 'With --remote, the file to write the report to'
+complete -c swd -n '__fish_seen_subcommand_from run' -l report -r -F -d 'With --remote, the report\'s file; - is standard error'
 complete -c swd -n '__fish_seen_subcommand_from run' -s h -l help -d 'Print help'
 complete -c swd -n '__fish_seen_subcommand_from target' -F
 complete -c swd -n '__fish_seen_subcommand_from target' -l plan -r -F -d 'The file with the plan; without it nothing is damaged'

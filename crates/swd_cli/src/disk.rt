@@ -45,6 +45,10 @@ impl Files for Disk<'_> {
     fn standard_output(&self) -> io::Result<Option<Identity>> {
         stream_identity(&self.rt.stdout(), fs::metadata(self.rt, "/proc/self/fd/1"))
     }
+
+    fn standard_error(&self) -> io::Result<Option<Identity>> {
+        stream_identity(&self.rt.stderr(), fs::metadata(self.rt, "/proc/self/fd/2"))
+    }
 }
 
 // The last number of the standard streams: input, output and errors are 0, 1 and 2.

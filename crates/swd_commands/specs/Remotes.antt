@@ -1,5 +1,5 @@
 -- The status of a run at a target elsewhere.
-use Rattle.std.specs.Prelude.{◌≡◌, ◌⊎◌, ℕ, Bool, List, Option, Some, None, Result, Ok}
+use Rattle.std.specs.Prelude.{◌≡◌, ◌⊎◌, ℕ, Bool, List, Option, Some, Result, Ok, is_some}
 use Rattle.swd_port.specs.declared.call.Call.{Call}
 use Rattle.swd_port.specs.Port.{Port}
 use Rattle.swd_remote.specs.declared.kept.Line.{Line}
@@ -22,27 +22,20 @@ abbrev pub WentOver : {R W : Type 0} → (R → Option (List ℕ)) → (W → Op
     → List Call → Type 0
 WentOver remaining contents sent left line calls = ∥ GoesOver remaining contents sent left line calls ∥₁
 
--- The script is run over a line, and its report and, where one is named, its trace go to files of which nothing else
--- is known; or such a file can't be opened. That the line is over the standard streams, tests show.
-abbrev pub PerformsAt : {S R W : Type 0} → (ℕ → Port) → Option S → RunLine → ℕ → (R → Option (List ℕ))
-    → (W → Option (List ℕ))
+-- The script is run over a line. Its report goes to a file or to standard error, and its trace, where one is named, to a
+-- file, of which nothing else is known. That the line is over the standard streams, tests show.
+abbrev pub PerformsAt : {R W : Type 0} → (ℕ → Port) → RunLine → ℕ → (R → Option (List ℕ)) → (W → Option (List ℕ))
     → Option (List ℕ) → Option (List ℕ) → Option (List ℕ) → Type 0
-PerformsAt {S} {R} {W} story None run status remaining contents sent left script =
+PerformsAt {R} {W} story run status remaining contents sent left script =
     (answer : Result Finished RemoteFault) × (line : Line R W) × (before : Option (List ℕ)) × (after : Option (List ℕ))
-    × (traced : Option (Option (List ℕ)))
+    × (untraced : Option (Option (List ℕ))) × (traced : Option (Option (List ℕ)))
+    × (is_some untraced ≡ is_some run.trace)
     × RunsRemote story run.tries run.resumes (WentOver remaining contents sent left line)
     (IsUnused remaining contents sent left line)
-    answer script before after None traced × (status ≡ status_at run.strict line.fault answer)
-PerformsAt {S} {R} {W} story (Some trace) run status remaining contents sent left script =
-    (status ≡ 2) ⊎ ((answer : Result Finished RemoteFault) × (line : Line R W) × (before : Option (List ℕ))
-    × (after : Option (List ℕ))
-    × (untraced : Option (List ℕ)) × (traced : Option (Option (List ℕ)))
-    × RunsRemote story run.tries run.resumes (WentOver remaining contents sent left line)
-    (IsUnused remaining contents sent left line)
-    answer script before after (Some untraced) traced × (status ≡ status_at run.strict line.fault answer))
+    answer script before after untraced traced × (status ≡ status_at run.strict line.fault answer)
 
--- so it is where a file of the report is named that can be opened
+-- or a file can't be opened
 abbrev pub PerformsRemote : {R W : Type 0} → (ℕ → Port) → RunLine → ℕ → (R → Option (List ℕ)) → (W → Option (List ℕ))
     → Option (List ℕ) → Option (List ℕ) → Option (List ℕ) → Type 0
 PerformsRemote story run status remaining contents sent left script =
-    (status ≡ 2) ⊎ PerformsAt story run.trace run status remaining contents sent left script
+    (status ≡ 2) ⊎ PerformsAt story run status remaining contents sent left script

@@ -39,4 +39,7 @@ pub trait Files {
 
     /// Which file standard output is. `None` where it is closed.
     fn standard_output(&self) -> io::Result<Option<Identity>>;
+
+    /// Which file standard error is. `None` where it is closed.
+    fn standard_error(&self) -> io::Result<Option<Identity>>;
 }

@@ -1,13 +1,14 @@
 //! A run at a target that is elsewhere, on the standard streams.
-ghost use Rattle.std.specs.Prelude.{◌≡◌, []};
+ghost use Rattle.std.specs.Prelude.{◌≡◌, [], is_some};
 ghost use Rattle.std.specs.FinMap.{empty};
 ghost use Rattle.swd_port.specs.Port.{made};
-ghost use Rattle.swd_commands.specs.Remotes.{PerformsAt, PerformsRemote, status_at};
+ghost use Rattle.swd_commands.specs.Remotes.{PerformsRemote, status_at};
 
-use crate::open_files::{Files, Identity};
+use crate::open_files::{Files, Identity, Opened};
 use crate::report::{STOPPED, cannot_open, run_status, tell};
-use crate::trace::{Sources, open_trace};
+use crate::trace::{Sources, cannot_open_record, open_record, open_trace};
 use std::alloc::Global;
+use std::io;
 use std::io::{Read, Write};
 use swd_ends::{RemoteFault, run_remote};
 use swd_port::Story;
@@ -22,7 +23,42 @@ impl Story for Untold {
     ghost at = { λ _. made 0 (record { words = empty; log = []; room = 0 }) };
 }
 
-/// Opens the file of the report, and runs the script at the target behind these streams.
+// Where the report goes.
+#[derive(Drop)]
+struct Destination<M> {
+    // Its file. `None` for standard error.
+    file: Option<M>,
+    // Which file that is, or standard error. `None` where that is closed.
+    identity: Option<Identity>,
+}
+
+// Opens the file of the report. `-` is standard error, of which nothing is cut off.
+fn open_report<F: Files>(files: &F, name: &str, read: Sources) -> io::Result<Destination<F::Made>> {
+    if name == "-" {
+        return Ok(Destination {
+            file: None,
+            identity: files.standard_error()?,
+        });
+    }
+    let opened = open_trace(files, name, read)?;
+    Ok(Destination {
+        file: Some(opened.file),
+        identity: Some(opened.identity),
+    })
+}
+
+// A file without which one it is.
+fn file_alone<M>(opened: Option<Opened<M>>) -> Option<M>
+    ensures { is_some result ≡ is_some opened }
+{
+    match opened {
+        Some(opened) => Some(opened.file),
+        None => None,
+    }
+}
+
+/// Opens the files of the report and, where one is named, of the trace, and runs the script at the target behind these
+/// streams.
 pub fn perform_remote<P: Story, S: Read, I: Read + Drop, F: Files, O: Write + Drop, E: Write>(
     alloc: Global,
     run: &RunLine,
@@ -44,75 +80,28 @@ pub fn perform_remote<P: Story, S: Read, I: Read + Drop, F: Files, O: Write + Dr
         plan: None,
         written: None,
     };
-    match open_trace(files, name.as_str(), read) {
-        Ok(opened) => {
-            let beside = Sources {
-                written: Some(opened.identity),
-                ..read
-            };
-            let mut report = opened.file;
-            run_at::<P, _, _, _, _, _, _>(
-                alloc,
-                run,
-                script,
-                input,
-                output,
-                beside,
-                files,
-                &mut report,
-                errors,
-            )
-        }
-        Err(_) => cannot_open(errors, name.as_str()),
-    }
-}
-
-// Opens the file of the trace, where one is named, and runs the script.
-fn run_at<P: Story, S: Read, I: Read + Drop, O: Write + Drop, F: Files, M: Write, E: Write>(
-    alloc: Global,
-    run: &RunLine,
-    script: &mut S,
-    input: I,
-    output: O,
-    beside: Sources,
-    files: &F,
-    report: &mut M,
-    errors: &mut E,
-) -> u8
-    ensures { PerformsAt P.at run.now.trace run.now result I.remaining O.contents (O.contents output)
-        (I.remaining input) (S.remaining script.old) }
-{
-    let Some(name) = &run.trace else {
-        let mut untraced: Option<F::Made> = None;
-        let (answer, line) = run_remote::<P, _, _, _, _, _, _>(
-            alloc,
-            script,
-            input,
-            output,
-            run.tries,
-            run.resumes,
-            report,
-            &mut untraced,
-        );
-        return reached_status(errors, answer, line.fault, run.strict);
+    let Ok(report) = open_report(files, name.as_str(), read) else {
+        return cannot_open(errors, name.as_str());
     };
-    match open_trace(files, name.as_str(), beside) {
-        Ok(opened) => {
-            let mut trace = Some(opened.file);
-            let (answer, line) = run_remote::<P, _, _, _, _, _, _>(
-                alloc,
-                script,
-                input,
-                output,
-                run.tries,
-                run.resumes,
-                report,
-                &mut trace,
-            );
-            reached_status(errors, answer, line.fault, run.strict)
-        }
-        Err(_) => cannot_open(errors, name.as_str()),
-    }
+    let beside = Sources {
+        written: report.identity,
+        ..read
+    };
+    let Ok(trace) = open_record(files, &run.trace, beside) else {
+        return cannot_open_record(errors, &run.trace);
+    };
+    let trace = &mut file_alone(trace);
+    let (tries, resumes, strict) = (run.tries, run.resumes, run.strict);
+    let Some(mut file) = report.file else {
+        let (answer, line) = run_remote::<P, _, _, _, _, _, _>(
+            alloc, script, input, output, tries, resumes, errors, trace,
+        );
+        return reached_status(errors, answer, line.fault, strict);
+    };
+    let (answer, line) = run_remote::<P, _, _, _, _, _, _>(
+        alloc, script, input, output, tries, resumes, &mut file, trace,
+    );
+    reached_status(errors, answer, line.fault, strict)
 }
 
 // The status of a run over a line whose other end is gone or not.

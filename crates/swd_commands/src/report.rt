@@ -98,10 +98,12 @@ pub fn run_status<E: Write, F: Display + Drop>(
 }
 
 /// The status of a run that came to its report. Where a word isn't the one that the script tells, one line
-/// says so; a strict run fails where an access was answered by a bus error.
+/// says so; a strict run fails where an access was answered by a bus error. Where one was, and the room of the
+/// simulated target is used up, a line before says so.
 pub fn finished_status<E: Write>(errors: &mut E, finished: Finished, strict: bool) -> u8
     ensures { result ≡ status_of_end (has_failed strict finished) finished.ended }
 {
+    tell_full(errors, finished);
     if let Some(difference) = finished.differs {
         tell_difference(errors, difference);
         return STOPPED;
@@ -110,6 +112,18 @@ pub fn finished_status<E: Write>(errors: &mut E, finished: Finished, strict: boo
     match finished.ended {
         End::All if !failed => DONE,
         _ => STOPPED,
+    }
+}
+
+// Says that the room of the simulated target is used up, where an access met a bus error.
+fn tell_full<E: Write>(errors: &mut E, finished: Finished) {
+    if let Some(room) = finished.full
+        && finished.bus_fault
+    {
+        let _ = writeln!(
+            errors,
+            "swd: the target's room of {room} transfers is used up: later accesses meet a bus error"
+        );
     }
 }
 

@@ -4,7 +4,7 @@ ghost use Rattle.swd_commands.specs.Targets.{IsServedStatus, ServesHost};
 
 use crate::open_files::{Files, Identity, Opened};
 use crate::report::{DONE, FAULT, cannot_open, engine_status, tell};
-use crate::trace::{Sources, open_plan, open_trace};
+use crate::trace::{Sources, cannot_open_record, open_plan, open_record};
 use std::alloc::Allocator;
 use std::io::{Read, Write};
 use swd_bitbang::{Served, Trace, serve};
@@ -101,30 +101,6 @@ fn serve_under<S: Read, P: Read, I: Read, F: Files, O: Write, E: Write, A: Alloc
             served_status(errors, served, done)
         }
         Err(fault) => target_status(errors, fault),
-    }
-}
-
-// Opens a file that is written at the end, where one is named.
-fn open_record<F: Files>(
-    files: &F,
-    name: &Option<String>,
-    read: Sources,
-) -> Result<Option<Opened<F::Made>>, ()> {
-    let Some(name) = name else {
-        return Ok(None);
-    };
-    match open_trace(files, name.as_str(), read) {
-        Ok(opened) => Ok(Some(opened)),
-        Err(_) => Err(()),
-    }
-}
-
-fn cannot_open_record<E: Write>(errors: &mut E, name: &Option<String>) -> u8
-    ensures { result ≡ 2 }
-{
-    match name {
-        Some(name) => cannot_open(errors, name.as_str()),
-        None => FAULT,
     }
 }
 

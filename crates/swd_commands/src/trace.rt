@@ -1,10 +1,11 @@
 //! The files of a plan and of a trace, which may be none of the others.
-ghost use Rattle.std.specs.Prelude.{◌≢◌, IfOk, Some};
+ghost use Rattle.std.specs.Prelude.{◌≡◌, ◌≢◌, IfOk, Some, is_some};
 ghost use Rattle.swd_commands.specs.Traces.{IsBeside};
 
 use crate::open_files::{Files, Identity, Opened};
+use crate::report::{FAULT, cannot_open};
 use std::io;
-use std::io::ErrorKind;
+use std::io::{ErrorKind, Write};
 
 /// The files of a run beside the one that is opened.
 #[derive(Clone, Copy)]
@@ -13,7 +14,7 @@ pub struct Sources {
     pub script: Option<Identity>,
     /// The plan's, where one is named.
     pub plan: Option<Identity>,
-    /// That of another file that is written, where one is open: the report's, or the log's.
+    /// That of another file that is written, where one is open: the report's, which may be standard error's, or the log's.
     pub written: Option<Identity>,
 }
 
@@ -45,6 +46,37 @@ pub fn open_trace<F: Files>(files: &F, name: &str, read: Sources) -> io::Result<
     }
     files.cut_off(&trace.file)?;
     Ok(trace)
+}
+
+/// Opens such a file where one is named.
+///
+/// # Errors
+///
+/// As [`open_trace`] has it.
+pub fn open_record<F: Files>(
+    files: &F,
+    name: &Option<String>,
+    read: Sources,
+) -> Result<Option<Opened<F::Made>>, ()>
+    ensures { IfOk result (λ opened. is_some opened ≡ is_some name.now) }
+{
+    let Some(name) = name else {
+        return Ok(None);
+    };
+    match open_trace(files, name.as_str(), read) {
+        Ok(opened) => Ok(Some(opened)),
+        Err(_) => Err(()),
+    }
+}
+
+/// Says that it can't be opened or made.
+pub fn cannot_open_record<E: Write>(errors: &mut E, name: &Option<String>) -> u8
+    ensures { result ≡ 2 }
+{
+    match name {
+        Some(name) => cannot_open(errors, name.as_str()),
+        None => FAULT,
+    }
 }
 
 /// Opens the file of a plan, once it is known not to be this other file that is read, or standard input where that is

@@ -79,6 +79,7 @@ fn number_of(name: &str) -> u64 {
         "script" | "script-again" => 2,
         "quiet" | "quiet-again" => 3,
         "traced" => 4,
+        "errors" => 8,
         "memory" | "memory-again" => 6,
         _ => 5,
     }
@@ -138,6 +139,10 @@ impl<'a> Files for Shelf<'a> {
 
     fn standard_output(&self) -> io::Result<Option<Identity>> {
         Ok(Some(file("output", ()).identity))
+    }
+
+    fn standard_error(&self) -> io::Result<Option<Identity>> {
+        Ok(Some(file("errors", ()).identity))
     }
 }
 
@@ -266,6 +271,10 @@ impl<'a> Files for Unknown<'a> {
 
     fn standard_output(&self) -> io::Result<Option<Identity>> {
         Err(io::Error::from(io::ErrorKind::NotFound))
+    }
+
+    fn standard_error(&self) -> io::Result<Option<Identity>> {
+        self.0.standard_error()
     }
 }
 

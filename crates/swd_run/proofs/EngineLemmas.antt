@@ -1,5 +1,5 @@
 -- The engine's answers, from one account of what ran to another.
-use Rattle.std.proofs.Common.{◌≡◌, ℕ, List, Option, None, Some, Result, Ok, Err, Bool, true, false, inl, inr, refl, ap, ap₂}
+use Rattle.std.proofs.Common.{◌≡◌, ℕ, List, Option, None, Some, Result, Ok, Err, Bool, true, false, inl, inr, refl, sym, ap, ap₂, ◌∙◌}
 use Rattle.std.proofs.Common.{subst}
 use Rattle.std.proofs.KnownBytes.{Appends-nil}
 use Rattle.std.specs.Prelude.{◌≤◌, is_some, take, length}
@@ -24,7 +24,7 @@ use Rattle.swd_run.specs.Engine.{Answers, AnswersAt, AnswersOver, ForTrace, IsFi
 use Rattle.swd_run.specs.Engine.{IsOfTrace, IsTraceOf, Ran, RanShort, TellsTrace, port_seen, whole, short, stopped}
 use Rattle.swd_run.specs.GoingOn.{Went, ran, resumed}
 use Rattle.swd_run.specs.Reports.{session_text}
-use Rattle.swd_run.specs.Running.{AnswersScript, memory_of}
+use Rattle.swd_run.specs.Running.{AnswersScript, RunsScript, full_room, memory_of, with_full}
 use Rattle.swd_run.specs.Sessions.{AreDone, Done, IsRefused, Runs, ended_of, most_begun, none, requests_of, then}
 use Rattle.swd_run.specs.Sessions.{unresumed, unsent}
 use Rattle.swd_run.proofs.RunLemmas.{made_rests}
@@ -42,20 +42,20 @@ left_alone None = refl
 left_alone (Some held) = (held, refl, Appends-nil held)
 
 -- each account of what ran is one of another kind, with the same runs and the same traces
-pub answers_as : {X U Y V : Type 0} (batches : List Listed) (runs : Y → List Done) (before : V → List Done)
+pub answers_as : {X U Y V : Type 0} (batches : List Listed) (used : Option ℕ) (runs : Y → List Done) (before : V → List Done)
     (IsWhole IsPart : X → List Item → Type 0) (IsWholeToo IsPartToo : Y → List Item → Type 0) (f : X → Y) (e : U → V)
     → ((x : X) (items : List Item) → IsWhole x items → IsWholeToo (f x) items)
     → ((x : X) (items : List Item) → IsPart x items → IsPartToo (f x) items)
     → (answer : Result Finished EngineFault) (old new : Option (List ℕ)) (held now : Option (Option (List ℕ)))
-    → Answers {Came = X} {Short = U} batches (λ x. runs (f x)) (λ u. before (e u)) IsWhole IsPart answer old new held now
-    → Answers {Came = Y} {Short = V} batches runs before IsWholeToo IsPartToo answer old new held now
-answers_as batches runs before IsWhole IsPart IsWholeToo IsPartToo f e w p (Ok finished) old new held now h =
+    → Answers {Came = X} {Short = U} batches used (λ x. runs (f x)) (λ u. before (e u)) IsWhole IsPart answer old new held now
+    → Answers {Came = Y} {Short = V} batches used runs before IsWholeToo IsPartToo answer old new held now
+answers_as batches used runs before IsWhole IsPart IsWholeToo IsPartToo f e w p (Ok finished) old new held now h =
     (f h.0, h.1, h.2, h.3, for_trace _ _ held now (λ start end t. (t.0, w h.0 t.0 t.1, t.2)) h.4)
-answers_as batches runs before IsWhole IsPart IsWholeToo IsPartToo f e w p (Err Memory) old new held now h =
+answers_as batches used runs before IsWhole IsPart IsWholeToo IsPartToo f e w p (Err Memory) old new held now h =
     (e h.0, h.1, h.2)
-answers_as batches runs before IsWhole IsPart IsWholeToo IsPartToo f e w p (Err (Write written)) old new held now
+answers_as batches used runs before IsWhole IsPart IsWholeToo IsPartToo f e w p (Err (Write written)) old new held now
     (x, inl stop) = (f x, inl stop)
-answers_as batches runs before IsWhole IsPart IsWholeToo IsPartToo f e w p (Err (Write written)) old new held now
+answers_as batches used runs before IsWhole IsPart IsWholeToo IsPartToo f e w p (Err (Write written)) old new held now
     (x, inr stop) = (
       f x,
       inr (
@@ -65,7 +65,7 @@ answers_as batches runs before IsWhole IsPart IsWholeToo IsPartToo f e w p (Err 
         for_trace _ _ held now (λ start end t. (t.0, p x t.0 t.1, t.2)) stop.3,
       ),
     )
-answers_as batches runs before IsWhole IsPart IsWholeToo IsPartToo f e w p (Err TraceCut) old new held now h =
+answers_as batches used runs before IsWhole IsPart IsWholeToo IsPartToo f e w p (Err TraceCut) old new held now h =
     (f h.0, h.1, h.2, h.3, for_trace _ _ held now (λ start end t. (t.0, p h.0 t.0 t.1, t.2)) h.4)
 
 -- runs over wires are runs over all that the wires are known by
@@ -126,7 +126,7 @@ module _ {W V : Type 0} (by : W → V) (port : V → Port) (plan : V → List Ma
     answers_by batches s t start end begins ends answer old new before after h =
         subst (λ x. AnswersOver port plan lawful tries resumes batches x end answer old new before after) begins
         (subst (λ x. AnswersOver port plan lawful tries resumes batches (by s) x answer old new before after) ends
-        (answers_as batches (λ over. over.runs) (λ over. over.before.runs) IsTraceOver IsOfTraceOver IsTraceOver
+        (answers_as batches None (λ over. over.runs) (λ over. over.before.runs) IsTraceOver IsOfTraceOver IsTraceOver
         IsOfTraceOver (ran_by batches s t) (short_by batches s t)
         (λ over items is. record { read = is.read; whole = is.whole })
         (λ over items is. record { read = is.read; part = is.part }) answer old new before after h))
@@ -155,7 +155,7 @@ module _ {W : Type 0} (port : W → Port) (plan : W → List Mark) (lawful : W �
     (batches : List Listed) (start end : W) (old new : Option (List ℕ)) where
   -- it was written
   pub traced : (finished : Finished) (cut : Bool) (items : List Item) (over : Ran port plan lawful tries resumes batches
-      start end) → AreDone batches over.runs → IsFinished batches over.runs finished
+      start end) → AreDone batches over.runs → IsFinished batches over.runs None finished
       → Appends old new (session_text batches over.runs) → (cut ≡ false → IsTraceOver over items) → IsOfTraceOver over items → (before after : Option (List ℕ))
       (answer : Result Finished EngineFault) → TellsTrace finished cut items before after answer
       → AnswersOver port plan lawful tries resumes batches start end answer old new (Some before) (Some after)
@@ -204,21 +204,45 @@ made_seen : {W : Type 0} (traced : Bool) (port : W → Port) (m : PlainMemory) (
 made_seen false port m w is_made = is_made
 made_seen true port m w is_made = ap (with_asked 0) is_made
 
+memory_seen : {W : Type 0} (traced : Bool) (port : W → Port) (n : ℕ) (w : W)
+    → (port_seen traced port (n, w)).target.memory ≡ (port w).target.memory
+memory_seen false port n w = refl
+memory_seen true port n w = refl
+
 marks_seen : {W : Type 0} (traced : Bool) (port : W → Port) (disturbed lost n : ℕ) (w : W)
     → ((port w).tally.disturbed ≤ disturbed) × ((port w).tally.lost ≤ lost)
     → ((port_seen traced port (n, w)).tally.disturbed ≤ disturbed) × ((port_seen traced port (n, w)).tally.lost ≤ lost)
 marks_seen false port disturbed lost n w h = h
 marks_seen true port disturbed lost n w h = h
 
+-- what an answer says with the room that is used up
+full_answers : {Came Short : Type 0} (batches : List Listed) (used : Option ℕ) (runs : Came → List Done)
+    (before : Short → List Done) (IsWhole IsPart : Came → List Item → Type 0) (answer : Result Finished EngineFault)
+    (old new : Option (List ℕ)) (held now : Option (Option (List ℕ)))
+    → Answers {Came = Came} {Short = Short} batches None runs before IsWhole IsPart answer old new held now
+    → Answers {Came = Came} {Short = Short} batches used runs before IsWhole IsPart (with_full used answer) old new held
+    now
+full_answers batches used runs before IsWhole IsPart (Ok finished) old new held now h = (
+  h.0,
+  h.1,
+  record { ended = h.2.ended; differs = h.2.differs; bus_fault = h.2.bus_fault; full = refl },
+  h.3,
+  h.4,
+)
+full_answers batches used runs before IsWhole IsPart (Err Memory) old new held now h = h
+full_answers batches used runs before IsWhole IsPart (Err (Write written)) old new held now h = h
+full_answers batches used runs before IsWhole IsPart (Err TraceCut) old new held now h = h
+
 pub script_answers : {W : Type 0} (port : W → Port) (plan : W → List Mark) (lawful : W → Type 0) (tries resumes : ℕ)
     (script : Meaning) (marks : List Mark) (s t : W) → port s ≡ made 731911287 (memory_of script) → plan s ≡ marks
     → ((w : W) → plan w ≡ marks
     → ((port w).tally.disturbed ≤ disturbed_among marks) × ((port w).tally.lost ≤ lost_among marks)) → lawful t
-    → (answer : Result Finished EngineFault) (old new : Option (List ℕ)) (before after : Option (Option (List ℕ)))
+    → (memory : PlainMemory) → memory ≡ (port t).target.memory → (answer : Result Finished EngineFault)
+    (old new : Option (List ℕ)) (before after : Option (Option (List ℕ)))
     → AnswersAt port plan lawful tries resumes script.batches s t answer old new before after
-    → AnswersScript tries resumes script marks answer old new before after
-script_answers port plan lawful tries resumes script marks s t is_made planned marked law answer old new before after
-    h =
+    → AnswersScript tries resumes script marks (with_full (full_room script.room memory) answer) old new before after
+script_answers port plan lawful tries resumes script marks s t is_made planned marked law memory left answer old new
+    before after h =
     let traced : Bool = is_some before in
     let seen = port_seen traced port in
     let begins : seen (0, s) ≡ made 731911287 (memory_of script) = made_seen traced port (memory_of script) s is_made in
@@ -228,15 +252,26 @@ script_answers port plan lawful tries resumes script marks s t is_made planned m
     (take (length runs) script.batches) runs end).
     script_runs seen (λ x. plan x.1) (λ x. lawful x.1) tries resumes script marks runs (0, s) end begins planned
     (λ x same. marks_seen traced port (disturbed_among marks) (lost_among marks) x.0 x.1 (marked x.1 same)) law are in
-    answers_as script.batches (λ over. over.runs) (λ over. over.runs) IsTraceOver IsOfTraceOver
-    (λ ran items. IsTraceOf (requests_of ran.runs) (ended_of ran.runs) items)
-    (λ ran items. IsOfTrace (requests_of ran.runs) items)
-    (λ over. record { runs = over.runs; are = runs_at over.runs (h.0, t) law over.are })
-    (λ over. record {
-      runs = over.before.runs;
-      are = runs_at over.before.runs over.between
-          (law_refused seen (λ x. plan x.1) (λ x. lawful x.1) tries resumes over.batch over.between (h.0, t) over.refused
-          law) over.before.are;
-      all = over.all;
-    })
-    (λ over items is. is.whole law rest) (λ over items is. is.part law rest) answer old new before after h.1
+    let left_seen : (seen (h.0, t)).target.memory ≡ memory = memory_seen traced port h.0 t ∙ sym left in (
+      memory,
+      full_answers script.batches (full_room script.room memory) (λ over. over.runs) (λ over. over.runs)
+          (λ ran items. IsTraceOf (requests_of ran.runs) (ended_of ran.runs) items)
+          (λ ran items. IsOfTrace (requests_of ran.runs) items) answer old new before after
+          (answers_as script.batches None (λ over. over.runs) (λ over. over.runs) IsTraceOver IsOfTraceOver
+          (λ ran items. IsTraceOf (requests_of ran.runs) (ended_of ran.runs) items)
+          (λ ran items. IsOfTrace (requests_of ran.runs) items)
+          (λ over. record {
+            runs = over.runs;
+            are = subst (RunsScript tries resumes script marks over.runs) left_seen
+                (runs_at over.runs (h.0, t) law over.are);
+          })
+          (λ over. record {
+            runs = over.before.runs;
+            memory = (seen over.between).target.memory;
+            are = runs_at over.before.runs over.between
+                (law_refused seen (λ x. plan x.1) (λ x. lawful x.1) tries resumes over.batch over.between (h.0, t)
+                over.refused law) over.before.are;
+            all = over.all;
+          })
+          (λ over items is. is.whole law rest) (λ over items is. is.part law rest) answer old new before after h.1),
+    )

@@ -24,14 +24,15 @@ use Rattle.swd_run.proofs.VerifiedLemmas.{difference_front, difference_last, fau
 -- how runs came out, and one more
 pub finished_and : (finished next : Finished) (batch : Listed) (run : Done) → next.ended ≡ run.told.ended
     → next.differs ≡ or_else finished.differs (difference_in batch.expected run.told.answers)
-    → next.bus_fault ≡ (finished.bus_fault || has_bus_fault run.told.answers) → (batches : List Listed)
-    (runs : List Done) → length runs ≡ length batches → IsFinished batches runs finished
-    → IsFinished (batches ++ batch ∷ []) (runs ++ run ∷ []) next
-finished_and finished next batch run ended differs bus_fault batches runs same is = record {
+    → next.bus_fault ≡ (finished.bus_fault || has_bus_fault run.told.answers) → next.full ≡ finished.full → (batches : List Listed)
+    (runs : List Done) → length runs ≡ length batches → IsFinished batches runs None finished
+    → IsFinished (batches ++ batch ∷ []) (runs ++ run ∷ []) None next
+finished_and finished next batch run ended differs bus_fault full batches runs same is = record {
   ended = ended ∙ sym (ended_last runs run);
   differs = differs ∙ ap (λ d. or_else d (difference_in batch.expected run.told.answers)) is.differs
       ∙ sym (difference_last batches runs batch run same);
   bus_fault = bus_fault ∙ ap (λ b. b || has_bus_fault run.told.answers) is.bus_fault ∙ sym (fault_last runs run);
+  full = full ∙ is.full;
 }
 
 -- a count of bytes, and more of them
@@ -64,10 +65,10 @@ module _ {W : Type 0} (port : W → Port) (plan : W → List Mark) (lawful : W �
   pub record SoFar (i : ℕ) (t : W) (now : Option (List ℕ)) (finished : Finished) (written : ℕ) : Type 0 where
     pub runs : List Done
     pub are : Runs port plan lawful most_begun tries resumes s (take i batches) runs t
-    pub is : IsFinished (take i batches) runs finished
+    pub is : IsFinished (take i batches) runs None finished
     pub gone : HasWritten old now (session_text (take i batches) runs) written
 
-  pub none_yet : (finished : Finished) → IsFinished [] [] finished → SoFar 0 s old finished 0
+  pub none_yet : (finished : Finished) → IsFinished [] [] None finished → SoFar 0 s old finished 0
   none_yet finished is = record {
     runs = [];
     are = none;
@@ -111,6 +112,7 @@ module _ {W : Type 0} (port : W → Port) (plan : W → List Mark) (lawful : W �
             ∙ ap (λ n. first_difference (take n batches) so_far.runs) (sym (counted low))
             ∙ difference_front batches so_far.runs;
         bus_fault = so_far.is.bus_fault;
+        full = so_far.is.full;
       },
       subst (Appends old now) (front_text low) so_far.gone.gone,
       refl,
@@ -151,8 +153,8 @@ module _ {W : Type 0} (port : W → Port) (plan : W → List Mark) (lawful : W �
 
       pub one_more : (more total : ℕ) → HasWritten now new (run_report batch run) more → Sums total written more
           → (finished_next : Finished)
-          → ((batches : List Listed) (runs : List Done) → length runs ≡ length batches → IsFinished batches runs finished
-          → IsFinished (batches ++ batch ∷ []) (runs ++ run ∷ []) finished_next)
+          → ((batches : List Listed) (runs : List Done) → length runs ≡ length batches → IsFinished batches runs None finished
+          → IsFinished (batches ++ batch ∷ []) (runs ++ run ∷ []) None finished_next)
           → SoFar (i + 1) u new finished_next total
       one_more more total wrote sum finished_next and =
           let front = session_text (take i batches) so_far.runs in
@@ -161,7 +163,7 @@ module _ {W : Type 0} (port : W → Port) (plan : W → List Mark) (lawful : W �
           record {
             runs = so_far.runs ++ run ∷ [];
             are = runs_next;
-            is = subst (λ z. IsFinished z (so_far.runs ++ run ∷ []) finished_next) (sym split)
+            is = subst (λ z. IsFinished z (so_far.runs ++ run ∷ []) None finished_next) (sym split)
                 (and (take i batches) so_far.runs as_batches so_far.is);
             gone = record {
               gone = subst (Appends old new) text_next

@@ -163,14 +163,11 @@ module _ {W : Type 0} (port : W → Port) (plan : W → List Mark) (lawful : W �
     (marked : (w : W) → plan w ≡ marks
     → ((port w).tally.disturbed ≤ disturbed_among marks) × ((port w).tally.lost ≤ lost_among marks)) (law : lawful t)
     (all : Runs port plan lawful most_begun tries resumes s (take (length runs) script.batches) runs t) where
-  pub script_runs : RunsScript tries resumes script marks runs
+  pub script_runs : RunsScript tries resumes script marks runs (port t).target.memory
   script_runs =
       let rest : IsAtRest (port s) = made_rests (memory_of script) (port s) is_made in
       let batches : List Listed = take (length runs) script.batches in
       let (same, session) = sessions port plan lawful tries resumes s rest marks planned marked batches runs t all
       law in
-      record {
-        memory = (port t).target.memory;
-        session = subst (λ m. Session tries resumes marks m batches runs (port t).target.memory)
-            (ap (λ x. x.target.memory) is_made) session;
-      }
+      subst (λ m. Session tries resumes marks m batches runs (port t).target.memory)
+      (ap (λ x. x.target.memory) is_made) session

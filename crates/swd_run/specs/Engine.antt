@@ -46,11 +46,12 @@ port_seen false port seen = port seen.1
 port_seen true port seen = with_asked seen.0 (port seen.1)
 
 -- how the last run ended, the first read that gave another word than the script tells, and whether an access was
--- answered by a bus error
-pub record IsFinished (batches : List Listed) (runs : List Done) (finished : Finished) : Type 0 where
+-- answered by a bus error; and the room that is used up at the target, where that is known
+pub record IsFinished (batches : List Listed) (runs : List Done) (used : Option ℕ) (finished : Finished) : Type 0 where
   pub ended : finished.ended ≡ ended_of runs
   pub differs : finished.differs ≡ first_difference batches runs
   pub bus_fault : finished.bus_fault ≡ met_bus_fault runs
+  pub full : finished.full ≡ used
 
 -- THEIR TRACE
 -- items that their own bits are read as
@@ -114,12 +115,12 @@ pub record StopsInLast (written : ℕ) (old new : Option (List ℕ)) (batches : 
 -- where there is one. `Came` is what ran, `runs` are its runs; which items are its trace, whole or without its last
 -- ones, stands beside. `Short` is what ran where memory was refused, `before` are the runs before the one for which it
 -- was. The report of a run is written once it ended, and no other run begins where it isn't; the trace is written last.
-module _ {Came Short : Type 0} (batches : List Listed) (runs : Came → List Done) (runs_before : Short → List Done)
-    (IsWhole IsPart : Came → List Item → Type 0) where
+module _ {Came Short : Type 0} (batches : List Listed) (used : Option ℕ) (runs : Came → List Done)
+    (runs_before : Short → List Done) (IsWhole IsPart : Came → List Item → Type 0) where
   abbrev pub Answers : Result Finished EngineFault → Option (List ℕ) → Option (List ℕ) → Option (Option (List ℕ))
       → Option (Option (List ℕ)) → Type 0
   Answers (Ok finished) old new before after =
-      (came : Came) × AreDone batches (runs came) × IsFinished batches (runs came) finished
+      (came : Came) × AreDone batches (runs came) × IsFinished batches (runs came) used finished
       × Appends old new (session_text batches (runs came))
       × ForTrace (λ start now. (items : List Item) × IsWhole came items × Appends start now (trace_text items))
       before after
@@ -137,13 +138,13 @@ module _ {Came Short : Type 0} (batches : List Listed) (runs : Came → List Don
       × ForTrace (λ start now. (items : List Item) × IsPart came items × Appends start now (trace_text items))
       before after
 
--- so it is over a wire
+-- so it is over a wire, of whose room nothing is known
 abbrev pub AnswersOver : {W : Type 0} → (W → Port) → (W → List Mark) → (W → Type 0) → ℕ → ℕ → List Listed → W → W
     → Result Finished EngineFault → Option (List ℕ) → Option (List ℕ) → Option (Option (List ℕ))
     → Option (Option (List ℕ)) → Type 0
 AnswersOver port plan lawful tries resumes batches start end answer old new before after =
     Answers {Came = Ran port plan lawful tries resumes batches start end}
-    {Short = RanShort port plan lawful tries resumes batches start end} batches (λ ran. ran.runs)
+    {Short = RanShort port plan lawful tries resumes batches start end} batches None (λ ran. ran.runs)
     (λ short. short.before.runs) IsTraceOver IsOfTraceOver answer old new before after
 
 -- and over one whose requests are counted by itself, or from 0 where a trace is wanted

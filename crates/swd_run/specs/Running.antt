@@ -1,7 +1,7 @@
 -- What an answer to a script and a plan says: the theorem of the host, over texts.
 use Rattle.std.specs.Prelude.{◌≡◌, ℕ, ◌+◌, ◌*◌, ◌<◌, ◌≤◌, List, [], ◌∷◌, ◌++◌, length, take, Option, Result, Ok, Err}
 use Rattle.std.specs.Prelude.{IfSome}
-use Rattle.std.specs.Prelude.{IsOk, min}
+use Rattle.std.specs.Prelude.{◌==◌, IsOk, None, Some, if◌then◌else◌, min}
 use Rattle.swd_io.specs.Pieces.{IsText}
 use Rattle.swd_io.specs.declared.pieces.Unread.{Unread}
 use Rattle.swd_io.specs.declared.pieces.Unread.TheVariants.{Reader, Consumer}
@@ -78,10 +78,20 @@ pub data Session (tries resumes : ℕ) (marks : List Mark) (m : PlainMemory) : L
       → RunsOn tries resumes batch before marks run.stops run.told after
       → Session tries resumes marks m (batches ++ batch ∷ []) (runs ++ run ∷ []) after
 
--- The runs of the first calls of a script over a target that was just made with its memory.
-pub record RunsScript (tries resumes : ℕ) (script : Meaning) (marks : List Mark) (runs : List Done) : Type 0 where
-  pub memory : PlainMemory
-  pub session : Session tries resumes marks (memory_of script) (take (length runs) script.batches) runs memory
+-- The runs of the first calls of a script over a target that was just made with its memory, and the memory that they
+-- left.
+abbrev pub RunsScript : (tries resumes : ℕ) → Meaning → List Mark → List Done → PlainMemory → Type 0
+RunsScript tries resumes script marks runs memory =
+    Session tries resumes marks (memory_of script) (take (length runs) script.batches) runs memory
+
+-- the room of a memory, where its log is full: each later transfer is a bus error
+abbrev pub full_room : ℕ → PlainMemory → Option ℕ
+full_room room memory = if length memory.log == room then Some room else None
+
+-- an answer with the room that is used up
+abbrev pub with_full : Option ℕ → Result Finished EngineFault → Result Finished EngineFault
+with_full used (Ok finished) = Ok (record finished { full = used })
+with_full used (Err fault) = Err fault
 
 -- the readers' texts are a script and a plan with these meanings
 pub record AreRead (script plan : Option (List ℕ)) (meaning : Meaning) (marks : List Mark) : Type 0 where
@@ -93,22 +103,24 @@ pub record AreRead (script plan : Option (List ℕ)) (meaning : Meaning) (marks 
   pub plans : plan_of plan_text ≡ Ok marks
 
 -- the runs of a script over a target that was just made
-pub record RanScript (tries resumes : ℕ) (script : Meaning) (marks : List Mark) : Type 0 where
+pub record RanScript (tries resumes : ℕ) (script : Meaning) (marks : List Mark) (memory : PlainMemory) : Type 0 where
   pub runs : List Done
-  pub are : RunsScript tries resumes script marks runs
+  pub are : RunsScript tries resumes script marks runs memory
 
 -- such runs, each of which ended all, before one for which memory was refused
 pub record RanScriptShort (tries resumes : ℕ) (script : Meaning) (marks : List Mark) : Type 0 where
   pub runs : List Done
-  pub are : RunsScript tries resumes script marks runs
+  pub memory : PlainMemory
+  pub are : RunsScript tries resumes script marks runs memory
   pub all : ended_of runs ≡ All
 
--- What the engine's answer says of a script over a target that was just made.
+-- What the engine's answer says of a script over a target that was just made, which is left with this memory.
 abbrev pub AnswersScript : ℕ → ℕ → Meaning → List Mark → Result Finished EngineFault → Option (List ℕ)
     → Option (List ℕ) → Option (Option (List ℕ)) → Option (Option (List ℕ)) → Type 0
 AnswersScript tries resumes script marks answer old new before after =
-    Answers {Came = RanScript tries resumes script marks} {Short = RanScriptShort tries resumes script marks}
-    script.batches (λ ran. ran.runs) (λ short. short.runs)
+    (memory : PlainMemory)
+    × Answers {Came = RanScript tries resumes script marks memory} {Short = RanScriptShort tries resumes script marks}
+    script.batches (full_room script.room memory) (λ ran. ran.runs) (λ short. short.runs)
     (λ ran items. IsTraceOf (requests_of ran.runs) (ended_of ran.runs) items)
     (λ ran items. IsOfTrace (requests_of ran.runs) items) answer old new before after
 

@@ -31,6 +31,9 @@ pub struct Finished {
     pub differs: Option<Difference>,
     /// Whether an access was answered by a bus error.
     pub bus_fault: bool,
+    /// The room of the simulated target, in transfers, where its log is full: each later transfer is a bus error.
+    /// `None` at any other target.
+    pub full: Option<u32>,
 }
 
 impl Finished {
@@ -39,14 +42,15 @@ impl Finished {
         ended: End::All,
         differs: None,
         bus_fault: false,
+        full: None,
     };
 
     // How the runs came out with this one, the last.
     fn and<A: Allocator>(self, batch: &Batch<A>, run: &Resumed<A>) -> Finished
         ensures ended { result.ended ≡ (done_of run.now).told.ended }
         ensures finished { (batches : List Listed) (runs : List Done) → length runs ≡ length batches
-            → IsFinished batches runs self
-            → IsFinished (batches ++ listed batch.now ∷ []) (runs ++ done_of run.now ∷ []) result }
+            → IsFinished batches runs None self
+            → IsFinished (batches ++ listed batch.now ∷ []) (runs ++ done_of run.now ∷ []) None result }
     {
         let reads = batch.expected.as_slice();
         let answers = run.report.answers.as_slice();
@@ -54,6 +58,7 @@ impl Finished {
             ended: run.report.ended,
             differs: or_difference_in(self.differs, reads, answers),
             bus_fault: or_bus_fault(self.bus_fault, answers),
+            full: self.full,
         }
     }
 }

@@ -10,7 +10,7 @@ ghost use Rattle.swd_target.specs.Marks.{IsPlan};
 ghost use Rattle.swd_target.specs.Benches.{port_of, plan_of};
 ghost use Rattle.swd_run.specs.Sessions.{most_begun};
 ghost use Rattle.swd_run.specs.Engine.{held};
-ghost use Rattle.swd_run.specs.Running.{AnswersScript, RunsText, memory_of};
+ghost use Rattle.swd_run.specs.Running.{AnswersScript, RunsText, full_room, memory_of, with_full};
 
 use crate::engine::{Finished, run_batches};
 use crate::fault::{EngineFault, RunFault};
@@ -42,7 +42,31 @@ pub fn zero_memory<A: Allocator + Copy>(alloc: A, script: &Script<A>) -> Option<
     }
 }
 
-/// The simulated target of a script, whose requests meet these marks. `None` where memory was refused.
+/// The room of a memory, where its log is full.
+fn full_room<A: Allocator>(memory: &Memory<A>, room: u32) -> Option<u32>
+    ensures { result ≡ full_room room memory.now }
+{
+    if memory.log().len() == room as usize {
+        Some(room)
+    } else {
+        None
+    }
+}
+
+// An answer with the room that is used up.
+fn with_full(
+    answer: Result<Finished, EngineFault>,
+    full: Option<u32>,
+) -> Result<Finished, EngineFault>
+    ensures { result ≡ with_full full answer }
+{
+    match answer {
+        Ok(finished) => Ok(Finished { full, ..finished }),
+        Err(fault) => Err(fault),
+    }
+}
+
+// The simulated target of a script, whose requests meet these marks. `None` where memory was refused.
 fn target_of<A: Allocator + Copy>(
     alloc: A,
     script: &Script<A>,
@@ -110,13 +134,13 @@ fn run_script<W: Write, T: Write, A: Allocator + Copy>(
     // The marks that a run meets are among those of the plan.
     marks_used::<A>();
     let batches = script.batches.as_slice();
-    let (answer, _) = run_batches(alloc, bench, batches, tries, resumes, writer, trace);
-    answer
+    let (answer, bench) = run_batches(alloc, bench, batches, tries, resumes, writer, trace);
+    with_full(answer, full_room(bench.memory(), script.room))
 }
 
 /// Reads a script and a plan, and runs the script's calls by [`run_batches`](crate::run_batches) over a simulated
-/// target whose requests meet the plan's marks. Returns how the last one ended, and the first read that gave another
-/// word than the script tells.
+/// target whose requests meet the plan's marks. Returns how the last one ended, the first read that gave another word
+/// than the script tells, and the target's room where it is used up.
 ///
 /// The target is a `Bench` whose memory has the script's words, all zero. Memory is taken for the accesses, the marks
 /// and the memory, too, before anything is run.

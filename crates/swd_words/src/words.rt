@@ -64,8 +64,9 @@ nor standard output.
 
 With --remote the target is behind the standard streams: a server of OpenOCD's
 remote_bitbang characters for serial wire, as swd target is one. The report goes
-to the file that --report names, which may be /dev/stderr. SCRIPT is a file,
-there is no plan, and the script's memory means nothing.
+to the file that --report names, which it truncates; - is standard error, which
+it appends to. SCRIPT is a file, there is no plan, and the script's memory means
+nothing.
 
 A script has one command a line; # begins a comment. BASE, ADDR and VALUE are 1
 to 8 hexadecimal digits, addresses multiples of 4; WORDS, N and COUNT are 1 to
@@ -93,11 +94,13 @@ its last line nothing happens to a request.
   deaf     the target does not see the request
   mute P   bit P, 0 to 2, of the acknowledgement arrives changed
 
-The report has for each call one line an answer, in the script's order:
+The report of a call is written when the call ends, before the next begins. It
+has one line an answer, in the script's order:
   r ADDR WORD        the word that was read
   w ADDR written     the write took place, once
-  r ADDR busfault    no word is there, or the target's room is used up; the
-  w ADDR busfault    same of a write. Nothing took place
+  r ADDR busfault    no word is there, or the target's room is used up, which a
+  w ADDR busfault    line on standard error says; the same of a write. Nothing
+                     took place
   resume K begun B   no acknowledgement was seen after K answers; with --resume
                      the call went on. What was begun may have been done twice
 and then one line of how the call ended, after K answers. Of the accesses behind
@@ -210,7 +213,7 @@ fn report_arg<'a>(alloc: Global) -> Arg<'a>
     Arg::new(alloc, "report")
         .long("report")
         .value_name("FILE")
-        .help("With --remote, the file to write the report to")
+        .help("With --remote, the report's file; - is standard error")
 }
 
 // How many events an access may meet.

@@ -1,5 +1,5 @@
 //! A run at a target behind the standard streams: what words make of it.
-use super::expect::expect_eq;
+use super::expect::{expect_eq, expect_eq_at};
 use super::{Broken, run_on, unheard};
 
 // The report of a run that was lost before its first access.
@@ -103,4 +103,31 @@ fn streams_that_fail_are_told_apart(rt: HostRuntime) {
     let (status, errors) = unheard(rt.alloc(), WORDS.as_slice(), b"111".as_slice());
     expect_eq(&rt, &errors.as_slice(), &b"swd: write failed\n".as_slice());
     expect_eq(&rt, &status, &1);
+}
+
+// The report goes to standard error, before what is said there of the line, and no file is made or cut off for it. The
+// trace may go elsewhere, but not there.
+#[test]
+fn a_report_goes_to_standard_error(rt: HostRuntime) {
+    let to_errors = ["swd", "run", "script", "--remote", "--report", "-"];
+    let ran = run_on(rt.alloc(), to_errors.as_slice(), b"".as_slice());
+    expect_eq(
+        &rt,
+        &ran.errors.as_slice(),
+        &b"end lost 0 begun 0\nswd: the other end went away\n".as_slice(),
+    );
+    expect_eq(&rt, &ran.status, &1);
+    expect_eq(&rt, &ran.cuts, &0);
+    expect_eq(&rt, &ran.traced, &0);
+    for (trace, status, cuts) in [("traced", 1, 1), ("errors", 2, 0), ("locked", 2, 0)] {
+        let words = [
+            "swd", "run", "script", "--remote", "--report", "-", "--trace", trace,
+        ];
+        let ran = run_on(rt.alloc(), words.as_slice(), b"111".as_slice());
+        expect_eq_at(&rt, &trace, &ran.status, &status);
+        expect_eq_at(&rt, &trace, &ran.cuts, &cuts);
+        expect_eq_at(&rt, &trace, &ran.errors.starts_with(LOST), &(status == 1));
+        expect_eq_at(&rt, &trace, &(ran.traced > 0), &(status == 1));
+        expect_eq_at(&rt, &trace, &ran.output.is_empty(), &(status == 2));
+    }
 }

@@ -1,5 +1,5 @@
 //! Words that a script tells, and scripts of several calls.
-use super::expect::expect_eq;
+use super::expect::{expect_eq, expect_eq_at};
 use super::run_on;
 
 /// Three calls, of which the second is a block.
@@ -42,4 +42,41 @@ fn a_call_that_is_lost_is_the_last_one(rt: HostRuntime) {
     let ran = run_on(rt.alloc(), words.as_slice(), CALLS);
     expect_eq(&rt, &ran.status, &1);
     assert!(rt; ran.output.as_slice().starts_with(b"end lost "));
+}
+
+// A line says that the room is used up where an access met a bus error, once, and the status stays.
+#[test]
+fn a_room_that_is_used_up_takes_one_line(rt: HostRuntime) {
+    for (name, script, errors) in [
+        (
+            "no room",
+            b"memory 20000000 1\nroom 0\nr 20000000\nnext\nr 20000000\n".as_slice(),
+            b"swd: the target's room of 0 transfers is used up: later accesses meet a bus error\n".as_slice(),
+        ),
+        (
+            "room for two of three",
+            b"memory 20000000 1\nroom 2\nrn 20000000 1\nnext\nr 20000000\nr 20000000\n",
+            b"swd: the target's room of 2 transfers is used up: later accesses meet a bus error\n",
+        ),
+        (
+            "room for all",
+            b"memory 20000000 1\nroom 2\nr 20000000\nr 20000000\n",
+            b"",
+        ),
+        (
+            "no word there",
+            b"memory 20000000 1\nroom 2\nr 20000000\nr 20000004\n",
+            b"",
+        ),
+    ] {
+        let ran = run_on(rt.alloc(), ["swd", "run", "-"].as_slice(), script);
+        expect_eq_at(&rt, &name, &ran.errors.as_slice(), &errors);
+        expect_eq_at(&rt, &name, &ran.status, &0);
+        let words = ["swd", "run", "-", "--strict"];
+        let ran = run_on(rt.alloc(), words.as_slice(), script);
+        expect_eq_at(&rt, &name, &ran.errors.as_slice(), &errors);
+        let met = ran.output.ends_with(b"busfault\nend all 1\n")
+            || ran.output.ends_with(b"busfault\nend all 2\n");
+        expect_eq_at(&rt, &name, &ran.status, &u8::from(met));
+    }
 }

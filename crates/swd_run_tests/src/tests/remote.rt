@@ -47,6 +47,7 @@ fn a_script_sends_what_was_recorded(rt: HostRuntime) {
         ended: End::All,
         differs: None,
         bus_fault: false,
+        full: None,
     };
     expect_eq(&rt, &answer, &Ok(finished));
     expect_eq(&rt, &line.fault, &None);
@@ -76,6 +77,7 @@ fn a_remote_run_is_traced(rt: HostRuntime) {
         ended: End::All,
         differs: None,
         bus_fault: false,
+        full: None,
     };
     expect_eq(&rt, &answer, &Ok(finished));
     expect_eq(&rt, &line.fault, &None);
@@ -228,6 +230,7 @@ fn a_call_that_is_lost_is_the_last_one(rt: HostRuntime) {
         ended: End::Lost,
         differs: Some(differs),
         bus_fault: false,
+        full: None,
     };
     expect_eq(&rt, &answer, &Ok(finished));
     expect_eq(&rt, &line.fault, &Some(Fault::Ended));
@@ -269,6 +272,7 @@ fn a_target_that_goes_away_is_told(rt: HostRuntime) {
             ended: End::Lost,
             differs: None,
             bus_fault: false,
+            full: None,
         };
         expect_eq(&rt, &answer, &Ok(finished));
         expect_eq(&rt, &line.fault, &Some(Fault::Ended));

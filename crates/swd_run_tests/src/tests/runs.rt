@@ -4,9 +4,10 @@ use super::resumed::LOST_WRITE;
 use super::sessions::{CALLS, REPORTS};
 use super::{
     NO_ACCESS, ONE_READ, ONE_WRITE, THREE_WAITS, TRIES, WORKED, WORKED_REPORT, ended_with,
-    resumed_on,
+    has_bus_fault, resumed_on,
 };
 use swd_host::End;
+use swd_run::{Finished, RunFault};
 
 // A name, a script and a plan, the tries, how often it may be resumed; and what comes of it: how it ends, and its
 // report.
@@ -23,7 +24,7 @@ const RESUMED_TWICE: &[u8] = b"resume 0 begun 0\nresume 0 begun 0\nw 20000000 wr
 const SECOND_LOST: &[u8] = b".\n.\n.\n.\n.\n.\n.\n.\n.\n.\n.\n.\ndeaf\n";
 
 // Scripts that are run, and never resumed.
-const RUN: [Row; 13] = [
+const RUN: [Row; 12] = [
     ("a script", WORKED, b"", TRIES, 0, End::All, WORKED_REPORT),
     (
         "a script of no access",
@@ -42,15 +43,6 @@ const RUN: [Row; 13] = [
         0,
         End::All,
         b"r 20000000 00000000\nr 20000004 00000000\nr 20000008 busfault\nend all 3\n",
-    ),
-    (
-        "transfers without room are bus errors",
-        b"memory 20000000 2\nroom 1\nw 20000000 1\nr 20000000\nw 20000008 1\n",
-        b"",
-        TRIES,
-        0,
-        End::All,
-        b"w 20000000 written\nr 20000000 busfault\nw 20000008 busfault\nend all 3\n",
     ),
     // The twelfth request is the DRW read of the second word, which brings the first.
     (
@@ -379,5 +371,52 @@ fn each_script_ends_so_after_its_report(rt: HostRuntime) {
             expect_eq_at(&rt, name, &run.answer, &ended_with(*end, report));
             expect_eq_at(&rt, name, &run.text.as_slice(), report);
         }
+    }
+}
+
+// Transfers without room are bus errors. A name, a script, the room where it is used up, and the report.
+const ROOMS: [(&str, &[u8], Option<u32>, &[u8]); 4] = [
+    (
+        "no room",
+        b"memory 20000000 2\nroom 0\nr 20000000\n",
+        Some(0),
+        b"r 20000000 busfault\nend all 1\n",
+    ),
+    (
+        "room for the first",
+        b"memory 20000000 2\nroom 1\nw 20000000 1\nr 20000000\nw 20000008 1\n",
+        Some(1),
+        b"w 20000000 written\nr 20000000 busfault\nw 20000008 busfault\nend all 3\n",
+    ),
+    (
+        "room for all",
+        b"memory 20000000 2\nroom 2\nw 20000000 1\nnext\nr 20000000\n",
+        Some(2),
+        b"w 20000000 written\nend all 1\nr 20000000 00000001\nend all 1\n",
+    ),
+    (
+        "room for one more",
+        b"memory 20000000 2\nroom 3\nw 20000000 1\nr 20000000\nr 20000008\n",
+        None,
+        b"w 20000000 written\nr 20000000 00000001\nr 20000008 busfault\nend all 3\n",
+    ),
+];
+
+// A run of which all was answered, with the room that is used up.
+fn all_with(full: Option<u32>, report: &[u8]) -> Result<Finished, RunFault> {
+    Ok(Finished {
+        ended: End::All,
+        differs: None,
+        bus_fault: has_bus_fault(report),
+        full,
+    })
+}
+
+#[test]
+fn a_room_that_is_used_up_is_told(rt: HostRuntime) {
+    for (name, script, full, report) in ROOMS.as_slice() {
+        let run = resumed_on(&rt, script, b"".as_slice(), TRIES, 0);
+        expect_eq_at(&rt, name, &run.answer, &all_with(*full, report));
+        expect_eq_at(&rt, name, &run.text.as_slice(), report);
     }
 }

@@ -24,6 +24,7 @@ fn differs<R: Abort>(rt: &R, run: &Ran, end: End, difference: Difference, report
         ended: end,
         differs: Some(difference),
         bus_fault: has_bus_fault(report),
+        full: None,
     };
     expect_eq(rt, &run.answer, &Ok(finished));
     expect_eq(rt, &run.text.as_slice(), &report);
@@ -122,7 +123,7 @@ fn a_writer_that_fails_has_the_first_bytes_of_all_reports(rt: HostRuntime) {
 /// A script has as many calls as it likes.
 pub(super) fn calls_of(rt: &HostRuntime, count: usize) -> Result<Vec<u8>, Fail> {
     let mut script = Vec::new(rt.alloc());
-    script.extend_from_slice(b"memory 20000000 16\nroom 1000\n")?;
+    script.extend_from_slice(b"memory 20000000 16\nroom 1001\n")?;
     for _ in 1..count {
         script.extend_from_slice(b"w 20000000 5\nnext\n")?;
     }

@@ -16,7 +16,7 @@ pub loop-batch-init : goal.loop-batch-init
 loop-batch-init g c = record {
   so_far = none_yet g.W.Wire.port g.W.Wire.plan g.W.Wire.lawful c.args.tries c.args.resumes
       (map listed c.args.batches.now) c.args.wire.now (g.O.Write.contents c.args.report.now) _
-      (record { ended = refl; differs = refl; bus_fault = refl });
+      (record { ended = refl; differs = refl; bus_fault = refl; full = refl });
   all = refl;
   low = omega arith;
   due = c.requires.due;

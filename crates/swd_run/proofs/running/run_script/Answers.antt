@@ -1,4 +1,4 @@
-use Rattle.std.proofs.Common.{◌≤◌, List, [], map, refl, sym, ap, subst}
+use Rattle.std.proofs.Common.{◌∙◌, ◌≡◌, ◌≤◌, List, [], map, refl, sym, ap, subst}
 use Rattle.std.proofs.KnownBytes.{Appends-nil}
 use Rattle.std.specs.Prelude.{All as Each}
 use Rattle.swd_port.specs.declared.mark.Mark.{Mark}
@@ -9,7 +9,7 @@ use Rattle.swd_script.specs.Readers.{listed, meaning}
 use Rattle.std.specs.Io.KnownBytes.{Appends}
 use Rattle.swd_run.specs.Engine.{AnswersAt, held}
 use Rattle.swd_run.specs.Reports.{run_report}
-use Rattle.swd_run.specs.Running.{memory_of, none}
+use Rattle.swd_run.specs.Running.{AnswersScript, full_room, memory_of, none, with_full}
 use Rattle.swd_run.proofs.ReportLemmas.{no_pairs}
 use Rattle.swd_run.proofs.EngineLemmas.{left_alone, script_answers}
 use Rattle.swd_run.proofs.running.run_script.Goals as goal
@@ -26,25 +26,34 @@ pub returns-in_default : goal.returns-in_default
 returns-in_default g c =
     let writer = g.W.Write.contents c.args.writer.now in
     let script = meaning c.args.script.now in (
-      record { runs = []; are = record { memory = memory_of script; session = none }; all = refl },
-      subst (Appends writer writer) (sym (no_pairs run_report script.batches)) (Appends-nil writer),
-      left_alone (held g.T.Write.contents c.args.trace.now),
+      memory_of script,
+      (
+        record { runs = []; memory = memory_of script; are = none; all = refl },
+        subst (Appends writer writer) (sym (no_pairs run_report script.batches)) (Appends-nil writer),
+        left_alone (held g.T.Write.contents c.args.trace.now),
+      ),
     )
 
 pub returns : goal.returns
 returns g c =
     let ran = c.run_batches-answer in
+    let script = meaning c.args.script.now in
     let old = g.W.Write.contents c.args.writer.now in
     let new = g.W.Write.contents ran.new.report in
     let before = held g.T.Write.contents c.args.trace.now in
     let after = held g.T.Write.contents ran.new.trace in
-    script_answers port_of plan_of (λ bench. Unit {0}) c.args.tries c.args.resumes (meaning c.args.script.now)
+    let memory = (port_of ran.result.1).target.memory in
+    let full : c.full_room.result ≡ full_room script.room memory = c.full_room.ensures
+    ∙ ap (full_room script.room) c.memory.ensures in
+    subst (λ answer. AnswersScript c.args.tries c.args.resumes script c.args.plan.items answer old new before after)
+    (sym (c.with_full.ensures ∙ ap (λ used. with_full used ran.result.0) full))
+    (script_answers port_of plan_of (λ bench. Unit {0}) c.args.tries c.args.resumes script
     c.args.plan.items c.in-Some.bench ran.result.1 c.in-Some.ensures.port c.in-Some.ensures.plan
     (λ bench same. (
       subst (λ (x : List Mark). (port_of bench).tally.disturbed ≤ disturbed_among x) same
           (c.marks_used.ensures.disturbed_most bench),
       subst (λ (x : List Mark). (port_of bench).tally.lost ≤ lost_among x) same (c.marks_used.ensures.lost_most bench),
-    )) tt ran.result.0 old new before after
+    )) tt memory refl ran.result.0 old new before after
     (subst (λ batches. AnswersAt port_of plan_of (λ bench. Unit {0}) c.args.tries c.args.resumes (map listed batches)
     c.in-Some.bench ran.result.1 ran.result.0 old new before after)
-    c.as_slice-batches.ensures.value ran.ensures.answer)
+    c.as_slice-batches.ensures.value ran.ensures.answer))

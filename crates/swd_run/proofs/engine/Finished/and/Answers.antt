@@ -18,4 +18,4 @@ returns-clause-finished g c =
     ∙ ap (λ answers. or_else before.differs (difference_in batch.expected.items answers))
     c.as_slice-answers.ensures.value)
     (c.or_bus_fault.ensures
-    ∙ ap (λ answers. before.bus_fault || has_bus_fault answers) c.as_slice-answers.ensures.value)
+    ∙ ap (λ answers. before.bus_fault || has_bus_fault answers) c.as_slice-answers.ensures.value) refl
