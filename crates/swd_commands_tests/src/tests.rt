@@ -17,6 +17,7 @@ use swd_trace::ListFault;
 mod accesses;
 mod calls;
 mod expect;
+mod images;
 mod plan;
 mod remote;
 mod target;
