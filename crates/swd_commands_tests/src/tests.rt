@@ -18,6 +18,7 @@ mod accesses;
 mod calls;
 mod captures;
 mod expect;
+mod images;
 mod plan;
 mod remote;
 mod target;

@@ -4,6 +4,7 @@
 mod calls;
 mod dumping;
 mod fault;
+mod file;
 mod loading;
 mod range;
 mod reading;
@@ -12,5 +13,6 @@ mod writing;
 
 pub use dumping::dump;
 pub use fault::ImageFault;
+pub use file::{NoRoom, read_image};
 pub use loading::load;
 pub use verifying::{ByteDifference, verify};

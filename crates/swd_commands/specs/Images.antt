@@ -1,0 +1,34 @@
+-- What `swd load`, `swd verify` and `swd dump` do at a simulated target.
+use Rattle.std.specs.Prelude.{ℕ, ◌≡◌, List, length, Option}
+use Rattle.swd_io.specs.Pieces.{IsText}
+use Rattle.swd_port.specs.PlainMemory.{PlainMemory}
+use Rattle.swd_port.specs.Port.{Port, made}
+use Rattle.swd_image.specs.Bytes.{bytes_at}
+use Rattle.swd_image.specs.Images.{IsLoaded}
+use Rattle.swd_words.specs.declared.command.ImageJob.{ImageJob}
+use Rattle.swd_words.specs.declared.command.ImageJob.TheVariants.{Load, Verify, Dump}
+
+-- a target that was just made, with this memory
+abbrev pub IsMadeWith : PlainMemory → Port → Type 0
+IsMadeWith m port = port ≡ made 731911287 m
+
+-- the file was loaded at this address into the memory of a target
+abbrev pub LoadsFile : ℕ → Option (List ℕ) → Type 0
+LoadsFile addr text =
+    (bytes : List ℕ) × (before : PlainMemory) × (after : PlainMemory) × IsText text bytes
+    × IsLoaded addr bytes before after
+
+-- it is what the memory of a target has
+abbrev pub VerifiesFile : ℕ → Option (List ℕ) → Type 0
+VerifiesFile addr text =
+    (bytes : List ℕ) × (m : PlainMemory) × IsText text bytes × (bytes_at m addr (length bytes) ≡ bytes)
+
+-- these are the bytes of the memory of a target
+abbrev pub DumpsBytes : ℕ → ℕ → List ℕ → Type 0
+DumpsBytes addr count bytes = (m : PlainMemory) × (bytes ≡ bytes_at m addr count)
+
+-- what a status of 0 says
+abbrev pub IsDone : ImageJob → ℕ → Option (List ℕ) → Type 0
+IsDone (Load verify) addr text = LoadsFile addr text
+IsDone Verify addr text = VerifiesFile addr text
+IsDone (Dump count) addr text = (bytes : List ℕ) × DumpsBytes addr count bytes
