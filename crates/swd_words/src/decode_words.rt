@@ -11,38 +11,37 @@ use clap::error::ErrorKind;
 use clap::{Arg, ArgAction, ArgMatches, Command};
 use std::alloc::{AllocError, Global};
 
-const DECODE_ABOUT: &str = "Lists a trace, one line an item";
+const DECODE_ABOUT: &str = "Decode a trace to a listing, one line an item";
 
 const DECODE_AFTER: &str = "\
-With --places each line begins with @N: N bits of the trace stand before the
-item's first one.
+With --places each line begins with @N, the number of bits before the item.
 
-With --names a register has its name where the trace shows what SELECT holds:
+With --names registers are printed by name where the trace shows SELECT:
   dp ctrl/stat read ok 000000a0 sticky_err wdata_err
   ap csw write ok 23000012
   ap 1 bank f idr read wait
-The access port and the bank stand before the name where they aren't 0. The set
-flags of ABORT, CTRL/STAT and CSW stand behind a word that moved with right
-parity; a read of an access port returns the word of the read before it, so it
-has none. Behind a line reset, and behind bits that belong to nothing, SELECT is
-unknown until it is written: a register is then a number, as without --names.
+The access port and the bank precede the name unless they are 0. A word of
+ABORT, CTRL/STAT or CSW with correct parity is followed by its set flags, except
+in a read of an access port, which returns the word of the read before it. After
+a line reset or a stray bit SELECT is unknown until it is written: registers are
+then numbers, as without --names.
 
-With --count there is no listing. At the end each kind of item that came has a
-line, its count first:
+With --count there is no listing, but a line for each kind of item at the end,
+with its count first:
   1042 ap c write ok
   3 dp 4 read wait
   2 reset
   96 idle
-Of idle, junk and cut the bits are counted. A trace with a fault has no counts.
+Of idle, junk and cut the bits are counted. An invalid trace has no counts.
 
-With --accesses there is a line for each access of the target's memory, which
-begins with the place of its request:
-  @590 w 20000000 deadbeef      it took place, once
-  @787 w 20000000 deadbeef may  once or not at all: the trace doesn't show which
-  @925 r 30000000 ???????? not  it didn't: a bus error, or damaged data
-  @990 gap                      bits that belong to nothing: they may hide some
-????????: the trace doesn't show this address or word. With --made it is the
-trace of a target that was just made, without it nothing is known at first.
+With --accesses there is a line for each access of the target's memory, with the
+place of its request:
+  @590 w 20000000 deadbeef      took effect, once
+  @787 w 20000000 deadbeef may  took effect once or not at all: not shown
+  @925 r 30000000 ???????? not  had no effect: a bus error, or corrupted data
+  @990 gap                      stray bits from here, which may hide accesses
+????????: the trace doesn't show this address or word. Give --made if the trace
+begins with the target in its reset state; without it the state is unknown.
 
 With --resync the trace may begin in mid-session and lose bits. What can be read
 is listed, and the bits between have one line:
@@ -78,7 +77,7 @@ fn names_arg<'a>(alloc: Global) -> Arg<'a>
     Arg::new(alloc, "names")
         .long("names")
         .action(ArgAction::SetTrue)
-        .help("Name registers and the set flags of their words")
+        .help("Print names of registers, and of flags that are set")
 }
 
 // Whether items are counted in place of a listing.
@@ -89,7 +88,7 @@ fn count_arg<'a>(alloc: Global) -> Arg<'a>
     Arg::new(alloc, "count")
         .long("count")
         .action(ArgAction::SetTrue)
-        .help("Count each kind of item in place of a listing")
+        .help("Count each kind of item, with no listing")
 }
 
 // Whether it is told what became of each access, in place of a listing.
@@ -100,7 +99,7 @@ fn accesses_arg<'a>(alloc: Global) -> Arg<'a>
     Arg::new(alloc, "accesses")
         .long("accesses")
         .action(ArgAction::SetTrue)
-        .help("Tell what became of each access of memory")
+        .help("List the accesses of memory, with their effect")
 }
 
 // Whether the target was just made.
@@ -111,7 +110,7 @@ fn made_arg<'a>(alloc: Global) -> Arg<'a>
     Arg::new(alloc, "made")
         .long("made")
         .action(ArgAction::SetTrue)
-        .help("With --accesses, of a target that was just made")
+        .help("With --accesses: the target begins in its reset state")
 }
 
 // Whether the trace may begin in mid-session and lose bits.

@@ -15,41 +15,41 @@ use clap::error::ErrorKind;
 use clap::{Arg, ArgAction, ArgMatches, Command};
 use std::alloc::{AllocError, Global};
 
-const LOAD_ABOUT: &str = "Loads a file into a simulated target's memory";
+const LOAD_ABOUT: &str = "Load a file into a simulated target's memory";
 
 const LOAD_AFTER: &str = "\
-ADDR is 1 to 8 hexadecimal digits, of a byte: it need not be a multiple of 4.
-FILE may be - for standard input. The target's memory holds little-endian words,
-all zero: those of the file's range and no other. A word of which the file has
-only some bytes is read first, and keeps the others. With --verify the range is
-read back and compared. The plan is that of swd run.
+ADDR is 1 to 8 hexadecimal digits; it need not be a multiple of 4. FILE may be -
+for standard input. The target's memory is as large as the file, all zero, and
+little-endian. A word that the file covers only in part is read first, and its
+other bytes are kept. With --verify the bytes are read back and compared. The
+plan is one of swd run.
 
-Standard output gets a line, such as: loaded 8 bytes at 20000000
+Prints a line such as: loaded 8 bytes at 20000000
 
-Status: 0 loaded; 1 a call that ended early, or a byte that differs; 2 a fault
-of words, files or memory. Status 1 and 2 take a line on standard error.";
+Status: 0 loaded; 1 a call ended early, or a byte differs; 2 a usage, input, I/O
+or out-of-memory error. Status 1 and 2 print a line on standard error.";
 
-const VERIFY_ABOUT: &str = "Compares a simulated target's memory with a file";
+const VERIFY_ABOUT: &str = "Compare a simulated target's memory with a file";
 
 const VERIFY_AFTER: &str = "\
 ADDR is 1 to 8 hexadecimal digits. FILE may be - for standard input. The
-target's memory is all zero. The plan is that of swd run.
+target's memory is all zero. The plan is one of swd run.
 
-Standard output gets a line, such as: verified 8 bytes at 20000000
+Prints a line such as: verified 8 bytes at 20000000
 
-Status: 0 the same; 1 a call that ended early, or a byte that differs, of which
-a line on standard error names the first; 2 a fault of words, files or memory.";
+Status: 0 equal; 1 a call ended early, or a byte differs, and a line on standard
+error names the first; 2 a usage, input, I/O or out-of-memory error.";
 
-const DUMP_ABOUT: &str = "Reads bytes of a simulated target's memory into a file";
+const DUMP_ABOUT: &str = "Read bytes of a simulated target's memory into a file";
 
 const DUMP_AFTER: &str = "\
 ADDR is 1 to 8 hexadecimal digits, BYTES a decimal number. The target's memory
-is all zero. The plan is that of swd run.
+is all zero. The plan is one of swd run.
 
-Standard output gets a line, such as: read 8 bytes at 20000000
+Prints a line such as: read 8 bytes at 20000000
 
-Status: 0 read; 1 a call that ended early; 2 a fault of words, files or memory.
-Status 1 and 2 take a line on standard error, and FILE is left empty.";
+Status: 0 read; 1 a call ended early; 2 a usage, input, I/O or out-of-memory
+error. Status 1 and 2 print a line on standard error, and leave FILE empty.";
 
 const ADDR_RANGE: &str = "ADDR is not 1 to 8 hexadecimal digits";
 

@@ -9,23 +9,21 @@ use crate::words::{owned, plan_arg, script_arg, trace_arg, with_arg};
 use clap::{Arg, ArgMatches, Command};
 use std::alloc::{AllocError, Global};
 
-const TARGET_ABOUT: &str = "Is a simulated target, to a debugger on the standard streams";
+const TARGET_ABOUT: &str = "Simulate a target for a debugger on the standard streams";
 
 const TARGET_AFTER: &str = "\
-The debugger sends OpenOCD's remote_bitbang characters for serial wire: d to g
-set the pins, c asks for a level, O and o drive SWDIO or leave it alone, Q ends.
-A socket comes from outside:
+The debugger speaks OpenOCD's remote_bitbang protocol for SWD: d to g set the
+pins, c samples SWDIO, O and o drive or release it, Q ends. To listen on a
+socket:
   socat TCP-LISTEN:4711,nodelay EXEC:'swd target memory.script'
 
-The script has the lines memory and room alone, as for swd run, and can't be
-standard input. The plan is that of swd run: each request meets its next mark.
+The script has only the lines memory and room of swd run, and can't be standard
+input. The plan is one of swd run, with a mark for each request.
 
-The log has a line for each transfer that took effect, and how many cycles and
-requests there were; the trace has each bit that went over the line. Both are
-written at the end.
+The log has a line for each transfer that took effect, and the numbers of cycles
+and requests. The trace has every bit on the line. Both are written at the end.
 
-Status: 0 where the debugger said that it is done or closed its end, 2 at a
-fault.";
+Status: 0 if the debugger sent Q or closed its end, 2 at an error.";
 
 // The file that the log is written to.
 fn log_arg<'a>(alloc: Global) -> Arg<'a>
@@ -35,7 +33,7 @@ fn log_arg<'a>(alloc: Global) -> Arg<'a>
     Arg::new(alloc, "log")
         .long("log")
         .value_name("FILE")
-        .help("The file to write the log to; what it held is cut off")
+        .help("Write the log to FILE (overwrites it)")
 }
 
 /// The command that serves a target.

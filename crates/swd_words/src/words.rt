@@ -24,108 +24,110 @@ use std::alloc::{AllocError, Global};
 const VERSION: &str = "0.1.0";
 
 const ABOUT: &str =
-    "Runs accesses over a Serial Wire Debug (SWD) line, and reads and writes traces";
+    "Serial Wire Debug (SWD): runs accesses at a target, decodes and encodes traces";
 
 const AFTER: &str = "\
-A trace is text: a character 0 or 1 for each bit on the line, in time order.
-Blanks and line ends are passed over, and so is all from # to the line's end.
+A trace has a character 0 or 1 for each bit on the line, in time order. Blanks,
+line ends and comments, from # to the line's end, are ignored.
 
 A listing has one line an item:
-  reset N              N ones, at least 50: a line reset
-  switch               from JTAG to serial wire, after a reset
-  idle N               N zeros
-  dp 0 read ok WORD    a transaction: dp or ap; the register 0, 4, 8 or c; read
-                       or write; and what came of it. ok: the word moved
-  dp 0 read bad WORD   the word moved with wrong parity
-  dp 0 read wait       not now, the target said
-  dp 0 read fault      the target refused
-  dp 0 read none N     another acknowledgement was seen: 0, 3, 5, 6 or 7
-  junk B               a bit that belongs to nothing
-  cut BITS             the end of a trace that was cut off
+  reset N              a line reset: N ones, at least 50
+  switch               the JTAG-to-SWD switch sequence, directly after a reset
+  idle N               N idle cycles: zeros
+  dp 0 read ok WORD    a transaction: dp or ap; the register's address: 0, 4, 8
+                       or c; read or write; and its result. ok: ACK OK, and a
+                       word with correct parity
+  dp 0 read bad WORD   ACK OK, and a word with wrong parity
+  dp 0 read wait       ACK WAIT
+  dp 0 read fault      ACK FAULT
+  dp 0 read none N     no ACK: the three bits were 0, 3, 5, 6 or 7
+  junk B               a stray bit, part of no other item
+  cut BITS             the end of a truncated trace
 WORD is 8 hexadecimal digits, N a decimal number.
 
 FILE may be - for standard input; a file of that name is ./-
 
-Status: 0 all done; 1 a run that ended before all was done, that --strict
-fails, or that read another word than it was to verify; 2 a fault of words,
-texts, files or memory, which takes a line on standard error.
+Status: 0 success; 1 a run that stopped early, that --strict fails, or that read
+another word than the one to verify; 2 a usage, input, I/O or out-of-memory
+error, with a line on standard error.
 
-Example, a read of the debug port's identification register:
+Example, a read of DPIDR, the debug port's identification register:
   echo '10100101 1 100 11101110001010000000010111010100 0 1' | swd decode
   dp 0 read ok 2ba01477";
 
-const ONE_ABOUT: &str = "Lists the one transaction that a trace holds";
+const ONE_ABOUT: &str = "Decode a trace of exactly one transaction";
 
-const ENCODE_ABOUT: &str = "Writes the trace of a listing, one line an item";
+const ENCODE_ABOUT: &str = "Encode a listing to a trace, one line an item";
 
-const RUN_ABOUT: &str = "Runs a script's accesses over a simulated target, each once";
+const RUN_ABOUT: &str = "Run a script's accesses at a target, each once";
 
 const RUN_AFTER: &str = "\
-SCRIPT may be - for standard input. The plan and the trace are files: - is none.
-The plan may not be the script, and the trace neither of them, nor the report,
-nor standard output.
+SCRIPT may be - for standard input. The plan and the trace must be files, not -.
+The plan must be another file than the script. The trace must be none of the
+script, the plan, the report and standard output.
 
-With --remote the target is behind the standard streams: a server of OpenOCD's
-remote_bitbang characters for serial wire, as swd target is one. The report goes
-to the file that --report names, which it truncates; - is standard error, which
-it appends to. SCRIPT is a file, there is no plan, and the script's memory means
-nothing.
+With --remote the standard streams connect to a server of OpenOCD's
+remote_bitbang protocol for SWD, such as swd target. The report goes to the file
+that --report names, which is overwritten; with - it is appended to standard
+error. SCRIPT must be a file. There is no plan, and the script's memory and room
+are ignored.
 
-A script has one command a line; # begins a comment. BASE, ADDR and VALUE are 1
-to 8 hexadecimal digits, addresses multiples of 4; WORDS, N and COUNT are 1 to
+A script has one command per line; # begins a comment. BASE, ADDR and VALUE are
+1 to 8 hexadecimal digits, addresses multiples of 4. WORDS, N and COUNT are 1 to
 10 decimal digits.
   memory BASE WORDS  the first command: the target's memory, 1 to 65536 words
                      from BASE on, all zero, none past ffffffff
   room N             once, before the first access or next: the target does N
                      transfers, 0 to 65536, and answers each later one with a
-                     bus error. Without it N is 65536
+                     bus error. The default is 65536
   w ADDR VALUE       writes a word
   r ADDR             reads a word
-  rn ADDR COUNT      reads COUNT words, at least 1, each by an access of its own
-  block ADDR COUNT   reads them as one block, at one request a word; no other
-                     access may stand in its call
-  verify ADDR VALUE  reads a word, which has to be VALUE
-  next               begins a further call over the same target. A call has at
-                     most 65536 accesses; it begins with the opening, and only
-                     where the call before it ended all
+  rn ADDR COUNT      reads COUNT words, at least 1, each by its own access
+  block ADDR COUNT   reads COUNT words as a block, with one request per word. It
+                     must be the only access of its call
+  verify ADDR VALUE  reads a word and compares it with VALUE
+  next               begins another call at the same target, with at most 65536
+                     accesses. It connects anew, and only runs if the call
+                     before it ended all
 
-A plan has one mark a line, for the first request, the second and so on. After
-its last line nothing happens to a request.
-  .        nothing
-  wait     the target is busy: it says WAIT, or finds its power late
-  flip P   bit P of the data arrives changed: 0 to 31, and 32 for the parity bit
+A plan has one mark per line, for the first request, the second and so on.
+Requests after its last line are undisturbed.
+  .        undisturbed
+  wait     the target is busy: it answers WAIT, or acknowledges power-up later
+  flip P   bit P of the data phase is inverted: 0 to 31, and 32 for its parity
   deaf     the target does not see the request
-  mute P   bit P, 0 to 2, of the acknowledgement arrives changed
+  mute P   bit P of the acknowledgement is inverted: 0 to 2
 
-The report of a call is written when the call ends, before the next begins. It
-has one line an answer, in the script's order:
+The report of a call is written when the call ends, before the next one starts.
+It has one line per answer, in the script's order:
   r ADDR WORD        the word that was read
-  w ADDR written     the write took place, once
-  r ADDR busfault    no word is there, or the target's room is used up, which a
-  w ADDR busfault    line on standard error says; the same of a write. Nothing
-                     took place
-  resume K begun B   no acknowledgement was seen after K answers; with --resume
-                     the call went on. What was begun may have been done twice
-and then one line of how the call ended, after K answers. Of the accesses behind
-these, B were begun and may have taken place:
-  end all K              all accesses were answered
+  w ADDR written     the word was written, once
+  r ADDR busfault    bus error: no memory at ADDR, or no room left, which a line
+                     on standard error says. There was no access
+  w ADDR busfault    the same of a write
+  resume K begun B   no acknowledgement was seen after K answers, and --resume
+                     continued the call. The accesses in flight, B at most, may
+                     have taken effect twice
+and then one line for the end of the call, after K answers. At most B of the
+accesses after these were in flight, and may have taken effect:
+  end all K              every access was answered
   end lost K begun B     no acknowledgement was seen
-  end tries K begun B    more WAITs and changed data for one access than --tries
-  end id WORD            the target named itself by an unknown WORD
-  end confused K begun B the target did what none does
+  end tries K begun B    the retries of an access ran out: see --tries
+  end id WORD            the target's DPIDR is invalid: WORD
+  end confused K begun B the target violated the protocol
 
-A trace has what went over the line, one item a line: swd decode lists it.
+The trace has every bit on the line, one item per line: see swd decode.
 
-Status: 0 where each call ended all, 1 where one ended otherwise, 2 at a fault.
-A bus fault is an answer: without --strict it counts as done, with it the status
-is 1. It is 1, too, where a word to verify was another or a bus fault: a line on
-standard error names the first one, with its line in the script, and both words.
-A fault is told there with its line, counted from 1:
-  word            an unknown command or mark, or one that may not stand there
-  number          the digits are no number of 32 bits
-  range           a number is out of its range
+Status: 0 if each call ended all, 1 if one ended otherwise, 2 at an error. A bus
+error is an answer, and fails the run only with --strict: status 1. The status
+is also 1 if a word to verify differed or met a bus error. A line on standard
+error then names the first, with its line in the script, and both words.
+An error in a script or plan is printed with its line, counted from 1:
+  word            an unknown command or mark, or one in the wrong place
+  number          not a number of 32 bits
+  range           a number out of its range
   no memory line  an access or room before memory
-  memory          no memory was left for the line";
+  memory          out of memory at this line";
 
 // How many events an access may meet, where the words don't say it, and at most.
 const TRIES: u32 = 8;
@@ -151,7 +153,7 @@ pub(crate) fn file_arg<'a>(alloc: Global) -> Arg<'a>
     ensures rule { rule_of result ≡ file_rule }
     ensures local { result.global ≡ false }
 {
-    Arg::new(alloc, "FILE").help("The file to read; without it, and for -, standard input")
+    Arg::new(alloc, "FILE").help("The file to read; standard input without it, or for -")
 }
 
 // The file of the script, which has to be there.
@@ -161,7 +163,7 @@ pub(crate) fn script_arg<'a>(alloc: Global) -> Arg<'a>
 {
     Arg::new(alloc, "SCRIPT")
         .required(true)
-        .help("The file with the script; - for standard input")
+        .help("The script to run; - for standard input")
 }
 
 // The file of the plan.
@@ -172,7 +174,7 @@ pub(crate) fn plan_arg<'a>(alloc: Global) -> Arg<'a>
     Arg::new(alloc, "plan")
         .long("plan")
         .value_name("FILE")
-        .help("The file with the plan; without it nothing is damaged")
+        .help("Inject faults by the plan in FILE")
 }
 
 // The file that the trace is written to.
@@ -183,7 +185,7 @@ pub(crate) fn trace_arg<'a>(alloc: Global) -> Arg<'a>
     Arg::new(alloc, "trace")
         .long("trace")
         .value_name("FILE")
-        .help("The file to write the trace to; what it held is cut off")
+        .help("Write the trace to FILE (overwrites it)")
 }
 
 // Whether bus faults fail the run.
@@ -194,7 +196,7 @@ fn strict_arg<'a>(alloc: Global) -> Arg<'a>
     Arg::new(alloc, "strict")
         .long("strict")
         .action(ArgAction::SetTrue)
-        .help("Status 1 also where an access was answered busfault")
+        .help("Exit with status 1 if an access met a bus error")
 }
 
 // Whether the target is behind the standard streams.
@@ -216,7 +218,7 @@ fn report_arg<'a>(alloc: Global) -> Arg<'a>
     Arg::new(alloc, "report")
         .long("report")
         .value_name("FILE")
-        .help("With --remote, the report's file; - is standard error")
+        .help("With --remote: write the report to FILE, - is stderr")
 }
 
 // How many events an access may meet.
@@ -229,7 +231,7 @@ pub(crate) fn tries_arg<'a>(alloc: Global) -> Arg<'a>
         .value_name("N")
         .value_parser(value_parser!(u32).range(0..=1000))
         .default_value("8")
-        .help("WAITs and changed data per access, 0 to 1000")
+        .help("Retries per access after WAIT or corruption, 0 to 1000")
 }
 
 // How often a run is resumed.
@@ -242,7 +244,7 @@ pub(crate) fn resume_arg<'a>(alloc: Global) -> Arg<'a>
         .value_name("N")
         .value_parser(value_parser!(u32).range(0..=1000))
         .default_value("0")
-        .help("How often a lost call is resumed, 0 to 1000")
+        .help("Resume a call after a lost ACK N times, 0 to 1000")
 }
 
 pub(crate) fn with_arg<'a>(command: Command<'a>, arg: Arg<'a>) -> Result<Command<'a>, AllocError>
