@@ -1,4 +1,4 @@
--- A number with a count of bits, as a list of bits.
+-- Numbers with a count of bits, as lists of bits.
 use Rattle.std.specs.Prelude.{◌^◌, ◌<◌, Bool, List}
 use Rattle.swd_bits.specs.Bits.{low_bits}
 use Rattle.swd_bits.specs.declared.tx_bits.TxBits.{TxBits}

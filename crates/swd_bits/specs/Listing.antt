@@ -12,7 +12,7 @@ use Rattle.swd_bits.specs.declared.tx.Tx.{Tx}
 abbrev pub hex_digit : ℕ → ℕ
 hex_digit d = if nat_lt d 10 then 48 + d else 87 + d
 
--- two digits of a byte, four of a half word, eight of a word
+-- two hexadecimal digits of a byte, and below eight of a word
 unfoldable pub hex2 : ℕ → List ℕ
 hex2 n = hex_digit (n / 16) ∷ hex_digit (n % 16) ∷ []
 

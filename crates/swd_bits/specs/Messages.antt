@@ -1,4 +1,4 @@
--- What is said of a fault of the trace text of one transaction.
+-- The messages of the errors in the trace text of one transaction.
 use Rattle.std.specs.Prelude.{ℕ, List, ◌++◌, codes}
 use Rattle.std.specs.Fmt.{decimal}
 use Rattle.swd_bits.specs.declared.one.OneFault.{OneFault}

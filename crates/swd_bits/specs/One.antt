@@ -1,4 +1,4 @@
--- What is answered to the trace text of one transaction.
+-- The results of reading the trace text of one transaction.
 use Rattle.std.specs.Prelude.{◌≡◌, ℕ, ◌+◌, ◌-◌, ◌^◌, ◌<◌, ◌≤◌, min, Bool, true, false, List, [], ◌∷◌, ◌++◌, length}
 use Rattle.std.specs.Prelude.{take, Option, None, Result, Ok, Err, IsSome, IsSomeAnd, IfSome}
 use Rattle.std.specs.Option.{option_map}
@@ -13,29 +13,29 @@ use Rattle.swd_bits.specs.declared.gathered.Gathered.{Gathered}
 use Rattle.swd_bits.specs.declared.one.OneFault.{OneFault}
 use Rattle.swd_bits.specs.declared.one.OneFault.TheVariants.{BadChar, NotOne, Read, Write}
 
--- the text has the bits of this transaction, and no more
+-- the input has exactly the bits of this transaction
 abbrev pub IsTextOf : Tx → List ℕ → Type 0
 IsTextOf tx text = IsSomeAnd (bits_of_text text) (Spells tx)
 
--- the text has bits, and they are no transaction's
+-- the input is a trace text, and its bits aren't those of one transaction
 abbrev pub IsTextOfNone : List ℕ → Type 0
 IsTextOfNone text = IsSomeAnd (bits_of_text text) (λ bits. (tx : Tx) → Spells tx bits → ⊥)
 
--- the byte at this place is the first that a trace text cannot have there
+-- the byte at this place is the first one that isn't allowed in a trace text
 pub record IsFirstBad (text : List ℕ) (place : ℕ) : Type 0 where
   pub good : IsSome (bits_of_text (take place text))
   pub bad : bits_of_text (take (place + 1) text) ≡ None
 
--- the place that is told is that of the first bad byte, or 2^64 - 1 where that is less
+-- the reported place is that of the first bad byte, saturating at 2^64 - 1
 abbrev pub TellsBad : ℕ → List ℕ → Type 0
 TellsBad told text = (place : ℕ) × (told ≡ min place (2 ^ 64 - 1)) × IsFirstBad text place
 
--- the listing line and its end
+-- the listing line with its line feed
 abbrev pub line : Tx → List ℕ
 line tx = tx_line tx ++ 10 ∷ []
 
--- What an answer says of the reader's text, where its bytes are known, and of what the writer holds
--- before and after.
+-- What a result implies about the reader's input, if its bytes are known, and about what the writer holds before and
+-- after.
 abbrev pub Answers : Result (Unit {0}) OneFault → Option (List ℕ) → Option (List ℕ) → Option (List ℕ) → Type 0
 Answers (Ok u) text old new = (tx : Tx) × IfSome text (IsTextOf tx) × Appends old new (line tx)
 Answers (Err (BadChar told)) text old new = IfSome text (TellsBad told) × Appends old new []
@@ -44,32 +44,32 @@ Answers (Err Read) text old new = Appends old new []
 Answers (Err Write) text old new = (tx : Tx) × (k : ℕ) × (k < length (line tx)) × IfSome text (IsTextOf tx)
     × Appends old new (take k (line tx))
 
--- A text so far has these bits, and ends in a comment or outside, whatever follows.
+-- The input so far has these bits, and ends inside a comment or outside, whatever follows.
 unfoldable pub Reads : List ℕ → List Bool → Bool → Type 0
 Reads seen bits comment = (more : List ℕ)
     → bits_from false (seen ++ more) ≡ option_map (λ rest. bits ++ rest) (bits_from comment more)
 
--- the bits as they are held, or more than any transaction has
+-- the bits are held as they are, or they are more than any transaction has
 abbrev pub IsHeld : Bool → TxBits → List Bool → Type 0
 IsHeld true held bits = (46 ≤ held.len) × (46 < length bits)
 IsHeld false held bits = (held.len ≤ 46) × (bits_of held ≡ bits)
 
--- what is kept of a text so far
+-- what is kept of the input so far
 pub record Gathers (seen : List ℕ) (g : Gathered) : Type 0 where
   pub bits : List Bool
   pub reads : Reads seen bits g.scan
   pub kept : IsHeld g.long g.held bits
 
--- these are the bytes that were taken, and this is what is kept of them
+-- these bytes were taken, and this is kept of them
 pub record HasRead (u : Unit {0}) (g : Gathered × Unit {0}) (seen : List ℕ) : Type 0 where
   pub gathers : Gathers seen g.0
   pub place : g.0.place ≡ min (length seen) (2 ^ 64 - 1)
 
--- whatever follows a text, the place of its first bad byte is told
+-- the reported place is that of the first bad byte, whatever follows the input
 abbrev pub TellsLater : Unit {0} → Gathered × Unit {0} → ℕ → List ℕ → Type 0
 TellsLater u g told text = (more : List ℕ) → TellsBad told (text ++ more)
 
--- what reading to the end gives, where the bytes are known
+-- the result of reading to the end, if the bytes are known
 abbrev pub GathersAll : Result Gathered OneFault → Option (List ℕ) → Type 0
 GathersAll (Ok g) text = IfSome text (λ bytes. Gathers bytes g)
 GathersAll (Err (BadChar told)) text = IfSome text (TellsBad told)

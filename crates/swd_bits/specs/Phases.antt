@@ -1,18 +1,18 @@
--- Data phases as numbers of 33 bits, the first bit least significant: IHI 0031, B4, "Data transfer".
+-- Data phases as numbers of 33 bits, the first in time least significant: IHI 0031, B4, "Data transfer".
 use Rattle.std.specs.Prelude.{ℕ, ◌≡◌, ◌≢◌, ◌<◌, ◌+◌, ◌*◌, ◌%◌, ◌^◌, ◌==◌, Option, Some, None}
 use Rattle.std.specs.Prelude.{if◌then◌else◌, count_ones}
 use Rattle.swd_bits.specs.Bits.{low_bits}
 use Rattle.swd_bits.specs.Wire.{phase}
 
--- the phase of a word: the word, and above it its parity, 1 where the word has an odd number of ones
+-- the phase of a word: the word, and above it its parity, 1 if the word has an odd number of ones
 abbrev pub phase_number : ℕ → ℕ
 phase_number word = count_ones word % 2 * 2 ^ 32 + word
 
--- the word of a phase, where its parity is right: the 33 bits have an even number of ones
+-- the word of a phase, if its parity is right: the 33 bits have an even number of ones
 abbrev pub word_in : ℕ → Option ℕ
 word_in sent = if count_ones sent % 2 == 0 then Some (sent % 2 ^ 32) else None
 
--- 33 bits that are the phase of this word, and 33 bits that are no word's phase
+-- 33 bits that are the phase of this word, and below 33 bits that aren't the phase of a word
 abbrev pub IsPhaseOf : ℕ → ℕ → Type 0
 IsPhaseOf word bits = phase word ≡ low_bits 33 bits
 

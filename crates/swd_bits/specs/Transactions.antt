@@ -7,7 +7,7 @@ use Rattle.swd_bits.specs.declared.tx.TxEnd.{TxEnd}
 use Rattle.swd_bits.specs.declared.tx.TxEnd.TheVariants.{Moved, Wait, Fault, NoAck}
 use Rattle.swd_bits.specs.declared.tx.Tx.{Tx}
 
--- the word's bits, and its parity, or where it is wrong the other bit
+-- the word's bits, and its parity, inverted unless `ok`
 unfoldable pub phase_with : ℕ → Bool → List Bool
 phase_with word ok = low_bits 32 word ++ (if ok then odd (low_bits 32 word) else not (odd (low_bits 32 word))) ∷ []
 
@@ -23,14 +23,14 @@ head Wait = ack AckWait
 head Fault = ack AckFault
 head (NoAck seen) = low_bits 3 seen
 
--- what follows them
+-- the bits after the acknowledgement
 abbrev pub tail : Bool → TxEnd → Bool → List Bool
 tail read (Moved word ok) t = moved read t (phase_with word ok)
 tail read Wait t = t ∷ []
 tail read Fault t = t ∷ []
 tail read (NoAck seen) t = []
 
--- what follows the first turnaround
+-- the bits after the first turnaround
 abbrev pub ending : Bool → TxEnd → Bool → List Bool
 ending read end t = head end ++ tail read end t
 
@@ -38,7 +38,7 @@ ending read end t = head end ++ tail read end t
 abbrev pub spelling : Tx → Bool → Bool → List Bool
 spelling tx t u = request tx.request ++ t ∷ ending tx.request.read tx.result u
 
--- a word has 32 bits, and a number that is no acknowledgement is one of five
+-- a word has 32 bits, and three bits that aren't an acknowledgement are one of five numbers
 abbrev pub IsEnd : TxEnd → Type 0
 IsEnd (Moved word ok) = word < 2 ^ 32
 IsEnd Wait = Unit {0}
@@ -48,11 +48,11 @@ IsEnd (NoAck seen) = (seen ≡ 0) ⊎ (seen ≡ 3) ⊎ (seen ≡ 5) ⊎ (seen �
 abbrev pub IsTx : Tx → Type 0
 IsTx tx = IsEnd tx.result
 
--- these bits are the transaction
+-- these bits are this transaction
 abbrev pub Spells : Tx → List Bool → Type 0
 Spells tx bits = IsTx tx × (t : Bool) × (u : Bool) × (bits ≡ spelling tx t u)
 
--- the end is a word moved, with these bits
+-- the end moved a word, with these bits
 abbrev pub HasMoved : Bool → TxEnd → List Bool → Type 0
 HasMoved read (Moved word ok) bits = (word < 2 ^ 32) × (u : Bool) × (bits ≡ moved read u (phase_with word ok))
 HasMoved read Wait bits = ⊥

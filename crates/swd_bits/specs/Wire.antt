@@ -1,4 +1,4 @@
--- What goes over the wire: requests, acknowledgements and data phases, as bits in time order.
+-- Requests, acknowledgements and data phases on the wire, as bits in time order.
 use Rattle.std.specs.Prelude.{ℕ, Bool, true, false, List, [], ◌∷◌, ◌++◌, ◌==◌, if◌then◌else◌}
 use Rattle.swd_bits.specs.Bits.{low_bits, odd}
 use Rattle.swd_bits.specs.declared.request.Request.{Request}
@@ -29,7 +29,7 @@ ack Ok = true ∷ false ∷ false ∷ []
 ack Wait = false ∷ true ∷ false ∷ []
 ack Fault = false ∷ false ∷ true ∷ []
 
--- the same three bits as a number, the first bit least significant
+-- the same three bits as a number, the first in time least significant
 abbrev pub ack_number : Ack → ℕ
 ack_number Ok = 1
 ack_number Wait = 2

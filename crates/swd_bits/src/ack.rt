@@ -1,4 +1,4 @@
-//! Acknowledgements: the three bits by which a target answers a request.
+//! Acknowledgements: the three bits with which a target answers a request.
 ghost use Rattle.std.specs.Prelude.{◌≡◌, ◌≢◌, ◌<◌, IfSome, IfNone};
 ghost use Rattle.swd_bits.specs.Bits.{low_bits};
 ghost use Rattle.swd_bits.specs.Wire.{ack, ack_number};
@@ -9,17 +9,17 @@ use std::fmt;
 /// An acknowledgement (IHI 0031, B4, "Acknowledge response").
 #[derive(Clone, Copy, Debug, PartialEq, Eq)]
 pub enum Ack {
-    /// The transfer goes on.
+    /// The request is accepted: its data phase follows.
     Ok,
-    /// Not now: ask again.
+    /// The target is busy: the request may be sent again.
     Wait,
     /// A sticky flag is set.
     Fault,
 }
 
 impl Ack {
-    /// The acknowledgement whose three bits were seen as this number, the first bit in time least
-    /// significant: 1 is OK, 2 is WAIT, 4 is FAULT. `None` for the other five.
+    /// Returns the acknowledgement with these three bits, the first in time least significant: 1 is OK, 2 is WAIT, 4 is
+    /// FAULT. Returns `None` for the other five numbers.
     #[inline(always)]
     pub fn of(seen: u8) -> Option<Ack>
         requires { seen < 8 }
@@ -35,7 +35,7 @@ impl Ack {
         }
     }
 
-    /// Its three bits as a number, the first bit in time least significant: OK is 1, WAIT is 2, FAULT is 4.
+    /// Returns its three bits, the first in time least significant: OK is 1, WAIT is 2, FAULT is 4.
     #[inline(always)]
     pub fn bits(self) -> u8
         ensures number { result ≡ ack_number self }
@@ -49,7 +49,7 @@ impl Ack {
     }
 }
 
-/// As the standard names it: `OK`, `WAIT` or `FAULT`.
+/// Writes the name in the standard: `OK`, `WAIT` or `FAULT`.
 impl fmt::Display for Ack {
     fn fmt<W: fmt::Write>(&self, f: &mut fmt::Formatter<W>) -> fmt::Result {
         f.write_str(match self {

@@ -4,9 +4,8 @@ ghost use Rattle.swd_bits.specs.Bits.{low_bits};
 ghost use Rattle.swd_bits.specs.Wire.{phase};
 ghost use Rattle.swd_bits.specs.Phases.{phase_number, word_in};
 
-/// The 33 bits of a data phase (IHI 0031, B4, "Data transfer"), the first bit least significant:
-/// the word, least significant bit first, then its parity, 1 where the word has an odd number of
-/// ones.
+/// Returns the 33 bits of a word's data phase (IHI 0031, B4, "Data transfer"), the first in time least significant.
+/// They are the word, least significant bit first, and its parity, 1 if the word has an odd number of ones.
 pub fn data_bits(word: u32) -> u64
     ensures bound { result < 2 ^ 33 }
     ensures bits { low_bits 33 result ≡ phase word }
@@ -16,8 +15,7 @@ pub fn data_bits(word: u32) -> u64
     parity << 32 | u64::from(word)
 }
 
-/// The word of a data phase of 33 bits, the first bit least significant. `None` where the parity
-/// is wrong.
+/// Returns the word of a data phase of 33 bits, the first in time least significant, or `None` if the parity is wrong.
 pub fn word_of(sent: u64) -> Option<u32>
     requires { sent < 2 ^ 33 }
     ensures found { IfSome result (λ word. phase word ≡ low_bits 33 sent) }

@@ -1,4 +1,4 @@
-//! The bits of a trace text, as far as one transaction has bits.
+//! The bits of a trace text, up to the length of one transaction.
 ghost use Rattle.std.specs.Prelude.{◌≡◌, ◌≤◌};
 ghost use Rattle.swd_bits.specs.BitLists.{IsSpelled};
 
@@ -7,13 +7,13 @@ use crate::tx::MOVED_BITS;
 use crate::tx_bits::TxBits;
 use swd_io::Consumer;
 
-// The bits of a text so far, where they are no more than a transaction has.
+// The bits of the input so far, up to the length of a transaction.
 #[derive(Clone, Copy)]
 pub(crate) struct Gathered {
     pub(crate) scan: Scan,
     pub(crate) held: TxBits,
     pub(crate) long: bool,
-    // How many bytes were taken, at most 2^64 - 1.
+    // The number of bytes taken, saturating at 2^64 - 1.
     place: u64,
     ghost whole: { IsSpelled held },
     ghost short: { held.len ≤ 46 },
@@ -34,7 +34,7 @@ impl Gathered {
         }
     }
 
-    // Takes a byte, or says that it cannot stand here.
+    // Takes a byte. Returns false if the byte isn't allowed here.
     pub(crate) fn byte(&mut self, byte: u8) -> bool
         ensures good { IsTrue result → (seen : List ℕ) → Gathers seen self.old → Gathers (seen ++ byte ∷ []) self.new }
         ensures place { self.new.place ≡ self.old.place }
@@ -61,7 +61,7 @@ impl Consumer<()> for Gathered {
     ghost use Rattle.swd_io.proofs.PieceLemmas.{leads_nowhere, leads_further, leads_to_later_end};
     ghost use Rattle.swd_bits.specs.One.{HasRead, TellsLater};
 
-    // The place of the first byte that cannot stand there, at most 2^64 - 1.
+    // The place of the first byte that isn't allowed, saturating at 2^64 - 1.
     type Fault = u64;
 
     ghost can_take = { λ _. Unit {0} };

@@ -1,7 +1,7 @@
-//! The bits of the Serial Wire Debug line: packet requests, acknowledgements, data phases and whole
-//! transactions, each as bits in time order, and the trace text and listing line of one transaction.
+//! The bits of Serial Wire Debug: packet requests, acknowledgements, data phases and whole transactions, each as bits
+//! in time order, and the trace text and listing line of one transaction.
 //!
-//! Everything here is a plain value or a total function. Nothing takes memory.
+//! Everything here is a plain value or a total function. Nothing allocates.
 #![tactic(auto)]
 
 mod ack;

@@ -9,10 +9,10 @@ use crate::tx::{Tx, TxEnd};
 use arrayvec::ArrayString;
 use std::fmt;
 
-/// The most bytes of a transaction's listing line, without its end.
+/// The maximum length of a transaction's listing line in bytes, without its line feed.
 pub const LONGEST_TX_LINE: usize = 32;
 
-/// The listing line of a transaction, with room for its end.
+/// The listing line of a transaction, with room for a line feed.
 pub type TxLine = ArrayString<40>;
 
 fn digit_text(digit: u8) -> &'static str
@@ -49,7 +49,7 @@ fn push_byte<const N: usize>(text: &mut ArrayString<N>, byte: u8)
     text.push_str(digit_text(byte % 16));
 }
 
-/// Adds the eight lower-case hexadecimal digits of a word.
+/// Appends the eight lower-case hexadecimal digits of a word.
 #[tactic(auto, unfolding(crate::specs::Listing::hex8))]
 pub fn push_word<const N: usize>(text: &mut ArrayString<N>, word: u32)
     requires { array_string_len text.old + 8 ≤ N }
@@ -72,10 +72,10 @@ fn push_count<const N: usize>(text: &mut ArrayString<N>, n: u8)
 }
 
 impl Tx {
-    /// The listing line of the transaction, without its end: `PORT A DIR RESULT`, as in
+    /// Returns the listing line of the transaction, without its line feed: `PORT A DIR RESULT`, as in
     /// `dp 0 read ok 2ba01477` or `ap c write none 7`.
     ///
-    /// `Display` gives the same text. This call can't fail, and a contract knows its bytes.
+    /// `Display` writes the same bytes. This call can't fail, and its contract states the bytes.
     pub fn line(&self) -> TxLine
         ensures bytes { result.bytes ≡ tx_line self.now }
         ensures len { array_string_len result ≤ LONGEST_TX_LINE }
@@ -85,7 +85,7 @@ impl Tx {
         text
     }
 
-    /// Adds that line to a text.
+    /// Appends that line to a string.
     pub fn push_line<const N: usize>(&self, text: &mut ArrayString<N>)
         requires { array_string_len text.old + LONGEST_TX_LINE ≤ N }
         ensures bytes { text.new.bytes ≡ text.old.bytes ++ tx_line self.now }

@@ -1,4 +1,4 @@
-//! What is said of a fault of the trace text of one transaction.
+//! The messages of the errors in the trace text of one transaction.
 ghost use Rattle.std.specs.Prelude.{Some};
 ghost use Rattle.swd_bits.specs.Messages.{message as message_of};
 

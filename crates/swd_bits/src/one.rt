@@ -6,21 +6,20 @@ use crate::tx::Tx;
 use std::io::{Read, Write};
 use swd_io::{Unread, read_pieces, send};
 
-/// Why a trace text has no listing line.
+/// The error of a trace text that isn't listed as one transaction.
 #[derive(Clone, Copy, Debug, PartialEq, Eq)]
 pub enum OneFault {
-    /// The byte at `place`, counted from 0, cannot stand in a trace text. A place above 2^64 - 1
-    /// is told as 2^64 - 1.
+    /// The byte at `place`, counted from 0, isn't allowed in a trace text. `place` saturates at 2^64 - 1.
     BadChar { place: u64 },
-    /// The bits are no transaction, or more than one has.
+    /// The bits aren't one whole transaction.
     NotOne,
     /// The reader failed.
     Read,
-    /// The writer failed, or took no bytes.
+    /// The writer failed, or accepted no bytes.
     Write,
 }
 
-// Gathers the bits of the whole text.
+// Gathers the bits of the whole input.
 fn gather<R: Read>(reader: &mut R) -> Result<Gathered, OneFault>
     ensures { GathersAll result (R.remaining reader.old) }
 {
@@ -32,12 +31,13 @@ fn gather<R: Read>(reader: &mut R) -> Result<Gathered, OneFault>
     }
 }
 
-/// Reads a trace text that holds the bits of one transaction, and writes its listing line and a
-/// line feed.
+/// Reads the trace text of one transaction, and writes its listing line and a line feed.
 ///
-/// The first fault that is met is answered, and `NotOne` only once the whole text was read. On
-/// `Write` a beginning of the line went out; on every other fault nothing did. Neither a failed
-/// read nor a failed write is tried again. After 2^64 - 1 reads the answer is `Read`.
+/// # Errors
+///
+/// Returns `BadChar` for the first byte that isn't allowed, `NotOne` if the whole input isn't one transaction, and
+/// `Read` or `Write` if I/O fails. On `Write` a proper prefix of the line was written; on any other error nothing was.
+/// A failed read or write isn't retried. After 2^64 - 1 reads the error is `Read`.
 pub fn one_text<R: Read, W: Write>(reader: &mut R, writer: &mut W) -> Result<(), OneFault>
     ensures { Answers result (R.remaining reader.old) (W.contents writer.old) (W.contents writer.new) }
 {

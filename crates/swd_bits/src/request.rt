@@ -1,4 +1,4 @@
-//! Packet requests: the eight bits by which a host asks for a transfer.
+//! Packet requests: the eight bits with which a host requests a transfer.
 ghost use Rattle.std.specs.Prelude.{◌≡◌, ◌≢◌, ◌<◌, IfSome, IfNone};
 ghost use Rattle.swd_bits.specs.Bits.{low_bits};
 ghost use Rattle.swd_bits.specs.Wire.{request, reg4_of};
@@ -20,16 +20,16 @@ pub enum Reg4 {
 /// A packet request (IHI 0031, B4, "Packet request").
 #[derive(Clone, Copy, Debug, PartialEq, Eq)]
 pub struct Request {
-    /// APnDP: the access port and not the debug port.
+    /// APnDP: whether the request is for the access port, not the debug port.
     pub ap: bool,
-    /// RnW: a read and not a write.
+    /// RnW: whether it is a read, not a write.
     pub read: bool,
     /// A[3:2].
     pub addr: Reg4,
 }
 
 impl Reg4 {
-    // The register with the address bits A[3:2].
+    // Returns the register with the address bits A[3:2].
     #[inline(always)]
     fn of(code: u8) -> Reg4
         requires { code < 4 }
@@ -45,8 +45,7 @@ impl Reg4 {
 }
 
 impl Request {
-    /// The eight bits in time order, the first bit least significant:
-    /// Start, APnDP, RnW, A[2], A[3], Parity, Stop, Park.
+    /// Returns the eight bits, the first in time least significant: Start, APnDP, RnW, A[2], A[3], Parity, Stop, Park.
     #[inline(always)]
     pub fn bits(&self) -> u8
         ensures { low_bits 8 result ≡ request self.now }
@@ -56,8 +55,8 @@ impl Request {
         0x81 | asked << 1 | parity << 5
     }
 
-    /// The request with these eight bits, the first bit least significant. `None` where they are
-    /// none: a wrong Start, Parity, Stop or Park bit. Sixteen of the 256 values are requests.
+    /// Returns the request with these eight bits, the first in time least significant, or `None` if Start, Parity, Stop
+    /// or Park is wrong. Sixteen of the 256 values are requests.
     #[inline(always)]
     pub fn of(byte: u8) -> Option<Request>
         ensures found { IfSome result (λ q. request q ≡ low_bits 8 byte) }

@@ -1,24 +1,24 @@
-//! Trace texts, a byte at a time.
+//! A scanner of trace text, byte by byte.
 ghost use Rattle.std.specs.Prelude.{◌≡◌, Bool, false};
 ghost use Rattle.swd_bits.specs.TraceText.{sign_of, comment_after};
 
 use std::marker::Model;
 
-/// What a byte of a trace text is.
+/// The meaning of a byte of a trace text.
 #[derive(Clone, Copy, Debug, PartialEq, Eq)]
 pub enum Sign {
     /// `0` or `1`: a bit.
     Bit(bool),
     /// A space, a tab, a carriage return, a line feed, or part of a comment.
     Passed,
-    /// A byte that cannot stand outside a comment.
+    /// A byte that isn't allowed outside a comment.
     Bad,
 }
 
-/// A trace text as far as it was read: what matters is whether a comment is open.
+/// A scanner of trace text. Its only state is whether a comment is open.
 ///
-/// A trace text has a character `0` or `1` for each bit, in time order. Blanks and line ends are
-/// passed over, and so is everything from `#` up to the next line feed.
+/// A trace text has a character `0` or `1` for each bit, in time order. Spaces, tabs, carriage returns and line feeds
+/// are skipped, and so is everything from `#` up to the next line feed.
 #[derive(Clone, Copy, Debug, PartialEq, Eq)]
 pub struct Scan {
     comment: bool,
@@ -33,7 +33,7 @@ impl Model for Scan {
 }
 
 impl Scan {
-    /// The beginning of a text.
+    /// Creates a scanner at the start of the input.
     #[inline]
     pub fn new() -> Scan
         ensures { result ≡ false }
@@ -41,7 +41,7 @@ impl Scan {
         Scan { comment: false }
     }
 
-    /// Whether a comment is open.
+    /// Returns whether a comment is open.
     #[inline]
     pub fn in_comment(&self) -> bool
         ensures { result ≡ self.now }
@@ -49,7 +49,7 @@ impl Scan {
         self.comment
     }
 
-    /// What the next byte is. After `Bad` the scan is as before.
+    /// Takes the next byte, and returns its meaning. After `Bad` the scanner is unchanged.
     #[inline]
     pub fn byte(&mut self, byte: u8) -> Sign
         ensures sign { result ≡ sign_of self.old byte }
@@ -60,7 +60,7 @@ impl Scan {
             return Sign::Passed;
         }
         match byte {
-            // One arm, so that no branch hangs on a bit, which can't be foreseen.
+            // One arm: the branch predictor can't predict a bit.
             b'0' | b'1' => Sign::Bit(byte == b'1'),
             b' ' | b'\t' | b'\r' | b'\n' => Sign::Passed,
             b'#' => {

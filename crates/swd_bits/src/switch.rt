@@ -4,5 +4,5 @@
 /// from JTAG to SWD").
 pub const SWITCH: u64 = 0xe79e;
 
-/// How many bits a switch has.
+/// The number of bits of a switch.
 pub const SWITCH_BITS: u8 = 16;

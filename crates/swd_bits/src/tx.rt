@@ -10,16 +10,16 @@ use crate::ack::Ack;
 use crate::request::Request;
 use crate::tx_bits::TxBits;
 
-/// How many bits a transaction has that moved a word, turnarounds among them.
+/// The number of bits of a transaction that moved a word, including turnarounds.
 pub const MOVED_BITS: u8 = 46;
 
-/// How many bits a transaction has that was answered WAIT or FAULT.
+/// The number of bits of a transaction that was answered WAIT or FAULT, including turnarounds.
 pub const REFUSED_BITS: u8 = 13;
 
-/// How many bits a transaction has that was not acknowledged.
+/// The number of bits of a transaction without an acknowledgement, including the turnaround.
 pub const UNACKNOWLEDGED_BITS: u8 = 12;
 
-/// How a transaction ends.
+/// The end of a transaction.
 #[derive(Clone, Copy, Debug, PartialEq, Eq)]
 pub enum TxEnd {
     /// OK, and a data phase with this word, whose parity bit is right or wrong.
@@ -28,8 +28,8 @@ pub enum TxEnd {
     Wait,
     /// FAULT.
     Fault,
-    /// Three bits that are no acknowledgement, as a number with the first in time least
-    /// significant: 0, 3, 5, 6 or 7. A target that isn't there leaves the line high, which is 7.
+    /// Three bits that aren't an acknowledgement, the first in time least significant: 0, 3, 5, 6 or 7. Without a
+    /// target the line reads high, which is 7.
     NoAck(u8),
 }
 
@@ -43,8 +43,7 @@ pub struct Tx {
 }
 
 impl Tx {
-    /// The transaction's bits on the wire: 46, 13 or 12. Turnarounds, in which nobody drives the
-    /// line, are written as 1.
+    /// Returns the transaction's 46, 13 or 12 bits in time order. Turnarounds, in which nobody drives the line, are 1.
     pub fn bits(&self) -> TxBits
         requires { IsTx self.now }
         ensures whole { IsSpelled result }
@@ -59,7 +58,8 @@ impl Tx {
         turned.then(ending_of(self.request.read, self.result))
     }
 
-    /// The transaction that these bits are, all of them together, with turnarounds of any value.
+    /// Returns the transaction that has exactly these bits, with turnarounds of any value, or `None` if there isn't
+    /// one.
     #[inline(always)]
     pub fn of(spelled: TxBits) -> Option<Tx>
         requires whole { IsSpelled spelled }
@@ -84,7 +84,7 @@ impl Tx {
     }
 }
 
-// A data phase: the word and its parity, or the other bit where that is to be wrong.
+// Returns the bits of a data phase: the word, and its parity, inverted unless `parity_ok`.
 fn phase_of(word: u32, parity_ok: bool) -> TxBits
     ensures whole { IsSpelled result }
     ensures len { result.len ≡ 33 }
@@ -99,7 +99,7 @@ fn phase_of(word: u32, parity_ok: bool) -> TxBits
 }
 
 #[tactic(auto, unfolding(crate::specs::Bits::low_bits))]
-// What follows the first turnaround.
+// Returns the bits after the first turnaround.
 fn ending_of(read: bool, end: TxEnd) -> TxBits
     requires { IsEnd end }
     ensures whole { IsSpelled result }
@@ -128,7 +128,7 @@ fn ending_of(read: bool, end: TxEnd) -> TxBits
     }
 }
 
-// A word, and whether the parity after it is right.
+// Returns the word of a data phase, and whether its parity is right.
 #[inline(always)]
 fn phase_in(phase: TxBits) -> (u32, bool)
     requires whole { IsSpelled phase }
@@ -143,14 +143,14 @@ fn phase_in(phase: TxBits) -> (u32, bool)
     (word, if parity == 1 { odd } else { !odd })
 }
 
-// The data phase of a read or a write.
+// Reads the data phase of a read or a write.
 #[inline(always)]
 fn moved_of(read: bool, rest: TxBits) -> TxEnd
     requires whole { IsSpelled rest }
     requires len { rest.len ≡ 34 }
     ensures { HasMoved read result (bits_of rest) }
 {
-    // No branch: whether a transaction reads can't be foreseen.
+    // No branch: the branch predictor can't predict whether a transaction is a read or a write.
     let (_, phase) = rest.split(u8::from(!read));
     let (phase, _) = phase.split(33);
     let (word, parity_ok) = phase_in(TxBits {
@@ -160,7 +160,7 @@ fn moved_of(read: bool, rest: TxBits) -> TxEnd
     TxEnd::Moved { word, parity_ok }
 }
 
-// What the three bits and those after them say.
+// Reads the end of a transaction from the three bits and those after them.
 #[inline(always)]
 fn end_of(read: bool, seen: u8, rest: TxBits) -> Option<TxEnd>
     requires seen { seen < 8 }
@@ -203,8 +203,8 @@ fn end_of(read: bool, seen: u8, rest: TxBits) -> Option<TxEnd>
     }
 }
 
-/// The bits of a transaction begin the bits of no other, and no two transactions have the same
-/// bits: so a list of bits has at most one transaction at its front.
+/// States that no transaction's bits are a proper prefix of another's, and that no two transactions have the same bits.
+/// So a list of bits starts with at most one transaction.
 pub fn transactions_are_told_apart()
     ensures front { (a b : Tx) (bits more : List Bool) → Spells a bits → Spells b (bits ++ more) → more ≡ [] }
     ensures one { (a b : Tx) (bits : List Bool) → Spells a bits → Spells b bits → a ≡ b }

@@ -3,8 +3,8 @@ ghost use Rattle.std.specs.Prelude.{◌≡◌, ◌+◌, ◌-◌, ◌^◌, ◌<�
 ghost use Rattle.swd_bits.specs.Bits.{low_bits};
 ghost use Rattle.swd_bits.specs.BitLists.{bits_of, IsSpelled};
 
-/// Bits in time order: the lowest `len` bits of `bits`, the first in time least significant, and
-/// no bit set above them. A transaction has 46, 13 or 12.
+/// Bits in time order: the lowest `len` bits of `bits`, the first in time least significant. No bit is set above them.
+/// A transaction has 46, 13 or 12.
 #[derive(Clone, Copy, Debug, PartialEq, Eq)]
 pub struct TxBits {
     pub len: u8,
@@ -12,7 +12,7 @@ pub struct TxBits {
 }
 
 impl TxBits {
-    // One bit.
+    // Returns one bit.
     pub(crate) fn one(bit: bool) -> TxBits
         ensures whole { IsSpelled result }
         ensures len { result.len ≡ 1 }
@@ -24,7 +24,7 @@ impl TxBits {
         }
     }
 
-    // These bits, and then those.
+    // Appends `more` to these bits.
     pub(crate) fn then(self, more: TxBits) -> TxBits
         requires whole { IsSpelled self }
         requires small { IsSpelled more }
@@ -39,7 +39,7 @@ impl TxBits {
         }
     }
 
-    // The first `len` bits as a number, and the bits after them.
+    // Returns the first `len` bits as a number, and the bits after them.
     #[inline(always)]
     pub(crate) fn split(self, len: u8) -> (u64, TxBits)
         requires whole { IsSpelled self }

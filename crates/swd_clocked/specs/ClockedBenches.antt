@@ -1,4 +1,5 @@
--- A clocked bench as a port machine with a plan, and as a simulated target. All of it is this project's choice.
+-- A clocked bench as a state of the port model with a plan, and as a simulated target. All of it is this project's
+-- choice.
 use Rattle.std.specs.Prelude.{ℕ, ◌+◌, List, take, Bool}
 use Rattle.swd_port.specs.declared.cue.Cue.{Cue}
 use Rattle.swd_port.specs.declared.cue.Cue.TheVariants.{Lead, Ask, Take, Give, Pass}
@@ -19,11 +20,11 @@ use Rattle.swd_clocked.specs.Rests.{line_at}
 abbrev pub link_of : {A : Type 0} → ClockedBench A → Link
 link_of b = record { due = b.due; line = line_at b.marked.value.clocked.frame (flip_of b.marked.value.mark) }
 
--- its numbers of requests
+-- its counts of requests
 abbrev pub tally_of : {A : Type 0} → ClockedBench A → Tally
 tally_of b = marked.tally_of b.marked.value
 
--- the state of the port machine
+-- the state of the port model
 abbrev pub port_of : {A : Type 0} → ClockedBench A → Port
 port_of b = port_at (link_of b) (tally_of b) (marked.state_of b.marked.value)
 
@@ -35,7 +36,7 @@ simulation_of b = marked.simulation_of b.marked.value
 abbrev pub plan_of : {A : Type 0} → ClockedBench A → List Mark
 plan_of b = marked.plan_of b.marked.value
 
--- the marks of its requests so far, as far as its plan goes
+-- the marks of its requests so far, up to the end of its plan
 abbrev pub marks_so_far : {A : Type 0} → ClockedBench A → List Mark
 marks_so_far b = take (tally_of b).asked (plan_of b)
 
@@ -43,23 +44,23 @@ marks_so_far b = take (tally_of b).asked (plan_of b)
 abbrev pub next_mark : {A : Type 0} → ClockedBench A → Mark
 next_mark b = plans.mark_next b.marked.value.plan
 
--- what it chooses when a transfer takes effect
+-- its choice when a transfer takes effect
 abbrev pub choice_of : {A : Type 0} → ClockedBench A → Choice
 choice_of b = choice_for DrwRead b.marked.value.clocked.target
 
--- its cycles so far
+-- the number of its cycles so far
 abbrev pub cycles_of : {A : Type 0} → ClockedBench A → ℕ
 cycles_of b = marked.cycles_of b.marked.value
 
--- its contended cycles so far
+-- the number of its contended cycles so far
 abbrev pub contended_of : {A : Type 0} → ClockedBench A → ℕ
 contended_of b = marked.contended_of b.marked.value
 
--- the cycles of ones and zeros, with the switch or without
+-- the number of cycles of ones and zeros, with the switch or without
 abbrev pub lead_cycles : ℕ → Bool → ℕ → ℕ
 lead_cycles ones switch zeros = reset_cycles ones switch + zeros
 
--- the cycles of a cue: those of a request with its turnaround and acknowledgement, of a data phase with its turnaround
+-- the number of cycles of a cue: a request with its turnaround and acknowledgement, a data phase with its turnaround
 abbrev pub cycles_by : Cue → ℕ
 cycles_by (Lead ones undriven switch zeros) = lead_cycles ones switch zeros
 cycles_by (Ask q) = 12

@@ -12,14 +12,14 @@ use Rattle.swd_clocked.specs.declared.clocked.Clocked.{Clocked}
 use Rattle.swd_clocked.specs.Cycles.{Cycles, Moved}
 use Rattle.swd_clocked.specs.Frames.{risen}
 
--- the state of the port machine, in which a word may be unknown, and the same as a simulated target
+-- the state of the port model, in which a word may be unknown, and below the simulated target
 abbrev pub state_of : {A : Type 0} → Clocked A → State
 state_of c = target.state_of c.target
 
 abbrev pub simulation_of : {A : Type 0} → Clocked A → Simulation
 simulation_of c = target.simulation c.target
 
--- how it chooses
+-- its choices
 abbrev pub quirks_of : {A : Type 0} → Clocked A → Quirks
 quirks_of c = c.target.quirks
 
@@ -31,7 +31,7 @@ memory_of c = c.target.memory
 abbrev pub over : {A : Type 0} → PlainMemory → Clocked A → Clocked A
 over m c = record c { target = elsewhere.over m c.target }
 
--- what it is doing
+-- its frame
 abbrev pub frame_in : {A : Type 0} → Clocked A → Frame
 frame_in c = c.frame
 
@@ -39,29 +39,29 @@ frame_in c = c.frame
 abbrev pub is_held : {A : Type 0} → Clocked A → Bool
 is_held c = c.waits
 
--- its cycles so far
+-- the number of its cycles so far
 abbrev pub cycles_of : {A : Type 0} → Clocked A → ℕ
 cycles_of c = c.cycles
 
--- its contended cycles so far: those that the host drove where it was to leave the line alone
+-- the number of its contended cycles so far: those that the host drove where it should release the line
 abbrev pub contended_of : {A : Type 0} → Clocked A → ℕ
 contended_of c = c.contended.ticks
 
--- one cycle, with the bit that the host drives, or none: an undriven line reads 1
+-- one cycle, with the bit that the host drives, if any: an undriven line reads 1
 abbrev pub Clocks : {A : Type 0} → Option Bool → Bool → Clocked A → Clocked A → Type 0
 Clocks drive answer s t = Cycles s.frame (unwrap_or drive true) answer s.target s.waits t
 
--- nothing but what is held changed
+-- only whether WAIT is held changed
 abbrev pub Holds : {A : Type 0} → Bool → Clocked A → Clocked A → Type 0
 Holds w s t = Moved s.frame s.target w t
 
--- the pending transfer took effect, and nothing else changed
+-- the pending transfer, if any, took effect, and nothing else changed
 pub record Settles {A : Type 0} (s t : Clocked A) : Type 0 where
   pub target : target.Steps completion_of s.target t.target
   pub frame : t.frame ≡ s.frame
   pub waits : t.waits ≡ s.waits
 
--- ones went by: the line reset that they lead to is the same
+-- ones passed: they lead to the same line reset
 pub record Rises {A : Type 0} (s t : Clocked A) : Type 0 where
   pub state : risen t.frame (state_of t) ≡ risen s.frame (state_of s)
   pub exact : stepped (λ c. risen t.frame) (simulation_of t) ≡ stepped (λ c. risen s.frame) (simulation_of s)

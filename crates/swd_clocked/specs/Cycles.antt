@@ -19,7 +19,7 @@ use Rattle.swd_clocked.specs.Frames.{idle, shifted, frame_of, frame_replied, fra
 use Rattle.swd_clocked.specs.Frames.{switch_bit}
 use Rattle.swd_clocked.specs.Frames.{ones_at_end, unswitched}
 
--- Each relation below is between the target and what is held before, and the clocked target after.
+-- Each relation below is between the target, and whether WAIT is held, before, and the clocked target after.
 
 -- only the frame changed
 pub record Moved {A : Type 0} (f : Frame) (s : Target A) (w : Bool) (t : Clocked A) : Type 0 where
@@ -27,7 +27,7 @@ pub record Moved {A : Type 0} (f : Frame) (s : Target A) (w : Bool) (t : Clocked
   pub target : t.target ≡ s
   pub waits : t.waits ≡ w
 
--- a request came, and its reply begins
+-- a request came, and its reply starts
 pub record Requested {A : Type 0} (q : Request) (s : Target A) (w : Bool) (t : Clocked A) : Type 0 where
   pub reply : Reply
   pub phase : Line
@@ -35,20 +35,20 @@ pub record Requested {A : Type 0} (q : Request) (s : Target A) (w : Bool) (t : C
   pub frame : t.frame ≡ frame_replied reply phase
   pub waits : t.waits ≡ w
 
--- a request was sent, and its reply seen
+-- a request was sent, and its reply was seen
 pub record Seen {A : Type 0} (q : Request) (a : Reply) (s : Target A) (w : Bool) (t : Clocked A) : Type 0 where
   pub phase : Line
   pub answers : Answers w q s a phase t.target
   pub frame : t.frame ≡ frame_seen a phase
   pub waits : t.waits ≡ w
 
--- Eight bits came that begin with Start. Where they are no request, fifty ones are awaited, of which their last bits
--- may be the first.
+-- Eight bits came that begin with Start. If they aren't a request, fifty ones are awaited, to which their last bits may
+-- count.
 pub record ByteCame {A : Type 0} (byte : ℕ) (s : Target A) (w : Bool) (t : Clocked A) : Type 0 where
   pub whole : (q : Request) → request q ≡ low_bits 8 byte → Requested q s w t
   pub broken : ((q : Request) → request q ≢ low_bits 8 byte) → Moved (Lost (ones_at_end byte)) s w t
 
--- a bit where a request is awaited, of which so many bits came: a zero in place of Start is idle
+-- a bit where a request is awaited, of which `count` bits came: a zero instead of Start is idle
 pub record AsksBit {A : Type 0} (bits count : ℕ) (b : Bool) (s : Target A) (w : Bool) (t : Clocked A) : Type 0 where
   pub quiet : count ≡ 0 → b ≡ false → Moved idle s w t
   pub more : count < 7 → (count ≡ 0 → b ≡ true) → Moved (Asks (shifted 128 bits b) (count + 1)) s w t
@@ -60,20 +60,20 @@ pub record ResetCame {A : Type 0} (s : Target A) (w : Bool) (t : Clocked A) : Ty
   pub frame : t.frame ≡ High
   pub waits : t.waits ≡ w
 
--- a bit where fifty ones are awaited, of which so many came
+-- a bit where fifty ones are awaited, of which `ones` came
 pub record LostBit {A : Type 0} (ones : ℕ) (b : Bool) (s : Target A) (w : Bool) (t : Clocked A) : Type 0 where
   pub low : b ≡ false → Moved (Lost 0) s w t
   pub more : ones < 49 → b ≡ true → Moved (Lost (ones + 1)) s w t
   pub whole : ones ≡ 49 → b ≡ true → ResetCame s w t
 
--- a bit heard in a frame that drives nothing
+-- a bit taken in a frame that drives nothing
 abbrev pub HeardBit : {A : Type 0} → Frame → Bool → Target A → Bool → Clocked A → Type 0
 HeardBit (Asks bits count) b s w t = AsksBit bits count b s w t
 HeardBit (Lost ones) b s w t = LostBit ones b s w t
 HeardBit frame b s w t = Unit {0}
 
--- The bit of the switch that comes after the ones of a line reset leads on to the next. Another one is heard as if the
--- bits before it had been no part of a switch.
+-- The next bit of the switch after the ones of a line reset leads to the one after it. Another bit is taken as if the
+-- bits before it had not been part of a switch.
 pub record SwitchesBit {A : Type 0} (place : ℕ) (b : Bool) (s : Target A) (w : Bool) (t : Clocked A) : Type 0 where
   pub fits : b ≡ switch_bit place → Moved (switched place) s w t
   pub differs : b ≢ switch_bit place → HeardBit (unswitched place) b s w t
@@ -85,7 +85,7 @@ pub record RepliesBit {A : Type 0} (reply : Reply) (line : Line) (place : ℕ) (
   pub turn : place ≡ 0 → answer ≡ b
   pub driven : place ≢ 0 → answer ≡ reply_bit reply place
 
--- a cycle of a read's data: so many bits more are driven, and then a turnaround goes by
+-- a cycle of a read's data: `left` more bits are driven, and then a turnaround passes
 pub record DrivesBit {A : Type 0} (bits left : ℕ) (b answer : Bool)
     (s : Target A) (w : Bool) (t : Clocked A) : Type 0 where
   pub driven : left ≢ 0 → answer ≡ (bits % 2 == 1)
@@ -105,7 +105,7 @@ pub record AwaitsBit {A : Type 0} (r : Register) (bits place : ℕ) (b : Bool)
   pub more : place ≢ 0 → place < 33 → Moved (Awaits r (shifted (2 ^ 32) bits b) (place + 1)) s w t
   pub whole : place ≡ 33 → DataCame r (shifted (2 ^ 32) bits b) s w t
 
--- A cycle in which this bit stands on a line that the target doesn't drive, and what is on the line.
+-- A cycle, with the bit b on the line if the target doesn't drive it, and the bit `answer` that is on the line.
 abbrev pub Cycles : {A : Type 0} → Frame → Bool → Bool → Target A → Bool → Clocked A → Type 0
 Cycles (Asks bits count) b answer s w t = (answer ≡ b) × AsksBit bits count b s w t
 Cycles (Lost ones) b answer s w t = (answer ≡ b) × LostBit ones b s w t

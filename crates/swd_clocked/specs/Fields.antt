@@ -1,5 +1,5 @@
--- A clocked target as numbers, but for its memory. Each kind of thing that is always there has its numbers from 1 on,
--- so that zeros are no target; what a number isn't needed for has it as 0.
+-- A clocked target without its memory, as integers. Each enum that isn't optional is numbered from 1 on, so no target
+-- has all zeros. An unused field is 0.
 use Rattle.std.specs.Prelude.{ℕ, ◌==◌, ◌%◌, ◌^◌, is_some, unwrap_or, if◌then◌else◌}
 use Rattle.swd_bits.specs.Bits.{bit}
 use Rattle.swd_port.specs.declared.register.Register.{Register}
@@ -47,7 +47,7 @@ reply_number Waits = 2
 reply_number Faults = 3
 reply_number Silent = 4
 
--- the kind of a data phase, its bits, its register, and the place that arrives changed where there is one
+-- the fields of a data phase: its kind, its bits, its register, and the bit that arrives changed, if any
 abbrev pub line_with : ℕ → ℕ → ℕ → ℕ → ℕ → LineFields
 line_with kind bits register flips flip =
     record { bits = bits; kind = kind; register = register; flips = flips; flip = flip }
@@ -57,7 +57,7 @@ line_fields lines.Idle = line_with 1 0 0 0 0
 line_fields (lines.Drives bits) = line_with 2 bits 0 0 0
 line_fields (lines.Awaits r flip) = line_with 3 0 (register_number r) (bit (is_some flip)) (unwrap_or flip 0)
 
--- the kind of a frame, and its count
+-- the fields of a frame with this kind and count
 abbrev pub plain_frame : ℕ → ℕ → FrameFields
 plain_frame kind place = record { line = line_with 0 0 0 0 0; kind = kind; place = place; byte = 0; reply = 0 }
 
@@ -72,7 +72,7 @@ frame_fields (Drives bits left) = record (plain_frame 6 left) { line = line_with
 frame_fields (Awaits r bits place) = record (plain_frame 7 place) { line = line_with 0 bits (register_number r) 0 0 }
 frame_fields Passes = plain_frame 8 0
 
--- the numbers of a clocked target
+-- the fields of a clocked target
 abbrev pub fields_of : {A : Type 0} → Clocked A → ClockedFields
 fields_of c = record {
   cycles = c.cycles;
@@ -81,7 +81,7 @@ fields_of c = record {
   waits = bit c.waits;
 }
 
--- What numbers are read as, those of no target too: the numbers of what they are read as.
+-- How any integers are read, also those of no target: the fields of what they are read as.
 abbrev pub read_register : ℕ → ℕ
 read_register n =
     if n == 1 then 1 else if n == 2 then 2 else if n == 3 then 3 else if n == 4 then 4 else if n == 5 then 5

@@ -1,5 +1,5 @@
--- What a clocked target is doing, by its frame. All of it is this project's choice, but for the bits of the switch:
--- IHI 0031, B5, "JTAG-to-SWD sequence".
+-- The frames of a clocked target. All of it is this project's choice, except for the bits of the switch: IHI 0031, B5,
+-- "JTAG-to-SWD sequence".
 use Rattle.std.specs.Prelude.{ℕ, zero, suc, ◌≡◌, ◌+◌, ◌*◌, ◌-◌, ◌/◌, ◌%◌, ◌^◌, ◌==◌, ◌&&◌, not, Bool, true, false, min}
 use Rattle.std.specs.Prelude.{if◌then◌else◌}
 use Rattle.std.specs.Int.{w8, leading_ones}
@@ -26,7 +26,7 @@ frame_bits (Awaits r bits place) = bits
 frame_bits (Replies reply line place) = bits_driven line
 frame_bits frame = 0
 
--- its count, and what that is below
+-- its count, and below the limit of the count
 abbrev pub frame_place : Frame → ℕ
 frame_place (Asks bits count) = count
 frame_place (Lost ones) = ones
@@ -66,7 +66,7 @@ frame_of lines.Idle = Passes
 frame_of (lines.Drives bits) = Drives bits 33
 frame_of (lines.Awaits r flip) = Awaits r undriven 0
 
--- the frame once a request came: the reply begins, or fifty ones are awaited, of which its last bit is one
+-- the frame after a request: the reply starts, or fifty ones are awaited, of which its last bit is the first
 abbrev pub frame_replied : Reply → Line → Frame
 frame_replied Silent phase = Lost 1
 frame_replied reply phase = Replies reply phase 0
@@ -85,24 +85,24 @@ abbrev pub is_faults : Reply → Bool
 is_faults Faults = true
 is_faults reply = false
 
--- a driven cycle of a reply, the turnaround being 0
+-- the bit driven in this cycle of a reply; cycle 0 is the turnaround
 abbrev pub reply_bit : Reply → ℕ → Bool
 reply_bit reply place = if place == 1 then is_okay reply else (if place == 2 then is_waits reply else is_faults reply)
 
--- the bit of the switch with this number, the first in time being 0: the sixteen bits of e79e
+-- the bit of the switch with this number, from 0, the first in time: the sixteen bits of e79e
 abbrev pub switch_bit : ℕ → Bool
 switch_bit place = 0xe79e / 2 ^ place % 2 == 1
 
--- what that bit leads to; after the last, fifty ones are awaited
+-- the frame after that bit; after the last one, fifty ones are awaited
 abbrev pub switched : ℕ → Frame
 switched place = if place == 15 then Lost 0 else Switches (place + 1)
 
--- How many ones stand at the end of eight bits, the first in time least significant.
+-- The number of ones at the end of eight bits, the first in time least significant.
 abbrev pub ones_at_end : ℕ → ℕ
 ones_at_end byte = leading_ones w8 byte
 
--- What a bit leads to that ends neither a request nor fifty ones: idle, the beginning of a request, or one that is
--- broken, with the ones since its last zero. After a line reset a zero is idle.
+-- The frame after a bit that completes neither a request nor fifty ones: idle, the start of a request, or a broken one
+-- with the ones since its last zero. After a line reset a zero is idle.
 abbrev pub heard : Bool → Frame → Frame
 heard b (Asks bits count) =
     if (count == 0) && not b then idle
@@ -111,12 +111,12 @@ heard b (Asks bits count) =
 heard b (Lost ones) = if b then Lost (ones + 1) else Lost 0
 heard b frame = if b then frame else idle
 
--- what the first so many bits of the switch are after a line reset, where they turn out to be no switch
+-- the frame after the first bits of the switch after a line reset, if they turn out not to be a switch
 abbrev pub unswitched : ℕ → Frame
 unswitched zero = High
 unswitched (suc place) = heard (switch_bit place) (unswitched place)
 
--- The host leaves the line alone here: the target drives it, or nobody does, for a turnaround.
+-- The host has to release the line here: the target drives it, or it is a turnaround.
 abbrev pub is_released : Frame → Bool
 is_released (Replies reply line place) = true
 is_released (Drives bits left) = true
@@ -124,20 +124,20 @@ is_released (Awaits r bits place) = place == 0
 is_released Passes = true
 is_released frame = false
 
--- one, where the host drives a cycle in which it is to leave the line alone
+-- 1 if the host drives a cycle in which it should release the line, else 0
 abbrev pub contends : Frame → Bool → ℕ
 contends frame true = if is_released frame then 1 else 0
 contends frame false = 0
 
--- so many cycles more; the number stays at its greatest value
+-- `more` further cycles, saturating at 2^64 - 1
 abbrev pub counted : ℕ → ℕ → ℕ
 counted more cycles = min (cycles + more) (2 ^ 64 - 1)
 
--- the cycles of ones, with the switch and the ones again or without
+-- the number of cycles of ones, with the switch and the ones again or without
 abbrev pub reset_cycles : ℕ → Bool → ℕ
 reset_cycles ones switch = if switch then ones + 16 + ones else ones
 
--- Ones lead to a line reset from here: the registers have had none but ones.
+-- Ones lead to a line reset from here: the shift registers have had only ones.
 abbrev pub IsRising : Frame → Type 0
 IsRising (Asks bits count) = bits ≡ 255
 IsRising (Lost ones) = Unit {0}
@@ -148,7 +148,7 @@ IsRising (Drives bits left) = Unit {0}
 IsRising (Awaits r bits place) = bits ≡ undriven
 IsRising Passes = Unit {0}
 
--- so many ones
+-- how many ones that takes
 abbrev pub rise : Frame → ℕ
 rise (Asks bits count) = 50 - count
 rise (Lost ones) = 50 - ones
@@ -159,7 +159,7 @@ rise (Drives bits left) = 51 + left
 rise (Awaits r bits place) = 84 - place
 rise Passes = 51
 
--- and the target then
+-- the target after these ones
 abbrev pub risen : Frame → State → State
 risen High s = s
 risen (Awaits r bits place) s = record s { reset = Fresh; write_error = true }
@@ -172,12 +172,12 @@ IsFalling High = Unit {0}
 IsFalling (Switches place) = place ≡ 1
 IsFalling frame = ⊥
 
--- so many zeros
+-- how many zeros that takes
 abbrev pub fall : Frame → ℕ
 fall High = 2
 fall (Switches place) = 1
 fall frame = 0
 
--- the frame after so many bits of the switch
+-- the frame after this many bits of the switch
 abbrev pub switching : ℕ → Frame
 switching place = if place == 0 then High else (if place == 16 then Lost 0 else Switches place)

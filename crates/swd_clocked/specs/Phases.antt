@@ -1,4 +1,4 @@
--- What whole phases do at a clocked target whose requests meet a plan. All of it is this project's choice.
+-- What whole phases do at a clocked target with a plan. All of it is this project's choice.
 use Rattle.std.specs.Prelude.{ℕ, ◌≡◌, ◌≢◌, true, false}
 use Rattle.swd_bits.specs.declared.request.Request.{Request}
 use Rattle.swd_port.specs.declared.state.Line.{Line}
@@ -26,7 +26,7 @@ pub record Brings {A : Type 0} (sent : ℕ) (s t : MarkedClocked A) : Type 0 whe
   pub keeps : Keeps s t
   pub heard : t.unseen ≡ 0
 
--- ones went by: the line reset that they lead to is the same
+-- ones passed: they lead to the same line reset
 pub record Leads {A : Type 0} (s t : MarkedClocked A) : Type 0 where
   pub rises : Rises s.clocked t.clocked
   pub keeps : Keeps s t
@@ -38,14 +38,14 @@ pub record Sent {A : Type 0} (q : Request) (s t : MarkedClocked A) : Type 0 wher
   pub deaf : is_deaf t.mark ≡ true → Moved idle s.clocked.target s.clocked.waits t.clocked × (t.unseen ≡ 4)
   pub hears : is_deaf t.mark ≡ false → Requested q s.clocked.target (is_wait t.mark) t.clocked × (t.unseen ≡ 0)
 
--- the three bits after a turnaround: those of a reply under the mark, or an undriven line
+-- the three bits after a turnaround: those of a reply under the mark, or of an undriven line
 pub record SeesReply {A : Type 0} (seen : ℕ) (s t : MarkedClocked A) : Type 0 where
   pub replied : (reply : Reply) → (line : Line) → reply ≢ Silent → s.unseen ≡ 0 → s.clocked.frame ≡ Replies reply line 0
       → (seen ≡ seen_at s.mark reply) × Goes (frame_of line) s t
   pub lost : s.unseen ≡ 0 → s.clocked.frame ≡ Lost 1 → (seen ≡ 7) × Goes (Lost 5) s t
   pub missed : s.unseen ≡ 4 → (seen ≡ 7) × Goes idle s t
 
--- A request was sent, and its reply seen.
+-- A request was sent, and its reply was seen.
 pub record Asked {A : Type 0} (q : Request) (seen : ℕ) (s t : MarkedClocked A) : Type 0 where
   pub uses : Uses t.mark s.plan t.plan
   pub heard : t.unseen ≡ 0

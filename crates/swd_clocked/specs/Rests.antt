@@ -1,4 +1,4 @@
--- What a clocked target does between the calls of its bench. All of it is this project's choice.
+-- The frames of a clocked target between the calls of its bench. All of it is this project's choice.
 use Rattle.std.specs.Prelude.{ℕ, Option, Bool, true, false, ◌==◌, ◌&&◌, ◌||◌}
 use Rattle.swd_port.specs.declared.wire.Due.{Due}
 use Rattle.swd_port.specs.declared.wire.Due.TheVariants.{Nothing, Take, Give, Pass, Lost as DueLost}
@@ -8,7 +8,7 @@ use Rattle.swd_port.specs.Phases.{flipped, undriven}
 use Rattle.swd_clocked.specs.declared.frame.Frame.{Frame}
 use Rattle.swd_clocked.specs.declared.frame.Frame.TheVariants.{Asks, Lost, Drives, Awaits, Passes}
 
--- the data phase that a target is in, with the place that arrives changed
+-- the data phase that a target is in, with the bit that arrives changed, if any
 abbrev pub line_at : Frame → Option ℕ → Line
 line_at (Drives bits left) flip = lines.Drives (flipped flip bits)
 line_at (Awaits r bits place) flip = lines.Awaits r flip
@@ -35,7 +35,7 @@ abbrev pub is_lost_frame : Frame → Bool
 is_lost_frame (Lost ones) = true
 is_lost_frame frame = false
 
--- what is due fits what the target does; after a lost acknowledgement it may be in any of them
+-- what is due is consistent with the target's frame; after a lost acknowledgement that may be any of them
 abbrev pub rests : Due → Frame → Bool
 rests Nothing f = is_idle f
 rests Take f = is_driving f

@@ -12,11 +12,10 @@ use swd_port::{Count, Line, Register, Reply};
 use swd_target::port::Target;
 use swd_target::{Memory, Quirks};
 
-/// A simulated target at the end of a wire, clock by clock: the same target as that of
-/// `swd_target::Bench`, without marks.
+/// A simulated target, clock by clock: the target of `swd_target::Bench`, without marks.
 ///
-/// Each cycle has one bit on the line. What the bits mean is told by `docs/PROTOCOL.md`, 'The clocked
-/// target'. It takes every sequence of cycles.
+/// Each cycle has one bit on the line. `docs/PROTOCOL.md`, 'The clocked target', defines the bits. The target takes any
+/// sequence of cycles.
 ///
 /// ```ignore
 /// let mut target = Clocked::new(memory, quirks);
@@ -32,7 +31,7 @@ pub struct Clocked<A: Allocator = Global> {
     pub(crate) frame: Frame,
     pub(crate) waits: bool,
     pub(crate) cycles: u64,
-    // Cycles that the host drove where it was to leave the line alone, for contracts alone.
+    // The count of cycles that the host drove where it should release the line, for contracts alone.
     pub(crate) contended: Count,
     ghost bits: { frame_bits frame < 2 ^ 33 },
     ghost place: { frame_place frame < frame_limit frame },
@@ -46,8 +45,8 @@ impl<A: Allocator> Clocked<A> {
     ghost use Rattle.swd_clocked.specs.Cycles.{Moved, Requested, ByteCame, AsksBit, LostBit, HeardBit, DataCame};
     ghost use Rattle.swd_clocked.specs.Cycles.{Cycles, AwaitsBit, DrivesBit, RepliesBit, SwitchesBit};
 
-    /// Makes a target that had no line reset yet, with this memory behind its access port. Nothing
-    /// is held, and DPIDR gives 2ba01477.
+    /// Creates a target before its first line reset, with this memory behind its access port. WAIT isn't held, and
+    /// DPIDR reads 2ba01477.
     pub fn new(memory: Memory<A>, quirks: Quirks) -> Clocked<A>
         ensures state { state_of result ≡ made_target 0x2ba0_1477 memory }
         ensures exact { simulation_of result ≡ made_with quirks memory }
@@ -65,8 +64,8 @@ impl<A: Allocator> Clocked<A> {
         }
     }
 
-    /// While it is set, the target is busy: each request that may get WAIT gets it in place of OK, and a read of
-    /// CTRL/STAT finds power late that wasn't seen to be there before.
+    /// Makes the target busy, or not. While busy it answers WAIT instead of OK to each request that may get WAIT. A
+    /// read of CTRL/STAT then finds power-up not acknowledged, unless it was read as acknowledged before.
     pub fn hold(&mut self, wait: bool)
         ensures holds { Holds wait self.old self.new }
         ensures cycles { cycles_of self.new ≡ cycles_of self.old }
@@ -76,8 +75,7 @@ impl<A: Allocator> Clocked<A> {
         self.waits = wait;
     }
 
-    /// Completes the DRW transfer that was accepted and has not taken effect yet, where there is
-    /// one. Without the quirk `late` there never is.
+    /// Completes the pending DRW transfer, if any. Without the quirk `late` no transfer is ever pending.
     pub fn settle(&mut self)
         ensures settles { Settles self.old self.new }
         ensures cycles { cycles_of self.new ≡ cycles_of self.old }
@@ -87,22 +85,22 @@ impl<A: Allocator> Clocked<A> {
         self.target.complete();
     }
 
-    /// The memory behind the access port.
+    /// Returns the memory behind the access port.
     pub fn memory(&self) -> &Memory<A>
         ensures { result.now ≡ (state_of self.now).memory }
     {
         self.target.memory()
     }
 
-    // The same, once nothing else of the target is wanted.
+    // Consumes the target, and returns the memory behind the access port.
     pub(crate) fn into_memory(self) -> Memory<A>
         ensures { result ≡ (state_of self).memory }
     {
         self.target.into_memory()
     }
 
-    /// One clock, with the bit that the host drives, or none. Gives the bit on the line: the
-    /// target's where it drives, else the host's, and 1 where nobody drives.
+    /// Performs one clock with the bit that the host drives, if any. Returns the bit on the line: the target's where it
+    /// drives, else the host's, and 1 where nobody drives.
     pub fn cycle(&mut self, drive: Option<bool>) -> bool
         ensures clocks { Clocks drive result self.old self.new }
         ensures cycles { cycles_of self.new ≡ counted 1 (cycles_of self.old) }
@@ -115,8 +113,7 @@ impl<A: Allocator> Clocked<A> {
         self.clock(drive.unwrap_or(true), drive.is_some())
     }
 
-    // One clock, with the bit that the line has where the target doesn't drive, and whether the host
-    // drives it.
+    // Performs one clock with the bit that the line has where the target doesn't drive. `driven`: the host drives it.
     #[inline(always)]
     pub(crate) fn clock(&mut self, bit: bool, driven: bool) -> bool
         ensures clocks { Cycles self.old.frame bit result self.old.target self.old.waits self.new }
@@ -160,7 +157,7 @@ impl<A: Allocator> Clocked<A> {
         }
     }
 
-    // A cycle that doesn't reach the target: it is between transactions then.
+    // Counts a cycle that doesn't reach the target, which is between transactions after it.
     pub(crate) fn miss(&mut self, driven: bool)
         ensures moved { Moved idle self.old.target self.old.waits self.new }
         ensures cycles { self.new.cycles ≡ counted 1 self.old.cycles }
@@ -192,7 +189,7 @@ impl<A: Allocator> Clocked<A> {
         }
     }
 
-    // Eight bits that begin with Start.
+    // Takes eight bits that begin with Start.
     #[inline(never)]
     fn byte(&mut self, bits: u8)
         ensures came { ByteCame bits self.old.target self.old.waits self.new }
@@ -261,7 +258,7 @@ impl<A: Allocator> Clocked<A> {
         }
     }
 
-    // The bits since the ones are no switch.
+    // Takes a bit that shows that the bits since the ones are no switch.
     fn other_bit(&mut self, place: u8, bit: bool)
         requires { place < 16 }
         ensures hears { HeardBit (unswitched place) bit self.old.target self.old.waits self.new }
@@ -355,7 +352,7 @@ impl<A: Allocator> Clocked<A> {
         self.arrive(register, bits);
     }
 
-    // The 33 bits of a write came.
+    // Takes the 33 bits of a write.
     #[inline(never)]
     fn arrive(&mut self, register: Register, bits: u64)
         requires { bits < 2 ^ 33 }
@@ -371,7 +368,7 @@ impl<A: Allocator> Clocked<A> {
     }
 }
 
-// Whether the cycle of a reply with this number is driven high, the turnaround being 0.
+// Returns whether this cycle of a reply is driven high; cycle 0 is the turnaround.
 fn is_driving(reply: Reply, place: u8) -> bool
     ensures { result ≡ reply_bit reply place }
 {

@@ -1,4 +1,4 @@
-//! A simulated target, clock by clock, at the end of a wire, with a plan of what happens to each request.
+//! A simulated target, clock by clock, as a wire with a plan of fault injections.
 ghost use Rattle.std.specs.Prelude.{◌≡◌, ◌<◌, ◌^◌, true, IfOk, IfErr};
 ghost use Rattle.swd_port.specs.declared.wire.Due.TheVariants.{Nothing, Take, Give, Pass};
 ghost use Rattle.swd_port.specs.Port.{idle_link, made};
@@ -21,11 +21,10 @@ use swd_bits::Request;
 use swd_port::{Cue, Due, Mark, Wire};
 use swd_target::{Memory, Quirks};
 
-/// A `MarkedClocked` at the end of a wire: it drives each call of `Wire` by cycles alone, as any host
-/// does that clocks so. Each request uses the next mark of the plan; after its end all marks are
-/// `Clean`.
+/// A [`MarkedClocked`] as a [`Wire`], which performs each call by the target's cycles alone. Each request uses the next
+/// mark of the plan; after its end all marks are `Clean`.
 ///
-/// It does exactly what a `swd_target::Bench` with the same memory, quirks and plan does.
+/// It behaves exactly like a `swd_target::Bench` with the same memory, quirks and plan.
 ///
 /// ```ignore
 /// let memory = Memory::new(alloc, 0x2000_0000, 16, 16)?;
@@ -47,8 +46,11 @@ impl<A: Allocator> ClockedBench<A> {
     ghost use Rattle.swd_clocked.specs.ClockedBenches.{port_of, link_of, tally_of, simulation_of, plan_of, next_mark};
     ghost use Rattle.swd_clocked.specs.ClockedBenches.{choice_of, cycles_of, lead_cycles};
 
-    /// Makes a clocked target that had no line reset yet, with this memory behind its access port.
-    /// Where there is no memory for it, memory and plan are handed back.
+    /// Creates a clocked target before its first line reset, with this memory behind its access port.
+    ///
+    /// # Errors
+    ///
+    /// Returns the memory and the plan if out of memory.
     pub fn new(
         alloc: A,
         memory: Memory<A>,
@@ -71,8 +73,7 @@ impl<A: Allocator> ClockedBench<A> {
         }
     }
 
-    /// Completes the DRW transfer that was accepted and has not taken effect yet, where there is
-    /// one. Without the quirk `late` there never is.
+    /// Completes the pending DRW transfer, if any. Without the quirk `late` no transfer is ever pending.
     pub fn settle(&mut self)
         ensures port { port_of self.new ≡ completed (choice_of self.old) (port_of self.old) }
         ensures choice { IsChosen (simulation_of self.old).quirks (choice_of self.old) }
@@ -83,21 +84,21 @@ impl<A: Allocator> ClockedBench<A> {
         self.marked.settle();
     }
 
-    /// The memory behind the access port.
+    /// Returns the memory behind the access port.
     pub fn memory(&self) -> &Memory<A>
         ensures { result.now ≡ (port_of self.now).target.memory }
     {
         self.marked.memory()
     }
 
-    /// The cycles so far; it stays at its greatest value once there.
+    /// Returns the number of cycles so far, saturating at `u64::MAX`.
     pub fn cycles(&self) -> u64
         ensures { result ≡ cycles_of self.now }
     {
         self.marked.cycles()
     }
 
-    // Ones and zeros, cycle by cycle.
+    // Sends ones and zeros, cycle by cycle.
     fn lead_now(&mut self, ones: u32, undriven: u32, switch: bool, zeros: u32)
         requires leads { MayLead (port_of self.old).link.due ones switch zeros }
         requires releases { MayRelease (port_of self.old).link.due ones undriven }
@@ -113,7 +114,7 @@ impl<A: Allocator> ClockedBench<A> {
         self.due = Due::Nothing;
     }
 
-    // A request under the next mark.
+    // Performs a request under the next mark.
     fn ask_now(&mut self, request: Request) -> u8
         requires { (port_of self.old).link.due ≡ Nothing }
         ensures range { result < 8 }
@@ -132,7 +133,7 @@ impl<A: Allocator> ClockedBench<A> {
         seen
     }
 
-    // The data phase of a read.
+    // Returns the data phase of a read.
     fn take_now(&mut self) -> u64
         requires { (port_of self.old).link.due ≡ Take }
         ensures range { result < 2 ^ 33 }
@@ -146,7 +147,7 @@ impl<A: Allocator> ClockedBench<A> {
         bits
     }
 
-    // The data phase of a write.
+    // Sends the data phase of a write.
     fn give_now(&mut self, bits: u64)
         requires due { (port_of self.old).link.due ≡ Give }
         requires range { bits < 2 ^ 33 }
@@ -161,7 +162,7 @@ impl<A: Allocator> ClockedBench<A> {
         self.due = Due::Nothing;
     }
 
-    // The turnaround after WAIT or FAULT.
+    // Passes the turnaround after WAIT or FAULT.
     fn pass_now(&mut self)
         requires { (port_of self.old).link.due ≡ Pass }
         ensures now { PassesNow (port_of self.old) (port_of self.new) }
@@ -186,7 +187,7 @@ impl<A: Allocator> Wire for ClockedBench<A> {
         self.due
     }
 
-    /// The mark of a request is the one in the plan with the number of requests before it.
+    /// Performs the cue. The n-th request uses the n-th mark of the plan, or `Clean` after its end.
     #[inline(always)]
     fn step(&mut self, cue: Cue) -> u64
         requires { MayStep (port_of self.old).link.due cue }

@@ -1,4 +1,4 @@
-//! A clocked target as numbers, for callers that keep it in memory of their own, such as programs in C.
+//! A clocked target as a struct of integers, for callers that store it themselves, such as programs in C.
 ghost use Rattle.std.specs.Prelude.{◌≡◌, ◌<◌, ◌^◌, IfSome, IsSome};
 ghost use Rattle.swd_port.specs.Moving.{bits_driven};
 ghost use Rattle.swd_clocked.specs.declared.clocked.Clocked.{Clocked as ClockedType};
@@ -14,11 +14,11 @@ use std::alloc::Allocator;
 use swd_port::{Count, Line, Register, Reply};
 use swd_target::{Memory, TargetFields};
 
-/// The numbers of a clocked target, but for its memory: `Clocked::fields` gives them, and `clocked` gives a target
-/// over them back. They are laid out as C does it, and any numbers may stand in them: `clocked` gives none where
-/// they are those of no target, as zeros are.
+/// The state of a clocked target without its memory, as integers laid out as in C. [`Clocked::fields`] returns it, and
+/// [`clocked`](ClockedFields::clocked) restores a target over a memory. Any values are safe: `clocked` rejects those of
+/// no target, such as zeros.
 ///
-/// `cycles` is how many cycles went by. What the others mean is this crate's own.
+/// `cycles` is the number of cycles so far. The meaning of the other fields is private to this crate.
 #[repr(C)]
 #[derive(Clone, Copy, Debug, PartialEq, Eq)]
 pub struct ClockedFields {
@@ -28,7 +28,7 @@ pub struct ClockedFields {
     pub waits: u8,
 }
 
-/// The numbers of what a clocked target is doing.
+/// The frame of a clocked target, as integers.
 #[repr(C)]
 #[derive(Clone, Copy, Debug, PartialEq, Eq)]
 pub struct FrameFields {
@@ -39,7 +39,7 @@ pub struct FrameFields {
     pub reply: u8,
 }
 
-/// The numbers of a data phase.
+/// A data phase, as integers.
 #[repr(C)]
 #[derive(Clone, Copy, Debug, PartialEq, Eq)]
 pub struct LineFields {
@@ -74,8 +74,8 @@ fn number_of_register(register: Register) -> u8
     }
 }
 
-// Here and below, what is read from numbers that nothing has doesn't matter: `ClockedFields::clocked` finds that
-// the target has other numbers.
+// Here and below, invalid numbers may give any result: `ClockedFields::clocked` rejects a target whose own fields
+// differ.
 fn register_with(number: u8) -> Register
     ensures { register_number result ≡ read_register number }
 {
@@ -122,7 +122,7 @@ fn reply_with(number: u8) -> Reply
     }
 }
 
-// No data phase, but these bits and this register.
+// Returns the fields of no data phase, with these bits and this register.
 fn line_with(bits: u64, register: u8) -> LineFields
     ensures { result ≡ line_with 0 bits register 0 0 }
 {
@@ -177,7 +177,7 @@ impl LineFields {
 }
 
 impl FrameFields {
-    // A frame of this kind, with this count.
+    // Returns the fields of a frame of this kind with this count.
     fn plain(kind: u8, place: u8) -> FrameFields
         ensures { result ≡ plain_frame kind place }
     {
@@ -239,7 +239,7 @@ impl FrameFields {
     }
 }
 
-// The same number, of which a caller knows that it is one of 64 bits.
+// Returns the same number, with its 64-bit range as a postcondition.
 fn as_many(cycles: u64) -> u64
     ensures same { result ≡ cycles }
     ensures range { result < 2 ^ 64 }
@@ -248,7 +248,7 @@ fn as_many(cycles: u64) -> u64
 }
 
 impl ClockedFields {
-    /// The clocked target with these numbers over a memory, where there is one.
+    /// Returns a clocked target with these fields over a memory, or `None` if no target has them.
     pub fn clocked<A: Allocator>(&self, memory: Memory<A>) -> Option<Clocked<A>>
         ensures found { (c : ClockedType A) → fields_of c ≡ self.now → IsSome result }
         ensures same { IfSome result (λ c. (fields_of c ≡ self.now) × (memory_of c ≡ memory)) }
@@ -276,7 +276,7 @@ impl ClockedFields {
 }
 
 impl<A: Allocator> Clocked<A> {
-    /// The numbers of the target, but for its memory.
+    /// Returns the fields of the target, without its memory.
     pub fn fields(&self) -> ClockedFields
         ensures { result ≡ fields_of self.now }
     {

@@ -1,26 +1,25 @@
-//! What a target at the end of a clocked wire is doing.
+//! The frames of a clocked target: its place in a transaction or between two.
 ghost use Rattle.std.specs.Prelude.{◌≡◌, ◌<◌, ◌^◌, ◌+◌};
 ghost use Rattle.swd_port.specs.Moving.{bits_driven};
 
 use swd_port::{Count, Line, Register, Reply};
 
-/// What the next cycles are. Shift registers are preset with ones, as an undriven line reads.
+/// The meaning of the next cycles. Shift registers are preset with ones, as an undriven line reads.
 #[derive(Clone, Copy, Debug, PartialEq, Eq)]
 pub(crate) enum Frame {
-    /// Those of a request, of which so many bits came into the register. Before its first bit, a
-    /// zero is idle.
+    /// The bits of a request: the shift register, and how many bits it has. Before the first bit a zero is idle.
     Asks(u8, u8),
-    /// No request is awaited: fifty ones are, of which so many came.
+    /// Fifty ones, of which this many came. Requests are ignored.
     Lost(u8),
-    /// Fifty ones came.
+    /// After fifty ones: more ones, or the first zero.
     High,
-    /// So many bits of the switch came after the ones.
+    /// The bits of the switch, of which this many came after the ones.
     Switches(u8),
-    /// After a turnaround a reply is driven, of which so many cycles went by.
+    /// A turnaround, and a reply that is driven, of which this many cycles passed.
     Replies(Reply, Line, u8),
-    /// These bits are driven, so many cycles of them, and then a turnaround.
+    /// These bits, which are driven for this many cycles more, and then a turnaround.
     Drives(u64, u8),
-    /// After a turnaround the bits of a write are awaited, of which so many cycles went by.
+    /// A turnaround, and the bits of a write, of which this many cycles passed.
     Awaits(Register, u64, u8),
     /// A turnaround.
     Passes,
@@ -30,10 +29,10 @@ impl Frame {
     ghost use Rattle.swd_clocked.specs.Frames.{idle, frame_bits, frame_place, frame_limit, frame_of, frame_replied};
     ghost use Rattle.swd_clocked.specs.Frames.{is_released, contends};
 
-    /// Between transactions.
+    /// The frame between transactions.
     pub(crate) const IDLE: Frame = Frame::Asks(0xff, 0);
 
-    // The host leaves the line alone: the target drives it, or nobody does.
+    // Returns whether the host has to release the line: the target drives it, or nobody does.
     fn is_released(self) -> bool
         ensures { result ≡ is_released self }
     {
@@ -44,7 +43,7 @@ impl Frame {
         }
     }
 
-    // Counts a cycle that the host drives where it is to leave the line alone.
+    // Counts a cycle that the host drives where it should release the line.
     pub(crate) fn note(self, contended: &mut Count, driven: bool)
         ensures { contended.new.ticks ≡ contended.old.ticks + contends self driven }
     {
@@ -53,7 +52,8 @@ impl Frame {
         }
     }
 
-    // What begins once a request was replied to. Its last bit is a one.
+    // Returns the frame after a request was replied to. The request's last bit is a one, which counts where there is no
+    // reply.
     pub(crate) fn replied(reply: Reply, phase: Line) -> Frame
         requires { bits_driven phase < 2 ^ 33 }
         ensures frame { result ≡ frame_replied reply phase }
@@ -66,7 +66,7 @@ impl Frame {
         }
     }
 
-    // What follows a reply that was driven.
+    // Returns the frame after a reply that was driven.
     pub(crate) fn after_reply(line: Line) -> Frame
         requires { bits_driven line < 2 ^ 33 }
         ensures frame { result ≡ frame_of line }

@@ -1,5 +1,5 @@
-//! A simulated target clock by clock, as a bit-banging host or a logic analyser sees it, and a bench
-//! that drives it as one end of a wire.
+//! A simulated target, clock by clock, as a bit-banging host or a logic analyser sees it, and a bench that makes it a
+//! wire.
 #![tactic(auto)]
 
 mod clocked;

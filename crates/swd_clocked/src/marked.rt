@@ -1,4 +1,4 @@
-//! A simulated target, clock by clock, whose requests meet a plan: a target and the wire to it.
+//! A simulated target, clock by clock, with a plan of fault injections: a target and the wire to it.
 ghost use Rattle.std.specs.Prelude.{◌≡◌, ◌-◌, ◌+◌, ◌^◌, ◌<◌, is_some, unwrap_or, true, min, IfSome, IfNone};
 ghost use Rattle.swd_bits.specs.declared.request.Request.{Request};
 ghost use Rattle.swd_port.specs.Port.{made_target};
@@ -21,11 +21,11 @@ use swd_target::{Memory, Quirks};
 // The cycles of a turnaround and an acknowledgement.
 const UNSEEN: u8 = 4;
 
-/// A simulated target and the wire to it, clock by clock, for any host. Each request uses the next
-/// mark of the plan, which says what happens to it; after the plan's end all marks are `Clean`.
+/// A simulated target and the wire to it, clock by clock, for any host. Each request uses the next mark of the plan,
+/// which injects its fault; after the plan's end all marks are `Clean`.
 ///
-/// A request is eight bits that are one, where the target awaits one: what a host sends elsewhere,
-/// and what is no request, uses no mark. It takes every sequence of cycles.
+/// Only eight bits that are a valid request, where the target awaits one, use a mark. The target takes any sequence of
+/// cycles.
 ///
 /// ```ignore
 /// let mut target = MarkedClocked::new(memory, quirks, plan);
@@ -39,31 +39,31 @@ const UNSEEN: u8 = 4;
 pub struct MarkedClocked<A: Allocator = Global> {
     pub(crate) clocked: Clocked<A>,
     pub(crate) plan: Plan<A>,
-    // That of the last request.
+    // The mark of the last request.
     pub(crate) mark: Mark,
-    // So many cycles more don't reach the target.
+    // The number of further cycles that don't reach the target.
     pub(crate) unseen: u8,
-    // Requests that met a mark, at most 2^64 - 1.
+    // The number of requests that used a mark, saturating at 2^64 - 1.
     requests: u64,
     ghost legal: { is_legal mark ≡ true },
     ghost counts: { requests ≡ min (plans.tally_of plan).asked (2 ^ 64 - 1) },
 }
 
-// The target doesn't see the request.
+// Returns whether the target doesn't see the request.
 fn is_deaf(mark: Mark) -> bool
     ensures { result ≡ is_deaf mark }
 {
     matches!(&mark, Mark::Deaf)
 }
 
-// WAIT is asked for.
+// Returns whether WAIT is asked for.
 fn is_wait(mark: Mark) -> bool
     ensures { result ≡ is_wait mark }
 {
     matches!(&mark, Mark::Wait)
 }
 
-// A bit on the other side of the damage.
+// Returns the bit, inverted if `change`.
 fn turned(change: bool, bit: bool) -> bool
     ensures { result ≡ turned change bit }
 {
@@ -77,8 +77,8 @@ impl<A: Allocator> MarkedClocked<A> {
     ghost use Rattle.swd_clocked.specs.Marked.{cycles_of, contended_of, MarkedCycles, Meets, Misses, Reaches, Uses};
     ghost use Rattle.swd_clocked.specs.Marked.{Keeps};
 
-    /// Makes a target that had no line reset yet, with this memory behind its access port, whose
-    /// requests meet these marks. DPIDR gives 2ba01477.
+    /// Creates a target before its first line reset, with this memory behind its access port and this plan of marks.
+    /// DPIDR reads 2ba01477.
     pub fn new(memory: Memory<A>, quirks: Quirks, plan: Vec<Mark, A>) -> MarkedClocked<A>
         requires { IsPlan plan.items }
         ensures state { state_of result ≡ made_target 0x2ba0_1477 memory }
@@ -100,7 +100,7 @@ impl<A: Allocator> MarkedClocked<A> {
         }
     }
 
-    // The memory and the marks, once nothing else of the target is wanted.
+    // Consumes the target, and returns its memory and all its marks.
     pub(crate) fn into_parts(self) -> (Memory<A>, Vec<Mark, A>)
         ensures memory { result.0 ≡ (state_of self).memory }
         ensures plan { result.1.items ≡ plan_of self }
@@ -108,29 +108,29 @@ impl<A: Allocator> MarkedClocked<A> {
         (self.clocked.into_memory(), self.plan.into_marks())
     }
 
-    /// The memory behind the access port.
+    /// Returns the memory behind the access port.
     pub fn memory(&self) -> &Memory<A>
         ensures { result.now ≡ (state_of self.now).memory }
     {
         self.clocked.memory()
     }
 
-    /// The cycles so far; it stays at its greatest value once there.
+    /// Returns the number of cycles so far, saturating at `u64::MAX`.
     pub fn cycles(&self) -> u64
         ensures { result ≡ cycles_of self.now }
     {
         self.clocked.cycles
     }
 
-    /// The requests so far that used a mark, at most 2^64 - 1.
+    /// Returns the number of requests so far that used a mark, saturating at `u64::MAX`.
     pub fn requests(&self) -> u64
         ensures { result ≡ min (tally_of self.now).asked (2 ^ 64 - 1) }
     {
         self.requests
     }
 
-    /// One clock, with the bit that the host drives, or none. Gives the bit that the host sees: its
-    /// own where it drives what the target awaits, and 1 where nobody drives.
+    /// Performs one clock with the bit that the host drives, if any. Returns the bit that the host sees: the target's
+    /// where it drives, changed if the mark says so; else the host's own, and 1 where nobody drives.
     #[inline(always)]
     pub fn cycle(&mut self, drive: Option<bool>) -> bool
         ensures cycles { MarkedCycles drive result self.old self.new }
@@ -147,7 +147,7 @@ impl<A: Allocator> MarkedClocked<A> {
         self.reach(drive)
     }
 
-    // The request whose last bit this is.
+    // Returns the request whose last bit this is, if any.
     fn last_of(&self, bit: bool) -> Option<Request>
         ensures found { IfSome result (λ q. IsLast (frame_in self.now) bit q) }
         ensures none { IfNone result ((q : Request) → IsLast (frame_in self.now) bit q → ⊥) }
@@ -158,7 +158,7 @@ impl<A: Allocator> MarkedClocked<A> {
         }
     }
 
-    // The last bit of a request.
+    // Performs the cycle of a request's last bit, which uses a mark.
     #[inline(never)]
     fn last_bit(&mut self, drive: Option<bool>) -> bool
         requires { self.old.unseen ≡ 0 }
@@ -184,7 +184,7 @@ impl<A: Allocator> MarkedClocked<A> {
         self.requests = self.requests.saturating_add(1);
     }
 
-    // A cycle that doesn't reach the target, and so many more won't.
+    // Performs a cycle that doesn't reach the target; `more` cycles after it won't either.
     #[inline(never)]
     fn miss(&mut self, more: u8, drive: Option<bool>) -> bool
         ensures misses { Misses more drive result self.old self.new }
@@ -198,7 +198,7 @@ impl<A: Allocator> MarkedClocked<A> {
         drive.unwrap_or(true)
     }
 
-    // A cycle that reaches the target.
+    // Performs a cycle that reaches the target.
     #[inline(always)]
     fn reach(&mut self, drive: Option<bool>) -> bool
         requires { self.old.unseen ≡ 0 }
@@ -213,7 +213,7 @@ impl<A: Allocator> MarkedClocked<A> {
         turned(change, self.clocked.clock(bit, drive.is_some()))
     }
 
-    // The mark changes the bit of this cycle, which the host drives or not.
+    // Returns whether the mark changes the bit of this cycle. `driven`: the host drives it.
     fn is_changed(&self, driven: bool) -> bool
         ensures { result ≡ changes (frame_in self.now) self.now.mark driven }
     {
@@ -225,8 +225,7 @@ impl<A: Allocator> MarkedClocked<A> {
         }
     }
 
-    /// Completes the DRW transfer that was accepted and has not taken effect yet, where there is
-    /// one. Without the quirk `late` there never is.
+    /// Completes the pending DRW transfer, if any. Without the quirk `late` no transfer is ever pending.
     pub fn settle(&mut self)
         ensures settles { Settles self.old.clocked self.new.clocked }
         ensures keeps { Keeps self.old self.new }

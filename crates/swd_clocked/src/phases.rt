@@ -1,4 +1,4 @@
-//! Whole phases at a clocked target whose requests meet a plan, cycle by cycle, as a host drives them.
+//! Whole phases at a clocked target with a plan, cycle by cycle, as a host drives them.
 ghost use Rattle.std.specs.Prelude.{◌≡◌, ◌≤◌, ◌<◌, ◌^◌, ◌-◌, ◌+◌, true, is_some, unwrap_or};
 ghost use Rattle.swd_port.specs.Phases.{undriven};
 ghost use Rattle.swd_port.specs.Choices.{flip_of};
@@ -32,7 +32,7 @@ impl<A: Allocator> MarkedClocked<A> {
         let _ = self.cycle(Some(rest % 2 == 1));
     }
 
-    // Sees a reply after its turnaround, the first bit least significant.
+    // Returns the three bits of a reply after its turnaround, the first in time least significant.
     fn see_reply(&mut self) -> u8
         ensures range { result < 8 }
         ensures sees { SeesReply result self.old self.new }
@@ -46,7 +46,7 @@ impl<A: Allocator> MarkedClocked<A> {
         u8::from(first) + 2 * u8::from(second) + 4 * u8::from(third)
     }
 
-    // Sends a request, and sees its reply, the first bit least significant.
+    // Sends a request, and returns the three bits of its reply, the first in time least significant.
     pub(crate) fn ask_request(&mut self, request: Request) -> u8
         requires frame { frame_in self.old ≡ idle }
         requires heard { unseen_of self.old ≡ 0 }
@@ -59,7 +59,7 @@ impl<A: Allocator> MarkedClocked<A> {
         self.see_reply()
     }
 
-    // Takes the 33 bits of a read as they arrive, and a turnaround.
+    // Returns the 33 bits of a read as they arrive, the first in time least significant, and passes a turnaround.
     pub(crate) fn take_bits(&mut self) -> u64
         requires frame { frame_in self.old ≡ Frame.Drives (frame_bits (frame_in self.old)) 33 }
         requires heard { unseen_of self.old ≡ 0 }
@@ -78,7 +78,7 @@ impl<A: Allocator> MarkedClocked<A> {
         bits
     }
 
-    // Sends a turnaround, and the 33 bits of a write.
+    // Passes a turnaround, and sends the 33 bits of a write.
     pub(crate) fn give_bits(&mut self, bits: u64)
         requires frame { frame_in self.old ≡ Frame.Awaits (frame_register (frame_in self.old)) undriven 0 }
         requires heard { unseen_of self.old ≡ 0 }
@@ -96,7 +96,7 @@ impl<A: Allocator> MarkedClocked<A> {
         let _ = self.cycle(Some(rest % 2 == 1));
     }
 
-    // The turnaround after WAIT or FAULT.
+    // Passes the turnaround after WAIT or FAULT.
     pub(crate) fn pass_by(&mut self)
         requires frame { frame_in self.old ≡ Frame.Passes }
         requires heard { unseen_of self.old ≡ 0 }
@@ -107,8 +107,8 @@ impl<A: Allocator> MarkedClocked<A> {
         let _ = self.cycle(None); // the turnaround after WAIT or FAULT
     }
 
-    // A line reset, with the switch or without. So many of its first ones are left undriven, among
-    // them those of a data phase that is open.
+    // Sends a line reset, with the switch or without. The first `undriven` ones are left undriven, among them those in
+    // which a data phase in progress passes.
     pub(crate) fn send_reset(&mut self, ones: u32, undriven: u32, switch: bool)
         requires frame { IsRising (frame_in self.old) }
         requires heard { unseen_of self.old ≡ 0 }
@@ -128,7 +128,7 @@ impl<A: Allocator> MarkedClocked<A> {
         }
     }
 
-    // Sends ones, of which so many first are left undriven.
+    // Sends ones, of which the first `undriven` are left undriven.
     fn send_ones(&mut self, count: u32, undriven: u32)
         requires frame { IsRising (frame_in self.old) }
         requires heard { unseen_of self.old ≡ 0 }
@@ -144,7 +144,7 @@ impl<A: Allocator> MarkedClocked<A> {
         }
     }
 
-    // One of the ones. It is left undriven while a data phase is open.
+    // Sends one of the ones, left undriven while a data phase is in progress.
     fn send_one(&mut self, drive: Option<bool>)
         requires one { unwrap_or drive true ≡ true }
         requires frame { IsRising (frame_in self.old) }

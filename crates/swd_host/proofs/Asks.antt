@@ -185,7 +185,7 @@ configured_asked n base b k v s t l h asks =
     ))
     refl (λ f e d. inl (sure_framed n (n + 1) b k s t f e (omega arith) Configured h))
 
--- RESEND, where no transfer is under way
+-- RESEND, where no transfer is in flight
 pub resend_rested : (p : Place) (word n : ℕ) (base : Counted) (b : ℕ) (k : Hand) (v : ℕ) (m : PlainMemory) (s t : Port)
     → base.lost ≤ s.tally.lost → Calm m s.target → Resent p word n b k s → Asks s (request_for (Resend p) k.task) v t
     → Came (Resend p) n base b k v t

@@ -1,4 +1,4 @@
--- Blocks of reads: a word is given while the next read is under way.
+-- Blocks of reads: a word is returned while the next read is in flight.
 use Rattle.swd_host.proofs.Words.{◌≡◌, ◌+◌, ◌≤◌, ℕ, true, false, refl, sym, ap, subst, arith, ◌∙◌, Option, Some, None}
 use Rattle.swd_host.proofs.Words.{Request, AccessRead, Value, plain_answer, answer_of, word_at, Port, register, DrwRead}
 use Rattle.swd_host.proofs.Words.{ResendRead, Completes, Asks, Accepts, Spares, Succeeded, Buffered, BurstRead, Ahead}
@@ -35,7 +35,7 @@ module _ (at n c : ℕ) (k : Hand) (x y : Port) (flip : Option ℕ) (task : k.ta
   access_here : access_of k.task ≡ AccessRead at
   access_here = ap access_of task
 
-  -- the next read is under way
+  -- the next read is in flight
   next_under : Under 1 (next_hand k.task (memory_once_done k)) y.target
   next_under = grind arith
 
@@ -88,7 +88,7 @@ next_asked at n base b c k v s t task ok two l h asks =
     (λ x y last d u ac. next_within at n c k x y None task ok two u d
     (subst (λ z. Accepts (confirming_register z) (request_for (At Confirm) z).read None x y) task ac))
 
--- RESEND, WHILE THE NEXT READ IS UNDER WAY
+-- RESEND, WHILE THE NEXT READ IS IN FLIGHT
 passing_asked : (word n : ℕ) (base : Counted) (b : ℕ) (k : Hand) (v : ℕ) (s t : Port) → base.lost ≤ s.tally.lost
     → DoneBy NextSent b k s.target → Resent Confirm word n b k s → Asks s (request_for (Resend Confirm) k.task) v t
     → Came (Resend Confirm) n base b k v t

@@ -1,4 +1,4 @@
--- What is told of a list is what was sent: along the list, and of the whole run.
+-- What is reported of a list matches what was sent: along the list, and for the whole run.
 use Rattle.swd_host.proofs.Words.{◌≡◌, ◌≢◌, ◌+◌, ◌*◌, ◌^◌, ◌<◌, ◌≤◌, ◌++◌, ◌∷◌, [], ℕ, Bool, true, false, refl}
 use Rattle.swd_host.proofs.Words.{sym, ap, subst, arith, ◌∙◌, List, length, get_or, Option, Some, None, if◌then◌else◌}
 use Rattle.swd_host.proofs.Words.{Access, Answer, Answered, Stopped, Task, Resting, End, All, Engine, Bursts, Port}

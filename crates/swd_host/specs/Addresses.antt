@@ -3,8 +3,8 @@ use Rattle.std.specs.Prelude.{ℕ, ◌+◌, ◌/◌, ◌==◌, Bool, false, if�
 use Rattle.swd_port.specs.declared.access.Access.{Access}
 use Rattle.swd_port.specs.declared.access.Access.TheVariants.{Read, Write}
 
--- the next word's address, where it is in the same kilobyte: TAR is told there after a transfer
--- (IHI 0031, MEM-AP, "Auto-incrementing the Transfer Address Register (TAR)")
+-- the next word's address, where it is in the same kilobyte: there TAR is defined after a transfer (IHI 0031, MEM-AP,
+-- "Auto-incrementing the Transfer Address Register (TAR)")
 abbrev pub next_address : ℕ → Option ℕ
 next_address at = if (at + 4) / 1024 == at / 1024 then Some (at + 4) else None
 
@@ -13,7 +13,7 @@ abbrev pub is_known : Option ℕ → ℕ → Bool
 is_known None at = false
 is_known (Some known) at = known == at
 
--- the access that follows one continues it: it does the same at the next address in the same kilobyte
+-- the following access continues this one: the same direction, at the next address in the same kilobyte
 abbrev pub continues : Access → Option Access → Bool
 continues (Read at) (Some (Read next)) = is_known (next_address at) next
 continues (Write at word) (Some (Write next more)) = is_known (next_address at) next

@@ -1,4 +1,4 @@
--- The calls of a wire that an engine asks for, one after the other, the last one first.
+-- The successive calls of a wire that an engine asks for, the last one first.
 use Rattle.std.specs.Prelude.{◌≡◌, false, Option, Some, List, [], ◌∷◌}
 use Rattle.swd_port.specs.declared.access.Access.{Access}
 use Rattle.swd_port.specs.declared.call.Call.{Call}
@@ -9,7 +9,7 @@ use Rattle.swd_host.specs.Engines.{cue_of}
 use Rattle.swd_host.specs.Replies.{Replied}
 use Rattle.swd_host.specs.Turns.{Starts}
 
--- the engine asked for this call, and was told what came of it
+-- the engine asked for this call, and took its reply
 pub record Turned (call : Call) (e f : Engine) : Type 0 where
   pub cue : cue_of e ≡ Some call.cue
   pub seen : IsSeen call.cue call.seen
@@ -19,7 +19,7 @@ abbrev pub Turns : Engine → List Call → Engine → Type 0
 Turns e [] f = f ≡ e
 Turns e (call ∷ calls) f = (g : Engine) × Turns e calls g × Turned call g f
 
--- an access begins, and these calls are made for it
+-- an access starts, and these calls are made for it
 abbrev pub TurnsFrom : Access → Option Access → Engine → List Call → Engine → Type 0
 TurnsFrom a following e calls f = (g : Engine) × Starts a following e g × Turns g calls f
 

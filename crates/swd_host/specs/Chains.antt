@@ -1,4 +1,4 @@
--- A call and the calls of `resume` after it: what they did, all together.
+-- A call and the calls of `resume` after it: what all of them did together.
 use Rattle.std.specs.Prelude.{ℕ, zero, suc, ◌≡◌, ◌+◌, ◌-◌, ◌≤◌, List, [], ◌∷◌, ◌++◌, length, take, drop}
 use Rattle.swd_port.specs.declared.access.Access.{Access}
 use Rattle.swd_port.specs.declared.access.Access.TheVariants.{Read, Write}
@@ -12,8 +12,8 @@ use Rattle.swd_host.specs.Again.{Again, AllBelow, ResumesOver, added_in, own_tol
 use Rattle.swd_host.specs.Resuming.{begun_after}
 
 -- THE CALLS
--- A run or a block that left at most so many accesses begun, at the port s, and the calls of `resume` after it: what all
--- of them told but the last one, the first one first, what that one told, and the port that it left.
+-- A run or a block at the port s with at most `limit` begun accesses, and the calls of `resume` after it. The arguments
+-- after s are the reports of all calls but the last, the first one first, the last report, and the port at the end.
 pub data Calls (limit : ℕ) (list : List Access) (s : Port) : List Told → Told → Port → Type 0 where
   ran : {told : Told} {t : Port} → (tries : ℕ) → RunsWithin limit list tries told s t → Calls limit list s [] told t
   resumed : {calls : List Told} {earlier told : Told} {t u : Port} → Calls limit list s calls earlier t
@@ -21,8 +21,8 @@ pub data Calls (limit : ℕ) (list : List Access) (s : Port) : List Told → Tol
       → ResumesOver list tries earlier told t u → Calls limit list s (calls ++ earlier ∷ []) told u
 
 -- WHAT THEY DID
--- The same calls over memories: the first one from the memory m, each of the others a run over the rest of the list
--- from the memory that the one before left, to the memory `now`.
+-- The same calls over memories, from m to `now`. Each call after the first is a run over the rest of the list, from the
+-- memory that the one before left.
 pub data Chain (limit : ℕ) (list : List Access) (m : PlainMemory) : List Told → Told → PlainMemory → Type 0 where
   first : {told : Told} {now : PlainMemory} → Fits limit list m told now → Chain limit list m [] told now
   again : {calls : List Told} {earlier told : Told} {before now : PlainMemory}
@@ -31,13 +31,13 @@ pub data Chain (limit : ℕ) (list : List Access) (m : PlainMemory) : List Told 
       → Fits 1 (drop (length earlier.answers) list) before (own_told earlier told own) now
       → Chain limit list m (calls ++ earlier ∷ []) told now
 
--- over a target at rest each memory that may come of the last port is left by such a chain
+-- over a target at rest, such a chain leads to each memory that the last port may become
 abbrev pub AreChained : Type 0
 AreChained = (limit : ℕ) (list : List Access) (s : Port) (calls : List Told) (told : Told) (t : Port) → IsAtRest s
     → Calls limit list s calls told t → (now : PlainMemory) → MayBecome t now
     → Chain limit list s.target.memory calls told now
 
--- so many places, from i on
+-- n places, from i on
 abbrev pub places_from : ℕ → ℕ → List ℕ
 places_from i zero = []
 places_from i (suc n) = i ∷ places_from (suc i) n
@@ -47,8 +47,8 @@ abbrev pub accesses_at : List ℕ → List Access → List Access
 accesses_at [] list = []
 accesses_at (i ∷ places) list = take 1 (drop i list) ++ accesses_at places list
 
--- The places of the accesses that were done, one after the other: of each call those that it answered, and of those
--- that it began the ones that took effect.
+-- The places of the accesses that were done, in order: for each call those that it answered, and then those of its
+-- begun ones that took effect.
 abbrev pub places_of : (limit : ℕ) (list : List Access) (m : PlainMemory) (calls : List Told) (told : Told)
     (now : PlainMemory)
     → Chain limit list m calls told now → List ℕ
@@ -58,9 +58,9 @@ places_of limit list m calls told now
     places_of limit list m before earlier left chain
     ++ places_from (length earlier.answers) (fits.0 + fits.1.memory.0)
 
--- The memory, with its log of transfers, is that after these accesses. No access was done more often than there were
--- calls; none behind the last answer but those that the report tells as begun; and beside the answered ones no more than
--- each call may have begun.
+-- The memory, with its log, is that after the accesses at these places. No place occurs more often than there were
+-- calls. After the answered accesses only those occur that the report counts as begun. Beside the answered ones there
+-- are at most `limit` more, and one for each call of `resume`.
 pub record HasDone (limit : ℕ) (list : List Access) (m : PlainMemory) (calls : List Told) (told : Told)
     (now : PlainMemory) (places : List ℕ) : Type 0 where
   pub memory : now ≡ memory_after (accesses_at places list) m
@@ -73,14 +73,14 @@ ChainDoes = (limit : ℕ) (list : List Access) (m : PlainMemory) (calls : List T
     → (chain : Chain limit list m calls told now)
     → HasDone limit list m calls told now (places_of limit list m calls told now chain)
 
--- LISTS OF READS, as blocks are
+-- LISTS OF READS, such as blocks
 abbrev pub AreReads : List Access → Type 0
 AreReads [] = Unit {0}
 AreReads (Read at ∷ list) = AreReads list
 AreReads (Write at word ∷ list) = ⊥
 
--- No word changed. Where the log has room for the reads that may have been done once more, the answers are the plain
--- memory's.
+-- No word changed. Where the log has room for the reads that may have been repeated, the answers are those of the plain
+-- memory.
 pub record HasRead (limit : ℕ) (list : List Access) (m : PlainMemory) (calls : List Told) (told : Told)
     (now : PlainMemory) : Type 0 where
   pub words : now.words ≡ m.words
@@ -92,13 +92,13 @@ ChainReads = (limit : ℕ) (list : List Access) (m : PlainMemory) (calls : List 
     → 1 ≤ limit → AreReads list → Chain limit list m calls told now → HasRead limit list m calls told now
 
 -- LISTS WITH WRITES
--- what the first call left begun
+-- how many accesses the first call left begun
 abbrev pub begun_first : List Told → Told → ℕ
 begun_first [] told = told.begun
 begun_first (earlier ∷ calls) told = earlier.begun
 
--- The report is told of the memory, where the accesses at some places were done once more, each directly after itself:
--- at most one for each call of `resume`. A whole list leaves the words that it leaves where it is done once.
+-- The report is that of a list in which some accesses were repeated, each directly after itself, at most one for each
+-- call of `resume`. A whole list leaves the same words as without repetitions.
 pub record HasRepeated (list : List Access) (m : PlainMemory) (calls : List Told) (told : Told) (now : PlainMemory)
     : Type 0 where
   pub places : List ℕ
@@ -106,8 +106,8 @@ pub record HasRepeated (list : List Access) (m : PlainMemory) (calls : List Told
   pub again : Again places list m told now
   pub words : told.ended ≡ All → now.words ≡ (memory_after list m).words
 
--- So it is where the first call left one access begun at most, and the log has room for the transfers that may have
--- been done once more.
+-- This holds where the first call left at most one access begun, and the log has room for the transfers that may have
+-- been repeated.
 abbrev pub ChainRepeats : Type 0
 ChainRepeats = (limit : ℕ) (list : List Access) (m : PlainMemory) (calls : List Told) (told : Told) (now : PlainMemory)
     → begun_first calls told ≤ 1 → length (memory_after list m).log + length calls ≤ m.room

@@ -1,5 +1,6 @@
--- The beginning of the opening: what is known of the port from the line reset on, whatever flags are set, until SELECT
--- is written and nothing is pending any more. From then on the invariant is that of a run over one memory.
+-- The start of a resumed opening: what is known of the port from the line reset on, whatever flags are set. It holds
+-- until SELECT is written and no transfer is pending any more. After that the invariant is that of a run over one
+-- memory.
 use Rattle.std.specs.Prelude.{ℕ, ◌≡◌, ◌≢◌, ◌+◌, ◌%◌, ◌<◌, ◌≤◌, ◌⊎◌, ◌==◌, Bool, true, false, Option, Some, None}
 use Rattle.swd_port.specs.PlainMemory.{PlainMemory}
 use Rattle.swd_port.specs.Port.{Port, Target}
@@ -22,37 +23,38 @@ use Rattle.swd_host.specs.Flags.{flags_in}
 use Rattle.swd_host.specs.Tracks.{Counted, Calm, Reads, Writes, Follows, IsTask}
 use Rattle.swd_port.specs.Registers.{no_select}
 
--- every memory that may come of the transfer that is pending now might have come at the start; and where nothing was
--- pending then, nothing is
+-- Each memory that the pending transfer may leave now, it might have left at the start. If no transfer was pending
+-- then, no transfer is pending now.
 pub record ComesFrom (start s : Port) : Type 0 where
   pub comes : (m : PlainMemory) → MayBecome s m → MayBecome start m
   pub rests : start.target.pending ≡ None → s.target.pending ≡ None
 
 -- THE FLAG OF A TRANSFER THAT WAS LEFT PENDING, where the engine may still meet it (`stray`)
 
--- it may still be met, or nothing is pending
+-- it may still be met, or no transfer is pending
 abbrev pub IsAwaited : Bool → Target → Type 0
 IsAwaited stray s = (stray ≡ true) ⊎ (s.pending ≡ None)
 
--- STICKYERR is clear and stays so; or the transfer may set it; or it has, and that may still be met
+-- STICKYERR is clear and stays clear, or the transfer may still set it, or the transfer has set it, which may still be
+-- met
 pub data Quiet (stray : Bool) (s : Target) : Type 0 where
   none_left : s.pending ≡ None → s.sticky_error ≡ false → Quiet stray s
   to_come : stray ≡ true → s.sticky_error ≡ false → Quiet stray s
   has_come : stray ≡ true → s.pending ≡ None → s.sticky_error ≡ true → Quiet stray s
 
--- flags that were read while the transfer may be pending: STICKYERR may have been set since
+-- flags that were read while the transfer may have been pending: STICKYERR may have been set since
 pub record Glimpsed (flags : Flags) (stray : Bool) (s : Target) : Type 0 where
   pub damaged : flags.damaged ≡ s.write_error
   pub error : flags.error ≡ true → s.write_error ≡ false → (s.pending ≡ None) × (stray ≡ true)
 
--- flags that were read while nothing is pending
+-- flags that were read while no transfer was pending
 pub record Shows (flags : Flags) (s : Target) : Type 0 where
   pub error : flags.error ≡ s.sticky_error
   pub damaged : flags.damaged ≡ s.write_error
 
 -- THE PORT, as the host knows it before each request of the opening
 
--- a target that may be in the midst of anything; n disturbances were met as events
+-- a target in any state of a transaction, with SELECT 0; n disturbances were met as events
 pub record Anywhere (n : ℕ) (stray : Bool) (start s : Port) : Type 0 where
   pub select : s.target.select ≡ no_select
   pub odd : s.target.identification % 2 ≡ 1
@@ -70,12 +72,13 @@ pub record Woken (n : ℕ) (stray : Bool) (start s : Port) : Type 0 where
   pub any : Anywhere n stray start s
   pub live : s.target.reset ≡ Live
 
--- ABORT was written: the flags are clear, but for a bus error after it; or its data was damaged
+-- ABORT was written: WDATAERR is clear, and so is STICKYERR unless the transfer set it after that; or ABORT's data was
+-- corrupted
 pub data Wiped (n : ℕ) (stray : Bool) (start s : Port) : Type 0 where
   clean : Woken n stray start s → s.target.write_error ≡ false → Quiet stray s.target → Wiped n stray start s
   hurt : Woken (n + 1) stray start s → s.target.write_error ≡ true → Wiped n stray start s
 
--- and that was seen
+-- CTRL/STAT showed that
 pub record Inspected (n : ℕ) (stray : Bool) (start s : Port) : Type 0 where
   pub woken : Woken n stray start s
   pub flag : s.target.write_error ≡ false
@@ -97,14 +100,14 @@ pub record Clearing (owed : Flags) (n : ℕ) (stray : Bool) (start s : Port) : T
   pub sticky : s.target.sticky_error ≡ true
   pub flag : s.target.write_error ≡ owed.damaged
 
--- ABORT was written: no flag is left, or both are, since it was damaged
+-- ABORT was written: no flag is left, or both are set, since its data was corrupted
 pub data Cleared (owed : Flags) (n : ℕ) (stray : Bool) (start s : Port) : Type 0 where
   gone : Woken n stray start s → owed.error ≡ true → s.target.pending ≡ None → s.target.sticky_error ≡ false
       → s.target.write_error ≡ false → Cleared owed n stray start s
   still : Woken (n + 1) stray start s → owed.error ≡ true → s.target.pending ≡ None → s.target.sticky_error ≡ true
       → s.target.write_error ≡ true → Cleared owed n stray start s
 
--- what holds before a request; there is no other that early
+-- what holds before a request; no other requests are sent that early
 abbrev pub EarlyBefore : Job → ℕ → Bool → Port → Port → Type 0
 EarlyBefore (At Identify) n stray start s = Resettled n stray start s
 EarlyBefore (At Wipe) n stray start s = Woken n stray start s
@@ -115,7 +118,7 @@ EarlyBefore (Clear Select owed) n stray start s = Clearing owed n stray start s
 EarlyBefore (Check Select owed) n stray start s = Cleared owed n stray start s
 EarlyBefore job n stray start s = ⊥
 
--- SELECT's write was answered OK: nothing is pending any more, and the memory is this
+-- SELECT's write was answered OK: no transfer is pending any more, and the memory is m
 pub record Settled (n : ℕ) (m : PlainMemory) (s : Port) : Type 0 where
   pub calm : Calm m s.target
   pub flag : s.target.write_error ≡ false
@@ -140,7 +143,7 @@ EarlyDuring (Check Select owed) n stray start s =
     (word : ℕ) × Shows (flags_in word) s.target × Reads word n (λ c. Cleared owed c stray start s) s
 EarlyDuring job n stray start s = ⊥
 
--- SELECT's write alone may be answered WAIT, or FAULT
+-- only SELECT's write may be answered WAIT or FAULT
 abbrev pub EarlyWaiting : Job → ℕ → Bool → Port → Port → Type 0
 EarlyWaiting (At Select) n stray start s = Inspected (n + 1) stray start s
 EarlyWaiting job n stray start s = ⊥
@@ -171,17 +174,17 @@ Early (Doing job Faulted) n tries base stray start s = EarlyFaulted job n stray 
 Early (Resting (Stopped end)) n tries base stray start s = EarlyStopped end n tries base start s
 Early (Resting outcome) n tries base stray start s = ⊥
 
--- the engine's own state of the port, from the counts and the port at the start
+-- what the engine's state implies about the port, from the counts and the port at the start
 abbrev pub IsEarly : Counted → Port → Engine → Port → Type 0
 IsEarly base start e s = Early e.state (base.disturbed + e.events) e.tries base e.stray start s
 
--- an engine that goes on: it is early, or follows one of the memories that may have come of the start
+-- an engine that resumes: it is early, or follows one of the memories that the port at the start may have become
 pub data Resumes (base : Counted) (start : Port) (e : Engine) (s : Port) : Type 0 where
   early : IsTask e.task → base.lost ≤ s.tally.lost → IsEarly base start e s → Resumes base start e s
   over : (m : PlainMemory) → MayBecome start m → Follows base m e s → Resumes base start e s
 
--- WHAT A CALL OF THE ENGINE IS TOLD
--- what a request came to
+-- WHAT A CALL OF THE ENGINE ASSUMES
+-- the result of a request
 pub data EarlySaw (job : Job) (seen n : ℕ) (base : Counted) (stray : Bool) (start s : Port) : Type 0 where
   early_okay : seen ≡ 1 → EarlyDuring job n stray start s → EarlySaw job seen n base stray start s
   early_wait : seen ≡ 2 → EarlyWaiting job n stray start s → EarlySaw job seen n base stray start s
@@ -189,13 +192,13 @@ pub data EarlySaw (job : Job) (seen n : ℕ) (base : Counted) (stray : Bool) (st
   early_none : (seen == 1) ≡ false → (seen == 2) ≡ false → (seen == 4) ≡ false → EarlyLost n base start s
       → EarlySaw job seen n base stray start s
 
--- what a data phase that was written leaves
+-- what holds after a data phase that was written
 abbrev pub EarlySent : Job → ℕ → Bool → Port → Port → Type 0
 EarlySent (At Wipe) n stray start s = Wiped n stray start s
 EarlySent (Clear Select owed) n stray start s = Cleared owed n stray start s
 EarlySent job n stray start s = ⊥
 
--- what the lead, a data phase that was written, or a turnaround leaves
+-- what holds after the lead, a data phase that was written, or a turnaround
 abbrev pub EarlyLeft : State → ℕ → Bool → Port → Port → Type 0
 EarlyLeft Leading n stray start s = Resettled n stray start s
 EarlyLeft (Doing job Data) n stray start s = EarlySent job n stray start s
@@ -203,7 +206,7 @@ EarlyLeft (Doing job Waited) n stray start s = EarlyWaiting job n stray start s
 EarlyLeft (Doing job Faulted) n stray start s = EarlyFaulted job n stray start s
 EarlyLeft state n stray start s = ⊥
 
--- what a word that was read early tells
+-- what a word that was read early shows
 abbrev pub EarlyTold : Job → ℕ → ℕ → Bool → Port → Port → Type 0
 EarlyTold (At Identify) word n stray start s = Woken n stray start s × (word % 2 ≡ 1)
 EarlyTold (At Inspect) word n stray start s = Glimpsed (flags_in word) stray s.target × Wiped n stray start s
@@ -211,7 +214,7 @@ EarlyTold (Status Select) word n stray start s = Shows (flags_in word) s.target 
 EarlyTold (Check Select owed) word n stray start s = Shows (flags_in word) s.target × Cleared owed n stray start s
 EarlyTold job word n stray start s = ⊥
 
--- or that it has to come again: no other word is read early
+-- the same where the word has to be read again; no other word is read early
 abbrev pub EarlyAgain : Job → ℕ → Bool → Port → Port → Type 0
 EarlyAgain (At Identify) n stray start s = Resettled (n + 1) stray start s
 EarlyAgain (At Inspect) n stray start s = Wiped (n + 1) stray start s
@@ -223,12 +226,12 @@ abbrev pub EarlyTaken : Job → Option ℕ → ℕ → Bool → Port → Port �
 EarlyTaken job (Some word) n stray start s = EarlyTold job word n stray start s
 EarlyTaken job None n stray start s = EarlyAgain job n stray start s
 
--- WHAT A STEP OF THE ENGINE KEEPS: from what was told, since these counts and this port at the start
+-- WHAT A STEP OF THE ENGINE KEEPS, from an assumption about these counts and this port at the start
 abbrev pub ComesEarly : (ℕ → Bool → Port → Port → Type 0) → Engine → Engine → Type 0
 ComesEarly Was e f = (base : Counted) (start s : Port) → Was (base.disturbed + e.events) e.stray start s
     → IsEarly base start f s
 
--- the same, where these are the flags that were read
+-- the same, where these flags were read
 abbrev pub ShownEarly : Flags → (ℕ → Bool → Port → Port → Type 0) → Engine → Engine → Type 0
 ShownEarly flags Was e f = (base : Counted) (start s : Port) → Shows flags s.target
     → Was (base.disturbed + e.events) e.stray start s → IsEarly base start f s
@@ -242,10 +245,10 @@ abbrev pub HearsEarly : ℕ → Engine → Engine → Type 0
 HearsEarly seen e f = (base : Counted) (start s : Port)
     → EarlySaw (job_in e.state) seen (base.disturbed + e.events) base e.stray start s → IsEarly base start f s
 
--- what the cue said was sent
+-- the cue was sent
 abbrev pub SendsEarly : Engine → Engine → Type 0
 SendsEarly e f = ComesEarly (EarlyLeft e.state) e f
 
--- a data phase was read: its word, where the parity is right
+-- a data phase was read, with its word if the parity is right
 abbrev pub ReadsEarly : Option ℕ → Engine → Engine → Type 0
 ReadsEarly word e f = ComesEarly (EarlyTaken (job_in e.state) word) e f

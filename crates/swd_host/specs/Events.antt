@@ -1,5 +1,4 @@
--- The events: what a host meets that it has to do again. Each opening and each access may meet as many as the tries
--- allow.
+-- The events: what a host has to retry. The opening, and each access, may meet up to `tries` of them.
 use Rattle.std.specs.Prelude.{ℕ, ◌≡◌, ◌+◌, ◌%◌, ◌==◌, ◌&&◌, ◌||◌, Bool, true, false, not, if◌then◌else◌, Option, Some}
 use Rattle.std.specs.Prelude.{None, is_some, nat_le}
 use Rattle.std.specs.Bool.{beq}
@@ -23,15 +22,15 @@ use Rattle.swd_host.specs.Engines.{job_in}
 abbrev pub is_flagged : Flags → Bool
 is_flagged flags = flags.error || flags.damaged
 
--- the power request was damaged, or power isn't there yet
+-- the power request was corrupted, or power isn't acknowledged yet
 abbrev pub is_unpowered : Flags → Bool → Bool
 is_unpowered flags powered = not flags.error && (flags.damaged || not powered)
 
--- the write that the request at a place confirms was damaged
+-- the write that the request at a place confirms was corrupted
 abbrev pub is_damaged_write : Place → Task → Bool → Flags → Bool
 is_damaged_write p task aims flags = not flags.error && flags.damaged && is_some (confirmed_by p task aims)
 
--- the ABORT that clears flags was damaged itself
+-- the ABORT write that clears flags was corrupted itself
 abbrev pub is_damaged_clearing : Flags → Flags → Bool
 is_damaged_clearing owed now = now.damaged && beq now.error owed.error
 
@@ -39,14 +38,14 @@ is_damaged_clearing owed now = now.damaged && beq now.error owed.error
 abbrev pub is_left_over : Bool → Flags → Bool
 is_left_over stray flags = stray && flags.error && not flags.damaged
 
--- a word of a place that was read with right parity is an event
+-- a word that was read at a place with right parity is an event
 abbrev pub is_event_at : Place → ℕ → Bool → Bool
 is_event_at Inspect word stray = is_flagged (flags_in word) && not (is_left_over stray (flags_in word))
 is_event_at Powered word stray = is_unpowered (flags_in word) (is_powered word)
 is_event_at p word stray = false
 
--- a data phase that was read is an event: a word that is looked at came with wrong parity, or what it says has to be
--- done again
+-- a data phase that was read is an event: a word that isn't ignored had wrong parity, or what the word shows has to be
+-- retried
 abbrev pub is_event : Job → Option ℕ → Task → Bool → Bool → Bool
 is_event (At p) None task aims stray = not (is_unread p task)
 is_event (Resend p) None task aims stray = true
@@ -66,7 +65,7 @@ abbrev pub is_event_sent : State → Bool
 is_event_sent (Doing job Waited) = not (is_exempt job)
 is_event_sent state = false
 
--- the word of DPIDR whose bit 0 is clear
+-- a word of DPIDR whose bit 0 is clear
 abbrev pub wrong_id : Place → ℕ → Option ℕ
 wrong_id Identify word = if word % 2 == 1 then None else Some word
 wrong_id p word = None
@@ -84,9 +83,9 @@ abbrev pub stopped_id : State → Option ℕ
 stopped_id (Resting (Stopped (WrongId word))) = Some word
 stopped_id state = None
 
--- A call met an event or none: the count of events rises by one at an event alone; where that would be above the
--- tries, and there alone, the engine stops for want of tries. It stops with a wrong identification exactly where one
--- was read.
+-- What a call does with an event. The count of events rises by one exactly at an event that doesn't exceed the tries.
+-- At one that does, and only there, the engine stops because its retries ran out. It stops with a wrong identification
+-- exactly where one was read.
 pub record Meets (event : Bool) (wrong : Option ℕ) (e f : Engine) : Type 0 where
   pub events : f.events ≡ (if event && not (nat_le e.tries e.events) then e.events + 1 else e.events)
   pub tries_out : is_tries_out f.state ≡ (event && nat_le e.tries e.events)

@@ -1,5 +1,4 @@
--- An engine as numbers. Each kind of thing has its numbers from 1 on, so that zeros are no engine; what a number isn't
--- needed for has it as 0.
+-- An engine as integers. Each enum is numbered from 1 on, so no engine has all zeros. An unused field is 0.
 use Rattle.std.specs.Prelude.{ℕ, Option, Some, None}
 use Rattle.swd_bits.specs.Bits.{bit}
 use Rattle.swd_port.specs.declared.access.Answer.TheVariants.{Value, Written, BusFault}
@@ -62,7 +61,7 @@ abbrev pub bursts_number : Bursts → ℕ
 bursts_number Writes = 1
 bursts_number Reads = 2
 
--- the kind of an outcome, and its word
+-- the fields of an outcome with this kind and word
 abbrev pub outcome_with : ℕ → ℕ → OutcomeFields
 outcome_with kind word = record { word = word; kind = kind }
 
@@ -80,7 +79,7 @@ outcome_fields (Stopped TriesOut) = outcome_with 7 0
 outcome_fields (Stopped (WrongId word)) = outcome_with 8 word
 outcome_fields (Stopped Confused) = outcome_with 9 0
 
--- the kind of a job, its place, and the flags that it is for
+-- the fields of a job with this kind, place and flags
 abbrev pub job_with : ℕ → ℕ → Flags → JobFields
 job_with kind place flags =
     record { kind = kind; place = place; error = bit flags.error; damaged = bit flags.damaged }
@@ -113,7 +112,7 @@ abbrev pub tar_fields : Option ℕ → TarFields
 tar_fields None = record { word = 0; known = 0 }
 tar_fields (Some at) = record { word = at; known = 1 }
 
--- the numbers of an engine
+-- the fields of an engine
 abbrev pub fields_of : Engine → EngineFields
 fields_of e = record {
   requests = e.requests;

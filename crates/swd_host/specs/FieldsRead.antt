@@ -1,5 +1,5 @@
--- What is read from numbers, as if they were those of an engine. `EngineFields::engine` alone goes by it, and takes
--- nothing from numbers that no engine has.
+-- The engine that is read from any integers. Only `EngineFields::engine` uses it, which rejects an engine whose own
+-- fields differ.
 use Rattle.std.specs.Prelude.{ℕ, ◌==◌, if◌then◌else◌, Option, Some, None}
 use Rattle.swd_port.specs.declared.access.Answer.TheVariants.{Value, Written, BusFault}
 use Rattle.swd_host.specs.declared.flags.Flags.{Flags}

@@ -16,11 +16,11 @@ no_flags = record { error = false; damaged = false }
 abbrev pub clear_word : Flags → ℕ
 clear_word flags = (if flags.error then 4 else 0) + (if flags.damaged then 8 else 0)
 
--- both power acknowledgements are set
+-- both power-up acknowledgements are set
 abbrev pub is_powered : ℕ → Bool
 is_powered word = holds 0x2000_0000 word && holds 0x8000_0000 word
 
--- CSW as it was asked for: words, AddrInc single, and an enabled device (IHI 0031, MEM-AP, "CSW, Control/Status Word
+-- CSW as the host configures it: Size word, AddrInc single, DeviceEn set (IHI 0031, MEM-AP, "CSW, Control/Status Word
 -- register")
 abbrev pub is_configured : ℕ → Bool
 is_configured word = let csw = csw_of word in (csw.size == 2) && (csw.addr_inc == 1) && csw.device_en

@@ -1,4 +1,4 @@
--- How far the opening or an access has come: the requests that are still open to it, and those that were sent.
+-- The progress of the opening or an access: the requests that it may still send, and those that it sent.
 use Rattle.std.specs.Prelude.{ℕ, ◌+◌, ◌-◌, ◌*◌, Bool, true, false, not, if◌then◌else◌}
 use Rattle.swd_bits.specs.Bits.{bit}
 use Rattle.swd_host.specs.declared.outcome.End.TheVariants.{Lost}
@@ -14,7 +14,7 @@ use Rattle.swd_host.specs.declared.engine.State.{State}
 use Rattle.swd_host.specs.declared.engine.State.TheVariants.{Leading, Doing, Resting}
 use Rattle.swd_host.specs.declared.engine.Engine.{Engine}
 
--- REQUESTS STILL OPEN before the next outcome, at most, where no event comes
+-- REQUESTS STILL OPEN: the most before the next outcome, without an event
 abbrev pub left_at : Place → ℕ
 left_at Identify = 10
 left_at Wipe = 9
@@ -30,13 +30,13 @@ left_at Transfer = 5
 left_at Confirm = 4
 left_at Behind = 6
 
--- where it is RESEND: in a block four more come where the next access was a bus error, and then RESEND again
+-- the same for RESEND. In a block, if the next access was a bus error, four more follow, and then RESEND again.
 abbrev pub left_again : Place → ℕ
 left_again Confirm = 6
 left_again Behind = 2
 left_again p = left_at p
 
--- after a bus error is cleared: the access is answered, or RESEND comes, or the request comes again
+-- the same after a bus error is cleared: the access is answered, or RESEND follows, or the request is sent again
 abbrev pub left_cleared : Place → ℕ
 left_cleared Confirm = 0
 left_cleared Behind = 2
@@ -57,27 +57,27 @@ left_in (Doing job phase) = left_for job - 1
 left_in (Resting Opened) = 1
 left_in (Resting outcome) = 0
 
--- the flag of a transfer that was left pending may bring five more
+-- the flag of a transfer that was left pending may cost five more
 abbrev pub stray_left : Bool → ℕ
 stray_left stray = if stray then 5 else 0
 
--- the requests still open to an engine before its next outcome, at most: each event may bring five more
+-- the most requests of an engine before its next outcome: each event may cost five more
 abbrev pub open_requests : Engine → ℕ
 open_requests e = 5 * (e.tries - e.events) + stray_left e.stray + left_in e.state
 
--- a data phase, a turnaround or the lead stands before the next request
+-- whether a data phase, a turnaround or the lead comes before the next request
 abbrev pub moves_first : State → ℕ
 moves_first Leading = 1
 moves_first (Doing job Ask) = 0
 moves_first (Doing job phase) = 1
 moves_first (Resting outcome) = 0
 
--- the calls of the wire before the next outcome, at most: between two requests stands at most one other
+-- the most calls of the wire before the next outcome: at most one other call between two requests
 abbrev pub calls_left : Engine → ℕ
 calls_left e = 2 * open_requests e + moves_first e.state
 
--- REQUESTS THAT WERE SENT for the opening or the access in hand, at least; its DRW among them where that went out
--- with the access before. The flag says whether TAR has to be written.
+-- REQUESTS SENT: the least for the opening or the current access, including its DRW where that confirmed the access
+-- before. `aims`: TAR has to be written.
 abbrev pub least_at : Bool → Place → ℕ
 least_at aims Identify = 0
 least_at aims Wipe = 1
@@ -136,7 +136,7 @@ is_state_of opening (Resting Opened) = opening
 is_state_of opening (Resting (Answered answer)) = not opening
 is_state_of opening (Resting (Stopped end)) = true
 
--- a request has to be sent, or the engine rests, and not since an acknowledgement was lost
+-- a request has to be sent, or the engine rests for another reason than a lost acknowledgement
 abbrev pub is_quiet : State → Bool
 is_quiet Leading = false
 is_quiet (Doing job Ask) = true

@@ -1,4 +1,4 @@
--- What is left of an engine once it was told what came of its cue.
+-- An engine after it took the reply to its cue.
 use Rattle.std.specs.Prelude.{ℕ, ◌≡◌, ◌+◌, ◌≤◌, true, false, None}
 use Rattle.swd_bits.specs.Phases.{word_in}
 use Rattle.swd_port.specs.declared.cue.Cue.{Cue}
@@ -12,7 +12,7 @@ use Rattle.swd_host.specs.Steps.{GoesTo, RestsWith, ahead_to, read_to, sent_to}
 use Rattle.swd_host.specs.Tracks.{HasRead, HasSent, Hears, Keeps}
 use Rattle.swd_host.specs.Turns.{Sees, lands_from}
 
--- what the three bits that were seen leave of an engine
+-- an engine after it saw the three bits
 pub record Saw (seen : ℕ) (e f : Engine) : Type 0 where
   pub fewer : open_requests f + 1 ≤ open_requests e
   pub requests : requests_of f ≡ one_more (requests_of e)
@@ -21,7 +21,7 @@ pub record Saw (seen : ℕ) (e f : Engine) : Type 0 where
   pub early : HearsEarly seen e f
   pub meets : Meets false None e f
 
--- what the data phase of a read leaves
+-- an engine after the data phase of a read
 pub record Took (bits : ℕ) (e f : Engine) : Type 0 where
   pub lands : lands_from e f
   pub tracks : Keeps (HasRead (word_in bits)) e f
@@ -31,7 +31,7 @@ pub record Took (bits : ℕ) (e f : Engine) : Type 0 where
       f.state
   pub rests : RestsWith (ahead_to (job_in e.state) e.task) f.state f.ahead
 
--- what a lead, the data phase of a write or a turnaround leaves
+-- an engine after a lead, the data phase of a write or a turnaround
 pub record Did (e f : Engine) : Type 0 where
   pub lands : lands_from e f
   pub tracks : Keeps HasSent e f
@@ -39,7 +39,7 @@ pub record Did (e f : Engine) : Type 0 where
   pub meets : MeetsSent e f
   pub goes : GoesTo (sent_to e.state e.task) f.state
 
--- what is left of an engine once this came of its cue
+-- an engine after this reply to this cue
 abbrev pub Replied : Cue → ℕ → Engine → Engine → Type 0
 Replied (Ask request) seen e f = Saw seen e f
 Replied Take bits e f = Took bits e f

@@ -1,4 +1,4 @@
--- What a report says of the plain memory: the theorem of the host.
+-- What a report states about the plain memory: the theorem of the host.
 use Rattle.std.specs.Prelude.{ℕ, ◌≡◌, ◌≢◌, ◌+◌, ◌-◌, ◌*◌, ◌%◌, ◌<◌, ◌≤◌, List, length, take, false, true, None, min}
 use Rattle.std.specs.Prelude.{slice_index_or as get_or}
 use Rattle.swd_port.specs.declared.access.Access.{Access}
@@ -19,7 +19,7 @@ use Rattle.swd_host.specs.declared.outcome.End.TheVariants.{All, Lost, TriesOut}
 use Rattle.swd_host.specs.Plain.{memory_after, answers_of, AreAccesses, is_aligned}
 use Rattle.swd_port.specs.Registers.{no_select}
 
--- a report: the answers, how many accesses more were begun, the requests that were sent, and how the run ended
+-- a report: the answers, how many more accesses were begun, how many requests were sent, and how the run ended
 pub record Told : Type 0 where
   pub answers : List Answer
   pub begun : ℕ
@@ -34,15 +34,15 @@ told_of report = record {
   ended = report.ended;
 }
 
--- The answers are those of the first k accesses of the list over the plain memory, and the memory is that after them,
--- or after some of the accesses that were begun besides. At most so many are begun.
+-- The answers are exactly those to the first k accesses of the list over the plain memory. The memory `now` is that
+-- after these and a prefix of the begun ones, possibly empty. At most `most` accesses are begun.
 pub record FitsAt (most k : ℕ) (list : List Access) (m : PlainMemory) (told : Told) (now : PlainMemory) : Type 0 where
   pub reported : k ≤ length list
   pub answers : told.answers ≡ answers_of (take k list) m
   pub memory : (j : ℕ) × (j ≤ told.begun) × (now ≡ memory_after (take (k + j) list) m)
   pub few : told.begun ≤ most
-  -- accesses are begun that the list has, in a run that isn't whole, once a request was sent for each: after nine of
-  -- the opening, one of TAR, and one for each access before
+  -- Begun accesses are in the list, in a run that isn't whole. A request was sent for each, after nine of the opening,
+  -- one for TAR, and one for each access before.
   pub begun : told.begun ≢ 0 → (k + told.begun ≤ length list) × (told.ended ≢ All) ×
       (10 + k + told.begun ≤ told.requests)
   pub all : told.ended ≡ All → k ≡ length list
@@ -50,7 +50,7 @@ pub record FitsAt (most k : ℕ) (list : List Access) (m : PlainMemory) (told : 
 abbrev pub Fits : ℕ → List Access → PlainMemory → Told → PlainMemory → Type 0
 Fits most list m told now = (k : ℕ) × FitsAt most k list m told now
 
--- why a list isn't done, in the order of the checks
+-- why a list is refused, in the order of the checks
 abbrev pub RefusedAs : List Access → Refused → Type 0
 RefusedAs list TooMany = 65536 < length list
 RefusedAs list (Unaligned index) =
@@ -58,21 +58,21 @@ RefusedAs list (Unaligned index) =
     × (is_aligned (get_or list index (Read 0)) ≡ false)
 RefusedAs list Memory = (length list ≤ 65536) × AreAccesses list
 
--- WHATEVER CAME BACK
+-- WHATEVER THE TARGET ANSWERS
 
 -- what has to come next on the wire, by how a call ended
 abbrev pub due_at : End → Due
 due_at Lost = DueLost
 due_at end = Nothing
 
--- the most requests that an opening and n accesses take, where each meets so many events at most: the opening takes
--- ten, an access six, and an event brings five more
+-- the most requests of an opening and n accesses, where each meets at most `tries` events: the opening takes ten, an
+-- access six, and an event costs five more
 abbrev pub most_requests : ℕ → ℕ → ℕ
 most_requests tries n = 10 + 5 * tries + n * (6 + 5 * tries)
 
--- What is true of a report whatever the other end did: it tells of the list alone, all of it where the run is whole,
--- and what comes next on the wire. No access but the one after those that are answered took requests, and no more
--- than its tries allow; spare are those that the opening may take beside.
+-- What holds of a report whatever the other end did. It has no more answers than the list has accesses, and all of them
+-- at `All`. At most `limit` accesses are begun. `next`, what is due on the wire, follows from the end. The number of
+-- requests is at most that of an opening, of each answered access and of one more that the list has, plus `spare`.
 pub record Closes (spare limit : ℕ) (list : List Access) (tries : ℕ) (told : Told) (next : Due) : Type 0 where
   pub number : length told.answers ≤ length list
   pub whole : told.ended ≡ All → length told.answers ≡ length list
@@ -80,21 +80,21 @@ pub record Closes (spare limit : ℕ) (list : List Access) (tries : ℕ) (told :
   pub due : next ≡ due_at told.ended
   pub spends : told.requests ≤ spare + most_requests tries (min (length list) (length told.answers + 1))
 
--- WHERE WHAT CAME BACK FITS THE LAW
+-- WHERE WHAT WAS OBSERVED IS CONSISTENT WITH THE MODEL
 
--- SELECT names AP 0 and the banks 0, and the identification is one of this protocol
+-- SELECT is 0 (AP 0, banks 0), and bit 0 of the identification is 1
 pub record IsKnown (s : Target) : Type 0 where
   pub select : s.select ≡ no_select
   pub odd : s.identification % 2 ≡ 1
 
--- A target at rest: a call may begin. No transfer is pending; flags, power, CSW, TAR and all else are whatever they
--- are.
+-- A target at rest, where a call may start: nothing is due, and no transfer is pending. Flags, power, CSW, TAR and all
+-- else are arbitrary.
 pub record IsAtRest (s : Port) : Type 0 where
   pub due : s.link.due ≡ Nothing
   pub known : IsKnown s.target
   pub settled : s.target.pending ≡ None
 
--- no flag is set, and power is on and there
+-- no flag is set, and power is requested and was read as acknowledged
 pub record IsPowered (s : Target) : Type 0 where
   pub sticky_error : s.sticky_error ≡ false
   pub write_error : s.write_error ≡ false
@@ -102,18 +102,18 @@ pub record IsPowered (s : Target) : Type 0 where
   pub system : s.system_power ≡ true
   pub seen : s.power_up ≡ Seen
 
--- How a call may end, and what it leaves: a whole list a target at rest, powered and with no flag; a lost
--- acknowledgement or too many events a known one, whose last transfer may be pending. It is never that an
--- identification was wrong, or that the target confused the host.
+-- How a call may end, and the target that it leaves. A whole list leaves a target at rest, powered and without a flag.
+-- A lost acknowledgement, or more than `tries` disturbed requests, leaves a known one, whose last transfer may be
+-- pending. No call ends with a wrong identification or confused.
 abbrev pub EndsAt : End → ℕ → Port → Port → Type 0
 EndsAt All tries s t = IsAtRest t × IsPowered t.target
 EndsAt Lost tries s t = (t.link.due ≡ DueLost) × (s.tally.lost < t.tally.lost) × IsKnown t.target
 EndsAt TriesOut tries s t = (t.link.due ≡ Nothing) × (s.tally.disturbed + tries < t.tally.disturbed) × IsKnown t.target
 EndsAt end tries s t = ⊥
 
--- The theorem of a run over a target at rest with this memory: the report fits the memory as it is at the end, and as
--- it will be once a transfer that is still pending took effect; and the run stops early only at a lost acknowledgement
--- or past its tries. At most so many accesses are begun that aren't answered.
+-- The theorem of a run over a target at rest with the memory m. The report fits the memory at the end, and the memory
+-- once a transfer that is still pending has taken effect. The run stops early only at a lost acknowledgement or after
+-- more than `tries` disturbed requests. At most `limit` unanswered accesses are begun.
 pub record RunFits (limit : ℕ) (list : List Access) (tries : ℕ) (m : PlainMemory) (told : Told) (s t : Port)
     : Type 0 where
   pub now : Fits limit list m told t.target.memory
@@ -124,15 +124,15 @@ pub record RunFits (limit : ℕ) (list : List Access) (tries : ℕ) (m : PlainMe
   pub least : told.ended ≡ All → 9 + length list ≤ told.requests
   pub most : told.requests ≤ 9 + 6 * length list + 5 * (t.tally.disturbed - s.tally.disturbed)
 
--- it is the access after the one at i
+-- a is the access after the one at i
 pub record Follower (i : ℕ) (list : List Access) (a : Access) : Type 0 where
   pub number : i + 1 < length list
   pub same : (d : Access) → get_or list (i + 1) d ≡ a
 
--- so it is for every target at rest, whatever its memory; one that was just made is such a one
+-- the same for every target at rest, whatever its memory; a simulated target that was just made is at rest
 abbrev pub RunsWithin : ℕ → List Access → ℕ → Told → Port → Port → Type 0
 RunsWithin limit list tries told s t = IsAtRest s → RunFits limit list tries s.target.memory told s t
 
--- in a run one access at most is begun that isn't answered
+-- the same for a run, in which at most one unanswered access is begun
 abbrev pub RunsOver : List Access → ℕ → Told → Port → Port → Type 0
 RunsOver list tries told s t = RunsWithin 1 list tries told s t

@@ -1,4 +1,4 @@
--- The requests that a host sends: the opening, an access, and what is sent where something went wrong.
+-- The requests that a host sends: the opening, an access, and what follows an error.
 use Rattle.std.specs.Prelude.{ℕ, Bool, true, false, not, if◌then◌else◌, Option, Some, None, is_some}
 use Rattle.swd_bits.specs.declared.request.Request.{Request}
 use Rattle.swd_port.specs.PlainMemory.{address}
@@ -32,7 +32,7 @@ confirming_register (BurstRead at) = DrwRead
 confirming_register (BurstWrite at word) = DrwWrite
 confirming_register task = RdbuffRead
 
--- the register of each place, SELECT being 0
+-- the register of each place, for SELECT 0
 abbrev pub register_at : Place → Task → Register
 register_at Identify task = DpidrRead
 register_at Wipe task = AbortWrite
@@ -59,14 +59,14 @@ register_for (Check p owed) task = CtrlStatRead
 abbrev pub request_for : Job → Task → Request
 request_for job task = request_of (register_for job task)
 
--- the word of an access that is a write
+-- the word of an access, if it is a write
 abbrev pub word_of_task : Task → Option ℕ
 word_of_task (Read at) = None
 word_of_task (BurstRead at) = None
 word_of_task (Write at word) = Some word
 word_of_task (BurstWrite at word) = Some word
 
--- the word that is written, where the request is a write whose word the engine has
+-- the word that is written, if the request is a write whose word the engine has
 abbrev pub word_for : Job → Task → Option ℕ
 word_for (At Wipe) task = Some 0x0000_001e
 word_for (At Select) task = Some 0
@@ -81,7 +81,7 @@ word_for (Status p) task = None
 word_for LastStatus task = None
 word_for (Check p owed) task = None
 
--- what follows a place where all is well; the last place of each sequence follows itself
+-- the next place where no error occurs; the last place of each sequence follows itself
 abbrev pub next_place : Place → Place
 next_place Identify = Wipe
 next_place Wipe = Inspect
@@ -97,13 +97,13 @@ next_place Transfer = Confirm
 next_place Confirm = Confirm
 next_place Behind = Behind
 
--- DRW's write, where it is one
+-- the place of DRW's request, if it is a write
 abbrev pub written_by : Task → Option Place
 written_by (Read at) = None
 written_by (BurstRead at) = None
 written_by task = Some Transfer
 
--- the write that the request at a place confirms; TAR is one of them where it was written for the access
+-- the write that the request at a place confirms; `aims`: TAR was written for the access
 abbrev pub confirmed_by : Place → Task → Bool → Option Place
 confirmed_by Inspect task aims = Some Wipe
 confirmed_by Power task aims = Some Select
@@ -126,8 +126,8 @@ is_exempt (At p) = is_exempt_place p
 is_exempt (Resend p) = false
 is_exempt job = true
 
--- the request that gives the word of a place again, where its parity was wrong: RESEND for what RDBUFF gave, or DRW
--- in a block
+-- the request that reads the word of a place again after wrong parity: RESEND for the word of RDBUFF, or of DRW in a
+-- block
 abbrev pub again_at : Place → Job
 again_at Configured = Resend Configured
 again_at Confirm = Resend Confirm
@@ -137,7 +137,7 @@ again_at p = At p
 abbrev pub is_write : Job → Task → Bool
 is_write job task = is_some (word_for job task)
 
--- the word that is read here isn't looked at: that of a posted read, and RDBUFF's after a write
+-- the word that is read here is ignored: that of a posted read, and RDBUFF's after a write
 abbrev pub is_unread : Place → Task → Bool
 is_unread Recall task = true
 is_unread Transfer task = true
@@ -152,8 +152,8 @@ abbrev pub is_behind : Place → Bool
 is_behind Behind = true
 is_behind p = false
 
--- how many of the accesses that aren't answered are begun once the request is sent, at least: DRW begins the access in
--- hand, and what confirms a read of a block begins the next
+-- how many unanswered accesses, at least, are begun once the request is sent: DRW starts the current access, and what
+-- confirms a read of a block starts the next
 abbrev pub begins_next : Task → ℕ
 begins_next (BurstRead at) = 2
 begins_next task = 0

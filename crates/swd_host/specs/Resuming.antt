@@ -1,4 +1,4 @@
--- How a report of going on is put together.
+-- How the report of `resume` is computed.
 use Rattle.std.specs.Prelude.{ℕ, ◌-◌, Bool, true, false, if◌then◌else◌, length, max}
 use Rattle.swd_host.specs.declared.outcome.End.{End}
 use Rattle.swd_host.specs.declared.outcome.End.TheVariants.{All}
@@ -8,12 +8,12 @@ abbrev pub is_all : End → Bool
 is_all All = true
 is_all end = false
 
--- The accesses behind the answers that any call so far began, where the last call began so many: what earlier calls
--- began stays so until it is answered, and once all is answered none is.
+-- How many unanswered accesses any call so far left begun, where the last call left `own`. One that an earlier call
+-- started stays begun until it is answered. At `All` the number is 0.
 abbrev pub begun_after : Told → Told → ℕ → ℕ
 begun_after earlier told own =
     if is_all told.ended then 0 else max own (earlier.begun - (length told.answers - length earlier.answers))
 
--- the report of this call, with what earlier calls began
+-- the report of this call, with the accesses that earlier calls left begun
 abbrev pub since : Told → Told → Told
 since told earlier = record told { begun = begun_after earlier told told.begun }

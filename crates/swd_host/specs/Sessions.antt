@@ -1,4 +1,4 @@
--- Calls one after the other over one target.
+-- Successive calls over one target.
 use Rattle.std.specs.Prelude.{ℕ, ◌≡◌, ◌%◌, List, [], ◌++◌}
 use Rattle.swd_port.specs.declared.access.Access.{Access}
 use Rattle.swd_port.specs.declared.access.Answer.{Answer}
@@ -8,20 +8,19 @@ use Rattle.swd_host.specs.declared.outcome.End.TheVariants.{All}
 use Rattle.swd_host.specs.Plain.{memory_after, answers_of}
 use Rattle.swd_host.specs.Reports.{Told, IsAtRest, RunsWithin}
 
--- a target that was just made is at rest, with its memory, where its identification is one of this protocol
+-- a target that was just made is at rest, with its memory, where bit 0 of its identification is 1
 pub record MadeIsAtRest : Type 0 where
   pub rests : (identification : ℕ) (m : PlainMemory) → identification % 2 ≡ 1 → IsAtRest (made identification m)
   pub memory : (identification : ℕ) (m : PlainMemory) → (made identification m).target.memory ≡ m
 
--- Calls from the port s to the port t, runs and blocks, each of which ended whole: the accesses of all, and all
--- answers.
+-- Runs and blocks from the port s to the port t, each of which ended `All`, with all their accesses and all answers.
 pub data Session (s : Port) : List Access → List Answer → Port → Type 0 where
   none : Session s [] [] s
   then : {done : List Access} {answers : List Answer} {t u : Port} → Session s done answers t
       → (limit tries : ℕ) (list : List Access) (told : Told) → RunsWithin limit list tries told t u → told.ended ≡ All
       → Session s (done ++ list) (answers ++ told.answers) u
 
--- they are as one call with all accesses over the plain memory, and the target is at rest again
+-- they are as one list with all accesses over the plain memory, and the target is at rest again
 pub record IsAsOne (s : Port) (list : List Access) (answers : List Answer) (t : Port) : Type 0 where
   pub rests : IsAtRest t
   pub answers_are : answers ≡ answers_of list s.target.memory

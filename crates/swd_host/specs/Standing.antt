@@ -27,19 +27,19 @@ use Rattle.swd_host.specs.Reports.{Told, Fits, EndsAt, due_at}
 abbrev pub told_by : List Answer → Engine → End → Told
 told_by answers e ended = record { answers = answers; begun = begun_of e; requests = e.requests; ended = ended }
 
--- the next access's write was answered OK and awaits its data: TAR has its address
+-- the DRW write of the next access was answered OK and awaits its data: TAR has its address
 pub record Poised (n at : ℕ) (m : PlainMemory) (s : Port) : Type 0 where
   pub up : Up m s.target
   pub tar : s.target.tar ≡ Some at
   pub flag : s.target.write_error ≡ false
   pub paid : n ≤ s.tally.disturbed
 
--- what holds between two accesses; in a burst the data of the next one's write is due
+-- what holds between two accesses; in a burst of writes the data of the next one is due
 abbrev pub Waits : Bool → ℕ → Hand → Port → Type 0
 Waits true n k s = Writes DrwWrite n (λ c. Poised c (address (access_of k.task) + 4) k.memory s) s
 Waits false n k s = IsReady n k s
 
--- the target is up over this memory, no flag is set, and the engine doesn't know TAR
+-- the target is up over this memory, no flag is set, and TAR is unknown to the engine
 pub record IsOpen (m : PlainMemory) (e : Engine) (s : Port) : Type 0 where
   pub up : Up m s.target
   pub odd : s.target.identification % 2 ≡ 1
@@ -47,23 +47,23 @@ pub record IsOpen (m : PlainMemory) (e : Engine) (s : Port) : Type 0 where
   pub tar : e.tar ≡ None
   pub ahead : e.ahead ≡ Unsent
 
--- nothing of the next access was sent, and TAR isn't known
+-- nothing of the next access was sent, and TAR is unknown
 pub record IsAnew (e : Engine) : Type 0 where
   pub tar : e.tar ≡ None
   pub ahead : e.ahead ≡ Unsent
   pub plain : is_burst e.task ≡ false
 
--- one request was sent for each of i accesses, and beside these two: TAR's, and the one that confirmed the last
--- access; but the next access may have to write TAR and be unbegun, as the first one
+-- At least one request was sent for each of i accesses. Two more were sent, TAR's and the one that confirmed the last
+-- access, unless the next access starts anew, as the first one does.
 pub data HasSentFor (i : ℕ) (o e : Engine) : Type 0 where
   anew : IsAnew e → o.requests + i ≤ e.requests → HasSentFor i o e
   on : o.requests + 2 + i ≤ e.requests → HasSentFor i o e
 
--- What is known of the memory after i accesses, by an engine that opened the target as o and stands at e now.
+-- What is known of the memory after i accesses, for an engine that opened the target as o and is e now.
 pub record Reached (i : ℕ) (list : List Access) (m : PlainMemory) (o : Engine) (s : Port) (e : Engine)
     (answers : List Answer) (t : Port) : Type 0 where
-  -- So many disturbances were met as events: one that befell the data phase of the request that confirmed the last
-  -- access belongs to the next access.
+  -- How many disturbances were met as events. One of the data phase of the request that confirmed the last access
+  -- belongs to the next access.
   pub met : ℕ
   pub fewest : s.tally.disturbed ≤ met
   pub ready : Waits (is_ahead e) met (hand_of e (memory_after (take i list) m)) t
@@ -72,11 +72,11 @@ pub record Reached (i : ℕ) (list : List Access) (m : PlainMemory) (o : Engine)
   pub sent : HasSentFor i o e
   pub most : e.requests ≤ o.requests + 6 * i + 5 * (met - s.tally.disturbed)
 
--- the list has an access at i, and it continues a burst after this one
+-- the list has an access at i, which continues a burst after this one
 abbrev pub ContinuesAt : List Access → ℕ → Access → Type 0
 ContinuesAt list i a = (i < length list) × ((d : Access) → continues a (Some (get_or list i d)) ≡ true)
 
--- i accesses are answered: what the engine keeps by itself, whatever came back
+-- i accesses are answered: what the engine keeps by itself, whatever the target answers
 pub record Stays (i : ℕ) (list : List Access) (o e : Engine) (answers : List Answer) (t : Port) : Type 0 where
   pub due : DueFits e t
   pub rests : may_start (finished_of e) ≡ true
@@ -92,7 +92,7 @@ pub record Stands (i : ℕ) (list : List Access) (o : Engine) (s : Port) (e : En
     (t : Port) : Type 0 where
   pub due : DueFits e t
   pub rests : may_start (finished_of e) ≡ true
-  -- the next access is the one that continues the burst
+  -- the next access continues the burst
   pub chain : is_burst e.task ≡ true → ContinuesAt list i (access_of e.task)
   pub tried : e.tries ≡ o.tries
   pub bursts : e.bursts ≡ o.bursts
@@ -113,8 +113,8 @@ pub record HasOpened (e : Engine) : Type 0 where
   pub most : e.requests ≤ 2 ^ 35
   pub tries : e.tries < 2 ^ 32
 
--- What an engine that opened its target as o comes to by itself, once it did a list: no access but the one after those
--- that are answered took requests.
+-- What an engine that opened its target as o reaches by itself with a list. The requests that it sent for the list are
+-- at most those of the answered accesses and of one more.
 pub record Performs (list : List Access) (o f : Engine) (before after : List Answer) (end : End) (next : Due)
     : Type 0 where
   pub answers : List Answer
@@ -125,11 +125,11 @@ pub record Performs (list : List Access) (o f : Engine) (before after : List Ans
   pub due : next ≡ due_at end
   pub spends : f.requests ≤ o.requests + min (length list) (length answers + 1) * (6 + 5 * o.tries)
 
--- What doing a list over this memory comes to.
+-- The result of a list over this memory.
 pub record DoesOver (list : List Access) (m : PlainMemory) (o f : Engine) (answers : List Answer) (end : End)
     (s t : Port) : Type 0 where
   pub now : Fits (most_of o.bursts) list m (told_by answers f end) t.target.memory
-  -- so it is once a transfer that is still pending took effect, whatever the target chooses
+  -- the memory once a transfer that is still pending has taken effect, whatever the target chooses
   pub settled : PlainMemory
   pub becomes : (c : Choice) → (completed c t).target.memory ≡ settled
   pub later : Fits (most_of o.bursts) list m (told_by answers f end) settled
@@ -137,7 +137,7 @@ pub record DoesOver (list : List Access) (m : PlainMemory) (o f : Engine) (answe
   pub least : end ≡ All → o.requests + length list ≤ f.requests
   pub most : f.requests ≤ o.requests + 6 * length list + 5 * (t.tally.disturbed - s.tally.disturbed)
 
--- A list is done by an engine that opened the target as o: these answers come after those that were there.
+-- The result of a list for an engine that opened the target as o. Its answers come after the earlier ones.
 pub record Does (list : List Access) (o f : Engine) (before after : List Answer) (end : End) (s t : Port)
     : Type 0 where
   pub answers : List Answer

@@ -1,4 +1,4 @@
--- Where what came of a cue leads the engine, unless it stops.
+-- The state to which the reply to a cue leads the engine, unless it stops.
 use Rattle.std.specs.Prelude.{ℕ, ◌≡◌, ◌||◌, ◌&&◌, not, Bool, true, false, if◌then◌else◌, Option, Some, None}
 use Rattle.swd_port.specs.declared.access.Answer.TheVariants.{Written, Value, BusFault}
 use Rattle.swd_host.specs.declared.engine.Ahead.{Ahead}
@@ -22,7 +22,7 @@ abbrev pub is_stop : State → Bool
 is_stop (Resting (Stopped end)) = true
 is_stop x = false
 
--- the opening or an access has come to its end
+-- the opening or an access has ended without a stop
 abbrev pub is_rested : State → Bool
 is_rested (Resting Opened) = true
 is_rested (Resting (Answered answer)) = true
@@ -56,24 +56,23 @@ sent_to (Doing job Ask) task = stopped
 sent_to Leading task = Doing (At Identify) Ask
 sent_to (Resting outcome) task = stopped
 
--- where the word that is read at a place isn't looked at
+-- after the word that is read at a place, where that is ignored
 abbrev pub passed_to : Place → State
 passed_to Confirm = Resting (Answered Written)
 passed_to p = Doing (At (next_place p)) Ask
 
--- the word that is read at a place of an access; only what confirms it gives one
+-- after the word that is read at a place of an access; only the place that confirms it has one
 abbrev pub value_to : Place → ℕ → State
 value_to Confirm word = Resting (Answered (Value word))
 value_to p word = stopped
 
--- the word that RESEND gives
+-- after the word that RESEND returns
 abbrev pub resent_to : Place → ℕ → State
 resent_to Confirm word = Resting (Answered (Value word))
 resent_to Behind word = Resting (Answered (Value word))
 resent_to p word = stopped
 
--- the flags that a FAULT left: behind a block's read a bus error of the next one, and at what confirms a read one of
--- the read
+-- a FAULT at this place can only be a bus error: of a read, at what confirms it; of the next read of a block, after it
 abbrev pub is_bus_error : Place → Task → Bool
 is_bus_error Confirm task = is_read task
 is_bus_error Behind task = true
@@ -82,24 +81,24 @@ is_bus_error p task = false
 abbrev pub status_to : Place → Flags → Task → State
 status_to p flags task = if is_bus_error p task && not flags.error then stopped else Doing (Clear p flags) Ask
 
--- the flag of a bus error is cleared
+-- after the flag of a bus error is cleared
 abbrev pub cleared_to : Place → State
 cleared_to Confirm = Resting (Answered BusFault)
 cleared_to Behind = Doing (Resend Behind) Ask
 cleared_to p = Doing (At p) Ask
 
--- the request to begin at again: the write that was damaged, or the request itself
+-- the place to repeat from: the write that was corrupted, or the place itself
 abbrev pub repeated_at : Place → Option Place → Place
 repeated_at p (Some write) = write
 repeated_at p None = p
 
--- the flags after ABORT
+-- after the flags are read that ABORT left
 abbrev pub checked_to : Place → Flags → Flags → Task → Bool → State
 checked_to p owed now task aims =
     if now.error || now.damaged then Doing (Clear p (record { error = owed.error; damaged = true })) Ask else
     if owed.error then cleared_to p else Doing (At (repeated_at p (confirmed_by p task aims))) Ask
 
--- after the data phase of a read: its word, or none where its parity was wrong
+-- after the data phase of a read: its word, or `None` after wrong parity
 abbrev pub read_to : Job → Option ℕ → Task → Bool → State
 read_to (At p) None task aims = if is_unread p task then passed_to p else Doing (again_at p) Ask
 read_to (At p) (Some word) task aims = if is_unread p task then passed_to p else value_to p word
@@ -110,7 +109,7 @@ read_to LastStatus (Some word) task aims = stopped
 read_to (Clear p owed) (Some word) task aims = stopped
 read_to job None task aims = Doing job Ask
 
--- what is known of the next access of a block where the engine comes to rest
+-- the state of the next access of a block where the engine comes to rest
 abbrev pub ahead_sent : Task → Ahead
 ahead_sent task = if is_block task then Sent else Unsent
 
@@ -120,6 +119,6 @@ ahead_to (Resend Confirm) task = ahead_sent task
 ahead_to (Resend Behind) task = Failed
 ahead_to job task = Unsent
 
--- at rest, this is known of the next access
+-- where the engine rests, this is the state of the next access
 abbrev pub RestsWith : Ahead → State → Ahead → Type 0
 RestsWith ahead x known = is_rested x ≡ true → known ≡ ahead

@@ -1,4 +1,4 @@
--- The access in hand, and how it is confirmed.
+-- The current access, and how it is confirmed.
 use Rattle.std.specs.Prelude.{ℕ, Bool, true, false, if◌then◌else◌, Option}
 use Rattle.swd_port.specs.declared.access.Access.{Access}
 use Rattle.swd_port.specs.declared.access.Access.TheVariants.{Read as AccessRead, Write as AccessWrite}
@@ -31,12 +31,12 @@ abbrev pub is_burst_write : Task → Bool
 is_burst_write (BurstWrite at word) = true
 is_burst_write task = false
 
--- a read of a block: the DRW read of the next access gives its word
+-- a read of a block: the DRW read of the next access returns its word
 abbrev pub is_block : Task → Bool
 is_block (BurstRead at) = true
 is_block task = false
 
--- an access, by the one that follows it
+-- the task of an access, by the one that follows it
 abbrev pub task_for : Bursts → Access → Option Access → Task
 task_for Writes (AccessRead at) following = Read at
 task_for Reads (AccessRead at) following = if continues (AccessRead at) following then BurstRead at else Read at
@@ -44,7 +44,7 @@ task_for Writes (AccessWrite at word) following =
     if continues (AccessWrite at word) following then BurstWrite at word else Write at word
 task_for Reads (AccessWrite at word) following = Write at word
 
--- how many accesses that aren't answered may be begun
+-- how many unanswered accesses may be begun
 abbrev pub most_begun : Task → ℕ
 most_begun (BurstRead at) = 2
 most_begun task = 1

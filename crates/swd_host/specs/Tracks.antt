@@ -1,32 +1,32 @@
--- What the engine's state says of the port at the other end, and of the memory behind it: the invariant of the host.
+-- What the engine's state implies about the port at the other end, and the memory behind it: the invariant of the host.
 --
--- THE LETTERS. `s` is the port as it is now, or its target. `k`, the hand, is the access that is being done, what is
--- known of TAR and of the access after it, and the memory before it. `n` is the disturbances that the port had counted
--- at the beginning, and the events that the engine met since: each of these was one, so the port counts n at least
--- (`paid`). `b` is how many of the accesses that aren't answered are begun, so that the memory may show what they do:
--- none, the one in hand, or in a block of reads the next one too.
+-- THE LETTERS. `s` is the port as it is now, or its target. `k`, the hand, is the current access, what is known of TAR
+-- and of the next access, and the memory before the current access. `n` is the number of disturbances that the port had
+-- counted at the start, plus the events that the engine met since. Each event was a disturbance, so the port counts at
+-- least n (`paid`). `b` is how many unanswered accesses are begun, so that the memory may be that after them: 0, the
+-- current one, or in a block of reads the next one too.
 --
--- A REQUEST takes two facts: `Before` its job, where it may be sent, and `During`, where its OK was seen and its data
--- phase is due; `Before` the next job comes of that. For an access, where all is well:
+-- A REQUEST has two facts: `Before` its job, where it may be sent, and `During`, where its OK was seen and its data
+-- phase is due. `During` implies `Before` of the next job. For an access without an error:
 --
 --     job           the request         before it (`Has`)                      the data phase that is due
 --     At Aim        write TAR           IsUnaimed: TAR has to be written       the address
---     At Transfer   read or write DRW   IsAimed: TAR has the address           a write's word; a read's isn't looked at
---     At Confirm    read RDBUFF         Under: sent, and may not be done yet   a read's word; a write's isn't looked at
+--     At Transfer   read or write DRW   IsAimed: TAR has the address           a write's word; a read's is ignored
+--     At Confirm    read RDBUFF         Under: sent, perhaps not done yet      a read's word; a write's is ignored
 --     (the end)                         Finished: done, and the answer known
 --
 -- Aim is left out where TAR is known to have the address. In a burst DRW's request for the next access takes RDBUFF's
--- place; in a block of reads it begins that access before this one is answered, and `AheadAt` says what is known of it.
+-- place. In a block of reads it starts that access before this one is answered, and `AheadAt` has what is known of it.
 --
--- WHERE SOMETHING WENT WRONG, and what is known in place of `Sure`, that `Has` holds and no write was damaged:
+-- AFTER AN ERROR, what is known instead of `Sure` (`Has` holds, and no write was corrupted):
 --
---     Hurt      the data of the write before was damaged: WDATAERR is set, and this request will meet it
---     Waiting   WAIT came: what held before the request still does, for an event more
---     Refused   FAULT came: of damage, or of a bus error of this access or the next; CTRL/STAT is read (Status)
---     Owes      CTRL/STAT told which flags are set; ABORT is written (Clear)
---     Checks    ABORT was written, or its data was damaged; CTRL/STAT is read again (Check)
---     Resent    a word's parity was wrong; RESEND gives the word again (Resend)
---     Within    the engine stopped: the memory is one that the accesses that are begun allow, now and later
+--     Hurt      the data of the write before was corrupted: WDATAERR is set, and this request will meet it
+--     Waiting   WAIT came: what held before the request still does, with one more event
+--     Refused   FAULT came, for corrupted data or a bus error of this access or the next; CTRL/STAT is read (Status)
+--     Owes      CTRL/STAT showed which flags are set; ABORT is written (Clear)
+--     Checks    ABORT was written, or its data was corrupted; CTRL/STAT is read again (Check)
+--     Resent    a word's parity was wrong; RESEND returns the word again (Resend)
+--     Within    the engine stopped: the begun accesses allow the memory, now and later
 use Rattle.std.specs.Prelude.{ℕ, ◌≡◌, ◌≢◌, ◌+◌, ◌%◌, ◌^◌, ◌<◌, ◌≤◌, ◌⊎◌, ◌==◌, Bool, true}
 use Rattle.std.specs.Prelude.{false, if◌then◌else◌, Option, Some, None, max}
 use Rattle.swd_bits.specs.Bits.{bit}
@@ -77,7 +77,7 @@ use Rattle.swd_host.specs.Requests.{request_for, next_place, confirmed_by, is_ex
 use Rattle.swd_host.specs.Requests.{is_behind}
 use Rattle.swd_host.specs.Requests.{begins}
 
--- the access in hand, whether TAR has to be written for it, what is known of TAR and of the next access where the
+-- the current access, whether TAR has to be written for it, what is known of TAR and of the next access where the
 -- engine rests, and the memory before the access
 pub record Hand : Type 0 where
   pub task : Task
@@ -86,7 +86,7 @@ pub record Hand : Type 0 where
   pub ahead : Ahead
   pub memory : PlainMemory
 
--- the memory after the access in hand
+-- the memory after the current access
 abbrev pub memory_once_done : Hand → PlainMemory
 memory_once_done k = plain_after (access_of k.task) k.memory
 
@@ -122,13 +122,13 @@ pub record Calm (m : PlainMemory) (s : Target) : Type 0 where
   pub memory : s.memory ≡ m
   pub sticky : s.sticky_error ≡ false
 
--- power was asked for
+-- power was requested
 pub record AsksPower (m : PlainMemory) (s : Target) : Type 0 where
   pub calm : Calm m s
   pub debug : s.debug_power ≡ true
   pub system : s.system_power ≡ true
 
--- and was seen to be there
+-- power was read as acknowledged
 pub record HasPower (m : PlainMemory) (s : Target) : Type 0 where
   pub calm : Calm m s
   pub debug : s.debug_power ≡ true
@@ -174,7 +174,7 @@ pub record Under (b : ℕ) (k : Hand) (s : Target) : Type 0 where
   pub begun : 1 ≤ b
   pub sent : Sent (access_of k.task) k.memory s
 
--- what holds before the request at a place, but for WDATAERR
+-- what holds before the request at a place, apart from WDATAERR
 abbrev pub Has : Place → ℕ → Hand → Target → Type 0
 Has Identify b k s = Reachable k.memory s
 Has Wipe b k s = Calm k.memory s
@@ -194,13 +194,13 @@ abbrev pub is_wipe : Place → Bool
 is_wipe Wipe = true
 is_wipe _ = false
 
--- n disturbances were met as events: that many there were
+-- what holds where no write was corrupted; n disturbances were met as events, so at least n occurred
 pub record Sure (p : Place) (n b : ℕ) (k : Hand) (s : Port) : Type 0 where
   pub has : Has p b k s.target
   pub flag : is_wipe p ≡ false → s.target.write_error ≡ false
   pub paid : n ≤ s.tally.disturbed
 
--- the write before, which this request confirms, was damaged
+-- the write before, which this request confirms, was corrupted
 pub record Hurt (p : Place) (n b : ℕ) (k : Hand) (s : Port) : Type 0 where
   pub back : Place
   pub confirms : confirmed_by p k.task k.aims ≡ Some back
@@ -213,7 +213,7 @@ pub record IsBusError (a : Access) (m : PlainMemory) : Type 0 where
   pub after : plain_after a m ≡ m
   pub answer : plain_answer a m ≡ BusFault
 
--- the transfer was a bus error; STICKYERR aside
+-- the transfer was a bus error, apart from STICKYERR
 pub record Broken (p : Place) (b : ℕ) (k : Hand) (s : Target) : Type 0 where
   pub place : is_confirm p ≡ true
   pub begun : 1 ≤ b
@@ -227,7 +227,7 @@ pub record Broken (p : Place) (b : ℕ) (k : Hand) (s : Target) : Type 0 where
   pub memory : s.memory ≡ k.memory
   pub fails : IsBusError (access_of k.task) k.memory
 
--- RESEND met the bus error of the next read of a block; it gives this word once STICKYERR is cleared
+-- RESEND met the bus error of the next read of a block; it returns this word once STICKYERR is cleared
 pub record Fallen (p : Place) (b : ℕ) (k : Hand) (s : Target) : Type 0 where
   pub place : is_behind p ≡ true
   pub begun : 2 ≤ b
@@ -248,51 +248,52 @@ pub data Refused (p : Place) (n b : ℕ) (k : Hand) (s : Port) : Type 0 where
   by_error : BusErrorOf p b k s.target → s.target.sticky_error ≡ true → s.target.write_error ≡ false
       → n ≤ s.tally.disturbed → Refused p n b k s
 
--- what the write that was damaged found
+-- what held before the write that was corrupted
 pub record Spoilt (p : Place) (b : ℕ) (k : Hand) (s : Target) : Type 0 where
   pub back : Place
   pub confirms : confirmed_by p k.task k.aims ≡ Some back
   pub has : Has back b k s
 
--- what is behind the flags that are owed
+-- the cause of the owed flags
 abbrev pub Facts : Bool → Place → ℕ → Hand → Target → Type 0
 Facts true p b k s = BusErrorOf p b k s
 Facts false p b k s = Spoilt p b k s
 
--- the flags that are set are those that are owed
+-- the flags that are set are the owed ones
 pub record Owes (p : Place) (owed : Flags) (n b : ℕ) (k : Hand) (s : Port) : Type 0 where
   pub facts : Facts owed.error p b k s.target
   pub error : s.target.sticky_error ≡ owed.error
   pub damaged : s.target.write_error ≡ owed.damaged
   pub paid : n ≤ s.tally.disturbed
 
--- ABORT was written: no flag is left, or all that were owed are, since it was damaged
+-- ABORT was written. No flag is left, or the ABORT write was corrupted: WDATAERR is set, and STICKYERR is still as
+-- owed.
 pub data Checks (p : Place) (owed : Flags) (n b : ℕ) (k : Hand) (s : Port) : Type 0 where
   cleared : Facts owed.error p b k s.target → s.target.sticky_error ≡ false → s.target.write_error ≡ false
       → n ≤ s.tally.disturbed → Checks p owed n b k s
   kept : Facts owed.error p b k s.target → s.target.sticky_error ≡ owed.error → s.target.write_error ≡ true
       → n + 1 ≤ s.tally.disturbed → Checks p owed n b k s
 
--- the access was done, and its answer is known but for a word that has to come again
+-- the access was done; a read's word may have to be read again
 pub record Done (b : ℕ) (k : Hand) (s : Target) : Type 0 where
   pub begun : 1 ≤ b
   pub up : Up (memory_once_done k) s
   pub advanced : Advanced (address (access_of k.task)) s
 
--- what is known of the next access after this one, over this memory: of a block of reads it was sent, or was a bus
--- error that is cleared
+-- what is known of the next access, over the memory before it: in a block of reads it was sent, or was a bus error
+-- whose flag is cleared
 abbrev pub AheadAt : Ahead → Task → PlainMemory → Target → Type 0
 AheadAt Unsent task m s = Up m s
 AheadAt NextSent task m s = (is_block task ≡ true) × Under 1 (next_hand task m) s
 AheadAt NextFailed task m s = (is_block task ≡ true) × Up m s × IsBusError (next_read task) m
 
--- TAR holds what it is known to hold, where no transfer is under way; after a bus error nothing is known
+-- TAR is what the engine knows, where no transfer is in flight; after a bus error it knows nothing
 abbrev pub IsKnownAt : Ahead → Option ℕ → Target → Type 0
 IsKnownAt Unsent tar s = (at : ℕ) → tar ≡ Some at → s.tar ≡ Some at
 IsKnownAt NextSent tar s = Unit {0}
 IsKnownAt NextFailed tar s = tar ≡ None
 
--- the access was done, with so much known of the next one
+-- the access was done, with this known of the next one
 abbrev pub DoneBy : Ahead → ℕ → Hand → Target → Type 0
 DoneBy Unsent b k s = Done b k s
 DoneBy ahead b k s = (2 ≤ b) × AheadAt ahead k.task (memory_once_done k) s
@@ -307,7 +308,7 @@ Returned Confirm word b k s =
 Returned Behind word b k s = DoneBy NextFailed b k s × (plain_answer (access_of k.task) k.memory ≡ Value word)
 Returned p word b k s = ⊥
 
--- this word was returned, and RESEND gives it again
+-- this word was returned, and RESEND returns it again
 pub record Resent (p : Place) (word : ℕ) (n b : ℕ) (k : Hand) (s : Port) : Type 0 where
   pub returned : Returned p word b k s.target
   pub last : s.target.last_returned ≡ Some word
@@ -325,7 +326,7 @@ Before (Check p owed) n b k s = Checks p owed n b k s
 
 -- DATA PHASES
 
--- the phase of this word is on the line; where a place of it is changed, there is a disturbance more
+-- the phase of this word is on the line; where a bit of it is changed, there is one more disturbance
 pub data Reads (word : ℕ) (n : ℕ) (P : ℕ → Type 0) (s : Port) : Type 0 where
   whole : s.link.line ≡ Drives (phase_number word) → word < 2 ^ 32 → P n → Reads word n P s
   changed : (place : ℕ) → s.link.line ≡ Drives (flipped (Some place) (phase_number word)) → word < 2 ^ 32 → P (n + 1)
@@ -336,7 +337,7 @@ pub data Writes (r : Register) (n : ℕ) (P : ℕ → Type 0) (s : Port) : Type 
   whole : s.link.line ≡ Awaits r None → P n → Writes r n P s
   changed : (place : ℕ) → s.link.line ≡ Awaits r (Some place) → P (n + 1) → Writes r n P s
 
--- a word of CTRL/STAT tells the flags
+-- a word of CTRL/STAT shows the flags
 pub record Tells (word : ℕ) (s : Target) : Type 0 where
   pub error : holds 0x20 word ≡ s.sticky_error
   pub damaged : holds 0x80 word ≡ s.write_error
@@ -344,8 +345,8 @@ pub record Tells (word : ℕ) (s : Target) : Type 0 where
 abbrev pub Says : Job → ℕ → ℕ → Hand → Port → Type 0
 Says job n b k s = (word : ℕ) × Tells word s.target × Reads word n (λ c. Before job c b k s) s
 
--- power was asked for, and CTRL/STAT said whether it is there: where it is late there was a disturbance, which isn't
--- met as an event yet
+-- Power was requested, and CTRL/STAT showed whether it is acknowledged. If it isn't, there was a disturbance that isn't
+-- met as an event yet.
 pub record HasAsked (powered : Bool) (n b : ℕ) (k : Hand) (s : Port) : Type 0 where
   pub before : Before (At Powered) n b k s
   pub there : powered ≡ true → s.target.write_error ≡ false → s.target.power_up ≡ Seen
@@ -361,7 +362,7 @@ pub record Awake (n : ℕ) (k : Hand) (s : Port) : Type 0 where
   pub flag : s.target.write_error ≡ false
   pub paid : n ≤ s.tally.disturbed
 
--- the access is answered; the next one of a block is begun
+-- the access is answered; in a block the next one is begun
 pub record Finished (answer : Answer) (n b : ℕ) (k : Hand) (s : Port) : Type 0 where
   pub begun : b ≡ bit (is_block k.task)
   pub up : AheadAt k.ahead k.task (memory_once_done k) s.target
@@ -370,7 +371,7 @@ pub record Finished (answer : Answer) (n b : ℕ) (k : Hand) (s : Port) : Type 0
   pub flag : s.target.write_error ≡ false
   pub paid : n ≤ s.tally.disturbed
 
--- a write's OK came
+-- the OK that confirms a write came
 pub record Confirmed (n b : ℕ) (k : Hand) (s : Port) : Type 0 where
   pub done : Done b k s.target
   pub answered : plain_answer (access_of k.task) k.memory ≡ Written
@@ -387,7 +388,7 @@ abbrev pub Confirms : Task → ℕ → ℕ → Hand → Port → Type 0
 Confirms (Read at) n b k s = (word : ℕ) × Reads word n (λ c. Resent Confirm word c b k s) s
 Confirms (BurstRead at) n b k s = (word : ℕ) × Reads word n (λ c. Resent Confirm word c b k s) s
 Confirms (Write at word) n b k s = Confirmed n b k s
--- the write was done, and the data of the next access is due
+-- the write was done, and the data of the next one is due
 Confirms (BurstWrite at word) n b k s = Writes DrwWrite n (λ c. Confirmed c b k s) s
 
 -- what holds before a data phase
@@ -413,22 +414,22 @@ During (Check p owed) n b k s = Says (Check p owed) n b k s
 
 -- ENDS
 
--- the memory is that before the access, or, where it is begun, that after it, or, where the next one of its block is
--- begun too, that after both
+-- The memory is that before the access. Where the access is begun it may be that after it, and where the next one of
+-- its block is begun too, that after both.
 pub data IsWithin (b : ℕ) (k : Hand) (m : PlainMemory) : Type 0 where
   within_none : m ≡ k.memory → IsWithin b k m
   within_first : 1 ≤ b → m ≡ memory_once_done k → IsWithin b k m
   within_both : 2 ≤ b → is_block k.task ≡ true → m ≡ plain_after (next_read k.task) (memory_once_done k)
       → IsWithin b k m
 
--- so it is now, and so it will be
+-- the memory is within these now, and once nothing is pending
 pub record Within (b : ℕ) (k : Hand) (s : Target) : Type 0 where
   pub now : IsWithin b k s.memory
   pub later : PlainMemory
   pub becomes : Becomes later s
   pub ends : IsWithin b k later
 
--- the request at a place met a flag; RESEND meets one in a block alone
+-- the request at a place met a flag; RESEND meets one only in a block
 pub record Faulting (p : Place) (n b : ℕ) (k : Hand) (s : Port) : Type 0 where
   pub free : is_exempt_place p ≡ false
   pub refused : Refused p n b k s
@@ -443,7 +444,7 @@ pub record Waiting (job : Job) (n b : ℕ) (k : Hand) (s : Port) : Type 0 where
   pub free : is_exempt job ≡ false
   pub before : Before job (n + 1) b k s
 
--- the counts at the beginning of the opening or the access: disturbed requests and lost ones
+-- the counts at the start of the opening or the access: disturbed requests and lost ones
 pub record Counted : Type 0 where
   pub disturbed : ℕ
   pub lost : ℕ
@@ -494,18 +495,18 @@ Tracks (Resting outcome) n tries base b k s = Rests outcome n tries base b k s
 abbrev pub hand_of : Engine → PlainMemory → Hand
 hand_of e m = record { task = e.task; aims = e.aims; tar = e.tar; ahead = e.ahead; memory = m }
 
--- the engine's own state of the port, from the counts at the beginning and the memory then
+-- what the engine's state implies about the port, from the counts and the memory at the start
 abbrev pub TracksEngine : Counted → PlainMemory → Engine → Port → Type 0
 TracksEngine base m e s = Tracks e.state (base.disturbed + e.events) e.tries base e.begun (hand_of e m) s
 
--- the access is one, and the next word's address is in its kilobyte where the next access's request confirms it
+-- the access is valid, and in a burst the next word's address is in its kilobyte
 abbrev pub IsTask : Task → Type 0
 IsTask (Read at) = IsAccess (AccessRead at)
 IsTask (BurstRead at) = IsAccess (AccessRead at) × (at % 1024 < 1020)
 IsTask (Write at word) = IsAccess (AccessWrite at word)
 IsTask (BurstWrite at word) = IsAccess (AccessWrite at word) × (at % 1024 < 1020)
 
--- the same over a whole engine: what it keeps of a target that keeps the law
+-- the same for a whole engine: what it keeps over a target that conforms to the model
 pub record Follows (base : Counted) (m : PlainMemory) (e : Engine) (s : Port) : Type 0 where
   pub task : IsTask e.task
   pub lost : base.lost ≤ s.tally.lost
@@ -516,7 +517,7 @@ abbrev pub due_of : Bool → Due
 due_of true = Take
 due_of false = Give
 
--- whatever is due, where the line reset lets it go by
+-- what may be due at a state; anything, where the line reset lets a data phase pass
 abbrev pub DueAt : State → Bool → Task → Due → Type 0
 DueAt Leading stray task due = stray ≡ false → due ≡ Nothing
 DueAt (Doing job Ask) stray task due = due ≡ Nothing
@@ -529,8 +530,8 @@ DueAt (Resting outcome) stray task due = due ≡ Nothing
 abbrev pub DueFits : Engine → Port → Type 0
 DueFits e s = DueAt e.state e.stray e.task s.link.due
 
--- WHAT A CALL OF THE ENGINE IS TOLD
--- what a word that was taken at a place tells
+-- WHAT A CALL OF THE ENGINE ASSUMES
+-- what a word that was taken at a place shows
 abbrev pub Taken : Place → ℕ → ℕ → ℕ → Hand → Port → Type 0
 Taken Identify word n b k s = Awake n k s × (word % 2 ≡ 1)
 Taken Inspect word n b k s = Tells word s.target × Before (At Inspect) n b k s
@@ -539,7 +540,7 @@ Taken Configured word n b k s = Resent Configured word n b k s
 Taken Confirm word n b k s = Resent Confirm word n b k s
 Taken p word n b k s = ⊥
 
--- why an access is answered so, with so much known of the next one
+-- why an access has this answer, with this known of the next one
 pub data Earns (answer : Answer) (ahead : Ahead) (n b : ℕ) (k : Hand) (s : Port) : Type 0 where
   by_transfer : DoneBy ahead b k s.target → plain_answer (access_of k.task) k.memory ≡ answer
       → (answer ≡ BusFault → ⊥) → s.target.write_error ≡ false → n ≤ s.tally.disturbed → Earns answer ahead n b k s
@@ -554,7 +555,7 @@ pub record Cleared (p : Place) (n b : ℕ) (k : Hand) (s : Port) : Type 0 where
   pub flag : s.target.write_error ≡ false
   pub paid : n ≤ s.tally.disturbed
 
--- what a request came to
+-- the result of a request
 pub data Saw (job : Job) (seen n : ℕ) (base : Counted) (b : ℕ) (k : Hand) (s : Port) : Type 0 where
   saw_okay : seen ≡ 1 → During job n b k s → Saw job seen n base b k s
   saw_wait : seen ≡ 2 → Waiting job n b k s → Saw job seen n base b k s
@@ -562,13 +563,13 @@ pub data Saw (job : Job) (seen n : ℕ) (base : Counted) (b : ℕ) (k : Hand) (s
   saw_none : (seen == 1) ≡ false → (seen == 2) ≡ false → (seen == 4) ≡ false → LostAt n base b k s
       → Saw job seen n base b k s
 
--- what a data phase that was written leaves
+-- what holds after a data phase that was written
 abbrev pub WasSent : Job → ℕ → ℕ → Hand → Port → Type 0
 WasSent (At p) n b k s = Before (At (next_place p)) n b k s
 WasSent (Clear p owed) n b k s = Before (Check p owed) n b k s
 WasSent job n b k s = ⊥
 
--- what the lead, a data phase that was written, or a turnaround leaves
+-- what holds after the lead, a data phase that was written, or a turnaround
 abbrev pub Left : State → ℕ → ℕ → Hand → Port → Type 0
 Left Leading n b k s = Before (At Identify) n b k s
 Left (Doing job Ask) n b k s = ⊥
@@ -586,7 +587,7 @@ ConfirmTook (BurstRead at) None n b k s = Before (Resend Confirm) (n + 1) b k s
 ConfirmTook (Write at w) word n b k s = Confirmed n b k s
 ConfirmTook (BurstWrite at w) word n b k s = ⊥
 
--- what a word that was read at a place tells, or that it has to come again
+-- what a word that was read at a place shows, or that it has to be read again
 abbrev pub TookAt : Place → Option ℕ → ℕ → ℕ → Hand → Port → Type 0
 TookAt Recall word n b k s = Sure Configured n b k s
 TookAt Transfer word n b k s = Sure Confirm n b k s
@@ -604,11 +605,11 @@ TakenFor LastStatus (Some word) n b k s = ⊥
 TakenFor (Clear p owed) word n b k s = ⊥
 TakenFor job None n b k s = Before job (n + 1) b k s
 
--- the accesses that are begun once the request of a state is sent
+-- how many accesses are begun once the request of a state is sent
 abbrev pub begun_once : State → Task → ℕ → ℕ
 begun_once state task b = max b (begins (job_in state) task)
 
--- where a request is once its acknowledgement was seen (IHI 0031, B4, "Acknowledge response")
+-- the state after an acknowledgement was seen (IHI 0031, B4, "Acknowledge response")
 abbrev pub state_seen : Job → ℕ → State
 state_seen job seen =
     if seen == 1 then Doing job Data
@@ -616,29 +617,29 @@ state_seen job seen =
     else if seen == 4 then Doing job Faulted
     else Resting (Stopped Lost)
 
--- WHAT A STEP OF THE ENGINE KEEPS: from what was told, of a target whose memory was this before the access, since
--- these counts
+-- WHAT A STEP OF THE ENGINE KEEPS, from an assumption about a target with these counts at the start and this memory
+-- before the access
 abbrev pub Comes : (ℕ → ℕ → Hand → Port → Type 0) → Engine → Engine → Type 0
 Comes Was e f = (base : Counted) (m : PlainMemory) (s : Port) → IsTask e.task
     → Was (base.disturbed + e.events) e.begun (hand_of e m) s → TracksEngine base m f s
 
--- the same, where these are the flags that were read
+-- the same, where these flags were read
 abbrev pub ComesWith : Flags → (ℕ → ℕ → Hand → Port → Type 0) → Engine → Engine → Type 0
 ComesWith flags Was e f = (base : Counted) (m : PlainMemory) (s : Port) → IsTask e.task →
     flags.error ≡ s.target.sticky_error → flags.damaged ≡ s.target.write_error
     → Was (base.disturbed + e.events) e.begun (hand_of e m) s → TracksEngine base m f s
 
--- WHAT THE CALLS OF AN ENGINE ARE TOLD, of a target whose memory was this before the access, since these counts
+-- WHAT THE CALLS OF AN ENGINE ASSUME about a target with these counts at the start and this memory before the access
 -- three bits were seen after the request
 abbrev pub Hears : ℕ → Counted → PlainMemory → Engine → Port → Type 0
 Hears seen base m e s = Saw (job_in e.state) seen (base.disturbed + e.events) base
     (begun_once e.state e.task e.begun) (hand_of e m) s
 
--- what the cue said was sent
+-- the cue was sent
 abbrev pub HasSent : Counted → PlainMemory → Engine → Port → Type 0
 HasSent base m e s = IsTask e.task × Left e.state (base.disturbed + e.events) e.begun (hand_of e m) s
 
--- a data phase was read: its word, where the parity is right
+-- a data phase was read, with its word if the parity is right
 abbrev pub HasRead : Option ℕ → Counted → PlainMemory → Engine → Port → Type 0
 HasRead word base m e s = IsTask e.task × TakenFor (job_in e.state) word (base.disturbed + e.events) e.begun
     (hand_of e m) s

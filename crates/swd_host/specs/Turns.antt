@@ -1,4 +1,4 @@
--- What one call of the engine leaves, and what calls of engine and wire keep one after the other.
+-- What one call of the engine changes, and what successive calls of engine and wire keep.
 use Rattle.std.specs.Prelude.{ℕ, ◌≡◌, ◌+◌, ◌-◌, ◌*◌, ◌^◌, ◌<◌, ◌≤◌, ◌&&◌, ◌||◌, Bool, true, false, not}
 use Rattle.std.specs.Prelude.{if◌then◌else◌}
 use Rattle.std.specs.Prelude.{Option, Some, None, Result, Ok, Err, min}
@@ -32,7 +32,7 @@ use Rattle.swd_host.specs.Progress.{is_quiet}
 use Rattle.swd_host.specs.Tracks.{Counted, Follows, IsTask, begun_once, state_seen}
 use Rattle.swd_host.specs.Early.{Resumes}
 
--- an engine at the start of the opening; or one that goes on `again` after a lost acknowledgement
+-- an engine at the start of the opening, also one that resumes (`again`) after a lost acknowledgement
 pub record IsNew (kind : Bursts) (again : Bool) (most : ℕ) (e : Engine) : Type 0 where
   pub leads : e.state ≡ Leading
   pub tries : e.tries ≡ most
@@ -44,7 +44,7 @@ pub record IsNew (kind : Bursts) (again : Bool) (most : ℕ) (e : Engine) : Type
   pub requests : e.requests ≡ 0
   pub stray : e.stray ≡ again
 
--- the next access was a bus error, which the one before it met
+-- the next access was a bus error, which the current one met
 abbrev pub is_failed : Ahead → Bool
 is_failed Failed = true
 is_failed ahead = false
@@ -52,8 +52,9 @@ is_failed ahead = false
 abbrev pub has_failed : Engine → Bool
 has_failed e = not (is_ahead e) && is_failed e.ahead
 
--- where an access begins: at the data of its DRW write, which was sent already; where it is confirmed, since its DRW
--- read was; answered, where it was a bus error; or where TAR is written, or where it is known
+-- The state in which an access starts. It is at the data of its DRW write, if that write was answered OK already, or at
+-- its confirmation, if its DRW read was. A bus error that was met already is its answer. Else it is at TAR's write, or
+-- at DRW where TAR is known.
 abbrev pub first_state : Bool → Ahead → Bool → State
 first_state true ahead aims = Doing (At Transfer) Data
 first_state false Sent aims = Doing (At Confirm) Ask
@@ -61,9 +62,9 @@ first_state false Failed aims = Resting (Answered BusFault)
 first_state false Unsent true = Doing (At Aim) Ask
 first_state false Unsent false = Doing (At Transfer) Ask
 
--- An access begins: no event was met, and it is begun exactly where its DRW request was sent, to confirm the access
--- before. A bus error that the one before met is answered: it is begun no more, and with it no request was sent for
--- the one that follows.
+-- An access starts, without an event so far. It is begun exactly where its DRW request was sent already, to confirm the
+-- access before. If it was a bus error that the one before met, it is answered, so it isn't begun, and no request was
+-- sent for the one that follows.
 pub record Starts (a : Access) (following : Option Access) (e f : Engine) : Type 0 where
   pub task : f.task ≡ task_for e.bursts a (if has_failed e then None else following)
   pub aims : f.aims ≡ not (is_ahead e || is_known e.tar (address a))
@@ -77,8 +78,8 @@ pub record Starts (a : Access) (following : Option Access) (e f : Engine) : Type
   pub requests : f.requests ≡ e.requests
   pub stray : f.stray ≡ false
 
--- what an acknowledgement leaves: the access in hand is begun once its DRW request was sent, and in a block the next
--- one once its was
+-- what an acknowledgement changes; the current access is begun once its DRW request was sent, and in a block the next
+-- one once its own was
 pub record Sees (seen : ℕ) (e f : Engine) : Type 0 where
   pub state : f.state ≡ state_seen (job_in e.state) seen
   pub task : f.task ≡ e.task
@@ -92,18 +93,18 @@ pub record Sees (seen : ℕ) (e f : Engine) : Type 0 where
   pub least : least_in f.aims f.state ≤ least_in e.aims e.state + 1
   pub part : (opening : Bool) → is_state_of opening e.state ≡ true → is_state_of opening f.state ≡ true
 
--- the accesses that are begun and not answered, once a state came: an answer leaves at most the next one of a block
+-- how many unanswered accesses are begun at a new state; an answer leaves at most the next one of a block
 abbrev pub begun_left : State → Task → ℕ → ℕ
 begun_left (Resting (Answered answer)) task b = min b (bit (is_block task))
 begun_left state task b = b
 
--- an engine never stops as one that did all: that is for whoever hands out the accesses to say
+-- an engine never stops with `All`: the caller that starts the accesses reports that
 abbrev pub is_all_stop : State → Bool
 is_all_stop (Resting (Stopped All)) = true
 is_all_stop state = false
 
--- From a state, with so many requests open and sent: the next request is due, or an outcome came. No access is begun
--- by it.
+-- A step from the state x to the next request or an outcome, with these bounds on the requests still open and sent. It
+-- starts no access.
 pub record Lands (open_then sent_then : ℕ) (x : State) (e f : Engine) : Type 0 where
   pub task : f.task ≡ e.task
   pub aims : f.aims ≡ e.aims
@@ -117,11 +118,11 @@ pub record Lands (open_then sent_then : ℕ) (x : State) (e f : Engine) : Type 0
   pub part : (opening : Bool) → is_state_of opening x ≡ true → is_state_of opening f.state ≡ true
   pub quiet : is_quiet f.state ≡ true
 
--- from a job whose data phase or turnaround passed
+-- after the data phase or turnaround of a job
 abbrev pub LandsFrom : Job → Phase → Engine → Engine → Type 0
 LandsFrom job phase e f = Lands (left_for job - 1) (least_for e.aims job + 1) (Doing job phase) e f
 
--- after an event: the request is sent again, as one that an event more may have brought
+-- after an event: this request is sent, which the event's five requests cover
 abbrev pub LandsAt : Job → Engine → Engine → Type 0
 LandsAt job e f = Lands (left_for job - 5) (least_for e.aims job) (Doing job Ask) e f
 
@@ -132,12 +133,12 @@ LandsAnswered e f = Lands 0 (bit e.aims + 2) (Doing (At Confirm) Data) e f
 abbrev pub lands_from : Engine → Engine → Type 0
 lands_from e f = Lands (left_in e.state) (least_in e.aims e.state) e.state e f
 
--- WHAT AN ENGINE AND THE PORT AT THE OTHER END KEEP, from one moment to a later one; the requests that are counted
--- don't reach their greatest value
+-- WHAT AN ENGINE AND THE PORT AT THE OTHER END KEEP, from one moment to a later one; the count of requests doesn't
+-- saturate
 abbrev pub IsCountable : Engine → Type 0
 IsCountable e = e.requests + open_requests e < 2 ^ 64
 
--- what the engine keeps by itself, whatever came back
+-- what the engine keeps by itself, whatever the target answers
 pub record Works (e f : Engine) : Type 0 where
   pub task : f.task ≡ e.task
   pub aims : f.aims ≡ e.aims
@@ -174,23 +175,24 @@ pub record Goes (e : Engine) (s : Port) (f : Engine) (t : Port) : Type 0 where
   pub disturbed : s.tally.disturbed ≤ t.tally.disturbed
   pub lost : s.tally.lost ≤ t.tally.lost
   pub asked : IsCountable e → t.tally.asked + e.requests ≡ s.tally.asked + f.requests
-  -- over such a target the opening's last request is never answered FAULT, so a lost one comes a request earlier
+  -- over such a target the opening's last request is never answered FAULT, so a lost acknowledgement leaves one request
+  -- of the bound unused
   pub lost_early : is_resting e ≡ false → (base : Counted) (start : Port) → Resumes base start e s
       → is_state_of true e.state ≡ true →
       f.state ≡ Resting (Stopped Lost) → f.requests + 1 + 5 * (f.tries - f.events) ≤ e.requests + open_requests e
 
--- an access from its start
+-- an access from its start on
 abbrev pub GoesFrom : Access → Option Access → Engine → Port → Engine → Port → Type 0
 GoesFrom a following e s f t = (g : Engine) × Starts a following e g × Goes g s f t
 
 abbrev pub WorksFrom : Access → Option Access → Engine → Engine → Type 0
 WorksFrom a following e f = (g : Engine) × Starts a following e g × Works g f
 
--- the access is the one that continues the burst, where its DRW write was answered OK
+-- the access continues the burst, where its DRW write was answered OK
 pub record GoesOn (e : Engine) (a : Access) : Type 0 where
   pub on : is_ahead e ≡ true → continues (access_of e.task) (Some a) ≡ true
 
--- the state in which the opening is left, and the outcome to which an access comes
+-- the state at the end of the opening, and the outcome of an access
 abbrev pub opened_as : Result (Unit {0}) End → State
 opened_as (Ok u) = Resting Opened
 opened_as (Err end) = Resting (Stopped end)

@@ -1,4 +1,4 @@
-//! Which access an engine may be given.
+//! Which access an engine may start.
 ghost use Rattle.std.specs.Prelude.{◌≡◌, Some};
 ghost use Rattle.swd_host.specs.Addresses.{continues};
 ghost use Rattle.swd_host.specs.Engines.{finished_of, may_start};
@@ -11,9 +11,9 @@ use crate::task::{Task, address_of, continues};
 use swd_port::Access;
 
 impl Engine {
-    /// Whether `start` may be given this access now: the engine rests and hasn't stopped, the address is a
-    /// multiple of 4, and where the DRW request of the next access of a burst was sent already, it is
-    /// that access. In place of a write's word there may be another.
+    /// Returns whether `start` may take this access now. The engine has to rest and not have stopped, and the address
+    /// has to be a multiple of 4. Where the DRW request of the burst's next access was sent already, this access has to
+    /// continue the burst; the word of a write isn't compared.
     pub fn accepts(&self, access: Access) -> bool
         ensures { result ≡ accepts self.now access }
     {
@@ -22,7 +22,7 @@ impl Engine {
             && (!self.has_sent_on() || self.leads_to(access))
     }
 
-    // It has come to an outcome that isn't a stop.
+    // Returns whether the engine has reached an outcome that isn't a stop.
     fn is_ready(&self) -> bool
         ensures { result ≡ may_start (finished_of self.now) }
     {
@@ -32,14 +32,14 @@ impl Engine {
         )
     }
 
-    // The next access is begun: its DRW request was answered.
+    // Returns whether the DRW request of the next access was answered OK already.
     fn has_sent_on(&self) -> bool
         ensures { result ≡ has_sent_on self.now }
     {
         self.is_ahead() || !matches!(&self.ahead, Ahead::Unsent)
     }
 
-    // The access continues the burst of the one in hand.
+    // Returns whether the access continues the burst of the current one.
     fn leads_to(&self, access: Access) -> bool
         ensures { result ≡ continues (access_of self.now.task) (Some access) }
     {
@@ -48,7 +48,7 @@ impl Engine {
 }
 
 impl Task {
-    // The access itself.
+    // Returns the access itself.
     fn access(self) -> Access
         ensures { result ≡ access_of self }
     {

@@ -12,16 +12,16 @@ use crate::running::conduct;
 use std::alloc::{AllocError, Allocator};
 use swd_port::{Access, MOST_ACCESSES, Wire, push_reads};
 
-/// Reads `count` words at `addr`, `addr + 4` and so on, each once, over a target at rest: as
-/// `run` reads them, but each word comes with the request for the next one, so that a word takes one
-/// request in place of two. A report may tell two accesses that were begun. `resume` goes on with it, over
-/// the reads that it stands for, one by one.
+/// Reads `count` words at `addr`, `addr + 4` and so on, over a target at rest, with the guarantees of
+/// [`run`](crate::run).
+///
+/// Each request returns the word of the one before, so a word normally takes one request instead of two. A report may
+/// have up to two accesses in flight. `resume` continues a block as the list of its single reads.
 ///
 /// # Errors
 ///
-/// `TooMany` for more than 65,536 words, `Unaligned { index: 0 }` for an address of some words that
-/// isn't a multiple of 4, `Memory` where the memory of the reads or of the answers was refused. Nothing
-/// was sent then.
+/// Returns `TooMany` for more than 65,536 words, and `Unaligned { index: 0 }` if `addr` isn't a multiple of 4 and
+/// `count` isn't 0. Returns `Memory` if allocating the reads or the answers fails. Nothing is sent in these cases.
 pub fn run_block<W: Wire, A: Allocator + Copy>(
     alloc: A,
     wire: &mut W,
@@ -54,7 +54,7 @@ pub fn run_block<W: Wire, A: Allocator + Copy>(
     Ok(conduct(wire, Engine::blocks(tries), &accesses, answers))
 }
 
-// Why a block isn't read.
+// Returns why a block is refused, if it is.
 fn refusal(addr: u32, count: u32) -> Option<Refused>
     requires { addr + 4 * count ≤ 2 ^ 32 }
     ensures none { IfNone result ((count ≤ 65536) × AreAccesses (reads addr count)) }
@@ -73,7 +73,7 @@ fn refusal(addr: u32, count: u32) -> Option<Refused>
     }
 }
 
-// The reads of a block.
+// Returns the reads of a block.
 fn reads_of<A: Allocator>(alloc: A, addr: u32, count: u32) -> Result<Vec<Access, A>, AllocError>
     requires { addr + 4 * count ≤ 2 ^ 32 }
     ensures { IfOk result (λ accesses. accesses.items ≡ reads addr count) }

@@ -1,4 +1,4 @@
-//! The engine: what has to be sent next, from what was seen so far. It sends nothing itself.
+//! The engine: a state machine without I/O, which returns what to send next from what was seen so far.
 ghost use Rattle.std.specs.Prelude.{◌≡◌, ◌+◌, ◌<◌, ◌≤◌, ◌*◌, ◌^◌, true, false, None, IfSome};
 ghost use Rattle.swd_port.specs.declared.wire.Due.TheVariants.{Nothing};
 ghost use Rattle.swd_bits.specs.Phases.{word_in};
@@ -21,7 +21,7 @@ use crate::task::{Bursts, Task, address_of};
 use swd_bits::{Ack, Request, data_bits, word_of};
 use swd_port::{Access, Answer, Cue};
 
-/// Where a request is.
+/// The phase of a request.
 #[derive(Clone, Copy, Debug, PartialEq, Eq)]
 pub(crate) enum Phase {
     /// It has to be sent.
@@ -34,30 +34,30 @@ pub(crate) enum Phase {
     Faulted,
 }
 
-/// What is known of the next access of a block of reads, where an engine rests.
+/// The state of the next access of a block of reads, where an engine rests.
 #[derive(Clone, Copy, Debug, PartialEq, Eq)]
 pub(crate) enum Ahead {
-    /// Nothing: it begins anew.
+    /// Its DRW read wasn't sent.
     Unsent,
     /// Its DRW read was answered OK.
     Sent,
-    /// It was a bus error, whose flag is cleared.
+    /// It was a bus error, and its flag is cleared.
     Failed,
 }
 
-/// Where an engine is.
+/// The state of an engine.
 #[derive(Clone, Copy, Debug, PartialEq, Eq)]
 pub(crate) enum State {
     /// The line reset has to be sent.
     Leading,
-    /// A request and its data phase or turnaround.
+    /// A request, or its data phase or turnaround, comes next.
     Doing(Job, Phase),
-    /// The opening or the access has come to this.
+    /// The opening or the access has reached this outcome.
     Resting(Outcome),
 }
 
-/// Says what has to be sent next, from what was seen so far: first the opening, and then an access
-/// for each `start`. It takes no memory, and whatever is seen, it comes to an outcome.
+/// The host without I/O: it returns as cues what to send next, first the opening, then an access for each `start`. It
+/// allocates no memory, and it reaches an outcome whatever is seen.
 ///
 /// ```text
 /// while let Some(cue) = engine.cue() {
@@ -73,17 +73,16 @@ pub(crate) enum State {
 ///     };
 ///     engine.next(reply);
 /// }
-/// /* `engine.finished()` is what it has come to: start the next access, or stop */
+/// /* `engine.finished()` is the outcome: start the next access, or stop */
 /// ```
 ///
-/// In the released cycles of a lead the target may be driving the line: a host that drives it there drives against
-/// the target.
+/// Release the line in the undriven cycles of a lead: the target may be driving it there.
 #[derive(Clone, Copy, Debug, PartialEq, Eq)]
 pub struct Engine {
     pub(crate) state: State,
-    // The access in hand, or the last one; it means nothing in the opening.
+    // The current access, or the last one; unused in the opening.
     pub(crate) task: Task,
-    // TAR has to be written for the access in hand.
+    // TAR has to be written for the current access.
     pub(crate) aims: bool,
     // The address that TAR is known to hold, where the engine rests.
     pub(crate) tar: Option<u32>,
@@ -91,18 +90,16 @@ pub struct Engine {
     pub(crate) ahead: Ahead,
     pub(crate) tries: u32,
     pub(crate) events: u32,
-    // The accesses that aren't answered and whose DRW request was sent: the one in hand, and in a block
-    // the next one.
+    // How many unanswered accesses had their DRW request sent: the current one, and in a block the next one.
     pub(crate) begun: u8,
     pub(crate) requests: u64,
-    // A transfer that an earlier run left pending may still turn out a bus error, whose flag is
-    // then no event: once.
+    // A transfer that an earlier run left pending may still turn out to be a bus error. Clearing its flag once is no
+    // event.
     pub(crate) stray: bool,
 }
 
 impl Engine {
-    /// An engine at the start of the opening. Each of the opening and the accesses may meet as many
-    /// events as `tries`.
+    /// Creates an engine at the start of the opening. The opening, and each access, may meet up to `tries` events.
     pub fn new(tries: u32) -> Engine
         ensures new { IsNew Bursts.Writes false tries result }
         ensures open { open_requests result ≤ 9 + 5 * (tries + 1) }
@@ -123,8 +120,8 @@ impl Engine {
         }
     }
 
-    /// The same for blocks of reads: its bursts are reads in place of writes. A read gives its word at the
-    /// DRW read of the next one.
+    /// Creates an engine for blocks of reads: its bursts are of reads instead of writes. In a burst the DRW read of the
+    /// next access returns the word of a read.
     pub fn blocks(tries: u32) -> Engine
         ensures new { IsNew Bursts.Reads false tries result }
         ensures open { open_requests result ≤ 9 + 5 * (tries + 1) }
@@ -135,13 +132,13 @@ impl Engine {
         engine
     }
 
-    /// An engine that goes on after a lost acknowledgement, at the start of a new opening. Its line reset
-    /// has 100 ones, of which the line is left undriven for the first 34: they let a data phase go by
-    /// that the target may be in (IHI 0031, B4, protocol error response). A transfer that was left
-    /// pending may turn out a bus error: its flag is cleared once, without an event.
+    /// Creates an engine that resumes after a lost acknowledgement, at the start of a new opening.
     ///
-    /// Begin with the first access that wasn't answered. The one that was begun may be done a second
-    /// time.
+    /// Its line reset has 100 ones, of which the first 34 are undriven. In them a data phase that the target may be in
+    /// can pass (IHI 0031, B4, protocol error response). A transfer that was left pending may turn out to be a bus
+    /// error: its flag is cleared once, and that is no event.
+    ///
+    /// Start with the first unanswered access. Accesses in flight may take effect a second time.
     pub fn again(tries: u32) -> Engine
         ensures again { IsNew Bursts.Writes true tries result }
         ensures open { open_requests result ≤ 9 + 5 * (tries + 2) }
@@ -152,9 +149,11 @@ impl Engine {
         engine
     }
 
-    /// Begins an access, with the one that follows it. Where that one continues its burst, which is
-    /// a write at the next address in the same kilobyte after a write, it has to be the next that is
-    /// begun. Over `Engine::blocks` a burst is one of reads; there an access may be answered at once.
+    /// Starts an access. Pass the following access too: where it continues the burst, its request confirms this access,
+    /// and it has to be started next.
+    ///
+    /// A write continues a burst of writes at the next address in the same kilobyte. For an engine of
+    /// [`blocks`](Engine::blocks) bursts are of reads; there an access may be answered at once.
     pub fn start(&mut self, access: Access, following: Option<Access>)
         requires rests { may_start (finished_of self.old) ≡ true }
         ensures starts { Starts access following self.old self.new }
@@ -164,9 +163,9 @@ impl Engine {
         let failed = !given && matches!(&self.ahead, Ahead::Failed);
         self.aims = !given && self.tar != Some(address_of(access));
         self.state = self.first_state(given);
-        // The request that confirmed the access before was this one's.
+        // This access's DRW request confirmed the one before.
         self.begun = u8::from(self.task.is_burst() && !failed);
-        // No request of the next one was sent with a bus error.
+        // After a bus error no request of the next one was sent.
         let following = if failed { None } else { following };
         self.task = Task::new(self.bursts, access, following);
         self.ahead = Ahead::Unsent;
@@ -174,7 +173,7 @@ impl Engine {
         self.stray = false;
     }
 
-    // Where the next access begins. `given` says whether the data of its DRW write is due.
+    // Returns the state in which the next access starts. `given`: the data of its DRW write is due.
     fn first_state(&self, given: bool) -> State
         ensures { result ≡ first_state given self.now.ahead self.now.aims }
     {
@@ -189,8 +188,8 @@ impl Engine {
         }
     }
 
-    // The access in hand is answered, since the DRW write of the next one was answered OK. The data
-    // of that one is due.
+    // Returns whether the OK to the next access's DRW write has answered the current access. The data of that write is
+    // due then.
     pub(crate) fn is_ahead(&self) -> bool
         ensures { result ≡ is_ahead self.now }
     {
@@ -205,7 +204,7 @@ impl Engine {
         }
     }
 
-    /// What has to be sent next; nothing where the engine rests.
+    /// Returns what to send next, or `None` where the engine rests.
     pub fn cue(&self) -> Option<Cue>
         ensures cue { result ≡ cue_of self.now }
         ensures range { IfSome result IsPhaseCue }
@@ -233,7 +232,7 @@ impl Engine {
         }
     }
 
-    /// What the engine has come to, where it has no cue.
+    /// Returns the outcome that the engine has reached, or `None` where it has a cue.
     pub fn finished(&self) -> Option<Outcome>
         ensures { result ≡ finished_of self.now }
     {
@@ -246,24 +245,24 @@ impl Engine {
         }
     }
 
-    /// How many accesses aren't answered and had their DRW request sent: the one in hand, and over
-    /// `Engine::blocks` the next one too. Between two writes of a burst it is 0.
+    /// Returns how many unanswered accesses had their DRW request sent: the current one, and for an engine of
+    /// [`blocks`](Engine::blocks) the next one too. Between two writes of a burst it is 0.
     pub fn begun(&self) -> u8
         ensures { result ≡ begun_of self.now }
     {
         if self.is_ahead() { 0 } else { self.begun }
     }
 
-    /// How many requests were sent. It stays at its greatest value once there.
+    /// Returns how many requests were sent, saturating at `u64::MAX`.
     pub fn requests(&self) -> u64
         ensures { result ≡ requests_of self.now }
     {
         self.requests
     }
 
-    /// Says what came of the cue: of a request the three bits that were seen, of a read's data phase its 33 bits, the
-    /// first in time least significant each, and 0 of any other. That is [`seen`](Engine::seen),
-    /// [`taken`](Engine::taken) or [`done`](Engine::done).
+    /// Passes the reply to the cue to the engine. The reply is the three bits seen after a request, the 33 bits of a
+    /// read's data phase, and 0 for other cues. The first bit in time is the least significant. Calls
+    /// [`seen`](Engine::seen), [`taken`](Engine::taken) or [`done`](Engine::done).
     pub fn next(&mut self, reply: u64)
         requires { HasCue (λ cue. IsSeen cue reply) (cue_of self.old) }
         ensures { IfSome (cue_of self.old) (λ cue. Replied cue reply self.old self.new) }
@@ -276,7 +275,7 @@ impl Engine {
         }
     }
 
-    /// The three bits that were seen after a request, the first in time least significant.
+    /// Passes the three bits seen after a request to the engine, the first in time least significant.
     pub fn seen(&mut self, seen: u8)
         requires range { seen < 8 }
         requires cue { HasCue (λ cue. is_ask cue ≡ true) (cue_of self.old) }
@@ -295,7 +294,7 @@ impl Engine {
         self.state = after_ack(job, seen);
     }
 
-    /// What the cue said was sent: a lead, the data phase of a write, or a turnaround.
+    /// Notes that the cue was sent: a lead, the data phase of a write, or a turnaround.
     #[inline(always)]
     pub fn done(&mut self)
         requires { HasCue (λ cue. is_send cue ≡ true) (cue_of self.old) }
@@ -317,7 +316,7 @@ impl Engine {
         }
     }
 
-    /// The 33 bits of a read's data phase, the first in time least significant.
+    /// Passes the 33 bits of a read's data phase to the engine, the first in time least significant.
     pub fn taken(&mut self, bits: u64)
         requires range { bits < 2 ^ 33 }
         requires cue { HasCue (λ cue. is_take cue ≡ true) (cue_of self.old) }
@@ -339,8 +338,8 @@ impl Engine {
     }
 }
 
-// The line reset. Where a data phase may be due, it has 34 ones more than are needed, which may go by as
-// the rest of it: the line is released for as many.
+// Returns the line reset. Where a data phase may be due, the line is released for 34 ones first, in which the data
+// phase can pass.
 fn lead(inside: bool) -> Cue
     ensures cue { result ≡ lead_cue inside }
     ensures range { IsPhaseCue result }
@@ -353,7 +352,7 @@ fn lead(inside: bool) -> Cue
     }
 }
 
-// Where a request is once its acknowledgement was seen.
+// Returns the state after an acknowledgement was seen.
 fn after_ack(job: Job, seen: u8) -> State
     requires { seen < 8 }
     ensures { result ≡ state_seen job seen }

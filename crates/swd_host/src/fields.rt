@@ -1,4 +1,4 @@
-//! An engine as numbers, for callers that keep it in memory of their own, such as programs in C.
+//! An engine as a struct of integers, for callers that store it themselves, such as programs in C.
 ghost use Rattle.std.specs.Prelude.{◌≡◌, IfSome};
 ghost use Rattle.swd_host.specs.declared.engine.Engine.{Engine as EngineType};
 ghost use Rattle.swd_host.specs.Fields.{ahead_number, bursts_number, fields_of, job_fields, outcome_fields, phase_code};
@@ -13,11 +13,11 @@ use crate::request::{Job, Place};
 use crate::task::{Bursts, Task};
 use swd_port::Answer;
 
-/// The numbers of an engine: `Engine::fields` gives them, and `engine` gives the engine back. They are
-/// laid out as C does it, and any numbers may stand in them: `engine` gives none where they are those
-/// of no engine, as zeros are.
+/// The state of an engine as integers, laid out as in C. [`Engine::fields`] returns it, and
+/// [`engine`](EngineFields::engine) restores the engine. Any values are safe: `engine` rejects those of no engine, such
+/// as zeros.
 ///
-/// `requests` is how many requests were sent. What the others mean is this crate's own.
+/// `requests` is the number of requests sent. The meaning of the other fields is private to this crate.
 #[repr(C)]
 #[derive(Clone, Copy, Debug, PartialEq, Eq)]
 pub struct EngineFields {
@@ -34,7 +34,7 @@ pub struct EngineFields {
     pub stray: u8,
 }
 
-/// The numbers of where an engine is.
+/// The state of an engine within its sequence, as integers.
 #[repr(C)]
 #[derive(Clone, Copy, Debug, PartialEq, Eq)]
 pub struct StateFields {
@@ -44,10 +44,9 @@ pub struct StateFields {
     pub phase: u8,
 }
 
-/// What an engine has come to, as numbers. Of `kind` 0 there is no outcome. Of kind 1 it is opened; of 2
-/// a value was read, which is `word`; of 3 a word was written; of 4 there was a bus error. Of the others
-/// it has stopped: 5 all was done, 6 an acknowledgement was lost, 7 the tries ran out, 8 the
-/// identification is `word`, 9 the target is confused. Where `word` means nothing it is 0.
+/// The outcome of an engine, as integers. `kind` 0 is no outcome, 1 opened, 2 a read of `word`, 3 written, 4 a bus
+/// error. The others are stops: 5 all answered, 6 lost acknowledgement, 7 retries ran out, 8 wrong identification
+/// `word`, 9 confused. `word` is 0 for the other kinds.
 #[repr(C)]
 #[derive(Clone, Copy, Debug, PartialEq, Eq)]
 pub struct OutcomeFields {
@@ -55,7 +54,7 @@ pub struct OutcomeFields {
     pub kind: u8,
 }
 
-/// The numbers of a request that an engine sends, and why.
+/// A request that an engine sends, with its reason, as integers.
 #[repr(C)]
 #[derive(Clone, Copy, Debug, PartialEq, Eq)]
 pub struct JobFields {
@@ -65,7 +64,7 @@ pub struct JobFields {
     pub damaged: u8,
 }
 
-/// The numbers of the access in hand.
+/// The current access, as integers.
 #[repr(C)]
 #[derive(Clone, Copy, Debug, PartialEq, Eq)]
 pub struct TaskFields {
@@ -74,7 +73,7 @@ pub struct TaskFields {
     pub kind: u8,
 }
 
-/// The numbers of what is known of TAR.
+/// The known value of TAR, if any, as integers.
 #[repr(C)]
 #[derive(Clone, Copy, Debug, PartialEq, Eq)]
 pub struct TarFields {
@@ -102,8 +101,8 @@ fn number_of_place(place: Place) -> u8
     }
 }
 
-// Here and below, what is read from numbers that nothing has doesn't matter: `EngineFields::engine` finds
-// that the engine has other numbers.
+// Here and below, invalid numbers may give any result: `EngineFields::engine` rejects an engine whose own fields
+// differ.
 fn place_with(number: u8) -> Place
     ensures { result ≡ place_at number }
 {
@@ -185,10 +184,10 @@ fn bursts_with(number: u8) -> Bursts
 }
 
 impl OutcomeFields {
-    /// There is no outcome.
+    /// No outcome.
     pub const NONE: OutcomeFields = OutcomeFields { word: 0, kind: 0 };
 
-    /// The numbers of an outcome.
+    /// Returns the fields of an outcome.
     pub fn of(outcome: Outcome) -> OutcomeFields
         ensures { result ≡ outcome_fields outcome }
     {
@@ -352,7 +351,7 @@ impl TarFields {
 }
 
 impl EngineFields {
-    /// The engine with these numbers, where there is one.
+    /// Returns the engine with these fields, or `None` if no engine has them.
     pub fn engine(&self) -> Option<Engine>
         ensures found { (engine : EngineType) → fields_of engine ≡ self.now → result ≡ Some engine }
         ensures same { IfSome result (λ engine. fields_of engine ≡ self.now) }
@@ -385,7 +384,7 @@ impl EngineFields {
 }
 
 impl Engine {
-    /// The numbers of the engine.
+    /// Returns the fields of the engine.
     pub fn fields(&self) -> EngineFields
         ensures { result ≡ fields_of self.now }
     {

@@ -1,20 +1,20 @@
-//! The sticky flags of the debug port, as a host reads and clears them.
+//! The sticky flags of the debug port, which a host reads and clears.
 ghost use Rattle.std.specs.Prelude.{◌≡◌};
 ghost use Rattle.swd_host.specs.Flags.{flags_in, clear_word, is_powered, is_configured};
 
 use bitflags::Flags as _;
 use swd_port::{Abort, Csw, CtrlStat};
 
-/// The sticky flags that a host meets.
+/// The sticky flags of CTRL/STAT that a host may find set.
 #[derive(Clone, Copy, Debug, PartialEq, Eq)]
 pub struct Flags {
     /// STICKYERR: a transfer was a bus error.
     pub error: bool,
-    /// WDATAERR: the data of a write came with wrong parity.
+    /// WDATAERR: the data of a write arrived with wrong parity.
     pub damaged: bool,
 }
 
-// The flags in a word of CTRL/STAT.
+// Reads the flags from a word of CTRL/STAT.
 pub(crate) fn flags_of(word: u32) -> Flags
     ensures { result ≡ flags_in word }
 {
@@ -26,7 +26,7 @@ pub(crate) fn flags_of(word: u32) -> Flags
 }
 
 impl Flags {
-    // The word of ABORT that clears them.
+    // Returns the word of ABORT that clears these flags.
     pub(crate) fn clearing(self) -> u32
         ensures { result ≡ clear_word self }
     {
@@ -44,7 +44,7 @@ impl Flags {
     }
 }
 
-// Both power acknowledgements are set.
+// Returns whether both power-up acknowledgements are set in a word of CTRL/STAT.
 pub(crate) fn is_powered(word: u32) -> bool
     ensures { result ≡ is_powered word }
 {
@@ -52,7 +52,7 @@ pub(crate) fn is_powered(word: u32) -> bool
     status.contains(CtrlStat::CDBGPWRUPACK) && status.contains(CtrlStat::CSYSPWRUPACK)
 }
 
-// CSW has words, increments, and an enabled device.
+// Returns whether CSW has Size word, AddrInc single and DeviceEn set.
 pub(crate) fn is_configured(word: u32) -> bool
     ensures { result ≡ is_configured word }
 {

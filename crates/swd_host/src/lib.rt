@@ -1,5 +1,5 @@
-//! The host's side of a serial wire: an engine that says what has to be sent next; `run`, which does a
-//! list of accesses over any wire, each once; and `run_block`, which reads a block of words so.
+//! The host's side of a serial wire. [`run`] performs a list of accesses over any wire, and [`run_block`] reads a block
+//! of words. [`Engine`] is the host without I/O, which returns what to send next.
 #![tactic(auto)]
 
 mod accepting;

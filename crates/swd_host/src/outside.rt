@@ -1,4 +1,4 @@
-//! A run over a wire to an end of which nothing is proved.
+//! A run over a transport of which nothing is proved.
 ghost use Rattle.std.specs.Prelude.{◌≡◌, ◌≤◌, [], IfErr, IfOk, length};
 ghost use Rattle.swd_port.specs.Stories.{due_by, port_at, FitsStory};
 ghost use Rattle.swd_host.specs.Plain.{AreAccesses};
@@ -10,15 +10,16 @@ use crate::running::run;
 use std::alloc::Allocator;
 use swd_port::{Access, Outside, Story, Transport};
 
-/// Does the accesses in order, each once, over a wire of which no call was made.
+/// Performs the accesses in order, over a wire of which no call was made yet.
 ///
-/// Whatever comes back it ends, after so many requests at most, and tells what was sent: the calls that the wire noted
-/// have each request that is told, and of each answer the access and what confirmed it. And of every story that the
-/// replies fit the report tells the truth.
+/// Whatever comes back, the run ends within the bounds of [`run`], unless the transport blocks, and its report matches
+/// the calls that the wire recorded. The number of requests is exact, and the calls have each answer's access and what
+/// confirmed it. For every [`Story`] with which the replies are consistent, a sequence of model states, the report is
+/// as [`run`] promises.
 ///
 /// # Errors
 ///
-/// As [`run`]: `TooMany`, `Unaligned`, `Memory`. No call was made then.
+/// Returns `TooMany`, `Unaligned` and `Memory` as [`run`] does. No call is made in these cases.
 pub fn run_outside<T: Transport, S: Story, A: Allocator>(
     alloc: A,
     wire: &mut Outside<T, S>,

@@ -1,5 +1,4 @@
-//! The requests that a host sends: the opening, an access, and what is sent where something went
-//! wrong.
+//! The requests that a host sends: the opening, an access, and what follows an error.
 ghost use Rattle.std.specs.Prelude.{◌≡◌};
 ghost use Rattle.swd_host.specs.Requests.{register_at, register_for, request_for, word_for, next_place, confirmed_by};
 ghost use Rattle.swd_host.specs.Requests.{again_at, is_exempt, begins};
@@ -9,56 +8,56 @@ use crate::task::Task;
 use swd_bits::Request;
 use swd_port::Register;
 
-/// A place in the two sequences of a host: the opening, and an access.
+/// A place in one of the two sequences of a host: the opening, and an access.
 #[derive(Clone, Copy, Debug, PartialEq, Eq)]
 pub(crate) enum Place {
     /// DPIDR is read: it wakes the target.
     Identify,
-    /// ABORT is written: the flags that an earlier host left are cleared.
+    /// ABORT is written, to clear the flags that an earlier host left.
     Wipe,
-    /// CTRL/STAT is read: no flag is left.
+    /// CTRL/STAT is read, to check that no flag is left.
     Inspect,
     /// SELECT is written: access port 0, bank 0.
     Select,
-    /// CTRL/STAT is written: power is asked for.
+    /// CTRL/STAT is written, to request power.
     Power,
-    /// CTRL/STAT is read: power is there.
+    /// CTRL/STAT is read, to check that power is acknowledged.
     Powered,
-    /// CSW is written: words, and TAR increments.
+    /// CSW is written, for the word size and increments of TAR.
     Configure,
     /// CSW is read, posted.
     Recall,
-    /// RDBUFF is read: CSW is as it was written.
+    /// RDBUFF is read, to check that CSW is configured.
     Configured,
     /// TAR is written.
     Aim,
     /// DRW is read or written.
     Transfer,
-    /// What confirms the access: RDBUFF is read, or DRW is read or written for the next access of a burst.
+    /// The request that confirms the access: RDBUFF is read, or DRW is read or written for the next access of a burst.
     Confirm,
-    /// RESEND: the word of a read, where the next one of its block was a bus error whose flag is cleared.
+    /// RESEND is read, for the word of a read of a block after the next one was a bus error and its flag was cleared.
     Behind,
 }
 
-/// A request that the engine sends, and why.
+/// A request that the engine sends, with its reason.
 #[derive(Clone, Copy, Debug, PartialEq, Eq)]
 pub(crate) enum Job {
     /// The request at a place.
     At(Place),
-    /// RESEND, since the word at this place came with wrong parity.
+    /// RESEND is read, since the word at this place had wrong parity.
     Resend(Place),
     /// CTRL/STAT is read, since the request at this place was answered FAULT.
     Status(Place),
     /// CTRL/STAT is read, since RESEND was answered FAULT.
     LastStatus,
-    /// ABORT is written, to clear these flags, which the request at this place met.
+    /// ABORT is written, to clear these flags, for which the request at this place was answered FAULT.
     Clear(Place, Flags),
     /// CTRL/STAT is read after that.
     Check(Place, Flags),
 }
 
 impl Place {
-    // The register that the request here names, SELECT being 0.
+    // Returns the register of the request at this place, for SELECT 0.
     fn register(self, task: Task) -> Register
         ensures { result ≡ register_at self task }
     {
@@ -84,7 +83,7 @@ impl Place {
         }
     }
 
-    // The word that is written here.
+    // Returns the word that is written here, if one is.
     fn word(self, task: Task) -> Option<u32>
         ensures { result ≡ word_for (Job.At self) task }
     {
@@ -102,7 +101,7 @@ impl Place {
         }
     }
 
-    // What follows here where all is well.
+    // Returns the next place where no error occurs.
     pub(crate) fn next(self) -> Place
         ensures { result ≡ next_place self }
     {
@@ -121,8 +120,8 @@ impl Place {
         }
     }
 
-    // The request that gives the word of this place again, where its parity was wrong: what RDBUFF gave, or
-    // DRW in a block, comes by RESEND, since reading it again would give another value.
+    // Returns the request that reads the word of this place again after wrong parity. It is RESEND for RDBUFF, or for
+    // DRW in a block, since reading these again would return another value.
     pub(crate) fn again(self) -> Job
         ensures { result ≡ again_at self }
     {
@@ -132,8 +131,8 @@ impl Place {
         }
     }
 
-    // The write that the request here confirms: where that write's data was damaged, this request
-    // is answered FAULT. `aims` says whether TAR was written for the access.
+    // Returns the write that the request here confirms: if that write's data was corrupted, this request is answered
+    // FAULT. `aims`: TAR was written for the access.
     pub(crate) fn confirms(self, task: Task, aims: bool) -> Option<Place>
         ensures { result ≡ confirmed_by self task aims }
     {
@@ -153,7 +152,7 @@ impl Place {
 }
 
 impl Job {
-    // The register that it names, by the access in hand.
+    // Returns the register of the request, for the current access.
     fn register(self, task: Task) -> Register
         ensures { result ≡ register_for self task }
     {
@@ -165,14 +164,14 @@ impl Job {
         }
     }
 
-    // The request, by the access in hand.
+    // Returns the request, for the current access.
     pub(crate) fn request(self, task: Task) -> Request
         ensures { result ≡ request_for self task }
     {
         self.register(task).request()
     }
 
-    // The word that is written, where it is a write.
+    // Returns the word that is written, if the request is a write whose word the engine has.
     pub(crate) fn word(self, task: Task) -> Option<u32>
         ensures { result ≡ word_for self task }
     {
@@ -183,8 +182,8 @@ impl Job {
         }
     }
 
-    // How many of the accesses that aren't answered are begun once it is sent, at least: DRW begins the
-    // access in hand, and in a block what confirms that one begins the next.
+    // Returns how many unanswered accesses, at least, are in flight once it is sent. DRW starts the current access; in
+    // a block the request that confirms it starts the next one.
     pub(crate) fn begins(self, task: Task) -> u8
         ensures { result ≡ begins self task }
     {
@@ -195,7 +194,7 @@ impl Job {
         }
     }
 
-    // It is never answered WAIT or FAULT.
+    // Returns whether the request is never answered WAIT or FAULT.
     pub(crate) fn is_exempt(self) -> bool
         ensures { result ≡ is_exempt self }
     {

@@ -1,4 +1,4 @@
-//! Goes on after a lost acknowledgement.
+//! Resumes a run after a lost acknowledgement, or after its retries ran out.
 ghost use Rattle.std.specs.Prelude.{◌≡◌, ◌≤◌, ◌-◌, IfOk, IfErr, IfSome, length};
 ghost use Rattle.std.specs.Vec.{vec_capacity};
 ghost use Rattle.swd_host.specs.Plain.{AreAccesses};
@@ -14,22 +14,21 @@ use crate::running::{open, perform, report_of};
 use std::alloc::Allocator;
 use swd_port::{Access, Answer, Wire};
 
-/// Goes on after a run of these accesses over this wire that ended early, `Lost` or `TriesOut`, or after
-/// a `resume` that did: from the first access that isn't answered. The report is that of the whole list,
-/// but that its `requests` are those of this call alone.
+/// Resumes a run of these accesses over this wire that ended `Lost` or `TriesOut`, or a `resume` that did, from the
+/// first unanswered access on. The report covers the whole list, except that `requests` counts this call alone.
 ///
-/// What it does is a run over the rest of the list, from the memory that is there, or that the transfer that was left
-/// pending leaves: the accesses that were begun when the run ended are done by this call, and may have been done
-/// before, too. `begun` of its report counts all of them, of this call and of earlier ones, that aren't answered yet.
-/// [`laws::resumptions`] has what follows of calls one after the other.
+/// The call is a run over the rest of the list. It starts from the memory as it is, or as a transfer that was left
+/// pending leaves it. It performs the accesses in flight again, which may have taken effect before. `begun` of its
+/// report covers all unanswered accesses that this call or an earlier one started. [`laws::resumptions`] states what
+/// follows for successive calls.
 ///
-/// It begins with a line reset of 100 ones, the first 34 of which let a data phase go by that the target
-/// may be in (IHI 0031, B4, protocol error response), and the opening. A transfer that was left pending
-/// may turn out a bus error then: its flag is cleared once, without an event.
+/// The call starts with a line reset of 100 ones, and the opening. During the first 34 ones a data phase that the
+/// target may be in can pass (IHI 0031, B4, protocol error response). A transfer that was left pending may now turn out
+/// to be a bus error: its flag is cleared once, and that is no event.
 ///
 /// # Errors
 ///
-/// `Memory` where the memory of the answers was refused. Nothing was sent then.
+/// Returns `Memory` if allocating the answers fails. Nothing is sent in this case.
 pub fn resume<W: Wire, A: Allocator>(
     alloc: A,
     wire: &mut W,
@@ -61,7 +60,7 @@ pub fn resume<W: Wire, A: Allocator>(
     Ok(since(report_of(answers, &engine, ended), report))
 }
 
-// The answers that are there, in a list with room for so many.
+// Copies the answers to a list with room for `most`.
 fn copy_answers<A: Allocator>(alloc: A, answers: &[Answer], most: usize) -> Option<Vec<Answer, A>>
     requires { length answers.now ≤ most }
     ensures kept { IfSome result (λ kept. kept.items ≡ answers.now) }
@@ -72,7 +71,7 @@ fn copy_answers<A: Allocator>(alloc: A, answers: &[Answer], most: usize) -> Opti
     Some(kept)
 }
 
-// The report of this call, with the accesses that earlier calls began and that aren't answered.
+// Adds to the report of this call the unanswered accesses that earlier calls started.
 fn since<A: Allocator>(report: Report<A>, earlier: &Report<A>) -> Report<A>
     ensures { told_of result ≡ since (told_of report) (told_of earlier.now) }
 {
@@ -83,7 +82,7 @@ fn since<A: Allocator>(report: Report<A>, earlier: &Report<A>) -> Report<A>
     Report { begun, ..report }
 }
 
-// How many accesses this run began that aren't answered where there are so many answers.
+// Returns how many accesses in flight after the earlier run are still unanswered with `answered` answers.
 fn still_open<A: Allocator>(earlier: &Report<A>, answered: usize) -> u8
     ensures { result ≡ (told_of earlier.now).begun - (answered - length (told_of earlier.now).answers) }
 {

@@ -1,4 +1,4 @@
-//! Runs an engine over a wire.
+//! Drives an engine over a wire.
 ghost use Rattle.std.specs.Prelude.{◌≡◌, ◌<◌, ◌≤◌, Some, true, false, IfOk, IfErr, IfNone, IfSome};
 ghost use Rattle.std.specs.Prelude.{◌+◌, ◌∷◌, length, []};
 ghost use Rattle.std.specs.Vec.{vec_capacity};
@@ -22,11 +22,13 @@ use std::alloc::Allocator;
 use swd_port::{Access, Answer, Cue, MOST_ACCESSES, Wire};
 
 impl Engine {
-    /// Makes the one call of a wire that the engine asks for, and tells it what came of that. Where it rests, none
-    /// is made. What is due on the wire is what the engine expects, as it is from a new engine over a wire on which
+    /// Makes the one call of the wire that the engine's cue asks for, and passes the reply to the engine. Does nothing
+    /// where the engine rests.
+    ///
+    /// What is due on the wire must be what the engine expects. That holds for a new engine over a wire on which
     /// nothing is due, after each turn, and after each `start`.
     ///
-    /// So an outcome is driven to, over a wire of one's own:
+    /// To drive an engine to its next outcome:
     ///
     /// ```text
     /// loop {
@@ -53,7 +55,7 @@ impl Engine {
     }
 }
 
-// One call of the wire, as the engine asks for it.
+// Makes the call of the wire that the engine asks for.
 #[inline(always)]
 fn turn<W: Wire>(wire: &mut W, engine: &mut Engine)
     requires due { DueFits engine.old (W.port wire.old) }
@@ -93,7 +95,7 @@ fn turn<W: Wire>(wire: &mut W, engine: &mut Engine)
     }
 }
 
-// Goes on to the engine's next outcome.
+// Drives the engine to its next outcome.
 #[inline(always)]
 fn drive<W: Wire>(wire: &mut W, engine: &mut Engine) -> Outcome
     requires { DueFits engine.old (W.port wire.old) }
@@ -113,7 +115,7 @@ fn drive<W: Wire>(wire: &mut W, engine: &mut Engine) -> Outcome
     }
 }
 
-// The address is a multiple of 4.
+// Returns whether the address is a multiple of 4.
 fn is_aligned(access: Access) -> bool
     ensures aligned { result ≡ is_aligned access }
     ensures ranges { HasRanges access }
@@ -122,7 +124,7 @@ fn is_aligned(access: Access) -> bool
     addr % 4 == 0
 }
 
-// Why a list isn't done.
+// Returns why a list is refused, if it is.
 fn refusal(accesses: &[Access]) -> Option<Refused>
     ensures none { IfNone result ((length accesses.now ≤ 65536) × AreAccesses accesses.now) }
     ensures refused { IfSome result (RefusedAs accesses.now) }
@@ -138,7 +140,7 @@ fn refusal(accesses: &[Access]) -> Option<Refused>
     None
 }
 
-// The opening.
+// Performs the opening.
 pub(crate) fn open<W: Wire>(wire: &mut W, engine: &mut Engine) -> Result<(), End>
     requires due { DueFits engine.old (W.port wire.old) }
     requires new { IsNew engine.old.bursts engine.old.stray engine.old.tries engine.old }
@@ -156,7 +158,7 @@ pub(crate) fn open<W: Wire>(wire: &mut W, engine: &mut Engine) -> Result<(), End
     }
 }
 
-// The access after the one at this index.
+// Returns the access after the one at this index.
 fn following(accesses: &[Access], index: usize) -> Option<Access>
     requires { index < length accesses.now }
     ensures { IfSome result (Follower index accesses.now) }
@@ -164,7 +166,7 @@ fn following(accesses: &[Access], index: usize) -> Option<Access>
     accesses.get(index + 1).copied()
 }
 
-// One access.
+// Performs one access.
 #[inline(always)]
 fn access<W: Wire>(
     wire: &mut W,
@@ -191,7 +193,7 @@ fn access<W: Wire>(
     }
 }
 
-// Eight idle cycles: the last transfer of a list goes on in them.
+// Sends eight idle cycles, in which the last transfer of a list can complete.
 fn idle<W: Wire>(wire: &mut W)
     requires { (W.port wire.old).link.due ≡ Nothing }
     ensures due { (W.port wire.new).link.due ≡ Nothing }
@@ -207,8 +209,8 @@ fn idle<W: Wire>(wire: &mut W)
     });
 }
 
-// Does a list over a target that the engine has opened, adds the answers to those that are there, and
-// ends a list that is whole with eight idle cycles.
+// Performs a list over a target that the engine has opened, and appends the answers. Sends eight idle cycles after a
+// whole list.
 pub(crate) fn perform<W: Wire, A: Allocator>(
     wire: &mut W,
     engine: &mut Engine,
@@ -239,22 +241,23 @@ pub(crate) fn perform<W: Wire, A: Allocator>(
     End::All
 }
 
-/// Does the accesses in order, each once, over a target at rest: one that was just made, that a run
-/// before this one left whole, or that another debugger left so, whatever flags, power, CSW and TAR it
-/// has.
+/// Performs the accesses in order over a target at rest.
 ///
-/// The answers are those of the first accesses of the list. A run that isn't whole ends at a lost
-/// acknowledgement, after which nothing more is sent, or where an access or the opening met more than
-/// `tries` events; `resume` goes on from both. A run that is whole ends with eight idle cycles, and
-/// leaves the target at rest with power on.
+/// Over a target that conforms to the model, each answered access took effect exactly once (at `BusFault` not at all).
+/// The answers are those of a plain memory to the first accesses of the list. The run stops early only at a lost
+/// acknowledgement or after more than `tries` disturbed requests; [`resume`](crate::resume) continues from both. A
+/// whole run sends eight idle cycles at its end (only tested), and leaves the target at rest with power on.
 ///
-/// Whatever the other end does, the run ends, after at most `10 + 5 * tries` requests and
+/// A simulated target that was just made is at rest, and so is a target after a run that ended `All`. Flags, power, CSW
+/// and TAR may have any values. `tries` is the number of events that the opening, and each access, may meet.
+///
+/// Whatever the other end sends, the run ends after at most `10 + 5 * tries` requests for the opening and
 /// `6 + 5 * tries` for each access.
 ///
 /// # Errors
 ///
-/// `TooMany` for more than 65,536 accesses, `Unaligned` for the first address that isn't a multiple of 4,
-/// `Memory` where the memory of the answers was refused. Nothing was sent then.
+/// Returns `TooMany` for more than 65,536 accesses, `Unaligned` for the first address that isn't a multiple of 4, and
+/// `Memory` if allocating the answers fails. Nothing is sent in these cases.
 pub fn run<W: Wire, A: Allocator>(
     alloc: A,
     wire: &mut W,
@@ -282,7 +285,7 @@ pub fn run<W: Wire, A: Allocator>(
     Ok(conduct(wire, Engine::new(tries), accesses, answers))
 }
 
-// Opens the target with a new engine, and does the list.
+// Opens the target with a new engine, and performs the list.
 pub(crate) fn conduct<W: Wire, A: Allocator>(
     wire: &mut W,
     engine: Engine,

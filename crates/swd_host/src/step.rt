@@ -1,4 +1,4 @@
-//! The steps of the engine's own: from what a request came to, to the next request or an outcome.
+//! The engine's own steps: from the result of a request to the next request or an outcome.
 ghost use Rattle.std.specs.Prelude.{◌≡◌, ◌+◌, ◌-◌, ◌&&◌, ℕ, true, false, not, Option, Some, None};
 ghost use Rattle.swd_host.specs.Events.{Meets, is_damaged_clearing, is_damaged_write, is_event, is_event_at};
 ghost use Rattle.swd_host.specs.Events.{is_flagged, is_left_over, is_unpowered, wrong_id, wrong_id_read};
@@ -22,7 +22,7 @@ use crate::task::next_in_kilobyte;
 use swd_port::Answer;
 
 impl Engine {
-    // An event, and then this request.
+    // Counts an event, and sends this request next; stops where the retries ran out.
     pub(crate) fn event(&mut self, job: Job)
         ensures tracks { Comes (λ n b k t. Before job (n + 1) b k t) self.old self.new }
         ensures early { ComesEarly (λ n stray start s. EarlyBefore job (n + 1) stray start s) self.old self.new }
@@ -38,8 +38,8 @@ impl Engine {
         }
     }
 
-    // The bus error of a transfer that an earlier run left pending was met: once it is no event. Then this
-    // request.
+    // Sends this request next, after the bus error of a transfer that an earlier run left pending. Once, that is no
+    // event.
     fn forgive(&mut self, job: Job)
         ensures { self.new ≡ record self.old { stray = false; state = State.Doing job Phase.Ask } }
     {
@@ -47,7 +47,7 @@ impl Engine {
         self.state = State::Doing(job, Phase::Ask);
     }
 
-    // The flags after ABORT was written.
+    // Checks the flags after ABORT was written.
     pub(crate) fn check(&mut self, place: Place, owed: Flags, now: Flags)
         ensures tracks { ComesWith now (Checks place owed) self.old self.new }
         ensures early { ShownEarly now (EarlyBefore (Job.Check place owed)) self.old self.new }
@@ -70,8 +70,8 @@ impl Engine {
         }
     }
 
-    // The flag of a bus error is cleared: it answers the access in hand; where it was the next one's, RESEND
-    // gives the word; where an earlier run left the transfer pending, the request that met it comes again.
+    // Continues once the flag of a bus error is cleared. The error answers the current access. If it was the next
+    // one's, RESEND is read. If an earlier run left the transfer pending, the refused request is sent again.
     fn finish_clear(&mut self, place: Place, owed: Flags)
         requires { owed.error ≡ true }
         ensures tracks { Comes (Cleared place) self.old self.new }
@@ -88,8 +88,7 @@ impl Engine {
         }
     }
 
-    // The access is answered. A transfer that was done leaves TAR at the next address, but at the end
-    // of a kilobyte.
+    // Answers the access. A successful transfer leaves TAR at the next address, except at the end of a kilobyte.
     pub(crate) fn answer(&mut self, answer: Answer, ahead: Ahead)
         ensures tracks { Comes (Earns answer ahead) self.old self.new }
         ensures lands { LandsAnswered self.old self.new }
@@ -101,13 +100,13 @@ impl Engine {
             (Answer::BusFault, _) | (_, Ahead::Failed) => None,
             _ => next_in_kilobyte(self.task.address()),
         };
-        // In a block the DRW request of the next one was sent.
+        // In a block the DRW request of the next one was sent already.
         self.begun = self.begun.min(u8::from(self.task.is_block()));
         self.ahead = ahead;
         self.state = State::Resting(Outcome::Answered(answer));
     }
 
-    // The data phase of a write was sent.
+    // Continues after the data phase of a write was sent.
     pub(crate) fn follow_write(&mut self, job: Job)
         requires { is_write job self.old.task ≡ true }
         ensures tracks { Comes (WasSent job) self.old self.new }
@@ -124,7 +123,7 @@ impl Engine {
         self.state = State::Doing(next, Phase::Ask);
     }
 
-    // The request was answered WAIT.
+    // Continues after WAIT and its turnaround.
     pub(crate) fn take_wait(&mut self, job: Job)
         ensures tracks { Comes (Waiting job) self.old self.new }
         ensures early { ComesEarly (EarlyWaiting job) self.old self.new }
@@ -139,7 +138,7 @@ impl Engine {
         }
     }
 
-    // The request was answered FAULT.
+    // Continues after FAULT and its turnaround.
     pub(crate) fn take_fault(&mut self, job: Job)
         ensures tracks { Comes (FaultedAt job) self.old self.new }
         ensures early { ComesEarly (EarlyFaulted job) self.old self.new }
@@ -161,7 +160,7 @@ impl Engine {
         };
     }
 
-    // The word that was read had wrong parity.
+    // Continues after a data phase was read with wrong parity.
     pub(crate) fn take_damage(&mut self, job: Job)
         requires { is_write job self.old.task ≡ false }
         ensures tracks { Comes (TakenFor job None) self.old self.new }
@@ -178,7 +177,7 @@ impl Engine {
         }
     }
 
-    // This word was read.
+    // Continues after this word was read with right parity.
     pub(crate) fn take_word(&mut self, job: Job, word: u32)
         requires { is_write job self.old.task ≡ false }
         ensures tracks { Comes (TakenFor job (Some word)) self.old self.new }
@@ -202,7 +201,7 @@ impl Engine {
         }
     }
 
-    // The word that is read here isn't looked at: that of a posted read, and RDBUFF's after a write.
+    // Returns whether the word that is read here is ignored: that of a posted read, and RDBUFF's after a write.
     fn is_unread(&self, place: Place) -> bool
         ensures { result ≡ is_unread place self.now.task }
     {
@@ -213,7 +212,7 @@ impl Engine {
         }
     }
 
-    // Goes on from a word that isn't looked at.
+    // Continues after a word that is ignored.
     fn pass_over(&mut self, place: Place)
         requires { is_unread place self.old.task ≡ true }
         ensures tracks { (word : Option ℕ) → Comes (TookAt place word) self.old self.new }
@@ -228,7 +227,7 @@ impl Engine {
         }
     }
 
-    // The word that was read at a place of the sequence.
+    // Continues after this word was read at a place of the sequence.
     fn value(&mut self, place: Place, word: u32)
         ensures tracks { Comes (Taken place word) self.old self.new }
         ensures early { ComesEarly (EarlyTold (Job.At place) word) self.old self.new }
@@ -247,7 +246,7 @@ impl Engine {
         }
     }
 
-    // RESEND gave this word.
+    // Continues after RESEND returned this word.
     fn take_resent(&mut self, place: Place, word: u32)
         ensures tracks { Comes (Resent place word) self.old self.new }
         ensures lands { LandsFrom (Job.Resend place) Phase.Data self.old self.new }
@@ -263,7 +262,7 @@ impl Engine {
         }
     }
 
-    // The word of a read: by RDBUFF, or in a block by the DRW read of the next one.
+    // Answers a read with its word, which RDBUFF returned, or in a block the DRW read of the next access.
     fn give_word(&mut self, word: u32)
         ensures tracks { Comes (Taken Place.Confirm word) self.old self.new }
         ensures lands { LandsAnswered self.old self.new }
@@ -279,7 +278,7 @@ impl Engine {
         self.answer(Answer::Value(word), ahead);
     }
 
-    // DPIDR was read.
+    // Checks the identification that DPIDR returned.
     fn identify(&mut self, word: u32)
         ensures tracks { Comes (Taken Place.Identify word) self.old self.new }
         ensures early { ComesEarly (EarlyTold (Job.At Place.Identify) word) self.old self.new }
@@ -294,7 +293,7 @@ impl Engine {
         };
     }
 
-    // CTRL/STAT was read after the flags were cleared.
+    // Checks CTRL/STAT after the opening cleared the flags.
     fn inspect(&mut self, flags: Flags)
         ensures tracks { ComesWith flags (Before (Job.At Place.Inspect)) self.old self.new }
         ensures early { GlimpsedEarly flags (EarlyBefore (Job.At Place.Inspect)) self.old self.new }
@@ -311,7 +310,7 @@ impl Engine {
         }
     }
 
-    // CTRL/STAT was read after power was asked for.
+    // Checks CTRL/STAT after power was requested.
     fn check_power(&mut self, flags: Flags, powered: bool)
         ensures tracks { ComesWith flags (HasAsked powered) self.old self.new }
         ensures lands { LandsFrom (Job.At Place.Powered) Phase.Data self.old self.new }
@@ -329,7 +328,7 @@ impl Engine {
         }
     }
 
-    // CSW was read back. TAR isn't known yet, and no access was sent.
+    // Checks CSW as it was read back. TAR is unknown, and no access was sent.
     fn check_csw(&mut self, right: bool)
         ensures tracks { (word : ℕ) → right ≡ is_configured word
             → Comes (Taken Place.Configured word) self.old self.new }
@@ -346,7 +345,7 @@ impl Engine {
         };
     }
 
-    // The flags after the request at a place was answered FAULT.
+    // Checks the flags after the request at a place was answered FAULT.
     fn status(&mut self, place: Place, flags: Flags)
         ensures tracks { ComesWith flags (Refused place) self.old self.new }
         ensures early { ShownEarly flags (EarlyBefore (Job.Status place)) self.old self.new }

@@ -1,4 +1,4 @@
-//! The access in hand, and how it is confirmed.
+//! The current access, and how it is confirmed.
 ghost use Rattle.std.specs.Prelude.{◌≡◌};
 ghost use Rattle.swd_port.specs.PlainMemory.{address};
 ghost use Rattle.swd_host.specs.Addresses.{next_address, continues};
@@ -6,33 +6,34 @@ ghost use Rattle.swd_host.specs.Requests.{drw_register};
 
 use swd_port::{Access, Register};
 
-/// The accesses at addresses that follow each other that an engine does in bursts: there the DRW request
-/// of the next access confirms the one before.
+/// The kind of accesses that an engine performs in bursts. In a burst the DRW request of an access confirms the one
+/// before.
 #[derive(Clone, Copy, Debug, PartialEq, Eq)]
 pub(crate) enum Bursts {
     /// Writes.
     Writes,
-    /// Reads: the blocks.
+    /// Reads, as in a block.
     Reads,
 }
 
-/// The access in hand, with the request that confirms it.
+/// The current access, with the request that confirms it.
 #[derive(Clone, Copy, Debug, PartialEq, Eq)]
 pub(crate) enum Task {
-    /// A read at this address: RDBUFF confirms it, and gives its word.
+    /// A read at this address: RDBUFF confirms it, and returns its word.
     Read(u32),
-    /// The same, where the next access continues the burst: its DRW read gives the word of this one.
+    /// A read at this address that the next access continues: the DRW read of that one returns the word of this one.
     BurstRead(u32),
-    /// A write at this address of this word: RDBUFF confirms it.
+    /// A write of this word at this address: RDBUFF confirms it.
     Write(u32, u32),
-    /// The same, where the next access continues the burst: its DRW write confirms this one.
+    /// A write of this word at this address that the next access continues: the DRW write of that one confirms this
+    /// one.
     BurstWrite(u32, u32),
 }
 
 impl Task {
     ghost use Rattle.swd_host.specs.Tasks.{task_for, access_of, is_read, is_burst, is_block};
 
-    // An access with the one that follows it.
+    // Returns the task of an access, from the access that follows it.
     pub(crate) fn new(bursts: Bursts, access: Access, following: Option<Access>) -> Task
         ensures { result ≡ task_for bursts access following }
     {
@@ -63,7 +64,7 @@ impl Task {
         matches!(&self, Task::Read(_) | Task::BurstRead(_))
     }
 
-    // DRW, in the direction of the access.
+    // Returns DRW, in the direction of the access.
     pub(crate) fn drw(self) -> Register
         ensures { result ≡ drw_register self }
     {
@@ -74,14 +75,14 @@ impl Task {
         }
     }
 
-    // The DRW request of the next access confirms it.
+    // Returns whether the DRW request of the next access confirms it.
     pub(crate) fn is_burst(self) -> bool
         ensures { result ≡ is_burst self }
     {
         matches!(&self, Task::BurstRead(_) | Task::BurstWrite(_, _))
     }
 
-    // It is a read whose word the DRW read of the next access gives.
+    // Returns whether it is a read whose word the DRW read of the next access returns.
     pub(crate) fn is_block(self) -> bool
         ensures { result ≡ is_block self }
     {
@@ -89,7 +90,7 @@ impl Task {
     }
 }
 
-// The address of an access.
+// Returns the address of an access.
 pub(crate) fn address_of(access: Access) -> u32
     ensures { result ≡ address access }
 {
@@ -98,7 +99,8 @@ pub(crate) fn address_of(access: Access) -> u32
     }
 }
 
-// The access that follows does the same at the address after this one.
+// Returns whether the following access continues this one: the same direction, at the next address in the same
+// kilobyte.
 pub(crate) fn continues(access: Access, following: Option<Access>) -> bool
     ensures { result ≡ continues access following }
 {
@@ -111,8 +113,7 @@ pub(crate) fn continues(access: Access, following: Option<Access>) -> bool
     }
 }
 
-// The address after this one, where it doesn't begin another kilobyte: there TAR may wrap, or carry
-// on.
+// Returns the address after this one, or `None` where it starts another kilobyte: there TAR may wrap, or carry.
 pub(crate) fn next_in_kilobyte(addr: u32) -> Option<u32>
     ensures { result ≡ next_address addr }
 {

@@ -1,4 +1,4 @@
-//! The engine without a wire: it says what to send, and is told what was seen.
+//! The engine without a wire: it returns what to send, and takes what was seen.
 ghost use Rattle.std.specs.Prelude.{◌≤◌};
 ghost use Rattle.swd_port.specs.Stories.{IsSeen};
 
@@ -16,19 +16,19 @@ const QUIRKS: Quirks = Quirks {
     filler: 0,
 };
 
-/// The pins SWCLK and SWDIO. Here a simulated target is at their other end; on a board, registers are.
+/// The pins SWCLK and SWDIO. Here they drive a simulated target; on a board they are registers.
 #[derive(Drop)]
 pub struct Pins {
     target: Clocked,
 }
 
 impl Pins {
-    // One clock. The host drives this level, or leaves SWDIO alone; the level that stands there is returned.
+    // Performs one clock, in which the host drives this level or releases SWDIO. Returns the level of SWDIO.
     fn clock(&mut self, drive: Option<bool>) -> bool {
         self.target.cycle(drive)
     }
 
-    // Drives so many bits of a number, the first in time least significant.
+    // Drives `count` bits, the first in time least significant.
     fn send(&mut self, bits: u64, count: u32)
         requires { count ≤ 64 }
     {
@@ -37,14 +37,14 @@ impl Pins {
         }
     }
 
-    // Drives one level for so many clocks.
+    // Drives one level for `count` clocks.
     fn hold(&mut self, level: bool, count: u32) {
         for _ in 0..count {
             self.clock(Some(level));
         }
     }
 
-    // Looks at so many bits, the first in time least significant.
+    // Samples `count` bits, the first in time least significant.
     fn see(&mut self, count: u32) -> u64
         requires { count ≤ 64 }
     {
@@ -55,14 +55,14 @@ impl Pins {
         bits
     }
 
-    // Leaves the line alone for so many clocks.
+    // Releases the line for `count` clocks.
     fn release(&mut self, count: u32) {
         for _ in 0..count {
             self.clock(None);
         }
     }
 
-    // A cycle that nobody drives, where the line changes hands.
+    // Performs a turnaround, which nobody drives.
     fn turn_around(&mut self) {
         self.clock(None);
     }
@@ -146,7 +146,7 @@ impl Pins {
     }
 }
 
-/// Loads the image, each write with the next one in view, so that the engine confirms it by that one.
+/// Loads the image. Each `start` has the following write too, whose request then confirms the one before.
 pub fn load(alloc: Global) -> Result<(), Failure> {
     let memory = Memory::new(alloc, BASE, 64, 65_536)?;
     let mut pins = Pins {
@@ -165,7 +165,7 @@ pub fn load(alloc: Global) -> Result<(), Failure> {
             return Err(Failure::BusFault(index));
         }
     }
-    // Eight cycles more, so that the last transfer goes through.
+    // Send eight idle cycles, in which the last transfer can complete.
     pins.hold(false, 8);
     for (index, word) in IMAGE.iter().enumerate() {
         let addr = BASE.wrapping_add(4 * (index as u32));

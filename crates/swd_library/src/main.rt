@@ -1,5 +1,5 @@
-//! How a program uses the host: by `run` and `run_block` over a wire, by `resume` where an acknowledgement is lost, and
-//! by the engine alone over two pins.
+//! Three ways to use the host: by `run` and `run_block` over a wire, by `resume` after a lost acknowledgement, and by
+//! the engine alone over two pins.
 #![tactic(auto)]
 
 mod by_hand;

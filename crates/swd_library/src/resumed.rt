@@ -1,4 +1,4 @@
-//! The host over a wire that loses an acknowledgement: the run is resumed.
+//! The host over a wire that loses an acknowledgement, and a run that is resumed.
 ghost use Rattle.std.specs.Prelude.{◌≡◌, IfOk};
 ghost use Rattle.swd_port.specs.declared.wire.Due.TheVariants.{Nothing};
 ghost use Rattle.swd_target.specs.Marks.{IsPlan};
@@ -20,7 +20,7 @@ fn write_all<W: Wire>(alloc: Global, wire: &mut W, accesses: &[Access]) -> Resul
     Ok(resume(alloc, wire, accesses, &report, TRIES)?)
 }
 
-// What happens to the requests: the target doesn't see the first one.
+// Returns the plan of the requests: the target doesn't see the first one.
 fn plan(alloc: Global) -> Result<Vec<Mark>, AllocError>
     ensures { IfOk result (λ plan. IsPlan plan.items) }
 {

@@ -45,23 +45,23 @@ impl From<MakeFault> for Failure {
     }
 }
 
-/// Where the words go.
+/// The address of the first word.
 pub const BASE: u32 = 0x2000_0000;
 
-/// What is loaded.
+/// The words that are loaded.
 pub const IMAGE: [u32; 4] = [0x2000_1000, 0x2000_0011, 0xe7fe_e7fe, 0xbf00_bf00];
 
-/// How many WAITs and changed data an access may meet.
+/// The number of events, such as WAIT or a corrupted word, that an access may meet.
 pub const TRIES: u32 = 8;
 
-/// What the standard leaves to a target.
+/// The choices that the standard leaves to a target.
 pub const QUIRKS: Quirks = Quirks {
     wrap: true,
     late: false,
     filler: 0,
 };
 
-/// The writes that load the image.
+/// Returns the writes that load the image.
 pub fn writes(alloc: Global) -> Result<Vec<Access>, AllocError> {
     let mut accesses = Vec::new(alloc);
     let mut addr = BASE;
@@ -72,7 +72,7 @@ pub fn writes(alloc: Global) -> Result<Vec<Access>, AllocError> {
     Ok(accesses)
 }
 
-// Each answer is the word of the image.
+// Checks that each answer is the word of the image.
 fn compare(answers: &[Answer]) -> Result<(), Failure> {
     for (index, (answer, word)) in answers.iter().zip(IMAGE.iter()).enumerate() {
         match answer {

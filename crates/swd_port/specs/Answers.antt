@@ -1,4 +1,4 @@
--- How a target answers a request, and what the host sees of it.
+-- How a target answers a request, and what the host sees of the answer.
 -- Source: IHI 0031, B4, "Acknowledge response", "WAIT response to read or write operation request", "FAULT response
 -- to read or write operation request", "Protocol error response", "Connection and line reset sequence"; and B1,
 -- "Sticky flags and DP error responses".
@@ -26,19 +26,19 @@ abbrev pub is_dpidr : Register → Bool
 is_dpidr DpidrRead = true
 is_dpidr _ = false
 
--- before any line reset no request is answered, and then none but a DPIDR read until that was read (silence till
--- then: this project's choice)
+-- before any line reset no request is answered, and after one only a DPIDR read, until DPIDR was read (the silence:
+-- this project's choice)
 abbrev pub is_answered : Reset → Register → Bool
 is_answered Unreset r = false
 is_answered Fresh r = is_dpidr r
 is_answered Live r = true
 
--- the power that was asked for is there
+-- the requested power is acknowledged
 abbrev pub is_there : PowerUp → Bool
 is_there Late = false
 is_there u = true
 
--- an access of any AP while there is no debug power (FAULT for it: this project's choice)
+-- an access of any AP without debug power (FAULT for it: this project's choice)
 abbrev pub is_unpowered : Bool → Bool → Bool
 is_unpowered ap powered = ap && not powered
 
@@ -50,55 +50,56 @@ answer reset sticky_error write_error unpowered r =
     else if sticky_error || write_error || unpowered then Faults
     else Okay
 
--- OK was answered
+-- the reply is OK
 abbrev pub is_okay : Reply → Bool
 is_okay Okay = true
 is_okay _ = false
 
--- WAIT may stand for OK to a request that isn't exempt; FAULT goes before WAIT (the order: this project's choice)
+-- WAIT may replace OK to a request that isn't exempt; FAULT takes precedence over WAIT (the order: this project's
+-- choice)
 abbrev pub may_wait : Register → Reply → Bool
 may_wait r a = is_okay a && not (is_exempt r)
 
--- what may be answered: the answer, or WAIT where that may stand for it
+-- the replies that are allowed: the answer, or WAIT where that may replace it
 abbrev pub MayAnswer : Register → Reply → Reply → Type 0
 MayAnswer r a reply = (reply ≡ a) ⊎ ((may_wait r a ≡ true) × (reply ≡ Waits))
 
--- what is answered under a mark: WAIT at a Wait mark alone, wherever it may be; nothing to a request that isn't
--- seen (this project's choice)
+-- the reply under a mark: WAIT only at a Wait mark, and there wherever allowed; none to a request that the target
+-- doesn't see (this project's choice)
 abbrev pub reply_under : Mark → Register → Reply → Reply
 reply_under mark r a =
     if is_deaf mark then Silent
     else if is_wait mark && may_wait r a then Waits
     else a
 
--- the number of the three bits that the target drives; an undriven line reads 1 (this project's choice)
+-- the three bits that the target drives, as a number; an undriven line reads 1 (this project's choice)
 abbrev pub driven : Reply → ℕ
 driven Okay = number (ack AckOk)
 driven Waits = number (ack AckWait)
 driven Faults = number (ack AckFault)
 driven Silent = 7
 
--- the number of the three bits that the host sees: one bit of a driven acknowledgement changed by Mute (this
--- project's choice)
+-- the three bits that the host sees, as a number: Mute changes one bit of a driven acknowledgement (this project's
+-- choice)
 abbrev pub seen_at : Mark → Reply → ℕ
 seen_at mark Silent = driven Silent
 seen_at (Mute place) reply = bit_xor (driven reply) (2 ^ place)
 seen_at mark reply = driven reply
 
--- the number is none of OK, WAIT and FAULT
+-- the number is not OK, WAIT or FAULT
 pub record IsNoAcknowledgement (seen : ℕ) : Type 0 where
   pub not_okay : (seen == 1) ≡ false
   pub not_wait : (seen == 2) ≡ false
   pub not_fault : (seen == 4) ≡ false
 
--- the number that the host may see: of a lost request any that is no acknowledgement, since a line that fails may
--- read as anything; of every other the one that is driven (this project's choice)
+-- The numbers that the host may see. After a lost request it may see any that is no acknowledgement, since a failing
+-- line may read as anything. After other requests it sees what is driven (this project's choice).
 abbrev pub Sees : Mark → Reply → ℕ → Type 0
 Sees Deaf reply seen = IsNoAcknowledgement seen
 Sees (Mute place) reply seen = IsNoAcknowledgement seen
 Sees mark reply seen = seen ≡ driven reply
 
--- what has to come after an acknowledgement that was seen
+-- what is due after an acknowledgement was seen
 abbrev pub due_after : Bool → ℕ → Due
 due_after read seen =
     if seen == 1 then (if read then Take else Give)

@@ -17,7 +17,7 @@ use Rattle.swd_port.specs.Answers.{is_unpowered}
 use Rattle.swd_port.specs.Answers.{answer, reply_under, seen_at, Sees, due_after}
 use Rattle.swd_port.specs.Completion.{Completes}
 
--- an AP read or the RDBUFF read: they return the read buffer, and READOK tells of them
+-- an AP read or the RDBUFF read: they return the read buffer, and READOK is about them
 abbrev pub is_posted : Register → Bool
 is_posted RdbuffRead = true
 is_posted CswRead = true
@@ -26,21 +26,21 @@ is_posted DrwRead = true
 is_posted ApZeroRead = true
 is_posted _ = false
 
--- there is debug power
+-- debug power is on
 abbrev pub has_power : Target → Bool
 has_power x = x.debug_power && is_there x.power_up
 
--- the answer of a state where no WAIT is asked for
+-- the answer in a state where no WAIT is asked for
 abbrev pub answer_in : Target → Request → Reply
 answer_in x q = answer x.reset x.sticky_error x.write_error (is_unpowered q.ap (has_power x)) (register x.select q)
 
--- what is answered in a state under a mark (this project's choice)
+-- the reply in a state under a mark (this project's choice)
 abbrev pub reply_in : Mark → Target → Request → Reply
 reply_in mark x q = reply_under mark (register x.select q) (answer_in x q)
 
--- The word that a read returns, from what DPIDR and CTRL/STAT give, the last returned value, the read buffer, and
--- the word that stands for an unknown one. RESEND gives the last returned value again, an AP read and RDBUFF give
--- the read buffer.
+-- The word that a read returns, from the words of DPIDR and CTRL/STAT, the last returned value, the read buffer, and a
+-- filler for an unknown word. RESEND returns the last returned value again; an AP read and RDBUFF return the read
+-- buffer.
 abbrev pub value_read : Register → ℕ → ℕ → Option ℕ → Option ℕ → ℕ → ℕ
 value_read DpidrRead identification status last_returned buffer filler = identification
 value_read CtrlStatRead identification status last_returned buffer filler = status
@@ -60,24 +60,24 @@ is_access_port ApZeroRead = true
 is_access_port ApIgnoredWrite = true
 is_access_port r = false
 
--- What an OK tells of the power, where the target may be busy: a read of CTRL/STAT finds it there, or late where the
--- target is busy and it wasn't seen to be there before; an access port that answers has it (this project's choice)
+-- The state of power-up after an OK from a target that is busy or not. A read of CTRL/STAT finds power-up acknowledged,
+-- except at a busy target where it wasn't read as acknowledged before. An access port that answers has power (this
+-- project's choice).
 abbrev pub power_up_after : Bool → Register → PowerUp → PowerUp
 power_up_after busy CtrlStatRead Seen = Seen
 power_up_after busy CtrlStatRead u = if busy then Late else Seen
 power_up_after busy r u = if is_access_port r then Seen else u
 
--- the word of CTRL/STAT in a state, as a target returns it that may be busy
+-- the word that CTRL/STAT returns in a state, where the target is busy or not
 abbrev pub status_in : Bool → Target → ℕ
 status_in busy x = ctrl_stat_read x.sticky_error x.read_ok x.write_error x.debug_power x.system_power
     (is_there (power_up_after busy CtrlStatRead x.power_up))
 
--- the word that a read returns in a state; the filler stands for an unknown one (this project's choice)
+-- the word that a read returns in a state; the filler replaces an unknown one (this project's choice)
 abbrev pub value_in : Bool → Register → ℕ → Target → ℕ
 value_in busy r filler x = value_read r x.identification (status_in busy x) x.last_returned x.buffer filler
 
--- the data phase that follows an OK; its 33 bits arrive with the changed place (the changed place: this project's
--- choice)
+-- the data phase after an OK; its 33 bits arrive with this bit changed, if any (the changed bit: this project's choice)
 abbrev pub phase_after : Bool → Register → Option ℕ → ℕ → Line
 phase_after read r flip value = if read then Drives (flipped flip (phase_number value)) else Awaits r flip
 
@@ -85,8 +85,8 @@ phase_after read r flip value = if read then Drives (flipped flip (phase_number 
 abbrev pub line_after : Reply → Line → Line → Line
 line_after reply phase line = if is_okay reply then phase else line
 
--- the read buffer once a read's value was taken from it: an AP read puts its own result there, DRW when its
--- transfer is done; RDBUFF leaves it unknown (an unknown TAR is an unknown result)
+-- The read buffer after a read returned it. An AP read puts its own result there, DRW when its transfer is done; RDBUFF
+-- leaves it unknown (an unknown TAR is an unknown result).
 abbrev pub buffer_once_read : Register → ℕ → Option ℕ → Option ℕ → Option ℕ
 buffer_once_read RdbuffRead csw tar buffer = None
 buffer_once_read CswRead csw tar buffer = Some csw
@@ -99,9 +99,8 @@ abbrev pub pending_once_read : Register → Option Drw → Option Drw
 pending_once_read DrwRead pending = Some Reads
 pending_once_read r pending = pending
 
--- The target after an OK: a DPIDR read makes a fresh one live, and a read has its effects. A write has those of its
--- data phase, which follows. READOK tells whether the last AP read or RDBUFF read that was answered at all was
--- answered OK.
+-- The target after an OK. A DPIDR read makes a fresh target live, and a read has its effects. A write's effects come
+-- with its data phase. READOK is 1 if the last AP read or RDBUFF read that was answered got OK.
 abbrev pub after_okay : Bool → Register → Target → Target
 after_okay busy r x = record x {
   reset = if is_dpidr r then Live else x.reset;
@@ -112,30 +111,30 @@ after_okay busy r x = record x {
   power_up = power_up_after busy r x.power_up;
 }
 
--- after WAIT: nothing but READOK changed
+-- the target after WAIT: only READOK changes
 abbrev pub after_wait : Register → Target → Target
 after_wait r x = record x { read_ok = if is_posted r then false else x.read_ok }
 
--- after FAULT: nothing but READOK changed, and STICKYERR where an AP access has no power (FAULT for want of power:
--- this project's choice)
+-- the target after FAULT: only READOK changes, and STICKYERR for an AP access without power (that FAULT: this project's
+-- choice)
 abbrev pub after_fault : Register → Bool → Target → Target
 after_fault r ap x = record x {
   read_ok = if is_posted r then false else x.read_ok;
   sticky_error = x.sticky_error || is_unpowered ap (has_power x);
 }
 
--- after a reply; silence changes nothing
+-- the target after a reply; silence changes nothing
 abbrev pub target_after : Bool → Reply → Register → Bool → Target → Target
 target_after busy Okay r ap x = after_okay busy r x
 target_after busy Waits r ap x = after_wait r x
 target_after busy Faults r ap x = after_fault r ap x
 target_after busy Silent r ap x = x
 
--- one request more, by its mark (this project's choice)
+-- the counts after one more request, by its mark (this project's choice)
 abbrev pub tally_after : Mark → Tally → Tally
 tally_after mark n = record { asked = n.asked + 1; disturbed = n.disturbed + disturbs mark; lost = n.lost + loses mark }
 
--- the state after a request that was replied to
+-- the state after a reply to a request
 abbrev pub after_reply : Mark → Reply → Register → Request → Choice → Port → Port
 after_reply mark reply r q c s = record {
   link = record {
@@ -147,9 +146,9 @@ after_reply mark reply r q c s = record {
   tally = tally_after mark s.tally;
 }
 
--- the pending transfer has to be done before an OK or FAULT to a request that isn't exempt, so that its error makes
--- that answer FAULT; before WAIT, silence, and the OK to an exempt request it may be pending still (this project's
--- choice)
+-- The pending transfer has to complete before an OK or FAULT to a request that isn't exempt, so that its error makes
+-- that answer FAULT. Before WAIT, silence, and the OK to an exempt request it may still be pending (this project's
+-- choice).
 abbrev pub IsSettled : Reply → Register → Option Drw → Type 0
 IsSettled Okay r pending = is_exempt r ≡ false → pending ≡ None
 IsSettled Faults r pending = is_exempt r ≡ false → pending ≡ None
@@ -160,7 +159,7 @@ abbrev pub IsWordRead : Reply → Bool → ℕ → Type 0
 IsWordRead Okay true value = value < 2 ^ 32
 IsWordRead reply read value = Unit {0}
 
--- a request with its mark and the target's choice: what the host sees, and the state after it
+-- a request with its mark and the target's choice, without completion: what the host sees, and the state after it
 pub record AsksNow (mark : Mark) (c : Choice) (s : Port) (q : Request) (seen : ℕ) (t : Port) : Type 0 where
   pub legal : IsMark mark
   pub choice : IsChoice c

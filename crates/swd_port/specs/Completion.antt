@@ -20,30 +20,30 @@ abbrev pub fails : Option Drw → ℕ → PlainMemory → Bool
 fails None at m = false
 fails (Some drw) at m = not (succeeds_at at m)
 
--- the memory after it (this project's choice)
+-- the memory after the transfer (this project's choice)
 abbrev pub memory_after : Option Drw → ℕ → PlainMemory → PlainMemory
 memory_after None at m = m
 memory_after (Some drw) at m = plain_after (access_at at drw) m
 
--- four more; at the end of a kilobyte the low ten bits wrap to 0, or all carry, modulo 2^32
+-- the address plus 4; at the end of a kilobyte the low ten bits wrap to 0, or it carries, modulo 2^32
 abbrev pub next_address : Bool → ℕ → ℕ
 next_address wraps at = if wraps then at / 1024 * 1024 + (at + 4) % 1024 else (at + 4) % 2 ^ 32
 
--- TAR after it: unknown after a bus error, and an unknown TAR stays unknown (this project's choice); else four more
--- where AddrInc is single, and the same where it is off
+-- TAR after the transfer. After a bus error it is unknown, and an unknown TAR stays unknown (this project's choice).
+-- Otherwise it is 4 more where AddrInc is single, and unchanged where it is off.
 abbrev pub tar_after : Option Drw → Bool → Bool → Bool → Option ℕ → Option ℕ
 tar_after None failed increments wraps tar = tar
 tar_after (Some drw) failed increments wraps tar =
     if failed then None else if increments then option_map (next_address wraps) tar else tar
 
--- the read buffer after it: the word of a read; unknown after a bus error (this project's choice)
+-- the read buffer after the transfer: the word of a read; unknown after a bus error (this project's choice)
 abbrev pub buffer_after : Option Drw → Bool → ℕ → PlainMemory → Option ℕ → Option ℕ
 buffer_after None failed at m buffer = buffer
 buffer_after (Some Reads) failed at m buffer = if failed then None else Some (word_at at m)
 buffer_after (Some (Writes word)) failed at m buffer = if failed then None else buffer
 
--- The target after the pending transfer took effect, at TAR, or at the choice's address where TAR is unknown; as it
--- was where none is pending. A bus error sets STICKYERR.
+-- The target after the pending transfer took effect, at TAR, or at the choice's address where TAR is unknown. Without a
+-- pending transfer it is unchanged. A bus error sets STICKYERR.
 abbrev pub completion_of : Choice → Target → Target
 completion_of c x =
     let at = unwrap_or x.tar c.address in
@@ -59,10 +59,10 @@ completion_of c x =
 abbrev pub completed : Choice → Port → Port
 completed c s = record s { target = completion_of c s.target }
 
--- it may take effect now, or not yet (when it does is this project's choice)
+-- the pending transfer may take effect now, or not yet (when it does is this project's choice)
 abbrev pub Completes : Port → Port → Type 0
 Completes s t = (t ≡ s) ⊎ ((c : Choice) × IsChoice c × (t ≡ completed c s))
 
--- the memory may come to this once nothing is pending any more
+-- the memory may become m once the pending transfer has taken effect
 abbrev pub MayBecome : Port → PlainMemory → Type 0
 MayBecome s m = (c : Choice) × IsChoice c × (m ≡ (completed c s).target.memory)

@@ -1,5 +1,5 @@
--- The laws of the port machine, each as one statement that follows from its definitions. The functions of `laws`
--- carry them, one function a module.
+-- The laws of the port model, each as one statement that follows from its definitions. The functions of `laws` state
+-- them, one function a module.
 pub mod Phases
 pub mod Registers
 pub mod Answers

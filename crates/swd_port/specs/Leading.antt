@@ -6,18 +6,18 @@ use Rattle.swd_port.specs.declared.wire.Due.TheVariants.{Nothing}
 use Rattle.swd_port.specs.Port.{Port, Fresh, Line, Idle, Awaits}
 use Rattle.swd_port.specs.Completion.{Completes}
 
--- What a host may send where no request stands.
+-- The ones and zeros that a host may send outside of requests.
 pub record MayLead (due : Due) (ones : ℕ) (switch : Bool) (zeros : ℕ) : Type 0 where
   -- no ones, or a line reset: at least fifty, and then at least two zeros
   pub high : (ones ≡ 0) ⊎ (50 ≤ ones)
   pub low : ones ≢ 0 → 2 ≤ zeros
-  -- the switch from JTAG stands between two line resets
+  -- the switch from JTAG is between two line resets
   pub switched : switch ≡ true → ones ≢ 0
-  -- inside a transaction a hundred ones: 34 of them may go by as the rest of a data phase (this project's choice)
+  -- inside a transaction a hundred ones: in 34 of them the rest of a data phase may pass (this project's choice)
   pub inside : due ≢ Nothing → (100 ≤ ones) × (switch ≡ false)
 
--- For how many of these ones, from the first on, a host may leave the line undriven. Inside a transaction the target
--- may be driving it for the 34 cycles that the rest of a data phase takes.
+-- How many of these ones, from the first on, a host may leave undriven. Inside a transaction it has to be at least 34,
+-- since the target may be driving the line for the rest of a data phase.
 pub record MayRelease (due : Due) (ones undriven : ℕ) : Type 0 where
   pub few : undriven ≤ ones
   pub inside : due ≢ Nothing → 34 ≤ undriven
@@ -27,9 +27,9 @@ abbrev pub is_awaiting : Line → Bool
 is_awaiting (Awaits r flip) = true
 is_awaiting line = false
 
--- The state after ones and zeros. With ones it is a line reset: the target is fresh, and no register and no pending
--- transfer changes, but that write data which it awaited is taken from the line's ones, whose parity is wrong:
--- WDATAERR; read data that it drove goes by (this project's choice). Zeros alone are idle cycles.
+-- The state after ones and zeros. Ones are a line reset, after which the target is fresh; no register and no pending
+-- transfer changes, except for WDATAERR. It is set where write data was awaited, which is taken from the line's ones,
+-- whose parity is wrong. Read data that was driven is dropped (this project's choice). Zeros alone are idle cycles.
 abbrev pub after_lead : ℕ → Port → Port
 after_lead ones s =
     let resets = not (ones == 0) in

@@ -1,5 +1,5 @@
--- What a data phase, a turnaround, ones and zeros, and a completion leave of the port: the words of the laws. All
--- of it follows from the definitions of the steps, which say where each rule comes from.
+-- What a data phase, a turnaround, ones and zeros, and a completion change: the vocabulary of the laws. All of it
+-- follows from the definitions of the steps, which name the source of each rule.
 use Rattle.std.specs.Prelude.{ℕ, ◌≡◌, ◌⊎◌, ◌||◌, true, Option, Some, None}
 use Rattle.swd_port.specs.declared.wire.Due.TheVariants.{Nothing}
 use Rattle.swd_bits.specs.Phases.{word_in, IsPhaseOf, IsNoPhase}
@@ -8,11 +8,11 @@ use Rattle.swd_port.specs.Completion.{Completes}
 use Rattle.swd_port.specs.Moving.{Arrives, after_bits}
 use Rattle.swd_port.specs.Leading.{is_awaiting}
 
--- a step, with a completion before it and one after it, each of which may be none
+-- a step, with a possible completion before it and one after it
 abbrev pub Around : (Port → Port → Type 0) → Port → Port → Type 0
 Around Step s t = (a : Port) × (b : Port) × Completes s a × Step a b × Completes b t
 
--- what a completion keeps: all but STICKYERR, TAR, the read buffer, the pending transfer and the memory
+-- what a completion keeps: all except STICKYERR, TAR, the read buffer, the pending transfer and the memory
 pub record Kept (s t : Port) : Type 0 where
   pub link : t.link ≡ s.link
   pub tally : t.tally ≡ s.tally
@@ -27,17 +27,17 @@ pub record Kept (s t : Port) : Type 0 where
   pub csw_upper : t.target.csw_upper ≡ s.target.csw_upper
   pub last_returned : t.target.last_returned ≡ s.target.last_returned
   pub identification : t.target.identification ≡ s.target.identification
-  -- a set STICKYERR stays set, and what was pending is pending still or is done
+  -- a set STICKYERR stays set, and the pending transfer is still pending or done
   pub sticky_error : s.target.sticky_error ≡ true → t.target.sticky_error ≡ true
   pub pending : (t.target.pending ≡ s.target.pending) ⊎ (t.target.pending ≡ None)
 
--- nothing is due, and the target and the numbers are as before
+-- nothing is due, and the target and the counts are unchanged
 pub record Passed (s t : Port) : Type 0 where
   pub due : t.link.due ≡ Nothing
   pub target : t.target ≡ s.target
   pub tally : t.tally ≡ s.tally
 
--- what the host gets of a value: its phase, or no phase, where a place is changed
+-- the 33 bits that the host gets of a value: its phase, or no word's phase where a bit is changed
 pub data Got (flip : Option ℕ) (value bits : ℕ) : Type 0 where
   whole : flip ≡ None → IsPhaseOf value bits → word_in bits ≡ Some value → Got flip value bits
   damaged : (place : ℕ) → flip ≡ Some place → IsNoPhase bits → word_in bits ≡ None → Got flip value bits
@@ -48,22 +48,22 @@ pub record Gave (r : Register) (word : ℕ) (s t : Port) : Type 0 where
   pub target : t.target ≡ after_bits (Arrives r word) s.target
   pub tally : t.tally ≡ s.tally
 
--- a write whose data was damaged: nothing is done, and WDATAERR is set
+-- a write whose data was corrupted: it isn't done, and WDATAERR is set
 pub record Spoiled (s t : Port) : Type 0 where
   pub link : t.link ≡ idle_link
   pub target : t.target ≡ record s.target { write_error = true }
   pub tally : t.tally ≡ s.tally
 
--- what the target makes of the 33 bits of a word, by the place that was changed
+-- what the target does with the 33 bits of a word, by the bit that was changed
 pub data Given (r : Register) (flip : Option ℕ) (word : ℕ) (s t : Port) : Type 0 where
   whole : flip ≡ None → Gave r word s t → Given r flip word s t
   damaged : (place : ℕ) → flip ≡ Some place → Spoiled s t → Given r flip word s t
 
--- the target after a line reset: it is fresh, and WDATAERR is set where write data was awaited
+-- the target after a line reset: fresh, with WDATAERR set where write data was awaited
 abbrev pub reset_target : Port → Target
 reset_target s = record s.target { reset = Fresh; write_error = is_awaiting s.link.line || s.target.write_error }
 
--- a line reset: nothing is due, and every register, the pending transfer and the memory are as before, but for that
+-- a line reset: nothing is due, and except for that every register, the pending transfer and the memory are unchanged
 pub record WasReset (s t : Port) : Type 0 where
   pub link : t.link ≡ idle_link
   pub target : t.target ≡ reset_target s

@@ -1,5 +1,5 @@
--- What follows an acknowledgement: a data phase of 33 bits with its turnaround, or a turnaround alone. The calls
--- `take`, `give` and `pass`.
+-- What follows an acknowledgement: a data phase of 33 bits with its turnaround, or a turnaround alone. These are the
+-- calls `take`, `give` and `pass`.
 -- Source: IHI 0031, B4, "Data transfer", "Successful read operation", "Successful write operation"; B2, on ABORT,
 -- CTRL/STAT and SELECT; and MEM-AP, on CSW, TAR and DRW.
 use Rattle.std.specs.Prelude.{ℕ, ◌≡◌, ◌||◌, ◌&&◌, ◌==◌, not, Bool, true, false, if◌then◌else◌, Option, Some, None}
@@ -18,11 +18,11 @@ abbrev pub bits_driven : Line → ℕ
 bits_driven (Drives bits) = bits
 bits_driven line = undriven
 
--- the host took the 33 bits of a read: nothing else changes
+-- the state after the host took the 33 bits of a read: only the link changes
 abbrev pub after_take : Port → Port
 after_take s = record s { link = idle_link }
 
--- one call of `take`, and completion before and after
+-- one call of `take`, without completion; `Takes` has completion before and after
 pub record TakesNow (s : Port) (bits : ℕ) (t : Port) : Type 0 where
   pub gets : bits ≡ bits_driven s.link.line
   pub after : t ≡ after_take s
@@ -30,32 +30,31 @@ pub record TakesNow (s : Port) (bits : ℕ) (t : Port) : Type 0 where
 abbrev pub Takes : Port → ℕ → Port → Type 0
 Takes s bits t = (a : Port) × (b : Port) × Completes s a × TakesNow a bits b × Completes b t
 
--- What the target makes of the 33 bits that reach it.
+-- What the target reads from the 33 bits that reach it.
 pub data Arrival : Type 0 where
-  -- it awaited none
+  -- it awaited no data
   Unawaited : Arrival
   -- their parity is wrong
   Damaged : Arrival
   -- they are the word of this write
   Arrives : (write : Register) (word : ℕ) → Arrival
 
--- the word of a write, where the parity is right
+-- what arrives at a write, from the word if the parity is right
 abbrev pub arrival_of : Register → Option ℕ → Arrival
 arrival_of r None = Damaged
 arrival_of r (Some word) = Arrives r word
 
--- 33 bits that were sent, as they arrive, one place changed, where the target awaits them (the change: this
--- project's choice)
+-- what arrives of 33 bits that were sent, with the awaited bit changed, if any (the change: this project's choice)
 abbrev pub arrival : Line → ℕ → Arrival
 arrival (Awaits r flip) sent = arrival_of r (word_in (flipped flip sent))
 arrival line sent = Unawaited
 
--- data came with wrong parity
+-- data arrived with wrong parity
 abbrev pub is_damaged : Arrival → Bool
 is_damaged Damaged = true
 is_damaged a = false
 
--- a write of any AP: whatever it wrote, the read buffer and the last returned value are unknown after it (this
+-- a write of any AP, after which the read buffer and the last returned value are unknown, whatever it wrote (this
 -- project's choice)
 abbrev pub is_ap_write : Register → Bool
 is_ap_write CswWrite = true
@@ -64,7 +63,7 @@ is_ap_write DrwWrite = true
 is_ap_write ApIgnoredWrite = true
 is_ap_write r = false
 
--- a value that an AP write makes unknown, once its data came with right parity (this project's choice)
+-- a value that an AP write makes unknown, once its data arrived with right parity (this project's choice)
 abbrev pub forgotten : Arrival → Option ℕ → Option ℕ
 forgotten (Arrives r word) value = if is_ap_write r then None else value
 forgotten a value = value
@@ -74,33 +73,33 @@ abbrev pub sticky_error_after : Arrival → Bool → Bool
 sticky_error_after (Arrives AbortWrite word) flag = flag && not (bit_of 2 word)
 sticky_error_after a flag = flag
 
--- ABORT's WDERRCLR, bit 3, clears WDATAERR; damaged data sets it, ABORT's too (that it holds for ABORT: this
--- project's choice)
+-- ABORT's WDERRCLR, bit 3, clears WDATAERR; corrupted data sets it, also that of ABORT (for ABORT: this project's
+-- choice)
 abbrev pub write_error_after : Arrival → Bool → Bool
 write_error_after (Arrives AbortWrite word) flag = flag && not (bit_of 3 word)
 write_error_after a flag = is_damaged a || flag
 
--- CTRL/STAT stores its bits 28 and 30, the power requests (no others: this project's choice)
+-- CTRL/STAT stores its bits 28 and 30, the power requests (only these: this project's choice)
 abbrev pub power_after : ℕ → Arrival → Bool → Bool
 power_after n (Arrives CtrlStatWrite word) power = bit_of n word
 power_after n a power = power
 
--- power that is asked for anew was not seen yet
+-- power-up that was requested anew wasn't seen yet
 abbrev pub power_up_written : Arrival → PowerUp → PowerUp
 power_up_written (Arrives CtrlStatWrite word) u = Unseen
 power_up_written a u = u
 
--- SELECT
+-- SELECT stores its fields
 abbrev pub select_after : Arrival → Select → Select
 select_after (Arrives SelectWrite word) select = select_of word
 select_after a select = select
 
--- CSW stores whether AddrInc is 01, and its bits [30:24] (no others: this project's choice)
+-- CSW stores whether AddrInc is 01, and its bits [30:24] (only these: this project's choice)
 abbrev pub increments_after : Arrival → Bool → Bool
 increments_after (Arrives CswWrite word) increments = (csw_of word).addr_inc == 1
 increments_after a increments = increments
 
--- bits [30:24] of CSW, as written last (this project's choice)
+-- bits [30:24] of CSW, as last written (this project's choice)
 abbrev pub csw_upper_after : Arrival → ℕ → ℕ
 csw_upper_after (Arrives CswWrite word) upper = (csw_of word).upper
 csw_upper_after a upper = upper
@@ -115,7 +114,7 @@ abbrev pub pending_after : Arrival → Option Drw → Option Drw
 pending_after (Arrives DrwWrite word) pending = Some (Writes word)
 pending_after a pending = pending
 
--- the target after the 33 bits of a write: it is done where their parity is right, else WDATAERR is set
+-- the target after the 33 bits of a write: the write is done if their parity is right, else WDATAERR is set
 abbrev pub after_bits : Arrival → Target → Target
 after_bits a x = record x {
   sticky_error = sticky_error_after a x.sticky_error;
@@ -135,18 +134,19 @@ after_bits a x = record x {
 abbrev pub after_arrival : Arrival → Port → Port
 after_arrival a s = record s { link = idle_link; target = after_bits a s.target }
 
--- one call of `give`, and completion before and after
+-- one call of `give`, without completion; `Gives` has completion before and after
 pub record GivesNow (s : Port) (sent : ℕ) (t : Port) : Type 0 where
   pub after : t ≡ after_arrival (arrival s.link.line sent) s
 
 abbrev pub Gives : Port → ℕ → Port → Type 0
 Gives s sent t = (a : Port) × (b : Port) × Completes s a × GivesNow a sent b × Completes b t
 
--- the turnaround after WAIT or FAULT
+-- the state after the turnaround that follows WAIT or FAULT
 abbrev pub after_pass : Port → Port
 after_pass s = record s { link = record s.link { due = Nothing } }
 
--- one call of `pass`, and completion before and after: the turnaround changes nothing at the target
+-- one call of `pass`, without completion: the turnaround doesn't change the target; `Passes` has completion before and
+-- after
 pub record PassesNow (s t : Port) : Type 0 where
   pub after : t ≡ after_pass s
 

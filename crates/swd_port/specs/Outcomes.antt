@@ -1,5 +1,5 @@
--- What a request leaves of the port, told by what the host sees: the words of the laws. All of it follows from the
--- definition of a request, which says where each rule comes from.
+-- What a request changes, by what the host sees: the vocabulary of the laws. All of it follows from the definition of a
+-- request, which names the source of each rule.
 pub use Rattle.swd_port.specs.Answers.{IsNoAcknowledgement}
 use Rattle.std.specs.Prelude.{ℕ, ◌≡◌, ◌≢◌, ◌<◌, ◌≤◌, ◌+◌, ◌^◌, ◌⊎◌, Bool, true, false, if◌then◌else◌, Option}
 use Rattle.std.specs.Prelude.{Some, None}
@@ -8,7 +8,7 @@ use Rattle.swd_port.specs.Port.{Port, Target, Register, Unreset, Live, Seen}
 use Rattle.swd_port.specs.Answers.{is_exempt}
 use Rattle.swd_port.specs.Asking.{value_in, phase_after, after_okay, after_wait, after_fault}
 
--- what no request changes, whatever its answer and its mark: the registers that are written, and the memory
+-- what no request changes, whatever its answer and mark: the written registers, and the memory
 pub record Steady (x y : Target) : Type 0 where
   pub write_error : y.write_error ≡ x.write_error
   pub debug_power : y.debug_power ≡ x.debug_power
@@ -26,21 +26,21 @@ pub record Stays (s t : Port) : Type 0 where
   pub line : t.link.line ≡ s.link.line
   pub target : t.target ≡ s.target
 
--- the target answered WAIT: nothing but READOK changed
+-- the target answered WAIT: only READOK changed
 pub record Defers (r : Register) (s t : Port) : Type 0 where
   pub line : t.link.line ≡ s.link.line
   pub target : t.target ≡ after_wait r s.target
 
--- the target answered FAULT: no transfer is pending, and nothing but READOK changed, and STICKYERR where an AP
--- access has no power
+-- the target answered FAULT: no transfer was pending, and only READOK changed, and STICKYERR for an AP access without
+-- power
 pub record Refuses (r : Register) (ap : Bool) (s t : Port) : Type 0 where
   pub line : t.link.line ≡ s.link.line
   pub target : t.target ≡ after_fault r ap s.target
   pub settled : s.target.pending ≡ None
 
--- The target answered OK, and is live. A read's value is fixed here, and its phase stands on the line, with this
--- place changed; a write's phase is awaited. Any word stands for an unknown value. Where the target is busy, so that
--- it may find power late, the request is disturbed, and its phase isn't changed.
+-- The target answered OK, and is live. A read's value is fixed here, and its phase is on the line, with this bit
+-- changed, if any. A write's phase is awaited. Any word may replace an unknown value. Where the target is busy, and may
+-- find power-up not acknowledged, the request is disturbed, and its phase isn't changed.
 pub record Accepts (r : Register) (read : Bool) (flip : Option ℕ) (s t : Port) : Type 0 where
   pub busy : Bool
   pub disturbed : busy ≡ true → (flip ≡ None) × (t.tally.disturbed ≡ s.tally.disturbed + 1)
@@ -52,14 +52,14 @@ pub record Accepts (r : Register) (read : Bool) (flip : Option ℕ) (s t : Port)
   pub value_range : read ≡ true → value_in busy r filler s.target < 2 ^ 32
   pub line : t.link.line ≡ phase_after read r flip (value_in busy r filler s.target)
 
--- the host saw OK, WAIT or FAULT: one request more, none lost, at most one disturbed
+-- the host saw OK, WAIT or FAULT: the counts rise by one request, no lost one, and at most one disturbed one
 pub record Heard (s t : Port) : Type 0 where
   pub asked : t.tally.asked ≡ s.tally.asked + 1
   pub lost : t.tally.lost ≡ s.tally.lost
   pub disturbed_least : s.tally.disturbed ≤ t.tally.disturbed
   pub disturbed_most : t.tally.disturbed ≤ s.tally.disturbed + 1
 
--- no place of the data phase is changed, or one is, and this request is disturbed
+-- no bit of the data phase is changed, or one is, and the request is disturbed
 abbrev pub Spares : Option ℕ → Port → Port → Type 0
 Spares flip s t =
     (flip ≡ None) ⊎
@@ -74,7 +74,7 @@ pub record SeesOkay (r : Register) (read : Bool) (seen : ℕ) (s t : Port) : Typ
   pub spares : Spares flip s t
   pub accepts : Accepts r read flip s t
 
--- WAIT was seen: a disturbed request
+-- WAIT was seen, and the request was disturbed
 pub record SeesWait (r : Register) (seen : ℕ) (s t : Port) : Type 0 where
   pub is : seen ≡ 2
   pub due : t.link.due ≡ Pass
@@ -89,7 +89,7 @@ pub record SeesFault (r : Register) (ap : Bool) (seen : ℕ) (s t : Port) : Type
   pub heard : Heard s t
   pub refuses : Refuses r ap s t
 
--- no acknowledgement was seen: one request more, and it is lost
+-- no acknowledgement was seen, and the request was lost
 pub record SeesNone (seen : ℕ) (s t : Port) : Type 0 where
   pub none : IsNoAcknowledgement seen
   pub due : t.link.due ≡ Lost
@@ -97,24 +97,24 @@ pub record SeesNone (seen : ℕ) (s t : Port) : Type 0 where
   pub disturbed : t.tally.disturbed ≡ s.tally.disturbed
   pub lost : t.tally.lost ≡ s.tally.lost + 1
 
--- what comes of a request that is answered OK unless it is lost; a lost one had its effect, or none
+-- the result of a request that is answered OK unless it is lost; a lost one had its effect, or no effect
 pub data OkayOrLost (r : Register) (read : Bool) (seen : ℕ) (s t : Port) : Type 0 where
   okay : SeesOkay r read seen s t → OkayOrLost r read seen s t
   lost : SeesNone seen s t → Stays s t ⊎ Accepts r read None s t → OkayOrLost r read seen s t
 
--- what comes of one that is answered OK or WAIT unless it is lost
+-- the result of a request that is answered OK or WAIT unless it is lost
 pub data OkayWaitOrLost (r : Register) (read : Bool) (seen : ℕ) (s t : Port) : Type 0 where
   okay : SeesOkay r read seen s t → OkayWaitOrLost r read seen s t
   wait : SeesWait r seen s t → OkayWaitOrLost r read seen s t
   lost : SeesNone seen s t → Stays s t ⊎ Accepts r read None s t → OkayWaitOrLost r read seen s t
 
--- what comes of one that is answered FAULT unless it is lost
+-- the result of a request that is answered FAULT unless it is lost
 pub data FaultOrLost (r : Register) (ap : Bool) (seen : ℕ) (s t : Port) : Type 0 where
   fault : SeesFault r ap seen s t → FaultOrLost r ap seen s t
   lost : SeesNone seen s t → Stays s t ⊎ Refuses r ap s t → FaultOrLost r ap seen s t
 
--- what a request leaves whatever comes of it, where it starts no transfer: the written registers, STICKYERR, the
--- memory and what is pending; and a target that is reset, or live, stays so
+-- what a request that starts no transfer keeps, whatever its result: the written registers, STICKYERR, the memory and
+-- the pending transfer; and a target that is reset, or live, stays so
 pub record Unmoved (x y : Target) : Type 0 where
   pub steady : Steady x y
   pub sticky_error : y.sticky_error ≡ x.sticky_error

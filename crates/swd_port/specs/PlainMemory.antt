@@ -1,5 +1,5 @@
--- The memory behind the access port: words at addresses, a log of what was done, and a room for it.
--- All of it is this project's choice; the standard leaves the memory system open.
+-- The memory behind the access port: words at addresses, a log of transfers, and its capacity. All of it is this
+-- project's choice; the standard leaves the memory system open.
 use Rattle.std.specs.Prelude.{ℕ, zero, suc, ◌+◌, ◌&&◌, Bool, true, false, if◌then◌else◌, List, [], ◌∷◌, ◌++◌, length}
 use Rattle.std.specs.Prelude.{nat_lt}
 use Rattle.std.specs.Prelude.{unwrap_or}
@@ -11,14 +11,14 @@ use Rattle.swd_port.specs.declared.access.Answer.{Answer}
 use Rattle.swd_port.specs.declared.access.Answer.TheVariants.{Value, Written, BusFault}
 use Rattle.swd_port.specs.declared.access.Transfer.{Transfer}
 
--- a finite map from addresses, which are multiples of 4, to words; the transfers done so far, the oldest first; and
--- how many the log has room for
+-- a finite map from byte addresses to words; the transfers that succeeded so far, the oldest first; and the capacity of
+-- that log
 pub record PlainMemory : Type 0 where
   pub words : FinMap nat_cmp ℕ
   pub log : List Transfer
   pub room : ℕ
 
--- a transfer at this address succeeds: there is a word, and the log has fewer entries than room
+-- a transfer at this address succeeds: the address has a word, and the log has fewer entries than `room`
 abbrev pub succeeds_at : ℕ → PlainMemory → Bool
 succeeds_at at m = contains_key m.words at && nat_lt (length m.log) m.room
 
@@ -31,12 +31,12 @@ abbrev pub address : Access → ℕ
 address (Read at) = at
 address (Write at word) = at
 
--- the reads of so many words, at an address, at that address plus 4, and so on
+-- the reads of `count` words, at an address, at that address plus 4, and so on
 abbrev pub reads : ℕ → ℕ → List Access
 reads at zero = []
 reads at (suc count) = Read at ∷ reads (at + 4) count
 
--- what an access that succeeds is answered
+-- the answer to an access that succeeds
 abbrev pub answer_of : Access → PlainMemory → Answer
 answer_of (Read at) m = Value (word_at at m)
 answer_of (Write at word) m = Written
@@ -46,7 +46,7 @@ abbrev pub words_after : Access → FinMap nat_cmp ℕ → FinMap nat_cmp ℕ
 words_after (Read at) words = words
 words_after (Write at word) words = insert words at word
 
--- what an access that succeeds is logged as
+-- the log entry of an access that succeeds
 abbrev pub transfer_of : Access → PlainMemory → Transfer
 transfer_of (Read at) m = record { read = true; addr = at; word = word_at at m }
 transfer_of (Write at word) m = record { read = false; addr = at; word = word }
@@ -55,10 +55,10 @@ transfer_of (Write at word) m = record { read = false; addr = at; word = word }
 abbrev pub done : Access → PlainMemory → PlainMemory
 done a m = record m { words = words_after a m.words; log = m.log ++ transfer_of a m ∷ [] }
 
--- an access of the plain memory: its answer
+-- the answer to an access of the plain memory
 abbrev pub plain_answer : Access → PlainMemory → Answer
 plain_answer a m = if succeeds_at (address a) m then answer_of a m else BusFault
 
--- and the memory after it, which a bus fault leaves as it was
+-- the memory after an access, which a bus error leaves unchanged
 abbrev pub plain_after : Access → PlainMemory → PlainMemory
 plain_after a m = if succeeds_at (address a) m then done a m else m

@@ -1,4 +1,4 @@
--- The state of the port machine: a debug port of ADIv5.2 with one memory access port, AP 0.
+-- The state of the port model: a debug port of ADIv5.2 with one memory access port, AP 0.
 -- Source: IHI 0031, B4, "Packet request"; and B2, "SELECT, AP Select register".
 pub use Rattle.swd_port.specs.declared.register.Register.{Register}
 pub use Rattle.swd_port.specs.declared.register.Register.TheVariants.{DpidrRead, AbortWrite, CtrlStatRead}
@@ -59,11 +59,11 @@ is_mem_ap s = (s.apsel == 0) && (s.apbanksel == 0)
 abbrev pub ap_register : Select → Bool → Reg4 → Register
 ap_register s read addr = if is_mem_ap s then mem_ap_register read addr else no_ap_register read
 
--- what a request asks for
+-- the register that a request names
 abbrev pub register : Select → Request → Register
 register s q = if q.ap then ap_register s q.read q.addr else dp_register q.read q.addr (s.dpbanksel == 0)
 
--- the request for each register, under a SELECT under which there is one
+-- the request for each register, under a SELECT that reaches it
 abbrev pub request_of : Register → Request
 request_of DpidrRead = record { ap = false; read = true; addr = R0 }
 request_of AbortWrite = record { ap = false; read = false; addr = R0 }
@@ -83,8 +83,8 @@ request_of ApIgnoredWrite = record { ap = true; read = false; addr = R8 }
 request_of DrwRead = record { ap = true; read = true; addr = RC }
 request_of DrwWrite = record { ap = true; read = false; addr = RC }
 
--- a SELECT under which there is a request for this register: in bank 0 for CTRL/STAT, in any other for the debug
--- port's zeros, and in bank 0 of AP 0 for the registers that stand there
+-- a SELECT that reaches this register: bank 0 for CTRL/STAT, another bank for the debug port's zero register, and bank
+-- 0 of AP 0 for its registers
 abbrev pub is_reached : Select → Register → Bool
 is_reached s CtrlStatRead = s.dpbanksel == 0
 is_reached s CtrlStatWrite = s.dpbanksel == 0
@@ -97,9 +97,9 @@ is_reached s DrwRead = is_mem_ap s
 is_reached s DrwWrite = is_mem_ap s
 is_reached s r = true
 
--- What stands between the host and the target.
+-- The link between the host and the target.
 pub record Link : Type 0 where
-  -- what has to come next, as the host sees it
+  -- what is due next, as the host sees it
   pub due : Due
   -- what the target drives or awaits
   pub line : Line
@@ -108,8 +108,8 @@ pub record Link : Type 0 where
 abbrev pub idle_link : Link
 idle_link = record { due = Nothing; line = Idle }
 
--- What the target is in. `None` in TAR, the read buffer and the last returned value: it is unknown, and any word
--- may stand for it, anew at each use.
+-- The state of the target. `None` in TAR, the read buffer or the last returned value: it is unknown, and any word may
+-- replace it, anew at each use.
 pub record Target : Type 0 where
   -- whether requests are answered
   pub reset : Reset
@@ -119,7 +119,7 @@ pub record Target : Type 0 where
   pub read_ok : Bool
   pub debug_power : Bool
   pub system_power : Bool
-  -- whether that power is there
+  -- whether that power is acknowledged
   pub power_up : PowerUp
   -- SELECT
   pub select : Select
@@ -132,20 +132,20 @@ pub record Target : Type 0 where
   pub buffer : Option ℕ
   -- the value that the last AP read or RDBUFF read returned, for RESEND
   pub last_returned : Option ℕ
-  -- the transfer that is not done yet
+  -- the transfer that was accepted and hasn't taken effect yet
   pub pending : Option Drw
-  -- what DPIDR gives; no call changes it
+  -- the word that DPIDR returns; no call changes it
   pub identification : ℕ
   -- the memory behind the access port
   pub memory : PlainMemory
 
--- Beside the state: the requests so far, how many were disturbed, and how many were lost, by their marks.
+-- Counts beside the state: the requests so far, and how many of them were disturbed and lost, by their marks.
 pub record Tally : Type 0 where
   pub asked : ℕ
   pub disturbed : ℕ
   pub lost : ℕ
 
--- The port state.
+-- The state of the model.
 pub record Port : Type 0 where
   pub link : Link
   pub target : Target

@@ -1,4 +1,4 @@
--- The fields of the registers, and the words that carry them.
+-- The fields of the registers, and their words.
 -- Source: IHI 0031, B2, "ABORT, AP Abort register", "CTRL/STAT, Control/Status register", "SELECT, AP Select
 -- register"; and MEM-AP, "CSW, Control/Status Word register".
 use Rattle.std.specs.Prelude.{ℕ, ◌<◌, ◌+◌, ◌*◌, ◌/◌, ◌%◌, ◌^◌, ◌==◌, ◌&&◌, Bool, true, false}
@@ -32,7 +32,7 @@ bit_of n word = word / 2 ^ n % 2 == 1
 abbrev pub select_of : ℕ → Select
 select_of word = record { apsel = word / 2 ^ 24 % 256; apbanksel = word / 16 % 16; dpbanksel = word % 16 }
 
--- the word of these fields, each cut to its width; all other bits are 0 (this project's choice)
+-- the word of these fields, each truncated to its width; all other bits are 0 (this project's choice)
 abbrev pub select_word : Select → ℕ
 select_word s = s.apsel % 256 * 2 ^ 24 + s.apbanksel % 16 * 16 + s.dpbanksel % 16
 
@@ -60,7 +60,7 @@ csw_of word = record {
   upper = word / 2 ^ 24 % 128;
 }
 
--- the word of these fields, each cut to its width; all other bits are 0 (this project's choice)
+-- the word of these fields, each truncated to its width; all other bits are 0 (this project's choice)
 abbrev pub csw_word : Csw → ℕ
 csw_word c = c.size % 8 + c.addr_inc % 4 * 16 + bit c.device_en * 64 + bit c.tr_in_prog * 128 + c.upper % 128 * 2 ^ 24
 
@@ -74,9 +74,9 @@ pub record IsCsw (c : Csw) : Type 0 where
   pub addr_inc : c.addr_inc < 4
   pub upper : c.upper < 128
 
--- CTRL/STAT as it is read: STICKYERR 5, READOK 6, WDATAERR 7, the requests for debug and for system power, 28 and 30,
--- and, where the power is there, their acknowledgements, 29 and 31; all others read 0 (the zeros, and that both powers
--- come at once: this project's choice)
+-- CTRL/STAT as it is read: STICKYERR 5, READOK 6, WDATAERR 7, the requests for debug and system power, 28 and 30, and
+-- their acknowledgements, 29 and 31, once power-up is acknowledged. All others read 0 (the zeros, and that both powers
+-- are acknowledged at once: this project's choice).
 abbrev pub ctrl_stat_read : Bool → Bool → Bool → Bool → Bool → Bool → ℕ
 ctrl_stat_read sticky_error read_ok write_error debug_power system_power there =
     bit sticky_error * 0x20 + bit read_ok * 0x40 + bit write_error * 0x80 +
@@ -88,7 +88,7 @@ abbrev pub addr_inc_of : Bool → ℕ
 addr_inc_of true = 1
 addr_inc_of false = 0
 
--- CSW as it is read: words alone, DeviceEn, no transfer in progress (which fields are fixed: this project's choice)
+-- CSW as it is read: word size alone, DeviceEn, no transfer in progress (which fields are fixed: this project's choice)
 abbrev pub csw_read : Bool → ℕ → ℕ
 csw_read increments upper =
     let addr_inc = addr_inc_of increments in

@@ -1,5 +1,5 @@
--- What a host can know of the transfer that it began by DRW: the words of the laws. All of it follows from the
--- definitions of the steps, which say where each rule comes from.
+-- What a host can know of the transfer that it started by DRW: the vocabulary of the laws. All of it follows from the
+-- definitions of the steps, which name the source of each rule.
 use Rattle.std.specs.Prelude.{ℕ, ◌≡◌, ◌≢◌, ◌<◌, ◌+◌, ◌%◌, ◌^◌, true, false, Some, None}
 use Rattle.swd_port.specs.declared.access.Access.{Access}
 use Rattle.swd_port.specs.declared.access.Access.TheVariants.{Read, Write}
@@ -8,7 +8,7 @@ use Rattle.swd_port.specs.PlainMemory.{PlainMemory, address, succeeds_at, word_a
 use Rattle.swd_port.specs.PlainMemory.{plain_after}
 use Rattle.swd_port.specs.Port.{Target, Drw, Reads, Writes}
 
--- an access as the transfer that is pending for it
+-- the pending transfer of an access
 abbrev pub drw_of : Access → Drw
 drw_of (Read at) = Reads
 drw_of (Write at word) = Writes word
@@ -18,11 +18,11 @@ abbrev pub Buffered : Access → PlainMemory → Target → Type 0
 Buffered (Read at) m x = x.buffer ≡ Some (word_at at m)
 Buffered (Write at word) m x = Unit {0}
 
--- TAR after a transfer that was done: the next word's address, but at the end of a kilobyte, where it isn't told
+-- TAR after a transfer that was done: the next word's address; at the end of a kilobyte nothing is stated
 abbrev pub Advanced : ℕ → Target → Type 0
 Advanced at x = x.increments ≡ true → at % 4 ≡ 0 → at < 2 ^ 32 → (at + 4) % 1024 ≢ 0 → x.tar ≡ Some (at + 4)
 
--- An access whose DRW transfer was accepted, over the memory as it was then: the transfer is owed, done, or failed.
+-- An access whose DRW transfer was accepted, over the memory as it was then: the transfer is pending, done, or failed.
 pub data Sent (access : Access) (m : PlainMemory) (x : Target) : Type 0 where
   owed : x.pending ≡ Some (drw_of access) → x.tar ≡ Some (address access) → x.memory ≡ m → x.sticky_error ≡ false →
       Sent access m x
@@ -31,13 +31,13 @@ pub data Sent (access : Access) (m : PlainMemory) (x : Target) : Type 0 where
   failed : succeeds_at (address access) m ≡ false → x.pending ≡ None → x.memory ≡ m → x.sticky_error ≡ true →
       x.tar ≡ None → x.buffer ≡ None → Sent access m x
 
--- the memory as it is once nothing is pending any more, whatever the flags
+-- the memory once no transfer is pending any more, whatever the flags
 pub data Becomes (m : PlainMemory) (x : Target) : Type 0 where
   idle : x.pending ≡ None → x.memory ≡ m → Becomes m x
   pends : (access : Access) → x.pending ≡ Some (drw_of access) → x.tar ≡ Some (address access) →
       plain_after access x.memory ≡ m → Becomes m x
 
--- the fields that `Sent` and `Becomes` are about are as before
+-- the fields that `Sent` and `Becomes` mention are unchanged
 pub record Carries (x y : Target) : Type 0 where
   pub pending : y.pending ≡ x.pending
   pub tar : y.tar ≡ x.tar
@@ -46,7 +46,7 @@ pub record Carries (x y : Target) : Type 0 where
   pub buffer : y.buffer ≡ x.buffer
   pub increments : y.increments ≡ x.increments
 
--- TAR is known, nothing is pending, and STICKYERR is clear: a DRW access would be a transfer at this address over
+-- TAR is known, no transfer is pending, and STICKYERR is clear: a DRW access would be a transfer at this address over
 -- this memory
 pub record Aimed (at : ℕ) (m : PlainMemory) (x : Target) : Type 0 where
   pub tar : x.tar ≡ Some at
@@ -54,7 +54,7 @@ pub record Aimed (at : ℕ) (m : PlainMemory) (x : Target) : Type 0 where
   pub pending : x.pending ≡ None
   pub sticky_error : x.sticky_error ≡ false
 
--- the access was done: its answer, the memory, the buffer and TAR
+-- the access was done: its answer, the memory, the read buffer and TAR
 pub record Succeeded (access : Access) (m : PlainMemory) (x : Target) : Type 0 where
   pub answer : plain_answer access m ≡ answer_of access m
   pub memory : x.memory ≡ plain_after access m

@@ -1,4 +1,4 @@
-//! ABORT: what a host writes to clear the sticky flags.
+//! ABORT: the register that a host writes to clear the sticky flags.
 ghost use Rattle.std.specs.Prelude.{⊤, ◌≡◌, [], ◌∷◌, codes};
 ghost use Rattle.std.specs.Int.RustNames.{bit_and};
 
@@ -10,7 +10,7 @@ pub struct Abort(u32);
 
 bitflag_items! {
     impl Abort: u32 {
-        /// Aborts the transfer that an access port is at.
+        /// Aborts the transfer that is in progress at an access port.
         const DAPABORT = 0x1;
         /// Clears STICKYCMP.
         const STKCMPCLR = 0x2;
@@ -49,14 +49,14 @@ impl Flags for Abort {
 impl Abort {
     ghost use Rattle.swd_port.specs.Registers.{abort_word, abort_mask};
 
-    /// The flags of a word. Bits that the register doesn't name are dropped.
+    /// Reads the flags from a word, bit 0 least significant. Bits that the register doesn't name are dropped.
     pub fn of(word: u32) -> Abort
         ensures { abort_word result ≡ bit_and word abort_mask }
     {
         Abort(word & 0x1f)
     }
 
-    /// The register's word.
+    /// Returns the register's word.
     pub fn bits(&self) -> u32
         ensures { result ≡ abort_word self.now }
     {

@@ -5,19 +5,19 @@ ghost use Rattle.swd_port.specs.PlainMemory.{reads};
 use std::alloc::{AllocError, Allocator};
 use std::fmt;
 
-/// The most accesses of one call of a host.
+/// The maximum number of accesses in one call of a host.
 pub const MOST_ACCESSES: u32 = 65_536;
 
-/// One access of the memory behind the access port: a word, at an address that is a multiple of 4.
+/// One access of the memory behind the access port: a word at a byte address that is a multiple of 4.
 #[derive(Clone, Copy, Debug, PartialEq, Eq)]
 pub enum Access {
-    /// Read the word at this address.
+    /// A read of the word at this address.
     Read(u32),
-    /// Write at this address this word.
+    /// A write at this address of this word.
     Write(u32, u32),
 }
 
-/// How an access ended.
+/// The result of an access.
 #[derive(Clone, Copy, Debug, PartialEq, Eq)]
 pub enum Answer {
     /// The word that was read.
@@ -28,10 +28,10 @@ pub enum Answer {
     BusFault,
 }
 
-/// A transfer that took place, as the memory's log has it.
+/// A transfer that succeeded, as logged by the memory.
 #[derive(Clone, Copy, Debug, PartialEq, Eq)]
 pub struct Transfer {
-    /// A read and not a write.
+    /// Whether it was a read, not a write.
     pub read: bool,
     /// The address, in bytes.
     pub addr: u32,
@@ -39,7 +39,7 @@ pub struct Transfer {
     pub word: u32,
 }
 
-/// As a line of a script: `r 20000000` or `w 20000000 deadbeef`, in hexadecimal.
+/// Writes the access as a line of a script: `r 20000000` or `w 20000000 deadbeef`, in hexadecimal.
 impl fmt::Display for Access {
     fn fmt<W: fmt::Write>(&self, f: &mut fmt::Formatter<W>) -> fmt::Result {
         match self {
@@ -49,7 +49,7 @@ impl fmt::Display for Access {
     }
 }
 
-/// As a report tells it: the word in hexadecimal, `written` or `busfault`.
+/// Writes the answer as a report has it: the word in hexadecimal, `written` or `busfault`.
 impl fmt::Display for Answer {
     fn fmt<W: fmt::Write>(&self, f: &mut fmt::Formatter<W>) -> fmt::Result {
         match self {
@@ -60,8 +60,11 @@ impl fmt::Display for Answer {
     }
 }
 
-/// Adds to a list the reads of a block: of `count` words, the first at `addr`, each of the others 4 bytes further.
-/// Where memory is refused, some of them may have been added.
+/// Appends the reads of a block to a list: `count` words at `addr`, `addr + 4` and so on.
+///
+/// # Errors
+///
+/// Returns `AllocError` if out of memory. Some of the reads may have been appended then.
 pub fn push_reads<A: Allocator>(
     list: &mut Vec<Access, A>,
     addr: u32,

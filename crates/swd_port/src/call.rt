@@ -2,11 +2,11 @@
 
 use crate::cue::Cue;
 
-/// A call of a wire: what the host did, and what it saw.
+/// A call of a wire: the host's cue, and what it saw.
 #[derive(Clone, Copy, Debug, PartialEq, Eq)]
 pub struct Call {
     pub cue: Cue,
-    /// The three bits that were seen at a request, the 33 bits that were taken, the first in time least
-    /// significant; 0 at any other cue.
+    /// The three bits seen after a request, or the 33 bits of a read's data phase, the first in time least significant;
+    /// 0 for any other cue.
     pub seen: u64,
 }

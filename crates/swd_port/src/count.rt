@@ -1,4 +1,4 @@
-//! A count for contracts alone.
+//! A counter for contracts alone.
 ghost use Rattle.std.specs.Prelude.{◌≡◌, ◌+◌, ℕ};
 ghost use base.Fml.{ftrue};
 
@@ -6,8 +6,7 @@ use std::fmt;
 use std::marker::{Model, PhantomData};
 use std::mem::size_of;
 
-/// A whole number that only contracts see, as `ticks`: a program never reads it, and it never
-/// overflows. It takes no bytes.
+/// A counter that only contracts see, as `ticks`. It never overflows, a program can't read it, and it takes no bytes.
 #[derive(Drop)]
 pub struct Count {
     marker: PhantomData<()>,
@@ -21,7 +20,7 @@ impl Model for Count {
 const _: () = prove!(size_of::<Count>() == 0);
 
 impl Count {
-    /// The count 0.
+    /// Creates a counter at 0.
     pub fn new() -> Count
         ensures { result.ticks ≡ 0 }
     {

@@ -1,4 +1,4 @@
-//! CSW: how the memory access port makes its transfers.
+//! CSW: the control register of the memory access port.
 ghost use Rattle.std.specs.Prelude.{◌≡◌};
 
 /// The fields of the CSW register (IHI 0031, MEM-AP, "CSW, Control/Status Word register").
@@ -19,7 +19,7 @@ pub struct Csw {
 impl Csw {
     ghost use Rattle.swd_port.specs.Registers.{csw_of, csw_word, IsCsw};
 
-    /// The fields of a word. Bits that the register doesn't name are dropped.
+    /// Reads the fields from a word. Bits that the register doesn't name are dropped.
     pub fn of(word: u32) -> Csw
         ensures { result ≡ csw_of word }
     {
@@ -32,7 +32,7 @@ impl Csw {
         }
     }
 
-    /// The register's word: each field in its place, cut to its width, and 0 everywhere else.
+    /// Returns the register's word: each field in its place, truncated to its width, and 0 in all other bits.
     pub fn bits(&self) -> u32
         ensures word { result ≡ csw_word self.now }
         ensures same { IsCsw self.now → csw_of result ≡ self.now }

@@ -1,4 +1,4 @@
-//! CTRL/STAT: the debug port's control and status.
+//! CTRL/STAT: the control and status register of the debug port.
 ghost use Rattle.std.specs.Prelude.{⊤, ◌≡◌, [], ◌∷◌, codes};
 ghost use Rattle.std.specs.Int.RustNames.{bit_and};
 
@@ -15,31 +15,31 @@ bitflag_items! {
         const ORUNDETECT = 0x1;
         /// An overrun was detected.
         const STICKYORUN = 0x2;
-        /// How access port transfers are made, bits [3:2].
+        /// The mode of access port transfers, bits [3:2].
         const TRNMODE = 0xc;
         /// A pushed transfer matched.
         const STICKYCMP = 0x10;
-        /// A transfer of an access port was in error.
+        /// A transfer of an access port was a bus error.
         const STICKYERR = 0x20;
         /// The last read of an access port or of RDBUFF was answered OK.
         const READOK = 0x40;
-        /// The data of a write came with wrong parity, or not at all.
+        /// The data of a write arrived with wrong parity, or didn't arrive.
         const WDATAERR = 0x80;
-        /// The bytes that a pushed transfer looks at, bits [11:8].
+        /// The bytes that a pushed transfer compares, bits [11:8].
         const MASKLANE = 0xf00;
         /// The transaction counter, bits [23:12].
         const TRNCNT = 0xff_f000;
-        /// Debug reset is asked for.
+        /// Debug reset is requested.
         const CDBGRSTREQ = 0x400_0000;
-        /// Debug reset was done.
+        /// Debug reset is acknowledged.
         const CDBGRSTACK = 0x800_0000;
-        /// Debug power is asked for.
+        /// Debug power-up is requested.
         const CDBGPWRUPREQ = 0x1000_0000;
-        /// There is debug power.
+        /// Debug power-up is acknowledged.
         const CDBGPWRUPACK = 0x2000_0000;
-        /// System power is asked for.
+        /// System power-up is requested.
         const CSYSPWRUPREQ = 0x4000_0000;
-        /// There is system power.
+        /// System power-up is acknowledged.
         const CSYSPWRUPACK = 0x8000_0000;
     }
 }
@@ -74,14 +74,15 @@ impl Flags for CtrlStat {
 impl CtrlStat {
     ghost use Rattle.swd_port.specs.Registers.{ctrl_stat_word, ctrl_stat_mask};
 
-    /// The flags and fields of a word. Bits that the register doesn't name are dropped.
+    /// Reads the flags and fields from a word, bit 0 least significant. Bits that the register doesn't name are
+    /// dropped.
     pub fn of(word: u32) -> CtrlStat
         ensures { ctrl_stat_word result ≡ bit_and word ctrl_stat_mask }
     {
         CtrlStat(word & 0xfcff_ffff)
     }
 
-    /// The register's word.
+    /// Returns the register's word.
     pub fn bits(&self) -> u32
         ensures { result ≡ ctrl_stat_word self.now }
     {

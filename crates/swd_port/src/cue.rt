@@ -1,28 +1,28 @@
-//! What a host does with a wire.
+//! Cues: the steps that a host makes on a wire.
 
 use swd_bits::Request;
 
-/// What a host does with a wire next: one call of [`Wire::step`](crate::Wire::step).
+/// The next step of a host on a wire: one call of [`Wire::step`](crate::Wire::step).
 ///
 /// Bits are numbers with the first bit in time least significant.
 #[derive(Clone, Copy, Debug, PartialEq, Eq)]
 pub enum Cue {
-    /// Drives `ones` cycles high, with `switch` the sixteen bits 0111100111100111 and the ones again, and then
-    /// `zeros` cycles low. With ones this is a line reset (IHI 0031, B4, "Connection and line reset sequence").
+    /// Drives `ones` cycles high, if `switch` the sixteen bits 0111100111100111 and the ones again, and then `zeros`
+    /// cycles low. With ones this is a line reset (IHI 0031, B4, "Connection and line reset sequence").
     Lead {
-        /// How many cycles are high: none, or at least 50.
+        /// The number of cycles that are high: 0, or at least 50.
         ones: u32,
-        /// For how many of the first of these the line is left undriven, since the target may be driving it. It
-        /// reads 1 where nobody drives it.
+        /// The number of these, from the first on, that the host leaves undriven, since the target may be driving the
+        /// line. An undriven line reads 1.
         undriven: u32,
-        /// Whether the switch from JTAG, and the ones again, stand before the zeros.
+        /// Whether the switch from JTAG, and the ones again, come before the zeros.
         switch: bool,
-        /// How many cycles are low.
+        /// The number of cycles that are low.
         zeros: u32,
     },
-    /// Sends the eight bits of a request, and after a turnaround sees three bits.
+    /// Sends the eight bits of a request, and samples three bits after a turnaround.
     Ask(Request),
-    /// Takes the 33 bits of a read's data phase, 32 of the word and above them the parity, and the turnaround.
+    /// Samples the 33 bits of a read's data phase, 32 of the word and above them the parity, and passes the turnaround.
     Take,
     /// Sends the turnaround and these 33 bits of a write's data phase, 32 of the word and above them the parity.
     Give(u64),

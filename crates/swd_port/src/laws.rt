@@ -1,5 +1,5 @@
-//! The laws of the port machine, on which the proofs of hosts and targets rest. A function here does
-//! nothing: its contract is the law.
+//! The laws of the port model, on which the proofs of hosts and targets rest. A function here does nothing: its
+//! contract is the law.
 
 mod memory;
 mod steps;

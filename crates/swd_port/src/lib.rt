@@ -1,4 +1,4 @@
-//! The registers of a debug port and its memory access port, and the law of the wire to them.
+//! The registers of a debug port and its memory access port, and the model of the wire to them.
 #![tactic(auto)]
 
 mod abort;

@@ -1,29 +1,29 @@
-//! Marks: what happens to the requests of a wire.
+//! Marks: the faults injected into the requests of a wire.
 ghost use Rattle.std.specs.Prelude.{◌≡◌, ◌↔◌, IsTrue};
 ghost use Rattle.swd_port.specs.Choices.{IsMark, loses};
 
 use std::fmt;
 
-/// What happens to a request.
+/// The fault injected into one request and its data phase.
 #[derive(Clone, Copy, Debug, PartialEq, Eq)]
 pub enum Mark {
-    /// Nothing.
+    /// No fault.
     Clean,
-    /// The target is busy: WAIT is answered, where the request may get it and would get OK otherwise. A read of
-    /// CTRL/STAT, which never gets WAIT, finds power late that wasn't seen to be there before.
+    /// The target is busy. It answers WAIT where the request may get it and would get OK otherwise. A read of
+    /// CTRL/STAT, which never gets WAIT, finds power-up not acknowledged, unless it was read as acknowledged before.
     Wait,
-    /// This one of the 33 bits of its data phase arrives changed, where it has a data phase. Bit 0
-    /// is the first in time and the word's least significant, bit 32 the parity.
+    /// This bit of the 33 of its data phase arrives changed, if it has one. Bit 0 is the first in time and the word's
+    /// least significant, bit 32 the parity.
     Flip(u8),
     /// The target doesn't see the request.
     Deaf,
-    /// The host sees this one of the three bits of the acknowledgement changed, where one is
-    /// driven. Bit 0 is the first in time.
+    /// The host sees this bit of the three of the acknowledgement changed, if one is driven. Bit 0 is the first in
+    /// time.
     Mute(u8),
 }
 
 impl Mark {
-    /// The bit is one that there is: below 33 for `Flip`, below 3 for `Mute`.
+    /// Returns whether the bit is in range: below 33 for `Flip`, below 3 for `Mute`.
     pub fn legal(&self) -> bool
         ensures { IsTrue result ↔ IsMark self.now }
     {
@@ -34,7 +34,7 @@ impl Mark {
         }
     }
 
-    /// The acknowledgement may be lost: `Deaf` and `Mute`.
+    /// Returns whether the acknowledgement may be lost: `Deaf` and `Mute`.
     pub fn is_lost(&self) -> bool
         ensures { IsTrue result ↔ (loses self.now ≡ 1) }
     {
@@ -42,7 +42,7 @@ impl Mark {
     }
 }
 
-/// As a line of a plan: `.`, `wait`, `flip 32`, `deaf` or `mute 2`.
+/// Writes the mark as a line of a plan: `.`, `wait`, `flip 32`, `deaf` or `mute 2`.
 impl fmt::Display for Mark {
     fn fmt<W: fmt::Write>(&self, f: &mut fmt::Formatter<W>) -> fmt::Result {
         match self {

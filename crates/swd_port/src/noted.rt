@@ -7,8 +7,7 @@ use crate::call::Call;
 use std::fmt;
 use std::marker::Model;
 
-/// The calls of a wire so far, the last one first, as `calls`: a program never reads them. It takes
-/// no bytes.
+/// The calls of a wire so far, the last one first, which only contracts see, as `calls`. It takes no bytes.
 #[derive(Drop)]
 pub struct Noted {
     pub ghost calls: { List Noticed },
@@ -19,14 +18,14 @@ impl Model for Noted {
 }
 
 impl Noted {
-    /// No call yet.
+    /// Creates a record without calls.
     pub fn new() -> Noted
         ensures { result.calls ≡ [] }
     {
         Noted {}
     }
 
-    /// One call more.
+    /// Adds a call.
     pub fn and(&self, _call: &Call) -> Noted
         ensures { result.calls ≡ _call.now ∷ self.now.calls }
     {

@@ -1,4 +1,4 @@
-//! A wire to an end of which nothing is proved.
+//! A wire over a transport of which nothing is proved.
 ghost use Rattle.std.specs.Prelude.{◌≡◌, ◌<◌, ◌^◌, ◌++◌, ◌∷◌, ℕ, Bool, List, [], true, false};
 ghost use Rattle.swd_port.specs.Port.{Port};
 ghost use Rattle.swd_port.specs.Stories.{due_by, due_once, port_at, is_send, FitsStory, IsSeen};
@@ -12,64 +12,64 @@ use crate::wire::{Due, Wire};
 use std::marker::PhantomData;
 use swd_bits::Request;
 
-/// A story of the other end: the state of a port machine before any call, and after each. It is for
-/// contracts alone, and what is proved under it is proved of every story.
+/// A sequence of states of the port model: one before any call, and one after each call. It is for contracts alone, and
+/// what is proved of it holds for every such sequence.
 pub trait Story {
     ghost at: { ℕ → Port };
 }
 
-/// The other end went away.
+/// The error of a transport that can't reach the other end.
 #[derive(Clone, Copy, Debug, PartialEq, Eq)]
 pub struct Disconnected;
 
-/// The way to the other end. It has no law: anything may come back, and every call may fail.
+/// The way to the other end. It needn't conform to any model: it may return anything, and every call may fail.
 pub trait Transport {
-    /// What a transport tells of the calls that were made of it, the first one first. It is for implementers who
-    /// want to say what went over the line; nobody has to.
+    /// What a transport states about the calls made of it, the first one first. Optional, for implementers who state
+    /// what was sent on the line.
     ghost tells: { List Attempt → Self → Type 0 } = { λ _ _. Unit {0} };
 
-    /// Does what the cue says, and gives what is seen: the three bits after a request, the 33 bits of a read's data
-    /// phase, the first in time least significant; of any other cue the number means nothing. `Cue::Take` comes
-    /// directly after a request for a read at which OK was seen. Where a cue leaves the line undriven, the target may
-    /// be driving it: drive nothing then.
+    /// Performs the cue, and returns what is seen: the three bits after a request, or the 33 bits of a read's data
+    /// phase, the first in time least significant. For other cues the number is ignored.
+    ///
+    /// `Cue::Take` comes directly after a request for a read at which OK was seen. Drive nothing where a cue leaves the
+    /// line undriven: the target may be driving it.
     ///
     /// # Errors
     ///
-    /// `Disconnected` where the other end can't be reached. It isn't called again then.
+    /// Returns `Disconnected` if the other end can't be reached. An [`Outside`] doesn't call the transport again then.
     fn step(&mut self, cue: Cue) -> Result<u64, Disconnected>
         ensures told { (made : List Attempt) → tells made self.old → tells (made ++ attempt cue result ∷ []) self.new };
 }
 
-/// Whether a wire tells of the calls that it made of its transport. It is for contracts alone.
+/// Whether the contracts of a wire relate its calls to those that it makes of its transport. It is for contracts alone.
 pub trait Tie {
     ghost ties: { Bool };
 }
 
-/// A wire over any transport: nothing is told.
+/// The [`Tie`] of a wire over any transport: its contracts don't mention the transport's calls.
 pub struct Loose;
 
 impl Tie for Loose {
     ghost ties = { false };
 }
 
-/// A wire over a transport of which no call was made before ([`Outside::begun`]).
+/// The [`Tie`] of a wire over a transport of which no call was made before ([`Outside::begun`]).
 pub struct Tied;
 
 impl Tie for Tied {
     ghost ties = { true };
 }
 
-/// A wire over a transport. Where the transport fails, or gives a number that has too many bits, no
-/// acknowledgement is seen, and from there on the transport isn't called any more.
+/// A wire over a transport. Where the transport fails, or returns a number with too many bits, the host sees no
+/// acknowledgement, and the transport isn't called any more.
 ///
-/// A read's data phase is fetched with its acknowledgement, so that one that fails is a lost
-/// acknowledgement, too, which the law of a wire knows. A write's data that failed show at the next
-/// request.
+/// A read's data phase is fetched with its acknowledgement. So a failed data phase also shows as a lost
+/// acknowledgement, which the model of a wire has. Where a write's data fails, the next request shows it.
 #[derive(Drop)]
 pub struct Outside<T: Transport, S: Story, K: Tie = Loose> {
     transport: T,
     due: Due,
-    // The data phase of the read that was answered last.
+    // The last data phase of a read that was fetched.
     fetched: u64,
     pub gone: bool,
     pub noted: Noted,
@@ -106,7 +106,7 @@ impl<T: Transport, S: Story, K: Tie> Wire for Outside<T, S, K> {
     }
 }
 
-// What has to come next, once this was seen.
+// Returns what has to come next, after this was seen.
 fn due_once(cue: Cue, seen: u64) -> Due
     requires { IsSeen cue seen }
     ensures { result ≡ due_once cue seen }
@@ -117,17 +117,17 @@ fn due_once(cue: Cue, seen: u64) -> Due
     }
 }
 
-// What came of a call.
+// The result of a call.
 #[derive(Clone, Copy)]
 struct Met {
     seen: u64,
     // Whether the transport has failed.
     gone: bool,
-    // The data phase of the read that was answered last.
+    // The last data phase of a read that was fetched.
     fetched: u64,
 }
 
-// A call of the wire, over a transport that has failed before or not, as that of its transport.
+// Makes a call of the wire by calls of its transport; `gone`: the transport has failed before.
 #[inline(always)]
 fn meet<T: Transport>(transport: &mut T, cue: Cue, gone: bool, fetched: u64) -> Met
     requires { fetched < 2 ^ 33 }
@@ -146,7 +146,7 @@ fn meet<T: Transport>(transport: &mut T, cue: Cue, gone: bool, fetched: u64) -> 
     }
 }
 
-// A call at which nothing is seen.
+// Makes a call at which nothing is seen.
 fn send<T: Transport>(transport: &mut T, cue: Cue, gone: bool, fetched: u64) -> Met
     requires { is_send cue ≡ true }
     ensures goes { Goes T.tells cue gone fetched result transport.old transport.new }
@@ -160,7 +160,7 @@ fn send<T: Transport>(transport: &mut T, cue: Cue, gone: bool, fetched: u64) -> 
     }
 }
 
-// A request, with the data phase of a read that is answered OK.
+// Sends a request, and fetches the data phase of a read that is answered OK.
 fn ask<T: Transport>(transport: &mut T, request: Request, gone: bool, fetched: u64) -> Met
     requires { fetched < 2 ^ 33 }
     ensures goes { Goes T.tells (Ask request) gone fetched result transport.old transport.new }
@@ -191,7 +191,7 @@ fn ask<T: Transport>(transport: &mut T, request: Request, gone: bool, fetched: u
     }
 }
 
-// The data phase of a read that was answered OK, and what is seen of its acknowledgement by that.
+// Fetches the data phase of a read that was answered OK; if that fails, no acknowledgement is seen.
 fn fetch<T: Transport>(transport: &mut T, request: Request, fetched: u64) -> Met
     requires { fetched < 2 ^ 33 }
     ensures fetches { Fetches T.tells request fetched result transport.old transport.new }
@@ -213,7 +213,7 @@ fn fetch<T: Transport>(transport: &mut T, request: Request, fetched: u64) -> Met
 }
 
 impl<T: Transport, S: Story> Outside<T, S> {
-    /// A wire with no call yet.
+    /// Creates a wire without calls.
     pub fn new(transport: T) -> Outside<T, S>
         ensures { result.noted.calls ≡ [] }
     {
@@ -230,8 +230,8 @@ impl<T: Transport, S: Story> Outside<T, S> {
 }
 
 impl<T: Transport, S: Story> Outside<T, S, Tied> {
-    /// A wire with no call yet, over a transport of which no call was made either: what the transport tells is
-    /// then told of the calls of the wire.
+    /// Creates a wire without calls, over a transport of which no call was made either. What the transport states of
+    /// its calls then holds for those that the wire makes of it.
     pub fn begun(transport: T) -> Outside<T, S, Tied>
         requires { T.tells [] transport }
         ensures { result.noted.calls ≡ [] }
@@ -250,7 +250,7 @@ impl<T: Transport, S: Story> Outside<T, S, Tied> {
 }
 
 impl<T: Transport, S: Story, K: Tie> Outside<T, S, K> {
-    /// The transport, once the wire isn't wanted any more.
+    /// Consumes the wire, and returns the transport.
     pub fn into_transport(self) -> T
         ensures { K.ties ≡ true → ∥ WentOver T.tells self.noted.calls self.gone result ∥₁ }
     {
@@ -258,7 +258,7 @@ impl<T: Transport, S: Story, K: Tie> Outside<T, S, K> {
         transport
     }
 
-    /// Whether the other end went away. Nothing was sent since.
+    /// Returns whether the transport failed, or returned a number with too many bits.
     pub fn is_gone(&self) -> bool
         ensures { result ≡ self.now.gone }
     {

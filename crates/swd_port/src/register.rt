@@ -1,15 +1,15 @@
-//! The registers that a request reaches.
+//! The registers that a request can name.
 ghost use Rattle.std.specs.Prelude.{◌≡◌, true};
 ghost use Rattle.swd_port.specs.Port.{register, request_of, is_reached};
 ghost use Rattle.swd_port.specs.declared.select.Select.{Select};
 
 use swd_bits::{Reg4, Request};
 
-/// What a request asks for, once SELECT is known: a register, and a direction. The debug port's are
-/// at addresses 0 to c of its bank DPBANKSEL, the access port's at 0 to c of its bank APBANKSEL.
+/// The register that a request names under a SELECT, with a direction. The debug port's registers are at addresses 0 to
+/// c of its bank DPBANKSEL, the access port's at 0 to c of its bank APBANKSEL.
 #[derive(Clone, Copy, Debug, PartialEq, Eq)]
 pub enum Register {
-    /// DPIDR, at 0 of any bank: which debug port it is.
+    /// DPIDR, at 0 of any bank: the identification of the debug port.
     DpidrRead,
     /// ABORT, at 0 of any bank: clears the sticky flags.
     AbortWrite,
@@ -19,13 +19,13 @@ pub enum Register {
     CtrlStatWrite,
     /// SELECT, at 8 of any bank.
     SelectWrite,
-    /// RESEND, at 8 of any bank: the last value that an AP read or RDBUFF gave, again.
+    /// RESEND, at 8 of any bank: the value that the last AP read or RDBUFF read returned, again.
     ResendRead,
     /// RDBUFF, at c of any bank: the result of the last AP read.
     RdbuffRead,
-    /// The debug port's address 4 in any bank but 0, where nothing stands: 0.
+    /// The debug port's address 4 in any bank but 0: it reads 0.
     DpZeroRead,
-    /// The debug port's address c, and 4 in any bank but 0, where nothing stands: no effect.
+    /// The debug port's address c, and 4 in any bank but 0: a write has no effect.
     DpIgnoredWrite,
     /// CSW, at 0 of bank 0 of access port 0.
     CswRead,
@@ -39,15 +39,15 @@ pub enum Register {
     DrwRead,
     /// DRW, at c of bank 0 of access port 0: a write of the word at TAR.
     DrwWrite,
-    /// Address 8 of bank 0 of access port 0, and any of another bank or access port: 0.
+    /// Address 8 of bank 0 of access port 0, and any address of another bank or access port: it reads 0.
     ApZeroRead,
-    /// Address 8 of bank 0 of access port 0, and any of another bank or access port: no effect.
+    /// Address 8 of bank 0 of access port 0, and any address of another bank or access port: a write has no effect.
     ApIgnoredWrite,
 }
 
 impl Register {
-    /// The request that names this register, under a SELECT by which it can be named: SELECT 0 for
-    /// all but `DpZeroRead`, which has no address in bank 0 of the debug port.
+    /// Returns the request that names this register, under a SELECT that reaches it. SELECT 0 reaches all but
+    /// `DpZeroRead`, which has no address in bank 0 of the debug port.
     pub fn request(self) -> Request
         ensures exact { result ≡ request_of self }
         ensures named { (select : Select) → is_reached select self ≡ true → register select result ≡ self }

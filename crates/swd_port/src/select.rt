@@ -1,4 +1,4 @@
-//! SELECT: which access port and which banks a request reaches.
+//! SELECT: the register that selects the access port and the banks of a request.
 ghost use Rattle.std.specs.Prelude.{◌≡◌};
 
 /// The fields of the SELECT register (IHI 0031, B2, "SELECT, AP Select register").
@@ -8,14 +8,14 @@ pub struct Select {
     pub apsel: u8,
     /// APBANKSEL, [7:4]: the bank of four registers in the access port.
     pub apbanksel: u8,
-    /// DPBANKSEL, [3:0]: the debug port's register at address 4.
+    /// DPBANKSEL, [3:0]: the bank of the debug port, on which its address 4 depends.
     pub dpbanksel: u8,
 }
 
 impl Select {
     ghost use Rattle.swd_port.specs.Registers.{select_of, select_word, IsSelect};
 
-    /// The fields of a word. Bits that the register doesn't name are dropped.
+    /// Reads the fields from a word. Bits that the register doesn't name are dropped.
     pub fn of(word: u32) -> Select
         ensures { result ≡ select_of word }
     {
@@ -26,7 +26,7 @@ impl Select {
         }
     }
 
-    /// The register's word: each field in its place, cut to its width, and 0 everywhere else.
+    /// Returns the register's word: each field in its place, truncated to its width, and 0 in all other bits.
     pub fn bits(&self) -> u32
         ensures word { result ≡ select_word self.now }
         ensures same { IsSelect self.now → select_of result ≡ self.now }

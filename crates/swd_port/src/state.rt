@@ -1,30 +1,31 @@
-//! What a target is doing, and how it replies.
+//! The states of a target, and its replies.
 
 use crate::register::Register;
 
 /// Whether requests are answered.
 #[derive(Clone, Copy, Debug, PartialEq, Eq)]
 pub enum Reset {
-    /// No line reset came yet: no request is answered.
+    /// No line reset yet: no request is answered.
     Unreset,
-    /// DPIDR wasn't read since the last line reset: nothing but that read is answered.
+    /// DPIDR wasn't read since the last line reset: only that read is answered.
     Fresh,
     /// Every request is answered.
     Live,
 }
 
-/// Whether the power that was asked for in CTRL/STAT is there.
+/// Whether the power that was requested in CTRL/STAT is acknowledged.
 #[derive(Clone, Copy, Debug, PartialEq, Eq)]
 pub enum PowerUp {
-    /// Nothing was seen of it since it was asked for: it is there, unless the next read of CTRL/STAT finds it late.
+    /// It wasn't seen since the request. It counts as acknowledged, unless the next read of CTRL/STAT finds it not
+    /// acknowledged.
     Unseen,
-    /// A read of CTRL/STAT found that it isn't there yet.
+    /// A read of CTRL/STAT found it not acknowledged yet.
     Late,
-    /// It was seen to be there, and stays.
+    /// It was seen as acknowledged, and stays so until CTRL/STAT is written again.
     Seen,
 }
 
-/// A DRW transfer that was accepted and did not take effect yet.
+/// A DRW transfer that was accepted and hasn't taken effect yet.
 #[derive(Clone, Copy, Debug, PartialEq, Eq)]
 pub enum Drw {
     /// The read of a word.
@@ -40,13 +41,13 @@ pub enum Reply {
     Okay,
     /// WAIT: the target is busy, and the request may be sent again.
     Waits,
-    /// FAULT: a sticky flag is set, or an access port has no power.
+    /// FAULT: a sticky flag is set, or an access port isn't powered.
     Faults,
-    /// None: the target drives nothing.
+    /// No acknowledgement: the target drives nothing.
     Silent,
 }
 
-/// What the target does on the line once a request was acknowledged.
+/// What the target does on the line after an acknowledgement.
 #[derive(Clone, Copy, Debug, PartialEq, Eq)]
 pub enum Line {
     /// Nothing.
@@ -54,7 +55,7 @@ pub enum Line {
     /// It drives these 33 bits of a read's data phase, the first bit in time least significant: 32
     /// of the word, and above them the parity.
     Drives(u64),
-    /// It awaits the data phase of a write of this register. The place of the one of its 33 bits
-    /// that will arrive changed, if any, counted from 0, the first in time.
+    /// It awaits the data phase of a write of this register. The second field is the bit of the 33 that will arrive
+    /// changed, if any; bit 0 is the first in time.
     Awaits(Register, Option<u8>),
 }

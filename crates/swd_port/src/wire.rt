@@ -1,4 +1,4 @@
-//! The wire between a host and a target, with the law that the other end keeps.
+//! The wire between a host and a target, whose calls are steps of the port model.
 ghost use Rattle.std.specs.Prelude.{◌≡◌, ◌≢◌, ◌<◌, ◌^◌, List, [], ◌∷◌};
 ghost use Rattle.swd_port.specs.Answers.{due_after};
 ghost use Rattle.swd_port.specs.declared.wire.Due.TheVariants.{Nothing, Take, Give, Pass};
@@ -13,8 +13,8 @@ ghost use Rattle.swd_port.specs.declared.call.Call.{Call};
 use crate::cue::Cue;
 use swd_bits::Request;
 
-// For how many of the first ones of a line reset the line is left undriven where the target may be driving it: as many
-// as the longest rest of a transaction, a turnaround and the 33 bits of a data phase.
+// The number of ones of a line reset that are left undriven where the target may be driving the line. It is the length
+// of the longest rest of a transaction, a turnaround and the 33 bits of a data phase.
 const UNDRIVEN: u32 = 34;
 
 /// What has to come next on a wire, as the host sees it.
@@ -33,7 +33,8 @@ pub enum Due {
 }
 
 impl Due {
-    /// What has to come next, once these three bits were seen in answer to a request for a read or a write.
+    /// Returns what has to come next after these three bits were seen in answer to a read or a write, the first bit in
+    /// time least significant.
     pub fn after(read: bool, seen: u8) -> Due
         ensures { result ≡ due_after read seen }
     {
@@ -45,8 +46,8 @@ impl Due {
         }
     }
 
-    /// For how many of the first ones of a line reset the host leaves the line undriven: 34 where the target may be
-    /// driving it, else none (which of the ones: this project's choice).
+    /// Returns how many ones of a line reset, from the first on, the host leaves undriven. It is 34 where the target
+    /// may be driving the line, else 0 (which of the ones: this project's choice).
     pub fn undriven(self) -> u32
         ensures none { self ≡ Nothing → result ≡ 0 }
         ensures some { self ≢ Nothing → result ≡ 34 }
@@ -58,12 +59,11 @@ impl Due {
     }
 }
 
-/// One end of a serial wire, for the host that drives it (IHI 0031, B4). Its law: each call is a
-/// step of the port machine at the other end, whose state contracts see as `port`.
+/// The host's end of a serial wire (IHI 0031, B4). Each call is a step of the port model at the other end, whose state
+/// contracts see as `port`.
 ///
-/// An implementer writes `due` and `step`. The other calls are cues of `step` with names of their own.
-/// Bits are numbers with the first bit in time least significant. No call fails. What has to come
-/// next is told by `due`, and follows from what was seen:
+/// An implementer writes `due` and `step`. The other calls are named cues of `step`. Bits are numbers with the first
+/// bit in time least significant. No call fails. `due` returns what has to come next, which follows from what was seen:
 ///
 /// ```text
 /// // What DPIDR reads after a line reset.
@@ -82,26 +82,26 @@ impl Due {
 /// }
 /// ```
 pub trait Wire {
-    /// The port machine at the other end, and the numbers of requests so far.
+    /// The state of the port model at the other end, with the counts of requests so far.
     ghost port: { Self → Port };
 
-    /// The marks that a simulated end was made with, or none. No call changes them. The law gives
-    /// them no meaning: each request has a mark of its own, freely chosen.
+    /// The marks that a simulated end was made with; empty for others. No call changes them. The model gives them no
+    /// meaning: the mark of each request is freely chosen.
     ghost plan: { Self → List Mark } = { λ _. [] };
 
-    /// What was seen so far fits a port machine whose state is `port`. Of a simulated end it always
-    /// holds; of hardware nobody can prove it, and what is told of a run is told where it holds.
+    /// What was seen so far is consistent with the port model in the state `port`. For a simulated end this is proved
+    /// to hold. For hardware nobody can prove it: there the contracts of a run hold under it.
     ghost lawful: { Self → Type 0 } = { λ _. Unit {0} };
 
-    /// The calls so far, the last one first, where a wire notes them; nobody has to.
+    /// The calls so far, the last one first, if a wire records them. Optional.
     ghost notes: { List Call → Self → Type 0 } = { λ _ _. Unit {0} };
 
-    /// What has to come next.
+    /// Returns what has to come next.
     fn due(&self) -> Due
         ensures { result ≡ (port self.now).link.due };
 
-    /// Does what the cue says, and gives what is seen: the three bits after a request, of which 1 is OK, 2 WAIT, 4
-    /// FAULT, and every other number no acknowledgement; the 33 bits of a read's data phase; and 0 at any other cue.
+    /// Performs the cue, and returns what is seen. After a request these are three bits: 1 is OK, 2 WAIT, 4 FAULT, and
+    /// every other number no acknowledgement. For a read's data phase they are its 33 bits; for any other cue 0.
     fn step(&mut self, cue: Cue) -> u64
         requires { MayStep (port self.old).link.due cue }
         ensures seen { IsSeen cue result }
@@ -111,9 +111,9 @@ pub trait Wire {
         ensures notes { (calls : List Call) → notes calls self.old
             → notes (record { cue = cue; seen = result } ∷ calls) self.new };
 
-    /// Drives `ones` cycles high, with `switch` then the sixteen bits 0111100111100111, the first in
-    /// time first, and the ones again, and then `zeros` cycles low. With ones this is a line reset.
-    /// Where something other than `Due::Nothing` was due, the first 34 of the ones are left undriven.
+    /// Drives `ones` cycles high, if `switch` the sixteen bits 0111100111100111 in time order and the ones again, and
+    /// then `zeros` cycles low. With ones this is a line reset. Where anything but `Due::Nothing` is due, the first 34
+    /// of the ones are left undriven.
     #[inline(always)]
     final fn lead(&mut self, ones: u32, switch: bool, zeros: u32)
         requires { MayLead (port self.old).link.due ones switch zeros }
@@ -130,8 +130,8 @@ pub trait Wire {
         });
     }
 
-    /// A line reset: 56 ones and two zeros. The target then waits for its identification to be read, and no register
-    /// has changed (IHI 0031, B4, "Connection and line reset sequence").
+    /// Sends a line reset: 56 ones and two zeros. It changes no DP or AP register. The target then awaits a read of
+    /// DPIDR (IHI 0031, B4, "Connection and line reset sequence").
     final fn line_reset(&mut self)
         requires { (port self.old).link.due ≡ Nothing }
         ensures due { (port self.new).link.due ≡ Nothing }
@@ -141,7 +141,7 @@ pub trait Wire {
         self.lead(56, false, 2)
     }
 
-    /// So many idle cycles. A transfer that is pending goes on in them (IHI 0031, B4, "Idle cycles").
+    /// Sends idle cycles, in which a pending transfer can complete (IHI 0031, B4, "Idle cycles").
     final fn idle(&mut self, cycles: u32)
         requires { (port self.old).link.due ≡ Nothing }
         ensures due { (port self.new).link.due ≡ Nothing }
@@ -151,8 +151,8 @@ pub trait Wire {
         self.lead(0, false, cycles)
     }
 
-    /// Sends the eight bits of a request, and after a turnaround sees three bits: 1 is OK, 2 WAIT,
-    /// 4 FAULT, and every other number is no acknowledgement.
+    /// Sends the eight bits of a request, and returns the three bits seen after a turnaround: 1 is OK, 2 WAIT, 4 FAULT,
+    /// and every other number is no acknowledgement.
     #[inline(always)]
     final fn ask(&mut self, request: Request) -> u8
         requires { (port self.old).link.due ≡ Nothing }
@@ -164,8 +164,7 @@ pub trait Wire {
         self.step(Cue::Ask(request)) as u8
     }
 
-    /// Takes the 33 bits of a read's data phase, 32 of the word and above them the parity, and the
-    /// turnaround.
+    /// Returns the 33 bits of a read's data phase, 32 of the word and above them the parity, and passes the turnaround.
     #[inline(always)]
     final fn take(&mut self) -> u64
         requires { (port self.old).link.due ≡ Take }
@@ -177,8 +176,7 @@ pub trait Wire {
         self.step(Cue::Take)
     }
 
-    /// Sends the turnaround and the 33 bits of a write's data phase, 32 of the word and above them
-    /// the parity.
+    /// Sends the turnaround and the 33 bits of a write's data phase, 32 of the word and above them the parity.
     #[inline(always)]
     final fn give(&mut self, bits: u64)
         requires due { (port self.old).link.due ≡ Give }

@@ -1,7 +1,7 @@
--- What a register of a simulated target contains, as the port machine has it.
+-- The content of a register of a simulated target, as the port model has it.
 use Rattle.std.specs.Prelude.{ℕ, Option, Some, None, if◌then◌else◌}
 use Rattle.swd_target.specs.declared.content.Content.{Content}
 
--- the word, where the port machine knows it
+-- the word, if it is known in the port model
 abbrev pub known_word : Content → Option ℕ
 known_word content = if content.known then Some content.word else None

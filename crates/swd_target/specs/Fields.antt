@@ -1,5 +1,5 @@
--- A target as numbers, but for its memory. Each kind of thing that is always there has its numbers from 1 on, so that
--- zeros are no target; what a number isn't needed for has it as 0.
+-- A target without its memory, as integers. Each enum that isn't optional is numbered from 1 on, so no target has all
+-- zeros. An unused field is 0.
 use Rattle.std.specs.Prelude.{ℕ, ◌==◌, Option, Some, None, if◌then◌else◌}
 use Rattle.swd_bits.specs.Bits.{bit}
 use Rattle.swd_port.specs.declared.state.Drw.{Drw}
@@ -32,7 +32,7 @@ power_number Unseen = 1
 power_number Late = 2
 power_number Seen = 3
 
--- the numbers of a target
+-- the fields of a target
 abbrev pub fields_of : {A : Type 0} → Target A → TargetFields
 fields_of t = record {
   tar = content_fields t.tar;
@@ -56,7 +56,7 @@ fields_of t = record {
   csw_upper = t.csw_upper;
 }
 
--- What numbers are read as, those of no target too: the numbers of what they are read as.
+-- How any integers are read, also those of no target: the fields of what they are read as.
 abbrev pub read_flag : ℕ → ℕ
 read_flag n = bit (n == 1)
 

@@ -1,4 +1,4 @@
--- A memory, wherever its words are.
+-- A memory, wherever it keeps its words.
 use Rattle.swd_port.specs.PlainMemory.{PlainMemory}
 use Rattle.swd_target.specs.declared.memory.Kept.{Kept}
 use Rattle.swd_target.specs.declared.memory.Kept.TheVariants.{Here, Elsewhere}

@@ -4,7 +4,7 @@ use Rattle.swd_port.specs.declared.mark.Mark.{Mark}
 use Rattle.swd_port.specs.declared.mark.Mark.TheVariants.{Clean, Flip, Mute}
 use Rattle.swd_port.specs.Choices.{IsMark}
 
--- the mark of a request by its number, counted from 0: after the end of the plan nothing happens to a request
+-- the mark of a request by its number, counted from 0; after the end of the plan it is `Clean`
 abbrev pub mark_at : List Mark → ℕ → Mark
 mark_at plan number = unwrap_or (slice_get plan number) Clean
 
@@ -12,7 +12,7 @@ mark_at plan number = unwrap_or (slice_get plan number) Clean
 abbrev pub IsPlan : List Mark → Type 0
 IsPlan plan = All IsMark plan
 
--- the same as a test
+-- the test for a legal mark
 abbrev pub is_legal : Mark → Bool
 is_legal (Flip place) = nat_lt place 33
 is_legal (Mute place) = nat_lt place 3

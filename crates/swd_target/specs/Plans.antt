@@ -1,4 +1,4 @@
--- What a plan deals to its requests. All of it is this project's choice.
+-- What contracts see of a plan. All of it is this project's choice.
 use Rattle.std.specs.Prelude.{List}
 use Rattle.swd_port.specs.declared.mark.Mark.{Mark}
 use Rattle.swd_port.specs.Port.{Tally}
@@ -9,7 +9,7 @@ use Rattle.swd_target.specs.Marks.{mark_at}
 abbrev pub marks_of : {A : Type 0} → Plan A → List Mark
 marks_of p = p.marks.items
 
--- its numbers of requests
+-- its counts of requests
 abbrev pub tally_of : {A : Type 0} → Plan A → Tally
 tally_of p = record { asked = p.asked.ticks; disturbed = p.disturbed.ticks; lost = p.lost.ticks }
 

@@ -17,7 +17,7 @@ use Rattle.swd_target.specs.Targets.{state_of, simulation}
 use Rattle.swd_target.specs.Elsewhere.{IsReadyIf, IsUntouched, over}
 use Rattle.swd_target.specs.Flips.{line_under}
 
--- the state of the port machine, from that of its target
+-- the state of the port model, from that of its target
 abbrev pub port_at : Link → Tally → State → Port
 port_at l n s = record { link = l; target = s; tally = n }
 
@@ -25,12 +25,12 @@ port_at l n s = record { link = l; target = s; tally = n }
 abbrev pub Transfers : State → State → Type 0
 Transfers s t = (t ≡ s) ⊎ ((c : Choice) × IsChoice c × (t ≡ completion_of c s))
 
--- one call of `ask` under a mark: a step of the port machine
+-- one call of `ask` under a mark: a step of the port model
 abbrev pub AsksUnder : Mark → Port → Request → ℕ → Port → Type 0
 AsksUnder mark s q seen t =
     (a : Port) × (b : Port) × (c : Choice) × Completes s a × AsksNow mark c a q seen b × Completes b t
 
--- A request under a mark, with its reply and the data phase as it arrives: a step of the port machine, and exactly the
+-- A request under a mark, with its reply and the data phase as it arrives: a step of the port model, and exactly the
 -- step that the quirks and the mark choose.
 pub record AnswersUnder {A : Type 0} (mark : Mark) (q : Request) (s : Target A) (reply : Reply) (phase : Line)
     (t : Target A) : Type 0 where
@@ -40,22 +40,22 @@ pub record AnswersUnder {A : Type 0} (mark : Mark) (q : Request) (s : Target A) 
   pub phases : phase ≡ phase_to mark q (simulation s)
   pub exact : simulation t ≡ asked mark q (simulation s)
 
--- a request that the target sees, under each mark that asks for WAIT or doesn't
+-- a request that the target sees, under each mark that asks for WAIT, or each that doesn't
 abbrev pub AnswersEach : {A : Type 0} → Bool → Request → Target A → Reply → Line → Target A → Type 0
 AnswersEach waits q s reply phase t = (mark : Mark) → IsMark mark → is_deaf mark ≡ false → is_wait mark ≡ waits
     → AnswersUnder mark q s reply (line_under mark phase) t
 
--- A request that the target sees, where WAIT is asked for or not: the same under each mark that asks for no more. Where
--- no transfer took effect, it is the same over every memory, where WAIT is asked for over every one in which the
--- pending transfer would succeed.
+-- A request that the target sees, where WAIT is asked for or not, under each such mark. Where transfers take effect
+-- late and no transfer did, the same holds over every other memory. If WAIT is asked for, that memory has to be one
+-- where the pending transfer would succeed.
 pub record Answers {A : Type 0} (waits : Bool) (q : Request) (s : Target A) (reply : Reply) (phase : Line)
     (t : Target A) : Type 0 where
   pub under : AnswersEach waits q s reply phase t
   pub elsewhere : (m : PlainMemory) → IsUntouched s t → IsReadyIf waits m s
       → AnswersEach waits q (over m s) reply phase (over m t)
 
--- The data of a write: a step of the port machine, and exactly the step that the quirks choose. Nothing takes effect
--- with it where the write isn't done. Where transfers take effect late, it is the same over every memory.
+-- The data of a write: a step of the port model, and exactly the step that the quirks choose. Where the write isn't
+-- done, no transfer takes effect. Where transfers take effect late, the same holds over every other memory.
 pub record DataComes {A : Type 0} (a : Arrival) (s t : Target A) : Type 0 where
   pub later : Transfers (after_bits a (state_of s)) (state_of t)
   pub undone : is_done a ≡ false → state_of t ≡ after_bits a (state_of s)

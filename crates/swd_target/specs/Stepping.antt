@@ -1,4 +1,4 @@
--- What a simulated target under a plan does and shows at a cue. `mark` is the mark of its next request.
+-- What a simulated target with a plan does and shows at a cue. `mark` is the mark of its next request.
 use Rattle.std.specs.Prelude.{ℕ, ◌==◌, if◌then◌else◌}
 use Rattle.swd_port.specs.declared.cue.Cue.{Cue}
 use Rattle.swd_port.specs.declared.cue.Cue.TheVariants.{Lead, Ask, Take, Give, Pass}
@@ -12,11 +12,11 @@ use Rattle.swd_port.specs.Moving.{TakesNow, PassesNow, arrival, bits_driven}
 use Rattle.swd_target.specs.Simulations.{Simulation, stepped, asked, seen_to, reply_to, phase_to, link_after, arrived}
 use Rattle.swd_target.specs.Requests.{port_at}
 
--- the simulated target after a line reset of so many ones, or none
+-- the simulated target after a line reset; without ones it is unchanged
 abbrev pub led : ℕ → Link → Simulation → Simulation
 led ones l s = stepped (λ c t. (after_lead ones (port_at l (record { asked = 0; disturbed = 0; lost = 0 }) t)).target) s
 
--- and after the 33 bits of a write
+-- the simulated target after the 33 bits of a write
 abbrev pub given : ℕ → Link → Simulation → Simulation
 given sent l s = arrived (arrival l.line sent) s
 
@@ -26,7 +26,7 @@ seen_by mark (Ask q) l s = seen_to mark q s
 seen_by mark Take l s = bits_driven l.line
 seen_by mark cue l s = 0
 
--- the simulated target after it
+-- the simulated target after a cue
 abbrev pub stepped_by : Mark → Cue → Link → Simulation → Simulation
 stepped_by mark (Lead ones undriven switch zeros) l s = led ones l s
 stepped_by mark (Ask q) l s = asked mark q s
@@ -34,7 +34,7 @@ stepped_by mark (Give sent) l s = given sent l s
 stepped_by mark Take l s = s
 stepped_by mark Pass l s = s
 
--- what is due then, and the data phase that the target is in
+-- what is due after a cue, and the data phase that the target is in
 abbrev pub link_by : Mark → Cue → Link → Simulation → Link
 link_by mark (Lead ones undriven switch zeros) l s =
     record { due = Nothing; line = if ones == 0 then l.line else Idle }
@@ -43,7 +43,7 @@ link_by mark Pass l s = record l { due = Nothing }
 link_by mark Take l s = idle_link
 link_by mark (Give sent) l s = idle_link
 
--- the numbers of requests
+-- the counts of requests after a cue
 abbrev pub tally_by : Mark → Cue → Tally → Tally
 tally_by mark (Ask q) n = tally_after mark n
 tally_by mark cue n = n

@@ -1,4 +1,4 @@
--- The target of the code as that of the port machine, and as a simulated one.
+-- The target of the code as a state of the port model, and as a simulated target.
 use Rattle.std.specs.Prelude.{ℕ, ◌≡◌, ◌||◌, ◌&&◌, not, Bool, false, Some, None, if◌then◌else◌}
 use Rattle.std.specs.Option.{option_map}
 use Rattle.swd_port.specs.declared.register.Register.{Register}
@@ -20,7 +20,7 @@ use Rattle.swd_target.specs.declared.target.Target.{Target}
 use Rattle.swd_target.specs.Contents.{known_word}
 use Rattle.swd_target.specs.Simulations.{Simulation, stepped, transferred, is_owed}
 
--- the state of the port machine, in which a word may be unknown
+-- the state of the port model, in which a word may be unknown
 abbrev pub state_of : {A : Type 0} → Target A → State
 state_of t = record {
   reset = t.reset;
@@ -41,7 +41,7 @@ state_of t = record {
   memory = t.memory;
 }
 
--- the same with each word as it is
+-- the simulated target: the same state with each word known
 abbrev pub simulation : {A : Type 0} → Target A → Simulation
 simulation t = record {
   quirks = t.quirks;
@@ -52,12 +52,12 @@ simulation t = record {
   };
 }
 
--- the word that stands for the value of a read, where that is unknown
+-- the word that replaces the value of a read, where that is unknown
 abbrev pub stand_in : {A : Type 0} → Register → Target A → ℕ
 stand_in ResendRead t = t.last_returned.word
 stand_in r t = t.buffer.word
 
--- what the target chooses: the word that it has stands for an unknown one, and TAR ends a kilobyte as the quirks say
+-- the choice of the target: its own word replaces an unknown one, and TAR ends a kilobyte as the quirks say
 abbrev pub choice_for : {A : Type 0} → Register → Target A → Choice
 choice_for r t = record { address = t.tar.word; wraps = t.quirks.wrap; filler = stand_in r t }
 
@@ -66,16 +66,16 @@ pub record IsChosen (quirks : Quirks) (c : Choice) : Type 0 where
   pub legal : IsChoice c
   pub wraps : c.wraps ≡ quirks.wrap
 
--- the target goes through a step of the port machine, and as a simulated one through the same step
+-- the target performs a step of the port model, and the same step as a simulated target
 pub record Steps {A : Type 0} (f : Choice → State → State) (s t : Target A) : Type 0 where
   pub state : state_of t ≡ f (choice_for DrwRead s) (state_of s)
   pub exact : simulation t ≡ stepped f (simulation s)
 
--- the answer of a state where no WAIT is asked for
+-- the answer in a state where no WAIT is asked for
 abbrev pub answer_at : Register → Bool → State → Reply
 answer_at r ap s = answer s.reset s.sticky_error s.write_error (is_unpowered ap (has_power s)) r
 
--- what is answered in its place where WAIT is asked for, or not
+-- the reply to a request, where WAIT is asked for or not
 abbrev pub reply_when : Bool → Register → Reply → Reply
 reply_when waits r a = if waits && may_wait r a then Waits else a
 
@@ -84,18 +84,18 @@ abbrev pub settled_when : Bool → Register → Bool → Simulation → Simulati
 settled_when waits r ap s =
     if is_owed r (reply_when waits r (answer_at r ap (transferred s).state)) then transferred s else s
 
--- the code's test for it, where the pending transfer would fail or not: WAIT comes in place of an OK alone, and so not
--- over a bus error
+-- The code's test for that, from whether the pending transfer would fail. WAIT replaces only OK, and so not the FAULT
+-- of a bus error.
 abbrev pub is_settling : Bool → Register → Reply → Bool → Bool
 is_settling waits r Silent failing = false
 is_settling waits r Okay failing = not (is_exempt r) && (not waits || failing)
 is_settling waits r a failing = not (is_exempt r)
 
--- the same of a target
+-- the same test for a target
 abbrev pub settles_first : {A : Type 0} → Bool → Register → Bool → Target A → Bool
 settles_first waits r ap t = is_settling waits r (answer_at r ap (state_of t)) (fails t.pending t.tar.word t.memory)
 
--- the data phase that follows a reply, where this word stands for an unknown one
+-- the data phase that follows a reply, where this word replaces an unknown one
 abbrev pub phase_in : Bool → Reply → Bool → Register → ℕ → State → Line
 phase_in waits reply read r filler s = line_after reply (phase_after read r None (value_in waits r filler s)) Idle
 
@@ -113,6 +113,6 @@ flags_cleared word s = record s {
 abbrev pub power_set : ℕ → State → State
 power_set word s = record s { debug_power = bit_of 28 word; system_power = bit_of 30 word; power_up = Unseen }
 
--- a line reset, which ends the data phase of a write or not
+-- a line reset, which may end the data phase of a write (`awaiting`)
 abbrev pub line_reset : Bool → State → State
 line_reset awaiting s = record s { reset = Fresh; write_error = awaiting || s.write_error }

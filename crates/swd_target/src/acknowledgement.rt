@@ -1,4 +1,4 @@
-//! Acknowledgements on the wire: what the target drives, and what the host sees.
+//! Acknowledgements on the wire, as the target drives them and as the host sees them.
 ghost use Rattle.std.specs.Prelude.{◌≡◌, ◌<◌};
 ghost use Rattle.swd_port.specs.Choices.{IsMark};
 ghost use Rattle.swd_port.specs.Answers.{driven, seen_at};
@@ -6,7 +6,7 @@ ghost use Rattle.swd_port.specs.Answers.{driven, seen_at};
 use swd_bits::Ack;
 use swd_port::{Mark, Reply};
 
-// The three bits that the target drives, the first bit least significant. An undriven line reads 1.
+// Returns the three bits that the target drives, the first in time least significant. An undriven line reads 1.
 fn bits_of(reply: Reply) -> u8
     ensures value { result ≡ driven reply }
     ensures range { result < 8 }
@@ -19,7 +19,7 @@ fn bits_of(reply: Reply) -> u8
     }
 }
 
-/// The three bits that the host sees of a reply under a mark, the first bit least significant.
+/// Returns the three bits that the host sees of a reply under a mark, the first in time least significant.
 pub fn seen_under(mark: Mark, reply: Reply) -> u8
     requires { IsMark mark }
     ensures value { result ≡ seen_at mark reply }

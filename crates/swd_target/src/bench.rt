@@ -1,4 +1,4 @@
-//! A simulated target at the end of a wire, with a plan of what happens to each request.
+//! A simulated target as a wire, with a plan of fault injections.
 ghost use Rattle.std.specs.Prelude.{◌≡◌, ◌<◌, ◌^◌};
 ghost use Rattle.swd_port.specs.declared.cue.Cue.TheVariants.{Ask};
 ghost use Rattle.swd_port.specs.declared.wire.Due.TheVariants.{Nothing, Take, Give, Pass};
@@ -23,12 +23,12 @@ use std::alloc::{Allocator, Global};
 use swd_bits::Request;
 use swd_port::{Cue, Due, Line, Mark, Wire};
 
-/// A simulated target at the end of a wire. Each request uses the next mark of the plan; after its
-/// end all marks are `Clean`. DPIDR gives 2ba01477.
+/// A simulated target as a [`Wire`]. Each request uses the next mark of the plan; after its end all marks are `Clean`.
+/// DPIDR reads 2ba01477.
 ///
-/// Where the standard leaves a choice it goes by its quirks: when a DRW transfer takes effect, how
-/// TAR ends a kilobyte, and what an unknown value reads as. At a bus error TAR keeps its address.
-/// WAIT is answered at a `Wait` mark alone, where OK would be answered otherwise.
+/// Its quirks make the choices that the standard leaves: when a DRW transfer takes effect, how TAR ends a kilobyte, and
+/// what an unknown value reads as. At a bus error TAR keeps its address. The target answers WAIT at a `Wait` mark
+/// alone, where it would answer OK otherwise.
 ///
 /// ```ignore
 /// let memory = Memory::new(alloc, 0x2000_0000, 16, 16)?;
@@ -51,7 +51,7 @@ impl<A: Allocator> Bench<A> {
     ghost use Rattle.swd_target.specs.Benches.{port_of, link_of, tally_of, simulation_of, plan_of, choice_of, next_mark};
     ghost use Rattle.swd_target.specs.Stepping.{led, given, seen_by, stepped_by, link_by};
 
-    /// Makes a target that had no line reset yet, with this memory behind its access port.
+    /// Creates a target before its first line reset, with this memory behind its access port.
     pub fn new(memory: Memory<A>, quirks: Quirks, plan: Vec<Mark, A>) -> Bench<A>
         requires { IsPlan plan.items }
         ensures port { port_of result ≡ made 0x2ba0_1477 memory }
@@ -66,8 +66,7 @@ impl<A: Allocator> Bench<A> {
         }
     }
 
-    /// Completes the DRW transfer that was accepted and has not taken effect yet, where there is
-    /// one. Without the quirk `late` there never is.
+    /// Completes the pending DRW transfer, if any. Without the quirk `late` no transfer is ever pending.
     pub fn settle(&mut self)
         ensures port { port_of self.new ≡ completed (choice_of self.old) (port_of self.old) }
         ensures choice { IsChosen (simulation_of self.old).quirks (choice_of self.old) }
@@ -77,14 +76,14 @@ impl<A: Allocator> Bench<A> {
         self.target.complete();
     }
 
-    /// The memory behind the access port.
+    /// Returns the memory behind the access port.
     pub fn memory(&self) -> &Memory<A>
         ensures { result.now ≡ (port_of self.now).target.memory }
     {
         &self.target.memory
     }
 
-    // A line reset, where there are ones. Neither the sixteen bits of the switch nor zeros change anything at a target.
+    // Performs a line reset if there are ones. Neither the sixteen bits of the switch nor zeros change the target.
     fn lead_now(&mut self, ones: u32)
         ensures now { LeadsNow (port_of self.old) ones (port_of self.new) }
         ensures exact { simulation_of self.new ≡ led ones (link_of self.old) (simulation_of self.old) }
@@ -97,7 +96,7 @@ impl<A: Allocator> Bench<A> {
         }
     }
 
-    // A request under the next mark.
+    // Performs a request under the next mark.
     #[inline(always)]
     fn ask_now(&mut self, request: Request) -> u8
         requires { (port_of self.old).link.due ≡ Nothing }
@@ -119,7 +118,7 @@ impl<A: Allocator> Bench<A> {
         seen
     }
 
-    // The data phase of a read.
+    // Returns the data phase of a read.
     #[inline(always)]
     fn take_now(&mut self) -> u64
         requires { (port_of self.old).link.due ≡ Take }
@@ -135,7 +134,7 @@ impl<A: Allocator> Bench<A> {
         bits
     }
 
-    // The data phase of a write.
+    // Takes the data phase of a write.
     #[inline(always)]
     fn give_now(&mut self, bits: u64)
         requires due { (port_of self.old).link.due ≡ Give }
@@ -151,7 +150,7 @@ impl<A: Allocator> Bench<A> {
         self.line = Line::Idle;
     }
 
-    // The turnaround after WAIT or FAULT, which changes nothing at the target.
+    // Passes the turnaround after WAIT or FAULT, which doesn't change the target.
     #[inline(always)]
     fn pass_now(&mut self)
         requires { (port_of self.old).link.due ≡ Pass }
@@ -176,7 +175,7 @@ impl<A: Allocator> Wire for Bench<A> {
         self.due
     }
 
-    /// The mark of a request is the one in the plan with the number of requests before it.
+    /// Performs the cue. The n-th request uses the n-th mark of the plan, or `Clean` after its end.
     #[inline(always)]
     fn step(&mut self, cue: Cue) -> u64
         requires { MayStep (port_of self.old).link.due cue }

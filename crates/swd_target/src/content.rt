@@ -1,8 +1,7 @@
-//! What the registers contain whose word the port machine may leave unknown.
+//! The contents of registers whose value may be unknown in the port model.
 ghost use Rattle.std.specs.Prelude.{◌<◌, ◌^◌};
 
-/// The word that a register contains. Where the port machine leaves the register unknown, this word
-/// stands for it.
+/// The word that a register contains. Where the port model has the register unknown, this word stands for its value.
 #[derive(Clone, Copy, Debug, PartialEq, Eq)]
 pub(crate) struct Content {
     pub(crate) word: u32,

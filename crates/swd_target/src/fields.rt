@@ -1,4 +1,4 @@
-//! A target as numbers, for callers that keep it in memory of their own, such as programs in C.
+//! A target as a struct of integers, for callers that store it themselves, such as programs in C.
 ghost use Rattle.std.specs.Prelude.{◌≡◌, ◌==◌};
 ghost use Rattle.swd_target.specs.Fields.{content_fields, pending_fields, power_number, reset_number};
 ghost use Rattle.swd_target.specs.Fields.{read_content, read_pending, read_power, read_reset, read_target};
@@ -12,10 +12,10 @@ use crate::target::Target;
 use std::alloc::Allocator;
 use swd_port::{Drw, PowerUp, Reset, Select};
 
-/// The numbers of a target, but for its memory: `Target::fields` gives them, and `target` makes a target of
-/// them. They are laid out as C does it. Zeros are those of no target.
+/// The state of a target without its memory, as integers laid out as in C. [`Target::fields`] returns it, and
+/// [`target`](TargetFields::target) restores a target. No target has all zeros.
 ///
-/// What they mean is this crate's own.
+/// The meaning of the fields is private to this crate.
 #[repr(C)]
 #[derive(Clone, Copy, Debug, PartialEq, Eq)]
 pub struct TargetFields {
@@ -40,7 +40,7 @@ pub struct TargetFields {
     pub csw_upper: u8,
 }
 
-/// The numbers of what a register contains.
+/// The content of a register, as integers.
 #[repr(C)]
 #[derive(Clone, Copy, Debug, PartialEq, Eq)]
 pub struct ContentFields {
@@ -48,8 +48,7 @@ pub struct ContentFields {
     pub known: u8,
 }
 
-/// The numbers of a transfer that was accepted and has not taken effect yet: of `kind` 0 there is none, of 1 it
-/// is a read, and of 2 a write of `word`, which else is 0.
+/// The pending transfer, as integers. `kind` 0 is no transfer, 1 a read, 2 a write of `word`, which otherwise is 0.
 #[repr(C)]
 #[derive(Clone, Copy, Debug, PartialEq, Eq)]
 pub struct PendingFields {
@@ -140,8 +139,8 @@ fn power_with(number: u8) -> PowerUp
 }
 
 impl TargetFields {
-    /// A target with these numbers and this memory. A number that no target has is read as another one, so whoever
-    /// wants to refuse it compares the numbers of what came.
+    /// Creates a target with these fields and this memory. An invalid number is read as a valid one: compare the fields
+    /// of the result to reject it.
     pub fn target<A: Allocator>(&self, memory: Memory<A>) -> Target<A>
         ensures numbers { fields_of result ≡ read_target self.now }
         ensures memory { (state_of result).memory ≡ memory }
@@ -182,7 +181,7 @@ impl TargetFields {
 }
 
 impl<A: Allocator> Target<A> {
-    /// The numbers of the target, but for its memory.
+    /// Returns the fields of the target, without its memory.
     pub fn fields(&self) -> TargetFields
         ensures { result ≡ fields_of self.now }
     {

@@ -8,8 +8,8 @@ use crate::bench::Bench;
 use std::alloc::Allocator;
 use swd_port::Wire;
 
-/// The numbers of disturbed and of lost requests of a bench are counts over the marks that it used,
-/// and so at most those over its whole plan.
+/// States that a bench counts disturbed and lost requests by the marks that it used. So each count is at most that of
+/// its whole plan.
 pub fn marks_used<A: Allocator>()
     ensures disturbed { (b : Bench A) → (port_of b).tally.disturbed ≡ disturbed_among (marks_so_far b) }
     ensures lost { (b : Bench A) → (port_of b).tally.lost ≡ lost_among (marks_so_far b) }
@@ -17,8 +17,8 @@ pub fn marks_used<A: Allocator>()
     ensures lost_most { (b : Bench A) → (port_of b).tally.lost ≤ lost_among (plan_of b) }
 {}
 
-/// What was seen of a bench always fits the port machine: what a run promises of a wire on which it does holds over a
-/// bench with no condition.
+/// States that a bench is always lawful. So the contracts of a run that assume `lawful` hold over a bench
+/// unconditionally.
 pub fn always_lawful<A: Allocator>()
     ensures { (b : Bench A) → ⟦<Bench<A> as Wire>⟧.lawful b }
 {}

@@ -1,4 +1,4 @@
-//! A simulated target: a memory, and a bench that is one end of a wire.
+//! A simulated target: a memory, and a bench, which is a wire to the target.
 #![tactic(auto)]
 
 mod acknowledgement;

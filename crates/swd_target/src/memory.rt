@@ -12,19 +12,19 @@ use std::marker::Model;
 use swd_port::{Access, Answer, Transfer};
 use thiserror::Error;
 
-/// Why no memory was made.
+/// The reason why a memory wasn't created.
 #[derive(Clone, Copy, Debug, PartialEq, Eq, Error)]
 pub enum MakeFault {
-    /// There was no room for the words or for the log.
+    /// Out of memory for the words or the log.
     #[error("out of memory for the words or the log")]
     Memory,
     /// The first address isn't a multiple of 4.
     #[error("the first address is no multiple of 4")]
     Base,
-    /// The words go beyond 2^32.
+    /// The words pass address 2^32.
     #[error("the words go past 2^32")]
     Range,
-    /// There are no words.
+    /// The number of words is 0.
     #[error("no words")]
     Empty,
 }
@@ -32,14 +32,14 @@ pub enum MakeFault {
 // Where the words are.
 #[derive(Debug, Drop)]
 pub(crate) enum Kept<A: Allocator> {
-    // Here.
+    // In this memory.
     Here(Words<A>),
-    // Elsewhere, but for one.
+    // Elsewhere; at most one word is here.
     Elsewhere(Window),
 }
 
-/// Words at addresses, and a log of the transfers that took place, the oldest first. Contracts see
-/// both as a `PlainMemory`.
+/// Words at addresses, and a log of the transfers that succeeded, the oldest first. Contracts see both as a
+/// `PlainMemory`.
 #[derive(Debug, Drop)]
 pub struct Memory<A: Allocator = Global> {
     kept: Kept<A>,
@@ -61,8 +61,13 @@ impl<A: Allocator> Model for Memory<A> {
 }
 
 impl<A: Allocator + Copy> Memory<A> {
-    /// Makes a memory of `words` zero words from the address `base`, with an empty log that has
-    /// room for `room` transfers. All that it ever needs is taken here.
+    /// Creates a memory of `words` zero words from byte address `base`, with an empty log for up to `room` transfers.
+    /// It allocates here and never again.
+    ///
+    /// # Errors
+    ///
+    /// Returns `Base` if `base` isn't a multiple of 4, `Empty` if `words` is 0, `Range` if the words pass 2^32, and
+    /// `Memory` if allocating fails.
     pub fn new(alloc: A, base: u32, words: u32, room: u32) -> Result<Memory<A>, MakeFault>
         ensures made { IfOk result (λ memory. memory ≡ zero_memory base words room) }
         ensures base { IsErrOf result MakeFault.Base ↔ (base % 4 ≢ 0) }
@@ -79,8 +84,8 @@ impl<A: Allocator + Copy> Memory<A> {
 }
 
 impl<A: Allocator> Memory<A> {
-    /// One word at an address in place of a memory that stands elsewhere, or none, with an empty log
-    /// that has room for one transfer. It takes no memory.
+    /// Creates a memory of one word at a byte address, or of no word, in place of a memory elsewhere. Its empty log has
+    /// room for one transfer. It doesn't allocate.
     pub fn window(addr: u32, word: Option<u32>) -> Memory<A>
         ensures { result ≡ window addr word }
     {
@@ -89,8 +94,8 @@ impl<A: Allocator> Memory<A> {
         }
     }
 
-    /// The word at an address, in bytes. `None` where there is none, as at an address that isn't a
-    /// multiple of 4. It is no transfer.
+    /// Returns the word at a byte address, or `None` if the memory has no word there, as at an address that isn't a
+    /// multiple of 4. It logs no transfer.
     pub fn word(&self, addr: u32) -> Option<u32>
         ensures { result ≡ get self.now.words addr }
     {
@@ -100,7 +105,7 @@ impl<A: Allocator> Memory<A> {
         }
     }
 
-    /// The transfers that took place, the oldest first.
+    /// Returns the transfers that succeeded, the oldest first.
     pub fn log(&self) -> &[Transfer]
         ensures { result.now ≡ self.now.log }
     {
@@ -110,7 +115,7 @@ impl<A: Allocator> Memory<A> {
         }
     }
 
-    /// Whether a transfer at this address would succeed: a word is there, and the log has room for it.
+    /// Returns whether a transfer at this address would succeed: the memory has a word there, and the log has room.
     pub fn is_ready(&self, addr: u32) -> bool
         ensures { result ≡ succeeds_at addr self.now }
     {
@@ -120,8 +125,8 @@ impl<A: Allocator> Memory<A> {
         }
     }
 
-    /// One transfer, as the access port makes it. Where no word is at the address, or the log is full, it is a bus
-    /// error, which changes nothing and isn't logged.
+    /// Performs one transfer, as the access port does. If the memory has no word at the address, or the log is full, it
+    /// is a bus error, which changes nothing and isn't logged.
     #[inline(always)]
     pub fn transfer(&mut self, access: Access) -> Answer
         ensures answer { result ≡ plain_answer access self.old }

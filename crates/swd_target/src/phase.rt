@@ -10,7 +10,7 @@ ghost use Rattle.swd_target.specs.Flips.{flip_place, awaited_flip, line_flipped}
 use swd_bits::data_bits;
 use swd_port::{Line, Mark, Register, Reply};
 
-/// The bit of the data phase that arrives changed under a mark, counted from 0, the first in time.
+/// Returns the bit of the data phase that arrives changed under a mark, if any, counted from 0, the first in time.
 pub fn flip_under(mark: Mark) -> Option<u8>
     ensures { result ≡ flip_of mark }
 {
@@ -20,7 +20,7 @@ pub fn flip_under(mark: Mark) -> Option<u8>
     }
 }
 
-// The data phase that follows an OK.
+// Returns the data phase that follows an OK.
 pub(crate) fn phase_of(read: bool, register: Register, value: u32) -> Line
     ensures phase { result ≡ phase_after read register None value }
     ensures bits { bits_driven result < 2 ^ 33 }
@@ -32,7 +32,7 @@ pub(crate) fn phase_of(read: bool, register: Register, value: u32) -> Line
     }
 }
 
-// A data phase with a bit that arrives changed.
+// Returns a data phase of which this bit arrives changed.
 pub(crate) fn flip_line(flip: Option<u8>, line: Line) -> Line
     requires bits { bits_driven line < 2 ^ 33 }
     requires place { flip_place flip < 33 }
@@ -47,7 +47,7 @@ pub(crate) fn flip_line(flip: Option<u8>, line: Line) -> Line
     }
 }
 
-// After an OK the target is in the data phase that follows, after any other reply where it was.
+// Enters the data phase that follows an OK. Any other reply leaves the line unchanged.
 pub(crate) fn enter_phase(line: &mut Line, reply: Reply, phase: Line)
     requires phase_bits { bits_driven phase < 2 ^ 33 }
     requires phase_flip { flip_place (awaited_flip phase) < 33 }
@@ -62,7 +62,7 @@ pub(crate) fn enter_phase(line: &mut Line, reply: Reply, phase: Line)
     }
 }
 
-// The 33 bits that the host gets. An undriven line reads 1.
+// Returns the 33 bits that the host samples. An undriven line reads 1.
 pub(crate) fn bits_on(line: Line) -> u64
     ensures { result ≡ bits_driven line }
 {
@@ -78,7 +78,8 @@ pub(crate) fn is_awaiting(line: Line) -> bool
     matches!(&line, Line::Awaits(_, _))
 }
 
-/// The 33 bits of a data phase as the other side gets them, one of them changed or none.
+/// Returns the 33 bits of a data phase as the other side receives them, with this bit changed, if any. Bit 0 is the
+/// first in time.
 pub fn flip_bit(flip: Option<u8>, bits: u64) -> u64
     requires bits { bits < 2 ^ 33 }
     requires place { flip_place flip < 33 }

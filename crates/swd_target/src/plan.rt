@@ -1,4 +1,4 @@
-//! The plan of a simulated wire: the marks of its requests, and which of them were used.
+//! The plan of a simulated wire: the marks of its requests, and how many of them were used.
 ghost use Rattle.std.specs.Prelude.{◌≡◌, ◌+◌, true, length, min, take};
 ghost use Rattle.std.specs.List.{list_all};
 ghost use Rattle.swd_port.specs.Choices.{IsMark, disturbs, loses, disturbed_among, lost_among};
@@ -7,13 +7,12 @@ ghost use Rattle.swd_target.specs.Marks.{is_legal, IsPlan};
 use std::alloc::{Allocator, Global};
 use swd_port::{Count, Mark};
 
-/// The marks of a simulated wire's requests, in their order. After the last one nothing happens to a
-/// request.
+/// The marks of a simulated wire's requests, in order. After the last mark every request is `Clean`.
 #[derive(Debug, Drop)]
 pub struct Plan<A: Allocator = Global> {
     marks: Vec<Mark, A>,
     next: usize,
-    // Requests so far, and how many of them were disturbed and lost, for contracts alone.
+    // The counts of requests, of disturbed and of lost ones, for contracts alone.
     asked: Count,
     disturbed: Count,
     lost: Count,
@@ -26,7 +25,7 @@ pub struct Plan<A: Allocator = Global> {
 impl<A: Allocator> Plan<A> {
     ghost use Rattle.swd_target.specs.Plans.{marks_of, tally_of, mark_next};
 
-    /// A plan of which no mark was used yet.
+    /// Creates a plan of which no mark was used yet.
     pub fn new(marks: Vec<Mark, A>) -> Plan<A>
         requires { IsPlan marks.items }
         ensures marks { marks_of result ≡ marks.items }
@@ -43,14 +42,14 @@ impl<A: Allocator> Plan<A> {
         }
     }
 
-    /// Its marks, once they aren't used any more.
+    /// Consumes the plan, and returns all its marks.
     pub fn into_marks(self) -> Vec<Mark, A>
         ensures { result.items ≡ marks_of self }
     {
         self.marks
     }
 
-    /// The mark of the next request, which is used by this.
+    /// Uses the mark of the next request, and returns it.
     pub fn use_mark(&mut self) -> Mark
         ensures mark { result ≡ mark_next self.old }
         ensures legal { IsMark result }

@@ -1,5 +1,5 @@
-//! The parts of a simulated target, for whatever stands between it and a wire: the port machine
-//! behind the wire, the plan of what happens to its requests, and what a host sees under a mark.
+//! The parts of a simulated target, for whatever connects it to a wire: the target behind the wire, the plan of fault
+//! injections, and what a host sees under a mark.
 
 pub use crate::acknowledgement::seen_under;
 pub use crate::phase::{flip_bit, flip_under};

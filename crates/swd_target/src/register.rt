@@ -1,4 +1,4 @@
-//! The registers that a request reaches.
+//! The registers that a request names.
 ghost use Rattle.std.specs.Prelude.{◌≡◌, true, false};
 ghost use Rattle.swd_port.specs.Port.{register};
 ghost use Rattle.swd_port.specs.Answers.{is_exempt};
@@ -8,7 +8,7 @@ ghost use Rattle.swd_port.specs.Moving.{is_ap_write};
 use swd_bits::{Reg4, Request};
 use swd_port::{Register, Select};
 
-// What a request asks for under a SELECT.
+// Returns the register that a request names under a SELECT.
 pub(crate) fn register_named(select: Select, request: Request) -> Register
     ensures { result ≡ register select request }
 {
@@ -19,7 +19,7 @@ pub(crate) fn register_named(select: Select, request: Request) -> Register
     }
 }
 
-// DPBANKSEL chooses what stands at address 4, and nothing else.
+// Returns the debug port's register. DPBANKSEL decides the one at address 4 alone.
 fn debug_port_register(select: Select, request: Request) -> Register
     requires { request.ap ≡ false }
     ensures { result ≡ register select request }
@@ -49,7 +49,7 @@ fn debug_port_register(select: Select, request: Request) -> Register
     }
 }
 
-// Registers stand in bank 0 of access port 0 alone.
+// Returns the access port's register. Only bank 0 of access port 0 has registers.
 fn access_port_register(select: Select, request: Request) -> Register
     requires { request.ap ≡ true }
     ensures { result ≡ register select request }
@@ -73,7 +73,7 @@ fn access_port_register(select: Select, request: Request) -> Register
     }
 }
 
-// It is never answered WAIT or FAULT.
+// Returns whether the register's request is never answered WAIT or FAULT.
 pub(crate) fn is_exempt(register: Register) -> bool
     ensures { result ≡ is_exempt register }
 {
@@ -83,7 +83,7 @@ pub(crate) fn is_exempt(register: Register) -> bool
     )
 }
 
-// It returns the read buffer, and READOK tells of it.
+// Returns whether it is a read that returns the read buffer and that READOK is about.
 pub(crate) fn is_posted(register: Register) -> bool
     ensures { result ≡ is_posted register }
 {
@@ -97,7 +97,7 @@ pub(crate) fn is_posted(register: Register) -> bool
     )
 }
 
-// It is of an access port.
+// Returns whether it is a register of an access port.
 pub(crate) fn is_access_port(register: Register) -> bool
     ensures { result ≡ is_access_port register }
 {
@@ -114,7 +114,7 @@ pub(crate) fn is_access_port(register: Register) -> bool
     )
 }
 
-// After it the read buffer and the last returned value are unknown.
+// Returns whether it is a write of an access port. After it the read buffer and the last returned value are unknown.
 pub(crate) fn is_access_port_write(register: Register) -> bool
     ensures { result ≡ is_ap_write register }
 {

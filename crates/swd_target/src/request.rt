@@ -1,4 +1,4 @@
-//! A request at a simulated target, and the data of a write: the port that each bench stands on.
+//! A request at a simulated target, and the data of a write, as both benches use them.
 ghost use Rattle.std.specs.Prelude.{◌≡◌, ◌<◌, ◌^◌, false, true};
 ghost use Rattle.swd_bits.specs.Phases.{word_in};
 ghost use Rattle.swd_port.specs.Choices.{IsMark, is_deaf};
@@ -18,8 +18,9 @@ impl<A: Allocator> Target<A> {
     ghost use Rattle.swd_target.specs.Targets.{state_of, simulation, stand_in, phase_in};
     ghost use Rattle.swd_target.specs.Requests.{Answers, AnswersUnder, DataComes, Transfers};
 
-    /// A request where WAIT is asked for or not: the reply, and the data phase that follows an OK. Where WAIT is
-    /// asked for, a read of CTRL/STAT, which never gets it, finds power late that wasn't seen to be there before.
+    /// Performs a request, and returns the reply and the data phase that follows an OK. `waits` asks for WAIT. A read
+    /// of CTRL/STAT, which never gets WAIT, then finds power-up not acknowledged, unless it was read as acknowledged
+    /// before.
     #[inline(always)]
     pub fn request(&mut self, waits: bool, request: Request) -> (Reply, Line)
         ensures answers { Answers waits request self.old result.0 result.1 self.new }
@@ -36,7 +37,7 @@ impl<A: Allocator> Target<A> {
         (reply, phase)
     }
 
-    // What an OK accepted takes effect as the quirks say.
+    // Lets a transfer that an OK accepted take effect as the quirks say.
     fn accept_after(&mut self, reply: Reply)
         ensures effect { Transfers (state_of self.old) (state_of self.new) }
         ensures exact { simulation self.new ≡ accepted_after reply (simulation self.old) }
@@ -47,7 +48,7 @@ impl<A: Allocator> Target<A> {
         }
     }
 
-    // The data phase that follows a reply.
+    // Returns the data phase that follows a reply.
     fn phase(&self, waits: bool, reply: Reply, register: Register, read: bool) -> Line
         ensures phase { result ≡ phase_in waits reply read register (stand_in register self.now) (state_of self.now) }
         ensures exact { result ≡ phase_in waits reply read register self.now.quirks.filler (simulation self.now).state }
@@ -61,7 +62,7 @@ impl<A: Allocator> Target<A> {
         }
     }
 
-    // A request under a mark: the reply, and the data phase that follows an OK, as it arrives.
+    // Performs a request under a mark, and returns the reply and the data phase that follows an OK, as it arrives.
     #[inline(always)]
     pub(crate) fn request_under(&mut self, mark: Mark, request: Request) -> (Reply, Line)
         requires { IsMark mark }
@@ -76,7 +77,7 @@ impl<A: Allocator> Target<A> {
         }
     }
 
-    // The same under a mark at which the target hears the request.
+    // Performs a request under a mark at which the target sees it.
     #[inline(always)]
     fn request_heard(&mut self, mark: Mark, request: Request) -> (Reply, Line)
         requires mark { IsMark mark }
@@ -89,7 +90,7 @@ impl<A: Allocator> Target<A> {
         (reply, flip_line(flip_under(mark), phase))
     }
 
-    // Apart: nearly every mark is `Clean`, and where that is known the compiler leaves out what the others need.
+    // Out of line: nearly every mark is `Clean`, and for `Clean` the compiler drops what the other marks need.
     #[inline(never)]
     fn request_disturbed(&mut self, mark: Mark, request: Request) -> (Reply, Line)
         requires mark { IsMark mark }
@@ -101,7 +102,8 @@ impl<A: Allocator> Target<A> {
         self.request_heard(mark, request)
     }
 
-    /// The 33 bits of a write reach the target, and their parity says whether it is done.
+    /// Takes the 33 bits of a write, the first in time least significant. With right parity the write is done;
+    /// otherwise WDATAERR is set.
     pub fn arrive(&mut self, register: Register, bits: u64)
         requires { bits < 2 ^ 33 }
         ensures comes { DataComes (arrival_of register (word_in bits)) self.old self.new }
@@ -118,8 +120,7 @@ impl<A: Allocator> Target<A> {
         }
     }
 
-    // The 33 bits of a write as they are sent: they reach a target that awaits them, one place
-    // changed where that is so.
+    // Sends the 33 bits of a write to a target that awaits them, with the awaited bit changed, if any.
     pub(crate) fn arrive_on(&mut self, line: Line, bits: u64)
         requires range { bits < 2 ^ 33 }
         requires flip { flip_place (awaited_flip line) < 33 }

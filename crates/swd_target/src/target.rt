@@ -23,12 +23,11 @@ use swd_port::{
     Abort, Access, Answer, Csw, CtrlStat, Drw, PowerUp, Register, Reply, Reset, Select,
 };
 
-// What DPIDR gives.
+// The word that DPIDR reads.
 const IDENTIFICATION: u32 = 0x2ba0_1477;
 
-/// A debug port and its access port, behind whatever stands at the wire. The choices that the
-/// standard leaves to a target are its quirks, and the word that a register keeps where the port
-/// machine calls it unknown.
+/// A debug port and its access port, behind any wire. Its quirks make the choices that the standard leaves to a target.
+/// A register that the port model has unknown keeps a word.
 #[derive(Debug, Drop)]
 pub struct Target<A: Allocator = Global> {
     pub(crate) quirks: Quirks,
@@ -55,8 +54,7 @@ impl<A: Allocator> Target<A> {
     ghost use Rattle.swd_target.specs.Requests.{Transfers};
     ghost use Rattle.swd_target.specs.Elsewhere.{IsReady, Stays};
 
-    /// A target that had no line reset yet, with this memory behind its access port. DPIDR gives
-    /// 2ba01477.
+    /// Creates a target before its first line reset, with this memory behind its access port. DPIDR reads 2ba01477.
     pub fn new(memory: Memory<A>, quirks: Quirks) -> Target<A>
         ensures state { state_of result ≡ made_target 0x2ba0_1477 memory }
         ensures exact { simulation result ≡ made_with quirks memory }
@@ -85,22 +83,21 @@ impl<A: Allocator> Target<A> {
         }
     }
 
-    /// The memory behind the access port.
+    /// Returns the memory behind the access port.
     pub fn memory(&self) -> &Memory<A>
         ensures { result.now ≡ (state_of self.now).memory }
     {
         &self.memory
     }
 
-    /// The same, once nothing else of the target is wanted.
+    /// Consumes the target, and returns the memory behind the access port.
     pub fn into_memory(self) -> Memory<A>
         ensures { result ≡ (state_of self).memory }
     {
         self.memory
     }
 
-    /// The DRW transfer that was accepted and has not taken effect yet takes effect, where there is
-    /// one.
+    /// Completes the pending DRW transfer, if any.
     #[inline(always)]
     pub fn complete(&mut self)
         ensures { Steps completion_of self.old self.new }
@@ -137,7 +134,7 @@ impl<A: Allocator> Target<A> {
         }
     }
 
-    // TAR after a transfer that succeeded.
+    // Increments TAR after a transfer that succeeded.
     fn step_address(&mut self)
         ensures { Steps incremented self.old self.new }
     {
@@ -146,7 +143,7 @@ impl<A: Allocator> Target<A> {
         }
     }
 
-    // The answer to a request where no WAIT is asked for.
+    // Returns the answer to a request for which no WAIT is asked.
     fn answer(&self, register: Register, ap: bool) -> Reply
         ensures { result ≡ answer_at register ap (state_of self.now) }
     {
@@ -161,7 +158,7 @@ impl<A: Allocator> Target<A> {
         }
     }
 
-    // There is debug power.
+    // Returns whether debug power is on.
     fn has_power(&self) -> bool
         ensures { result ≡ has_power (state_of self.now) }
     {
@@ -178,7 +175,7 @@ impl<A: Allocator> Target<A> {
         }
     }
 
-    // The reply to a request where WAIT is asked for or not, as things stand.
+    // Returns the reply to a request in the current state; `waits` asks for WAIT.
     fn reply_now(&self, waits: bool, register: Register, ap: bool) -> Reply
         ensures { result ≡ reply_when waits register (answer_at register ap (state_of self.now)) }
     {
@@ -189,7 +186,7 @@ impl<A: Allocator> Target<A> {
         }
     }
 
-    // The reply to a request where WAIT is asked for or not.
+    // Settles the pending transfer if necessary, and returns the reply to a request; `waits` asks for WAIT.
     #[inline(always)]
     pub(crate) fn reply(&mut self, waits: bool, register: Register, ap: bool) -> Reply
         ensures reply { result ≡ reply_when waits register (answer_at register ap (state_of self.new)) }
@@ -200,14 +197,14 @@ impl<A: Allocator> Target<A> {
         ensures untouched { IsReady self.old.memory self.old → self.new.memory.log ≡ self.old.memory.log
             → Stays self.old self.new }
     {
-        // Mostly nothing is pending, and to find out whether it has to settle costs as much as the reply.
+        // Usually no transfer is pending, and testing whether it has to settle costs as much as the reply.
         if self.pending.is_some() {
             self.settle(waits, register, ap);
         }
         self.reply_now(waits, register, ap)
     }
 
-    // The pending transfer takes effect, where it has to before the reply.
+    // Completes the pending transfer if it has to take effect before the reply.
     fn settle(&mut self, waits: bool, register: Register, ap: bool)
         ensures settles { Transfers (state_of self.old) (state_of self.new) }
         ensures settled { IsSettled (reply_when waits register (answer_at register ap (state_of self.new)))
@@ -222,7 +219,7 @@ impl<A: Allocator> Target<A> {
         }
     }
 
-    // What a reply changes at the target, where WAIT was asked for or not.
+    // Applies the effects of a reply to the target; `waits`: WAIT was asked for.
     pub(crate) fn apply(&mut self, waits: bool, reply: Reply, register: Register, ap: bool)
         ensures { Steps (λ c. target_after waits reply register ap) self.old self.new }
     {
@@ -239,7 +236,7 @@ impl<A: Allocator> Target<A> {
         }
     }
 
-    // READOK tells that an AP read or RDBUFF read was not answered OK.
+    // Clears READOK where an AP read or RDBUFF read wasn't answered OK.
     fn refuse_read(&mut self, register: Register)
         ensures { Steps (λ c. after_wait register) self.old self.new }
     {
@@ -267,8 +264,8 @@ impl<A: Allocator> Target<A> {
         }
     }
 
-    // What an OK tells of the power: where WAIT was asked for, CTRL/STAT finds it late, unless it was seen before. An
-    // access port that answers has it.
+    // Returns the state of power-up after an OK. Where WAIT was asked for, CTRL/STAT finds it not acknowledged, unless
+    // it was seen before. An access port that answers has power.
     fn power_up_after(&self, waits: bool, register: Register) -> PowerUp
         ensures { result ≡ power_up_after waits register self.now.power_up }
     {
@@ -281,7 +278,7 @@ impl<A: Allocator> Target<A> {
         }
     }
 
-    // The word that a read returns, where WAIT is asked for or not.
+    // Returns the word that a read returns; `waits` asks for WAIT.
     pub(crate) fn value(&self, waits: bool, register: Register) -> u32
         ensures value { result ≡ value_in waits register (stand_in register self.now) (state_of self.now) }
         ensures exact { result ≡ value_in waits register self.now.quirks.filler (simulation self.now).state }
@@ -295,7 +292,7 @@ impl<A: Allocator> Target<A> {
         }
     }
 
-    // CTRL/STAT as it is read, where WAIT is asked for or not.
+    // Returns CTRL/STAT as it is read; `waits` asks for WAIT.
     fn status(&self, waits: bool) -> u32
         ensures { result ≡ status_in waits (state_of self.now) }
     {
@@ -310,7 +307,7 @@ impl<A: Allocator> Target<A> {
             + u32::from(self.system_power && there) * CtrlStat::CSYSPWRUPACK.bits()
     }
 
-    // CSW as it is read: words alone, the device enabled, no transfer in progress.
+    // Returns CSW as it is read: word size alone, the device enabled, no transfer in progress.
     fn csw(&self) -> u32
         ensures { result ≡ csw_read self.now.increments self.now.csw_upper }
     {
@@ -324,7 +321,7 @@ impl<A: Allocator> Target<A> {
         csw.bits()
     }
 
-    // A write whose data arrived.
+    // Performs a write whose data arrived with right parity.
     pub(crate) fn write(&mut self, register: Register, word: u32)
         ensures { Steps (λ c. after_bits (Arrives register word)) self.old self.new }
     {
@@ -346,7 +343,7 @@ impl<A: Allocator> Target<A> {
         }
     }
 
-    // After an AP write the read buffer and the last returned value are unknown.
+    // Makes the read buffer and the last returned value unknown, as an AP write does.
     fn forget_values(&mut self)
         ensures { Steps (λ c s. record s { buffer = None; last_returned = None }) self.old self.new }
     {
@@ -355,7 +352,7 @@ impl<A: Allocator> Target<A> {
         self.last_returned = unknown;
     }
 
-    // A write of ABORT.
+    // Performs a write of ABORT.
     fn clear_flags(&mut self, word: u32)
         ensures { Steps (λ c. flags_cleared word) self.old self.new }
     {
@@ -364,7 +361,7 @@ impl<A: Allocator> Target<A> {
         self.write_error &= !abort.contains(Abort::WDERRCLR);
     }
 
-    // A write of CTRL/STAT.
+    // Performs a write of CTRL/STAT.
     fn set_power(&mut self, word: u32)
         ensures { Steps (λ c. power_set word) self.old self.new }
     {
@@ -374,15 +371,15 @@ impl<A: Allocator> Target<A> {
         self.power_up = PowerUp::Unseen;
     }
 
-    // A write whose data arrived with wrong parity isn't done.
+    // Sets WDATAERR for a write whose data arrived with wrong parity, which isn't done.
     pub(crate) fn refuse_write(&mut self)
         ensures { Steps (λ c. after_bits Damaged) self.old self.new }
     {
         self.write_error = true;
     }
 
-    /// A line reset, which changes no register. Write data that was awaited is taken from its ones,
-    /// whose parity is wrong.
+    /// Performs a line reset, which changes no register but WDATAERR: write data that was awaited (`awaiting`) is taken
+    /// from its ones, whose parity is wrong.
     pub fn line_reset(&mut self, awaiting: bool)
         ensures { Steps (λ c. line_reset awaiting) self.old self.new }
     {
@@ -393,15 +390,15 @@ impl<A: Allocator> Target<A> {
     }
 }
 
-// What this target does where the port machine leaves a choice. An unknown value reads as the
-// filler. TAR keeps its address at a bus error. A transfer takes effect once it is accepted or as
-// late as is allowed, and TAR wraps or carries on at the end of a kilobyte, as the quirks say. WAIT
-// is answered at a mark for it and nowhere else, and not over a bus error.
+// The choices that the port model leaves to a target. An unknown value reads as the filler. At a bus error TAR keeps
+// its address. The quirks say whether a transfer takes effect once it is accepted or as late as allowed, and whether
+// TAR wraps or carries at the end of a kilobyte. WAIT is answered only where a mark asks for it, and not over a bus
+// error.
 impl<A: Allocator> Target<A> {
     ghost use Rattle.swd_target.specs.Targets.{state_of, simulation, Steps, settles_first};
     ghost use Rattle.swd_target.specs.Requests.{Transfers};
 
-    // A register whose value is unknown.
+    // Returns the content of a register whose value is unknown.
     fn unknown(&self) -> Content
         ensures word { result.word ≡ self.now.quirks.filler }
         ensures unknown { known_word result ≡ None }
@@ -409,7 +406,7 @@ impl<A: Allocator> Target<A> {
         Content::unknown(self.quirks.filler)
     }
 
-    // TAR keeps its word, but counts as unknown.
+    // Sets STICKYERR. TAR keeps its word, but counts as unknown.
     fn bus_error(&mut self)
         ensures { Steps (λ c s. record s { sticky_error = true; tar = None; buffer = None }) self.old self.new }
     {
@@ -418,7 +415,7 @@ impl<A: Allocator> Target<A> {
         self.buffer = self.unknown();
     }
 
-    // A transfer was accepted: it takes effect now, unless it does so as late as is allowed.
+    // Completes a transfer that was just accepted, unless transfers take effect late.
     #[inline(always)]
     pub(crate) fn accept(&mut self)
         ensures effect { Transfers (state_of self.old) (state_of self.new) }
@@ -430,7 +427,7 @@ impl<A: Allocator> Target<A> {
         }
     }
 
-    // The pending transfer would be a bus error.
+    // Returns whether the pending transfer would be a bus error.
     fn is_failing(&self) -> bool
         ensures { result ≡ fails self.now.pending self.now.tar.word self.now.memory }
     {
@@ -440,8 +437,8 @@ impl<A: Allocator> Target<A> {
         }
     }
 
-    // The pending transfer has to take effect before the reply: that is OK or FAULT, to a request
-    // that may get WAIT. WAIT comes in place of an OK alone, and so not over a bus error.
+    // Returns whether the pending transfer has to take effect before the reply: before OK or FAULT to a request that
+    // may get WAIT. WAIT replaces only OK, and so not the FAULT of a bus error.
     fn settles_before(&self, waits: bool, register: Register, ap: bool) -> bool
         ensures { result ≡ settles_first waits register ap self.now }
     {
@@ -456,7 +453,7 @@ impl<A: Allocator> Target<A> {
     }
 }
 
-// The address after one that was incremented.
+// Returns the incremented address.
 fn next(wraps: bool, addr: u32) -> u32
     ensures { result ≡ next_address wraps addr }
 {

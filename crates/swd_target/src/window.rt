@@ -1,4 +1,4 @@
-//! One word of a memory that stands elsewhere.
+//! One word of a memory elsewhere.
 ghost use Rattle.std.specs.Prelude.{◌≡◌};
 ghost use Rattle.std.specs.FinMap.{get};
 ghost use Rattle.swd_port.specs.PlainMemory.{succeeds_at, plain_answer, plain_after};
@@ -7,8 +7,8 @@ ghost use Rattle.swd_target.specs.MemoryWords.{window};
 use std::marker::Model;
 use swd_port::{Access, Answer, Transfer};
 
-/// The word at one address, or none, and the one transfer that took place there, or none yet.
-/// Contracts see it as a `PlainMemory`.
+/// The word at one address, if any, and the one transfer that succeeded there, if any. Contracts see it as a
+/// `PlainMemory`.
 #[derive(Debug, Drop)]
 pub(crate) struct Window {
     addr: u32,

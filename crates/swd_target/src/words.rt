@@ -1,4 +1,4 @@
-//! Words that a memory has itself, and its log.
+//! The words that a memory holds itself, and its log.
 ghost use Rattle.std.specs.Prelude.{◌≡◌, ◌≢◌, ◌↔◌, ◌+◌, ◌*◌, ◌<◌, ◌≤◌, ◌%◌, ◌^◌, ℕ, MatchOption};
 ghost use Rattle.std.specs.Prelude.{IfOk, IsErrOf};
 ghost use Rattle.std.specs.FinMap.{get};
@@ -10,8 +10,8 @@ use std::alloc::Allocator;
 use std::marker::Model;
 use swd_port::{Access, Answer, Transfer};
 
-/// Words at addresses, and a log of the transfers that took place, the oldest first. Contracts see
-/// both as a `PlainMemory`.
+/// Words at addresses, and a log of the transfers that succeeded, the oldest first. Contracts see both as a
+/// `PlainMemory`.
 #[derive(Debug, Drop)]
 pub(crate) struct Words<A: Allocator> {
     base: u32,
@@ -44,7 +44,7 @@ impl<A: Allocator> Model for Words<A> {
     } };
 }
 
-// The place of the word at an address, where there is one.
+// Returns the index of the word at a byte address, or `None` if there is no word.
 fn place(base: u32, words: usize, addr: u32) -> Option<usize>
     requires { base + 4 * words ≤ 2 ^ 32 }
     ensures { MatchOption result
@@ -63,8 +63,8 @@ fn place(base: u32, words: usize, addr: u32) -> Option<usize>
 }
 
 impl<A: Allocator + Copy> Words<A> {
-    /// Makes a memory of `words` zero words from the address `base`, with an empty log that has
-    /// room for `room` transfers. All that it ever needs is taken here.
+    /// Creates a memory of `words` zero words from byte address `base`, with an empty log for up to `room` transfers.
+    /// It allocates here and never again.
     pub(crate) fn new(alloc: A, base: u32, words: u32, room: u32) -> Result<Words<A>, MakeFault>
         ensures made { IfOk result (λ memory. memory ≡ zero_memory base words room) }
         ensures base { IsErrOf result MakeFault.Base ↔ (base % 4 ≢ 0) }
@@ -96,8 +96,7 @@ impl<A: Allocator + Copy> Words<A> {
 }
 
 impl<A: Allocator> Words<A> {
-    /// The word at an address, in bytes. `None` where there is none, as at an address that isn't a
-    /// multiple of 4. It is no transfer.
+    /// Returns the word at a byte address, or `None` if the memory has no word there. It logs no transfer.
     pub(crate) fn word(&self, addr: u32) -> Option<u32>
         ensures { result ≡ get self.now.words addr }
     {
@@ -107,14 +106,14 @@ impl<A: Allocator> Words<A> {
         }
     }
 
-    /// The transfers that took place, the oldest first.
+    /// Returns the transfers that succeeded, the oldest first.
     pub(crate) fn log(&self) -> &[Transfer]
         ensures { result.now ≡ self.now.log }
     {
         &self.log
     }
 
-    // A transfer at this address would succeed.
+    // Returns whether a transfer at this address would succeed.
     pub(crate) fn is_ready(&self, addr: u32) -> bool
         ensures { result ≡ succeeds_at addr self.now }
     {
@@ -124,7 +123,7 @@ impl<A: Allocator> Words<A> {
         }
     }
 
-    // One transfer, as the access port makes it.
+    // Performs one transfer, as the access port does.
     #[inline(always)]
     pub(crate) fn transfer(&mut self, access: Access) -> Answer
         ensures answer { result ≡ plain_answer access self.old }

@@ -10,7 +10,7 @@ use Rattle.swd_port.specs.Asking.{Asks, has_power}
 use Rattle.swd_port.specs.Moving.{Takes, Gives}
 use Rattle.swd_port.specs.Transfers.{Aimed, Succeeded}
 
--- a target that is ready for transfers: live and powered, SELECT is 0, CSW increments, and WDATAERR is clear
+-- a target that is ready for transfers: live and powered, SELECT is 0, AddrInc is single, and WDATAERR is clear
 pub record Ready (x : Target) : Type 0 where
   pub live : x.reset ≡ Live
   pub power : has_power x ≡ true
@@ -18,19 +18,19 @@ pub record Ready (x : Target) : Type 0 where
   pub increments : x.increments ≡ true
   pub write_error : x.write_error ≡ false
 
--- no place of this request's data phase was changed
+-- the request wasn't disturbed
 abbrev pub IsUndisturbed : Port → Port → Type 0
 IsUndisturbed s t = t.tally.disturbed ≡ s.tally.disturbed
 
--- the requests of a word's write, undisturbed, each answered OK: the write was done, and once
+-- the requests of a word's write, each answered OK, with DRW's undisturbed: the write was done once
 abbrev pub WordWritten : Type 0
 WordWritten = (at word sent bits : ℕ) (m : PlainMemory) (s asked given confirmed t : Port) → Ready s.target →
     Aimed at m s.target → word < 2 ^ 32 → sent < 2 ^ 33 → IsPhaseOf word sent → Asks s (request_of DrwWrite) 1 asked →
     IsUndisturbed s asked → Gives asked sent given → Asks given (request_of RdbuffRead) 1 confirmed →
     Takes confirmed bits t → Succeeded (Write at word) m t.target
 
--- The requests of a word's read, the confirming one undisturbed, each answered OK: the read was done, and once, and its
--- word is what RDBUFF gives.
+-- The requests of a word's read, each answered OK, with the confirming one undisturbed: the read was done once, and
+-- RDBUFF returns its word.
 abbrev pub WordRead : Type 0
 WordRead = (at first_bits bits : ℕ) (m : PlainMemory) (s asked taken confirmed t : Port) → Ready s.target →
     Aimed at m s.target → bits < 2 ^ 33 → Asks s (request_of DrwRead) 1 asked → Takes asked first_bits taken →

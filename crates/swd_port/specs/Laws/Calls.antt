@@ -1,4 +1,4 @@
--- Laws of every call, whatever the state, the request and its mark: what is due after it, and the numbers of requests.
+-- Laws of every call, in any state and under any mark: what is due after it, and the counts of requests.
 use Rattle.std.specs.Prelude.{ℕ, ◌≡◌, ◌≢◌, ◌<◌, ◌≤◌, ◌+◌, ◌↔◌, Bool, false}
 use Rattle.swd_bits.specs.declared.request.Request.{Request}
 use Rattle.swd_bits.specs.declared.ack.Ack.{Ack}
@@ -12,20 +12,21 @@ use Rattle.swd_port.specs.Asking.{Asks}
 use Rattle.swd_port.specs.Stories.{IsStep, due_once, is_ask}
 use Rattle.swd_port.specs.Outcomes.{IsNoAcknowledgement}
 
--- what is due after a call follows from what was done and seen
+-- what is due after a call follows from the cue and what was seen
 abbrev pub DueAfterStep : Type 0
 DueAfterStep = (cue : Cue) (seen : ℕ) (s t : Port) → IsStep cue seen s t → t.link.due ≡ due_once cue seen
 
--- the three bits that were seen are an acknowledgement exactly where their number is its number, 1, 2 or 4
+-- the three bits that were seen are an acknowledgement exactly if their number is its number, 1, 2 or 4
 abbrev pub AcknowledgementSeen : Type 0
 AcknowledgementSeen = (seen : ℕ) (a : Ack) → seen < 8 → (ack a ≡ low_bits 3 seen) ↔ (seen ≡ number (ack a))
 
--- and none where it is no such number; a protocol error is due then
+-- with any other number they aren't an acknowledgement, and only a line reset may follow
 abbrev pub NoAcknowledgementSeen : Type 0
 NoAcknowledgementSeen = (seen : ℕ) (read : Bool) → seen < 8 → ((a : Ack) → ack a ≢ low_bits 3 seen) →
     IsNoAcknowledgement seen × (due_after read seen ≡ Lost)
 
--- a request is counted, at most one disturbed and at most one lost, and what is written by hosts alone stays
+-- a request adds one to the count of requests, and at most one to those of disturbed and of lost ones; what only hosts
+-- write is unchanged
 pub record Asked (s t : Port) : Type 0 where
   pub asked : t.tally.asked ≡ s.tally.asked + 1
   pub disturbed_least : s.tally.disturbed ≤ t.tally.disturbed
@@ -44,21 +45,21 @@ pub record Asked (s t : Port) : Type 0 where
 abbrev pub RequestCounted : Type 0
 RequestCounted = (q : Request) (seen : ℕ) (s t : Port) → Asks s q seen t → Asked s t
 
--- no other call counts
+-- no other call changes the counts
 abbrev pub OthersUncounted : Type 0
 OthersUncounted = (cue : Cue) (seen : ℕ) (s t : Port) → is_ask cue ≡ false → IsStep cue seen s t → t.tally ≡ s.tally
 
--- and none changes what DPIDR gives
+-- no call changes what DPIDR returns
 abbrev pub IdentificationKept : Type 0
 IdentificationKept = (cue : Cue) (seen : ℕ) (s t : Port) → IsStep cue seen s t
     → t.target.identification ≡ s.target.identification
 
--- a state with another number of requests
+-- a state with another count of requests
 abbrev pub with_asked : ℕ → Port → Port
 with_asked n s = record s { tally = record s.tally { asked = n } }
 
--- The steps don't depend on that number: with one of its own, which each request raises by one, every call is a
--- step again. So an end that hands calls on keeps the law with a count that is its own.
+-- The steps don't depend on that count: with another count, which each request raises by one, every call is a step
+-- again. So a wire that forwards calls conforms to the model with a count of its own.
 abbrev pub CountedApart : Type 0
 CountedApart = (n : ℕ) (cue : Cue) (seen : ℕ) (s t : Port) → IsStep cue seen s t
     → IsStep cue seen (with_asked n s) (with_asked (n + bit (is_ask cue)) t)

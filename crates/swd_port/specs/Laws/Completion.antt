@@ -5,15 +5,15 @@ use Rattle.swd_port.specs.PlainMemory.{PlainMemory}
 use Rattle.swd_port.specs.Completion.{Completes, MayBecome}
 use Rattle.swd_port.specs.Moves.{Kept}
 
--- it may not have come yet
+-- it may not have occurred yet
 abbrev pub CompletionNotYet : Type 0
 CompletionNotYet = (s : Port) → Completes s s
 
--- where nothing is pending it does nothing
+-- without a pending transfer it does nothing
 abbrev pub CompletionOfNone : Type 0
 CompletionOfNone = (s t : Port) → s.target.pending ≡ None → Completes s t → t ≡ s
 
--- two are one
+-- two completions are one
 abbrev pub CompletionTwice : Type 0
 CompletionTwice = (s t u : Port) → Completes s t → Completes t u → Completes s u
 
@@ -25,12 +25,12 @@ CompletionKeeps = (s t : Port) → Completes s t → Kept s t
 abbrev pub MayBecomeStays : Type 0
 MayBecomeStays = (m : PlainMemory) (s t : Port) → Completes s t → MayBecome t m → MayBecome s m
 
--- and so it is in every state with the same pending transfer, TAR and memory
+-- and the same between any two states with the same pending transfer, TAR and memory
 abbrev pub MayBecomeCarried : Type 0
 MayBecomeCarried = (m : PlainMemory) (s t : Port) → t.target.pending ≡ s.target.pending →
     t.target.tar ≡ s.target.tar → t.target.memory ≡ s.target.memory → MayBecome t m → MayBecome s m
 
--- where nothing is pending, it may become what it is, and nothing else
+-- without a pending transfer the memory may become only what it is
 pub record MayBecomeOfNone : Type 0 where
   pub same : (s : Port) → s.target.pending ≡ None → MayBecome s s.target.memory
   pub only : (m : PlainMemory) (s : Port) → s.target.pending ≡ None → MayBecome s m → m ≡ s.target.memory

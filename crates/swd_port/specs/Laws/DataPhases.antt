@@ -7,13 +7,13 @@ use Rattle.swd_port.specs.Completion.{Completes}
 use Rattle.swd_port.specs.Moving.{Takes, Gives, Passes}
 use Rattle.swd_port.specs.Moves.{Around, Passed, Got, Given}
 
--- what is taken is the value's phase, one place of it changed where the request was so disturbed
+-- the bits taken are the value's phase, with one bit changed where the request was disturbed so
 abbrev pub DataTaken : Type 0
 DataTaken = (flip : Option ℕ) (value bits : ℕ) (s t : Port) →
     s.link.line ≡ Drives (flipped flip (phase_number value)) → value < 2 ^ 32 → bits < 2 ^ 33 → Takes s bits t →
     Got flip value bits
 
--- taking it moves nothing, a completion aside
+-- taking it changes nothing, apart from a completion
 abbrev pub TakeMovesNothing : Type 0
 TakeMovesNothing = (bits : ℕ) (s t : Port) → Takes s bits t →
     (a : Port) × Completes s a × Passed a t × (t.link.line ≡ Idle)
@@ -22,12 +22,12 @@ abbrev pub TakeMovesNothingAtRest : Type 0
 TakeMovesNothingAtRest = (bits : ℕ) (s t : Port) → s.target.pending ≡ None → Takes s bits t →
     Passed s t × (t.link.line ≡ Idle)
 
--- what is given is done with its word, or, where a place was changed, not done, and WDATAERR is set
+-- a write is done with its word, or, if a bit was changed, not done, and WDATAERR is set
 abbrev pub DataGiven : Type 0
 DataGiven = (r : Register) (flip : Option ℕ) (word sent : ℕ) (s t : Port) → s.link.line ≡ Awaits r flip →
     word < 2 ^ 32 → sent < 2 ^ 33 → IsPhaseOf word sent → Gives s sent t → Around (Given r flip word) s t
 
--- with nothing pending there is no completion before, and one after only where a DRW write is pending then
+-- the same without a pending transfer: a completion can only occur after it
 abbrev pub DataGivenAtRest : Type 0
 DataGivenAtRest = (r : Register) (flip : Option ℕ) (word sent : ℕ) (s t : Port) → s.link.line ≡ Awaits r flip →
     word < 2 ^ 32 → sent < 2 ^ 33 → IsPhaseOf word sent → s.target.pending ≡ None → Gives s sent t →
@@ -38,7 +38,7 @@ DataGivenExact = (r : Register) (flip : Option ℕ) (word sent : ℕ) (s t : Por
     word < 2 ^ 32 → sent < 2 ^ 33 → IsPhaseOf word sent → s.target.pending ≡ None → r ≢ DrwWrite → Gives s sent t →
     Given r flip word s t
 
--- the turnaround after WAIT or FAULT moves nothing, a completion aside
+-- the turnaround after WAIT or FAULT changes nothing, apart from a completion
 abbrev pub TurnaroundPassed : Type 0
 TurnaroundPassed = (s t : Port) → Passes s t → (a : Port) × Completes s a × Passed a t × (t.link.line ≡ a.link.line)
 

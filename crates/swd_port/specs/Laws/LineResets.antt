@@ -6,11 +6,11 @@ use Rattle.swd_port.specs.Completion.{Completes}
 use Rattle.swd_port.specs.Leading.{Leads}
 use Rattle.swd_port.specs.Moves.{Passed, WasReset}
 
--- a line reset makes the target fresh and leaves nothing due, whatever was due
+-- a line reset makes the target fresh, and after it nothing is due, whatever was due
 abbrev pub LineReset : Type 0
 LineReset = (ones : ℕ) (s t : Port) → ones ≢ 0 → Leads s ones t → (a : Port) × Completes s a × WasReset a t
 
--- zeros alone change nothing
+-- zeros alone change nothing, apart from a completion
 abbrev pub IdleCycles : Type 0
 IdleCycles = (s t : Port) → Leads s 0 t → (a : Port) × Completes s a × Passed a t × (t.link.line ≡ a.link.line)
 

@@ -1,5 +1,5 @@
--- The port machine is never stuck: no state, request or mark is without a step, so that what is told of every step is
--- told of some.
+-- The port model is never stuck. Each call has a step from every state whose values are words, a request under every
+-- mark. So what is proved of all steps doesn't hold vacuously.
 use Rattle.std.specs.Prelude.{ℕ, ◌≡◌, ◌<◌, ◌^◌, IfSome, false}
 use Rattle.swd_bits.specs.declared.request.Request.{Request}
 use Rattle.swd_port.specs.declared.cue.Cue.{Cue}
@@ -10,18 +10,18 @@ use Rattle.swd_port.specs.Completion.{Completes}
 use Rattle.swd_port.specs.Asking.{AsksNow}
 use Rattle.swd_port.specs.Stories.{IsStep, is_ask}
 
--- each value that a read may give is a word of 32 bits
+-- each value that a read may return has 32 bits
 pub record IsOfWords (x : Target) : Type 0 where
   pub identification : x.identification < 2 ^ 32
   pub buffer : IfSome x.buffer (λ word. word < 2 ^ 32)
   pub last_returned : IfSome x.last_returned (λ word. word < 2 ^ 32)
   pub memory : (at : ℕ) → word_at at x.memory < 2 ^ 32
 
--- every request has a step under every mark, with some choice, before which the pending transfer took effect or not
+-- every request has a step under every mark, with some choice, after the pending transfer took effect or not
 abbrev pub EachRequestGoes : Type 0
 EachRequestGoes = (mark : Mark) (s : Port) (q : Request) → IsMark mark → IsOfWords s.target →
     (seen : ℕ) × (t : Port) × (a : Port) × (c : Choice) × Completes s a × AsksNow mark c a q seen t
 
--- and every other call has one
+-- every other call has a step
 abbrev pub EachCallGoes : Type 0
 EachCallGoes = (cue : Cue) (s : Port) → is_ask cue ≡ false → (seen : ℕ) × (t : Port) × IsStep cue seen s t

@@ -1,12 +1,12 @@
--- Laws of the registers' fields: what a word keeps on the way through them.
+-- Laws of the registers' fields: which bits of a word they keep.
 use Rattle.std.specs.Prelude.{ℕ, ◌≡◌}
 use Rattle.std.specs.Int.RustNames.{bit_and}
 use Rattle.swd_port.specs.Registers.{select_of, select_word, select_mask, csw_of, csw_word, csw_mask}
 
--- the bits that SELECT names, and no others
+-- SELECT's fields keep the bits that it names, and no others
 abbrev pub SelectKept : Type 0
 SelectKept = (word : ℕ) → select_word (select_of word) ≡ bit_and word select_mask
 
--- the bits that CSW names, and no others
+-- CSW's fields keep the bits that it names, and no others
 abbrev pub CswKept : Type 0
 CswKept = (word : ℕ) → csw_word (csw_of word) ≡ bit_and word csw_mask

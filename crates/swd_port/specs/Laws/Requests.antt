@@ -1,4 +1,4 @@
--- Laws of requests: what each leaves, by its register and the flags.
+-- Laws of requests: what each changes, by its register and the flags.
 use Rattle.std.specs.Prelude.{ℕ, ◌≡◌, ◌≢◌, ◌⊎◌, Bool, true, false, None}
 use Rattle.swd_bits.specs.declared.request.Request.{Request}
 use Rattle.swd_port.specs.declared.access.Access.{Access}
@@ -16,7 +16,7 @@ use Rattle.swd_port.specs.Transfers.{Sent, Succeeded, Failed}
 abbrev pub IsFlagged : Target → Type 0
 IsFlagged x = (x.sticky_error ≡ true) ⊎ (x.write_error ≡ true)
 
--- there is debug power, where a request is for an access port
+-- debug power is on, if a request is for an access port
 abbrev pub IsPowered : Bool → Target → Type 0
 IsPowered ap x = ap ≡ true → has_power x ≡ true
 
@@ -25,13 +25,13 @@ abbrev pub ExemptRequest : Type 0
 ExemptRequest = (r : Register) (q : Request) (seen : ℕ) (s t : Port) → register s.target.select q ≡ r →
     is_exempt r ≡ true → s.target.reset ≡ Live → Asks s q seen t → Around (OkayOrLost r q.read seen) s t
 
--- and with nothing pending there is no more to say
+-- the same without a pending transfer: exactly that
 abbrev pub ExemptRequestAtRest : Type 0
 ExemptRequestAtRest = (r : Register) (q : Request) (seen : ℕ) (s t : Port) → register s.target.select q ≡ r →
     is_exempt r ≡ true → s.target.reset ≡ Live → s.target.pending ≡ None → Asks s q seen t →
     OkayOrLost r q.read seen s t
 
--- a target that had a line reset answers a DPIDR read OK and is live then, unless it is lost
+-- a target that had a line reset answers a DPIDR read OK and is live after it, unless the request is lost
 abbrev pub IdentificationRead : Type 0
 IdentificationRead = (q : Request) (seen : ℕ) (s t : Port) → register s.target.select q ≡ DpidrRead →
     s.target.reset ≢ Unreset → Asks s q seen t → Around (OkayOrLost DpidrRead q.read seen) s t
@@ -51,39 +51,41 @@ FlaggedRequestAtRest = (r : Register) (q : Request) (seen : ℕ) (s t : Port) �
     is_exempt r ≡ false → s.target.reset ≡ Live → s.target.pending ≡ None → IsFlagged s.target → Asks s q seen t →
     FaultOrLost r q.ap seen s t
 
--- so does one without debug power every access of an access port
+-- a live target without debug power and without a pending transfer answers every AP access FAULT, unless it is lost
 abbrev pub UnpoweredRequestAtRest : Type 0
 UnpoweredRequestAtRest = (r : Register) (q : Request) (seen : ℕ) (s t : Port) → register s.target.select q ≡ r →
     is_exempt r ≡ false → s.target.reset ≡ Live → s.target.pending ≡ None → q.ap ≡ true →
     has_power s.target ≡ false → Asks s q seen t → FaultOrLost r q.ap seen s t
 
--- OK or WAIT unless it is lost; but FAULT where STICKYERR is set when it is answered
+-- OK or WAIT, or FAULT if STICKYERR is set when the request is answered, unless it is lost
 abbrev pub FreeOrFault : Register → Request → ℕ → Port → Port → Type 0
 FreeOrFault r q seen s t =
     ((s.target.sticky_error ≡ false) × OkayWaitOrLost r q.read seen s t) ⊎
     ((s.target.sticky_error ≡ true) × FaultOrLost r q.ap seen s t)
 
--- a live target with WDATAERR clear, powered for this request, answers so; STICKYERR may come of the pending transfer
+-- A live target with WDATAERR clear that is powered for this request answers so. The pending transfer may set
+-- STICKYERR.
 abbrev pub FreeRequest : Type 0
 FreeRequest = (r : Register) (q : Request) (seen : ℕ) (s t : Port) → register s.target.select q ≡ r →
     is_exempt r ≡ false → s.target.reset ≡ Live → s.target.write_error ≡ false → IsPowered q.ap s.target →
     Asks s q seen t → Around (FreeOrFault r q seen) s t
 
--- with nothing pending and no flag set: OK, WAIT or lost; a completion may follow where a DRW read is pending then
+-- without a pending transfer or a flag: OK, WAIT or lost; a completion may follow
 abbrev pub FreeRequestAtRest : Type 0
 FreeRequestAtRest = (r : Register) (q : Request) (seen : ℕ) (s t : Port) → register s.target.select q ≡ r →
     is_exempt r ≡ false → s.target.reset ≡ Live → s.target.pending ≡ None → s.target.write_error ≡ false →
     s.target.sticky_error ≡ false → IsPowered q.ap s.target → Asks s q seen t →
     (b : Port) × OkayWaitOrLost r q.read seen s b × Completes b t
 
--- and for every other request there is no more to say
+-- the same for every request but a DRW read: exactly that
 abbrev pub FreeRequestExact : Type 0
 FreeRequestExact = (r : Register) (q : Request) (seen : ℕ) (s t : Port) → register s.target.select q ≡ r →
     is_exempt r ≡ false → r ≢ DrwRead → s.target.reset ≡ Live → s.target.pending ≡ None →
     s.target.write_error ≡ false → s.target.sticky_error ≡ false → IsPowered q.ap s.target → Asks s q seen t →
     OkayWaitOrLost r q.read seen s t
 
--- what stays in all cases: at an exempt request, at a free one but a DRW read, and at a refused one with power
+-- what is unchanged in all cases: at an exempt request, at a free one except a DRW read, and at a refused one with
+-- power
 abbrev pub UnmovedByExempt : Type 0
 UnmovedByExempt = (r : Register) (read : Bool) (seen : ℕ) (s t : Port) → is_exempt r ≡ true →
     OkayOrLost r read seen s t → Unmoved s.target t.target
@@ -96,12 +98,12 @@ abbrev pub UnmovedByRefused : Type 0
 UnmovedByRefused = (r : Register) (access : Bool) (seen : ℕ) (s t : Port) → IsPowered access s.target →
     FaultOrLost r access seen s t → Unmoved s.target t.target
 
--- a refused request moves no flag, but for an AP access without debug power
+-- a refused request doesn't change STICKYERR, unless it is an AP access without debug power
 abbrev pub RefusedWithPower : Type 0
 RefusedWithPower = (r : Register) (access : Bool) (s t : Port) → Refuses r access s t → IsPowered access s.target →
     t.target.sticky_error ≡ s.target.sticky_error
 
--- what a lost request leaves, whether it had its effect or not
+-- what a lost request keeps, whether it had its effect or not
 abbrev pub LeftByLost : Register → Target → Target → Type 0
 LeftByLost r x y = Steady x y × (y.sticky_error ≡ x.sticky_error) × ((y.pending ≡ x.pending) ⊎ (r ≡ DrwRead))
 
@@ -109,14 +111,14 @@ abbrev pub LostRequest : Type 0
 LostRequest = (r : Register) (read : Bool) (s t : Port) →
     Stays s t ⊎ Accepts r read None s t → LeftByLost r s.target t.target
 
--- a lost request had no effect, or that of the OK that tells of success, or that of the FAULT that tells of failure
+-- a lost request had no effect, or that of the OK that confirms success, or that of the FAULT that shows a bus error
 abbrev pub LostAfter : Access → PlainMemory → Register → Request → Port → Port → Type 0
 LostAfter access m r q s t =
     Stays s t ⊎
     ((Succeeded access m s.target × Accepts r q.read None s t) ⊎ (Failed access m s.target × Refuses r q.ap s t))
 
--- A request that isn't exempt, after a transfer was sent, at a live target with WDATAERR clear that is powered for it:
--- OK tells that the transfer was done, FAULT that it was a bus error, and WAIT nothing.
+-- The result of a request that isn't exempt, after a transfer was sent, at a live target with WDATAERR clear that is
+-- powered for it. OK confirms that the transfer was done, FAULT shows that it was a bus error, and WAIT shows neither.
 pub data Confirms (a : Access) (m : PlainMemory) (r : Register) (q : Request) (seen : ℕ) (s t : Port) : Type 0 where
   confirms_okay : Succeeded a m s.target → SeesOkay r q.read seen s t → Confirms a m r q seen s t
   confirms_wait : Sent a m s.target → SeesWait r seen s t → Confirms a m r q seen s t

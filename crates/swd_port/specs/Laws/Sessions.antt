@@ -1,5 +1,6 @@
--- Every session of a host has a story: whatever a host chooses to do next, and whatever befalls its requests, there are
--- replies and states of the port machine that fit. So what is said of every story that a session fits is said of some.
+-- Every session of a host is consistent with some states of the model. Whatever the host chooses to do next, and
+-- whatever marks its requests have, consistent replies and states exist. So what is proved for every consistent
+-- sequence of states doesn't hold vacuously.
 use Rattle.std.specs.Prelude.{ℕ, ◌≡◌, ◌<◌, ◌^◌, List, [], ◌∷◌, length, Option, Some, IfSome}
 use Rattle.swd_port.specs.declared.cue.Cue.{Cue}
 use Rattle.swd_port.specs.declared.call.Call.{Call}
@@ -16,19 +17,19 @@ abbrev pub word_pending : Option Drw → ℕ
 word_pending (Some (Writes word)) = word
 word_pending pending = 0
 
--- each value of the state that a read may come to give is a word of 32 bits, and the target drives 33 bits
+-- each value of the state that a read may ever return has 32 bits, and the target drives 33 bits
 pub record AreWords (s : Port) : Type 0 where
   pub reads : IsOfWords s.target
   pub tar : IfSome s.target.tar (λ word. word < 2 ^ 32)
   pub pending : word_pending s.target.pending < 2 ^ 32
   pub driven : bits_driven s.link.line < 2 ^ 33
 
--- so they are in a state before any call, over words
+-- a state before any call, over words, is such a state
 abbrev pub MadeOfWords : Type 0
 MadeOfWords = (identification : ℕ) (m : PlainMemory) → identification < 2 ^ 32
     → ((at : ℕ) → word_at at m < 2 ^ 32) → AreWords (made identification m)
 
--- From such a state each cue has a step, a request under every mark, to such a state again.
+-- From such a state each cue has a step to such a state again.
 abbrev pub EachStepGoesOn : Type 0
 EachStepGoesOn = (mark : Mark) (cue : Cue) (s : Port) → IsMark mark → AreWords s
     → (seen : ℕ) × (t : Port) × IsSeen cue seen × IsStep cue seen s t × AreWords t
@@ -38,7 +39,7 @@ abbrev pub AreChosen : (List Call → Cue) → List Call → Type 0
 AreChosen next [] = Unit {0}
 AreChosen next (call ∷ calls) = (call.cue ≡ next calls) × IsSeen call.cue call.seen × AreChosen next calls
 
--- a story that begins at a state, and so many calls that a host chose and that fit it
+-- a sequence of states from s on, and n calls that a host chose and that are consistent with it
 pub record Session (next : List Call → Cue) (s : Port) (n : ℕ) : Type 0 where
   pub story : ℕ → Port
   pub calls : List Call
@@ -47,7 +48,7 @@ pub record Session (next : List Call → Cue) (s : Port) (n : ℕ) : Type 0 wher
   pub chosen : AreChosen next calls
   pub fits : FitsStory story calls
 
--- The host may choose by all that it did and saw, and each request has its mark by the number of calls before it.
+-- Each host has such a session of any length. It may choose each cue by all that it did and saw before.
 abbrev pub EachSessionFits : Type 0
 EachSessionFits = (next : List Call → Cue) (marks : ℕ → Mark) (s : Port) (n : ℕ) → ((k : ℕ) → IsMark (marks k))
     → AreWords s → s.link.due ≡ Nothing → Session next s n

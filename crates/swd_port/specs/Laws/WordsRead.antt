@@ -11,7 +11,7 @@ use Rattle.swd_port.specs.Moves.{Passed, Gave, WasReset}
 use Rattle.swd_port.specs.Outcomes.{Stays, Defers, Accepts, Refuses}
 use Rattle.swd_port.specs.Transfers.{Carries}
 
--- a set of named bits holds all of these
+-- a word of CTRL/STAT has all of these bits set
 abbrev pub holds : ℕ → ℕ → Bool
 holds mask word = bit_and (bit_and word ctrl_stat_mask) mask == mask
 
@@ -35,7 +35,7 @@ StatusWord = (sticky_error read_ok write_error debug_power system_power there : 
     StatusReads sticky_error read_ok write_error debug_power system_power there
     (ctrl_stat_read sticky_error read_ok write_error debug_power system_power there)
 
--- the line has the phase of a value, which is a word
+-- the phase of a value is on the line, and the value has 32 bits
 pub record OnLine (value : ℕ) (flip : Option ℕ) (t : Port) : Type 0 where
   pub line : t.link.line ≡ Drives (flipped flip (phase_number value))
   pub range : value < 2 ^ 32
@@ -45,52 +45,52 @@ abbrev pub IdentificationReturned : Type 0
 IdentificationReturned = (flip : Option ℕ) (s t : Port) → Accepts DpidrRead true flip s t →
     OnLine s.target.identification flip t
 
--- the word of CTRL/STAT in a state tells its flags, and the powers, where they are there
+-- the word of CTRL/STAT in a state has its flags, and the powers where power-up is acknowledged
 abbrev pub StatusTells : Bool → Target → Type 0
 StatusTells busy x = StatusReads x.sticky_error x.read_ok x.write_error x.debug_power x.system_power
     (is_there (power_up_after busy CtrlStatRead x.power_up)) (status_in busy x)
 
--- CTRL/STAT returns the flags as they were when it was answered, and the powers as they are found then
+-- CTRL/STAT returns the flags and the power acknowledgements as they were when it was answered
 abbrev pub StatusReturned : Type 0
 StatusReturned = (flip : Option ℕ) (s t : Port) → (h : Accepts CtrlStatRead true flip s t) →
     OnLine (status_in h.busy s.target) flip t × StatusTells h.busy s.target
 
--- RDBUFF, and every AP read, returns the read buffer, and its value is the last returned
+-- RDBUFF, and every AP read, returns the read buffer, whose value becomes the last returned one
 abbrev pub BufferReturned : Type 0
 BufferReturned = (r : Register) (flip : Option ℕ) (value : ℕ) (s t : Port) → is_posted r ≡ true →
     s.target.buffer ≡ Some value → Accepts r true flip s t →
     OnLine value flip t × (t.target.last_returned ≡ Some value)
 
--- RESEND returns the last returned value, which stays that, so that it may be repeated
+-- RESEND returns the last returned value and keeps it, so that it may be repeated
 abbrev pub ValueResent : Type 0
 ValueResent = (flip : Option ℕ) (value : ℕ) (s t : Port) → s.target.last_returned ≡ Some value →
     Accepts ResendRead true flip s t → OnLine value flip t × (t.target.last_returned ≡ Some value)
 
--- an exempt request, and RESEND, leave a sent transfer and the last returned value as they were
+-- an exempt request, and RESEND, change neither a sent transfer nor the last returned value
 abbrev pub CarriedByRequest : Type 0
 CarriedByRequest = (r : Register) (read : Bool) (flip : Option ℕ) (s t : Port) →
     (is_exempt r ≡ true) ⊎ (r ≡ ResendRead) → Accepts r read flip s t →
     Carries s.target t.target × (t.target.last_returned ≡ s.target.last_returned)
 
--- a request that had no effect, and one that got WAIT, leave a sent transfer as it was
+-- a request that had no effect, and one that got WAIT, don't change a sent transfer
 abbrev pub CarriedWhereHeld : Type 0
 CarriedWhereHeld = (r : Register) (s t : Port) → Stays s t ⊎ Defers r s t → Carries s.target t.target
 
--- so does one that got FAULT, where it leaves STICKYERR
+-- nor does one that got FAULT, where STICKYERR is unchanged
 abbrev pub CarriedWhereRefused : Type 0
 CarriedWhereRefused = (r : Register) (ap : Bool) (s t : Port) → Refuses r ap s t →
     t.target.sticky_error ≡ s.target.sticky_error → Carries s.target t.target
 
--- so do a data phase that is taken and a turnaround
+-- nor does a data phase that is taken, or a turnaround
 abbrev pub CarriedWherePassed : Type 0
 CarriedWherePassed = (s t : Port) → Passed s t → Carries s.target t.target
 
--- and a line reset
+-- nor does a line reset
 abbrev pub CarriedByReset : Type 0
 CarriedByReset = (s t : Port) → WasReset s t → Carries s.target t.target
 
--- ABORT's bits 2 and 3 clear STICKYERR and WDATAERR; it leaves the last returned value, the buffer, TAR, the memory
--- and what is pending
+-- ABORT's bits 2 and 3 clear STICKYERR and WDATAERR; it doesn't change the last returned value, the read buffer, TAR,
+-- the memory or the pending transfer
 pub record Clears (word : ℕ) (x y : Target) : Type 0 where
   pub sticky_cleared : bit_of 2 word ≡ true → y.sticky_error ≡ false
   pub sticky_kept : bit_of 2 word ≡ false → y.sticky_error ≡ x.sticky_error

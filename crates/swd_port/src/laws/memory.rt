@@ -7,8 +7,8 @@ ghost use Rattle.swd_port.specs.Laws.Transfers.{BecomesCarried, BecomesIs, Becom
 ghost use Rattle.swd_port.specs.Laws.Transfers.{AimedCarried, AimedByTar, AimedByTransfer};
 ghost use Rattle.swd_port.specs.Laws.Accesses.{WordWritten, WordRead};
 
-/// Completion of the pending transfer: it may come or not, does nothing where nothing is pending,
-/// comes once, and keeps all that isn't the transfer's. What the memory may become is settled by the
+/// States what completion of the pending transfer does. It may occur or not, occurs once, and does nothing where no
+/// transfer is pending. It changes only what belongs to the transfer. What the memory may become depends on the
 /// transfer, TAR and the memory alone.
 pub fn completion()
     ensures not_yet { CompletionNotYet }
@@ -20,8 +20,8 @@ pub fn completion()
     ensures may_become_of_none { MayBecomeOfNone }
 {}
 
-/// The life of a transfer by DRW: how it begins, that it stays owed, done or failed, and how the
-/// host learns which.
+/// States the course of a DRW transfer: how it starts, that it stays pending, done or failed, and what the state shows
+/// of that.
 pub fn transfers()
     ensures read_begins { ReadBegins }
     ensures write_begins { WriteBegins }
@@ -40,9 +40,9 @@ pub fn transfers()
     ensures aimed_by_transfer { AimedByTransfer }
 {}
 
-/// A whole write and a whole read of a word, from the laws above alone: where the requests are
-/// answered OK and the one that carries the word isn't disturbed, the memory is that after the
-/// access, done once, and a read's word is the memory's.
+/// States what a whole write and a whole read of a word do, at a target ready for transfers with TAR set. If the
+/// requests are answered OK and the one that carries the word isn't disturbed, the memory is that after the access,
+/// done once. A read returns the memory's word. The proofs use the laws above alone.
 pub fn accesses()
     ensures written { WordWritten }
     ensures read { WordRead }

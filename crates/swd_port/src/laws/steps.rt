@@ -1,17 +1,19 @@
-//! The laws that no state of the port machine is stuck, and that every session of a host has a story.
+//! The laws that no state of the port model is stuck, and that the model allows some replies in every session of a
+//! host.
 ghost use Rattle.swd_port.specs.Laws.NeverStuck.{EachRequestGoes, EachCallGoes};
 ghost use Rattle.swd_port.specs.Laws.Sessions.{MadeOfWords, EachStepGoesOn, EachSessionFits};
 
-/// Every call has a step from every state of words, a request under every mark. So the law of `Wire`
-/// excludes no end of a wire for want of a step, and what is proved from it is not empty.
+/// States that every call has a step from every state whose values are words, a request under every mark. So what is
+/// proved of a `Wire` never holds just because the model has no step.
 pub fn never_stuck()
     ensures requests { EachRequestGoes }
     ensures others { EachCallGoes }
 {}
 
-/// Every session of a host has a story: from a state of words, such as each that is made over words, every cue has a
-/// step to a state of words again; so whatever a host chooses to do next, and whatever marks its requests meet, there
-/// are replies and a port machine that fit, for any number of calls. A run over an `Outside` is such a session.
+/// States that every session of a host is consistent with the model for some replies. Every cue has a step from a state
+/// whose values are words to another such state, and each state made over words is one. So replies and states of the
+/// model exist for whatever the host chooses to do next, under any marks and for any number of calls. A run over an
+/// `Outside` is such a session.
 pub fn sessions_fit()
     ensures made { MadeOfWords }
     ensures steps { EachStepGoesOn }

@@ -14,8 +14,8 @@ ghost use Rattle.swd_port.specs.Laws.DataPhases.{DataGiven, DataGivenAtRest, Dat
 ghost use Rattle.swd_port.specs.Laws.DataPhases.{TurnaroundPassed, TurnaroundPassedAtRest};
 ghost use Rattle.swd_port.specs.Laws.LineResets.{LineReset, IdleCycles, IdleCyclesAtRest, FirstLineReset};
 
-/// How requests are answered: WAIT comes at a Wait mark alone, and there wherever it may; what the
-/// host sees as an acknowledgement is the one that was driven.
+/// States how requests are answered. WAIT occurs at a Wait mark alone, and there wherever the request may get it. An
+/// acknowledgement that the host sees is the one that was driven.
 #[tactic(auto, using(crate::proofs::AnswerLaws::answer_laws))]
 pub fn answers()
     ensures never_waits { NeverWaits }
@@ -26,8 +26,8 @@ pub fn answers()
     ensures seen { SeenIsDriven }
 {}
 
-/// Every call, whatever the state: what is due after it, and what it adds to the numbers of
-/// requests, of disturbed and of lost ones.
+/// States what is due after each call, in any state, and what the call adds to the counts of requests, of disturbed and
+/// of lost ones.
 pub fn calls()
     ensures due { DueAfterStep }
     ensures acknowledged { AcknowledgementSeen }
@@ -38,8 +38,8 @@ pub fn calls()
     ensures apart { CountedApart }
 {}
 
-/// What a request leaves, by its kind and the flags: an exempt one, one that meets a flag, a free
-/// one, and one that tells what came of a transfer.
+/// States the result of a request, by its kind and the flags: an exempt one, one refused for a flag, one that is free
+/// of flags, and one that confirms a transfer.
 pub fn requests()
     ensures exempt { ExemptRequest }
     ensures exempt_at_rest { ExemptRequestAtRest }
@@ -59,7 +59,7 @@ pub fn requests()
     ensures confirming { ConfirmingRequest }
 {}
 
-/// What a data phase carries and leaves, and that a turnaround leaves all as it was.
+/// States what a data phase carries and changes, and that a turnaround changes nothing, apart from completion.
 pub fn data_phases()
     ensures taken { DataTaken }
     ensures take_moves_nothing { TakeMovesNothing }
@@ -71,7 +71,7 @@ pub fn data_phases()
     ensures passed_at_rest { TurnaroundPassedAtRest }
 {}
 
-/// What a line reset and idle cycles leave.
+/// States what a line reset and idle cycles change.
 pub fn line_resets()
     ensures reset { LineReset }
     ensures idle { IdleCycles }

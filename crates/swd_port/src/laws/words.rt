@@ -1,4 +1,4 @@
-//! Laws of words: as data phases, as registers, and as what a read gives.
+//! Laws of words: as data phases, as registers, and as what a read returns.
 ghost use Rattle.swd_port.specs.Laws.Phases.{PhaseSent, PhaseSentOnly, PhaseRead, NoPhaseRead, WholePhaseRead};
 ghost use Rattle.swd_port.specs.Laws.Phases.{PlaceChanged, DamagedPhaseRead, UndrivenOnes, UndrivenRead};
 ghost use Rattle.swd_port.specs.Laws.Registers.{SelectKept, CswKept};
@@ -6,8 +6,8 @@ ghost use Rattle.swd_port.specs.Laws.WordsRead.{StatusWord, IdentificationReturn
 ghost use Rattle.swd_port.specs.Laws.WordsRead.{ValueResent, CarriedByRequest, CarriedWhereHeld, CarriedWhereRefused};
 ghost use Rattle.swd_port.specs.Laws.WordsRead.{CarriedWherePassed, CarriedByReset, FlagsCleared};
 
-/// Data phases as numbers are the 33 bits in time order: what is sent for a word, which word is
-/// read, and what a changed place does.
+/// States that a data phase as a number is its 33 bits in time order. States what is sent for a word, which word is
+/// read, and what a changed bit does.
 #[tactic(auto, using(crate::proofs::PhaseBits::phase_laws))]
 pub fn phases()
     ensures sent { PhaseSent }
@@ -21,15 +21,14 @@ pub fn phases()
     ensures ones_damaged { UndrivenRead }
 {}
 
-/// What a word keeps on the way through the fields of SELECT and CSW: the bits that the register
-/// names, and no others.
+/// States which bits of a word the fields of SELECT and CSW keep: those that the register names, and no others.
 #[tactic(auto, using(crate::proofs::RegisterLemmas::register_laws))]
 pub fn registers()
     ensures select { SelectKept }
     ensures csw { CswKept }
 {}
 
-/// What DPIDR, CTRL/STAT, RDBUFF and RESEND give, and what they and ABORT leave.
+/// States what DPIDR, CTRL/STAT, RDBUFF and RESEND return, and what they and ABORT change.
 pub fn words_read()
     ensures status { StatusWord }
     ensures identification_returned { IdentificationReturned }
