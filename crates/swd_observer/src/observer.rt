@@ -649,7 +649,7 @@ fn got_by(request: Request, word: Option<u32>) -> Option<u32>
     if is_posted(request) { word } else { None }
 }
 
-// RESEND returns the last returned value.
+// Returns whether a request is RESEND, which returns the last returned value.
 fn is_resend(request: Request) -> bool
     ensures { result ≡ is_resend request }
 {
@@ -677,7 +677,7 @@ fn standing_after(request: Request, seen: bool, plain: bool) -> Option<Standing>
     }
 }
 
-// AP reads and RDBUFF return the read buffer.
+// Returns whether a request returns the read buffer: an AP read or RDBUFF.
 fn is_posted(request: Request) -> bool
     ensures { result ≡ is_posted_read request }
 {

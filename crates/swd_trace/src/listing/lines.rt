@@ -20,7 +20,7 @@ const LONGEST: usize = 64;
 #[derive(Drop)]
 pub(crate) struct Lines<A: Allocator> {
     pub(crate) items: Vec<Item, A>,
-    // how many bits these items have
+    // the number of bits of these items
     pub(crate) total: u64,
     pub(crate) line: ArrayVec<u8, LONGEST>,
 }
