@@ -94,8 +94,9 @@ moves_of [] = []
 moves_of (Moves tx place ∷ events) = Moves tx place ∷ moves_of events
 moves_of (Lifts ones ∷ events) = moves_of events
 
--- THE THEOREM of a trace without junk bits and cut end. If its transactions are those of a run of the port
--- model from a target in its reset state, the reported accesses are those that the memory logged in that run.
+-- THE THEOREM of a trace without junk bits and cut end. Let its transactions be those of a run of the port
+-- model from a target in its reset state. Then the reported accesses are those that the memory logged in that
+-- run.
 abbrev pub TraceIsAccounted : Type 0
 TraceIsAccounted = (identification : ℕ) (m : PlainMemory) (items : List Item) (events : List Event) (t : Port) →
     Runs events (made identification m) t → is_whole items ≡ true → moves_in items 0 ≡ moves_of events →

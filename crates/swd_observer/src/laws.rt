@@ -23,8 +23,8 @@ pub fn confirmations()
 {}
 
 /// States what the requests show that are never refused. A read of DPIDR shows nothing. After a write of
-/// ABORT the transfer in flight is reported as `May`, or as `Not` if it met FAULT. A read of CTRL/STAT shows
-/// whether the transfer met an error, if its parity is right and DPBANKSEL is known to be 0.
+/// ABORT the transfer in flight is reported as `May`, or as `Not` if FAULT was answered before. A read of
+/// CTRL/STAT shows whether the transfer met an error, if its parity is right and DPBANKSEL is known to be 0.
 pub fn exempt_requests()
     ensures dpidr { KnownAtDpidr }
     ensures abort { KnownAtAbort }
@@ -32,7 +32,7 @@ pub fn exempt_requests()
 {}
 
 /// States what is known after a lost acknowledgement. The transfer in flight is reported as `May`, or as
-/// `Not` if it met FAULT. The request itself is reported as `May` if it may be a DRW read.
+/// `Not` if FAULT was answered before. The request itself is reported as `May` if it may be a DRW read.
 pub fn lost_requests()
     ensures { KnownAtLost }
 {}
@@ -42,12 +42,16 @@ pub fn transactions()
     ensures { KnownAlways }
 {}
 
-/// States the theorem of whole runs: the reported accesses are those that the memory logged, in order. An
-/// access reported as `May` was logged once or not at all.
+/// States the theorem of whole runs, from any state of which the observer knows nothing wrong: the reported
+/// accesses, with those of `last`, are those that the memory logged, in order. An access reported as `May`
+/// was logged once or not at all.
 ///
-/// Before the end of the run, nothing is reported as `May` if all of these hold: every transaction was
-/// acknowledged, SELECT is known, ABORT is written only where no transfer is in flight, and the data
-/// registers are those of AP 0.
+/// Such a state is a target's reset state. For an observer that knows nothing, it is any state without a
+/// pending transfer and without a data phase due.
+///
+/// Before `last`, nothing is reported as `May` if all of these hold: every transaction was acknowledged,
+/// SELECT is known, ABORT is written only where no transfer is in flight, and the data registers are those of
+/// AP 0.
 pub fn observed_runs()
     ensures runs { RunsAreAccounted }
     ensures made { MadeIsAccounted }
@@ -56,8 +60,8 @@ pub fn observed_runs()
 {}
 
 /// States the theorem of a trace from the target's reset state on, without junk bits or a cut end. If its
-/// transactions are those of a run, the reported accesses are those that the memory logged in that run, in
-/// order, as in `observed_runs`.
+/// transactions are those of a run, the reported accesses, with those of `last`, are those that the memory
+/// logged in that run, as in `observed_runs`.
 pub fn observed_traces()
     ensures { TraceIsAccounted }
 {}

@@ -3,8 +3,9 @@
 //! which word.
 //!
 //! It knows nothing about the host. OK to a write doesn't show yet whether the write takes effect: a later
-//! request shows it. Where none does, the observer says so. `laws` has what is proved: for every run of the
-//! port model, the reported accesses are those that the memory logged, in order.
+//! request shows it. If no later request does, the observer says so. `laws` has what is proved: for runs of
+//! the port model, the reported accesses are those that the memory logged, in order, where one reported as
+//! `May` was logged once or not at all.
 //!
 //! ```
 //! let mut observer = TraceObserver::of_made();
