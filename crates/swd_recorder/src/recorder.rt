@@ -16,8 +16,8 @@ use std::alloc::{Allocator, Global};
 use swd_port::{Cue, Due, Wire};
 use swd_trace::Item;
 
-/// A wire that forwards every call to another one. It keeps what the host sent and saw since then as the
-/// items of a trace.
+/// A wire that forwards every call to another one. It keeps what the host sent and saw since the recorder was
+/// made, as the items of a trace.
 ///
 /// A transaction becomes an item once it is complete. Its word is the one that was sent, or for a read the
 /// one that was seen, even with wrong parity. Zeros after zeros are one item.
@@ -54,8 +54,9 @@ impl<W: Wire, A: Allocator> Recorder<W, A> {
     /// that would have added more.
     ///
     /// They decode from their own bits to the same items, and have at most one transaction for each request.
-    /// Unless they are truncated, they have exactly one transaction for each complete request. Their last
-    /// item is then a transaction without acknowledgement exactly if the wire is lost.
+    /// Unless they are truncated, they have exactly one transaction for each request, except for one that
+    /// isn't complete yet. Their last item is then a transaction without acknowledgement exactly if the wire
+    /// is lost.
     pub fn items(&self) -> &[Item]
         ensures items { result.now ≡ (kept_by self.now).items }
         ensures whole { (kept_by self.now).is_cut ≡ false → result.now ≡ items_by (calls_by self.now) }
