@@ -7,7 +7,7 @@ use swd_port::Disconnected;
 use swd_sequences::Sequence;
 
 /// A way to a target: a microcontroller's pins, a server that moves them, or the sequence command of a debug
-/// probe. **It has no rules to keep**: any levels may be returned, and each exchange may fail.
+/// probe. **Nothing is assumed of it**: any levels may be returned, and each exchange may fail.
 ///
 /// Sequences are queued until the next exchange, so that one round-trip serves many of them. A queued
 /// sequence has at least one clock, and at most 64 levels are sampled between two exchanges.

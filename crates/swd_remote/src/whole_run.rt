@@ -13,8 +13,10 @@ use swd_port::{Access, Outside, Story, Tied};
 ///
 /// The run always ends within a bounded number of requests, whatever is received, unless a read or write
 /// blocks. If what was received is consistent with the port model, the report is correct, as that of
-/// `swd_host::run`. Up to the first error, the written bytes are exactly the characters of the calls that the
-/// report is of, and `Q`, and as many bytes were read as levels were asked for.
+/// `swd_host::run`.
+///
+/// Up to the first error, exactly the characters of the calls that the report is of are written, and then
+/// `Q`. Up to that error, exactly as many bytes are read as levels were asked for.
 ///
 /// # Errors
 ///
