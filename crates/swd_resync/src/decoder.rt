@@ -79,8 +79,8 @@ impl CaptureDecoder {
         self.fed += 1;
     }
 
-    /// Returns the next part, which no later bits can change. Returns `None` if fewer than 142 bits are held,
-    /// apart from a count of zeros, and more bits are needed.
+    /// Returns the next part, which no later bits can change. Returns `None` if it needs more bits. Fewer
+    /// than 142 bits are then held, apart from a count of zeros.
     pub fn due(&mut self) -> Option<Part>
         ensures part { IfSome result (λ part. (more : List Bool) → rest self.old more ≡ part ∷ rest self.new more) }
         ensures read { IfSome result (λ part. (over : Bool) (bits : List Bool) (parts : List Part)
