@@ -306,9 +306,9 @@ impl Decoder {
         }
     }
 
-    /// Takes a whole transaction from the lowest `count` bits of `bits`, of which the least significant one
-    /// is first in time, and the idle cycles before it. Idle cycles that were held are added to these. `None`
-    /// says nothing about the bits, and changes nothing.
+    /// Takes a whole transaction, and the idle cycles before it, from the lowest `count` bits of `bits`. The
+    /// least significant bit is first in time. Idle cycles that were held are added to these. `None` says
+    /// nothing about the bits, and changes nothing.
     ///
     /// `take_bits` and `due` find the same items. This call is faster where many whole transactions come,
     /// since it holds no bits.
