@@ -86,7 +86,7 @@ parted seen piece i h =
     sym (append_assoc seen (take i piece) _
     ∙ ap (λ x. seen ++ x) (ap (λ x. take i piece ++ x) (sym (drop-cons piece i 0 h)) ∙ take-append-drop i piece))
 
--- what was answered is under way, whether the session ended in a piece or not
+-- the answers so far are queued or written, whether the session ended in a piece or not
 pub record UnderWay {A W : Type 0} (contents : W → Option (List ℕ)) (begin : Begin A) (server : Server A)
     (block : Block W) (text : List ℕ) : Type 0 where
   pub taken : List ℕ

@@ -1,4 +1,4 @@
--- A session under way.
+-- A session in progress.
 use Rattle.std.specs.Prelude.{ℕ, ◌≡◌, ◌-◌, ◌^◌, min, List, ◌∷◌, ◌++◌, length, Option, Some, None}
 use Rattle.std.specs.Io.KnownBytes.{Appends}
 use Rattle.swd_io.specs.Blocks.{Sends}
@@ -15,7 +15,7 @@ use Rattle.swd_bitbang.specs.Sessions.{Session, IsQuit, IsBad, EndsAs}
 abbrev pub Begin : Type 0 → Type 0
 Begin A = Pins A × Option (List ℕ)
 
--- These characters were taken, and their answers are under way.
+-- These characters were taken, and their answers are queued or written.
 pub record Taken {A W : Type 0} (contents : W → Option (List ℕ)) (begin : Begin A) (server : Server A) (block : Block W)
     (seen : List ℕ) : Type 0 where
   pub levels : List ℕ
@@ -23,7 +23,7 @@ pub record Taken {A W : Type 0} (contents : W → Option (List ℕ)) (begin : Be
   pub sends : Sends contents begin.1 block levels
   pub place : server.place ≡ min (length seen) (2 ^ 64 - 1)
 
--- These characters were taken, and their answers went out.
+-- These characters were taken, and their answers were written.
 pub record HasTaken {A W : Type 0} (contents : W → Option (List ℕ)) (begin : Begin A) (state : Server A × W)
     (seen : List ℕ) : Type 0 where
   pub levels : List ℕ
@@ -32,7 +32,7 @@ pub record HasTaken {A W : Type 0} (contents : W → Option (List ℕ)) (begin :
   pub written : state.0.written ≡ min (length levels) (2 ^ 64 - 1)
   pub place : state.0.place ≡ min (length seen) (2 ^ 64 - 1)
 
--- how a sign ends a session, at this byte and its place
+-- how a sign ends a session, at this byte and its position
 abbrev pub end_of : Sign → ℕ → ℕ → Option Served
 end_of Quit place byte = Some ends.Quit
 end_of Bad place byte = Some (ends.Bad place byte)
@@ -44,7 +44,7 @@ IsEnd ends.Quit taken byte = IsQuit taken byte
 IsEnd (ends.Bad place which) taken byte = IsBad place which taken byte
 IsEnd served taken byte = ⊥
 
--- The session ended within these bytes, and what was answered before is under way.
+-- The session ended within these bytes, and the answers before that are queued or written.
 pub record StopsIn {A W : Type 0} (contents : W → Option (List ℕ)) (begin : Begin A) (server : Server A)
     (block : Block W)
     (served : Served) (text : List ℕ) : Type 0 where
@@ -55,7 +55,7 @@ pub record StopsIn {A W : Type 0} (contents : W → Option (List ℕ)) (begin : 
   pub ends : IsEnd served taken byte
   pub under_way : Taken contents begin server block taken
 
--- a session that ended before its characters did
+-- a session that ended before its input did
 abbrev pub IsStop : Served → Type 0
 IsStop ends.Ended = ⊥
 IsStop ends.Read = ⊥

@@ -1,5 +1,5 @@
--- What a character does to the two pins. The characters are OpenOCD's; which of them makes a clock is this project's
--- choice.
+-- What a character does to the two pins. The characters are OpenOCD's; which of them make a clock is this
+-- project's choice.
 use Rattle.std.specs.Prelude.{◌≡◌, Bool, true, false, Option, Some, None, if◌then◌else◌}
 use Rattle.swd_clocked.specs.Marked.{MarkedCycles}
 use Rattle.swd_bitbang.specs.Traces.{Keeps}
@@ -9,15 +9,15 @@ use Rattle.swd_bitbang.specs.declared.pins.Sign.{Sign}
 use Rattle.swd_bitbang.specs.declared.pins.Sign.TheVariants.{Silent, Level, Quit, Bad}
 use Rattle.swd_bitbang.specs.declared.pins.Pins.{Pins}
 
--- the bit that the host drives, or none
+-- the bit that the host drives, if it does
 abbrev pub driven : {A : Type 0} → Pins A → Option Bool
 driven s = if s.drives then Some s.level else None
 
--- the clock goes low: a fall begins a clock, of which no bit was seen
+-- SWCLK falls: this begins a clock, of which no bit was seen
 abbrev pub fallen : {A : Type 0} → Bool → Pins A → Pins A
 fallen level s = record s { clock = false; level = level; seen = if s.clock then None else s.seen }
 
--- The bit of this clock. It goes by once: at the first look, or where the clock rises.
+-- The cycle of this clock, with its bit. It is made once: at the first sample, or when SWCLK rises.
 pub record Passes {A : Type 0} (bit : Bool) (s t : Pins A) : Type 0 where
   pub cycle : MarkedCycles (driven s) bit s.target t.target
   pub seen : t.seen ≡ Some bit
@@ -33,12 +33,12 @@ ShowsBy None bit s t = Passes bit s t
 abbrev pub Shows : {A : Type 0} → Bool → Pins A → Pins A → Type 0
 Shows bit s t = ShowsBy s.seen bit s t
 
--- The host looks: where it drives, it sees its own level.
+-- The host samples: if it drives, it sees its own level.
 abbrev pub SeesBy : {A : Type 0} → Bool → Bool → Pins A → Pins A → Type 0
 SeesBy true bit s t = (bit ≡ s.level) × (t ≡ s)
 SeesBy false bit s t = Shows bit s t
 
--- one character, and what comes of it
+-- one character, and its result
 abbrev pub Steps : {A : Type 0} → Option Character → Pins A → Sign → Pins A → Type 0
 Steps (Some (Moves false level)) s sign t = (sign ≡ Silent) × (t ≡ fallen level s)
 Steps (Some (Moves true level)) s sign t = (sign ≡ Silent)

@@ -1,4 +1,4 @@
--- The bits that went over a line, as they are kept. All of it is this project's choice.
+-- The bits on the line, as they are kept. All of this is this project's choice.
 use Rattle.std.specs.Prelude.{ℕ, ◌≡◌, ◌⊎◌, Bool, true, false, List, [], ◌∷◌, ◌++◌}
 use Rattle.swd_bitbang.specs.declared.trace.Trace.{Trace}
 
@@ -11,15 +11,15 @@ level_text true = 49 ∷ []
 abbrev pub kept_text : {A : Type 0} → Trace A → List ℕ
 kept_text t = t.bits.items
 
--- bits are kept
+-- whether bits are kept
 abbrev pub is_kept : {A : Type 0} → Trace A → Bool
 is_kept t = t.wanted
 
--- memory was refused for a bit
+-- whether memory ran out for a bit
 abbrev pub is_cut_off : {A : Type 0} → Trace A → Bool
 is_cut_off t = t.cut
 
--- a bit is kept, or memory is refused for it and for none before; from then on, and where none is wanted, nothing is
+-- a bit is kept, or memory ran out for it; after that, and if no bits are wanted, nothing changes
 pub record Keeps {A : Type 0} (bit : Bool) (s t : Trace A) : Type 0 where
   pub wanted : t.wanted ≡ s.wanted
   pub more : s.wanted ≡ true → s.cut ≡ false

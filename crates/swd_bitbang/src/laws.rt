@@ -1,11 +1,12 @@
-//! A law of both ends of a line. The function does nothing: its contract is the law.
+//! A law that relates both ends of a connection. The function does nothing: its contract is the law.
 ghost use Rattle.swd_bitbang.specs.Lines.{AreRead, AreServed, GoOn};
 
 use std::alloc::Allocator;
 
-/// A host and a target at the two ends of a line of characters are the host at the target: what the host sends for its
-/// sequences of clocks leads the target through exactly these clocks, each with what the host drives in it, and exactly
-/// the levels that the host samples come back.
+/// States that a server reads a host's characters as the sequences of clocks that the host sent. Each clock
+/// is one cycle of the target, in which the host drives what the sequence says. Exactly the sampled levels
+/// are returned, in order. This holds from pins between two clocks on, and the characters never end the
+/// session before the host's `Q`.
 pub fn sequences_are_read<A: Allocator>()
     ensures reads { AreRead A }
     ensures serves { AreServed A }

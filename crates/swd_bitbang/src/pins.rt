@@ -1,4 +1,4 @@
-//! The two pins of a serial wire, moved by characters.
+//! The two pins of a serial wire, as a host's characters move them.
 ghost use Rattle.std.specs.Prelude.{◌≡◌, true, false, Some, None};
 ghost use Rattle.swd_sequences.specs.declared.character.Character.TheVariants.{Moves};
 ghost use Rattle.swd_sequences.specs.Alphabet.{character};
@@ -8,31 +8,31 @@ use std::alloc::{Allocator, Global};
 use swd_clocked::MarkedClocked;
 use swd_sequences::Character;
 
-/// What comes of a character.
+/// The result of a character.
 #[derive(Clone, Copy, Debug, PartialEq, Eq)]
 pub enum Sign {
-    /// No answer.
+    /// Nothing is returned.
     Silent,
-    /// The level of SWDIO, which is to be told.
+    /// The level of SWDIO, to be returned to the host.
     Level(bool),
     /// The host is done.
     Quit,
-    /// It is none of the protocol's characters for serial wire.
+    /// The byte isn't one of the protocol's characters for serial wire.
     Bad,
 }
 
-/// The pins SWCLK and SWDIO of a host, and the target at the other end.
+/// A host's pins SWCLK and SWDIO, and the target that they are connected to.
 ///
-/// One clock is a falling and a rising edge. Where the host leaves SWDIO alone, its first look at
-/// it in a clock makes the cycle, and the level stays for further looks up to the next falling edge.
-/// Else the rising edge makes it. Where the host drives SWDIO it sees its own level, and a look makes
-/// no cycle.
+/// A clock is a falling and a rising edge of SWCLK. If the host releases SWDIO, the first sample in a clock
+/// makes the cycle. The level then stays for further samples up to the next falling edge. Otherwise the
+/// rising edge makes the cycle. If the host drives SWDIO, a sample returns the host's own level and makes no
+/// cycle.
 ///
 /// ```ignore
 /// let target = MarkedClocked::new(memory, quirks, plan);
 /// let mut pins = Pins::new(target, Trace::none(alloc));
-/// pins.take(b'e'); // low, a one
-/// pins.take(b'g'); // high: one cycle with a one went by
+/// pins.take(b'e'); // SWCLK low, SWDIO 1
+/// pins.take(b'g'); // SWCLK high: one cycle with a 1
 /// ```
 #[derive(Debug, Drop)]
 pub struct Pins<A: Allocator = Global> {
@@ -40,7 +40,7 @@ pub struct Pins<A: Allocator = Global> {
     clock: bool,
     level: bool,
     drives: bool,
-    // The bit of this clock, where it went by.
+    // The bit of this clock, if its cycle was made.
     seen: Option<bool>,
     trace: Trace<A>,
 }
@@ -48,8 +48,8 @@ pub struct Pins<A: Allocator = Global> {
 impl<A: Allocator> Pins<A> {
     ghost use Rattle.swd_bitbang.specs.Steps.{fallen, driven, Steps, Shows, SeesBy};
 
-    /// The pins of a host that drives SWDIO high, with SWCLK low: no edge came yet. What goes over the
-    /// line is kept in this trace.
+    /// Returns the pins of a host that drives SWDIO high, with SWCLK low and no edge yet. The bits are kept
+    /// in this trace.
     pub fn new(target: MarkedClocked<A>, trace: Trace<A>) -> Pins<A>
         ensures target { result.target ≡ target }
         ensures trace { result.trace ≡ trace }
@@ -68,7 +68,7 @@ impl<A: Allocator> Pins<A> {
         }
     }
 
-    /// The target, and the trace of its line, once no more characters come.
+    /// Returns the target and the trace.
     pub fn into_parts(self) -> (MarkedClocked<A>, Trace<A>)
         ensures target { result.0 ≡ self.target }
         ensures trace { result.1 ≡ self.trace }
@@ -118,7 +118,7 @@ impl<A: Allocator> Pins<A> {
         if self.drives { self.level } else { self.bit() }
     }
 
-    // The bit of this clock, which goes by now where it didn't yet.
+    // Returns the bit of this clock. Makes the cycle if it wasn't made yet.
     fn bit(&mut self) -> bool
         ensures { Shows result self.old self.new }
     {
@@ -132,7 +132,7 @@ impl<A: Allocator> Pins<A> {
         bit
     }
 
-    // What the host drives.
+    // Returns what the host drives.
     fn driven(&self) -> Option<bool>
         ensures { result ≡ driven self.now }
     {

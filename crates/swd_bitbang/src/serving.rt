@@ -1,4 +1,4 @@
-//! A host that is served: its characters in, the levels out.
+//! Serves a host: reads its characters, and writes the levels.
 ghost use Rattle.std.specs.Prelude.{◌≡◌, ℕ, List, Option, [], ◌∷◌, ◌++◌, OnOk, IfErr};
 ghost use Rattle.swd_io.specs.Blocks.{Sends};
 ghost use Rattle.swd_io.specs.Pieces.{LeadsOn, LeadsToEnd};
@@ -12,33 +12,33 @@ use std::io::{Read, Write};
 use swd_io::{Block, Consumer, read_pieces};
 use swd_sequences::level_byte;
 
-/// How a session ended.
+/// The way in which a session ended.
 #[derive(Clone, Copy, Debug, PartialEq, Eq, Drop)]
 pub enum Served {
-    /// The host said that it is done.
+    /// The host sent `Q`: it is done.
     Quit,
-    /// The characters came to their end.
+    /// The input ended.
     Ended,
-    /// This byte, which stands at this place, is none of the protocol's characters for serial wire.
-    /// The first place is 0, and 2^64 - 1 stands for each later one, too.
+    /// A byte that isn't one of the protocol's characters for serial wire, and its position. The first
+    /// position is 0; 2^64 - 1 stands for all later ones, too.
     Bad { place: u64, byte: u8 },
     /// The reader failed, or didn't end within 2^64 - 1 reads.
     Read,
-    /// The writer failed after so many levels, at most 2^64 - 1.
+    /// The writer failed after this number of levels, at most 2^64 - 1.
     Write { written: u64 },
 }
 
-// The pins, and how far the session came.
+// The pins, and the counts of the session.
 #[derive(Drop)]
 struct Server<A: Allocator> {
     pins: Pins<A>,
-    // How many characters were taken, at most 2^64 - 1.
+    // The number of characters taken, at most 2^64 - 1.
     place: u64,
-    // How many levels went out, at most 2^64 - 1.
+    // The number of levels written, at most 2^64 - 1.
     written: u64,
 }
 
-// How a sign ends a session, at this byte and its place.
+// Returns how a sign ends a session, at this byte and its position.
 fn end_at(sign: Sign, place: u64, byte: u8) -> Option<Served>
     ensures { result ≡ end_of sign place byte }
 {
@@ -49,7 +49,7 @@ fn end_at(sign: Sign, place: u64, byte: u8) -> Option<Served>
     }
 }
 
-// What is told of a sign is under way.
+// Also queues the answer to a sign, if it has one.
 fn put_answer<W: Write>(block: &mut Block<'_, W>, sign: Sign)
     ensures sends { (start : Option (List ℕ)) (all : List ℕ) → Sends W.contents start block.old all
         → Sends W.contents start block.new (all ++ told sign) }
@@ -62,7 +62,7 @@ fn put_answer<W: Write>(block: &mut Block<'_, W>, sign: Sign)
 }
 
 impl<A: Allocator> Server<A> {
-    // Takes a character, or says how it ends the session.
+    // Takes a character, or returns how it ends the session.
     fn byte<W: Write>(&mut self, block: &mut Block<'_, W>, byte: u8) -> Result<(), Served>
         ensures writer { block.new.writer.ghost_name ≡ block.old.writer.ghost_name }
         ensures written { self.new.written ≡ self.old.written }
@@ -109,7 +109,7 @@ impl<A: Allocator, W: Write> Consumer<W> for Server<A> {
 
     ghost stops = { LeadsToEnd (HasTaken W.contents) (Ends W.contents) };
 
-    // What a piece asks for goes out before more is read.
+    // Writes the answers to a piece before more is read.
     fn take(&mut self, writer: &mut W, piece: &[u8]) -> Result<(), Served> {
         let mut block = Block::new(writer, self.written);
         let taken = self.bytes(&mut block, piece);
@@ -130,13 +130,14 @@ impl<A: Allocator, W: Write> Consumer<W> for Server<A> {
     ghost stops_later = { leads_to_later_end (HasTaken W.contents) (Ends W.contents) };
 }
 
-/// Serves a host at these pins until it says that it is done, sends a byte that is none of the
-/// protocol's characters, or its characters end; the pins come back. What is asked for goes out
-/// before the next read, so that a host that waits for an answer gets it: the answers are the same for
-/// a reader that ends there. Nothing is tried again.
+/// Serves a host at these pins until the host is done, sends a byte that isn't one of the protocol's
+/// characters, or its input ends. Returns how the session ended, and the pins. Nothing is retried.
 ///
-/// At `Quit`, `Ended`, `Bad` and `Read` exactly the levels went out that were asked for before, at
-/// `Write` exactly the first `written` of them.
+/// The answers to the characters read so far are written before the next read, so a host that waits for an
+/// answer gets it.
+///
+/// At `Quit`, `Ended`, `Bad` and `Read` exactly the levels that the host asked for were written. At `Write`
+/// exactly the first `written` of them were.
 pub fn serve<R: Read, W: Write, A: Allocator>(
     reader: &mut R,
     writer: &mut W,

@@ -1,11 +1,11 @@
-//! The bits that went over a line, as a trace text.
+//! The bits on the line, as a trace text.
 ghost use Rattle.std.specs.Prelude.{◌≡◌, true, false, []};
 ghost use Rattle.swd_bitbang.specs.Traces.{Keeps, kept_text, is_kept, is_cut_off};
 
 use std::alloc::{Allocator, Global};
 
-/// What went over a line, as a trace text: a character `0` or `1` for each clock, as the host sees it.
-/// Where memory is refused it is cut off, and nothing else changes.
+/// The bits on the line as a trace text: a character `0` or `1` for each clock, as the host sees it. The text
+/// is truncated when memory runs out, and nothing else changes.
 #[derive(Debug, Drop)]
 pub struct Trace<A: Allocator = Global> {
     bits: Vec<u8, A>,
@@ -14,7 +14,7 @@ pub struct Trace<A: Allocator = Global> {
 }
 
 impl<A: Allocator> Trace<A> {
-    /// Of which nothing is kept.
+    /// Returns a trace that keeps nothing.
     pub fn none(alloc: A) -> Trace<A>
         ensures text { kept_text result ≡ [] }
         ensures kept { is_kept result ≡ false }
@@ -27,7 +27,7 @@ impl<A: Allocator> Trace<A> {
         }
     }
 
-    /// Of which each bit is kept from here on.
+    /// Returns a trace that keeps every bit.
     pub fn new(alloc: A) -> Trace<A>
         ensures text { kept_text result ≡ [] }
         ensures kept { is_kept result ≡ true }
@@ -40,21 +40,21 @@ impl<A: Allocator> Trace<A> {
         }
     }
 
-    /// Whether memory was refused for a bit: the text ends before it.
+    /// Returns whether memory ran out for a bit. The text ends before that bit.
     pub fn is_cut(&self) -> bool
         ensures { result ≡ is_cut_off self.now }
     {
         self.cut
     }
 
-    /// The characters so far.
+    /// Returns the characters so far.
     pub fn text(&self) -> &[u8]
         ensures { result.now ≡ kept_text self.now }
     {
         self.bits.as_slice()
     }
 
-    // One more bit.
+    // Keeps one more bit, if bits are kept and there is memory.
     pub(crate) fn keep(&mut self, bit: bool)
         ensures { Keeps bit self.old self.new }
     {

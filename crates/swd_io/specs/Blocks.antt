@@ -1,11 +1,11 @@
--- A text that goes out in blocks.
+-- Output that is written in blocks.
 use Rattle.std.specs.Prelude.{◌≡◌, ℕ, ◌-◌, ◌^◌, ◌<◌, min, Bool, true, false, List, ◌++◌, length, take, Option, Result}
 use Rattle.std.specs.Prelude.{Ok, Err}
 use Rattle.std.specs.Io.KnownBytes.{Appends}
 use Rattle.swd_io.specs.Helds.{held_bytes, count_of}
 use Rattle.swd_io.specs.declared.block.Block.{Block}
 
--- how many bytes are held back
+-- how many bytes are buffered
 abbrev pub held_len : {W : Type 0} → Block W → ℕ
 held_len block = count_of block.held
 
@@ -13,8 +13,8 @@ held_len block = count_of block.held
 abbrev pub is_failed : {W : Type 0} → Block W → Bool
 is_failed block = block.failed
 
--- The writer began with `start`, and holds the text but for what the block holds back; the count is that of
--- the bytes that went out, or 2^64 - 1 where that is less.
+-- The writer began with `start`, and holds the output except for the buffered bytes. The count is that of the
+-- written bytes, at most 2^64 - 1.
 pub record Carries {W : Type 0} (contents : W → Option (List ℕ)) (start : Option (List ℕ)) (block : Block W)
     (all : List ℕ) : Type 0 where
   pub sent : List ℕ
@@ -22,8 +22,8 @@ pub record Carries {W : Type 0} (contents : W → Option (List ℕ)) (start : Op
   pub whole : all ≡ sent ++ held_bytes block.held
   pub count : block.written ≡ min (length sent) (2 ^ 64 - 1)
 
--- The writer began with `start`, and exactly the first bytes of the text went out, as many as are told, and not all;
--- more than 2^64 - 1 are told as that.
+-- The writer began with `start`, and exactly the first bytes of the output were written, not all of them.
+-- `told` is how many, at most 2^64 - 1.
 pub record Stopped (told : ℕ) (start now : Option (List ℕ)) (all : List ℕ) : Type 0 where
   pub sent : ℕ
   pub short : sent < length all
@@ -34,11 +34,11 @@ abbrev pub SendsBy : {W : Type 0} → Bool → (W → Option (List ℕ)) → Opt
 SendsBy false contents start block all = Carries contents start block all
 SendsBy true contents start block all = Stopped block.written start (contents block.writer.now) all
 
--- the text is on its way to a writer that began with `start`, or the writer failed in it
+-- a writer that began with `start` holds the output except for the buffered bytes, or the writer failed
 abbrev pub Sends : {W : Type 0} → (W → Option (List ℕ)) → Option (List ℕ) → Block W → List ℕ → Type 0
 Sends contents start block all = SendsBy block.failed contents start block all
 
--- all of the text went out, or exactly its first bytes, as many as are told
+-- the whole output was written, or exactly its first bytes, as many as `told` says
 abbrev pub Writes : Result (Unit {0}) ℕ → Option (List ℕ) → Option (List ℕ) → List ℕ → Type 0
 Writes (Ok u) old new text = Appends old new text
 Writes (Err told) old new text = Stopped told old new text

@@ -1,8 +1,8 @@
--- Bytes that are held back.
+-- A buffer of bytes.
 use Rattle.std.specs.Prelude.{ℕ, List, take}
 use Rattle.swd_io.specs.declared.held.Held.{Held}
 
--- the bytes, and how many they are
+-- the buffered bytes, and their number
 abbrev pub held_bytes : Held → List ℕ
 held_bytes held = take held.len held.bytes
 

@@ -1,24 +1,24 @@
--- A text that is read piece by piece.
+-- Input that is read piece by piece.
 use Rattle.std.specs.Prelude.{◌≡◌, ℕ, List, ◌++◌, Option, Result, Ok, Err, IfSome}
 use Rattle.std.specs.Io.KnownBytes.{Consumes, IsAtEnd}
 use Rattle.swd_io.specs.declared.pieces.Unread.{Unread}
 use Rattle.swd_io.specs.declared.pieces.Unread.TheVariants.{Reader, Consumer}
 
--- the consumer's fault, or another where the reader failed
+-- the consumer's fault, or another one if the reader failed
 abbrev pub fault_or : {F : Type 0} → Unread F → F → F
 fault_or Reader other = other
 fault_or (Consumer fault) other = fault
 
--- a text is the reader's, where that is known
+-- the reader's input is `text`, if it is known
 abbrev pub IsText : Option (List ℕ) → List ℕ → Type 0
 IsText known text = IfSome known (λ all. all ≡ text)
 
--- what the consumer's fault says of a text; a reader that failed says nothing of it
+-- what the consumer's fault says of an input; a reader that failed says nothing of it
 abbrev pub IsUnread : {F : Type 0} → (F → List ℕ → Type 0) → Unread F → List ℕ → Type 0
 IsUnread Refuses Reader text = Unit {0}
 IsUnread Refuses (Consumer fault) text = Refuses fault text
 
--- What was read of a reader, all of it or not, led a consumer from one state to another, or made it stop.
+-- The bytes that were read, all of them or not, took a consumer from one state to another, or made it stop.
 abbrev pub Reads : {C F : Type 0} → (C → List ℕ → C → Type 0) → (C → List ℕ → F → C → Type 0) →
     Result (Unit {0}) (Unread F) → Option (List ℕ) → Option (List ℕ) → C → C → Type 0
 Reads takes stops (Ok u) old new before after =
@@ -27,13 +27,13 @@ Reads takes stops (Err Reader) old new before after = (text : List ℕ) × Consu
 Reads takes stops (Err (Consumer fault)) old new before after =
     (text : List ℕ) × Consumes old new text × stops before text fault after
 
--- Whatever text a consumer has read, with these bytes after it, it has read the more. The index is what such a text is
--- read against, as what a writer began with.
+-- A consumer that has read any bytes has now read these bytes too. The index is what the bytes are read
+-- against, such as what a writer began with.
 abbrev pub LeadsOn : {I C : Type 0} → (I → C → List ℕ → Type 0) → C → List ℕ → C → Type 0
 LeadsOn {I} HasRead before bytes after =
     (i : I) (seen : List ℕ) → HasRead i before seen → HasRead i after (seen ++ bytes)
 
--- Whatever text a consumer has read, with these bytes after it, it ends with a fault.
+-- A consumer that has read any bytes ends with a fault at these bytes.
 abbrev pub LeadsToEnd : {I C F : Type 0} → (I → C → List ℕ → Type 0) → (I → C → F → List ℕ → Type 0) →
     C → List ℕ → F → C → Type 0
 LeadsToEnd {I} HasRead Ends before bytes fault after =

@@ -1,4 +1,4 @@
-//! A block of text on its way to a writer.
+//! A block of buffered output.
 ghost use Rattle.std.specs.Prelude.{◌≡◌, ℕ, ◌+◌, ◌-◌, ◌^◌, ◌≤◌, min, List, Option, ◌++◌, ◌∷◌, [], length, take, false};
 ghost use Rattle.std.specs.Prelude.{IfOk, IfErr};
 ghost use Rattle.std.specs.Io.KnownBytes.{Appends};
@@ -8,25 +8,25 @@ use crate::held::{Held, SIZE};
 use crate::output::send;
 use std::io::Write;
 
-/// The longest piece that is put in at once, in bytes.
+/// The longest piece that one call takes, in bytes.
 pub const LONGEST: usize = 1024;
 
-/// A text that goes out to a writer in blocks, with an exact count of what went out. Once the
-/// writer failed, nothing more goes out.
+/// Output that is buffered and written in blocks, with an exact count of the written bytes. Once the writer
+/// failed, nothing more is written.
 ///
-/// `io::BufWriter` takes memory, tries again and loses the count.
+/// `io::BufWriter` allocates, retries, and doesn't report how many bytes were written.
 #[derive(Drop)]
 pub struct Block<'a, W> {
     writer: &'a mut W,
     held: Held,
-    // How many bytes went out, at most 2^64 - 1.
+    // The number of written bytes, at most 2^64 - 1.
     written: u64,
     // Whether the writer failed.
     failed: bool,
 }
 
 impl<'a, W: Write> Block<'a, W> {
-    /// A text of which so many bytes went out before, at most 2^64 - 1. Nothing is held.
+    /// Returns an empty buffer for output of which `written` bytes were written before, at most 2^64 - 1.
     pub fn new(writer: &'a mut W, written: u64) -> Block<'a, W>
         ensures writer { result.writer.ghost_name ≡ writer.entry.ghost_name }
         ensures sends { (start : Option (List ℕ)) (all : List ℕ) → Appends start (W.contents writer.old) all
@@ -40,15 +40,18 @@ impl<'a, W: Write> Block<'a, W> {
         }
     }
 
-    /// Whether the writer failed.
+    /// Returns whether the writer failed.
     pub fn has_failed(&self) -> bool
         ensures { result ≡ is_failed self.now }
     {
         self.failed
     }
 
-    /// Sends what is held, and tells how many bytes of the text went out, at most 2^64 - 1: all of
-    /// them, or at an `Err` those before the writer failed.
+    /// Writes the buffered bytes. Returns the number of bytes of the whole output, at most 2^64 - 1.
+    ///
+    /// # Errors
+    ///
+    /// If the writer failed, now or before: how many bytes were written before that, at most 2^64 - 1.
     pub fn flush(&mut self) -> Result<u64, u64>
         ensures writer { self.new.writer.ghost_name ≡ self.old.writer.ghost_name }
         ensures sends { (start : Option (List ℕ)) (all : List ℕ) → Sends W.contents start self.old all
@@ -67,7 +70,7 @@ impl<'a, W: Write> Block<'a, W> {
         }
     }
 
-    // Sends what is held.
+    // Writes the buffered bytes.
     #[inline(never)]
     fn send_held(&mut self)
         ensures writer { self.new.writer.ghost_name ≡ self.old.writer.ghost_name }
@@ -90,7 +93,7 @@ impl<'a, W: Write> Block<'a, W> {
         }
     }
 
-    // Sends what is held where there is no room for a piece.
+    // Writes the buffered bytes if there is no room for a piece.
     #[inline(always)]
     fn make_room(&mut self)
         ensures writer { self.new.writer.ghost_name ≡ self.old.writer.ghost_name }
@@ -103,7 +106,7 @@ impl<'a, W: Write> Block<'a, W> {
         }
     }
 
-    /// Adds a line and its end to the text.
+    /// Appends a line and a line feed to the output.
     pub fn put_line(&mut self, line: &[u8])
         requires { length line.now ≤ LONGEST }
         ensures writer { self.new.writer.ghost_name ≡ self.old.writer.ghost_name }
@@ -114,7 +117,7 @@ impl<'a, W: Write> Block<'a, W> {
         self.put(b"\n");
     }
 
-    /// Adds a piece to the text, and sends what is held where there is no room for it.
+    /// Appends a piece to the output. Writes the buffered bytes first if there is no room for it.
     #[inline(always)]
     pub fn put(&mut self, piece: &[u8])
         requires { length piece.now ≤ LONGEST }
@@ -128,8 +131,8 @@ impl<'a, W: Write> Block<'a, W> {
         }
     }
 
-    /// Adds the first bytes of a piece to the text, and sends what is held where there is no room for the piece. It is
-    /// copied whole: a copy of known length takes the least time.
+    /// Appends the first `count` bytes of a piece to the output. Writes the buffered bytes first if there is
+    /// no room for the whole piece. It copies the whole piece, since a copy of constant length is fastest.
     #[inline(always)]
     pub fn put_first<const N: usize>(&mut self, piece: &[u8; N], count: usize)
         requires short { N ≤ LONGEST }
@@ -144,8 +147,8 @@ impl<'a, W: Write> Block<'a, W> {
         }
     }
 
-    /// Adds the first bytes of two pieces and then a third piece to the text, and sends what is held where there is no
-    /// room for the pieces: one look at the room serves all three. Each is copied whole.
+    /// Appends the first bytes of two pieces, and then a third piece, to the output. Writes the buffered
+    /// bytes first if there is no room for the three. It checks for room once, and copies each piece whole.
     #[inline(always)]
     pub fn put_three<const A: usize, const B: usize, const C: usize>(
         &mut self,

@@ -1,13 +1,13 @@
-//! Bytes that are held back.
+//! A buffer of bytes.
 ghost use Rattle.std.specs.Prelude.{◌≡◌, ◌+◌, ◌≤◌, ◌++◌, [], length, take};
 
-/// How many bytes may be held back.
+/// The size of the buffer in bytes.
 pub(crate) const SIZE: usize = 32768;
 
-/// Up to `SIZE` bytes in a row.
+/// A buffer of up to `SIZE` bytes.
 ///
-/// `ArrayVec` can't take the first bytes of a longer piece: a copy of known length is a few instructions, where one
-/// of any length is a call.
+/// `ArrayVec` can't append the first bytes of a longer piece. A copy of constant length is a few
+/// instructions, where one of any length is a call.
 #[derive(Drop)]
 pub(crate) struct Held {
     bytes: [u8; SIZE],
@@ -48,7 +48,7 @@ impl Held {
         self.len = 0;
     }
 
-    /// Adds a piece for which there is room.
+    /// Appends a piece. There has to be room for it.
     #[inline(always)]
     pub(crate) fn extend(&mut self, piece: &[u8])
         requires { count_of self.old + length piece.now ≤ SIZE }
@@ -60,7 +60,7 @@ impl Held {
         self.len = len + piece.len();
     }
 
-    /// Adds the first bytes of a piece for all of which there is room.
+    /// Appends the first bytes of a piece. There has to be room for the whole piece.
     #[inline(always)]
     pub(crate) fn extend_first<const N: usize>(&mut self, piece: &[u8; N], count: usize)
         requires room { count_of self.old + N ≤ SIZE }
@@ -73,7 +73,7 @@ impl Held {
         self.len = len + count;
     }
 
-    /// Adds the first bytes of two pieces and then a third, where there is room for all of the pieces.
+    /// Appends the first bytes of two pieces, and then a third one. There has to be room for all three.
     #[inline(always)]
     pub(crate) fn extend_three<const A: usize, const B: usize, const C: usize>(
         &mut self,

@@ -1,5 +1,5 @@
-//! Texts that are read piece by piece and written in blocks, with nothing tried again and what went
-//! out counted exactly.
+//! Input that is read piece by piece, and output that is written in blocks. No read or write is retried, and
+//! the number of written bytes is exact.
 #![tactic(auto)]
 
 mod block;

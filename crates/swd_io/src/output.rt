@@ -1,4 +1,4 @@
-//! Writing a text whole, and counting what went out.
+//! Writes all bytes, and counts the written ones.
 ghost use Rattle.std.specs.Prelude.{◌<◌, length, take, OnOk, IfErr};
 ghost use Rattle.std.specs.Io.KnownBytes.{Appends};
 
@@ -6,20 +6,24 @@ use std::io;
 use std::io::Write;
 use thiserror::Error;
 
-/// A text that did not go out whole.
+/// The error of a write that didn't write all bytes.
 #[derive(Debug, Drop, Error)]
 #[error("only the first {sent} bytes went out: {error}")]
 pub struct Unsent {
-    /// How many of its bytes went out: the first ones.
+    /// The number of written bytes: the first ones.
     pub sent: usize,
-    /// What the writer said, or `WriteZero` where it took no bytes.
+    /// The writer's error, or `WriteZero` if it took no bytes.
     pub error: io::Error,
 }
 
-/// Writes the text. At an `Err` exactly its first `sent` bytes went out, and no more: a fault is
-/// not tried again, and a write that takes no bytes is a fault.
+/// Writes all bytes. Nothing is retried.
 ///
-/// `write_all` loses the count, so each text that goes out, goes out by this loop.
+/// `write_all` doesn't report how many bytes were written, so all output is written by this function.
+///
+/// # Errors
+///
+/// If the writer fails or takes no bytes. Exactly the first `sent` bytes were written then, and not all of
+/// them.
 pub fn send<W: Write>(writer: &mut W, text: &[u8]) -> Result<(), Unsent>
     ensures ok { OnOk result (Appends (W.contents writer.old) (W.contents writer.new) text.now) }
     ensures err { IfErr result (λ e. (e.sent < length text.now)

@@ -1,4 +1,4 @@
-//! Reading a text piece by piece.
+//! Reads input piece by piece.
 ghost use Rattle.std.specs.Prelude.{◌≡◌, ℕ, List, [], ◌++◌, OnOk, IfErr};
 ghost use Rattle.swd_io.specs.Pieces.{Reads, fault_or};
 
@@ -6,23 +6,26 @@ use std::fmt::Display;
 use std::io::Read;
 use thiserror::Error;
 
-/// What takes a text, one piece after another, and may write to a `W` as it does; `()` where it
-/// writes nothing. It reads nothing itself, so how the text is cut into pieces makes no difference to
-/// what its clauses say.
+/// A consumer of input, one piece after another. It may write to a `W`, which is `()` if it writes nothing.
+/// It doesn't read by itself, so its clauses say the same however the input is divided into pieces.
 pub trait Consumer<W> {
-    /// Why it takes no more.
+    /// The reason why it stops.
     type Fault;
 
-    // Whether a piece may be handed to it.
+    // Whether it may be given a piece.
     ghost can_take: { Self → Type 0 };
 
-    // These bytes lead it, and what it writes to, from one state to another.
+    // These bytes take it, and what it writes to, from one state to another.
     ghost takes: { Self × W → List ℕ → Self × W → Type 0 };
 
-    // These bytes, whatever may follow them, make it stop with a fault.
+    // These bytes make it stop with this fault, whatever follows them.
     ghost stops: { Self × W → List ℕ → Self.Fault → Self × W → Type 0 };
 
-    /// Takes a piece, or says why the text can't go on so. After a fault it takes no more.
+    /// Takes a piece.
+    ///
+    /// # Errors
+    ///
+    /// The reason why the input is rejected. The consumer takes no more pieces then.
     fn take(&mut self, writer: &mut W, piece: &[u8]) -> Result<(), Self::Fault>
         requires { can_take self.old }
         ensures again { OnOk result (can_take self.new) }
@@ -38,20 +41,20 @@ pub trait Consumer<W> {
         → stops b next fault c → stops a (first ++ next) fault c };
 }
 
-/// Why a text was not read to its end.
+/// The reason why input wasn't read to its end.
 #[derive(Clone, Copy, Debug, PartialEq, Eq, Drop, Error)]
 #[error_bound(F: Display)]
 pub enum Unread<F> {
-    /// The reader failed, or did not end within 2^64 - 1 reads.
+    /// The reader failed, or didn't end within 2^64 - 1 reads.
     #[error("read failed")]
     Reader,
-    /// What took the text stopped.
+    /// The consumer stopped.
     #[error("{0}")]
     Consumer(F),
 }
 
 impl<F: Drop> Unread<F> {
-    /// The consumer's fault, or this one where the reader failed.
+    /// Returns the consumer's fault, or `reader` if the reader failed.
     pub fn fault_or(self, reader: F) -> F
         ensures { result ≡ fault_or self reader }
     {
@@ -62,11 +65,16 @@ impl<F: Drop> Unread<F> {
     }
 }
 
-// How many bytes are read at once, at most.
+// The most bytes that one read takes.
 const PIECE: usize = 65536;
 
-/// Hands the reader's text to a consumer, up to its end or to a fault. After a fault nothing more is
-/// read, and nothing is tried again. What a read gave is handed on before the next read.
+/// Reads the input, and passes it to a consumer, up to the end or to the first error. The bytes of each read
+/// are passed on before the next read. Nothing is retried.
+///
+/// # Errors
+///
+/// - `Reader`: the reader failed, or didn't end within 2^64 - 1 reads.
+/// - `Consumer`: the consumer stopped. Nothing more is read then.
 pub fn read_pieces<R: Read, W, C: Consumer<W>>(
     reader: &mut R,
     writer: &mut W,

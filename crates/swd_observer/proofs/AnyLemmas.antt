@@ -48,7 +48,7 @@ use Rattle.swd_observer.proofs.StepLemmas.{seen_of_drw}
 use Rattle.swd_observer.proofs.StepLemmas.{drw_of}
 use Rattle.swd_observer.proofs.UnsureLemmas.{may_select, select_is_sure, may_read, may_write}
 
--- what is told of the request itself
+-- what is reported of the request itself
 abbrev After : List Transfer → List Told → Observer → Kind → Option ℕ → ℕ → Target → Type 0
 After before told o k word place x = Knows
     (ExplainsSince before (told ++ listed (told_itself k (whole_word o.increments word) o.tar place)))

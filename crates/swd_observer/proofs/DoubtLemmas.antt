@@ -1,4 +1,4 @@
--- What was under way is told as something that may have been, and may still come.
+-- The transfer in flight is reported as one that may have taken effect, and may still do so.
 use Rattle.std.proofs.Common.{◌≡◌, ◌<◌, ◌^◌, ℕ, Bool, true, false, List, [], ◌∷◌, ◌++◌, refl, sym, subst}
 use Rattle.std.proofs.Common.{◌∙◌, append-nil, inl, inr}
 use Rattle.std.specs.Prelude.{Option, Some, None, IfSome, if◌then◌else◌}

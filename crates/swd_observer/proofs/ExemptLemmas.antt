@@ -1,4 +1,5 @@
--- The exempt requests: DPIDR tells nothing, and ABORT makes what was under way doubtful.
+-- The exempt requests: DPIDR shows nothing, and after ABORT it is unknown whether the transfer in flight took
+-- effect.
 use Rattle.std.proofs.Common.{◌≡◌, ℕ, Bool, true, false, List, ◌++◌, refl, sym, ap, subst}
 use Rattle.std.proofs.Common.{◌∙◌}
 use Rattle.std.specs.Prelude.{Option, Some, None, if◌then◌else◌, ◌==◌}

@@ -1,4 +1,5 @@
--- A request whose acknowledgement was lost: what was under way is doubtful, and a DRW read may have been accepted.
+-- A request without acknowledgement: the transfer in flight may have taken effect, and a DRW read may have
+-- been accepted.
 use Rattle.std.proofs.Common.{◌≡◌, ℕ, Bool, true, false, List, [], ◌∷◌, ◌++◌, refl, sym, ap, subst, inl, inr}
 use Rattle.std.proofs.Common.{◌∙◌, append-nil}
 use Rattle.std.specs.Prelude.{Option, Some, None, IfSome, unwrap_or, if◌then◌else◌}

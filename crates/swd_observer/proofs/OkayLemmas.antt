@@ -1,4 +1,4 @@
--- OK to a request that isn't exempt: what was under way took place, and what the request itself leaves.
+-- OK to a request that isn't exempt: the transfer in flight took effect, and what the request itself leaves.
 use Rattle.std.proofs.Common.{◌≡◌, ◌+◌, ◌%◌, ◌<◌, ◌^◌, ℕ, Bool, true, false, List, ◌++◌, refl, sym, ap, subst}
 use Rattle.std.proofs.Common.{arith, ◌∙◌, append-nil}
 use Rattle.std.specs.Prelude.{Option, Some, None, IfSome, ◌&&◌, ◌==◌, nat_lt, if◌then◌else◌}
@@ -79,7 +79,7 @@ rests_by E tar x aimed now none = record {
 pub rests : (E : List Transfer → Type 0) (o : Observer) (x : Target) → Settled E o x → Resting E o.tar x
 rests E o x h = rests_by E o.tar x h.aimed h.now h.none
 
--- the transfer under way, once nothing is pending and no flag is set
+-- the transfer in flight, once nothing is pending and no flag is set
 settle : (before : List Transfer) (told : List Told) (got : Option ℕ) (b : Option Begun) (increments : Option Bool)
     (tar : Option ℕ) (x : Target) → x.sticky_error ≡ false → x.pending ≡ None → IsRight got x
     → Flight (ExplainsSince before told) b increments tar x

@@ -1,6 +1,6 @@
--- What the wire tells of a target, item by item. The rules are those of the port machine
--- (`Port` of swd_port), read from
--- the outside; what is done where they leave a thing open is this project's choice: it is unknown from there on.
+-- What the items of a trace show of a target. The rules are those of the port model (`Port` of swd_port),
+-- seen from outside. Where they leave a choice open, the value is unknown from there on: this is this
+-- project's choice.
 pub use Rattle.swd_observer.specs.declared.observer.Class.{Class}
 pub use Rattle.swd_observer.specs.declared.observer.Class.TheVariants.{Passes, Aborts, Status, Confirms}
 use Rattle.std.specs.Prelude.{ℕ, ◌+◌, ◌%◌, ◌==◌, ◌&&◌, ◌||◌, not, Bool, true, false, if◌then◌else◌}
@@ -47,7 +47,7 @@ unknown = record {
       None;
 }
 
--- a target that was just made
+-- a target in its reset state
 abbrev pub as_made : Observer
 as_made = record {
   select = Some no_select;
@@ -59,14 +59,13 @@ as_made = record {
   older = None;
 }
 
--- the registers once a write arrived: SELECT, AddrInc of CSW, TAR; a DRW write begins its transfer at TAR
+-- the registers once a write arrived: SELECT, AddrInc of CSW, TAR; a DRW write starts its transfer at TAR
 abbrev pub select_sent : Written → Option ℕ → Option Select → Option Select
 select_sent ToSelect word old = option_map select_of word
 select_sent w word old = old
 
--- whether TAR increments, where CSW says that a transfer is a word and AddrInc is off or single
--- (IHI 0031, MEM-AP, CSW);
--- unknown for every other Size and AddrInc
+-- whether TAR increments, if CSW says that a transfer is a word and AddrInc is off or single (IHI 0031,
+-- MEM-AP, CSW); unknown for every other Size and AddrInc
 abbrev pub steps_of : Csw → Option Bool
 steps_of c = if (c.size == 2) && nat_lt c.addr_inc 2 then Some (c.addr_inc == 1) else None
 
@@ -77,7 +76,7 @@ abbrev pub increments_sent : Written → Option ℕ → Option Bool → Option B
 increments_sent ToCsw word old = option_and_then increments_in word
 increments_sent w word old = old
 
--- the word of a transfer, which is known where the transfer is known to be of a word
+-- the word of a transfer, if its size is known to be a word
 abbrev pub whole_word : Option Bool → Option ℕ → Option ℕ
 whole_word None word = None
 whole_word (Some increments) word = word
@@ -91,7 +90,7 @@ begun_sent ToDrw increments word place old =
     Some (record { read = false; word = whole_word increments word; place = place })
 begun_sent w increments word place old = old
 
--- the write that was sent arrived
+-- the write that was sent arrived intact
 abbrev pub arrived_with : Option Sent → Observer → Observer
 arrived_with None o = o
 arrived_with (Some s) o = record {
@@ -107,7 +106,7 @@ arrived_with (Some s) o = record {
 abbrev pub arrived : Observer → Observer
 arrived o = arrived_with o.sent o
 
--- TAR after a transfer that was done: it is known inside a kilobyte, where it is known to increment or to stay
+-- TAR after a transfer that took effect: known if it is known whether it increments, and within a kilobyte
 abbrev pub advance : Option Bool → Option ℕ → Option ℕ
 advance (Some true) (Some at) = if (at % 4 == 0) && not (at % 1024 == 1020) then Some (at + 4) else None
 advance (Some true) None = None
@@ -118,15 +117,15 @@ abbrev pub tar_done : Option Begun → Option Bool → Option ℕ → Option ℕ
 tar_done None increments tar = tar
 tar_done (Some b) increments tar = advance increments tar
 
--- the transfer that was begun is done
+-- the transfer in flight took effect
 abbrev pub done : Observer → Observer
 done o = record o { tar = tar_done o.begun o.increments o.tar; begun = None; refused = false; older = None }
 
--- OK to a request that isn't exempt: no flag is set, so that the write arrived, and the transfer was done
+-- OK to a request that isn't exempt: no flag is set, so the write arrived, and the transfer took effect
 abbrev pub confirmed : Observer → Observer
 confirmed o = done (arrived o)
 
--- TAR where the transfer may have been a bus error
+-- TAR after a transfer that may have been a bus error
 abbrev pub lost_tar : Option Begun → Option ℕ → Option ℕ
 lost_tar None tar = tar
 lost_tar (Some b) tar = None
@@ -134,18 +133,18 @@ lost_tar (Some b) tar = None
 abbrev pub undone : Observer → Observer
 undone o = record o { tar = lost_tar o.begun o.tar; begun = None; refused = false; older = None }
 
--- a write of which no word is known
+-- a write whose word is unknown
 abbrev pub unsure_of : Sent → Sent
 unsure_of s = record s { word = None }
 
 abbrev pub unsure : Observer → Observer
 unsure o = record o { sent = option_map unsure_of o.sent }
 
--- Flags may be cleared or set unseen from here on: nobody will know what came of the write and of the transfer.
+-- Flags may have changed unseen: no later request shows what happened to the write and the transfer.
 abbrev pub doubted : Observer → Observer
 doubted o = undone (arrived (unsure o))
 
--- what is told of the transfer under way, where it is a read with the word that was got
+-- what is reported of the transfer in flight: for a read, with the word that was returned
 abbrev pub word_of_begun : Begun → Option ℕ → Option ℕ
 word_of_begun b got = if b.read then got else b.word
 
@@ -157,14 +156,14 @@ told_with how got tar (Some b) =
 abbrev pub told_of : How → Option ℕ → Observer → Option Told
 told_of how got o = told_with how got (arrived o).tar (arrived o).begun
 
--- what is told of the transfer in flight where nothing will show it any more: FAULT showed that it did not take place
+-- what is reported of the transfer in flight if no later request shows it: FAULT showed that it had no effect
 abbrev pub doubt_of : Observer → How
 doubt_of o = if o.refused then Not else May
 
 abbrev pub doubt_told : Observer → Option Told
 doubt_told o = told_of (doubt_of o) None o
 
--- and of a read before it, whose word wasn't seen yet
+-- what is reported of an earlier read whose word wasn't seen yet
 abbrev pub told_older : Option ℕ → Option Older → Option Told
 told_older word None = None
 told_older word (Some h) =
@@ -174,7 +173,7 @@ told_older word (Some h) =
 abbrev pub last_tells : Observer → Tells
 last_tells o = record { older = told_older None o.older; before = doubt_told o; itself = None }
 
--- CTRL/STAT is at the debug port's address 4: DPBANKSEL is 0, and no SELECT was sent that may change it
+-- CTRL/STAT is at the debug port's address 4: DPBANKSEL is 0, and no write to SELECT is unconfirmed
 abbrev pub is_to_select : Written → Bool
 is_to_select ToSelect = true
 is_to_select w = false
@@ -190,8 +189,8 @@ is_bank_0 (Some s) = s.dpbanksel == 0
 abbrev pub is_status_known : Observer → Bool
 is_status_known o = is_bank_0 o.select && not (is_select_sent o.sent)
 
--- CTRL/STAT was read. WDATAERR: the write didn't arrive. STICKYERR: the transfer was a bus error. Neither: the write
--- arrived.
+-- CTRL/STAT was read. WDATAERR: the write didn't arrive. STICKYERR: the transfer was a bus error. Neither:
+-- the write arrived.
 abbrev pub kept_at : Bool → Observer → Observer
 kept_at damaged o = if damaged then record o { sent = None } else arrived o
 
@@ -227,8 +226,8 @@ abbrev pub is_rc : Reg4 → Bool
 is_rc RC = true
 is_rc addr = false
 
--- a data register of another access port, or a banked one (IHI 0031, MEM-AP, "BD0-BD3, Banked Data registers"): what
--- stands there is no register of the port machine, and on a chip it may be any access
+-- a data register of another access port, or a banked one (IHI 0031, MEM-AP, "BD0-BD3, Banked Data
+-- registers"): the port model has no such register, and on a chip it may be any access
 abbrev pub is_data : Select → Reg4 → Bool
 is_data s addr = (s.apbanksel == 1) || ((s.apbanksel == 0) && is_rc addr)
 
@@ -247,7 +246,7 @@ kind_ap (Some s) read addr = if is_mem_ap s then kind_mem read addr else kind_el
 abbrev pub kind_of : Option Select → Request → Kind
 kind_of select q = if q.ap then kind_ap select q.read q.addr else kind_dp q.read q.addr
 
--- what isn't known once a write may have been of this register
+-- what becomes unknown if a write may have been to this register
 abbrev pub increments_maybe : Written → Option Bool → Option Bool
 increments_maybe ToCsw old = None
 increments_maybe w old = old
@@ -257,7 +256,7 @@ tar_maybe ToTar old = None
 tar_maybe ToDrw old = None
 tar_maybe w old = old
 
--- the observer once it was answered OK; a write's word where its parity was right
+-- the observer after OK to a request; a write's word if its parity was right
 abbrev pub accepted : Kind → Option ℕ → ℕ → Observer → Observer
 accepted Other word place o = o
 accepted Reads word place o = record o { begun = Some (record { read = true; word = None; place = place }) }
@@ -267,7 +266,7 @@ accepted MayRead word place o = record o { tar = None }
 accepted (MayWrite w) word place o =
     record o { increments = increments_maybe w o.increments; tar = tar_maybe w o.tar }
 
--- and what is told of it
+-- what is reported of the request itself
 abbrev pub may_have : Bool → Option ℕ → Option ℕ → ℕ → Option Told
 may_have read tar word place =
     Some (record { place = place; read = read; addr = tar; word = word; how = May })
@@ -278,7 +277,7 @@ told_itself MayRead word tar place = may_have true tar None place
 told_itself (MayWrite ToDrw) word tar place = may_have false tar word place
 told_itself k word tar place = None
 
--- a request that wasn't acknowledged: a DRW read may have been accepted; a write gets no data
+-- a request without acknowledgement: a DRW read may have been accepted; a write gets no data
 abbrev pub is_read_of : Kind → Bool
 is_read_of Reads = true
 is_read_of MayRead = true
@@ -290,14 +289,15 @@ unanswered k o = if is_read_of k then record o { tar = None } else o
 abbrev pub told_unanswered : Kind → Option ℕ → ℕ → Option Told
 told_unanswered k tar place = if is_read_of k then may_have true tar None place else None
 
--- AP reads and RDBUFF give the read buffer
+-- AP reads and RDBUFF return the read buffer
 abbrev pub is_posted_read : Request → Bool
 is_posted_read q = q.read && (q.ap || is_rc q.addr)
 
 abbrev pub word_if : Bool → ℕ → Option ℕ
 word_if ok word = if ok then Some word else None
 
--- the exempt requests: DPIDR read, ABORT write, and where it may be CTRL/STAT the read of the debug port's address 4
+-- the exempt requests: the DPIDR read, the ABORT write, and the read of the debug port's address 4, which may
+-- be CTRL/STAT
 abbrev pub class_dp : Bool → Reg4 → Class
 class_dp true R0 = Passes
 class_dp false R0 = Aborts
@@ -307,7 +307,7 @@ class_dp read addr = Confirms
 abbrev pub class_of : Request → Class
 class_of q = if q.ap then Confirms else class_dp q.read q.addr
 
--- RESEND gives the last returned value
+-- RESEND returns the last returned value
 abbrev pub is_r8 : Reg4 → Bool
 is_r8 R8 = true
 is_r8 addr = false
@@ -315,8 +315,9 @@ is_r8 addr = false
 abbrev pub is_resend : Request → Bool
 is_resend q = not q.ap && (q.read && is_r8 q.addr)
 
--- where the word of a read stands that just took place: in the read buffer, or where this request gave it with wrong
--- parity in the last returned value; nowhere that an observer follows where the request may be an access itself
+-- what holds the word of a read that just took effect: the read buffer, or the last returned value if this
+-- request returned it with wrong parity; nothing that an observer tracks if the request may be an access
+-- itself
 abbrev pub is_plain : Kind → Bool
 is_plain Other = true
 is_plain Reads = true
@@ -332,7 +333,7 @@ slot_of (Some b) tar None = None
 slot_of (Some b) tar (Some s) =
     if b.read then Some (record { place = b.place; addr = tar; standing = s }) else None
 
--- the word of such a read, where this request gave it
+-- the word of such a read, if this request returned it
 abbrev pub word_at : Standing → Request → Option ℕ → Option ℕ
 word_at Buffer q word = if is_posted_read q then word else None
 word_at Returned q word = if is_resend q then word else None
@@ -349,7 +350,7 @@ abbrev pub slot_at : Request → Option ℕ → Observer → Option Older
 slot_at q word o = slot_of (arrived o).begun (arrived o).tar
     (standing_after q (is_some word) (is_plain (kind_of (confirmed o).select q)))
 
--- a request that was answered OK, and is none of the exempt ones
+-- OK to a request that isn't exempt
 abbrev pub confirming : Request → Option ℕ → ℕ → Observer → Observer
 confirming q word place o = record (accepted (kind_of (confirmed o).select q) word place (confirmed o)) {
   older = slot_at q word o;
@@ -367,11 +368,11 @@ tells_confirming q word place o = record {
 abbrev pub nothing_told : Tells
 nothing_told = record { older = None; before = None; itself = None }
 
--- the older read is told, and what is told beside it
+-- an older read is reported, and this access
 abbrev pub flushing : Option Told → Observer → Tells
 flushing t o = record { older = told_older None o.older; before = t; itself = None }
 
--- a word moved
+-- OK, with a word
 abbrev pub watch_class : Class → Request → ℕ → Bool → ℕ → Observer → Observer
 watch_class Passes q word ok place o = o
 watch_class Aborts q word ok place o = doubted o

@@ -1,4 +1,4 @@
--- Runs of the port machine, and what an observer of their wire tells of them: the theorem.
+-- Runs of the port model, and what an observer of their wire reports: the theorem.
 use Rattle.std.specs.Prelude.{ℕ, ◌≡◌, true, false, List, [], ◌∷◌, None}
 use Rattle.swd_bits.specs.declared.tx.Tx.{Tx}
 use Rattle.swd_port.specs.declared.access.Transfer.{Transfer}
@@ -14,12 +14,12 @@ use Rattle.swd_observer.specs.Explained.{ExplainsSince, and_told}
 use Rattle.swd_observer.specs.Knows.{Watches}
 use Rattle.swd_observer.specs.Transacts.{Transacts}
 
--- What goes over the wire: a whole transaction, before which so many bits stand, or ones and zeros.
+-- What the wire carries: a whole transaction, with the number of bits before it, or ones and zeros.
 pub data Event : Type 0 where
   Moves : (tx : Tx) (place : ℕ) → Event
   Lifts : (ones : ℕ) → Event
 
--- each is a step, or the steps, of the port machine
+-- each is a step, or several steps, of the port model
 abbrev pub Happens : Event → Port → Port → Type 0
 Happens (Moves tx place) s t = Transacts tx.result tx.request s t
 Happens (Lifts ones) s t = Leads s ones t
@@ -28,7 +28,7 @@ abbrev pub Runs : List Event → Port → Port → Type 0
 Runs [] s t = t ≡ s
 Runs (e ∷ events) s t = (m : Port) × Happens e s m × Runs events m t
 
--- the observer of a run, and all that it told
+-- the observer after a run, and all that it reported
 abbrev pub seen : Event → Observer → Observer
 seen (Moves tx place) o = watch_end tx.result tx.request place o
 seen (Lifts ones) o = o
@@ -45,31 +45,31 @@ abbrev pub told_after : List Event → List Told → Observer → List Told
 told_after [] told o = told
 told_after (e ∷ events) told o = told_after events (said e told o) (seen e o)
 
--- an observer knows a port: where a write's data is awaited still, it waits for nothing
+-- an observer knows a port; while a write's data is due, nothing is unconfirmed and no transfer is in flight
 pub record KnowsPort (E : List Transfer → Type 0) (o : Observer) (s : Port) : Type 0 where
   pub knows : Watches E o s.target
   pub waits : is_awaiting s.link.line ≡ true → (o.sent ≡ None) × (o.begun ≡ None)
 
--- what was told, and of the transfer under way that it may be, explains what was logged: now, and once nothing is
+-- the reported accesses, with `May` for one in flight, are those that were logged: now, and once nothing is
 -- pending
 pub record Accounted (before : List Transfer) (told : List Told) (s : Port) : Type 0 where
   pub now : ExplainsSince before told s.target.memory.log
   pub later : (c : Choice) → IsChoice c → ExplainsSince before told (completed c s).target.memory.log
 
--- THE THEOREM. Whatever a target does that keeps to the port machine, and whatever the host asks of it: from a state of
--- which the observer knows nothing wrong, what it tells of the run is what was logged in it.
+-- THE THEOREM. For any target that conforms to the port model, and any requests of the host: from a state of
+-- which the observer knows nothing wrong, the accesses that it reports are those logged in the run.
 abbrev pub RunsAreAccounted : Type 0
 RunsAreAccounted = (before : List Transfer) (told : List Told) (o : Observer) (events : List Event) (s t : Port) →
     KnowsPort (ExplainsSince before told) o s → Runs events s t →
     Accounted before (and_told (told_after events told o) (last_tells (observer_after events o))) t
 
--- so it is from a target that was made,
+-- the same from a target in its reset state,
 abbrev pub MadeIsAccounted : Type 0
 MadeIsAccounted = (identification : ℕ) (m : PlainMemory) (events : List Event) (t : Port) →
     Runs events (made identification m) t →
     Accounted m.log (and_told (told_after events [] as_made) (last_tells (observer_after events as_made))) t
 
--- and of a capture that begins anywhere, where nothing is pending and no data awaited
+-- and of a capture that begins anywhere, if nothing is pending and no data is due
 abbrev pub AnyIsAccounted : Type 0
 AnyIsAccounted = (events : List Event) (s t : Port) → s.target.pending ≡ None → is_awaiting s.link.line ≡ false →
     Runs events s t → Accounted s.target.memory.log

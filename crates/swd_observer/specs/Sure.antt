@@ -1,4 +1,4 @@
--- Where nothing that is told is doubtful.
+-- Runs in which nothing is reported as `May`.
 use Rattle.std.specs.Prelude.{◌≡◌, ◌≢◌, Bool, true, false, List, [], ◌∷◌, Option, Some, None}
 use Rattle.swd_bits.specs.declared.request.Request.{Request}
 use Rattle.swd_bits.specs.declared.tx.TxEnd.{TxEnd}
@@ -20,8 +20,8 @@ abbrev pub is_elsewhere : Kind → Bool
 is_elsewhere (Elsewhere read) = true
 is_elsewhere k = false
 
--- the transaction was acknowledged, SELECT is known once it is confirmed, ABORT is written only where no transfer is in
--- flight, and the data registers are those of AP 0
+-- the transaction was acknowledged, SELECT is known once it is confirmed, ABORT is written only if no
+-- transfer is in flight, and the data registers are those of AP 0
 abbrev pub IsClear : TxEnd → Request → Observer → Type 0
 IsClear (Moved word ok) q o = (is_known (confirmed o).select ≡ true) × (class_of q ≡ Aborts → (arrived o).begun ≡ None)
     × (is_elsewhere (kind_of (confirmed o).select q) ≡ false)
@@ -38,7 +38,7 @@ abbrev pub AreSure : List Told → Type 0
 AreSure [] = Unit {0}
 AreSure (t ∷ told) = (t.how ≢ May) × AreSure told
 
--- then all that is told took place or didn't: what was told is exactly what was logged
+-- then no access is reported as `May` before the end
 abbrev pub ClearIsSure : Type 0
 ClearIsSure = (events : List Event) (told : List Told) (o : Observer) → AreSure told → AreClear events o →
     AreSure (told_after events told o)

@@ -14,7 +14,7 @@ use Rattle.swd_observer.specs.Observing.{watch, tells, unknown, as_made, last_te
 use Rattle.swd_observer.specs.Explained.{and_told}
 use Rattle.swd_observer.specs.Runs.{Event, Moves, Lifts, Runs, Accounted}
 
--- how many bits a transaction has, turnarounds among them (IHI 0031, B4)
+-- how many bits a transaction has, including turnarounds (IHI 0031, B4)
 abbrev pub end_len : TxEnd → ℕ
 end_len (Moved word ok) = 46
 end_len Wait = 13
@@ -30,11 +30,11 @@ item_len (Tx tx) = end_len tx.result
 item_len (Junk b) = 1
 item_len (Cut bits) = bits.len
 
--- the number of bits before the next item, as it is kept
+-- the number of bits before the next item, at most 2^64 - 1
 abbrev pub place_after : Item → ℕ → ℕ
 place_after item place = min (place + item_len item) (2 ^ 64 - 1)
 
--- bits that belong to nothing, or to something that is cut off
+-- a junk bit or a cut end
 abbrev pub is_gap : Item → Bool
 is_gap (Junk b) = true
 is_gap (Cut bits) = true
@@ -54,7 +54,7 @@ after_item item t = record {
   in_gap = is_gap item;
 }
 
--- the first of some bits that belong to nothing
+-- the first bit of a gap
 abbrev pub gap_at : Item → TraceObserver → Option ℕ
 gap_at item t = if is_gap item && not t.in_gap then Some t.place else None
 
@@ -65,16 +65,16 @@ abbrev pub after_items : List Item → TraceObserver → TraceObserver
 after_items [] t = t
 after_items (item ∷ items) t = after_items items (after_item item t)
 
--- all that is told of the accesses
+-- all accesses that are reported
 abbrev pub told_from : List Item → List Told → TraceObserver → List Told
 told_from [] told t = told
 told_from (item ∷ items) told t = told_from items (and_told told (tells item t.place t.observer)) (after_item item t)
 
--- and at the end
+-- and those at the end
 abbrev pub told_in : List Item → TraceObserver → List Told
 told_in items t = and_told (told_from items [] t) (last_tells (after_items items t).observer)
 
--- no bit belongs to nothing
+-- no junk bit and no cut end
 abbrev pub is_whole : List Item → Bool
 is_whole [] = true
 is_whole (item ∷ items) = not (is_gap item) && is_whole items
@@ -94,8 +94,9 @@ moves_of [] = []
 moves_of (Moves tx place ∷ events) = Moves tx place ∷ moves_of events
 moves_of (Lifts ones ∷ events) = moves_of events
 
--- THE THEOREM of a trace whose bits all belong to something: where its transactions are those of a run of the port
--- machine from a target that was just made, what it tells is what the memory logged in that run.
+-- THE THEOREM of a trace without junk bits and cut end. Let its transactions be those of a run of the port
+-- model from a target in its reset state. Then the reported accesses are those that the memory logged in that
+-- run.
 abbrev pub TraceIsAccounted : Type 0
 TraceIsAccounted = (identification : ℕ) (m : PlainMemory) (items : List Item) (events : List Event) (t : Port) →
     Runs events (made identification m) t → is_whole items ≡ true → moves_in items 0 ≡ moves_of events →

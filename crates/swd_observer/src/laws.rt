@@ -1,47 +1,57 @@
-//! The laws that join an observer to the port machine. A function here does nothing: its contract is the law.
+//! Laws that relate an observer to the port model. The functions do nothing: their contracts are the laws.
 ghost use Rattle.swd_observer.specs.Laws.{KnownStays, KnownAtWait, KnownAtFault, KnownAtOkay, KnownAtAbort};
 ghost use Rattle.swd_observer.specs.Laws.{KnownAtDpidr, KnownAtLost, KnownAtStatus, KnownAlways};
 ghost use Rattle.swd_observer.specs.Runs.{RunsAreAccounted, MadeIsAccounted, AnyIsAccounted};
 ghost use Rattle.swd_observer.specs.Sure.{ClearIsSure};
 ghost use Rattle.swd_observer.specs.Traces.{TraceIsAccounted};
 
-/// What is known stays known, whenever the transfer in flight takes effect.
+/// States that what is known remains true whenever a pending transfer takes effect.
 pub fn completion()
     ensures { KnownStays }
 {}
 
-/// WAIT shows nothing, and FAULT that what is in flight did not take place.
+/// States that WAIT shows nothing, and that FAULT shows that the transfer in flight had no effect.
 pub fn refusals()
     ensures wait { KnownAtWait }
     ensures fault { KnownAtFault }
 {}
 
-/// OK to a request that can be refused: the transfer in flight took place, once, and no other.
+/// States what OK to a request that can be refused shows: the transfer in flight took effect, exactly once.
+/// No other transfer took effect, except that the request itself may be one where it is reported as `May`.
 pub fn confirmations()
     ensures { KnownAtOkay }
 {}
 
-/// The requests that are never refused: DPIDR shows nothing; behind ABORT it is unknown whether the transfer in flight
-/// took place; CTRL/STAT shows it.
+/// States what the requests show that are never refused. A read of DPIDR shows nothing. After a write of
+/// ABORT the transfer in flight is reported as `May`, or as `Not` if FAULT was answered before. A read of
+/// CTRL/STAT shows whether the transfer met an error, if its parity is right and DPBANKSEL is known to be 0.
 pub fn exempt_requests()
     ensures dpidr { KnownAtDpidr }
     ensures abort { KnownAtAbort }
     ensures status { KnownAtStatus }
 {}
 
-/// A lost acknowledgement: it is unknown whether the transfer in flight took place, and so it is of a DRW read.
+/// States what is known after a lost acknowledgement. The transfer in flight is reported as `May`, or as
+/// `Not` if FAULT was answered before. The request itself is reported as `May` if it may be a DRW read.
 pub fn lost_requests()
     ensures { KnownAtLost }
 {}
 
-/// Every transaction, whatever it is.
+/// States the same of every transaction, whatever its request and its result.
 pub fn transactions()
     ensures { KnownAlways }
 {}
 
-/// Whole runs: what is told is what the memory logged, in its order, where an access that is told as `May` was logged
-/// once or not at all. None is told so where every transaction was acknowledged, SELECT is known, ABORT is written only
-/// where no transfer is in flight, and the data registers are those of AP 0.
+/// States the theorem of whole runs, from any state of which the observer knows nothing wrong: the reported
+/// accesses, with those of `last`, are those that the memory logged, in order. An access reported as `May`
+/// was logged once or not at all.
+///
+/// Such a state is a target's reset state. For an observer that knows nothing, it is any state without a
+/// pending transfer and without a data phase due.
+///
+/// Before `last`, nothing is reported as `May` if all of these hold: every transaction was acknowledged,
+/// SELECT is known, ABORT is written only where no transfer is in flight, and the data registers are those of
+/// AP 0.
 pub fn observed_runs()
     ensures runs { RunsAreAccounted }
     ensures made { MadeIsAccounted }
@@ -49,7 +59,9 @@ pub fn observed_runs()
     ensures sure { ClearIsSure }
 {}
 
-/// The items of a trace tell what the run tells whose transactions they are.
+/// States the theorem of a trace from the target's reset state on, without junk bits or a cut end. If its
+/// transactions are those of a run, the reported accesses, with those of `last`, are those that the memory
+/// logged in that run, as in `observed_runs`.
 pub fn observed_traces()
     ensures { TraceIsAccounted }
 {}

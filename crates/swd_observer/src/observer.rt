@@ -1,4 +1,4 @@
-//! What the transactions of a wire show of the target behind it.
+//! What the transactions on the wire show of the target.
 ghost use Rattle.std.specs.Prelude.{◌≡◌, ◌&&◌, Some, None, is_some, if◌then◌else◌};
 ghost use Rattle.swd_observer.specs.declared.told.How.TheVariants.{Took};
 ghost use Rattle.swd_port.specs.Registers.{bit_of};
@@ -15,7 +15,7 @@ use swd_bits::{Reg4, Request, Tx, TxEnd};
 use swd_port::{Csw, Select};
 use swd_trace::Item;
 
-/// A register whose write an observer keeps track of.
+/// A register whose writes an observer tracks.
 #[derive(Clone, Copy, Debug, PartialEq, Eq)]
 pub enum Written {
     Select,
@@ -24,37 +24,37 @@ pub enum Written {
     Drw,
 }
 
-/// A write that was answered OK. Whether its data arrived intact isn't known before the next request that can be
+/// A write that was answered OK. Its data is known to be intact only once the next request that can be
 /// refused is answered OK (IHI 0031, B4, "Data transfer").
 #[derive(Clone, Copy, Debug, PartialEq, Eq)]
 pub struct Sent {
     pub written: Written,
-    /// The word as it was on the wire; `None` where its parity was wrong.
+    /// The word as seen on the wire, or `None` if its parity was wrong.
     pub word: Option<u32>,
     /// The number of bits before its request.
     pub place: u64,
 }
 
-/// A transfer that was started by a DRW access, at TAR. Whether it meets a bus error isn't known yet.
+/// A transfer that a DRW access started, at TAR. It may still meet a bus error.
 #[derive(Clone, Copy, Debug, PartialEq, Eq)]
 pub struct Begun {
     pub read: bool,
-    /// The word of a write, where it is known.
+    /// The word of a write, if it is known.
     pub word: Option<u32>,
     /// The number of bits before its request.
     pub place: u64,
 }
 
-/// Where the word of a finished read stands.
+/// The place that holds the word of a completed read.
 #[derive(Clone, Copy, Debug, PartialEq, Eq)]
 pub enum Standing {
-    /// In the read buffer, which the next AP read or RDBUFF returns.
+    /// The read buffer, which the next AP read or RDBUFF read returns.
     Buffer,
-    /// It was returned with wrong parity: RESEND returns it again.
+    /// The last returned value, which had wrong parity: RESEND returns it again.
     Returned,
 }
 
-/// A read that took place, whose word wasn't seen yet.
+/// A read that took effect, whose word wasn't seen yet.
 #[derive(Clone, Copy, Debug, PartialEq, Eq)]
 pub struct Older {
     /// The number of bits before its request.
@@ -63,36 +63,41 @@ pub struct Older {
     pub standing: Standing,
 }
 
-/// What the wire has shown of a target so far: of SELECT, CSW and TAR, and of the access in flight. What isn't known is
-/// `None`. It takes the items of a trace one after the other, and says of each access of memory what became of it.
+/// What the wire has shown of a target so far: SELECT, CSW, TAR and the access in flight. Unknown values are
+/// `None`. It takes the items of a trace one after the other, and reports what happened to each memory
+/// access.
 ///
-/// OK to a request that can be refused says that no sticky flag is set and nothing is pending (IHI 0031, B4, "FAULT
-/// response to read or write operation request"): so the write before it arrived, and the transfer in flight took
-/// place. An access is therefore told one request late. WAIT shows nothing; FAULT, and CTRL/STAT with a flag set, show
-/// that it did not take place.
+/// OK to a request that can be refused shows that no sticky error is set and nothing is pending (IHI 0031,
+/// B4, "FAULT response to read or write operation request"). So the write before it arrived intact, and the
+/// transfer in flight took effect. An access is therefore reported at a later request. WAIT shows nothing.
+/// FAULT, and CTRL/STAT with a flag set, show that the transfer had no effect.
 ///
-/// It claims nothing that the wire doesn't show. Unknown are: TAR across a boundary of 1 KB; after a lost
-/// acknowledgement, after ABORT over a transfer in flight and after bits that belong to nothing all that these may have
-/// changed; words while CSW isn't known to have Size word and AddrInc off or single. By the data register of another access
-/// port, or a banked data register (IHI 0031, MEM-AP, BD0 to BD3), an access is told as `May`, with neither address nor
-/// word.
+/// It reports nothing that the wire doesn't show. These are unknown:
+/// - TAR after an increment across a boundary of 1 KB;
+/// - whatever may have changed at a lost acknowledgement, at ABORT with a transfer in flight, or at junk
+///   bits;
+/// - words, unless CSW is known to have Size word and AddrInc off or single.
+///
+/// An access by the data register of another access port, or by a banked data register (IHI 0031, MEM-AP, BD0
+/// to BD3), is reported as `May`, without address and word.
 #[derive(Clone, Copy, Debug, PartialEq, Eq)]
 pub struct Observer {
     pub select: Option<Select>,
-    /// Whether TAR increments after a transfer: known where CSW is, its Size is word, and AddrInc is off or single.
+    /// Whether TAR increments after a transfer. It is known if CSW is known, its Size is word, and AddrInc is
+    /// off or single.
     pub increments: Option<bool>,
     /// TAR, a byte address.
     pub tar: Option<u32>,
     pub sent: Option<Sent>,
     pub begun: Option<Begun>,
-    /// Whether FAULT was answered since the last OK to a request that can be refused: a sticky flag is set, so what is in
-    /// flight did not take place.
+    /// Whether FAULT was answered, and the sticky error that it shows is still set, so that the transfer in
+    /// flight had no effect.
     pub refused: bool,
     pub older: Option<Older>,
 }
 
-/// What an item shows, in this order: of a read that took place before, of the access that was in flight, and of the
-/// item's own request.
+/// The accesses that an item reports, in this order: an earlier read that took effect, the access in flight,
+/// and the item's own request.
 #[derive(Clone, Copy, Debug, PartialEq, Eq)]
 pub struct Tells {
     pub older: Option<Told>,
@@ -103,15 +108,15 @@ pub struct Tells {
 /// What a request does that is answered OK and can be refused.
 #[derive(Clone, Copy, Debug, PartialEq, Eq)]
 pub(crate) enum Kind {
-    /// Nothing that an observer keeps.
+    /// Nothing that an observer tracks.
     Other,
-    /// It may access memory by a register that is none of the port machine: to read it, or to write it.
+    /// It may access memory by a register that the port model doesn't have. The field says whether it reads.
     Elsewhere(bool),
     Reads,
     Writes(Written),
-    /// SELECT isn't known: it may be a DRW read.
+    /// SELECT is unknown: it may be a DRW read.
     MayRead,
-    /// SELECT isn't known: it may be this write.
+    /// SELECT is unknown: it may be this write.
     MayWrite(Written),
 }
 
@@ -120,11 +125,11 @@ pub(crate) enum Kind {
 pub(crate) enum Class {
     /// A read of DPIDR: nothing.
     Passes,
-    /// A write of ABORT: flags may be cleared, so that nothing will show what they said.
+    /// A write of ABORT: it may clear flags, so no later request shows what they said.
     Aborts,
     /// A read of the debug port's address 4, which may be CTRL/STAT: its flags.
     Status,
-    /// Any other: no flag is set, and nothing is pending.
+    /// Any other request: no flag is set, and nothing is pending.
     Confirms,
 }
 
@@ -135,7 +140,7 @@ const NOTHING: Tells = Tells {
 };
 
 impl Observer {
-    /// Nothing is known: for a capture that begins anywhere.
+    /// Returns an observer that knows nothing, for a capture that begins anywhere.
     pub fn new() -> Observer
         ensures { result ≡ unknown }
     {
@@ -150,7 +155,7 @@ impl Observer {
         }
     }
 
-    /// All is known: for a target that was just made, with SELECT, CSW and TAR 0.
+    /// Returns an observer of a target in its reset state, with SELECT, CSW and TAR 0.
     pub fn of_made() -> Observer
         ensures { result ≡ as_made }
     {
@@ -165,7 +170,7 @@ impl Observer {
         }
     }
 
-    // The write that was sent arrived intact.
+    // Updates the state after the last write arrived intact.
     fn arrived(self) -> Observer
         ensures { result ≡ arrived self }
     {
@@ -199,7 +204,7 @@ impl Observer {
         now
     }
 
-    // The transfer in flight took place.
+    // Updates the state after the transfer in flight took effect.
     fn done(self) -> Observer
         ensures { result ≡ done self }
     {
@@ -213,7 +218,7 @@ impl Observer {
         now
     }
 
-    // The transfer in flight may have met a bus error.
+    // Updates the state after the transfer in flight may have met a bus error.
     fn undone(self) -> Observer
         ensures { result ≡ undone self }
     {
@@ -227,14 +232,14 @@ impl Observer {
         lost
     }
 
-    // OK to a request that can be refused.
+    // Updates the state after OK to a request that can be refused.
     fn confirmed(self) -> Observer
         ensures { result ≡ confirmed self }
     {
         self.arrived().done()
     }
 
-    // Flags may have changed unseen.
+    // Updates the state after flags may have changed unseen.
     fn doubted(self) -> Observer
         ensures { result ≡ doubted self }
     {
@@ -245,7 +250,7 @@ impl Observer {
         unsure.arrived().undone()
     }
 
-    // What is told of the access in flight.
+    // Reports the access in flight.
     fn told(self, how: How, got: Option<u32>) -> Option<Told>
         ensures { result ≡ told_of how got self }
     {
@@ -262,14 +267,15 @@ impl Observer {
         })
     }
 
-    // What is told of the access in flight where nothing will show it any more.
+    // Reports the access in flight if no later request shows what happened to it.
     fn doubt(self) -> Option<Told>
         ensures { result ≡ doubt_told self }
     {
         self.told(if self.refused { How::Not } else { How::May }, None)
     }
 
-    // The debug port's address 4 is known to be CTRL/STAT: DPBANKSEL is 0, and no SELECT was sent that may change it.
+    // Returns whether the debug port's address 4 is known to be CTRL/STAT: DPBANKSEL is 0, and no write to
+    // SELECT is unconfirmed.
     fn is_status_known(self) -> bool
         ensures { result ≡ is_status_known self }
     {
@@ -283,7 +289,7 @@ impl Observer {
         }
     }
 
-    // CTRL/STAT was read, with these of its flags.
+    // Updates the state after a read of CTRL/STAT with these flags.
     fn flagged(self, sticky: bool, damaged: bool) -> Observer
         ensures { result ≡ flagged sticky damaged self }
     {
@@ -303,7 +309,7 @@ impl Observer {
         now
     }
 
-    // A request that was answered OK.
+    // Updates the state after a request that was answered OK.
     fn accepted(self, kind: Kind, word: Option<u32>, place: u64) -> Observer
         ensures { result ≡ accepted kind word place self }
     {
@@ -332,7 +338,7 @@ impl Observer {
         now
     }
 
-    // What is told of the older read, with this word.
+    // Reports the older read, with this word.
     fn told_older(self, word: Option<u32>) -> Option<Told>
         ensures { result ≡ told_older word self.older }
     {
@@ -348,7 +354,7 @@ impl Observer {
         })
     }
 
-    // The word of the older read, where this request gave it.
+    // Returns the word of the older read, if this request returned it.
     fn word_for(self, request: Request, word: Option<u32>) -> Option<u32>
         ensures { result ≡ word_for self.older request word }
     {
@@ -361,7 +367,7 @@ impl Observer {
         }
     }
 
-    // The read that was in flight, where its word wasn't seen yet.
+    // Returns the read that was in flight, if its word wasn't seen yet.
     fn slot(self, standing: Option<Standing>) -> Option<Older>
         ensures { result ≡ slot_of (arrived self).begun (arrived self).tar standing }
     {
@@ -383,7 +389,7 @@ impl Observer {
         }
     }
 
-    // The same behind a request that gave this word or none.
+    // Does the same after a request that returned this word, if any.
     fn slot_at(self, request: Request, word: Option<u32>, plain: bool) -> Option<Older>
         ensures { result ≡ slot_of (arrived self).begun (arrived self).tar
             (standing_after request (is_some word) plain) }
@@ -391,7 +397,7 @@ impl Observer {
         self.slot(standing_after(request, word.is_some(), plain))
     }
 
-    // What is told of a transfer that took place, and isn't held.
+    // Reports a transfer that took effect, unless it is held as the older read.
     fn told_done(self, request: Request, word: Option<u32>, slot: Option<Older>) -> Option<Told>
         ensures { result ≡ unless slot
             (told_of Took (whole_word self.increments (if is_posted_read request then word else None)) self) }
@@ -402,7 +408,7 @@ impl Observer {
         }
     }
 
-    // A word moved, and the request is one that can be refused.
+    // Takes a word that was moved, by a request that can be refused.
     fn confirm(&mut self, request: Request, word: Option<u32>, place: u64) -> Tells
         ensures observer { self.new ≡ confirming request word place self.old }
         ensures tells { result ≡ tells_confirming request word place self.old }
@@ -421,14 +427,14 @@ impl Observer {
         }
     }
 
-    // With this read held.
+    // Holds this read as the older one.
     fn holding(self, older: Option<Older>) -> Observer
         ensures { result ≡ record self { older = older } }
     {
         Observer { older, ..self }
     }
 
-    // The older read is told, and this.
+    // Reports the older read, and this access.
     fn flushing(self, before: Option<Told>) -> Tells
         ensures { result ≡ flushing before self }
     {
@@ -439,7 +445,7 @@ impl Observer {
         }
     }
 
-    // The debug port's address 4 was read.
+    // Takes a read of the debug port's address 4.
     fn status(&mut self, word: u32, parity_ok: bool) -> Tells
         ensures observer { self.new ≡ record (if parity_ok && is_status_known self.old then
             flagged (bit_of 5 word) (bit_of 7 word) self.old else self.old) { older = None } }
@@ -462,7 +468,7 @@ impl Observer {
         tells
     }
 
-    // ABORT was written.
+    // Takes a write of ABORT.
     fn abort(&mut self) -> Tells
         ensures observer { self.new ≡ doubted self.old }
         ensures tells { result ≡ flushing (doubt_told self.old) self.old }
@@ -472,7 +478,7 @@ impl Observer {
         tells
     }
 
-    // A word moved.
+    // Takes a request that was answered OK, with its word.
     fn moved(&mut self, request: Request, word: u32, parity_ok: bool, place: u64) -> Tells
         ensures observer { self.new ≡ watch_class (class_of request) request word parity_ok place self.old }
         ensures tells { result ≡ tells_class (class_of request) request word parity_ok place self.old }
@@ -485,7 +491,7 @@ impl Observer {
         }
     }
 
-    // No acknowledgement was seen.
+    // Takes a request without acknowledgement.
     fn unanswered(&mut self, request: Request, place: u64) -> Tells
         ensures observer { self.new ≡ unanswered (kind_of (doubted self.old).select request) (doubted self.old) }
         ensures tells { result ≡ record (flushing (doubt_told self.old) self.old) {
@@ -500,7 +506,7 @@ impl Observer {
         tells
     }
 
-    // A transaction.
+    // Takes a transaction.
     fn watch_tx(&mut self, tx: Tx, place: u64) -> Tells
         ensures observer { self.new ≡ watch_end tx.result tx.request place self.old }
         ensures tells { result ≡ tells_end tx.result tx.request place self.old }
@@ -516,8 +522,8 @@ impl Observer {
         }
     }
 
-    /// Takes the next item of a trace, and says what it shows. `place` is the number of bits before its first one;
-    /// `TraceObserver` counts them.
+    /// Takes the next item of a trace, and returns the accesses that it reports. `place` is the number of
+    /// bits before the item; `TraceObserver` counts them.
     pub fn watch(&mut self, item: &Item, place: u64) -> Tells
         ensures observer { self.new ≡ watch item.now place self.old }
         ensures tells { result ≡ tells item.now place self.old }
@@ -533,7 +539,7 @@ impl Observer {
         }
     }
 
-    /// What a trace that ends here shows of the accesses before its end.
+    /// Returns what a trace that ends here shows of the accesses that weren't reported yet.
     pub fn last(&self) -> Tells
         ensures { result ≡ last_tells self.now }
     {
@@ -541,7 +547,7 @@ impl Observer {
     }
 }
 
-// What an OK to a request shows.
+// Returns what an OK to a request shows.
 fn class_of(request: Request) -> Class
     ensures { result ≡ class_of request }
 {
@@ -553,14 +559,14 @@ fn class_of(request: Request) -> Class
     }
 }
 
-// The word, where its parity is right.
+// Returns the word if its parity is right.
 fn word_if(parity_ok: bool, word: u32) -> Option<u32>
     ensures { result ≡ word_if parity_ok word }
 {
     if parity_ok { Some(word) } else { None }
 }
 
-// Whether TAR increments, where CSW says that a transfer is a word.
+// Returns whether TAR increments, if CSW says that a transfer is a word.
 fn steps(csw: Csw) -> Option<bool>
     ensures { result ≡ steps_of csw }
 {
@@ -571,7 +577,7 @@ fn steps(csw: Csw) -> Option<bool>
     }
 }
 
-// The word of a transfer that is known to be of a word.
+// Returns the word of a transfer if its size is known to be a word.
 fn whole(increments: Option<bool>, word: Option<u32>) -> Option<u32>
     ensures { result ≡ whole_word increments word }
 {
@@ -581,7 +587,7 @@ fn whole(increments: Option<bool>, word: Option<u32>) -> Option<u32>
     }
 }
 
-// TAR after a transfer that took place.
+// Returns TAR after a transfer that took effect.
 fn advance(increments: Option<bool>, tar: Option<u32>) -> Option<u32>
     ensures { result ≡ advance increments tar }
 {
@@ -592,7 +598,7 @@ fn advance(increments: Option<bool>, tar: Option<u32>) -> Option<u32>
     }
 }
 
-// What a request does, by what is known of SELECT.
+// Returns what a request does, by what is known of SELECT.
 fn kind_of(select: Option<Select>, request: Request) -> Kind
     ensures { result ≡ kind_of select request }
 {
@@ -618,7 +624,7 @@ fn kind_of(select: Option<Select>, request: Request) -> Kind
     }
 }
 
-// A request for a register of another access port or bank.
+// Returns what a request for a register of another access port or bank does.
 fn elsewhere(select: Select, request: Request) -> Kind
     ensures { result ≡ kind_elsewhere select request.read request.addr }
 {
@@ -636,28 +642,28 @@ fn is_read(kind: Kind) -> bool
     matches!(&kind, Kind::Reads | Kind::MayRead)
 }
 
-// The word, where the request returns the read buffer.
+// Returns the word if the request returns the read buffer.
 fn got_by(request: Request, word: Option<u32>) -> Option<u32>
     ensures { result ≡ (if is_posted_read request then word else None) }
 {
     if is_posted(request) { word } else { None }
 }
 
-// RESEND returns the last returned value.
+// Returns whether a request is RESEND, which returns the last returned value.
 fn is_resend(request: Request) -> bool
     ensures { result ≡ is_resend request }
 {
     !request.ap && request.read && matches!(&request.addr, Reg4::R8)
 }
 
-// Whether a request does no more than it is known to do.
+// Returns whether a request is known not to be an access itself, or is a DRW read.
 fn is_plain(kind: Kind) -> bool
     ensures { result ≡ is_plain kind }
 {
     matches!(&kind, Kind::Other | Kind::Reads)
 }
 
-// Where the word of a read stands that this request confirmed.
+// Returns what holds the word of a read that this request confirmed.
 fn standing_after(request: Request, seen: bool, plain: bool) -> Option<Standing>
     ensures { result ≡ standing_after request seen plain }
 {
@@ -671,14 +677,14 @@ fn standing_after(request: Request, seen: bool, plain: bool) -> Option<Standing>
     }
 }
 
-// AP reads and RDBUFF return the read buffer.
+// Returns whether a request returns the read buffer: an AP read or RDBUFF.
 fn is_posted(request: Request) -> bool
     ensures { result ≡ is_posted_read request }
 {
     request.read && (request.ap || matches!(&request.addr, Reg4::RC))
 }
 
-// What is told of a request of which it isn't known what it does.
+// Reports a request if it isn't known what it does.
 fn told_itself(kind: Kind, word: Option<u32>, tar: Option<u32>, place: u64) -> Option<Told>
     ensures { result ≡ told_itself kind word tar place }
 {

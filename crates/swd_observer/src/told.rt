@@ -1,17 +1,17 @@
-//! What became of an access of memory, as far as the wire shows it.
+//! What happened to a memory access, as far as the wire shows it.
 
 /// How much is known of an access.
 #[derive(Clone, Copy, Debug, PartialEq, Eq)]
 pub enum How {
-    /// It took place, exactly once.
+    /// It took effect, exactly once.
     Took,
-    /// It took place once, or not at all: the wire doesn't show which.
+    /// It took effect once, or not at all: the wire doesn't show which.
     May,
-    /// It did not take place: it met a bus error, or its data was corrupted on the wire.
+    /// It had no effect: it met a bus error, or its data was corrupted on the wire.
     Not,
 }
 
-/// An access of the memory behind the access port, by a request for DRW. What isn't known is `None`.
+/// An access of the memory behind the access port, by a request for DRW. Unknown values are `None`.
 #[derive(Clone, Copy, Debug, PartialEq, Eq)]
 pub struct Told {
     /// The number of bits of the trace before the first bit of its request.

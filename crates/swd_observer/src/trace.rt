@@ -11,13 +11,13 @@ use swd_trace::Item;
 #[derive(Clone, Copy, Debug, PartialEq, Eq)]
 pub struct Shown {
     pub tells: Tells,
-    /// The number of bits before the first of some bits that belong to nothing: these may hide accesses, and nothing is
-    /// known of the target behind them.
+    /// The number of bits before a gap, at the gap's first item. A gap is a series of junk bits and cut ends.
+    /// It may hide accesses, and after it nothing is known of the target.
     pub gap: Option<u64>,
 }
 
-/// Takes the items of a trace from its beginning, and says what each shows. It counts the bits, so that each access has
-/// its place, and takes no memory.
+/// An observer of the items of a trace, from its beginning. It counts the bits, so that each access has its
+/// place. It allocates nothing.
 ///
 /// ```
 /// let mut observer = TraceObserver::new();
@@ -28,14 +28,14 @@ pub struct Shown {
 #[derive(Clone, Copy, Debug, PartialEq, Eq)]
 pub struct TraceObserver {
     pub observer: Observer,
-    /// The number of bits before the next item, 2^64 - 1 at most.
+    /// The number of bits before the next item, at most 2^64 - 1.
     pub place: u64,
-    /// Whether the last item belongs to nothing.
+    /// Whether the last item was a junk bit or a cut end.
     pub in_gap: bool,
 }
 
 impl TraceObserver {
-    /// A trace of a target of which nothing is known.
+    /// Returns an observer for a trace of a target of which nothing is known.
     pub fn new() -> TraceObserver
         ensures { result ≡ from_unknown }
     {
@@ -46,7 +46,7 @@ impl TraceObserver {
         }
     }
 
-    /// A trace of a target that was just made.
+    /// Returns an observer for a trace of a target in its reset state.
     pub fn of_made() -> TraceObserver
         ensures { result ≡ from_made }
     {
@@ -57,7 +57,7 @@ impl TraceObserver {
         }
     }
 
-    /// Takes the next item, and says what it shows.
+    /// Takes the next item, and returns what it shows.
     pub fn watch(&mut self, item: &Item) -> Shown
         ensures observer { self.new ≡ after_item item.now self.old }
         ensures shown { result ≡ shown_at item.now self.old }
@@ -74,7 +74,7 @@ impl TraceObserver {
         Shown { tells, gap }
     }
 
-    /// What a trace that ends here shows of the accesses before its end.
+    /// Returns what a trace that ends here shows of the accesses that weren't reported yet.
     pub fn last(&self) -> Tells
         ensures { result ≡ last_tells self.now.observer }
     {
@@ -82,14 +82,14 @@ impl TraceObserver {
     }
 }
 
-// Whether an item is more than bits that belong to nothing.
+// Returns whether an item is neither a junk bit nor a cut end.
 fn belongs(item: &Item) -> bool
     ensures { result ≡ not (is_gap item.now) }
 {
     !matches!(item, Item::Junk(_) | Item::Cut(_))
 }
 
-// How many bits an item has.
+// Returns how many bits an item has.
 fn bits_in(item: &Item) -> u64
     ensures { result ≡ item_len item.now }
 {

@@ -1,4 +1,4 @@
--- The items of the calls of a wire. The division of the calls into items is this project's choice.
+-- The items of a wire's calls. The division of the calls into items is this project's choice.
 use Rattle.std.specs.Prelude.{ℕ, ◌+◌, ◌==◌, ◌≡◌, ◌≢◌, Bool, List, [], ◌∷◌, ◌++◌, Option, Some, None}
 use Rattle.std.specs.Prelude.{if◌then◌else◌}
 use Rattle.swd_bits.specs.Bits.{low_bits}
@@ -17,7 +17,7 @@ use Rattle.swd_recorder.specs.declared.in_hand.InHand.{InHand}
 
 -- ---- items after items
 
--- an item that is the last, and one more: zeros after zeros are one
+-- a last item, and one more: zeros after zeros are one item
 abbrev pub joined : Item → Item → List Item
 joined (Idle m) (Idle n) = Idle (m + n) ∷ []
 joined last item = last ∷ item ∷ []
@@ -33,7 +33,7 @@ abbrev pub with_items : List Item → List Item → List Item
 with_items items [] = items
 with_items items (item ∷ more) = with_items (with_item items item) more
 
--- how many idle cycles stand at the end
+-- the number of idle cycles at the end
 abbrev pub idle_in : Item → ℕ
 idle_in (Idle n) = n
 idle_in item = 0
@@ -45,12 +45,12 @@ idle_at_end (first ∷ second ∷ items) = idle_at_end (second ∷ items)
 
 -- ---- the items of one call
 
--- so many ones, where there are any, and with the switch the same again
+-- `ones` ones, if any, and with the switch the same again
 abbrev pub high_items : ℕ → Bool → List Item
 high_items ones switch =
     if ones == 0 then [] else Reset ones ∷ (if switch then Switch ∷ Reset ones ∷ [] else [])
 
--- so many zeros, where there are any
+-- `zeros` zeros, if any
 abbrev pub low_items : ℕ → List Item
 low_items zeros = if zeros == 0 then [] else Idle zeros ∷ []
 
@@ -66,26 +66,27 @@ ack_seen seen =
 abbrev pub tx_item : Request → TxEnd → List Item
 tx_item request end = Tx (record { request = request; result = end }) ∷ []
 
--- a transaction that isn't acknowledged is whole
+-- a transaction without acknowledgement is complete
 abbrev pub unanswered : Request → ℕ → Option Ack → List Item
 unanswered request seen (Some ack) = []
 unanswered request seen None = tx_item request (NoAck seen)
 
--- one that is acknowledged isn't whole yet: it is in hand
+-- a transaction with an acknowledgement isn't complete yet
 abbrev pub answered : Request → Option Ack → Option InHand
 answered request (Some ack) = Some (record { request = request; ack = ack })
 answered request None = None
 
--- the end of a transaction whose data phase has these 33 bits
+-- the result of a transaction whose data phase has these 33 bits
 abbrev pub moved : ℕ → TxEnd
 moved bits = moved_in (low_bits 33 bits)
 
--- the end of one that was refused
+-- the result of a transaction that was answered WAIT or FAULT
 abbrev pub refused : Ack → TxEnd
 refused AckFault = Fault
 refused ack = Wait
 
--- What a call adds, while this transaction is in hand. A data phase, or the turnaround of a refusal, makes it whole.
+-- The items of a call, with this incomplete transaction. A data phase, or the turnaround after WAIT or FAULT,
+-- completes it.
 abbrev pub items_of : Option InHand → Cue → ℕ → List Item
 items_of in_hand (Lead ones undriven switch zeros) seen = high_items ones switch ++ low_items zeros
 items_of in_hand (Ask request) seen = unanswered request seen (ack_seen seen)
@@ -94,14 +95,14 @@ items_of (Some asked) (Give bits) seen = tx_item asked.request (moved bits)
 items_of (Some asked) Pass seen = tx_item asked.request (refused asked.ack)
 items_of None cue seen = []
 
--- what is in hand after a call
+-- the incomplete transaction after a call
 abbrev pub in_hand_once : Cue → ℕ → Option InHand
 in_hand_once (Ask request) seen = answered request (ack_seen seen)
 in_hand_once cue seen = None
 
--- ---- the items of many
+-- ---- the items of several calls
 
--- what is in hand after these calls, the last one first
+-- the incomplete transaction after these calls, the last one first
 abbrev pub in_hand_by : List Call → Option InHand
 in_hand_by [] = None
 in_hand_by (call ∷ calls) = in_hand_once call.cue call.seen
@@ -111,7 +112,8 @@ abbrev pub items_by : List Call → List Item
 items_by [] = []
 items_by (call ∷ calls) = with_items (items_by calls) (items_of (in_hand_by calls) call.cue call.seen)
 
--- The items were cut off at one of these calls: they are those of the calls before it, and it would have added more.
+-- The items were truncated at one of these calls: they are those of the calls before it, and it would have
+-- added more.
 pub record CutOff (items : List Item) (calls : List Call) : Type 0 where
   pub after : List Call
   pub call : Call

@@ -4,19 +4,20 @@ use Rattle.swd_trace.specs.declared.item.Item.{Item}
 use Rattle.swd_recorder.specs.declared.items.Items.{Items}
 use Rattle.swd_recorder.specs.Items.{with_items}
 
--- the items, and whether they were cut off
+-- the items, and whether they are truncated
 pub record Kept : Type 0 where
   pub items : List Item
   pub is_cut : Bool
 
--- nothing yet
+-- no items
 abbrev pub nothing_kept : Kept
 nothing_kept = record { items = []; is_cut = false }
 
 abbrev pub kept_of : {A : Type 0} → Items A → Kept
 kept_of items = record { items = items.list.items; is_cut = items.is_cut }
 
--- These items are added, all or none; with none of them the items are cut off. What was cut before stays as it is.
+-- These items are added, all of them or no item; in the latter case the items are truncated. Truncated items
+-- stay unchanged.
 pub record Adds (more : List Item) (old new : Kept) : Type 0 where
   pub whole : new.is_cut ≡ false → (old.is_cut ≡ false) × (new.items ≡ with_items old.items more)
   pub cut : new.is_cut ≡ true → (new.items ≡ old.items) × (old.is_cut ≡ false → more ≢ [])

@@ -1,4 +1,4 @@
--- What a recorder keeps, and the state of the port machine behind it.
+-- What a recorder keeps, and the state of the port model behind it.
 use Rattle.std.specs.Prelude.{List, ◌≡◌}
 use Rattle.swd_port.specs.declared.call.Call.{Call}
 use Rattle.swd_port.specs.declared.mark.Mark.{Mark}
@@ -17,14 +17,14 @@ calls_by recorder = recorder.recording.noted.calls
 abbrev pub kept_by : {W A : Type 0} {g : Ghosts W} → Recorder W A g → Kept
 kept_by recorder = kept_of recorder.recording.items
 
--- the state of the wire behind it, with a number of requests of the recorder's own
+-- the state of the wire behind it, with the recorder's own count of requests
 abbrev pub port_by : {W A : Type 0} {g : Ghosts W} → Recorder W A g → Port
 port_by {W} {A} {g} recorder = with_asked (asks_in (calls_by recorder)) (g.port recorder.wire)
 
 abbrev pub plan_by : {W A : Type 0} {g : Ghosts W} → Recorder W A g → List Mark
 plan_by {W} {A} {g} recorder = g.plan recorder.wire
 
--- what was seen so far fits it
+-- what was seen so far is consistent with the model
 abbrev pub lawful_by : {W A : Type 0} {g : Ghosts W} → Recorder W A g → Type 0
 lawful_by {W} {A} {g} recorder = g.lawful recorder.wire
 
@@ -32,6 +32,6 @@ lawful_by {W} {A} {g} recorder = g.lawful recorder.wire
 abbrev pub notes_by : {W A : Type 0} {g : Ghosts W} → List Call → Recorder W A g → Type 0
 notes_by {W} {A} {g} calls recorder = g.notes calls recorder.wire × (calls_by recorder ≡ calls)
 
--- the wire that the calls are handed on to
+-- the wire that the calls are forwarded to
 abbrev pub wire_under : {W A : Type 0} {g : Ghosts W} → Recorder W A g → W
 wire_under recorder = recorder.wire

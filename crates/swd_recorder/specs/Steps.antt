@@ -1,4 +1,4 @@
--- How a recording keeps step with the wire that it is of.
+-- How a recording corresponds to its wire.
 use Rattle.std.specs.Prelude.{ℕ, suc, ◌≡◌, ◌+◌, Bool, true, false, List, [], ◌∷◌, ◌++◌}
 use Rattle.std.specs.Prelude.{Option, Some, None}
 use Rattle.swd_bits.specs.Bits.{bit}
@@ -22,13 +22,13 @@ abbrev pub asks_in : List Call → ℕ
 asks_in [] = 0
 asks_in (call ∷ calls) = asks_in calls + bit (is_ask call.cue)
 
--- the last item is a transaction without an acknowledgement exactly where the wire is lost
+-- the last item is a transaction without acknowledgement exactly if the wire is lost
 abbrev pub is_at : Due → Place → Bool
 is_at Lost Silent = true
 is_at Lost place = false
 is_at due place = may_ask place
 
--- how many transactions there are
+-- the number of transactions
 abbrev pub transactions : List Item → ℕ
 transactions [] = 0
 transactions (Tx tx ∷ items) = suc (transactions items)
@@ -38,7 +38,7 @@ transactions (Idle n ∷ items) = transactions items
 transactions (Junk b ∷ items) = transactions items
 transactions (Cut bits ∷ items) = transactions items
 
--- one more has begun where the rest of it is due
+-- one more is incomplete if the rest of it is due
 abbrev pub pending : Due → ℕ
 pending Nothing = 0
 pending Take = 1
@@ -46,11 +46,11 @@ pending Give = 1
 pending Pass = 1
 pending Lost = 0
 
--- while nothing was cut off, the items end as they do where this is due
+-- unless they are truncated, the items end as they do when this is due
 abbrev pub IsPlaced : Due → Kept → Type 0
 IsPlaced due kept = kept.is_cut ≡ false → is_at due (place_of kept.items) ≡ true
 
--- a transaction is in hand exactly where the rest of one is due
+-- a transaction is incomplete exactly if the rest of it is due
 abbrev pub held : Option InHand → ℕ
 held None = 0
 held (Some asked) = 1
@@ -60,15 +60,15 @@ abbrev pub is_inside : Option InHand → Cue → Bool
 is_inside (Some asked) (Lead ones undriven switch zeros) = true
 is_inside in_hand cue = false
 
--- the call may be made of a wire that these items are of, while this transaction is in hand
+-- a wire with these items allows the call, with this incomplete transaction
 abbrev pub MayAdd : Option InHand → Cue → Kept → Type 0
 MayAdd in_hand cue kept = (due : Due) × MayStep due cue × (pending due ≡ held in_hand) × IsPlaced due kept
 
--- so many ones and zeros may be sent on it, outside of a transaction
+-- a wire with these items allows a lead, outside a transaction
 abbrev pub MayAddLead : ℕ → Bool → ℕ → Kept → Type 0
 MayAddLead ones switch zeros kept = (due : Due) × MayLead due ones switch zeros × IsPlaced due kept
 
--- the last item is a transaction without an acknowledgement
+-- the last item is a transaction without acknowledgement
 abbrev pub EndsUnacknowledged : List Item → Type 0
 EndsUnacknowledged items =
     (front : List Item) × (request : Request) × (seen : ℕ)

@@ -1,4 +1,4 @@
-//! Transactions that aren't whole yet.
+//! Transactions that aren't complete yet.
 ghost use Rattle.std.specs.Prelude.{◌≡◌, ◌<◌, true, IfNone};
 ghost use Rattle.swd_recorder.specs.Chains.{is_none};
 ghost use Rattle.swd_port.specs.Stories.{IsSeen};
@@ -7,14 +7,14 @@ ghost use Rattle.swd_recorder.specs.Items.{ack_seen, in_hand_once};
 use swd_bits::{Ack, Request};
 use swd_port::Cue;
 
-/// A transaction that isn't whole yet: its request was acknowledged.
+/// An incomplete transaction: its request was acknowledged, and the rest is due.
 #[derive(Clone, Copy)]
 pub(crate) struct InHand {
     pub(crate) request: Request,
     pub(crate) ack: Ack,
 }
 
-/// The transaction that is in hand after a call at which this was seen.
+/// Returns the incomplete transaction after a call at which `seen` was seen, if there is one.
 pub(crate) fn in_hand_once(cue: Cue, seen: u64) -> Option<InHand>
     requires { IsSeen cue seen }
     ensures { result ≡ in_hand_once cue seen }
@@ -28,7 +28,7 @@ pub(crate) fn in_hand_once(cue: Cue, seen: u64) -> Option<InHand>
     }
 }
 
-/// The acknowledgement with this number, the first bit in time least significant.
+/// Returns the acknowledgement with this number, of which the first bit in time is least significant.
 pub(crate) fn ack_seen(seen: u64) -> Option<Ack>
     requires { seen < 8 }
     ensures is { result ≡ ack_seen seen }

@@ -1,4 +1,4 @@
-//! The items of a wire's calls, one call after the other.
+//! The items of a wire's calls, appended call by call.
 ghost use Rattle.std.specs.Prelude.{◌≡◌, ◌≢◌, ◌^◌, ◌<◌, true, false, [], ◌∷◌, ◌++◌, None, Some};
 ghost use Rattle.swd_port.specs.Stories.{IsSeen};
 ghost use Rattle.swd_trace.specs.declared.item.Item.{Item};
@@ -11,7 +11,8 @@ use swd_bits::{Ack, Request, Tx, TxEnd};
 use swd_port::Cue;
 use swd_trace::Item;
 
-/// The items of calls so far. Where what a call adds can't be kept, none of it is, and nothing of the calls after it.
+/// The items of the calls so far. If the items of a call can't be kept, they are truncated: no item of that
+/// call or of a later one is kept.
 #[derive(Drop)]
 pub(crate) struct Items<A: Allocator> {
     pub(crate) list: Vec<Item, A>,
@@ -26,7 +27,7 @@ impl<A: Allocator> Items<A> {
     ghost use Rattle.swd_recorder.specs.Kept.{Adds, kept_of, nothing_kept};
     ghost use Rattle.swd_recorder.specs.Steps.{MayAdd, MayAddLead, is_inside};
 
-    /// Nothing yet.
+    /// Returns an empty list.
     pub(crate) fn new(alloc: A) -> Items<A>
         ensures { kept_of result ≡ nothing_kept }
     {
@@ -36,8 +37,8 @@ impl<A: Allocator> Items<A> {
         }
     }
 
-    /// Adds what a call adds, at which this was seen, while this transaction is in hand. A line reset inside a
-    /// transaction cuts the list off: what the line carries there is no item.
+    /// Appends the items of a call at which `seen` was seen, with this incomplete transaction. A line reset
+    /// inside a transaction truncates the items, since what the line carries there is no item.
     pub(crate) fn add(&mut self, in_hand: Option<InHand>, cue: Cue, seen: u64)
         requires may { MayAdd in_hand cue (kept_of self.old) }
         requires seen { IsSeen cue seen }
@@ -63,7 +64,7 @@ impl<A: Allocator> Items<A> {
         }
     }
 
-    // Ones, the switch and the ones again, and zeros.
+    // Appends ones, with `switch` the switch and the ones again, and zeros.
     fn lead(&mut self, ones: u32, switch: bool, zeros: u32)
         requires { MayAddLead ones switch zeros (kept_of self.old) }
         ensures { Adds (high_items ones switch ++ low_items zeros) (kept_of self.old) (kept_of self.new) }
@@ -79,7 +80,7 @@ impl<A: Allocator> Items<A> {
         }
     }
 
-    // A request, and the number of the three bits that were seen after it.
+    // Appends a transaction without acknowledgement; of any other request it appends nothing yet.
     fn ask(&mut self, request: Request, seen: u64)
         requires range { seen < 8 }
         requires place { self.old.is_cut ≡ false → may_ask (place_of self.old.list.items) ≡ true }
@@ -91,7 +92,7 @@ impl<A: Allocator> Items<A> {
         }
     }
 
-    // A whole transaction.
+    // Appends a complete transaction.
     fn whole(&mut self, request: Request, end: TxEnd)
         requires is_end { is_end end ≡ true }
         requires place { self.old.is_cut ≡ false → may_ask (place_of self.old.list.items) ≡ true }
@@ -103,7 +104,7 @@ impl<A: Allocator> Items<A> {
         })]);
     }
 
-    // Items of which none is idle cycles behind others.
+    // Appends items. No idle cycles among them may follow others.
     fn append(&mut self, more: &[Item])
         requires some { more.now ≢ [] }
         requires chained { self.old.is_cut ≡ false → is_chained (place_of self.old.list.items) more.now ≡ true }
@@ -118,7 +119,7 @@ impl<A: Allocator> Items<A> {
         }
     }
 
-    // Zeros after zeros are one item.
+    // Appends idle cycles. Zeros after zeros are one item.
     fn idle(&mut self, zeros: u64)
         requires { self.old.is_cut ≡ false → may_lower (place_of self.old.list.items) zeros ≡ true }
         ensures { Adds (Item.Idle zeros ∷ []) (kept_of self.old) (kept_of self.new) }
@@ -140,7 +141,7 @@ impl<A: Allocator> Items<A> {
         }
     }
 
-    // How many idle cycles the last item has, where it is idle cycles.
+    // Returns how many idle cycles the last item has: 0 if it isn't idle cycles.
     fn idle_so_far(&self) -> u64
         ensures { result ≡ idle_at_end self.now.list.items }
     {
@@ -151,7 +152,7 @@ impl<A: Allocator> Items<A> {
     }
 }
 
-// How many idle cycles an item is.
+// Returns how many idle cycles an item has.
 fn idle_cycles(item: &Item) -> u64
     ensures { result ≡ idle_in item.now }
 {
@@ -161,20 +162,20 @@ fn idle_cycles(item: &Item) -> u64
     }
 }
 
-// How a transaction ends whose data phase has these bits.
+// Returns the result of a transaction whose data phase has these bits.
 fn moved(bits: u64) -> TxEnd
     requires { bits < 2 ^ 33 }
     ensures is { result ≡ moved bits }
     ensures end { is_end result ≡ true }
 {
-    // The parity bit makes the number of ones even.
+    // With right parity the number of ones is even.
     TxEnd::Moved {
         word: (bits & 0xffff_ffff) as u32,
         parity_ok: bits.count_ones() % 2 == 0,
     }
 }
 
-// How a transaction ends that was refused.
+// Returns the result of a transaction that was answered WAIT or FAULT.
 fn refused(ack: Ack) -> TxEnd
     ensures is { result ≡ refused ack }
     ensures end { is_end result ≡ true }

@@ -1,5 +1,5 @@
-//! A recorder: a wire that hands every call on to another, and keeps what went over it as the items of
-//! a trace.
+//! A recorder: a wire that forwards every call to another one, and keeps what was sent and seen as the items
+//! of a trace.
 #![tactic(auto)]
 
 mod in_hand;

@@ -1,4 +1,4 @@
-//! A wire that hands every call on to another, and keeps what went over it.
+//! A wire that forwards every call to another one, and keeps what was sent and seen.
 ghost use Rattle.std.specs.Prelude.{◌≡◌, ◌≤◌, ◌+◌, ◌↔◌, true, false, List, [], ◌∷◌};
 ghost use Rattle.swd_port.specs.declared.wire.Due.TheVariants.{Nothing, Lost};
 ghost use Rattle.swd_port.specs.Stories.{MayStep, IsSeen, IsStep, due_by, due_once};
@@ -16,15 +16,15 @@ use std::alloc::{Allocator, Global};
 use swd_port::{Cue, Due, Wire};
 use swd_trace::Item;
 
-/// A wire that hands every call on to another, and keeps the items of a trace: what the host sent and
-/// saw since the recorder was made.
+/// A wire that forwards every call to another one. It keeps what the host sent and saw since the recorder was
+/// made, as the items of a trace.
 ///
-/// A transaction is an item once it is whole. Its word is the one that was sent, or for a read the one
-/// that was seen, also where its parity is wrong. Zeros after zeros are one item.
+/// A transaction becomes an item once it is complete. Its word is the one that was sent, or for a read the
+/// one that was seen, even with wrong parity. Zeros after zeros are one item.
 ///
-/// The items are cut off where memory is refused, where the count of idle cycles would pass 2^64 - 1,
-/// and at a `lead` inside a transaction. From there on they stay those of the calls before that one, and
-/// the calls go on as before. No call but `new`'s wire takes notice of it: ask `is_cut`.
+/// The items are truncated when memory runs out, when the count of idle cycles would exceed 2^64 - 1, and at
+/// a `lead` inside a transaction. From then on they are those of the calls before that one, and calls are
+/// still forwarded. No call reports it: ask `is_cut`.
 #[derive(Drop)]
 pub struct Recorder<W: Wire, A: Allocator = Global> {
     wire: W,
@@ -35,7 +35,7 @@ pub struct Recorder<W: Wire, A: Allocator = Global> {
 impl<W: Wire, A: Allocator> Recorder<W, A> {
     ghost use Rattle.swd_recorder.specs.Recorders.{calls_by, kept_by, port_by, plan_by, wire_under};
 
-    /// A recorder over this wire, with no item yet and a number of requests of its own.
+    /// Returns a recorder over this wire, without items, and with its own count of requests.
     pub fn new(alloc: A, wire: W) -> Recorder<W, A>
         requires { (W.port wire).link.due ≡ Nothing }
         ensures port { port_by result ≡ with_asked 0 (W.port wire) }
@@ -50,11 +50,13 @@ impl<W: Wire, A: Allocator> Recorder<W, A> {
         }
     }
 
-    /// The items so far: those of all calls, or once they were cut off those of the calls before the one that
-    /// was cut, which would have added more. They are read again from their own bits, and have no more
-    /// transactions than there were requests. While they are not cut off there is a transaction for each
-    /// request but one that is not whole yet, and the last item is a transaction without an acknowledgement
-    /// exactly where the wire is lost.
+    /// Returns the items so far: those of all calls. Once truncated, they are those of the calls before one
+    /// that would have added more.
+    ///
+    /// They decode from their own bits to the same items, and have at most one transaction for each request.
+    /// Unless they are truncated, they have exactly one transaction for each request, except for one that
+    /// isn't complete yet. Their last item is then a transaction without acknowledgement exactly if the wire
+    /// is lost.
     pub fn items(&self) -> &[Item]
         ensures items { result.now ≡ (kept_by self.now).items }
         ensures whole { (kept_by self.now).is_cut ≡ false → result.now ≡ items_by (calls_by self.now) }
@@ -70,14 +72,14 @@ impl<W: Wire, A: Allocator> Recorder<W, A> {
         self.recording.items.list.as_slice()
     }
 
-    /// Whether the items were cut off.
+    /// Returns whether the items are truncated.
     pub fn is_cut(&self) -> bool
         ensures { result ≡ (kept_by self.now).is_cut }
     {
         self.recording.items.is_cut
     }
 
-    /// The wire under it.
+    /// Returns the wire that it forwards to.
     pub fn into_wire(self) -> W
         ensures wire { wire_under self ≡ result }
         ensures port { port_by self ≡ with_asked (port_by self).tally.asked (W.port result) }

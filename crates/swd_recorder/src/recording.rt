@@ -26,7 +26,7 @@ pub(crate) struct Recording<A: Allocator> {
 }
 
 impl<A: Allocator> Recording<A> {
-    /// No call yet.
+    /// Returns a recording without calls.
     pub(crate) fn new(alloc: A) -> Recording<A>
         ensures items { kept_of result.items ≡ nothing_kept }
         ensures calls { result.noted.calls ≡ [] }
@@ -38,7 +38,7 @@ impl<A: Allocator> Recording<A> {
         }
     }
 
-    /// One call more, at which this was seen.
+    /// Records one more call, at which `seen` was seen.
     pub(crate) fn record(&mut self, cue: Cue, seen: u64)
         requires may { MayStep (due_by self.old.noted.calls) cue }
         requires seen { IsSeen cue seen }

@@ -1,4 +1,4 @@
--- A line of remote_bitbang characters from its beginning to its end.
+-- A remote_bitbang connection from its beginning to its end.
 use Rattle.std.specs.Prelude.{ℕ, ◌≡◌, true, List, [], ◌∷◌, ◌++◌, Option, None, Result}
 use Rattle.std.specs.Io.KnownBytes.{Appends, Consumes}
 use Rattle.swd_sequences.specs.declared.character.Character.TheVariants.{Quits}
@@ -12,7 +12,7 @@ use Rattle.swd_remote.specs.Remotes.{QuitsAt}
 use Rattle.swd_remote.specs.Runs.{AreMade, ExactUpTo, text_of, all_levels}
 use Rattle.swd_remote.specs.Ways.{IsOnItsWay}
 
--- nothing was sent yet: the writer holds what it did at first, and the reader has what it had; the host drives SWDIO
+-- nothing was sent or read yet, and the host drives SWDIO
 pub record IsFresh {R W : Type 0} (remaining : R → Option (List ℕ)) (contents : W → Option (List ℕ))
     (sent left : Option (List ℕ)) (start : Remote R W) : Type 0 where
   pub well : start.fault ≡ None
@@ -21,22 +21,22 @@ pub record IsFresh {R W : Type 0} (remaining : R → Option (List ℕ)) (content
   pub writer : IsOnItsWay contents sent start.outgoing []
   pub reader : remaining start.reader ≡ left
 
--- these calls were made since the beginning, the first one first, and nothing else was done to it
+-- exactly these calls were made since the beginning, in order
 pub record IsTold {R W : Type 0} (remaining : R → Option (List ℕ)) (contents : W → Option (List ℕ))
     (sent left : Option (List ℕ)) (calls : List Attempt) (t : ProbeTransport (Remote R W)) : Type 0 where
   pub start : Remote R W
   pub fresh : IsFresh remaining contents sent left start
   pub made : AreMade remaining contents calls start t.probe
 
--- Of a line that is well at its end: exactly the characters of the calls went out, and Q, and exactly the levels that
--- they told of were read.
+-- A connection that ended without an error: exactly the characters of the calls and Q were sent, and exactly
+-- the levels that the calls returned were read.
 pub record WentWell {R W : Type 0} (remaining : R → Option (List ℕ)) (contents : W → Option (List ℕ))
     (sent left : Option (List ℕ)) (calls : List Attempt) (line : Line R W) : Type 0 where
   pub out : Appends sent (contents line.writer) (text_of true calls ++ byte_of Quits ∷ [])
   pub reads : Consumes left (remaining line.reader) (all_levels calls)
 
--- These calls were made up to the end of a line. Up to the first fault they are exact; where there was none, all of
--- them, and Q.
+-- These calls were made up to the end of a connection. Up to the first error they are exact; without an
+-- error, all of them and Q are.
 pub record HangsUp {R W : Type 0} (remaining : R → Option (List ℕ)) (contents : W → Option (List ℕ))
     (sent left : Option (List ℕ)) (calls : List Attempt) (line : Line R W) : Type 0 where
   pub start : Remote R W

@@ -1,4 +1,4 @@
--- What the calls of a remote end do to its reader and its writer.
+-- What the calls of a connection do to its reader and its writer.
 use Rattle.std.specs.Prelude.{ℕ, ◌≡◌, ◌≢◌, ◌+◌, ◌<◌, ◌^◌, nat_le, Bool, true, false, List, [], ◌∷◌, ◌++◌, length}
 use Rattle.std.specs.Prelude.{Option, Some, None, Result, Ok, Err, slice_index, IsErr}
 use Rattle.std.specs.Io.KnownBytes.{Appends, Consumes, IsAtEnd}
@@ -12,25 +12,25 @@ use Rattle.swd_remote.specs.declared.remote.Remote.{Remote}
 use Rattle.swd_sequences.specs.Clocks.{characters, is_driven, levels, looks}
 use Rattle.swd_remote.specs.Ways.{IsOnItsWay, Lengthens, Delivers, has_broken}
 
--- this byte is among those that came back, and is no level
+-- this byte is among those that were returned, and isn't a level
 abbrev pub IsNoLevel : ℕ → List ℕ → Type 0
 IsNoLevel byte text = ((level : Bool) → byte ≢ level_character level) × (place : ℕ) × (place < length text)
     × (slice_index text place ≡ byte)
 
--- fewer bytes were read than were wanted: the text ended there, or the reader failed
+-- fewer bytes were read than wanted: the input ended, or the reader failed
 abbrev pub Stops : Fault → ℕ → Option (List ℕ) → Option (List ℕ) → Type 0
 Stops Ended count old new = (text : List ℕ) × (length text < count) × Consumes old new text × IsAtEnd new
 Stops Read count old new = (text : List ℕ) × (length text < count) × Consumes old new text
 Stops fault count old new = ⊥
 
--- what is read where so many levels are asked for: all of them at a number, and never more
+-- what is read if `count` levels are asked for: all of them if a number is returned, and never more
 abbrev pub ReadsLevels : ℕ → Result ℕ Fault → Option (List ℕ) → Option (List ℕ) → Type 0
 ReadsLevels count (Ok number) old new = Consumes old new (levels count number) × (number < 2 ^ count)
 ReadsLevels count (Err (NoLevel byte)) old new =
     (text : List ℕ) × (length text ≡ count) × Consumes old new text × IsNoLevel byte text
 ReadsLevels count (Err fault) old new = Stops fault count old new
 
--- A sequence is queued: exactly its characters more are on their way.
+-- A sequence is queued: exactly its characters are appended.
 pub record Queued {R W : Type 0} (contents : W → Option (List ℕ)) (sequence : Sequence) (s t : Remote R W) :
     Type 0 where
   pub out : Lengthens contents (characters s.drives sequence) s.outgoing t.outgoing
@@ -43,13 +43,13 @@ abbrev pub QueuesWithin : {R W : Type 0} → Bool → (W → Option (List ℕ)) 
 QueuesWithin true contents sequence s t = Queued contents sequence s t
 QueuesWithin false contents sequence s t = t ≡ record s { fault = Some TooMany }
 
--- after a fault nothing is sent, and 64 levels at most are asked for at once
+-- after an error nothing is sent, and at most 64 levels are asked for at once
 abbrev pub QueuesAt : {R W : Type 0} → Option Fault → (W → Option (List ℕ)) → Sequence → Remote R W → Remote R W
     → Type 0
 QueuesAt (Some fault) contents sequence s t = t ≡ s
 QueuesAt None contents sequence s t = QueuesWithin (nat_le (s.asked + looks sequence) 64) contents sequence s t
 
--- All that was queued went out, and exactly as many bytes were read as levels were asked for.
+-- All queued characters were sent, and exactly as many bytes were read as levels were asked for.
 pub record Answered {R W : Type 0} (remaining : R → Option (List ℕ)) (contents : W → Option (List ℕ)) (number : ℕ)
     (s t : Remote R W) : Type 0 where
   pub out : Delivers contents s.outgoing t.outgoing
@@ -58,7 +58,7 @@ pub record Answered {R W : Type 0} (remaining : R → Option (List ℕ)) (conten
   pub asked : t.asked ≡ 0
   pub fault : t.fault ≡ None
 
--- where the writer failed, a beginning of what was queued went out, and nothing is read
+-- if the writer failed, a prefix of the queued characters was sent, and nothing is read
 abbrev pub FailsAs : {R W : Type 0} → Option Fault → (R → Option (List ℕ)) → (W → Option (List ℕ)) → Remote R W
     → Remote R W → Type 0
 FailsAs None remaining contents s t = ⊥
@@ -73,7 +73,7 @@ ExchangesAt (Some fault) remaining contents result s t = IsErr result × (t ≡ 
 ExchangesAt None remaining contents (Ok number) s t = Answered remaining contents number s t
 ExchangesAt None remaining contents (Err gone) s t = FailsAs t.fault remaining contents s t
 
--- The host is done: all that was queued and Q went out.
+-- The host is done: all queued characters and Q were sent.
 abbrev pub QuitsAt : {R W : Type 0} → Option Fault → (W → Option (List ℕ)) → Result (Unit {0}) Disconnected → Remote R W
     → Remote R W → Type 0
 QuitsAt (Some fault) contents result s t = IsErr result × (t ≡ s)

@@ -1,5 +1,4 @@
--- The calls of a wire over remote_bitbang characters, one after the other: what goes out and what comes back for all
--- of them.
+-- Successive calls of a wire over remote_bitbang characters: what is sent and read for all of them.
 use Rattle.std.specs.Prelude.{ℕ, ◌≡◌, Bool, true, false, List, [], ◌∷◌, ◌++◌, Option, Some, None, Result, Ok, Err}
 use Rattle.std.specs.Io.KnownBytes.{Appends, Consumes}
 use Rattle.swd_sequences.specs.declared.character.Character.TheVariants.{Quits}
@@ -30,7 +29,7 @@ abbrev pub with_clocks : List Sequence → List Sequence
 with_clocks [] = []
 with_clocks (sequence ∷ more) = kept_by (has_clocks sequence) sequence (with_clocks more)
 
--- all characters of the calls, where the host drove before them or not
+-- all characters of the calls, after the host drove or not
 abbrev pub text_of : Bool → List Attempt → List ℕ
 text_of drives calls = all_characters drives (with_clocks (all_sequences calls))
 
@@ -40,7 +39,7 @@ level_count (Ask request) = 3
 level_count Take = 33
 level_count cue = 0
 
--- the levels that came back for a call: those of its answer
+-- the levels that a call returned
 abbrev pub levels_told : ℕ → Result ℕ Disconnected → List ℕ
 levels_told count (Ok seen) = levels count seen
 levels_told count (Err gone) = []
@@ -49,7 +48,7 @@ abbrev pub all_levels : List Attempt → List ℕ
 all_levels [] = []
 all_levels (call ∷ calls) = levels_told (level_count call.cue) call.told ++ all_levels calls
 
--- what a remote end does at a sequence, and at an exchange
+-- what a connection does at a sequence, and at an exchange
 abbrev pub QueuesTo : {R W : Type 0} → (W → Option (List ℕ)) → Sequence → Remote R W → Remote R W → Type 0
 QueuesTo contents sequence s t = QueuesAt s.fault contents sequence s t
 
@@ -63,21 +62,22 @@ abbrev pub IsMade : {R W : Type 0} → (R → Option (List ℕ)) → (W → Opti
 IsMade remaining contents call s t =
     Performs (QueuesTo contents) (ExchangesWith remaining contents) call.cue call.told s t
 
--- calls were made, the first of the list first
+-- calls were made, in the order of the list
 abbrev pub AreMade : {R W : Type 0} → (R → Option (List ℕ)) → (W → Option (List ℕ)) → List Attempt → Remote R W
     → Remote R W → Type 0
 AreMade remaining contents [] s t = t ≡ s
 AreMade {R} {W} remaining contents (call ∷ calls) s t =
     (m : Remote R W) × IsMade remaining contents call s m × AreMade remaining contents calls m t
 
--- Exactly the characters of the calls are on their way, and exactly the levels that came back for them were read.
+-- Exactly the characters of the calls are queued or sent, and exactly the levels that the calls returned were
+-- read.
 pub record Exact {R W : Type 0} (remaining : R → Option (List ℕ)) (contents : W → Option (List ℕ))
     (calls : List Attempt) (s t : Remote R W) : Type 0 where
   pub out : Lengthens contents (text_of s.drives calls) s.outgoing t.outgoing
   pub reads : Consumes (remaining s.reader) (remaining t.reader) (all_levels calls)
 
--- The other end went away in this call, after exact ones. What the call sent and read is what its contract says, and
--- nothing was sent or read after it.
+-- This call met the error, after exact ones. What it sent and read is what its contract says, and nothing was
+-- sent or read after it.
 pub record Ends {R W : Type 0} (remaining : R → Option (List ℕ)) (contents : W → Option (List ℕ)) (fault : Fault)
     (calls : List Attempt) (s t : Remote R W) : Type 0 where
   pub done : List Attempt
@@ -92,20 +92,19 @@ pub record Ends {R W : Type 0} (remaining : R → Option (List ℕ)) (contents :
   pub ended : after.fault ≡ Some fault
   pub nothing : t ≡ after
 
--- up to the first fault
+-- up to the first error
 abbrev pub ExactUpTo : {R W : Type 0} → (R → Option (List ℕ)) → (W → Option (List ℕ)) → Option Fault → List Attempt
     → Remote R W → Remote R W → Type 0
 ExactUpTo remaining contents None calls s t = Exact remaining contents calls s t
 ExactUpTo remaining contents (Some fault) calls s t = Ends remaining contents fault calls s t
 
--- so it is of all calls from a remote end that isn't gone, and of which nothing is asked
+-- this holds for all calls, from a connection without an error and without unanswered levels on
 abbrev pub RunsExactly : {R W : Type 0} → (R → Option (List ℕ)) → (W → Option (List ℕ)) → Type 0
 RunsExactly {R} {W} remaining contents = (calls : List Attempt) (s t : Remote R W)
     → AreMade remaining contents calls s t → s.fault ≡ None → s.asked ≡ 0
     → ExactUpTo remaining contents t.fault calls s t
 
--- And where the host then says that it is done, exactly these characters and Q went out, after what the writer began
--- with.
+-- And if the host then sends Q, exactly these characters and Q were sent, after what the writer began with.
 abbrev pub QuitsExactly : {R W : Type 0} → (R → Option (List ℕ)) → (W → Option (List ℕ)) → Type 0
 QuitsExactly {R} {W} remaining contents = (calls : List Attempt) (start : Option (List ℕ)) (s t u : Remote R W)
     (told : Unit {0}) → AreMade remaining contents calls s t → s.fault ≡ None → s.asked ≡ 0

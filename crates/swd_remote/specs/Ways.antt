@@ -1,9 +1,9 @@
--- A text on its way to a writer.
+-- Buffered characters for a writer.
 use Rattle.std.specs.Prelude.{ℕ, ◌≡◌, ◌<◌, Bool, true, false, List, ◌++◌, length, take, Option}
 use Rattle.std.specs.Io.KnownBytes.{Appends}
 use Rattle.swd_remote.specs.declared.outgoing.Outgoing.{Outgoing}
 
--- The writer began with `start`, and holds the text but for what is held back.
+-- The writer began with `start`, and holds the characters except for the buffered ones.
 pub record Carries {W : Type 0} (contents : W → Option (List ℕ)) (start : Option (List ℕ)) (way : Outgoing W)
     (text : List ℕ)
     : Type 0 where
@@ -11,7 +11,7 @@ pub record Carries {W : Type 0} (contents : W → Option (List ℕ)) (start : Op
   pub gone : Appends start (contents way.writer) sent
   pub whole : text ≡ sent ++ way.held.items
 
--- The writer began with `start`, and failed after exactly the first bytes of the text, and not all of them.
+-- The writer began with `start`, and failed after exactly the first characters, and not all of them.
 pub record Breaks (start now : Option (List ℕ)) (text : List ℕ) : Type 0 where
   pub sent : ℕ
   pub short : sent < length text
@@ -21,7 +21,7 @@ abbrev pub OnItsWayBy : {W : Type 0} → Bool → (W → Option (List ℕ)) → 
 OnItsWayBy false contents start way text = Carries contents start way text
 OnItsWayBy true contents start way text = Breaks start (contents way.writer) text
 
--- the text is on its way to a writer that began with `start`, or the writer failed in it
+-- a writer that began with `start` holds the characters except for the buffered ones, or the writer failed
 abbrev pub IsOnItsWay : {W : Type 0} → (W → Option (List ℕ)) → Option (List ℕ) → Outgoing W → List ℕ → Type 0
 IsOnItsWay contents start way text = OnItsWayBy way.failed contents start way text
 
@@ -29,13 +29,13 @@ IsOnItsWay contents start way text = OnItsWayBy way.failed contents start way te
 abbrev pub has_broken : {W : Type 0} → Outgoing W → Bool
 has_broken way = way.failed
 
--- whatever text is on its way, it is this much longer
+-- these characters are appended
 abbrev pub Lengthens : {W : Type 0} → (W → Option (List ℕ)) → List ℕ → Outgoing W → Outgoing W → Type 0
 Lengthens contents more before after =
     (start : Option (List ℕ)) (text : List ℕ) → IsOnItsWay contents start before text
     → IsOnItsWay contents start after (text ++ more)
 
--- whatever text is on its way, all of it goes out, and nothing is held back
+-- all characters so far are sent, and the buffer is empty
 abbrev pub Delivers : {W : Type 0} → (W → Option (List ℕ)) → Outgoing W → Outgoing W → Type 0
 Delivers contents before after =
     (start : Option (List ℕ)) (text : List ℕ) → IsOnItsWay contents start before text

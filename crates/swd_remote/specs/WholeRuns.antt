@@ -1,4 +1,4 @@
--- A run over a line of remote_bitbang characters: its report, and what went over the line.
+-- A run over a remote_bitbang connection: its report, and what was sent and read.
 use Rattle.std.specs.Prelude.{ℕ, ◌≡◌, Bool, List, [], Option, Result, IfOk}
 use Rattle.swd_port.specs.declared.access.Access.{Access}
 use Rattle.swd_port.specs.declared.call.Call.{Call}
@@ -11,8 +11,9 @@ use Rattle.swd_host.specs.Reports.{Closes, RunsOver, told_of}
 use Rattle.swd_remote.specs.declared.kept.Line.{Line}
 use Rattle.swd_remote.specs.Kept.{HangsUp}
 
--- These were the calls of a wire over a line from its beginning to its end, the last one first. And these are the
--- calls that they made of the transport, the first one first: their characters went out, and their levels were read.
+-- These were the calls of a wire over a connection from its beginning to its end, the last one first. `made`
+-- are the calls that they made of the transport, in order: up to the first error their characters were sent,
+-- and their levels were read.
 pub record GoesOver {R W : Type 0} (remaining : R → Option (List ℕ)) (contents : W → Option (List ℕ))
     (sent left : Option (List ℕ))
     (line : Line R W) (calls : List Call) : Type 0 where
@@ -22,12 +23,12 @@ pub record GoesOver {R W : Type 0} (remaining : R → Option (List ℕ)) (conten
   pub of : AreMadeOf calls made gone fetched
   pub hangs : HangsUp remaining contents sent left made line
 
--- a line over which nothing went
+-- a connection over which nothing was sent or read
 abbrev pub IsUnused : {R W : Type 0} → (R → Option (List ℕ)) → (W → Option (List ℕ)) → Option (List ℕ) → Option (List ℕ)
     → Line R W → Type 0
 IsUnused remaining contents sent left line = (contents line.writer ≡ sent) × (remaining line.reader ≡ left)
 
--- The calls of the wire of which the report tells, and all that went over the line.
+-- The calls of the wire that the report is of, and all that was sent and read.
 pub record RanOver {A R W : Type 0} (story : ℕ → Port) (accesses : List Access) (tries : ℕ)
     (remaining : R → Option (List ℕ))
     (contents : W → Option (List ℕ)) (sent left : Option (List ℕ)) (result : Result (Report A) Refused)

@@ -1,4 +1,5 @@
-//! A transport over remote_bitbang characters that tells of its calls, so that a whole run can be told of.
+//! A transport over remote_bitbang characters whose contract has its calls, so that contracts can speak of a
+//! whole run.
 ghost use Rattle.std.specs.Prelude.{◌≡◌, ℕ, List, [], Option, None};
 ghost use Rattle.swd_port.specs.Transports.{Attempt};
 
@@ -8,8 +9,8 @@ use std::io::{Read, Write};
 use std::marker::{Brand, PhantomData};
 use swd_port::{Cue, Disconnected, Transport};
 
-/// What a line begins with: what its writer holds, and what its reader has. It is for contracts alone; a caller
-/// passes [`Brand`], and its proof says what these are.
+/// What the writer holds and the reader has at the beginning of a connection. It is for contracts alone: a
+/// caller passes [`Brand`], and its proof gives the values.
 pub trait Beginning {
     ghost sent: { Option (List ℕ) };
 
@@ -22,25 +23,25 @@ impl Beginning for Brand {
     ghost left = { None };
 }
 
-/// A transport over remote_bitbang characters that tells of its calls: what went over the line since the
-/// beginning is exactly theirs.
+/// A transport over remote_bitbang characters whose contract has its calls: up to the first error, exactly
+/// their characters were sent since the beginning, and exactly their levels were read.
 #[derive(Drop)]
 pub struct Kept<R: Read, W: Write, B: Beginning> {
     pub transport: ProbeTransport<Remote<R, W>>,
     beginning: PhantomData<B>,
 }
 
-/// A line that nobody uses any more.
+/// A connection after its use.
 #[derive(Drop)]
 pub struct Line<R, W> {
     pub reader: R,
     pub writer: W,
-    /// Why the other end is gone, where it is.
+    /// The error that ended the connection, if any.
     pub fault: Option<Fault>,
 }
 
 impl<R, W> Line<R, W> {
-    /// A line over which nothing went.
+    /// Returns a connection that wasn't used.
     pub fn unused(reader: R, writer: W) -> Line<R, W>
         ensures reader { result.reader ≡ reader }
         ensures writer { result.writer ≡ writer }
@@ -57,7 +58,7 @@ impl<R, W> Line<R, W> {
 impl<R: Read, W: Write, B: Beginning> Kept<R, W, B> {
     ghost use Rattle.swd_remote.specs.Kept.{IsTold, HangsUp};
 
-    /// A transport to which nothing was sent yet.
+    /// Returns a transport over which nothing was sent yet.
     pub fn new(reader: R, writer: W) -> Kept<R, W, B>
         requires sent { B.sent ≡ W.contents writer }
         requires left { B.left ≡ R.remaining reader }
@@ -70,7 +71,7 @@ impl<R: Read, W: Write, B: Beginning> Kept<R, W, B> {
         }
     }
 
-    /// Says that the host is done, and hands back the line.
+    /// Sends what is queued and `Q`, unless an error came before, and returns the connection.
     pub fn hang_up(self) -> Line<R, W>
         ensures { (calls : List Attempt) → ∥ IsTold R.remaining W.contents B.sent B.left calls self.transport ∥₁
             → ∥ HangsUp R.remaining W.contents B.sent B.left calls result ∥₁ }

@@ -1,10 +1,11 @@
-//! Laws of whole runs. A function here does nothing: its contract is the law.
+//! Laws of whole runs. The functions do nothing: their contracts are the laws.
 ghost use Rattle.swd_remote.specs.Runs.{RunsExactly, QuitsExactly};
 
 use std::io::{Read, Write};
 
-/// The calls of a wire over remote_bitbang characters, however many, one after the other: up to the first
-/// fault exactly their characters go out, in order, and exactly the levels that they ask for are read.
+/// States what any number of successive calls over remote_bitbang characters does. Up to the first error,
+/// exactly their characters are queued, in order, and exactly the levels that they ask for are read. After a
+/// successful `quit` exactly these characters and `Q` were sent.
 pub fn runs_exactly<R: Read, W: Write>()
     ensures runs { RunsExactly R.remaining W.contents }
     ensures quits { QuitsExactly R.remaining W.contents }

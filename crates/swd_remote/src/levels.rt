@@ -1,4 +1,4 @@
-//! The levels that come back.
+//! Reads the levels that the server returns.
 ghost use Rattle.std.specs.Prelude.{◌≡◌, ◌<◌, ◌≤◌, ◌^◌, length, OnOk, IfOk, IfErr};
 ghost use Rattle.std.specs.Io.KnownBytes.{Consumes};
 ghost use Rattle.swd_sequences.specs.Clocks.{levels};
@@ -8,10 +8,10 @@ use crate::remote::Fault;
 use std::io::Read;
 use swd_sequences::level_of;
 
-/// How many levels are read at once, at most.
+/// The most levels that one call reads.
 pub(crate) const MOST: usize = 64;
 
-// Fills the buffer. A read that fails isn't tried again.
+// Fills the buffer. A read that fails isn't retried.
 fn fill<R: Read>(reader: &mut R, buffer: &mut [u8]) -> Result<(), Fault>
     ensures ok { OnOk result (Consumes (R.remaining reader.old) (R.remaining reader.new) buffer.new) }
     ensures err { IfErr result (λ fault. Stops fault (length buffer.old) (R.remaining reader.old)
@@ -32,7 +32,8 @@ fn fill<R: Read>(reader: &mut R, buffer: &mut [u8]) -> Result<(), Fault>
     Ok(())
 }
 
-// The number of these levels, of which the first is the least significant.
+// Returns the number of these levels, of which the first one is least significant, or a byte that isn't a
+// level.
 fn number_of(text: &[u8]) -> Result<u64, u8>
     requires { length text.now ≤ 64 }
     ensures ok { IfOk result (λ number. (levels (length text.now) number ≡ text.now) × (number < 2 ^ length text.now)) }
@@ -49,7 +50,7 @@ fn number_of(text: &[u8]) -> Result<u64, u8>
     Ok(number)
 }
 
-/// Reads so many levels, and not a byte more.
+/// Reads `count` levels, and no byte more.
 pub(crate) fn read_levels<R: Read>(reader: &mut R, count: usize) -> Result<u64, Fault>
     requires { count ≤ 64 }
     ensures { ReadsLevels count result (R.remaining reader.old) (R.remaining reader.new) }

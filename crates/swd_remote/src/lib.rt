@@ -1,4 +1,4 @@
-//! A way to a target by sequences of clocks, and the host over it, as over OpenOCD's remote_bitbang characters for
+//! Connects a host to a target by sequences of clocks, for example over OpenOCD's remote_bitbang protocol for
 //! serial wire.
 #![tactic(auto)]
 

@@ -1,4 +1,4 @@
-//! Characters on their way to a writer.
+//! Buffered characters for a writer.
 ghost use Rattle.std.specs.Prelude.{◌≡◌, ◌+◌, ◌≤◌, ℕ, List, Option, [], length, true, false};
 ghost use Rattle.std.specs.Io.KnownBytes.{Appends};
 ghost use Rattle.swd_remote.specs.Ways.{IsOnItsWay, Lengthens, Delivers, has_broken};
@@ -7,11 +7,11 @@ use arrayvec::ArrayVec;
 use std::io::Write;
 use swd_io::send;
 
-// How many characters are held back at most.
+// The size of the buffer in characters.
 const HELD: usize = 4096;
 
-/// A text that is held back until it is wanted, or until there is no room for more. Once the writer failed,
-/// nothing more goes out.
+/// Characters that are buffered until `flush`, or until there is no room for more. Once the writer failed,
+/// nothing more is written.
 #[derive(Drop)]
 pub(crate) struct Outgoing<W> {
     pub(crate) writer: W,
@@ -20,7 +20,7 @@ pub(crate) struct Outgoing<W> {
 }
 
 impl<W: Write> Outgoing<W> {
-    /// No text yet.
+    /// Returns an empty buffer.
     pub(crate) fn new(writer: W) -> Outgoing<W>
         ensures { (start : Option (List ℕ)) (text : List ℕ) → Appends start (W.contents writer) text
             → IsOnItsWay W.contents start result text }
@@ -32,7 +32,7 @@ impl<W: Write> Outgoing<W> {
         }
     }
 
-    /// Sends what is held, and says whether all of the text went out.
+    /// Writes the buffered characters, and returns whether all characters so far were written.
     pub(crate) fn flush(&mut self) -> bool
         ensures whole { result ≡ true → Delivers W.contents self.old self.new }
         ensures broken { result ≡ false → has_broken self.new ≡ true }
@@ -54,7 +54,7 @@ impl<W: Write> Outgoing<W> {
         }
     }
 
-    // Whether there is room for so many characters, once what is held was sent where there was none.
+    // Makes room for `len` characters, and returns whether there is room.
     fn make_room(&mut self, len: usize) -> bool
         requires { len ≤ 16 }
         ensures keeps { Lengthens W.contents [] self.old self.new }
@@ -70,7 +70,7 @@ impl<W: Write> Outgoing<W> {
         self.flush()
     }
 
-    /// The text is this much longer.
+    /// Appends these characters.
     pub(crate) fn put(&mut self, piece: &[u8])
         requires { length piece.now ≤ 16 }
         ensures { Lengthens W.contents piece.now self.old self.new }

@@ -6,13 +6,13 @@ ghost use Rattle.swd_port.specs.declared.outside.Disconnected.{Disconnected};
 use swd_port::Disconnected;
 use swd_sequences::Sequence;
 
-/// A way to a target: pins of a microcontroller, a server that moves them, or the sequence command of a
-/// debug probe. **It has no law**: anything may come back, and each exchange may fail.
+/// A way to a target: a microcontroller's pins, a server that moves them, or the sequence command of a debug
+/// probe. **Nothing is assumed of it**: any levels may be returned, and each exchange may fail.
 ///
-/// Sequences wait until the next exchange, so that one round trip serves many of them. No sequence of no
-/// clocks is queued, and at most 64 levels are sampled from one exchange to the next.
+/// Sequences are queued until the next exchange, so that one round-trip serves many of them. A queued
+/// sequence has at least one clock, and at most 64 levels are sampled between two exchanges.
 ///
-/// The two relations are for implementers who want to say what their calls do; nobody has to.
+/// The two relations are optional. They are for implementers who state what their calls do.
 pub trait Probe {
     /// What queueing a sequence does.
     ghost queues: { Sequence → Self → Self → Type 0 } = { λ _ _ _. Unit {0} };
@@ -20,12 +20,16 @@ pub trait Probe {
     /// What an exchange does.
     ghost exchanges: { Result ℕ Disconnected → Self → Self → Type 0 } = { λ _ _ _. Unit {0} };
 
-    /// Adds a sequence to those that wait. A fault is told by the next exchange.
+    /// Queues a sequence. The next exchange reports an error, if there is one.
     fn queue(&mut self, sequence: Sequence)
         ensures { queues sequence self.old self.new };
 
-    /// Sends what waits, and gives the levels that were sampled since the last exchange, the first one
-    /// least significant. Once it failed, nothing more is sent.
+    /// Sends the queued sequences. Returns the levels sampled since the last exchange, the first one least
+    /// significant.
+    ///
+    /// # Errors
+    ///
+    /// `Disconnected` if the other end can't be reached. Nothing more is sent after it.
     fn exchange(&mut self) -> Result<u64, Disconnected>
         ensures { exchanges result self.old self.new };
 }

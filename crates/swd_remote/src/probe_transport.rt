@@ -1,4 +1,4 @@
-//! A probe as the transport of a wire: what a host does as sequences of clocks.
+//! A probe as the transport of a wire: each of the host's cues as sequences of clocks.
 ghost use Rattle.std.specs.Prelude.{◌≡◌, ℕ, Result};
 ghost use Rattle.swd_port.specs.declared.cue.Cue.TheVariants.{Lead, Ask};
 ghost use Rattle.swd_port.specs.declared.outside.Disconnected.{Disconnected as IsDisconnected};
@@ -9,26 +9,26 @@ use swd_bits::{Request, SWITCH, SWITCH_BITS};
 use swd_port::{Cue, Disconnected, Transport};
 use swd_sequences::Sequence;
 
-/// A probe as the transport of a wire: each cue is its sequences. Only a request and the data phase of a
-/// read are exchanged; all else waits for the next of them.
+/// A probe as the transport of a wire. Each cue is its sequences of clocks. Only a request and the data phase
+/// of a read are exchanged; all other sequences are queued until the next exchange.
 #[derive(Drop)]
 pub struct ProbeTransport<P: Probe> {
     pub probe: P,
 }
 
 impl<P: Probe> ProbeTransport<P> {
-    /// Makes a transport of this probe.
+    /// Returns a transport over this probe.
     pub fn new(probe: P) -> ProbeTransport<P>
         ensures { result.probe ≡ probe }
     {
         ProbeTransport { probe }
     }
 
-    /// Sends what waits.
+    /// Sends the queued sequences.
     ///
     /// # Errors
     ///
-    /// `Disconnected` where the probe failed, now or before.
+    /// `Disconnected` if the exchange with the probe fails.
     pub fn finish(&mut self) -> Result<(), Disconnected>
         ensures { (seen : Result ℕ IsDisconnected) × P.exchanges seen self.old.probe self.new.probe
             × IsDoneAs seen result }
@@ -39,7 +39,7 @@ impl<P: Probe> ProbeTransport<P> {
         }
     }
 
-    /// Gives back the probe, once no more calls come.
+    /// Returns the probe.
     pub fn into_probe(self) -> P
         ensures { result ≡ self.probe }
     {
@@ -47,7 +47,7 @@ impl<P: Probe> ProbeTransport<P> {
         probe
     }
 
-    // One sequence, where it has clocks.
+    // Queues a sequence if it has clocks.
     fn queue(&mut self, sequence: Sequence)
         ensures { QueuesBy (has_clocks sequence) P.queues sequence self.old.probe self.new.probe }
     {
@@ -56,7 +56,7 @@ impl<P: Probe> ProbeTransport<P> {
         }
     }
 
-    // One sequence after the other, of those that have clocks.
+    // Queues the sequences that have clocks, in order.
     fn queue_all(&mut self, sequences: &[Sequence])
         ensures { Queues P.queues sequences.now self.old.probe self.new.probe }
     {
@@ -65,7 +65,7 @@ impl<P: Probe> ProbeTransport<P> {
         }
     }
 
-    // The sequences of a cue, up to its answer.
+    // Queues the sequences of a cue, up to its answer.
     fn queue_cue(&mut self, cue: Cue)
         ensures { Queues P.queues (sequences cue) self.old.probe self.new.probe }
     {
@@ -87,7 +87,7 @@ impl<P: Probe> ProbeTransport<P> {
     }
 }
 
-// Whether a sequence has clocks.
+// Returns whether a sequence has clocks.
 fn has_clocks(sequence: Sequence) -> bool
     ensures { result ≡ has_clocks sequence }
 {
@@ -97,7 +97,7 @@ fn has_clocks(sequence: Sequence) -> bool
     }
 }
 
-// The sequences of ones, with the switch its sixteen bits and the ones again, and zeros.
+// Returns the sequences of a lead: ones, with `switch` the switch and the ones again, and zeros.
 fn led(ones: u32, undriven: u32, switch: bool, zeros: u32) -> [Sequence; 5]
     ensures { result ≡ sequences (Lead ones undriven switch zeros) }
 {
@@ -123,7 +123,7 @@ fn led(ones: u32, undriven: u32, switch: bool, zeros: u32) -> [Sequence; 5]
     ]
 }
 
-// The sequences of a request, up to its acknowledgement.
+// Returns the sequences of a request and its acknowledgement.
 fn asked(request: Request) -> [Sequence; 3]
     ensures { result ≡ sequences (Ask request) }
 {

@@ -1,4 +1,4 @@
-//! OpenOCD's remote_bitbang characters for serial wire, as their client.
+//! A client of OpenOCD's remote_bitbang protocol for serial wire.
 ghost use Rattle.std.specs.Prelude.{◌≡◌, ◌<◌, ◌≤◌, ℕ, List, Option, None, true, length, map, replicate};
 ghost use Rattle.std.specs.Io.KnownBytes.{Appends};
 ghost use Rattle.swd_bits.specs.Bits.{low_bits};
@@ -13,26 +13,27 @@ use std::io::{Read, Write};
 use swd_port::Disconnected;
 use swd_sequences::{Character, Sequence};
 
-/// Why the other end is gone.
+/// The error that ended a connection.
 #[derive(Clone, Copy, Debug, PartialEq, Eq)]
 pub enum Fault {
-    /// It closed its end.
+    /// The server closed its end.
     Ended,
-    /// A byte came back that is neither `0` nor `1`.
+    /// The server returned a byte that is neither `0` nor `1`.
     NoLevel(u8),
     /// The reader failed.
     Read,
     /// The writer failed, or took no bytes.
     Write,
-    /// More than 64 levels were asked for at once.
+    /// More than 64 levels were asked for in one exchange.
     TooMany,
 }
 
-/// A server of OpenOCD's remote_bitbang characters for serial wire, over a reader and a writer: `swd target`
-/// of this program, or pins of a board behind a socket.
+/// A connection to a server of OpenOCD's remote_bitbang protocol for serial wire, over a reader and a writer.
+/// The server is `swd target` of this program, or moves the pins of a board behind a socket.
 ///
-/// Characters wait until an exchange, or until there are thousands of them. Exactly as many bytes are read as
-/// levels were asked for. Nothing is tried again; after the first fault nothing is sent or read.
+/// Characters are buffered until an exchange, or until the buffer is full. An exchange reads at most as many
+/// bytes as levels were asked for, and exactly as many if it succeeds. Nothing is retried, and after the
+/// first error nothing is sent or read.
 ///
 /// ```ignore
 /// let remote = Remote::new(rt.stdin(), rt.stdout());
@@ -56,7 +57,7 @@ pub struct Remote<R, W> {
 impl<R: Read, W: Write> Remote<R, W> {
     ghost use Rattle.swd_remote.specs.Remotes.{QuitsAt};
 
-    /// A server to which nothing was sent yet: SWCLK is low, and the host drives SWDIO.
+    /// Returns a connection over which nothing was sent yet. SWCLK is low, and the host drives SWDIO.
     pub fn new(reader: R, writer: W) -> Remote<R, W>
         ensures reader { result.reader ≡ reader }
         ensures out { (start : Option (List ℕ)) (text : List ℕ) → Appends start (W.contents writer) text
@@ -74,11 +75,11 @@ impl<R: Read, W: Write> Remote<R, W> {
         }
     }
 
-    /// Sends what waits, and that the host is done.
+    /// Sends the buffered characters and `Q`: the host is done.
     ///
     /// # Errors
     ///
-    /// `Disconnected` where the other end was gone before, or the writer fails now.
+    /// `Disconnected` if the connection ended before, or the writer fails now.
     pub fn quit(&mut self) -> Result<(), Disconnected>
         ensures { QuitsAt self.old.fault W.contents result self.old self.new }
     {
@@ -94,14 +95,14 @@ impl<R: Read, W: Write> Remote<R, W> {
         }
     }
 
-    /// Why the other end is gone, where it is.
+    /// Returns the error that ended the connection, if any.
     pub fn fault(&self) -> Option<Fault>
         ensures { result ≡ self.now.fault }
     {
         self.fault
     }
 
-    /// The reader and the writer, once nothing more is sent. What still waits isn't.
+    /// Returns the reader and the writer. Discards characters that are still buffered.
     pub fn into_parts(self) -> (R, W)
         ensures reader { result.0 ≡ self.reader }
         ensures writer { result.1 ≡ self.outgoing.writer }
@@ -158,7 +159,7 @@ impl<R: Read, W: Write> Probe for Remote<R, W> {
     }
 }
 
-// How many levels a sequence asks for.
+// Returns how many levels a sequence asks for.
 fn looks(sequence: Sequence) -> usize
     ensures value { result ≡ looks sequence }
     ensures few { result < 256 }
@@ -169,14 +170,14 @@ fn looks(sequence: Sequence) -> usize
     }
 }
 
-// Whether the host drives.
+// Returns whether the host drives in a sequence.
 fn is_driven(sequence: Sequence) -> bool
     ensures { result ≡ is_driven sequence }
 {
     matches!(&sequence, Sequence::Drive { .. } | Sequence::Hold { .. })
 }
 
-// The characters of a sequence, after a time in which the host drove or not.
+// Appends the characters of a sequence. `drives` is whether the host drove before it.
 fn put_sequence<W: Write>(outgoing: &mut Outgoing<W>, drives: bool, sequence: Sequence)
     ensures { Lengthens W.contents (characters drives sequence) outgoing.old outgoing.new }
 {
@@ -184,7 +185,7 @@ fn put_sequence<W: Write>(outgoing: &mut Outgoing<W>, drives: bool, sequence: Se
     put_clocks(outgoing, sequence);
 }
 
-// The host drives from here on, or not.
+// Appends the character that makes the host drive or release SWDIO, if that changes.
 fn put_turn<W: Write>(outgoing: &mut Outgoing<W>, drives: bool, wanted: bool)
     ensures { Lengthens W.contents (turned drives wanted) outgoing.old outgoing.new }
 {
@@ -195,7 +196,7 @@ fn put_turn<W: Write>(outgoing: &mut Outgoing<W>, drives: bool, wanted: bool)
     }
 }
 
-// The clocks of a sequence.
+// Appends the clocks of a sequence.
 fn put_clocks<W: Write>(outgoing: &mut Outgoing<W>, sequence: Sequence)
     ensures { Lengthens W.contents (clocks sequence) outgoing.old outgoing.new }
 {
@@ -207,7 +208,7 @@ fn put_clocks<W: Write>(outgoing: &mut Outgoing<W>, sequence: Sequence)
     }
 }
 
-// A clock in which the host drives a bit, or in which nobody looks.
+// Returns a clock in which the host drives a bit, or which isn't sampled.
 #[inline(always)]
 fn driven_clock(bit: bool) -> [u8; 2]
     ensures { result ≡ driven_clock bit }
@@ -218,7 +219,7 @@ fn driven_clock(bit: bool) -> [u8; 2]
     ]
 }
 
-// A clock whose level is asked for.
+// Returns a clock whose level is sampled.
 #[inline(always)]
 fn seen_clock() -> [u8; 3]
     ensures { result ≡ seen_clock }
@@ -230,7 +231,7 @@ fn seen_clock() -> [u8; 3]
     ]
 }
 
-// Clocks in which the host drives the low bits of a number.
+// Appends clocks in which the host drives the low bits of a number.
 fn put_bits<W: Write>(outgoing: &mut Outgoing<W>, bits: u64, count: u8)
     ensures { Lengthens W.contents (joined (map driven_clock (low_bits count bits))) outgoing.old outgoing.new }
 {
@@ -241,7 +242,7 @@ fn put_bits<W: Write>(outgoing: &mut Outgoing<W>, bits: u64, count: u8)
     }
 }
 
-// So many clocks that are alike.
+// Appends equal clocks.
 fn put_times<W: Write>(outgoing: &mut Outgoing<W>, clock: &[u8], count: u32)
     requires { length clock.now ≤ 16 }
     ensures { Lengthens W.contents (joined (replicate count clock.now)) outgoing.old outgoing.new }

@@ -1,4 +1,4 @@
-//! A run over a line of remote_bitbang characters, with all that went over it.
+//! A run over a remote_bitbang connection, with everything that was sent and read.
 ghost use Rattle.std.specs.Prelude.{◌≡◌};
 ghost use Rattle.swd_remote.specs.WholeRuns.{RanOver};
 
@@ -9,12 +9,18 @@ use std::marker::Brand;
 use swd_host::{Refused, Report, run};
 use swd_port::{Access, Outside, Story, Tied};
 
-/// Does the accesses in order, each once, over a line of remote_bitbang characters, and says that the host is
-/// done.
+/// Performs the accesses in order over a remote_bitbang connection, and then sends `Q`.
 ///
-/// Whatever comes back it ends; and of every story that the replies fit the report tells the truth. The bytes
-/// that went out are exactly the characters of the calls that the report is of, and as many were read as levels
-/// were asked for, up to the first fault.
+/// The run always ends within a bounded number of requests, whatever is received, unless a read or write
+/// blocks. If what was received is consistent with the port model, the report is correct, as that of
+/// `swd_host::run`.
+///
+/// Up to the first error, exactly the characters of the calls that the report is of are written, and then
+/// `Q`. Up to that error, exactly as many bytes are read as levels were asked for.
+///
+/// # Errors
+///
+/// As `swd_host::run`: `TooMany`, `Unaligned`, `Memory`.
 pub fn run_over_line<S: Story, R: Read, W: Write, A: Allocator>(
     alloc: A,
     reader: R,

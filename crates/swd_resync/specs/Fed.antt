@@ -1,11 +1,11 @@
--- What is always true of the parts of a reader of captures.
+-- The invariant of a decoder of captures.
 use Rattle.std.specs.Prelude.{ℕ, ◌+◌, ◌^◌, ◌<◌, ◌≤◌, length}
 use Rattle.swd_resync.specs.declared.stage.Stage.{Stage}
 use Rattle.swd_resync.specs.declared.held.Held.{Held}
 use Rattle.swd_resync.specs.Holding.{held_bits, behind_run}
 use Rattle.swd_resync.specs.Stages.{counted}
 
--- the bits that are counted and held are some of those that it was fed, and one more has room
+-- the counted and held bits are some of those that it was fed, and there is room for one more
 pub record IsFed (stage : Stage) (held : Held) (fed : ℕ) : Type 0 where
   pub counts : counted stage + length (held_bits held) ≤ fed
   pub small : fed < 2 ^ 64

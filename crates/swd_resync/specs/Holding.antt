@@ -1,4 +1,4 @@
--- What a reader of captures holds.
+-- What a decoder of captures holds.
 use Rattle.std.specs.Prelude.{ℕ, ◌<◌, ◌≤◌, Bool, List, length, drop}
 use Rattle.swd_resync.specs.declared.held.Held.{Held}
 use Rattle.swd_resync.specs.Queues.{queued}
@@ -7,11 +7,11 @@ use Rattle.swd_resync.specs.Parts.{past_zeros}
 abbrev pub held_bits : Held → List Bool
 held_bits h = queued h.queue
 
--- how many bits are held behind the run of zeros
+-- how many bits are held after the run of zeros
 abbrev pub behind_run : Held → ℕ
 behind_run h = h.queue.back_len
 
--- behind so many bits at most, and zeros, fewer than fifty are held
+-- fewer than fifty bits are held after at most `most` bits and zeros
 pub record IsNear (most : ℕ) (bits : List Bool) : Type 0 where
   pub place : ℕ
   pub within : place ≤ most

@@ -11,17 +11,17 @@ abbrev pub Judges : {A : Type 0} → Bool → ℕ → (List Bool → A) → List
 Judges ended most value bits (Some a) = (more : List Bool) → May ended more → value (bits ++ more) ≡ a
 Judges ended most value bits None = (ended ≡ false) × IsNear most bits
 
--- where it is decided, a bit is held, or none follows
+-- if it is decided, a bit is held, or no bits follow
 abbrev pub IsClear : {A : Type 0} → Bool → List Bool → Option A → Type 0
 IsClear ended bits (Some a) = bits ≡ [] → ended ≡ true
 IsClear ended bits None = Unit {0}
 
--- it is at most so many
+-- it is at most `most`
 abbrev pub IsMost : ℕ → Option ℕ → Type 0
 IsMost most (Some n) = n ≤ most
 IsMost most None = Unit {0}
 
--- the step of a transaction in a stretch that takes so many bits, where 0 stands for all of it
+-- the step of a transaction in a stretch of which so many bits are skipped; with 0 it is reported
 abbrev pub tx_step : Transaction → ℕ → ℕ → Step
 tx_step tx len zero = told (whole tx len)
 tx_step tx len (suc n) = skipped (suc n)

@@ -1,11 +1,11 @@
--- The line of a part. The text is this project's choice.
+-- The line of a part. The format is this project's choice.
 use Rattle.std.specs.Prelude.{ℕ, List, ◌++◌, codes}
 use Rattle.std.specs.Fmt.{decimal}
 use Rattle.swd_trace.specs.Texts.{item_line}
 use Rattle.swd_resync.specs.declared.part.Part.{Part}
 use Rattle.swd_resync.specs.declared.part.Part.TheVariants.{Item as Told, Skip}
 
--- without its end
+-- without its line feed
 abbrev pub part_line : Part → List ℕ
 part_line (Told item) = item_line item
 part_line (Skip n) = codes "skip " ++ decimal n

@@ -1,9 +1,9 @@
--- A queue of bits with a run of zeros in it.
+-- A queue of bits that counts one run of zeros.
 use Rattle.std.specs.Prelude.{◌≡◌, ◌+◌, ◌%◌, ◌^◌, ◌<◌, ◌≤◌, Bool, false, List, ◌++◌, replicate}
 use Rattle.swd_bits.specs.Bits.{low_bits}
 use Rattle.swd_resync.specs.declared.queue.Queue.{Queue}
 
--- the bits of a queue: some, a run of zeros, and more of them
+-- the bits of a queue: the front, a run of zeros, and the bits after it
 abbrev pub queued : Queue → List Bool
 queued q = low_bits q.front_len q.front ++ (replicate q.zeros false ++ low_bits q.back_len q.back)
 
@@ -14,11 +14,11 @@ pub record IsQueue (q : Queue) : Type 0 where
   pub back_whole : q.back < 2 ^ q.back_len
   pub back_short : q.back_len ≤ 63
 
--- nothing stands behind a front that isn't full
+-- after a front that isn't full, there are no bits
 abbrev pub IsFull : Queue → Type 0
 IsFull q = 0 < q.zeros + q.back_len → q.front_len ≡ 92
 
--- behind the run is a one
+-- the bit after the run is a one
 abbrev pub EndsRun : Queue → Type 0
 EndsRun q = 0 < q.back_len → q.back % 2 ≡ 1
 

@@ -1,10 +1,10 @@
--- What a sight says of what is read first; nothing where more bits decide.
+-- What a sight says of the first item; `None` if more bits are needed.
 use Rattle.std.specs.Prelude.{ℕ, Bool, true, false, Option, Some, None, if◌then◌else◌}
 use Rattle.swd_resync.specs.declared.sight.Sight.{Sight}
 use Rattle.swd_resync.specs.declared.sight.Sight.TheVariants.{Wait, End, Zero, Ones, Tx, Junk, Cut}
 use Rattle.swd_resync.specs.Parts.{is_sound}
 
--- how many bits a sound transaction has
+-- the number of bits of a sound transaction
 abbrev pub sound_seen : Sight → Option ℕ
 sound_seen Wait = None
 sound_seen End = Some 0
@@ -14,7 +14,7 @@ sound_seen (Tx tx len) = Some (if is_sound tx.result then len else 0)
 sound_seen Junk = Some 0
 sound_seen (Cut bits) = Some 0
 
--- a bit that belongs to nothing
+-- a junk bit
 abbrev pub junk_seen : Sight → Option Bool
 junk_seen Wait = None
 junk_seen End = Some false
@@ -34,7 +34,7 @@ ones_seen (Tx tx len) = Some false
 ones_seen Junk = Some false
 ones_seen (Cut bits) = Some false
 
--- nothing, or fifty ones
+-- no bits, or fifty ones
 abbrev pub end_seen : Sight → Option Bool
 end_seen Wait = None
 end_seen End = Some true

@@ -8,18 +8,18 @@ use Rattle.swd_resync.specs.declared.sight.Sight.{Sight}
 use Rattle.swd_resync.specs.declared.sight.Sight.TheVariants.{Wait, End, Zero, Ones, Tx, Junk, Cut}
 use Rattle.swd_resync.specs.Parts.{first_at}
 
--- what may follow: nothing, where the capture has ended
+-- what may follow: nothing if the capture has ended
 abbrev pub May : Bool → List Bool → Type 0
 May ended more = ended ≡ true → more ≡ []
 
--- a transaction of that many bits is read first, whatever follows
+-- the first item is a transaction of `len` bits, whatever follows
 pub record IsTxSeen (over : Bool) (tx : Transaction) (len : ℕ) (bits : List Bool) : Type 0 where
   pub some : 12 ≤ len
   pub most : len ≤ 46
   pub fits : len ≤ length bits
   pub first : (more : List Bool) → first_at over Synced (bits ++ more) ≡ whole tx len
 
--- all of the bits are cut off, where they end here
+-- all of the bits are cut off if they end here
 pub record IsCutSeen (over : Bool) (bits : List Bool) : Type 0 where
   pub some : 0 < length bits
   pub few : length bits < 50

@@ -1,4 +1,4 @@
--- What is read from a place on, by what the bits before it say.
+-- The parts from a place on, by the stage there.
 use Rattle.std.specs.Prelude.{◌≡◌, ℕ, zero, suc, ◌+◌, ◌*◌, ◌<◌, ◌≤◌, Bool, true, false, List, [], ◌∷◌, ◌++◌, length}
 use Rattle.std.specs.Prelude.{drop, Option, Some, None, if◌then◌else◌}
 use Rattle.swd_trace.specs.declared.item.Item.TheVariants.{Reset, Idle}
@@ -17,17 +17,17 @@ use Rattle.swd_resync.specs.Parts.{begins_at_start, gap, InStretch, Between, par
 use Rattle.swd_resync.specs.Holding.{IsNear}
 use Rattle.swd_resync.specs.Sights.{May}
 
--- behind so many idle cycles of a stretch
+-- after `n` idle cycles of a stretch
 abbrev pub idle_rest : Bool → ℕ → List Bool → List Part
 idle_rest over zero bits = parts over (InStretch Synced) bits
 idle_rest over (suc n) bits =
     Told (Idle (suc n + zeros bits)) ∷ parts over (InStretch Synced) (drop (zeros bits) bits)
 
--- behind so many ones of a reset
+-- after `n` ones of a line reset
 abbrev pub reset_rest : Bool → ℕ → List Bool → List Part
 reset_rest over n bits = Told (Reset (n + ones bits)) ∷ parts over (InStretch AfterReset) (drop (ones bits) bits)
 
--- behind so many bits that are skipped
+-- after `n` skipped bits
 abbrev pub skip_rest : Bool → ℕ → List Bool → List Part
 skip_rest over zero bits = parts over Between bits
 skip_rest over (suc n) bits = Skip (suc n + gap over bits) ∷ parts over Between (drop (gap over bits) bits)
@@ -49,7 +49,7 @@ counted BehindReset = 0
 counted BehindSwitch = 0
 counted (Skipping n) = n
 
--- how many steps that pass no bit may follow
+-- an upper bound on the number of further steps that remove no bits
 abbrev pub rank : Stage → ℕ
 rank (Start n) = 5
 rank (Stretch zero) = 0
@@ -60,7 +60,7 @@ rank BehindSwitch = 4
 rank (Skipping zero) = 2
 rank (Skipping (suc n)) = 3
 
--- a part before others, where there is one
+-- a part before others, if there is one
 abbrev pub with_part : Option Part → List Part → List Part
 with_part (Some part) others = part ∷ others
 with_part None others = others
@@ -74,7 +74,7 @@ pub record IsMove (over ended : Bool) (stage : Stage) (bits : List Bool) (m : Mo
   pub law : (more : List Bool) → May ended more → rest_at over stage (bits ++ more)
       ≡ with_part m.part (rest_at over m.stage (drop m.count bits ++ more))
 
--- few bits are held where more may follow, and nothing is left at the end
+-- few bits are held if more may follow, and nothing is left at the end
 pub record IsStill (over ended : Bool) (stage : Stage) (bits : List Bool) : Type 0 where
   pub near : ended ≡ false → IsNear 92 bits
   pub none : ended ≡ true → rest_at over stage bits ≡ []
@@ -83,7 +83,8 @@ abbrev pub Moves : Bool → Bool → Stage → List Bool → Option Move → Typ
 Moves over ended stage bits (Some m) = IsMove over ended stage bits m
 Moves over ended stage bits None = IsStill over ended stage bits
 
--- whether a switch stands at the front of what begins with these bits; more may follow where all of them are looked at
+-- whether the bits that begin with these begin with the switch; more may follow if all of them match it so
+-- far
 abbrev pub SeesSwitch : Bool → TxBits → Option Bool → Type 0
 SeesSwitch ended window (Some true) = (16 ≤ window.len) × (low_bits 16 window.bits ≡ switch)
 SeesSwitch ended window (Some false) =

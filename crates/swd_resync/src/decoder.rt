@@ -1,4 +1,4 @@
-//! Reading a capture bit by bit.
+//! Decodes a capture bit by bit.
 ghost use Rattle.swd_resync.specs.Fed.{IsFed};
 
 use crate::held::Held;
@@ -6,18 +6,20 @@ use crate::moves::next_move;
 use crate::part::Part;
 use crate::stage::{Move, Stage};
 
-/// Reads a capture: bits go in one at a time, and each part comes out as soon as it is decided, whatever may follow. How
-/// the bits are cut into pieces makes no difference.
+/// A decoder of captures. It takes one bit at a time, and returns parts that no later bits can change. How
+/// the bits are divided into calls makes no difference.
 ///
-/// Call `take` with a bit and then `due` until it answers `None`; at the end, `last` until it answers `None`.
+/// Call `take` with a bit, and then `due` until it returns `None`. At the end, call `last` until it returns
+/// `None`.
 ///
-/// It holds at most 142 bits beside a count of zeros among them and one of bits before them, and takes no memory.
+/// It allocates nothing: it holds at most 142 bits, a count of zeros among them, and a count of bits before
+/// them.
 ///
 /// ```
 /// let mut decoder = CaptureDecoder::new(false);
 /// for bit in [true, true, false] {
 ///     decoder.take(bit);
-///     assert!(rt; decoder.due().is_none()); // a transaction may have begun
+///     assert!(rt; decoder.due().is_none()); // the beginning of a transaction, perhaps
 /// }
 /// let cut = TxBits { len: 3, bits: 3 };
 /// assert_eq!(rt; decoder.last(), Some(Part::Item(Item::Cut(cut))));
@@ -40,8 +42,8 @@ impl CaptureDecoder {
     ghost use Rattle.swd_resync.specs.Decoding.{rest, HasRead, fed_of, steps_left, IsSettled, held_len, IsStep, Ends};
     ghost use Rattle.swd_resync.specs.declared.part.Part;
 
-    /// A decoder that was fed no bit; `over` where a data phase follows WAIT and FAULT, since the host uses overrun
-    /// detection (IHI 0031, B4).
+    /// Returns a decoder that was fed no bits. `over` says that the host uses overrun detection (IHI 0031,
+    /// B4), so that a data phase follows WAIT and FAULT.
     pub fn new(over: bool) -> CaptureDecoder
         ensures law { (more : List Bool) → rest result more ≡ parts_of over more }
         ensures read { HasRead over result [] [] }
@@ -57,14 +59,14 @@ impl CaptureDecoder {
         }
     }
 
-    /// How many bits it was fed.
+    /// Returns how many bits it was fed.
     pub fn fed(&self) -> u64
         ensures { result ≡ fed_of self.now }
     {
         self.fed
     }
 
-    /// Takes a bit. Every part that was due has to be taken before.
+    /// Takes a bit. Take every part that is due first: call `due` until it returns `None`.
     pub fn take(&mut self, bit: bool)
         requires settled { IsSettled self.old }
         requires count { fed_of self.old < 2 ^ 64 - 1 }
@@ -78,7 +80,8 @@ impl CaptureDecoder {
         self.fed += 1;
     }
 
-    /// The next part that is decided, whatever bits may follow. `None` where none is.
+    /// Returns the next part, which no later bits can change. Returns `None` if it needs more bits. Fewer
+    /// than 142 bits are then held, apart from a count of zeros.
     pub fn due(&mut self) -> Option<Part>
         ensures part { IfSome result (λ part. (more : List Bool) → rest self.old more ≡ part ∷ rest self.new more) }
         ensures read { IfSome result (λ part. (over : Bool) (bits : List Bool) (parts : List Part)
@@ -94,8 +97,8 @@ impl CaptureDecoder {
         self.next(false)
     }
 
-    /// The next part where the capture ends here. `None` where all were given: all parts together are the reading of all
-    /// bits.
+    /// Returns the next part of a capture that ends here. Returns `None` if all parts were returned: together
+    /// they are the reading of all the bits.
     pub fn last(&mut self) -> Option<Part>
         ensures part { IfSome result (λ part. rest self.old [] ≡ part ∷ rest self.new []) }
         ensures fewer { IfSome result (λ part. steps_left self.new < steps_left self.old) }
@@ -107,7 +110,7 @@ impl CaptureDecoder {
         self.next(true)
     }
 
-    // The next part.
+    // Returns the next part.
     fn next(&mut self, ended: bool) -> Option<Part>
         ensures part { IfSome result (λ part. (more : List Bool) → May ended more
             → rest self.old more ≡ part ∷ rest self.new more) }
@@ -125,7 +128,7 @@ impl CaptureDecoder {
         None
     }
 
-    // The bits of a step are passed.
+    // Removes the bits of a step.
     fn go(&mut self, step: &Move)
         requires { (ended : Bool) × IsMove self.old.over ended self.old.stage (held_bits self.old.held) step.now }
         ensures { IsStep self.old step.now self.new }

@@ -1,10 +1,10 @@
-//! The bits that a reader of captures holds.
+//! The bits that a decoder of captures holds.
 ghost use Rattle.swd_resync.specs.Queues.{IsHeld};
 
 use crate::queue::Queue;
 use swd_bits::TxBits;
 
-/// How many bits are looked at: fifty ones are a reset, and no transaction has more.
+/// How many bits are examined: fifty ones are a line reset, and no transaction has more.
 pub(crate) const WINDOW_BITS: u8 = 50;
 
 /// Bits in time order.
@@ -21,7 +21,7 @@ impl Held {
     ghost use Rattle.swd_resync.specs.Parts.{past_zeros};
     ghost use Rattle.swd_resync.specs.Holding.{held_bits, behind_run};
 
-    /// No bits.
+    /// Returns an empty list.
     pub(crate) fn new() -> Held
         ensures bits { held_bits result ≡ [] }
         ensures room { behind_run result ≡ 0 }
@@ -31,7 +31,7 @@ impl Held {
         }
     }
 
-    /// Adds a bit at the end.
+    /// Appends a bit.
     pub(crate) fn push(&mut self, bit: bool)
         requires room { behind_run self.old < 63 }
         requires count { length (held_bits self.old) < 2 ^ 64 - 1 }
@@ -41,7 +41,7 @@ impl Held {
         self.queue = self.queue.with(bit);
     }
 
-    /// The first bits, at most fifty.
+    /// Returns the first bits, at most fifty.
     pub(crate) fn window(&self) -> TxBits
         ensures spelled { IsSpelled result }
         ensures most { result.len ≤ 50 }
@@ -55,7 +55,7 @@ impl Held {
         }
     }
 
-    /// The first bit.
+    /// Returns the first bit.
     pub(crate) fn first(&self) -> Option<bool>
         ensures some { IfSome result (λ bit. (back : List Bool) × (held_bits self.now ≡ bit ∷ back)) }
         ensures none { IfNone result (held_bits self.now ≡ []) }
@@ -66,7 +66,7 @@ impl Held {
         Some(self.queue.front % 2 == 1)
     }
 
-    /// The bits behind the first ones, of which there are so many.
+    /// Returns the bits after the first `count` ones.
     pub(crate) fn without(&self, count: u8) -> Held
         requires most { count ≤ 50 }
         requires held { count ≤ length (held_bits self.now) }
@@ -78,7 +78,7 @@ impl Held {
         }
     }
 
-    /// The bits behind the zeros at the front.
+    /// Returns the bits after the zeros at the front.
     pub(crate) fn behind_zeros(&self) -> Held
         ensures { held_bits result ≡ past_zeros (held_bits self.now) }
     {

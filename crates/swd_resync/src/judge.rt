@@ -1,5 +1,5 @@
-//! Whether a stretch begins or goes on at a place of a capture. `over` is with overrun detection, `ended` where no bit
-//! follows those that are held. `None` where more bits decide.
+//! Decides whether a stretch begins or continues at a place of a capture. `over` means overrun detection;
+//! `ended` means that no bits follow the held ones. The functions return `None` if more bits are needed.
 ghost use Rattle.std.specs.Prelude.{◌≡◌, ◌+◌, ◌-◌, ◌<◌, ◌≤◌, List, Bool, ◌++◌, length, false, IfSome, IfNone};
 ghost use Rattle.swd_trace.specs.Reading.{whole};
 ghost use Rattle.swd_resync.specs.Parts.{sound, sound_next, pair, begins, goes_on, ended_or_reset, followed_by};
@@ -12,8 +12,8 @@ use crate::held::Held;
 use crate::look::look;
 use swd_bits::{Tx, TxEnd};
 
-// How many bits a transaction at the front has that was acknowledged, with a word of right parity where one was moved:
-// 0 where none stands there.
+// Returns the number of bits of the sound transaction at the front, or 0 if there is no such transaction. A
+// transaction is sound if it was acknowledged, and its word, if one was moved, has right parity.
 fn sound_bits(over: bool, ended: bool, held: &Held) -> Option<u8>
     ensures judges { Judges ended 0 (λ bits. sound over bits) (held_bits held.now) result }
     ensures clear { IsClear ended (held_bits held.now) result }
@@ -23,7 +23,7 @@ fn sound_bits(over: bool, ended: bool, held: &Held) -> Option<u8>
     look(over, ended, held).sound_bits()
 }
 
-// Whether such a transaction stands behind zeros or none.
+// Returns whether a sound transaction follows after any zeros.
 fn sound_follows(over: bool, ended: bool, held: &Held) -> Option<bool>
     ensures { Judges ended 0 (λ bits. sound_next over bits) (held_bits held.now) result }
 {
@@ -33,7 +33,7 @@ fn sound_follows(over: bool, ended: bool, held: &Held) -> Option<bool>
     }
 }
 
-// Whether two of them stand at the front, with zeros or nothing between them.
+// Returns whether two sound transactions are at the front, with at most zeros between them.
 fn pair_stands(over: bool, ended: bool, held: &Held) -> Option<bool>
     ensures { Judges ended 46 (λ bits. pair over bits) (held_bits held.now) result }
 {
@@ -44,7 +44,7 @@ fn pair_stands(over: bool, ended: bool, held: &Held) -> Option<bool>
     }
 }
 
-/// Whether a stretch begins here: fifty ones stand, or two transactions.
+/// Returns whether a stretch begins here: with fifty ones, or with a pair.
 pub(crate) fn stretch_begins(over: bool, ended: bool, held: &Held) -> Option<bool>
     ensures { Judges ended 46 (λ bits. begins over bits) (held_bits held.now) result }
 {
@@ -55,7 +55,7 @@ pub(crate) fn stretch_begins(over: bool, ended: bool, held: &Held) -> Option<boo
     }
 }
 
-// Whether what stands behind zeros or none isn't a bit that belongs to nothing.
+// Returns whether the bits after any zeros don't begin with a junk bit.
 fn reading_goes_on(over: bool, ended: bool, held: &Held) -> Option<bool>
     ensures { Judges ended 0 (λ bits. goes_on over bits) (held_bits held.now) result }
 {
@@ -65,14 +65,14 @@ fn reading_goes_on(over: bool, ended: bool, held: &Held) -> Option<bool>
     }
 }
 
-// Whether nothing stands here, or fifty ones.
+// Returns whether no bit or fifty ones follow.
 fn ends_or_resets(over: bool, ended: bool, held: &Held) -> Option<bool>
     ensures { Judges ended 0 (λ bits. ended_or_reset bits) (held_bits held.now) result }
 {
     look(over, ended, held).is_end_or_reset()
 }
 
-/// Whether a stretch goes on behind a transaction, where these bits follow it.
+/// Returns whether a stretch continues after a transaction that these bits follow.
 pub(crate) fn stretch_goes_on(over: bool, ended: bool, tx: &Tx, behind: &Held) -> Option<bool>
     ensures { Judges ended 0 (λ bits. followed_by over tx.now.result bits) (held_bits behind.now) result }
 {
@@ -82,7 +82,7 @@ pub(crate) fn stretch_goes_on(over: bool, ended: bool, tx: &Tx, behind: &Held) -
     }
 }
 
-// How many of the first `count` bits stand before two transactions, all where none of them is where two stand.
+// Returns how many of the first `count` bits come before a pair: all if no pair begins among them.
 fn bits_before_pair(over: bool, ended: bool, held: &Held, count: u8) -> Option<u8>
     requires short { count ≤ 45 }
     requires held { count ≤ length (held_bits held.now) }
@@ -102,8 +102,8 @@ fn bits_before_pair(over: bool, ended: bool, held: &Held, count: u8) -> Option<u
     }
 }
 
-/// How many bits of the transaction at the front, which has `len`, are skipped since a stretch begins inside of it: 0
-/// where it is told.
+/// Returns how many bits of the transaction at the front, which has `len` bits, are skipped since a stretch
+/// begins inside it. Returns 0 if the transaction is reported.
 pub(crate) fn bits_withdrawn(over: bool, ended: bool, held: &Held, tx: &Tx, len: u8) -> Option<u8>
     requires { IsTxSeen over tx.now len (held_bits held.now) }
     ensures most { IsMost len result }

@@ -8,35 +8,37 @@ ghost use Rattle.swd_resync.specs.AsItems.{items_of};
 ghost use Rattle.swd_resync.specs.Parts.{pair, begins, gap, parts_of};
 ghost use Rattle.swd_resync.specs.Divisions.{Divides, AreApart, IsNeverLost, IsPair};
 
-/// Where the reading of a trace is never lost, a capture is read as the same items, and nothing is skipped.
+/// States that without overrun detection, a capture whose reading as a trace is never lost has the same
+/// items, and nothing is skipped.
 pub fn what_is_never_lost_is_told()
     ensures { (bits : List Bool) → IsNeverLost (reading_of bits)
         → parts_of false bits ≡ map Told (reading_of bits) }
 {}
 
-/// Every bit of a capture belongs to one item, whose bits it has, or to one skip, and no two skips stand side by side.
+/// States that every bit of a capture belongs to one item, whose bits it has, or to one skip. No two skips
+/// follow one another.
 pub fn parts_divide_a_capture()
     ensures divides { (over : Bool) (bits : List Bool) → Divides over (parts_of over bits) bits }
     ensures apart { (over : Bool) (bits : List Bool) → AreApart (parts_of over bits) }
 {}
 
-/// As the items of a trace, some parts of a capture have as many bits as they take: what stands behind them keeps its
-/// place.
+/// States that parts of a capture, as the items of a trace, have as many bits as they take: what follows them keeps
+/// its place.
 pub fn places_are_kept()
     ensures { (over : Bool) (parts : List Part) (bits : List Bool) → Divides over parts bits
         → length (bits_of_items (items_of over parts)) ≡ length bits }
 {}
 
-/// Between stretches, where two transactions stand, the next stretch begins there or before; and no bit is skipped
-/// beyond the place where it begins.
+/// States where the next stretch begins. If a pair begins between two stretches, the next stretch begins
+/// there or before. Bits are skipped only up to the place where a stretch begins, or to the end.
 pub fn a_pair_is_found()
     ensures found { (over : Bool) (bits : List Bool) (n : ℕ) → pair over (drop n bits) ≡ true → gap over bits ≤ n }
     ensures begins { (over : Bool) (bits : List Bool)
         → (drop (gap over bits) bits ≡ []) ⊎ (begins over (drop (gap over bits) bits) ≡ true) }
 {}
 
-/// The test for a pair is what it stands for: two transactions stand there, each with the bits that spell it, with zeros or
-/// nothing between them, and with overrun detection 33 bits behind WAIT and FAULT.
+/// States what the test for a pair means. Two transactions are there, each with the bits that spell it, and
+/// at most zeros between them. With overrun detection 33 bits follow WAIT and FAULT.
 pub fn tests_of_a_capture()
     ensures { (over : Bool) (bits : List Bool) → (pair over bits ≡ true) ↔ IsPair over bits }
 {}

@@ -1,5 +1,5 @@
-//! The reading of captures, which begin in mid-session and lose bits: the stretches that are read as a trace is, and
-//! the bits between them.
+//! Decodes captures, which may begin in mid-session and lack bits: stretches that decode as traces, and the
+//! bits between them.
 #![tactic(auto)]
 
 mod decoder;

@@ -1,4 +1,4 @@
-//! What held bits begin as.
+//! What held bits begin with.
 ghost use Rattle.std.specs.Prelude.{◌≡◌, ◌%◌, ◌<◌, ◌≤◌, true, false, List, Bool, [], ◌++◌, ◌&&◌, replicate};
 ghost use Rattle.swd_bits.specs.BitLists.{bits_of, IsSpelled};
 ghost use Rattle.swd_trace.specs.Reading.{all_ones};
@@ -11,7 +11,8 @@ use crate::sight::Sight;
 use swd_bits::{MOVED_BITS, Tx, TxBits, TxEnd};
 use swd_trace::{Front, front_of};
 
-/// What stands at the front of held bits: `over` with overrun detection, `ended` where no bit follows.
+/// Returns what is at the front of the held bits. `over` means overrun detection; `ended` means that no bits
+/// follow.
 pub(crate) fn look(over: bool, ended: bool, held: &Held) -> Sight
     ensures { IsSeen over ended result (held_bits held.now) }
 {
@@ -31,7 +32,7 @@ pub(crate) fn look(over: bool, ended: bool, held: &Held) -> Sight
     begun(ended, window)
 }
 
-// What stands at the front, where it begins with a one and isn't ones alone.
+// Returns what is at the front, where the first bit is a one and not all bits are ones.
 fn seen(over: bool, ended: bool, window: TxBits) -> Sight
     requires spelled { IsSpelled window }
     requires most { window.len ≤ 50 }
@@ -56,7 +57,7 @@ fn seen(over: bool, ended: bool, window: TxBits) -> Sight
     }
 }
 
-// The beginning of a transaction or of fifty ones.
+// Returns the beginning of a transaction or of fifty ones: cut if no bits follow, else undecided.
 fn begun(ended: bool, window: TxBits) -> Sight
     ensures cut { ended ≡ true → result ≡ Sight.Cut window }
     ensures wait { ended ≡ false → result ≡ Sight.Wait }
@@ -68,7 +69,7 @@ fn begun(ended: bool, window: TxBits) -> Sight
     }
 }
 
-/// Whether all bits are ones.
+/// Returns whether all bits are ones.
 pub(crate) fn is_ones(window: TxBits) -> bool
     requires spelled { IsSpelled window }
     requires most { window.len ≤ 50 }
@@ -78,7 +79,7 @@ pub(crate) fn is_ones(window: TxBits) -> bool
     window.bits == (1 << window.len) - 1
 }
 
-// Whether a data phase follows WAIT or FAULT.
+// Returns whether a data phase follows WAIT or FAULT.
 fn has_phase(over: bool, tx: &Tx) -> bool
     ensures { result ≡ (over && is_refusal tx.now.result) }
 {

@@ -1,5 +1,5 @@
-//! The steps of a reader of captures. `over` is with overrun detection, `ended` where no bit follows those that are
-//! held. `None` where more bits decide, or none are left.
+//! The steps of a decoder of captures. `over` means overrun detection; `ended` means that no bits follow the
+//! held ones. The functions return `None` if more bits are needed, or if no bits are left.
 ghost use Rattle.std.specs.Prelude.{◌≡◌, ◌+◌, ◌^◌, ◌<◌, ◌≤◌, List, Bool, true, false, length};
 ghost use Rattle.swd_trace.specs.Reading.{switch, mode_after};
 ghost use Rattle.swd_resync.specs.Parts.{parts, place_after};
@@ -16,10 +16,10 @@ use crate::stage::{Move, Stage};
 use swd_bits::{SWITCH, SWITCH_BITS, Tx, TxBits, TxEnd};
 use swd_trace::Item;
 
-// How many ones make a line reset: as many as are looked at.
+// The number of ones that make a line reset: as many bits as are examined.
 const RESET_ONES: u64 = 50;
 
-/// The next step.
+/// Returns the next step.
 pub(crate) fn next_move(over: bool, ended: bool, stage: Stage, held: &Held) -> Option<Move>
     requires { counted stage + length (held_bits held.now) < 2 ^ 64 }
     ensures { Moves over ended stage (held_bits held.now) result }
@@ -40,7 +40,7 @@ pub(crate) fn next_move(over: bool, ended: bool, stage: Stage, held: &Held) -> O
     }
 }
 
-// At the front of the capture, behind zeros.
+// Steps at the front of the capture, after zeros.
 fn at_start(over: bool, ended: bool, zeros: u64, held: &Held) -> Option<Move>
     requires { zeros + length (held_bits held.now) < 2 ^ 64 }
     ensures { Moves over ended (Stage.Start zeros) (held_bits held.now) result }
@@ -64,7 +64,7 @@ fn at_start(over: bool, ended: bool, zeros: u64, held: &Held) -> Option<Move>
     }
 }
 
-// No bit is passed.
+// Changes the stage without removing bits.
 fn stay(stage: Stage) -> Move
     ensures { result ≡ record { count = 0; stage = stage; part = None } }
 {
@@ -75,7 +75,7 @@ fn stay(stage: Stage) -> Move
     }
 }
 
-// In a stretch.
+// Steps in a stretch.
 fn in_stretch(over: bool, ended: bool, held: &Held) -> Option<Move>
     requires { length (held_bits held.now) < 2 ^ 64 }
     ensures { Moves over ended (Stage.Stretch 0) (held_bits held.now) result }
@@ -107,7 +107,7 @@ fn in_stretch(over: bool, ended: bool, held: &Held) -> Option<Move>
     }
 }
 
-// The stage behind a transaction that is told.
+// Returns the stage after a reported transaction.
 fn behind_tx(tx: &Tx) -> Stage
     ensures rest { (over : Bool) (bits : List Bool) → rest_at over result bits
         ≡ parts over (place_after (mode_after tx.now.result)) bits }
@@ -120,7 +120,7 @@ fn behind_tx(tx: &Tx) -> Stage
     }
 }
 
-// A transaction of a stretch.
+// Reports or withdraws a transaction of a stretch.
 fn tx_move(over: bool, ended: bool, tx: &Tx, len: u8, held: &Held) -> Option<Move>
     requires { IsTxSeen over tx.now len (held_bits held.now) }
     ensures { Moves over ended (Stage.Stretch 0) (held_bits held.now) result }
@@ -145,7 +145,7 @@ fn tx_move(over: bool, ended: bool, tx: &Tx, len: u8, held: &Held) -> Option<Mov
     }
 }
 
-// In a stretch, behind idle cycles.
+// Steps in a stretch, after idle cycles.
 fn behind_idle(over: bool, ended: bool, zeros: u64, held: &Held) -> Option<Move>
     requires some { 0 < zeros }
     requires count { zeros + length (held_bits held.now) < 2 ^ 64 }
@@ -167,7 +167,7 @@ fn behind_idle(over: bool, ended: bool, zeros: u64, held: &Held) -> Option<Move>
     }
 }
 
-// In a stretch, behind ones of a reset.
+// Steps in a stretch, after ones of a line reset.
 fn in_reset(over: bool, ended: bool, ones: u64, held: &Held) -> Option<Move>
     requires { ones + length (held_bits held.now) < 2 ^ 64 }
     ensures { Moves over ended (Stage.Reset ones) (held_bits held.now) result }
@@ -188,7 +188,7 @@ fn in_reset(over: bool, ended: bool, ones: u64, held: &Held) -> Option<Move>
     }
 }
 
-// Directly after a reset.
+// Steps directly after a line reset.
 fn behind_reset(over: bool, ended: bool, held: &Held) -> Option<Move>
     ensures { Moves over ended Stage.AfterReset (held_bits held.now) result }
 {
@@ -203,7 +203,7 @@ fn behind_reset(over: bool, ended: bool, held: &Held) -> Option<Move>
     }
 }
 
-// Whether the bits begin with the switch from JTAG.
+// Returns whether the bits begin with the switch from JTAG.
 fn sees_switch(ended: bool, window: TxBits) -> Option<bool>
     requires { window.len ≤ 50 }
     ensures { SeesSwitch ended window result }
@@ -219,7 +219,7 @@ fn sees_switch(ended: bool, window: TxBits) -> Option<bool>
     if ended { Some(false) } else { None }
 }
 
-// Directly after a switch.
+// Steps directly after a switch.
 fn behind_switch(over: bool, ended: bool, held: &Held) -> Option<Move>
     ensures { Moves over ended Stage.AfterSwitch (held_bits held.now) result }
 {
@@ -244,7 +244,7 @@ fn behind_switch(over: bool, ended: bool, held: &Held) -> Option<Move>
     })
 }
 
-// Between two stretches, behind bits that are skipped.
+// Steps between two stretches, after skipped bits.
 fn between(over: bool, ended: bool, count: u64, held: &Held) -> Option<Move>
     requires { count + length (held_bits held.now) < 2 ^ 64 }
     ensures { Moves over ended (Stage.Between count) (held_bits held.now) result }
@@ -275,7 +275,7 @@ fn between(over: bool, ended: bool, count: u64, held: &Held) -> Option<Move>
     }
 }
 
-// The bits before here are a part.
+// Reports the bits before here as skipped.
 fn skipped(count: u64) -> Move
     ensures { result ≡ record { count = 0; stage = Stage.Between 0; part = Some (Part.Skip count) } }
 {

@@ -7,19 +7,19 @@ use arrayvec::ArrayString;
 use swd_bits::{Tx, TxEnd};
 use swd_trace::{Item, LONGEST_LINE};
 
-/// One part of a capture (the division is this project's choice).
+/// One part of a capture. The division is this project's choice.
 #[derive(Clone, Copy, Debug, PartialEq, Eq)]
 pub enum Part {
-    /// An item of a stretch that is read as a trace is.
+    /// An item of a stretch, which decodes as a trace.
     Item(Item),
-    /// That many bits, at least one, which belong to no stretch.
+    /// A skip: the number of bits, at least one, that belong to no stretch.
     Skip(u64),
 }
 
 impl Part {
     ghost use Rattle.swd_resync.specs.PartTexts.{part_line};
 
-    /// Adds the part's line to a text, without its end: an item's, or as in `skip 26`.
+    /// Appends the part's line without its line feed: an item's line, or as in `skip 26`.
     pub fn push_line<const N: usize>(&self, text: &mut ArrayString<N>)
         requires { array_string_len text.old + LONGEST_LINE ≤ N }
         ensures bytes { text.new.bytes ≡ text.old.bytes ++ part_line self.now }

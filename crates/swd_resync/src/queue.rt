@@ -1,12 +1,13 @@
-//! A queue of bits with a run of zeros in it.
+//! A queue of bits that counts one run of zeros.
 ghost use Rattle.std.specs.Prelude.{◌≡◌, ◌+◌, ◌-◌, ◌^◌, ◌<◌, ◌≤◌, [], ◌∷◌, ◌++◌, drop};
 ghost use Rattle.swd_resync.specs.Queues.{queued, IsQueue, IsFull, EndsRun, IsHeld};
 
-/// How many bits are held one by one before a run of zeros is counted: those of a transaction, and of one that begins
-/// inside of it.
+/// How many bits are held one by one before a run of zeros is counted: those of a transaction, and of another
+/// one that begins inside it.
 pub(crate) const FRONT_BITS: u8 = 92;
 
-/// Bits in time order: some, then a run of zeros, then more of them. The first of them is least significant.
+/// Bits in time order: the front, then a run of zeros, then the bits after it. In numbers the first bit is
+/// least significant.
 #[derive(Clone, Copy, Debug)]
 pub(crate) struct Queue {
     pub(crate) front: u128,
@@ -17,7 +18,7 @@ pub(crate) struct Queue {
 }
 
 impl Queue {
-    /// No bits.
+    /// Returns an empty queue.
     pub(crate) fn new() -> Queue
         ensures bits { queued result ≡ [] }
         ensures held { IsHeld result }
@@ -32,7 +33,7 @@ impl Queue {
         }
     }
 
-    /// The bits with one more at their end.
+    /// Returns the queue with one more bit at its end.
     pub(crate) fn with(self, bit: bool) -> Queue
         requires held { IsHeld self }
         requires room { self.back_len < 63 }
@@ -61,7 +62,7 @@ impl Queue {
         }
     }
 
-    /// The bits behind the first ones, of which there are so many.
+    /// Returns the bits after the first `count` ones.
     pub(crate) fn shifted(self, count: u8) -> Queue
         requires held { IsHeld self }
         requires within { count ≤ self.front_len }
@@ -77,7 +78,7 @@ impl Queue {
         others.with_zeros().with_bits().with_run()
     }
 
-    // Zeros of the run fill up the front.
+    // Fills the front with zeros of the run.
     fn with_zeros(self) -> Queue
         requires { IsQueue self }
         ensures queue { IsQueue result }
@@ -94,7 +95,7 @@ impl Queue {
         }
     }
 
-    // Where no run is, the bits behind it fill up the front.
+    // Fills the front with the bits after the run, if the run is empty.
     fn with_bits(self) -> Queue
         requires queue { IsQueue self }
         requires full { 0 < self.zeros → self.front_len ≡ 92 }
@@ -119,7 +120,7 @@ impl Queue {
         }
     }
 
-    // Where no run is, zeros at the front of the bits behind it are one.
+    // Counts the zeros at the front of the bits after the run, if the run is empty.
     fn with_run(self) -> Queue
         requires queue { IsQueue self }
         requires full { IsFull self }

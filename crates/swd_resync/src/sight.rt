@@ -1,30 +1,30 @@
-//! What held bits begin as, in short.
+//! A summary of what held bits begin with.
 
 ghost use Rattle.std.specs.Prelude.{◌≡◌};
 ghost use Rattle.swd_resync.specs.Parts.{is_sound};
 
 use swd_bits::{Tx, TxBits, TxEnd};
 
-/// What stands at the front of held bits, whatever bits may follow.
+/// What is at the front of held bits, whatever bits may follow.
 #[derive(Clone, Copy, Debug)]
 pub(crate) enum Sight {
-    /// More bits decide it.
+    /// More bits are needed to decide it.
     Wait,
-    /// Nothing, and no bit follows.
+    /// No bit, and no bits follow.
     End,
     /// A zero.
     Zero,
     /// Fifty ones.
     Ones,
-    /// A transaction of that many bits.
+    /// A transaction, and its number of bits.
     Tx(Tx, u8),
-    /// A one with which neither begins.
+    /// A one that begins neither a transaction nor fifty ones.
     Junk,
-    /// The beginning of either, and no bit follows.
+    /// The beginning of a transaction or of fifty ones, and no bits follow.
     Cut(TxBits),
 }
 
-// WAIT or FAULT, or OK with a word of right parity.
+// Returns whether the result is WAIT, FAULT, or OK with a word of right parity.
 fn is_sound_end(tx: &Tx) -> bool
     ensures { result ≡ is_sound tx.now.result }
 {
@@ -38,8 +38,8 @@ fn is_sound_end(tx: &Tx) -> bool
 impl Sight {
     ghost use Rattle.swd_resync.specs.Seen.{sound_seen, junk_seen, ones_seen, end_seen};
 
-    /// How many bits a transaction has that was acknowledged, with a word of right parity where one was moved: 0 where
-    /// none is seen. `None` where more bits decide.
+    /// Returns the number of bits of the sound transaction at the front: 0 if there is no such transaction,
+    /// `None` if more bits are needed.
     pub(crate) fn sound_bits(&self) -> Option<u8>
         ensures { result ≡ sound_seen self.now }
     {
@@ -50,7 +50,7 @@ impl Sight {
         }
     }
 
-    /// Whether a bit is seen that belongs to nothing. `None` where more bits decide.
+    /// Returns whether a junk bit is at the front. Returns `None` if more bits are needed.
     pub(crate) fn is_junk(&self) -> Option<bool>
         ensures { result ≡ junk_seen self.now }
     {
@@ -61,7 +61,7 @@ impl Sight {
         }
     }
 
-    /// Whether fifty ones are seen. `None` where more bits decide.
+    /// Returns whether fifty ones are at the front. Returns `None` if more bits are needed.
     pub(crate) fn is_reset(&self) -> Option<bool>
         ensures { result ≡ ones_seen self.now }
     {
@@ -72,7 +72,7 @@ impl Sight {
         }
     }
 
-    /// Whether nothing is seen, or fifty ones. `None` where more bits decide.
+    /// Returns whether no bit or fifty ones are at the front. Returns `None` if more bits are needed.
     pub(crate) fn is_end_or_reset(&self) -> Option<bool>
         ensures { result ≡ end_seen self.now }
     {

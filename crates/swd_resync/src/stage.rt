@@ -1,25 +1,25 @@
-//! Where in a capture a reader stands.
+//! The stage of a decoder of captures.
 
 use crate::part::Part;
 
-/// What the bits say that were passed.
+/// What the removed bits imply.
 #[derive(Clone, Copy, Debug)]
 pub(crate) enum Stage {
-    /// So many zeros, before it is known whether a stretch begins with the capture.
+    /// The number of zeros so far, before it is known whether a stretch begins with the capture.
     Start(u64),
-    /// A stretch goes on, with so many idle cycles that weren't told.
+    /// In a stretch, with this number of idle cycles not reported yet.
     Stretch(u64),
-    /// A stretch goes on, with so many ones of a reset that weren't told.
+    /// In a stretch, with this number of ones of a line reset not reported yet.
     Reset(u64),
-    /// A reset was told.
+    /// A line reset was reported.
     AfterReset,
-    /// A switch from JTAG was told.
+    /// A switch from JTAG was reported.
     AfterSwitch,
-    /// No stretch goes on, and so many bits are skipped.
+    /// Between stretches, with this number of skipped bits.
     Between(u64),
 }
 
-/// A step of a reader: so many bits are passed, the stage after them, and a part that is decided.
+/// A step of a decoder: the number of bits to remove, the stage after them, and a part if one is decided.
 #[derive(Clone, Copy, Debug)]
 pub(crate) struct Move {
     pub(crate) count: u8,

@@ -1,4 +1,4 @@
--- The first fault of a text that is read line by line.
+-- The first error of an input that is read line by line.
 use Rattle.std.specs.Prelude.{ℕ, suc, ◌+◌, ◌-◌, ◌^◌, min, List, [], ◌∷◌, Option, Result, Ok, Err}
 use Rattle.swd_script.specs.declared.fault.LineFault.{LineFault}
 use Rattle.swd_script.specs.declared.fault.LineFault.TheVariants.{Word, Number, Range, NoMemoryLine, Memory}
@@ -8,11 +8,11 @@ use Rattle.swd_script.specs.declared.fault.ScriptFault.TheVariants.{Range as Ran
 use Rattle.swd_script.specs.declared.fault.ScriptFault.TheVariants.{Memory as MemoryAt}
 use Rattle.swd_script.specs.Lines.{line_words}
 
--- the number, from 1, of the line after so many; more than 2^64 - 1 are told as that
+-- the number, from 1, of the line after `before` others, at most 2^64 - 1
 abbrev pub line_number : ℕ → ℕ
 line_number before = min (before + 1) (2 ^ 64 - 1)
 
--- the fault of the line with this number
+-- the error of the line with this number
 abbrev pub fault_at : LineFault → ℕ → ScriptFault
 fault_at Word line = WordAt line
 fault_at Number line = NumberAt line
@@ -20,13 +20,14 @@ fault_at Range line = RangeAt line
 fault_at NoMemoryLine line = NoMemoryLineAt line
 fault_at Memory line = MemoryAt line
 
--- the fault of the line after so many, or else what follows from the line's value
+-- the error of the line after `before` others, or what follows from its result
 abbrev pub then_lines : {S : Type 0} → ℕ → (S → Result S ScriptFault) → Result S LineFault →
     Result S ScriptFault
 then_lines before rest (Ok state) = rest state
 then_lines before rest (Err fault) = Err (fault_at fault (line_number before))
 
--- what some lines make of a state, each by its number and its words, after so many other lines; or the first fault
+-- what some lines make of a state, each with its number and words, after `before` other lines; or the first
+-- error
 abbrev pub after_lines : {S : Type 0} → (ℕ → S → Option (List (List ℕ)) → Result S LineFault) → S → ℕ →
     List (List ℕ) → Result S ScriptFault
 after_lines take state before [] = Ok state

@@ -1,4 +1,4 @@
--- What holds of each script and each plan.
+-- What holds for every script and every plan.
 use Rattle.std.specs.Prelude.{ℕ, ◌≡◌, ◌≢◌, ◌+◌, ◌*◌, ◌%◌, ◌^◌, ◌≤◌, ◌==◌, Bool, true, List, length, All, IfSome}
 use Rattle.std.specs.List.{list_all}
 use Rattle.swd_port.specs.declared.access.Access.{Access}
@@ -14,7 +14,7 @@ pub record IsBlock (at : ℕ) (accesses : List Access) : Type 0 where
   pub same : accesses ≡ reads at (length accesses)
   pub end : at + 4 * length accesses ≤ 2 ^ 32
 
--- a host takes the accesses of a call, also as a block
+-- a host takes the accesses of a call, and if they are a block, as a block
 pub record IsBatch (listed : Listed) : Type 0 where
   pub few : length listed.accesses ≤ 65536
   pub accesses : list_all is_at_word listed.accesses ≡ true

@@ -3,18 +3,18 @@ use Rattle.std.specs.Prelude.{ℕ, ◌+◌, ◌-◌, ◌*◌, ◌^◌, nat_lt, n
 use Rattle.std.specs.Prelude.{if◌then◌else◌}
 use Rattle.std.specs.Option.{option_and_then}
 
--- what a hexadecimal digit of either case stands for; any other byte gives 16
+-- the value of a hexadecimal digit of either case, and 16 for any other byte
 abbrev pub digit_value : ℕ → ℕ
 digit_value byte =
     if nat_le 48 byte && nat_le byte 57 then byte - 48 else
     (if nat_le 65 byte && nat_le byte 70 then byte - 55 else
     (if nat_le 97 byte && nat_le byte 102 then byte - 87 else 16))
 
--- what a digit of this base stands for
+-- the value of a digit of this base
 abbrev pub digit_of : ℕ → ℕ → Option ℕ
 digit_of base byte = if nat_lt (digit_value byte) base then Some (digit_value byte) else None
 
--- what digits, the most significant first, stand for after those that stand for `value`
+-- the value of digits, the most significant first, after digits with the value `value`
 abbrev pub number_from : ℕ → ℕ → List ℕ → Option ℕ
 number_from base value [] = Some value
 number_from base value (byte ∷ word) =
@@ -24,7 +24,7 @@ number_from base value (byte ∷ word) =
 abbrev pub word_sized : ℕ → Option ℕ
 word_sized value = if nat_lt value (2 ^ 32) then Some value else None
 
--- the number below 2^32 that 1 to `longest` digits stand for
+-- the value of 1 to `longest` digits, below 2^32
 abbrev pub numeral : ℕ → ℕ → List ℕ → Option ℕ
 numeral base longest word =
     if nat_le 1 (length word) && nat_le (length word) longest

@@ -1,4 +1,4 @@
--- What a plan means, or its first fault.
+-- What a plan means, or its first error.
 use Rattle.std.specs.Prelude.{ℕ, nat_lt, List, [], ◌∷◌, ◌++◌, codes, Option, Some, None, Result, Ok, Err, if◌then◌else◌}
 use Rattle.std.specs.Str.{bytes_eq}
 use Rattle.swd_port.specs.declared.mark.Mark.{Mark}
@@ -10,13 +10,13 @@ use Rattle.swd_script.specs.Faults.{after_lines}
 use Rattle.swd_script.specs.Lines.{lines}
 use Rattle.swd_script.specs.Numerals.{decimal_of}
 
--- the marks that are a name alone
+-- the marks without argument
 abbrev pub bare_mark : List ℕ → Result Mark LineFault
 bare_mark name =
     if bytes_eq name (codes ".") then Ok Clean else
     (if bytes_eq name (codes "wait") then Ok Wait else (if bytes_eq name (codes "deaf") then Ok Deaf else Err Word))
 
--- a place, which has to be a number below `limit`
+-- a bit number, which has to be below `limit`
 abbrev pub place_below : ℕ → Option ℕ → Result ℕ LineFault
 place_below limit None = Err Number
 place_below limit (Some place) = if nat_lt place limit then Ok place else Err Range
@@ -25,7 +25,7 @@ abbrev pub marked : (ℕ → Mark) → Result ℕ LineFault → Result Mark Line
 marked mark (Ok place) = Ok (mark place)
 marked mark (Err fault) = Err fault
 
--- the marks that are a name and a place: one of 33 bits of a data phase, or of three of an acknowledgement
+-- the marks with a bit number: one of the 33 bits of a data phase, or of the three of an acknowledgement
 abbrev pub placed_mark : List ℕ → List ℕ → Result Mark LineFault
 placed_mark name place =
     if bytes_eq name (codes "flip") then marked (λ bit. Flip bit) (place_below 33 (decimal_of place)) else
@@ -48,6 +48,6 @@ plan_line marks None = Err Word
 plan_line marks (Some []) = Ok marks
 plan_line marks (Some (name ∷ arguments)) = with_mark marks (mark_of (name ∷ arguments))
 
--- the marks of a plan, or the fault of its first line at fault
+-- the marks of a plan, or the error of its first invalid line
 abbrev pub plan_of : List ℕ → Result (List Mark) ScriptFault
 plan_of text = after_lines (λ number. plan_line) [] 0 (lines text)

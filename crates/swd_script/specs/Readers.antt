@@ -24,7 +24,7 @@ abbrev pub IsUnbroken : List ℕ → Type 0
 IsUnbroken [] = Unit {0}
 IsUnbroken (byte ∷ line) = (byte ≢ 10) × IsUnbroken line
 
--- of a text so far these lines ended, and another has begun
+-- of the text so far: the complete lines, and the state in the current one
 pub record Splits (seen : List ℕ) (ended : List (List ℕ)) (state : Lines) : Type 0 where
   pub line : List ℕ
   pub law : (more : List ℕ) → lines (seen ++ more) ≡ ended ++ lines (line ++ more)
@@ -32,12 +32,12 @@ pub record Splits (seen : List ℕ) (ended : List (List ℕ)) (state : Lines) : 
   pub holds : Holds line state.scan
   pub number : state.number ≡ line_number (length ended)
 
--- of a text so far these lines ended, and this one is next
+-- of the text: the complete lines, and the next one
 pub record EndsLine (text : List ℕ) (ended : List (List ℕ)) (line : List ℕ) : Type 0 where
   pub rest : List (List ℕ)
   pub law : lines text ≡ ended ++ line ∷ rest
 
--- a line feed has ended a line with these first words, or a spoiled one
+-- a line feed has ended a line with these first words, or an invalid line
 pub record IsFed (seen : List ℕ) (ended : List (List ℕ))
     (scanned : Option (ArrayVec (ArrayVec ℕ))) (state : Lines) : Type 0 where
   pub line : List ℕ
@@ -45,7 +45,7 @@ pub record IsFed (seen : List ℕ) (ended : List (List ℕ))
   pub law : (more : List ℕ) → lines (seen ++ 10 ∷ more) ≡ ended ++ line ∷ lines more
   pub next : Splits (seen ++ 10 ∷ []) (ended ++ line ∷ []) state
 
--- the last line of a text has these first words, or is spoiled
+-- the last line of a text has these first words, or is invalid
 pub record IsLast (text : List ℕ) (ended : List (List ℕ))
     (scanned : Option (ArrayVec (ArrayVec ℕ))) : Type 0 where
   pub line : List ℕ
@@ -59,21 +59,22 @@ pub record HasLast (text : List ℕ) (number : ℕ) : Type 0 where
   pub law : lines text ≡ ended ++ line ∷ []
   pub number_is : number ≡ line_number (length ended)
 
--- the line with this number, which has these first words or is spoiled, leads from one state to another; `took` says
--- which lines led to a state
+-- the line with this number, which has these first words or is invalid, leads from one state to another;
+-- `took` says which lines led to a state
 abbrev pub LineLeads : {S : Type 0} → (List (List ℕ) → S → Type 0) → ℕ → Option (ArrayVec (ArrayVec ℕ)) → S → S → Type 0
 LineLeads took number words old new =
     (ended : List (List ℕ)) (line : List ℕ) → number ≡ line_number (length ended) → IsScanned line words
     → took ended old → took (ended ++ line ∷ []) new
 
--- the line with this number, which has these first words or is spoiled, has this fault; `refuses` says which a text has
+-- the line with this number, which has these first words or is invalid, has this error; `refuses` says which
+-- error a text has
 abbrev pub LineStops : {S : Type 0} → (List (List ℕ) → S → Type 0) → (ScriptFault → List ℕ → Type 0) → ℕ →
     Option (ArrayVec (ArrayVec ℕ)) → S → LineFault → Type 0
 LineStops took refuses number words old fault =
     (text : List ℕ) (ended : List (List ℕ)) (line : List ℕ) → EndsLine text ended line
     → number ≡ line_number (length ended) → IsScanned line words → took ended old → refuses (fault_at fault number) text
 
--- the reader has read these bytes, and met no fault
+-- the reader has read these bytes without an error
 pub record ReadsLines {S : Type 0} (took : List (List ℕ) → S → Type 0) (reader : LineReader S) (seen : List ℕ) : Type 0
   where
     pub ended : List (List ℕ)
@@ -85,7 +86,7 @@ abbrev pub HasReadLines : {S : Type 0} → (List (List ℕ) → S → Type 0) �
     → Type 0
 HasReadLines took u state seen = ReadsLines took state.0 seen
 
--- whatever follows, the text has this fault
+-- whatever follows, the text has this error
 abbrev pub RefusesLines : {S : Type 0} → (ScriptFault → List ℕ → Type 0) → Unit {0} → LineReader S × Unit {0} →
     ScriptFault → List ℕ → Type 0
 RefusesLines refuses u state fault text = (more : List ℕ) → refuses fault (text ++ more)
@@ -104,7 +105,7 @@ said draft = record {
   batch = listed draft.batch;
 }
 
--- a line at fault; where memory was refused, it has no other fault
+-- the error of a line; if memory ran out, it has no other error
 abbrev pub IsFaultOf : {S : Type 0} → LineFault → Result S LineFault → Type 0
 IsFaultOf Memory result = IsOk result
 IsFaultOf Word result = result ≡ Err Word
@@ -112,7 +113,7 @@ IsFaultOf Number result = result ≡ Err Number
 IsFaultOf Range result = result ≡ Err Range
 IsFaultOf NoMemoryLine result = result ≡ Err NoMemoryLine
 
--- a fault once the last line, which has this number, was read
+-- an error once the last line, which has this number, was read
 abbrev pub IsEndFault : ScriptFault → ℕ → Result Meaning ScriptFault → Type 0
 IsEndFault (MemoryAt number) line result = (number ≡ line) × IsOk result
 IsEndFault (WordAt number) line result = result ≡ Err (WordAt number)
@@ -120,7 +121,7 @@ IsEndFault (NumberAt number) line result = result ≡ Err (NumberAt number)
 IsEndFault (RangeAt number) line result = result ≡ Err (RangeAt number)
 IsEndFault (NoMemoryLineAt number) line result = result ≡ Err (NoMemoryLineAt number)
 
--- memory was refused at the line with this number: the lines up to it, and it, have no fault
+-- memory ran out at the line with this number: the lines up to it are valid, and so is this line
 pub record RunsOut {S : Type 0} (take : ℕ → S → Option (List (List ℕ)) → Result S LineFault)
     (start : S) (text : List ℕ) (number : ℕ) : Type 0 where
   pub ended : List (List ℕ)
@@ -146,7 +147,7 @@ meaning script = record {
   batches = map listed script.batches.items;
 }
 
--- the first fault of a text, or memory was refused
+-- the first error of a text, or memory ran out
 abbrev pub IsTextFault : {S M : Type 0} → (List ℕ → Result M ScriptFault) →
     (ℕ → S → Option (List (List ℕ)) → Result S LineFault) → S → ScriptFault → List ℕ → Type 0
 IsTextFault meaning_of take start (WordAt number) text = meaning_of text ≡ Err (WordAt number)
@@ -155,10 +156,10 @@ IsTextFault meaning_of take start (RangeAt number) text = meaning_of text ≡ Er
 IsTextFault meaning_of take start (NoMemoryLineAt number) text = meaning_of text ≡ Err (NoMemoryLineAt number)
 IsTextFault meaning_of take start (MemoryAt number) text = RunsOut take start text number
 
--- the first fault of a script, or memory was refused
+-- the first error of a script, or memory ran out
 abbrev pub IsScriptFault : ScriptFault → List ℕ → Type 0
 IsScriptFault fault text = IsTextFault script_of script_line nothing_said fault text
 
--- the first fault of a plan, or memory was refused
+-- the first error of a plan, or memory ran out
 abbrev pub IsPlanFault : ScriptFault → List ℕ → Type 0
 IsPlanFault fault text = IsTextFault plan_of (λ number. plan_line) [] fault text

@@ -1,4 +1,4 @@
--- What is kept of a line that has begun.
+-- What is kept of the current line.
 use Rattle.std.specs.Prelude.{◌≡◌, ℕ, ◌==◌, true, false, List, [], ◌∷◌, ◌++◌, Option, Some, None, if◌then◌else◌}
 use Rattle.arrayvec.specs.ArrayVec.{ArrayVec}
 use Rattle.swd_script.specs.declared.line_scan.LineScan.{LineScan}
@@ -14,7 +14,7 @@ without_return [] = []
 without_return (byte ∷ []) = if byte == 13 then [] else byte ∷ []
 without_return (byte ∷ next ∷ line) = byte ∷ without_return (next ∷ line)
 
--- no byte begins a comment or may stand in one only
+-- no byte begins a comment or is allowed only in one
 abbrev pub IsCode : List ℕ → Type 0
 IsCode [] = Unit {0}
 IsCode (byte ∷ line) = (is_plain byte ≡ true) × ((byte == 35) ≡ false) × IsCode line
@@ -24,12 +24,12 @@ pub record IsCodeSoFar (line : List ℕ) (kept : Words) : Type 0 where
   pub code : IsCode line
   pub gathers : Gathers line kept
 
--- a line so far that these bytes end
+-- a line so far whose words end before this byte
 pub record IsCodeThen (line : List ℕ) (byte : ℕ) (rest : List ℕ) (front : List ℕ) (kept : Words) : Type 0 where
   pub is : line ≡ front ++ byte ∷ rest
   pub front_is : IsCodeSoFar front kept
 
--- a line that a byte has spoiled, whatever follows
+-- a line with an invalid byte, whatever follows
 pub record IsSpoiled (line : List ℕ) : Type 0 where
   pub fed : (more : List ℕ) → line_words (without_return (line ++ more)) ≡ None
   pub unfed : (more : List ℕ) → line_words (line ++ more) ≡ None
@@ -50,7 +50,7 @@ pub record HasWords (line : List ℕ) (kept : List (ArrayVec ℕ)) : Type 0 wher
   pub are : line_words line ≡ Some all
   pub first : texts kept ≡ first_words all
 
--- the first words of a line, or none where it is spoiled
+-- the first words of a line, or `None` if it is invalid
 abbrev pub IsScanned : List ℕ → Option (ArrayVec (ArrayVec ℕ)) → Type 0
 IsScanned line None = line_words line ≡ None
 IsScanned line (Some kept) = HasWords line kept.items

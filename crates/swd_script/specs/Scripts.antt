@@ -1,4 +1,4 @@
--- What a script means, or its first fault.
+-- What a script means, or its first error.
 use Rattle.std.specs.Prelude.{ℕ, Bool, true, false, ◌+◌, ◌*◌, ◌%◌, ◌^◌, ◌==◌, nat_le, ◌&&◌, ◌||◌, is_some}
 use Rattle.std.specs.Prelude.{is_none, unwrap_or, List, [], ◌∷◌, ◌++◌, length, codes, Option, Some, None, Result, Ok}
 use Rattle.std.specs.Prelude.{Err, if◌then◌else◌}
@@ -19,7 +19,7 @@ use Rattle.swd_script.specs.Faults.{after_lines}
 use Rattle.swd_script.specs.Lines.{lines}
 use Rattle.swd_script.specs.Numerals.{hex_of, decimal_of}
 
--- the accesses of a call; where they are one block, its address; and those whose words are told
+-- the accesses of a call; if they are one block, its address; and the reads to verify
 pub record Listed : Type 0 where
   pub accesses : List Access
   pub block : Option ℕ
@@ -32,7 +32,7 @@ pub record Meaning : Type 0 where
   pub room : ℕ
   pub batches : List Listed
 
--- what the lines so far say: the calls that a line `next` ended, and the accesses since the last one
+-- what the lines so far say: the complete calls, each ended by a line `next`, and the current call
 pub record Sayings : Type 0 where
   pub memory : Option Extent
   pub room : Option ℕ
@@ -45,17 +45,17 @@ nothing_listed = record { accesses = []; block = None; expected = [] }
 abbrev pub nothing_said : Sayings
 nothing_said = record { memory = None; room = None; earlier = []; batch = nothing_listed }
 
--- a name alone
+-- a command without arguments
 abbrev pub bare_command : List ℕ → Option Command
 bare_command name = if bytes_eq name (codes "next") then Some Next else None
 
--- a name and one number
+-- a command with one argument
 abbrev pub short_command : List ℕ → List ℕ → Option Command
 short_command name first =
     if bytes_eq name (codes "room") then Some (Room (decimal_of first)) else
     (if bytes_eq name (codes "r") then Some (Read (hex_of first)) else None)
 
--- a name and two numbers
+-- a command with two arguments
 abbrev pub long_command : List ℕ → List ℕ → List ℕ → Option Command
 long_command name first second =
     if bytes_eq name (codes "memory") then Some (Memory (hex_of first) (decimal_of second)) else
@@ -64,7 +64,7 @@ long_command name first second =
     (if bytes_eq name (codes "block") then Some (Block (hex_of first) (decimal_of second)) else
     (if bytes_eq name (codes "verify") then Some (Verify (hex_of first) (hex_of second)) else None))))
 
--- the command of a line's words, where the first is known and they are as many as it takes
+-- the command of a line's words, if it is known and has the right number of arguments
 abbrev pub command_of : List (List ℕ) → Option Command
 command_of [] = None
 command_of (name ∷ []) = bare_command name
@@ -84,12 +84,12 @@ has_begun said = is_some_list said.earlier || is_some_list said.batch.accesses
 abbrev pub without_memory : Sayings → Option LineFault
 without_memory said = if is_none said.memory then Some NoMemoryLine else None
 
--- beside a block there is no other access in a call
+-- in the call of a block there is no other access
 abbrev pub beside_block : Sayings → Option LineFault
 beside_block said = if is_some said.batch.block then Some Word else without_memory said
 
--- why a command may not stand here: a second `memory`, a second `room` or one after an access or `next`, an access
--- beside a block, or no `memory` before it
+-- why a command isn't allowed here: a second `memory`, a second `room` or one after an access or `next`,
+-- another access in the call of a block, or no `memory` before it
 abbrev pub misplaced : Sayings → Command → Option LineFault
 misplaced said (Memory base words) = if is_some said.memory then Some Word else None
 misplaced said (Room count) = if is_some said.room || has_begun said then Some Word else without_memory said
@@ -100,12 +100,12 @@ misplaced said (Block addr count) = if is_some_list said.batch.accesses then Som
 misplaced said (Verify addr value) = beside_block said
 misplaced said Next = without_memory said
 
--- what follows from a number, which has to be one
+-- what follows from an argument, which has to be a number
 abbrev pub with_number : Option ℕ → (ℕ → Result Sayings LineFault) → Result Sayings LineFault
 with_number None next = Err Number
 with_number (Some number) next = next number
 
--- `count` words from an address on: one at least, at multiples of 4, within 32 bits
+-- `count` words from an address on: at least one, at multiples of 4, within 32 bits
 abbrev pub are_words : ℕ → ℕ → Bool
 are_words addr count = (addr % 4 == 0) && nat_le 1 count && nat_le (addr + 4 * count) (2 ^ 32)
 
@@ -117,7 +117,7 @@ with_memory said base words =
 abbrev pub with_room : Sayings → ℕ → Result Sayings LineFault
 with_room said count = if nat_le count 65536 then Ok (record said { room = Some count }) else Err Range
 
--- `count` accesses more, from an address on; a call has at most 65,536
+-- `count` more accesses, from an address on; a call has at most 65,536
 abbrev pub with_accesses : Sayings → ℕ → ℕ → List Access → Result Sayings LineFault
 with_accesses said addr count accesses =
     if are_words addr count && nat_le (length said.batch.accesses + count) 65536
@@ -128,23 +128,23 @@ abbrev pub as_block : ℕ → Result Sayings LineFault → Result Sayings LineFa
 as_block addr (Ok said) = Ok (record said { batch = record said.batch { block = Some addr } })
 as_block addr (Err fault) = Err fault
 
--- an access whose word is told
+-- a read to verify
 abbrev pub as_expected : Expected → Result Sayings LineFault → Result Sayings LineFault
 as_expected read (Ok said) = Ok
     (record said { batch = record said.batch { expected = said.batch.expected ++ read ∷ [] } })
 as_expected read (Err fault) = Err fault
 
--- a read whose word the line with this number tells
+-- a read with the word that the line with this number expects
 abbrev pub with_verified : ℕ → Sayings → ℕ → ℕ → Result Sayings LineFault
 with_verified line said addr word =
     as_expected (record { line = line; place = length said.batch.accesses; addr = addr; word = word })
     (with_accesses said addr 1 (ReadAccess addr ∷ []))
 
--- what follows is a further call
+-- the start of a further call
 abbrev pub with_next : Sayings → Sayings
 with_next said = record said { earlier = said.earlier ++ said.batch ∷ []; batch = nothing_listed }
 
--- what a command that may stand here adds, on the line with this number
+-- what a command that is allowed here adds, on the line with this number
 abbrev pub carried_out : ℕ → Sayings → Command → Result Sayings LineFault
 carried_out line said (Memory base words) =
     with_number base (λ base. with_number words (λ words. with_memory said base words))
@@ -176,8 +176,8 @@ script_line line said None = Err Word
 script_line line said (Some []) = Ok said
 script_line line said (Some (name ∷ arguments)) = after_command line said (command_of (name ∷ arguments))
 
--- what a whole script says, once its last line has been read: `memory` is there, and without `room` there is room
--- for 65,536
+-- what a whole script says, once its last line was read: it needs `memory`; without `room` there is room for
+-- 65,536 transfers
 abbrev pub script_meaning : Option Extent → Sayings → Result Meaning ScriptFault
 script_meaning None said = Err (NoMemoryLineAt 1)
 script_meaning (Some extent) said =
@@ -192,6 +192,6 @@ abbrev pub whole_script : Result Sayings ScriptFault → Result Meaning ScriptFa
 whole_script (Err fault) = Err fault
 whole_script (Ok said) = script_meaning said.memory said
 
--- what a script means, or the fault of its first line at fault
+-- what a script means, or the error of its first invalid line
 abbrev pub script_of : List ℕ → Result Meaning ScriptFault
 script_of text = whole_script (after_lines script_line nothing_said 0 (lines text))

@@ -4,11 +4,11 @@ use Rattle.arrayvec.specs.ArrayVec.{ArrayVec}
 use Rattle.swd_script.specs.declared.words.Words.{Words}
 use Rattle.swd_script.specs.Lines.{is_blank, words}
 
--- the bytes of the words that are kept
+-- the bytes of the kept words
 abbrev pub texts : List (ArrayVec ℕ) → List (List ℕ)
 texts kept = map (λ word. word.items) kept
 
--- those of a line; none where it is spoiled
+-- those of a line; `None` if it is invalid
 abbrev pub texts_of : Option (ArrayVec (ArrayVec ℕ)) → Option (List (List ℕ))
 texts_of None = None
 texts_of (Some kept) = Some (texts kept.items)
@@ -17,7 +17,7 @@ texts_of (Some kept) = Some (texts kept.items)
 abbrev pub first_words : List (List ℕ) → List (List ℕ)
 first_words all = take 4 (map (λ word. take 11 word) all)
 
--- the word that has begun, if one has
+-- the current word, if there is one
 abbrev pub begun : List ℕ → List (List ℕ)
 begun [] = []
 begun (byte ∷ word) = (byte ∷ word) ∷ []
@@ -27,7 +27,7 @@ abbrev pub IsUnblank : List ℕ → Type 0
 IsUnblank [] = Unit {0}
 IsUnblank (byte ∷ word) = (is_blank byte ≡ false) × IsUnblank word
 
--- of a line so far these words ended, and this one has begun
+-- of the line so far: the complete words, and the current one
 pub record Gathers (line : List ℕ) (kept : Words) : Type 0 where
   pub ended : List (List ℕ)
   pub last : List ℕ

@@ -6,32 +6,32 @@ ghost use Rattle.swd_script.specs.Scripts.{nothing_listed};
 use std::alloc::Allocator;
 use swd_port::Access;
 
-/// The accesses of one call, which is one of several over the same target.
+/// The accesses of one call. A script has one or more calls over the same target.
 #[derive(Debug, Drop)]
 pub struct Batch<A: Allocator> {
     /// At most 65,536 accesses, each at a multiple of 4.
     pub accesses: Vec<Access, A>,
-    /// The address of the first access, where they are the reads of one block.
+    /// The address of the first access, if the accesses are the reads of one block.
     pub block: Option<u32>,
-    /// Those of them whose words are told, the first one first.
+    /// The reads to verify, in order.
     pub expected: Vec<Expected, A>,
 }
 
-/// A read whose word is told.
+/// A read whose word is to be verified.
 #[derive(Clone, Copy, Debug, PartialEq, Eq)]
 pub struct Expected {
-    /// The line that says so, from 1; a number above 2^64 - 1 is told as 2^64 - 1.
+    /// The line of the script, from 1, and at most 2^64 - 1.
     pub line: u64,
-    /// Which of the accesses of its call it is, from 0.
+    /// The index of the access in its call, from 0.
     pub place: usize,
-    /// The address that it reads.
+    /// The address to read.
     pub addr: u32,
-    /// The word that is to be there.
+    /// The expected word.
     pub word: u32,
 }
 
 impl<A: Allocator + Copy> Batch<A> {
-    /// No access.
+    /// Returns a call without accesses.
     pub(crate) fn new(alloc: A) -> Batch<A>
         ensures { listed result ≡ nothing_listed }
     {

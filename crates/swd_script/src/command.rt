@@ -6,15 +6,15 @@ ghost use Rattle.swd_script.specs.Words.{texts};
 use crate::numeral::{decimal_of, hex_of};
 use crate::words::Word;
 
-/// A line of a script. `None` stands for a word that is no number.
+/// A command of a script. `None` stands for an argument that isn't a valid number.
 #[derive(Clone, Copy, Debug, PartialEq, Eq)]
 pub(crate) enum Command {
-    /// The memory: the address of its first word, and how many words it has.
+    /// The memory: the address of its first word, and its number of words.
     Memory {
         base: Option<u32>,
         words: Option<u32>,
     },
-    /// How many transfers the memory's log has room for.
+    /// The number of transfers that fit in the memory's log.
     Room {
         count: Option<u32>,
     },
@@ -37,17 +37,17 @@ pub(crate) enum Command {
         addr: Option<u32>,
         count: Option<u32>,
     },
-    /// A read whose word is told.
+    /// A read, and the word that it is expected to return.
     Verify {
         addr: Option<u32>,
         value: Option<u32>,
     },
-    /// What follows is a further call.
+    /// The start of a further call.
     Next,
 }
 
-/// The command of a line's first words. `None` where the first is unknown, or where they are not as
-/// many as it takes.
+/// Returns the command of a line's first words. Returns `None` if the command is unknown, or has a wrong
+/// number of arguments.
 pub(crate) fn command_of(words: &[Word]) -> Option<Command>
     ensures { result ≡ command_of (texts words.now) }
 {
@@ -61,7 +61,7 @@ pub(crate) fn command_of(words: &[Word]) -> Option<Command>
     }
 }
 
-// The command that is a name alone.
+// Returns the command without arguments that has this name.
 fn bare_command(name: &[u8]) -> Option<Command>
     ensures { result ≡ bare_command name.now }
 {
@@ -72,7 +72,7 @@ fn bare_command(name: &[u8]) -> Option<Command>
     }
 }
 
-// The command that is a name and one number.
+// Returns the command with one argument that has this name.
 fn short_command(name: &[u8], first: &[u8]) -> Option<Command>
     ensures { result ≡ short_command name.now first.now }
 {
@@ -89,7 +89,7 @@ fn short_command(name: &[u8], first: &[u8]) -> Option<Command>
     None
 }
 
-// The command that is a name and two numbers.
+// Returns the command with two arguments that has this name.
 fn long_command(name: &[u8], first: &[u8], second: &[u8]) -> Option<Command>
     ensures { result ≡ long_command name.now first.now second.now }
 {

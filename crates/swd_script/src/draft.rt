@@ -1,4 +1,4 @@
-//! What the lines of a script say so far.
+//! What the lines of a script have said so far.
 ghost use Rattle.std.specs.Prelude.{◌≡◌, ◌+◌, ◌∷◌, [], length, nat_le, ok_or};
 ghost use Rattle.std.specs.Prelude.{Ok, Err, OnOk, IfErr, IfOk};
 ghost use Rattle.swd_script.specs.Scripts.{are_words};
@@ -15,20 +15,20 @@ use swd_port::{Access, MOST_ACCESSES, push_reads};
 // The most words of a memory, and the most transfers in its log.
 const MOST: u32 = 65536;
 
-/// The words of a memory: the address of the first, and how many.
+/// The extent of a memory: the address of the first word, and the number of words.
 #[derive(Clone, Copy, Debug, PartialEq, Eq)]
 pub(crate) struct Extent {
     pub(crate) base: u32,
     pub(crate) words: u32,
 }
 
-/// What the lines of a script say so far.
+/// What the lines of a script have said so far.
 #[derive(Drop)]
 pub struct Draft<A: Allocator> {
     alloc: A,
     pub(crate) memory: Option<Extent>,
     pub(crate) room: Option<u32>,
-    // The calls that a line `next` ended, and the accesses since the last one.
+    // the complete calls, each ended by a line `next`, and the current call
     pub(crate) earlier: Vec<Batch<A>, A>,
     pub(crate) batch: Batch<A>,
 }
@@ -44,7 +44,7 @@ impl<A: Allocator + Copy> Draft<A> {
     ghost use Rattle.swd_script.specs.Readers.{IsEndFault, IsFaultOf, meaning, said};
     ghost use Rattle.swd_script.specs.Words.{texts_of};
 
-    /// Nothing is said yet.
+    /// Returns the state before the first line.
     pub(crate) fn new(alloc: A) -> Draft<A>
         ensures { said result ≡ nothing_said }
     {
@@ -57,8 +57,8 @@ impl<A: Allocator + Copy> Draft<A> {
         }
     }
 
-    /// Takes the line with this number, by its first words; `None` where a byte has spoiled it. After an
-    /// `Err` nothing is known of what is kept.
+    /// Takes the line with this number and these first words. `None` stands for a line with an invalid byte.
+    /// After an error the state is unspecified.
     pub(crate) fn line(&mut self, number: u64, words: Option<FirstWords>) -> Result<(), LineFault>
         ensures ok { OnOk result (script_line number (said self.old) (texts_of words) ≡ Ok (said self.new)) }
         ensures err { IfErr result (λ fault. IsFaultOf fault (script_line number (said self.old) (texts_of words))) }
@@ -78,7 +78,7 @@ impl<A: Allocator + Copy> Draft<A> {
         self.carry_out(number, command)
     }
 
-    // Why a command may not stand here.
+    // Returns the error of a command that isn't allowed here.
     fn misplaced(&self, command: Command) -> Option<LineFault>
         ensures { result ≡ misplaced (said self.now) command }
     {
@@ -99,14 +99,14 @@ impl<A: Allocator + Copy> Draft<A> {
         }
     }
 
-    // Whether there was an access, or a further call.
+    // Returns whether there was an access or a line `next`.
     fn has_begun(&self) -> bool
         ensures { result ≡ has_begun (said self.now) }
     {
         !self.earlier.is_empty() || !self.batch.accesses.is_empty()
     }
 
-    // Adds what a command says that may stand here, on the line with this number.
+    // Adds a command that is allowed here, on the line with this number.
     fn carry_out(&mut self, line: u64, command: Command) -> Result<(), LineFault>
         ensures ok { OnOk result (carried_out line (said self.old) command ≡ Ok (said self.new)) }
         ensures err { IfErr result (λ fault. IsFaultOf fault (carried_out line (said self.old) command)) }
@@ -168,7 +168,7 @@ impl<A: Allocator + Copy> Draft<A> {
         }
     }
 
-    // Adds reads from an address on.
+    // Adds `count` reads from an address on.
     fn add_reads(&mut self, addr: u32, count: u32) -> Result<(), LineFault>
         ensures ok { OnOk result (with_accesses (said self.old) addr count (reads addr count) ≡ Ok (said self.new)) }
         ensures err { IfErr result (λ fault.
@@ -183,7 +183,7 @@ impl<A: Allocator + Copy> Draft<A> {
         }
     }
 
-    // Adds a read whose word is told by the line with this number.
+    // Adds a read with the word that the line with this number expects.
     fn add_verified(&mut self, line: u64, addr: u32, word: u32) -> Result<(), LineFault>
         ensures ok { OnOk result (with_verified line (said self.old) addr word ≡ Ok (said self.new)) }
         ensures err { IfErr result (λ fault. IsFaultOf fault (with_verified line (said self.old) addr word)) }
@@ -202,7 +202,7 @@ impl<A: Allocator + Copy> Draft<A> {
         }
     }
 
-    // Ends a call: what follows is a further one.
+    // Ends the current call, and starts a further one.
     fn end_batch(&mut self) -> Result<(), LineFault>
         ensures ok { OnOk result (with_next (said self.old) ≡ said self.new) }
         ensures err { IfErr result (λ fault. fault ≡ LineFault.Memory) }
@@ -214,7 +214,7 @@ impl<A: Allocator + Copy> Draft<A> {
         }
     }
 
-    // Adds the reads of a block, the only accesses of a call.
+    // Adds the reads of a block, which are the only accesses of their call.
     fn add_block(&mut self, addr: u32, count: u32) -> Result<(), LineFault>
         ensures ok { OnOk result (as_block addr (with_accesses (said self.old) addr count (reads addr count))
             ≡ Ok (said self.new)) }
@@ -226,14 +226,14 @@ impl<A: Allocator + Copy> Draft<A> {
         Ok(())
     }
 
-    // Whether a call may have so many accesses more.
+    // Returns whether the current call may have `count` more accesses.
     fn has_room_for(&self, count: u32) -> bool
         ensures { result ≡ nat_le (length self.now.batch.accesses.items + count) 65536 }
     {
         self.batch.accesses.len() as u64 + u64::from(count) <= u64::from(MOST_ACCESSES)
     }
 
-    /// What the whole script says, whose last line has this number.
+    /// Returns the whole script, whose last line has this number.
     pub(crate) fn finish(self, line: u64) -> Result<Script<A>, ScriptFault>
         ensures ok { IfOk result (λ script. script_meaning self.memory (said self) ≡ Ok (meaning script)) }
         ensures err { IfErr result (λ fault. IsEndFault fault line (script_meaning self.memory (said self))) }
@@ -266,7 +266,8 @@ fn number(reading: Option<u32>) -> Result<u32, LineFault>
     reading.ok_or(LineFault::Number)
 }
 
-// Whether so many words from an address on, one at least, are at multiples of 4 within 32 bits.
+// Returns whether `count` words from an address on are at least one, at multiples of 4, and end within 32
+// bits.
 fn are_words(addr: u32, count: u32) -> bool
     ensures { result ≡ are_words addr count }
 {

@@ -1,35 +1,34 @@
-//! What can be wrong with a script or a plan.
+//! Errors of a script or a plan.
 ghost use Rattle.std.specs.Prelude.{◌≡◌};
 ghost use Rattle.swd_script.specs.Faults.{fault_at};
 
 use thiserror::Error;
 
-/// What is wrong with a script or a plan: the fault of its first line at fault.
+/// The error of the first invalid line of a script or a plan.
 ///
-/// Lines count from 1; a number above 2^64 - 1 is told as 2^64 - 1. Where a line has several
-/// faults, the one that is listed first here is told, but `NoMemoryLine` before `Number`.
+/// Lines count from 1; line numbers above 2^64 - 1 are reported as 2^64 - 1. If a line has several errors,
+/// the first of this list is reported, but `NoMemoryLine` before `Number`.
 #[derive(Clone, Copy, Debug, PartialEq, Eq, Error)]
 pub enum ScriptFault {
-    /// An unknown word, a wrong number of words, a byte that is neither printable ASCII nor a
-    /// blank, a second `memory`, a second `room`, `room` after an access or `next`, or an access beside
-    /// a block.
+    /// An unknown word, a wrong number of words, a byte other than printable ASCII, space and tab, a second
+    /// `memory`, a second `room`, `room` after an access or `next`, or another access in the call of a block.
     #[error("line {line}: word")]
     Word { line: u64 },
-    /// Something else than the digits of a number, too many of them, or a number above 2^32 - 1.
+    /// An argument that isn't a number, has too many digits, or exceeds 2^32 - 1.
     #[error("line {line}: number")]
     Number { line: u64 },
-    /// A number that is out of its range.
+    /// A number out of its range.
     #[error("line {line}: range")]
     Range { line: u64 },
-    /// A line that comes before `memory`, or line 1 where no line has words.
+    /// A line before `memory`; line 1 if no line has words.
     #[error("line {line}: no memory line")]
     NoMemoryLine { line: u64 },
-    /// There is no memory for what the line says.
+    /// Out of memory for what the line says.
     #[error("line {line}: memory")]
     Memory { line: u64 },
 }
 
-/// What is wrong with a line.
+/// The error of a line.
 #[derive(Clone, Copy, Debug, PartialEq, Eq)]
 pub enum LineFault {
     Word,
@@ -40,7 +39,7 @@ pub enum LineFault {
 }
 
 impl LineFault {
-    /// The fault, at the line with this number.
+    /// Returns the error of the line with this number.
     pub(crate) fn at(self, line: u64) -> ScriptFault
         ensures { result ≡ fault_at self line }
     {

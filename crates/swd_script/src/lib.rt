@@ -1,4 +1,4 @@
-//! Texts of a run: the script with its calls, and the plan of what happens to the requests.
+//! The input files of a run: the script with its calls, and the plan with a mark for each request.
 #![tactic(auto)]
 
 mod batch;

@@ -1,4 +1,4 @@
-//! Reading a text line by line, however it comes in pieces.
+//! Reads input line by line, however it is divided into pieces.
 ghost use Rattle.std.specs.Prelude.{◌++◌, ◌∷◌, [], ℕ, List, OnOk, IfErr, IfOk, IfSome};
 ghost use Rattle.swd_io.specs.Pieces.{IsText, IsUnread};
 ghost use Rattle.swd_script.specs.declared.fault.ScriptFault.{ScriptFault as TheFault};
@@ -11,38 +11,38 @@ use crate::words::FirstWords;
 use std::io::Read;
 use swd_io::{Consumer, Unread, read_pieces};
 
-/// What the lines of a text are added to, one after another. It says what a line means, and a
-/// [`LineReader`] finds the lines.
+/// A sink for the lines of an input, one after another. It defines what a line means; a [`LineReader`] finds
+/// the lines.
 pub trait LineSink: Drop {
-    /// What a whole text says.
+    /// What a whole input says.
     type Whole;
 
-    // The lines of a text so far, none of them at fault, lead to this.
+    // The lines so far, all of them valid, lead to this state.
     ghost took: { List (List ℕ) → Self → Type 0 };
 
-    // A text says this.
+    // An input says this.
     ghost says: { List ℕ → Self.Whole → Type 0 };
 
-    // A text has this fault, or memory was refused there.
+    // An input has this error, or memory ran out there.
     ghost refuses: { TheFault → List ℕ → Type 0 };
 
-    /// Adds the line with this number, by its first words; `None` where a byte has spoiled it. After an
-    /// `Err` nothing is known of what is kept.
+    /// Adds the line with this number and these first words. `None` stands for a line with an invalid byte.
+    /// After an error the state is unspecified.
     fn add_line(&mut self, number: u64, words: Option<FirstWords>) -> Result<(), LineFault>
         ensures ok { OnOk result (LineLeads took number words self.old self.new) }
         ensures err { IfErr result (λ fault. LineStops took refuses number words self.old fault) };
 
-    /// What the whole text says, of which all lines were added. The last one has this number.
+    /// Returns what the whole input says, once all lines were added. The last one has this number.
     fn whole(self, last: u64) -> Result<Self::Whole, ScriptFault>
         ensures ok { IfOk result (λ whole. (text : List ℕ) → took (lines text) self → says text whole) }
         ensures err { IfErr result (λ fault. (text : List ℕ) → HasLast text last → took (lines text) self
             → refuses fault text) };
 }
 
-/// Reads a text line by line, which comes in pieces (`Consumer::take`). At the first fault of the text
-/// it stops, whatever follows the piece.
+/// A reader of lines, which takes input in pieces (`Consumer::take`). It stops at the first error, whatever
+/// follows the piece.
 ///
-/// However long a line is, the reader holds a few bytes of it, beside what the lines before it said.
+/// It holds a bounded number of bytes of a line, however long the line is, and what the lines before it said.
 #[derive(Drop)]
 pub struct LineReader<S> {
     lines: Lines,
@@ -52,7 +52,7 @@ pub struct LineReader<S> {
 impl<S: LineSink> LineReader<S> {
     ghost use Rattle.swd_script.specs.Readers.{ReadsLines};
 
-    // A reader that has read nothing.
+    // Returns a reader before the first byte.
     pub(crate) fn over(sink: S) -> LineReader<S>
         ensures { S.took [] sink → ReadsLines S.took result [] }
     {
@@ -62,7 +62,7 @@ impl<S: LineSink> LineReader<S> {
         }
     }
 
-    // Takes a byte. After an `Err` nothing is known of what is kept.
+    // Takes a byte. After an error the state is unspecified.
     fn byte(&mut self, byte: u8) -> Result<(), ScriptFault>
         ensures ok { OnOk result ((seen : List ℕ) → ReadsLines S.took self.old seen
             → ReadsLines S.took self.new (seen ++ byte ∷ [])) }
@@ -81,11 +81,11 @@ impl<S: LineSink> LineReader<S> {
         }
     }
 
-    /// What the whole text says, which ends here.
+    /// Ends the input, and returns what it says.
     ///
     /// # Errors
     ///
-    /// The first fault of the text. `Memory` where there was no memory for what a line says.
+    /// The first error of the input, or `Memory` if memory ran out for what a line says.
     pub fn finish(self) -> Result<S::Whole, ScriptFault>
         ensures ok { IfOk result (λ whole. (seen : List ℕ) → ReadsLines S.took self seen → S.says seen whole) }
         ensures err { IfErr result (λ fault. (seen : List ℕ) → ReadsLines S.took self seen → S.refuses fault seen) }
@@ -112,7 +112,7 @@ impl<S: LineSink> Consumer<()> for LineReader<S> {
 
     ghost stops = { LeadsToEnd (HasReadLines S.took) (RefusesLines S.refuses) };
 
-    // Takes the next piece of the text. After an `Err` nothing is known of what is kept.
+    // Takes the next piece of the input. After an error the state is unspecified.
     fn take(&mut self, _writer: &mut (), piece: &[u8]) -> Result<(), ScriptFault> {
         for byte in piece {
             if let Err(fault) = self.byte(*byte) {
@@ -129,13 +129,12 @@ impl<S: LineSink> Consumer<()> for LineReader<S> {
     ghost stops_later = { leads_to_later_end (HasReadLines S.took) (RefusesLines S.refuses) };
 }
 
-/// What the text of a reader says, which is read to its end or up to the first fault. Nothing is tried
-/// again.
+/// Reads an input to its end or to the first error, and returns what it says. Nothing is retried.
 ///
 /// # Errors
 ///
-/// The first fault of the text. `Memory` where there was no memory for what a line says. `Reader` where
-/// the reader failed, or did not end within 2^64 - 1 reads.
+/// The first error of the input, or `Memory` if memory ran out for what a line says. `Reader` if the reader
+/// failed, or didn't end within 2^64 - 1 reads.
 pub(crate) fn read_lines<R: Read, S: LineSink>(
     sink: S,
     reader: &mut R,

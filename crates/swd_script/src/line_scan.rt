@@ -1,10 +1,10 @@
-//! One line of a script or a plan, a byte at a time.
+//! Scans one line of a script or a plan, byte by byte.
 ghost use Rattle.std.specs.Prelude.{◌≡◌, ◌≢◌, ◌∷◌, ◌++◌, [], ℕ, List};
 ghost use Rattle.swd_script.specs.Lines.{is_blank};
 
 use crate::words::{FirstWords, Words};
 
-/// Where in a line a scan is.
+/// The state of a scan within a line.
 #[derive(Clone, Copy, Debug, PartialEq, Eq)]
 pub(crate) enum Place {
     /// Before a comment.
@@ -13,12 +13,11 @@ pub(crate) enum Place {
     Return,
     /// In a comment.
     Comment,
-    /// After a byte that may not stand there.
+    /// After an invalid byte.
     Spoiled,
 }
 
-/// A line that has begun. However long it is, only its first words are kept, and of these only
-/// the first bytes.
+/// The current line. However long it is, only its first words are kept, and only the first bytes of these.
 #[derive(Drop)]
 pub(crate) struct LineScan {
     pub(crate) words: Words,
@@ -28,7 +27,7 @@ pub(crate) struct LineScan {
 impl LineScan {
     ghost use Rattle.swd_script.specs.Scans.{Holds, IsScanned, without_return};
 
-    /// Nothing of a line yet.
+    /// Returns a scan before the first byte of a line.
     pub(crate) fn new() -> LineScan
         ensures { Holds [] result }
     {
@@ -65,7 +64,7 @@ impl LineScan {
         }
     }
 
-    /// The first words of the line, which a line feed ends. `None` where a byte has spoiled it.
+    /// Ends the line at a line feed, and returns its first words. Returns `None` if a byte was invalid.
     pub(crate) fn feed(self) -> Option<FirstWords>
         ensures { (line : List ℕ) → Holds line self → IsScanned (without_return line) result }
     {
@@ -75,7 +74,8 @@ impl LineScan {
         }
     }
 
-    /// The first words of the line, which the text ends. `None` where a byte has spoiled it.
+    /// Ends the line at the end of the input, and returns its first words. Returns `None` if a byte was
+    /// invalid.
     pub(crate) fn finish(self) -> Option<FirstWords>
         ensures { (line : List ℕ) → Holds line self → IsScanned line result }
     {

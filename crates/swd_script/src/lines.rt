@@ -1,15 +1,15 @@
-//! The lines of a script or a plan, a byte at a time.
+//! Scans the lines of a script or a plan, byte by byte.
 ghost use Rattle.std.specs.Prelude.{◌≢◌, ◌∷◌, ◌++◌, [], ℕ, List};
 
 use crate::line_scan::LineScan;
 use crate::words::FirstWords;
 use std::mem;
 
-/// The line that has begun.
+/// The current line.
 #[derive(Drop)]
 pub(crate) struct Lines {
     pub(crate) scan: LineScan,
-    // From 1; a number above 2^64 - 1 is kept as 2^64 - 1.
+    // The line number, from 1, and at most 2^64 - 1.
     pub(crate) number: u64,
 }
 
@@ -17,7 +17,7 @@ impl Lines {
     ghost use Rattle.swd_script.specs.Scans.{IsScanned};
     ghost use Rattle.swd_script.specs.Readers.{Splits, IsFed, IsLast};
 
-    /// The first line, of which nothing is there yet.
+    /// Returns the state before the first byte of the first line.
     pub(crate) fn new() -> Lines
         ensures { Splits [] [] result }
     {
@@ -36,8 +36,8 @@ impl Lines {
         self.scan.byte(byte);
     }
 
-    /// Takes a line feed, and begins the next line. The first words of the line that it ends; `None`
-    /// where a byte has spoiled that.
+    /// Takes a line feed: ends the line, starts the next one, and returns the first words of the ended one.
+    /// Returns `None` if a byte of it was invalid.
     pub(crate) fn feed(&mut self) -> Option<FirstWords>
         ensures { (seen : List ℕ) (ended : List (List ℕ)) → Splits seen ended self.old
             → IsFed seen ended result self.new }
@@ -47,7 +47,7 @@ impl Lines {
         scan.feed()
     }
 
-    /// The first words of the last line; `None` where a byte has spoiled it.
+    /// Returns the first words of the last line. Returns `None` if a byte of it was invalid.
     pub(crate) fn finish(self) -> Option<FirstWords>
         ensures { (seen : List ℕ) (ended : List (List ℕ)) → Splits seen ended self → IsLast seen ended result }
     {

@@ -1,23 +1,23 @@
-//! The numbers of a script or a plan.
+//! Parses the numbers of a script or a plan.
 ghost use Rattle.std.specs.Prelude.{◌≡◌, ◌≤◌, ◌<◌, length, IfSome};
 ghost use Rattle.swd_script.specs.Numerals.{decimal_of, digit_of, digit_value, hex_of, number_from};
 ghost use Rattle.swd_script.specs.Numerals.{numeral as numeral_of};
 
-/// The number that 1 to 8 hexadecimal digits of either case stand for.
+/// Parses 1 to 8 hexadecimal digits of either case.
 pub(crate) fn hex_of(word: &[u8]) -> Option<u32>
     ensures { result ≡ hex_of word.now }
 {
     numeral(16, 8, word)
 }
 
-/// The number that 1 to 10 decimal digits stand for, where it is below 2^32.
+/// Parses 1 to 10 decimal digits. The number has to be below 2^32.
 pub(crate) fn decimal_of(word: &[u8]) -> Option<u32>
     ensures { result ≡ decimal_of word.now }
 {
     numeral(10, 10, word)
 }
 
-// The number below 2^32 that 1 to `longest` digits of a base stand for.
+// Parses 1 to `longest` digits of a base. The number has to be below 2^32.
 fn numeral(base: u64, longest: usize, word: &[u8]) -> Option<u32>
     requires small { base ≤ 16 }
     requires short { longest ≤ 10 }
@@ -29,7 +29,7 @@ fn numeral(base: u64, longest: usize, word: &[u8]) -> Option<u32>
     u32::try_from(number(base, word)?).ok()
 }
 
-// The number that digits of a base stand for.
+// Parses digits of a base.
 fn number(base: u64, word: &[u8]) -> Option<u64>
     requires small { base ≤ 16 }
     requires short { length word.now ≤ 10 }
@@ -42,7 +42,7 @@ fn number(base: u64, word: &[u8]) -> Option<u64>
     Some(value)
 }
 
-// What a digit of a base stands for.
+// Returns the value of a digit of a base.
 fn digit(base: u64, byte: u8) -> Option<u64>
     ensures value { result ≡ digit_of base byte }
     ensures small { IfSome result (λ digit. digit < base) }
@@ -51,7 +51,7 @@ fn digit(base: u64, byte: u8) -> Option<u64>
     if value < base { Some(value) } else { None }
 }
 
-// What a hexadecimal digit stands for. Any other byte gives 16.
+// Returns the value of a hexadecimal digit, and 16 for any other byte.
 fn digit_value(byte: u8) -> u8
     ensures { result ≡ digit_value byte }
 {

@@ -1,4 +1,4 @@
-//! Plans: what happens to each request.
+//! Plans: a mark for each request.
 ghost use Rattle.std.specs.Prelude.{◌≡◌, [], ℕ, List, Ok, OnOk, IfErr, IfOk, IfSome};
 ghost use Rattle.swd_io.specs.Pieces.{IsText, IsUnread};
 ghost use Rattle.swd_script.specs.Numerals.{decimal_of as decimal_in};
@@ -15,13 +15,14 @@ use std::io::Read;
 use swd_io::Unread;
 use swd_port::Mark;
 
-/// Reads a plan, which comes in pieces (`Consumer::take`); its marks are those of the whole text.
+/// A reader of a plan, which takes the file in pieces (`Consumer::take`). It returns the marks of the whole
+/// file.
 pub type PlanReader<A> = LineReader<Vec<Mark, A>>;
 
 impl<A: Allocator> LineReader<Vec<Mark, A>> {
     ghost use Rattle.swd_script.specs.Readers.{ReadsLines, TookPlan};
 
-    /// A reader that has read nothing.
+    /// Returns a reader before the first byte.
     pub fn new(alloc: A) -> PlanReader<A>
         ensures { ReadsLines TookPlan result [] }
     {
@@ -49,13 +50,12 @@ impl<A: Allocator> LineSink for Vec<Mark, A> {
     }
 }
 
-/// The plan that a reader gives, which is read to its end or up to the first fault. Nothing is tried
-/// again.
+/// Reads a plan to its end or to the first error, and returns its marks. Nothing is retried.
 ///
 /// # Errors
 ///
-/// The first fault of the text. `Memory` where the list of marks could not grow. `Reader` where the
-/// reader failed, or did not end within 2^64 - 1 reads.
+/// The first error of the file, or `Memory` if memory ran out for the marks. `Reader` if the reader failed,
+/// or didn't end within 2^64 - 1 reads.
 pub fn read_plan<R: Read, A: Allocator>(
     alloc: A,
     reader: &mut R,
@@ -67,8 +67,8 @@ pub fn read_plan<R: Read, A: Allocator>(
     read_lines(Vec::new(alloc), reader)
 }
 
-// Adds the mark of a line, by its first words; `None` where a byte has spoiled it. A line without words
-// has none.
+// Adds the mark of a line with these first words. `None` stands for a line with an invalid byte. A line
+// without words has no mark.
 fn add_mark<A: Allocator>(
     marks: &mut Vec<Mark, A>,
     words: Option<FirstWords>,
@@ -88,7 +88,7 @@ fn add_mark<A: Allocator>(
     }
 }
 
-// The mark of a line's first words.
+// Returns the mark of a line's first words.
 fn mark_of(words: &[Word]) -> Result<Mark, LineFault>
     ensures { result ≡ mark_of (texts words.now) }
 {
@@ -99,7 +99,7 @@ fn mark_of(words: &[Word]) -> Result<Mark, LineFault>
     }
 }
 
-// The mark that is a name alone.
+// Returns the mark without argument that has this name.
 fn bare_mark(name: &[u8]) -> Result<Mark, LineFault>
     ensures { result ≡ bare_mark name.now }
 {
@@ -115,7 +115,7 @@ fn bare_mark(name: &[u8]) -> Result<Mark, LineFault>
     Err(LineFault::Word)
 }
 
-// The mark that is a name and a place: one of the 33 bits of a data phase, or of the three of an
+// Returns the mark with this name and bit: one of the 33 bits of a data phase, or of the three of an
 // acknowledgement.
 fn placed_mark(name: &[u8], place: &[u8]) -> Result<Mark, LineFault>
     ensures { result ≡ placed_mark name.now place.now }
@@ -129,7 +129,7 @@ fn placed_mark(name: &[u8], place: &[u8]) -> Result<Mark, LineFault>
     Err(LineFault::Word)
 }
 
-// A place below a limit.
+// Parses a bit number below a limit.
 fn place_below(limit: u8, place: &[u8]) -> Result<u8, LineFault>
     ensures { result ≡ place_below limit (decimal_in place.now) }
 {

@@ -13,26 +13,26 @@ use std::alloc::Allocator;
 use std::io::Read;
 use swd_io::Unread;
 
-/// What a script says.
+/// The contents of a script.
 #[derive(Debug, Drop)]
 pub struct Script<A: Allocator> {
     /// The address of the memory's first word, a multiple of 4.
     pub base: u32,
-    /// How many words the memory has, 1 to 65,536.
+    /// The number of the memory's words, 1 to 65,536.
     pub words: u32,
-    /// How many transfers its log has room for, at most 65,536.
+    /// The number of transfers that fit in its log, at most 65,536.
     pub room: u32,
-    /// The accesses of its calls, the first call first. There is one call at least, which may have none.
+    /// The calls in order, each with its accesses. There is at least one call; a call may have no accesses.
     pub batches: Vec<Batch<A>, A>,
 }
 
-/// Reads a script, which comes in pieces (`Consumer::take`).
+/// A reader of a script, which takes the file in pieces (`Consumer::take`).
 pub type ScriptReader<A> = LineReader<Draft<A>>;
 
 impl<A: Allocator + Copy> LineReader<Draft<A>> {
     ghost use Rattle.swd_script.specs.Readers.{ReadsLines, TookScript};
 
-    /// A reader that has read nothing.
+    /// Returns a reader before the first byte.
     pub fn new(alloc: A) -> ScriptReader<A>
         ensures { ReadsLines TookScript result [] }
     {
@@ -60,13 +60,12 @@ impl<A: Allocator + Copy> LineSink for Draft<A> {
     }
 }
 
-/// The script that a reader gives, which is read to its end or up to the first fault. Nothing is
-/// tried again.
+/// Reads a script to its end or to the first error, and returns its contents. Nothing is retried.
 ///
 /// # Errors
 ///
-/// The first fault of the text. `Memory` where a list of accesses could not grow, or that of calls. `Reader` where
-/// the reader failed, or did not end within 2^64 - 1 reads.
+/// The first error of the file, or `Memory` if memory ran out for the accesses or the calls. `Reader` if the
+/// reader failed, or didn't end within 2^64 - 1 reads.
 pub fn read_script<R: Read, A: Allocator + Copy>(
     alloc: A,
     reader: &mut R,

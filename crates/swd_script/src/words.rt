@@ -1,23 +1,23 @@
-//! The words of a line, as far as they matter.
+//! The first words of a line.
 ghost use Rattle.std.specs.Prelude.{◌≡◌, ◌∷◌, ◌++◌, [], ℕ, List, take, true, false};
 ghost use Rattle.swd_script.specs.Lines.{is_blank};
 
 use arrayvec::ArrayVec;
 use std::mem;
 
-// One byte more than any word that means something has.
+// One byte more than the longest valid word has.
 const LONGEST: usize = 11;
 
-// One word more than any line that means something has.
+// One word more than the longest valid line has.
 const MOST: usize = 4;
 
-/// The first bytes of a word. A word that is cut off here means nothing, nor does the whole one.
+/// The first bytes of a word. A truncated word is invalid, as is the whole one.
 pub(crate) type Word = ArrayVec<u8, LONGEST>;
 
-/// The first words of a line. A line whose further words are left out means nothing.
+/// The first words of a line. A line with further words is invalid.
 pub type FirstWords = ArrayVec<Word, MOST>;
 
-/// The first words of the line so far, and the word that has begun.
+/// The first words of the line so far, and the current word.
 #[derive(Drop)]
 pub(crate) struct Words {
     pub(crate) ended: FirstWords,
@@ -27,7 +27,7 @@ pub(crate) struct Words {
 impl Words {
     ghost use Rattle.swd_script.specs.Words.{begun, texts, AreFirst, Gathers};
 
-    /// No word yet.
+    /// Returns the state before the first word.
     pub(crate) fn new() -> Words
         ensures { Gathers [] result }
     {
@@ -47,7 +47,7 @@ impl Words {
         }
     }
 
-    /// Takes a blank.
+    /// Takes a space or a tab.
     pub(crate) fn blank(&mut self, byte: u8)
         requires { is_blank byte ≡ true }
         ensures { (line : List ℕ) → Gathers line self.old → Gathers (line ++ byte ∷ []) self.new }
@@ -55,7 +55,7 @@ impl Words {
         self.end_word();
     }
 
-    // Ends the word that has begun, if one has.
+    // Ends the current word, if there is one.
     fn end_word(&mut self)
         ensures ended { texts self.new.ended.items
             ≡ take 4 (texts self.old.ended.items ++ begun self.old.last.items) }
@@ -67,7 +67,7 @@ impl Words {
         }
     }
 
-    /// The first words of the line, which ends here.
+    /// Ends the line, and returns its first words.
     pub(crate) fn finish(mut self) -> FirstWords
         ensures { (line : List ℕ) → Gathers line self → AreFirst result.items line }
     {

@@ -1,4 +1,4 @@
--- The characters of OpenOCD's remote_bitbang protocol that serial wire has: OpenOCD's manual, "remote_bitbang".
+-- The characters of OpenOCD's remote_bitbang protocol for serial wire: OpenOCD's manual, "remote_bitbang".
 use Rattle.std.specs.Prelude.{ℕ, ◌==◌, Bool, true, false, List, [], ◌∷◌, Option, Some, None, if◌then◌else◌}
 use Rattle.swd_sequences.specs.declared.character.Character.{Character}
 use Rattle.swd_sequences.specs.declared.character.Character.TheVariants.{Moves, Looks, Drives, Lights, Resets, Waits}
@@ -23,7 +23,7 @@ byte_of (Waits true) = 90
 byte_of (Waits false) = 122
 byte_of Quits = 81
 
--- all of them
+-- all characters
 abbrev pub alphabet : List Character
 alphabet =
     Moves false false ∷ Moves false true ∷ Moves true false ∷ Moves true true ∷ Looks ∷ Drives true ∷ Drives false
@@ -35,11 +35,11 @@ abbrev pub read_as : List Character → ℕ → Option Character
 read_as [] byte = None
 read_as (c ∷ more) byte = if byte == byte_of c then Some c else read_as more byte
 
--- what a byte asks for
+-- the character of a byte
 abbrev pub character : ℕ → Option Character
 character byte = read_as alphabet byte
 
--- a level as it comes back: 0 or 1
+-- the byte of a level: 0 or 1
 abbrev pub level_character : Bool → ℕ
 level_character false = 48
 level_character true = 49

@@ -1,11 +1,11 @@
--- Sequences of clocks that go by at a target, whatever a clock does to it.
+-- Sequences of clocks as a target performs them, whatever a clock does to it.
 use Rattle.std.specs.Prelude.{◌≡◌, Bool, List, [], ◌∷◌, ◌++◌, Option}
 use Rattle.swd_sequences.specs.declared.sequence.Sequence.{Sequence}
 use Rattle.swd_sequences.specs.declared.sequence.Sequence.TheVariants.{Sample}
 use Rattle.swd_sequences.specs.Clocks.{driven_in}
 
--- what one clock does: what the host drives, or that it drives nothing, the level that it sees, and the target before
--- and after
+-- what one clock does: what the host drives, if it drives, the level that it sees, and the target before and
+-- after
 abbrev pub Clock : Type 0 → Type 1
 Clock T = Option Bool → Bool → T → T → Type 0
 
@@ -17,12 +17,12 @@ ClocksGoBy clock (drive ∷ drives) [] s t = ⊥
 ClocksGoBy {T} clock (drive ∷ drives) (level ∷ levels) s t =
     (m : T) × clock drive level s m × ClocksGoBy clock drives levels m t
 
--- of the levels that were seen in a sequence, those that the host looked at
+-- the levels of a sequence that the host sampled
 abbrev pub sampled : Sequence → List Bool → List Bool
 sampled (Sample count) seen = seen
 sampled sequence seen = []
 
--- The clocks of a sequence go by, and these levels are sampled.
+-- The clocks of a sequence are performed, and these levels are sampled.
 pub record SequenceGoesBy {T : Type 0} (clock : Clock T) (sequence : Sequence) (levels : List Bool) (s t : T) :
     Type 0 where
   pub seen : List Bool

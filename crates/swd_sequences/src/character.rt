@@ -2,22 +2,22 @@
 ghost use Rattle.std.specs.Prelude.{◌≡◌, ◌≢◌, Bool, IfSome, IfNone};
 ghost use Rattle.swd_sequences.specs.Alphabet.{byte_of, character, level_character};
 
-/// What a host asks for by one character.
+/// One character of a host.
 #[derive(Clone, Copy, Debug, PartialEq, Eq)]
 pub enum Character {
-    /// SWCLK is low or high, and SWDIO 0 or 1 where the host drives it: `d` to `g`.
+    /// Sets SWCLK to low or high, and SWDIO to 0 or 1 where the host drives it: `d` to `g`.
     Moves(bool, bool),
-    /// The level of SWDIO comes back: `c`.
+    /// Asks for the level of SWDIO: `c`.
     Looks,
-    /// The host drives SWDIO, or leaves it alone: `O` and `o`.
+    /// Drives or releases SWDIO: `O` and `o`.
     Drives(bool),
-    /// The lamp is on or off: `B` and `b`.
+    /// Switches the lamp on or off: `B` and `b`.
     Lights(bool),
-    /// The reset lines TRST and SRST: `r` to `u`.
+    /// Sets the reset lines TRST and SRST: `r` to `u`.
     Resets(bool, bool),
-    /// The server waits for a millisecond, or for a microsecond: `Z` and `z`.
+    /// Makes the server wait for a millisecond or a microsecond: `Z` and `z`.
     Waits(bool),
-    /// The host is done: `Q`.
+    /// Ends the session: `Q`.
     Quits,
 }
 
@@ -47,7 +47,8 @@ impl Character {
         }
     }
 
-    /// Returns the character that has this byte. `None` where it is none of the protocol's characters for serial wire.
+    /// Returns the character with this byte, or `None` if no character of the protocol for serial wire has
+    /// it.
     pub fn of(byte: u8) -> Option<Character>
         ensures { result ≡ character byte }
     {
@@ -73,7 +74,7 @@ impl Character {
     }
 }
 
-/// Returns the byte that tells a level: `0` or `1`.
+/// Returns the byte of a level: `0` or `1`.
 #[inline(always)]
 pub fn level_byte(level: bool) -> u8
     ensures { result ≡ level_character level }
@@ -81,7 +82,7 @@ pub fn level_byte(level: bool) -> u8
     if level { b'1' } else { b'0' }
 }
 
-/// Returns the level that this byte tells. `None` where it tells none.
+/// Returns the level with this byte, or `None` if no level has it.
 #[inline(always)]
 pub fn level_of(byte: u8) -> Option<bool>
     ensures level { IfSome result (λ level. byte ≡ level_character level) }

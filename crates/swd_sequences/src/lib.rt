@@ -1,5 +1,5 @@
-//! What both ends of a line of OpenOCD's remote_bitbang characters agree on: the characters of serial wire, and the
-//! sequences of clocks that a host sends by them.
+//! What both ends of an OpenOCD remote_bitbang connection share: the characters for serial wire, and the
+//! sequences of clocks that a host sends with them.
 #![tactic(auto)]
 
 mod character;

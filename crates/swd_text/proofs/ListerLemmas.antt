@@ -61,7 +61,7 @@ listing_more (i ∷ items) item =
     ap (λ x. (item_line i ++ 10 ∷ []) ++ x) (listing_more items item)
     ∙ sym (append_assoc (item_line i ++ 10 ∷ []) (listing items) (item_line item ++ 10 ∷ []))
 
--- one more item is given, and its line is under way
+-- one more item is returned, and its line is queued
 pub one_more : {W : Type 0} (contents : W → Option (List ℕ)) (start : Option (List ℕ)) (before after : Decoder)
     (old new : Block W) (bits : List Bool) (items : List Item) (item : Item) →
     ((more : List Bool) → rest before more ≡ item ∷ rest after more) → fed_of after ≡ fed_of before →
@@ -128,7 +128,7 @@ idle_listed all (suc n) h = ap (λ x. all ++ x) (sym (append-nil (item_line (Idl
 pub no_idle_listed : (all : List ℕ) (n : ℕ) → n ≡ 0 → all ≡ all ++ listing (idle_items n)
 no_idle_listed all n e = sym (ap (λ k. all ++ listing (idle_items k)) e ∙ append-nil all)
 
--- a transaction is found behind idle cycles or none, and their lines are under way
+-- a transaction is found after any idle cycles, and their lines are queued
 pub found_more : {W : Type 0} (contents : W → Option (List ℕ)) (start : Option (List ℕ)) (before after : Decoder)
     (old new : Block W) (bits : List Bool) (items : List Item) (next : List Bool) (n idle : ℕ) (tx : Transaction) →
     ((more : List Bool) → (items ++ (idle_items idle ++ Tx tx ∷ []))
@@ -181,7 +181,7 @@ junk_parted k n v h =
     ∙ ap listing (map-append Junk (low_bits k v) (low_bits (n - k) (v / 2 ^ k)))
     ∙ listing_append (map Junk (low_bits k v)) (map Junk (low_bits (n - k) (v / 2 ^ k)))
 
--- more items are given, and their lines are under way
+-- more items are returned, and their lines are queued
 pub many_more : {W : Type 0} (contents : W → Option (List ℕ)) (start : Option (List ℕ)) (before after : Decoder)
     (old new : Block W) (bits : List Bool) (items next : List Item) →
     ((more : List Bool) → rest before more ≡ next ++ rest after more) → fed_of after ≡ fed_of before →

@@ -1,4 +1,4 @@
--- What is answered to a trace text that is to be listed.
+-- What is written for a trace text that is to be listed.
 use Rattle.std.specs.Prelude.{◌≡◌, ℕ, ◌+◌, ◌-◌, ◌^◌, ◌<◌, ◌⊎◌, min, Bool, List, length, take, Option, Some, Result, Ok}
 use Rattle.std.specs.Prelude.{Err, IfSome}
 use Rattle.std.specs.Io.KnownBytes.{Appends, Consumes, IsAtEnd}
@@ -18,32 +18,33 @@ use Rattle.swd_text.specs.declared.fault.TakeFault.TheVariants.{Text as NoText, 
 use Rattle.swd_io.specs.declared.pieces.Unread.{Unread}
 use Rattle.swd_io.specs.declared.pieces.Unread.TheVariants.{Reader, Consumer}
 
--- the text has bits, fewer than 2^64, and they decide these items
+-- the text has fewer than 2^64 bits, and they decide these items
 pub record DecidedBy (text : List ℕ) (items : List Item) : Type 0 where
   pub bits : List Bool
   pub has : bits_of_text text ≡ Some bits
   pub counted : length bits < 2 ^ 64
   pub decided : IsDecided bits items
 
--- the items are those that the bits of the text's first bytes decide
+-- the bits of the text's first bytes decide these items
 abbrev pub DecidedAt : List ℕ → ℕ → List Item → Type 0
 DecidedAt text place items = DecidedBy (take place text) items
 
--- the text has bits, fewer than 2^64, and their reading is these items
+-- the text has fewer than 2^64 bits, and their reading is these items
 pub record ReadsAs (text : List ℕ) (items : List Item) : Type 0 where
   pub bits : List Bool
   pub has : bits_of_text text ≡ Some bits
   pub counted : length bits < 2 ^ 64
   pub read : items ≡ reading_of bits
 
--- the byte at this place is the first bad one, and the items are those that were decided before it
+-- the byte at this place is the first bad one, and the items are those decided before it
 pub record StopsAtBad (told : ℕ) (items : List Item) (text : List ℕ) : Type 0 where
   pub place : ℕ
   pub tells : told ≡ min place (2 ^ 64 - 1)
   pub bad : IsFirstBad text place
   pub decided : DecidedAt text place items
 
--- the byte at this place is one bit more than 2^64 - 1, and the items are those that were decided before it
+-- with the byte at this place the text has one bit more than 2^64 - 1, and the items are those decided before
+-- it
 pub record StopsAtLong (items : List Item) (text : List ℕ) : Type 0 where
   pub place : ℕ
   pub bits : List Bool
@@ -51,17 +52,17 @@ pub record StopsAtLong (items : List Item) (text : List ℕ) : Type 0 where
   pub long : length bits ≡ 2 ^ 64
   pub decided : DecidedAt text place items
 
--- the text can't go on at some byte, and the items are those that were decided before it
+-- the text is invalid at some byte, and the items are those decided before it
 abbrev pub StopsWith : TextFault → List Item → List ℕ → Type 0
 StopsWith (BadChar told) items text = StopsAtBad told items text
 StopsWith TooLong items text = StopsAtLong items text
 
--- the items that are told of what was read of a text: those that it decides, or decides before the byte at which it
--- can't go on
+-- the items that are listed of what was read of a text: those that it decides, or if it is invalid, those
+-- decided before its first invalid byte
 abbrev pub IsDue : List ℕ → List Item → Type 0
 IsDue text items = DecidedBy text items ⊎ ((fault : TextFault) × StopsWith fault items text)
 
--- What an answer says of the reader's text, where its bytes are known, of what the reader has left of it, and of what
+-- What a result says of the reader's text, if its bytes are known, of what the reader has left, and of what
 -- the writer holds before and after.
 abbrev pub Decodes : Result (Unit {0}) DecodeFault → Option (List ℕ) → Option (List ℕ) → Option (List ℕ) →
     Option (List ℕ) → Type 0
@@ -83,7 +84,7 @@ decode_fault Reader = Read
 decode_fault (Consumer (NoText fault)) = Text fault
 decode_fault (Consumer (NoWrite told)) = Write told
 
--- the reading of a whole text went out, all of it or exactly its first bytes
+-- the listing of a whole text was written: all of it, or exactly its first bytes
 abbrev pub Finishes : Result (Unit {0}) ℕ → List ℕ → Option (List ℕ) → Option (List ℕ) → Type 0
 Finishes (Ok u) text start now = (items : List Item) × ReadsAs text items × Appends start now (listing items)
 Finishes (Err told) text start now =

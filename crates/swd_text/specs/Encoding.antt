@@ -1,4 +1,4 @@
--- What is answered to a listing that is to be written as a trace.
+-- What is written for a listing that is to be encoded.
 use Rattle.std.specs.Prelude.{ℕ, List, [], Option, Result, Ok, Err, IfSome}
 use Rattle.std.specs.Io.KnownBytes.{Appends}
 use Rattle.swd_trace.specs.declared.item.Item.{Item}
@@ -13,7 +13,8 @@ pub record ListsNormal (items : List Item) (text : List ℕ) : Type 0 where
   pub lists : Lists (lines text) items
   pub normal : IsNormal items
 
--- What an answer says of the reader's text, where its bytes are known, and of what the writer holds before and after.
+-- What a result says of the reader's text, if its bytes are known, and of what the writer holds before and
+-- after.
 abbrev pub Encodes : Result (Unit {0}) EncodeFault → Option (List ℕ) → Option (List ℕ) → Option (List ℕ) → Type 0
 Encodes (Ok u) text old new = (items : List Item) × IfSome text (ListsNormal items) × Appends old new (trace_text items)
 Encodes (Err (Unlisted fault)) text old new = IfSome text (λ bytes. Refuses fault (lines bytes)) × Appends old new []

@@ -17,8 +17,8 @@ use Rattle.swd_text.specs.declared.fault.TextFault.TheVariants.{BadChar, TooLong
 use Rattle.swd_text.specs.declared.fault.TakeFault.{TakeFault}
 use Rattle.swd_text.specs.declared.fault.TakeFault.TheVariants.{Text, Write}
 
--- The items so far and what the decoder holds are the reading of the bits so far, whatever follows, and the items'
--- lines are under way.
+-- With any later bits, the items so far and the reading of what the decoder holds are the reading of the
+-- bits. The items' lines are queued or written.
 pub record Lists {W : Type 0} (contents : W → Option (List ℕ)) (start : Option (List ℕ)) (decoder : Decoder)
     (block : Block W) (bits : List Bool) (items : List Item) : Type 0 where
   pub law : (more : List Bool) → items ++ rest decoder more ≡ reading_of (bits ++ more)
@@ -26,7 +26,7 @@ pub record Lists {W : Type 0} (contents : W → Option (List ℕ)) (start : Opti
   pub counted : length bits < 2 ^ 64
   pub sends : Sends contents start block (listing items)
 
--- A text was read so far, which ends in a comment or outside: these are its bits, and the items that they decide.
+-- A text was read so far, which ends inside a comment or outside: its bits, and the items that they decide.
 pub record IsRead (decoder : Decoder) (comment : Bool) (seen : List ℕ) : Type 0 where
   pub bits : List Bool
   pub items : List Item
@@ -36,17 +36,18 @@ pub record IsRead (decoder : Decoder) (comment : Bool) (seen : List ℕ) : Type 
   pub count : fed_of decoder ≡ length bits
   pub counted : length bits < 2 ^ 64
 
--- the same, and the lines of these items are under way
+-- the same, and the lines of these items are queued or written
 pub record Listed {W : Type 0} (contents : W → Option (List ℕ)) (start : Option (List ℕ)) (decoder : Decoder)
     (comment : Bool) (block : Block W) (seen : List ℕ) : Type 0 where
   pub read : IsRead decoder comment seen
   pub sends : Sends contents start block (listing read.items)
 
--- the same, and the lister reads on from there
+-- the same, and the lister continues from there
 abbrev pub GoesOn : {W : Type 0} → (W → Option (List ℕ)) → Option (List ℕ) → Lister → Block W → List ℕ → Type 0
 GoesOn contents start lister block seen = Listed contents start lister.decoder lister.scan block seen
 
--- These bytes were taken, and the lines of the items that they decide went out to a writer that began with `start`.
+-- These bytes were taken, and the lines of the items that they decide were written to a writer that began
+-- with `start`.
 pub record HasRead {W : Type 0} (contents : W → Option (List ℕ)) (start : Option (List ℕ)) (state : Lister × W)
     (seen : List ℕ) : Type 0 where
   pub read : IsRead state.0.decoder state.0.scan seen
@@ -61,32 +62,33 @@ pub record IsLong (seen : List ℕ) (byte : ℕ) : Type 0 where
   pub reads : Reads (seen ++ byte ∷ []) bits comment
   pub long : length bits ≡ 2 ^ 64
 
--- why no trace text goes on with this byte, which stands at a place
+-- why this byte, at this place, makes a text invalid
 abbrev pub StopsAt : TextFault → ℕ → List ℕ → ℕ → Type 0
 StopsAt (BadChar told) place seen byte = (told ≡ place)
     × ((more : List ℕ) → IsFirstBad (seen ++ byte ∷ more) (length seen))
 StopsAt TooLong place seen byte = IsLong seen byte
 
--- The text can't go on, whatever follows, and what it decides before that is under way.
+-- The text is invalid, whatever follows, and the lines of the items decided before that are queued or
+-- written.
 pub record StopsIn {W : Type 0} (contents : W → Option (List ℕ)) (start : Option (List ℕ)) (block : Block W)
     (fault : TextFault) (text : List ℕ) : Type 0 where
   pub items : List Item
   pub stops : (more : List ℕ) → StopsWith fault items (text ++ more)
   pub sends : Sends contents start block (listing items)
 
--- what is told before a fault of the text went out, all of it
+-- all lines of the items decided before an error of the text were written
 pub record TellsFault (start now : Option (List ℕ)) (fault : TextFault) (text : List ℕ) : Type 0 where
   pub items : List Item
   pub stops : (more : List ℕ) → StopsWith fault items (text ++ more)
   pub gone : Appends start now (listing items)
 
--- a beginning of what is told went out
+-- a proper prefix of the lines was written
 pub record TellsCut (start now : Option (List ℕ)) (told : ℕ) (text : List ℕ) : Type 0 where
   pub items : List Item
   pub due : IsDue text items
   pub cut : Stopped told start now (listing items)
 
--- what a writer that began with `start` holds at a fault
+-- what a writer that began with `start` holds at an error
 abbrev pub EndsBy : TakeFault → Option (List ℕ) → Option (List ℕ) → List ℕ → Type 0
 EndsBy (Text fault) start now text = TellsFault start now fault text
 EndsBy (Write told) start now text = TellsCut start now told text

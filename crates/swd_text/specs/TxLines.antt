@@ -1,4 +1,4 @@
--- Requests by number, and what they are listed as.
+-- Requests by number, and their listing.
 use Rattle.std.specs.Prelude.{ℕ, ◌/◌, ◌%◌, ◌==◌, List, ◌++◌}
 use Rattle.swd_bits.specs.Wire.{reg4_of}
 use Rattle.swd_bits.specs.Listing.{port, address, direction}
@@ -8,6 +8,6 @@ use Rattle.swd_bits.specs.declared.request.Request.{Request}
 abbrev pub asked_at : ℕ → Request
 asked_at n = record { ap = n % 2 == 1; read = n / 2 % 2 == 1; addr = reg4_of (n / 4) }
 
--- what a request is listed as
+-- the listing of a request
 abbrev pub request_line : Request → List ℕ
 request_line q = port q.ap ++ address q.addr ++ direction q.read

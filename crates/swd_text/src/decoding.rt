@@ -1,4 +1,4 @@
-//! The engine of `swd decode`: a trace text to its listing.
+//! The engine of `swd decode`: converts a trace text to its listing.
 ghost use Rattle.swd_text.specs.Decoding.{Decodes};
 
 use crate::fault::DecodeFault;
@@ -6,14 +6,15 @@ use crate::lister::Lister;
 use std::io::{Read, Write};
 use swd_io::read_pieces;
 
-/// Reads a trace text, and writes the listing line of each item as soon as it is decided, whatever
-/// may follow: what a read decides goes out before the next read. It takes no memory, and its time is
-/// linear in the text.
+/// Reads a trace text, and writes its listing: each item's line as soon as no later bits can change the item.
+/// The lines that the text so far decides are written before the next read. It allocates nothing, its time is
+/// linear in the text, and nothing is retried.
 ///
-/// At `Ok` the listing of the whole text has been written. At `Text` and `Read` the lines of the items
-/// that were decided before have been written, and nothing for undecided bits. At `Write` exactly the
-/// first `written` bytes of that went out. The first fault that is met is answered, but where the
-/// writer fails in what stands before it, that is. Nothing is tried again.
+/// # Errors
+///
+/// Returns the first error, or `Write` if the writer fails on the lines before it.
+/// - `Text` and `Read`: exactly the lines of the items decided before the error were written.
+/// - `Write`: exactly the first `written` bytes of the lines decided so far were written.
 pub fn decode_text<R: Read, W: Write>(reader: &mut R, writer: &mut W) -> Result<(), DecodeFault>
     ensures { Decodes result (R.remaining reader.old) (R.remaining reader.new)
         (W.contents writer.old) (W.contents writer.new) }

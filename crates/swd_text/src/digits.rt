@@ -1,4 +1,4 @@
-//! The characters `0` and `1` at the front of a text, many at once.
+//! Finds the characters `0` and `1` at the front of a text, 64 bytes at once.
 ghost use Rattle.std.specs.Prelude.{◌≡◌, ℕ, ◌≤◌, ◌==◌, length, take, map};
 ghost use Rattle.std.specs.Simd.Lanes.{mask_l};
 ghost use Rattle.swd_bits.specs.Bits.{low_bits};
@@ -7,17 +7,17 @@ ghost use Rattle.swd_text.specs.Digits.{is_other};
 
 use std::simd::prelude::*;
 
-/// How many bytes are looked at at once.
+/// The number of bytes that one call examines.
 pub(crate) const WIDTH: usize = 64;
 
-/// So many bits, the first least significant, and beyond them any.
+/// The lowest `count` bits are valid, the first one least significant.
 #[derive(Clone, Copy)]
 pub(crate) struct Digits {
     pub(crate) count: u8,
     pub(crate) bits: u64,
 }
 
-/// The digits at the front of a text, of which the first 64 bytes are looked at.
+/// Returns the digits among the first 64 bytes of a text, up to the first other byte.
 #[inline]
 pub(crate) fn digits_of(text: &[u8]) -> Digits
     requires { WIDTH ≤ length text.now }
@@ -31,7 +31,7 @@ pub(crate) fn digits_of(text: &[u8]) -> Digits
     }
 }
 
-// Bit k is set where byte k is `1`.
+// Sets bit k where byte k is `1`.
 #[inline(always)]
 fn ones(bytes: u8x64) -> u64
     ensures { result ≡ mask_l (map (λ byte. byte == 49) bytes) }
@@ -39,7 +39,7 @@ fn ones(bytes: u8x64) -> u64
     bytes.simd_eq(u8x64::splat(b'1')).to_bitmask()
 }
 
-// Bit k is set where byte k is neither `0` nor `1`.
+// Sets bit k where byte k is neither `0` nor `1`.
 #[inline(always)]
 fn others(bytes: u8x64) -> u64
     ensures { result ≡ mask_l (map is_other bytes) }

@@ -1,4 +1,4 @@
-//! The engine of `swd encode`: a listing to its trace text.
+//! The engine of `swd encode`: converts a listing to its trace text.
 ghost use Rattle.std.specs.Prelude.{◌≡◌, ℕ, List, ◌++◌, Option};
 ghost use Rattle.swd_io.specs.Blocks.{Sends, Writes};
 ghost use Rattle.swd_trace.specs.Listed.{IsLegal};
@@ -12,10 +12,10 @@ use std::io::{Read, Write};
 use swd_io::Block;
 use swd_trace::{Item, ItemBytes, read_list};
 
-// How many bytes of an item go out at once.
+// The most bytes of an item that are queued at once.
 const PIECE: usize = 128;
 
-// The trace text of an item is under way, too. A huge count goes by in pieces.
+// Also queues the trace text of an item, piece by piece.
 fn put_item<W: Write>(block: &mut Block<'_, W>, item: &Item)
     requires { IsLegal item.now }
     ensures sends { (start : Option (List ℕ)) (all : List ℕ) → Sends W.contents start block.old all
@@ -33,12 +33,12 @@ fn put_item<W: Write>(block: &mut Block<'_, W>, item: &Item)
     }
 }
 
-/// Writes the trace text of some items, one line an item. It takes no memory.
+/// Writes the trace text of some items, one line for each item. It allocates nothing, and nothing is retried.
 ///
 /// # Errors
 ///
-/// How many bytes of the text went out, where the writer failed or took no bytes: exactly its first
-/// ones. Nothing is tried again.
+/// If the writer fails or takes no bytes: how many bytes of the text were written. These are exactly its
+/// first ones.
 pub fn write_items<W: Write>(writer: &mut W, items: &[Item]) -> Result<(), u64>
     requires { AreLegal items.now }
     ensures { Writes result (W.contents writer.old) (W.contents writer.new) (trace_text items.now) }
@@ -53,12 +53,14 @@ pub fn write_items<W: Write>(writer: &mut W, items: &[Item]) -> Result<(), u64>
     }
 }
 
-/// Reads a listing, and writes the trace text of its items, one line an item. Nothing is written
-/// before the whole list was read and found normal. Memory is taken for the items alone; time is
-/// linear in the listing and in what is written.
+/// Reads a listing, and writes the trace text of its items, one line for each item. Nothing is written before
+/// the whole list was read and found normal. It allocates memory for the items alone. Its time is linear in
+/// the listing and in what it writes. Nothing is retried.
 ///
-/// At `Ok` the trace text of all items has been written. At `Write` exactly its first `written` bytes
-/// went out. At `List` nothing did. Nothing is tried again.
+/// # Errors
+///
+/// - `List`: the listing can't be read. Nothing was written.
+/// - `Write`: the writer failed. Exactly the first `written` bytes of the trace text were written.
 pub fn encode_text<R: Read, W: Write, A: Allocator>(
     alloc: A,
     reader: &mut R,

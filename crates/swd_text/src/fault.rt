@@ -1,4 +1,4 @@
-//! Why a text engine stopped.
+//! Errors of the conversions.
 ghost use Rattle.std.specs.Prelude.{◌≡◌};
 ghost use Rattle.swd_text.specs.Decoding.{decode_fault};
 
@@ -6,11 +6,11 @@ use swd_io::Unread;
 use swd_trace::ListFault;
 use thiserror::Error;
 
-/// What is wrong with a trace text.
+/// An error in a trace text.
 #[derive(Clone, Copy, Debug, PartialEq, Eq, Error)]
 pub enum TextFault {
-    /// The byte at `place`, counted from 0, cannot stand in a trace text. A place above 2^64 - 1
-    /// is told as 2^64 - 1.
+    /// The byte at `place`, counted from 0, isn't allowed in a trace text. Places above 2^64 - 1 are reported
+    /// as 2^64 - 1.
     #[error("trace byte {place}: bad character")]
     BadChar { place: u64 },
     /// The text has more than 2^64 - 1 bits.
@@ -18,32 +18,32 @@ pub enum TextFault {
     TooLong,
 }
 
-/// Why no more of a trace text was taken.
+/// The error at which a consumer of a trace text stops.
 #[derive(Clone, Copy, Debug, PartialEq, Eq)]
 pub enum TakeFault {
-    /// The trace text is at fault.
+    /// The trace text is invalid.
     Text(TextFault),
     /// The writer failed, as at `DecodeFault::Write`.
     Write { written: u64 },
 }
 
-/// Why a trace text was not written as something else to its end.
+/// The error of the conversion of a trace text.
 #[derive(Clone, Copy, Debug, PartialEq, Eq, Error)]
 pub enum DecodeFault {
-    /// The trace text is at fault.
+    /// The trace text is invalid.
     #[error(transparent)]
     Text(TextFault),
     /// The reader failed.
     #[error("read failed")]
     Read,
-    /// The writer failed, or took no bytes, after it took exactly the first `written` bytes of the
-    /// text; more than 2^64 - 1 are told as 2^64 - 1.
+    /// The writer failed, or took no bytes, after exactly the first `written` bytes of the output. Numbers
+    /// above 2^64 - 1 are reported as 2^64 - 1.
     #[error("write failed")]
     Write { written: u64 },
 }
 
 impl DecodeFault {
-    /// The fault of a trace text that was not read to its end.
+    /// Returns the error of a trace text that wasn't read to its end.
     pub fn of(unread: Unread<TakeFault>) -> DecodeFault
         ensures { result ≡ decode_fault unread }
     {
@@ -55,14 +55,14 @@ impl DecodeFault {
     }
 }
 
-/// Why a listing was not written as a trace text.
+/// The error of the conversion of a listing.
 #[derive(Clone, Copy, Debug, PartialEq, Eq, Error)]
 pub enum EncodeFault {
-    /// The listing was not read: it is at fault, its reader failed, or memory was refused for its items.
+    /// The listing wasn't read: it is invalid, the reader failed, or memory ran out for its items.
     #[error(transparent)]
     List(ListFault),
-    /// The writer failed, or took no bytes, after it took exactly the first `written` bytes of the
-    /// text; more than 2^64 - 1 are told as 2^64 - 1.
+    /// The writer failed, or took no bytes, after exactly the first `written` bytes of the output. Numbers
+    /// above 2^64 - 1 are reported as 2^64 - 1.
     #[error("write failed")]
     Write { written: u64 },
 }

@@ -1,4 +1,4 @@
-//! The text engines: trace texts to listings and back.
+//! Converts trace texts to listings, and back.
 #![tactic(auto)]
 
 mod decoding;

@@ -1,4 +1,4 @@
-//! A trace text on its way to its listing.
+//! Converts a trace text to its listing, piece by piece.
 ghost use Rattle.std.specs.Prelude.{◌≡◌, ℕ, ◌+◌, ◌-◌, ◌^◌, ◌<◌, ◌≤◌, min, List, Bool, false, true, ◌∷◌, ◌++◌};
 ghost use Rattle.std.specs.Prelude.{◌≢◌, slice_index, [], length, map, take, Option, OnOk, OnErr, IfErr};
 ghost use Rattle.swd_io.specs.Blocks.{Sends};
@@ -26,28 +26,27 @@ use swd_bits::{Scan, Sign, TxBits};
 use swd_io::{Block, Consumer};
 use swd_trace::{Decoder, FoundTx, Item, LONGEST_LINE};
 
-// Room for the longest line and its end.
+// Room for the longest line and its line feed.
 const ROOM: usize = LONGEST_LINE + 1;
 
-// So many bits at most were fed where digits are taken at once, so that the count has room for them.
+// The most bits fed before digits are taken 64 at once, so that the count can't overflow.
 const MOST_FED: u64 = u64::MAX - WIDTH as u64;
 
-/// Takes a trace text piece by piece, digits many at once and any other byte alone, and sends the
-/// line of each item as soon as it is decided.
+/// A consumer of a trace text, which takes digits many at once, and any other byte alone. It writes the line
+/// of each item as soon as no later bits can change the item.
 #[derive(Drop)]
 pub(crate) struct Lister {
     scan: Scan,
     decoder: Decoder,
-    // How many bytes were taken, at most 2^64 - 1.
+    // The number of bytes taken, at most 2^64 - 1.
     place: u64,
-    // How many bytes went out, at most 2^64 - 1.
+    // The number of bytes written, at most 2^64 - 1.
     written: u64,
-    // What it holds has no meaning: making it anew for each line takes time.
+    // A buffer for one line. It is kept, since a new one for each line takes time.
     line: ArrayString<ROOM>,
 }
 
-// The line of an item is under way, too. A bit that belongs to nothing seldom comes alone, so its line takes the short
-// way.
+// Also queues the line of an item. A junk bit seldom comes alone, so its line takes the short path.
 #[inline(always)]
 fn put_line<W: Write>(block: &mut Block<'_, W>, line: &mut ArrayString<ROOM>, item: &Item)
     ensures sends { (start : Option (List ℕ)) (all : List ℕ) → Sends W.contents start block.old all
@@ -66,7 +65,7 @@ fn junk_line(bit: bool) -> &'static [u8; 7]
     if bit { b"junk 1\n" } else { b"junk 0\n" }
 }
 
-// The lines of four bits that belong to nothing, the first of them least significant.
+// Returns the lines of four junk bits, the first one least significant.
 fn junk_lines(bits: u8) -> &'static [u8; 28]
     requires { bits < 16 }
     ensures { result.now ≡ listing (map Item.Junk (low_bits 4 bits)) }
@@ -91,7 +90,7 @@ fn junk_lines(bits: u8) -> &'static [u8; 28]
     }
 }
 
-// The lines of bits that belong to nothing are under way, too.
+// Also queues the lines of junk bits.
 #[inline(never)]
 fn put_junk<W: Write>(block: &mut Block<'_, W>, junk: TxBits)
     ensures sends { (start : Option (List ℕ)) (all : List ℕ) → Sends W.contents start block.old all
@@ -108,8 +107,8 @@ fn put_junk<W: Write>(block: &mut Block<'_, W>, junk: TxBits)
     }
 }
 
-// The line of a transaction that was found whole is under way, too, and before it that of idle cycles, where there are
-// any.
+// Also queues the line of a transaction that was found whole, after that of the idle cycles before it, if
+// there are any.
 #[inline(always)]
 fn put_found<W: Write>(block: &mut Block<'_, W>, line: &mut ArrayString<ROOM>, found: FoundTx)
     requires whole { IsSpelled found.tx }
@@ -124,8 +123,8 @@ fn put_found<W: Write>(block: &mut Block<'_, W>, line: &mut ArrayString<ROOM>, f
     put_tx(block, found.tx);
 }
 
-// The line of a transaction that was held is under way, too. Most are found whole, so this is kept out of the way of
-// bits that belong to nothing.
+// Also queues the line of a transaction that was held. Most are found whole, so this is outlined from the
+// path of junk bits.
 #[inline(never)]
 fn put_held_tx<W: Write>(block: &mut Block<'_, W>, spelled: TxBits)
     requires whole { IsSpelled spelled }
@@ -138,7 +137,7 @@ fn put_held_tx<W: Write>(block: &mut Block<'_, W>, spelled: TxBits)
     put_tx(block, spelled);
 }
 
-// The line of idle cycles, where there are any, is under way, too.
+// Also queues the line of idle cycles, if there are any.
 #[inline(always)]
 fn put_idle<W: Write>(block: &mut Block<'_, W>, line: &mut ArrayString<ROOM>, count: u64)
     ensures sends { (start : Option (List ℕ)) (all : List ℕ) → Sends W.contents start block.old all
@@ -163,7 +162,7 @@ fn idle_line(count: u8) -> [u8; 7]
     [b'i', b'd', b'l', b'e', b' ', b'0' + count, b'\n']
 }
 
-// The line of any item is under way, too.
+// Also queues the line of any item.
 #[inline(never)]
 fn put_any_line<W: Write>(block: &mut Block<'_, W>, line: &mut ArrayString<ROOM>, item: &Item)
     ensures sends { (start : Option (List ℕ)) (all : List ℕ) → Sends W.contents start block.old all
@@ -176,7 +175,7 @@ fn put_any_line<W: Write>(block: &mut Block<'_, W>, line: &mut ArrayString<ROOM>
     block.put(line.as_str().as_bytes());
 }
 
-// How many bytes of a comment stand before the line feed that ends it, or before the end of the text.
+// Returns how many bytes of a comment come before its line feed, or before the end of the text.
 fn comment_len(text: &[u8]) -> usize
     ensures within { result ≤ length text.now }
     ensures before { (k : ℕ) → k < result → slice_index text.now k ≢ 10 }
@@ -207,7 +206,7 @@ impl Lister {
         }
     }
 
-    // The lines of the transactions that are due before any other item are under way, too.
+    // Also queues the lines of the transactions that are due before any other item.
     #[inline(always)]
     fn put_txs<W: Write>(&mut self, block: &mut Block<'_, W>)
         ensures lists { (start : Option (List ℕ)) (bits : List Bool) (items : List Item)
@@ -222,7 +221,7 @@ impl Lister {
         }
     }
 
-    // The lines of the bits that are due and belong to nothing are under way, too.
+    // Also queues the lines of the junk bits that are due.
     #[inline(always)]
     fn put_lost<W: Write>(&mut self, block: &mut Block<'_, W>)
         ensures lists { (start : Option (List ℕ)) (bits : List Bool) (items : List Item)
@@ -237,7 +236,7 @@ impl Lister {
         }
     }
 
-    // The lines of the items that are due are under way, too.
+    // Also queues the lines of the items that are due.
     fn put_due<W: Write>(&mut self, block: &mut Block<'_, W>)
         ensures lists { (start : Option (List ℕ)) (bits : List Bool) (items : List Item)
             → Lists W.contents start self.old.decoder block.old bits items
@@ -255,7 +254,7 @@ impl Lister {
         }
     }
 
-    // Takes a bit, where it is none too many.
+    // Takes a bit, unless it is one too many.
     fn bit<W: Write>(&mut self, block: &mut Block<'_, W>, bit: bool) -> Result<(), TextFault>
         requires { IsSettled self.old.decoder }
         ensures ok { OnOk result ((start : Option (List ℕ)) (bits : List Bool) (items : List Item)
@@ -277,7 +276,7 @@ impl Lister {
         Ok(())
     }
 
-    // Takes the byte at an index of a piece, or says why no trace text goes on so.
+    // Takes the byte at an index of a piece, or returns why it isn't allowed there.
     fn byte<W: Write>(
         &mut self,
         block: &mut Block<'_, W>,
@@ -305,8 +304,8 @@ impl Lister {
         }
     }
 
-    // Takes one bit or more of the lowest `count`, and says how many: a whole transaction at their front, or what else
-    // stands there.
+    // Takes one or more of the lowest `count` bits, and returns how many: a whole transaction at their front,
+    // or what else is there.
     #[inline(always)]
     fn bits_at_once<W: Write>(&mut self, block: &mut Block<'_, W>, bits: u64, count: u8) -> u8
         requires settled { IsSettled self.old.decoder }
@@ -330,7 +329,7 @@ impl Lister {
         self.held_bits(block, bits, count)
     }
 
-    // The same where they are held first. This is the long way, so it is kept out of the short one.
+    // Does the same where the bits are held first. This path is long, so it is outlined from the short one.
     #[inline(never)]
     fn held_bits<W: Write>(&mut self, block: &mut Block<'_, W>, bits: u64, count: u8) -> u8
         requires settled { IsSettled self.old.decoder }
@@ -352,9 +351,9 @@ impl Lister {
         taken
     }
 
-    // Whether digits at the front of a text may be taken at once: not where a comment is open, where
-    // the text is short or begins with a blank, or where the count of bits may run full. The bytes are then taken one
-    // by one.
+    // Returns whether digits at the front of a text may be taken at once. They may not in a comment, in a
+    // short text, before a blank, or where the count of bits might overflow. The bytes are then taken one by
+    // one.
     #[inline]
     fn may_take_digits(&self, text: &[u8]) -> bool
         ensures long { result ≡ true → WIDTH ≤ length text.now }
@@ -367,7 +366,7 @@ impl Lister {
             && self.decoder.fed() <= MOST_FED
     }
 
-    // Takes digits at the front of a text at once, perhaps none, and says how many.
+    // Takes digits at the front of a text at once, and returns how many: 0 or more.
     fn digits<W: Write>(&mut self, block: &mut Block<'_, W>, text: &[u8]) -> usize
         requires { IsSettled self.old.decoder }
         ensures settled { IsSettled self.new.decoder }
@@ -387,8 +386,8 @@ impl Lister {
         usize::from(self.bits_at_once(block, digits.bits, digits.count))
     }
 
-    // Takes bytes at the front of a text at once, perhaps none, and says how many: those of a comment that is open, or
-    // digits.
+    // Takes bytes at the front of a text at once, and returns how many: those of an open comment, or digits,
+    // or 0.
     #[inline(always)]
     fn bytes_at_once<W: Write>(&mut self, block: &mut Block<'_, W>, text: &[u8]) -> usize
         requires { IsSettled self.old.decoder }
@@ -405,7 +404,7 @@ impl Lister {
         self.digits(block, text)
     }
 
-    // Takes the bytes of a piece, up to one at which no trace text goes on.
+    // Takes the bytes of a piece, up to the first one that isn't allowed.
     fn bytes<W: Write>(&mut self, block: &mut Block<'_, W>, piece: &[u8]) -> Result<(), TextFault>
         requires { IsSettled self.old.decoder }
         ensures settled { IsSettled self.new.decoder }
@@ -434,7 +433,7 @@ impl Lister {
         Ok(())
     }
 
-    // The lines of the items that the end of the trace decides are under way, too.
+    // Also queues the lines of the items that the end of the trace decides.
     fn put_last<W: Write>(&mut self, block: &mut Block<'_, W>)
         ensures sends { (start : Option (List ℕ)) (bits : List Bool) (items : List Item)
             → Lists W.contents start self.old.decoder block.old bits items
@@ -469,7 +468,7 @@ impl<W: Write> Consumer<W> for Lister {
 
     ghost stops = { LeadsToEnd (HasRead W.contents) (Ends W.contents) };
 
-    // What the piece decides goes out before more is read.
+    // Writes what the piece decides before more is read.
     fn take(&mut self, writer: &mut W, piece: &[u8]) -> Result<(), TakeFault> {
         let mut block = Block::new(writer, self.written);
         let listed = self.bytes(&mut block, piece);

@@ -1,7 +1,7 @@
-//! The line of a transaction, right into the block that goes out.
+//! Queues the line of a transaction directly in the output block.
 //!
-//! This is where a listing takes its time, so pieces of known length are put in, and nothing branches on what can't
-//! be foreseen.
+//! Most of a listing's time is spent here. So pieces have constant length, and no branch depends on what the
+//! branch predictor can't predict.
 ghost use Rattle.std.specs.Prelude.{◌≡◌, ◌==◌, ℕ, ◌+◌, ◌-◌, ◌/◌, ◌%◌, ◌<◌, ◌≤◌, List, Option, ◌++◌};
 ghost use Rattle.std.specs.Prelude.{◌∷◌, [], take};
 ghost use Rattle.swd_io.specs.Blocks.{Sends};
@@ -42,7 +42,7 @@ static DIGITS: [[u8; 2]; 256] = [
     *b"fc", *b"fd", *b"fe", *b"ff",
 ];
 
-// What a request is listed as, by its port, direction and address bits, and one character more where it reads.
+// The listing of a request, by its port, direction and address bits. It has one character more for a read.
 static REQUESTS: [[u8; 12]; 16] = [
     *b"dp 0 write  ",
     *b"ap 0 write  ",
@@ -62,11 +62,11 @@ static REQUESTS: [[u8; 12]; 16] = [
     *b"ap c read   ",
 ];
 
-// How the parity of a data phase is listed, where it has an even number of ones and where it has an odd one, and one
-// character more where it is even.
+// The listing of a data phase's parity: right for an even number of ones, wrong for an odd one. It has one
+// character more for an even number.
 static PARITIES: [[u8; 4]; 2] = [*b"ok  ", *b"bad "];
 
-// The two digits of a byte.
+// Returns the two digits of a byte.
 #[inline(always)]
 fn digits(byte: u8) -> [u8; 2]
     ensures { result ≡ hex2 byte }
@@ -74,7 +74,7 @@ fn digits(byte: u8) -> [u8; 2]
     DIGITS[usize::from(byte)]
 }
 
-// The eight digits of a word, and a line end.
+// Returns the eight digits of a word, and a line feed.
 #[inline(always)]
 fn word_line(word: u32) -> [u8; 9]
     ensures { result ≡ hex8 word ++ 10 ∷ [] }
@@ -104,7 +104,7 @@ fn parity_text(odd: usize) -> &'static [u8; 4]
     &PARITIES[odd]
 }
 
-// The line of the transaction with these 46 bits, which moved a word, is under way, too.
+// Also queues the line of the transaction with these 46 bits, which moved a word.
 #[inline(always)]
 fn put_moved<W: Write>(block: &mut Block<'_, W>, bits: u64)
     requires { (tx : Tx) × Spells tx (low_bits 46 bits) }
@@ -125,7 +125,7 @@ fn put_moved<W: Write>(block: &mut Block<'_, W>, bits: u64)
     );
 }
 
-// The line of the transaction with these 13 bits, which was answered WAIT or FAULT, is under way, too.
+// Also queues the line of the transaction with these 13 bits, which was answered WAIT or FAULT.
 #[inline(always)]
 fn put_refused<W: Write>(block: &mut Block<'_, W>, bits: u64)
     requires { (tx : Tx) × Spells tx (low_bits 13 bits) }
@@ -142,7 +142,7 @@ fn put_refused<W: Write>(block: &mut Block<'_, W>, bits: u64)
     }
 }
 
-// The line of any transaction is under way, too.
+// Also queues the line of any transaction.
 #[inline(never)]
 fn put_any_tx<W: Write>(block: &mut Block<'_, W>, tx: Tx)
     ensures sends { (start : Option (List ℕ)) (all : List ℕ) → Sends W.contents start block.old all
@@ -152,7 +152,7 @@ fn put_any_tx<W: Write>(block: &mut Block<'_, W>, tx: Tx)
     block.put_line(tx.line().as_str().as_bytes());
 }
 
-/// The line of the transaction with these bits is under way, too.
+/// Also queues the line of the transaction with these bits.
 #[inline(always)]
 pub(crate) fn put_tx<W: Write>(block: &mut Block<'_, W>, spelled: TxBits)
     requires whole { IsSpelled spelled }

@@ -1,4 +1,4 @@
--- A decoder as numbers. Below how many bits nothing is decided isn't one of them: it is found again.
+-- A decoder as numbers. The bound below which nothing is decided isn't among them: it is computed again.
 use Rattle.std.specs.Prelude.{◌≡◌, ◌==◌, Bool, List, ◌++◌, replicate}
 use Rattle.swd_bits.specs.Bits.{bit, low_bits}
 use Rattle.swd_trace.specs.declared.decoder.Decoder.{Decoder}
@@ -21,11 +21,11 @@ decoder_fields d = record {
 abbrev pub IsDecoder : DecoderFields → Type 0
 IsDecoder fields = (d : Decoder) × (decoder_fields d ≡ fields)
 
--- the reading of what the decoder with these numbers holds, and of what may follow
+-- the reading of what the decoder with these numbers holds, and of later bits
 unfoldable pub rest_in : DecoderFields → List Bool → List Item
 rest_in f more = reading (mode_at f.mode) (replicate f.run (f.one == 1) ++ (low_bits f.len f.bits ++ more))
 
--- it was fed these bits and gave these items: the items, and the reading of what it holds, are the reading of the bits,
--- whatever may follow
+-- it was fed these bits and returned these items: with any later bits, the items and the reading of what it
+-- holds are the reading of the bits
 abbrev pub HasReadIn : DecoderFields → List Bool → List Item → Type 0
 HasReadIn fields bits items = (more : List Bool) → items ++ rest_in fields more ≡ reading_of (bits ++ more)

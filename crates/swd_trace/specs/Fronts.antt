@@ -11,14 +11,14 @@ use Rattle.swd_trace.specs.declared.front.Front.TheVariants.{Whole as FoundWhole
 use Rattle.swd_trace.specs.declared.front.Front.TheVariants.{Broken as FoundBroken}
 use Rattle.swd_trace.specs.Stands.{Whole, Begun, Broken, stands}
 
--- what stands there; where a transaction begins, it stays so below a length
+-- what is at the front; a beginning of a transaction remains one while there are fewer than `next` bits
 abbrev pub IsFront : Front → List Bool → Type 0
 IsFront (FoundWhole tx len) bits = (stands bits ≡ Whole tx len) × (12 ≤ len)
 IsFront (FoundBegun next) bits = (length bits < next) × (next ≤ 46)
     × ((more : List Bool) → length bits + length more < next → stands (bits ++ more) ≡ Begun)
 IsFront FoundBroken bits = stands bits ≡ Broken
 
--- the bits of a transaction that was acknowledged, which are the first of a number's
+-- the first bits of a number are those of an acknowledged transaction
 pub record IsAtFront (bits : ℕ) (spelled : TxBits) : Type 0 where
   pub whole : IsSpelled spelled
   pub short : spelled.len ≤ 46

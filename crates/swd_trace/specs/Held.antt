@@ -1,4 +1,4 @@
--- What a decoder holds.
+-- What a decoder holds, and what its calls do.
 use Rattle.std.specs.Prelude.{◌≡◌, ℕ, zero, suc, ◌+◌, ◌-◌, ◌<◌, ◌≤◌, Bool, List, [], ◌∷◌, ◌++◌, length, replicate}
 use Rattle.std.specs.Prelude.{min, map, Option}
 use Rattle.std.specs.Prelude.{Some, None}
@@ -19,12 +19,12 @@ use Rattle.swd_trace.specs.Reading.{switch, first, cut, reading, reading_of}
 abbrev pub held : Decoder → List Bool
 held d = replicate d.run d.one ++ low_bits d.len d.bits
 
--- the reading of what a decoder holds and of what may follow
+-- the reading of the held bits and of later ones
 abbrev pub rest : Decoder → List Bool → List Item
 rest d more = reading d.mode (replicate d.run d.one ++ (low_bits d.len d.bits ++ more))
 
--- it was fed these bits and gave these items: the items, and the reading of what it holds, are the
--- reading of the bits, whatever may follow
+-- it was fed these bits and returned these items: with any later bits, the items and the reading of what it
+-- holds are the reading of the bits
 abbrev pub HasRead : Decoder → List Bool → List Item → Type 0
 HasRead d bits items = (more : List Bool) → items ++ rest d more ≡ reading_of (bits ++ more)
 
@@ -32,16 +32,16 @@ HasRead d bits items = (more : List Bool) → items ++ rest d more ≡ reading_o
 abbrev pub fed_of : Decoder → ℕ
 fed_of d = d.fed
 
--- how many bits it holds beside a count of equal bits
+-- how many bits it holds after the run of equal bits
 abbrev pub held_len : Decoder → ℕ
 held_len d = d.len
 
--- no more items than this can come before the next bit is taken
+-- an upper bound on the number of items returned before the next bit is taken
 abbrev pub places : Decoder → ℕ
 places d = d.len + min d.run 50
 
--- of the low bits of a number so many are taken: all that go on the run that is held, or, where none is, all or as many
--- as bring the bits that are held to those of the longest transaction
+-- the number of low bits that are taken: at least all that continue the held run; without a run, all, or as
+-- many as make the held bits those of the longest transaction
 pub record TakesMany (d : Decoder) (bits count taken : ℕ) : Type 0 where
   pub run : 0 < d.run → (n : ℕ) → n ≤ count → low_bits n bits ≡ replicate n d.one → n ≤ taken
   pub alone : d.run ≡ 0 → d.len < 46 → taken ≡ min count (46 - d.len)
@@ -50,12 +50,12 @@ pub record TakesMany (d : Decoder) (bits count taken : ℕ) : Type 0 where
 abbrev pub IsSettled : Decoder → Type 0
 IsSettled d = d.len < d.next
 
--- all of the bits are cut off, should they end here
+-- all of the bits are cut off if they end here
 abbrev pub IsCut : Mode → List Bool → Type 0
 IsCut mode [] = ⊥
 IsCut mode (b ∷ bits) = first mode b bits ≡ cut (b ∷ bits)
 
--- the bits may go on as a transaction, as fifty ones or as a switch
+-- more bits may make these a transaction, fifty ones or a switch
 abbrev pub IsOpenAt : Mode → List Bool → Type 0
 IsOpenAt Synced bits = IsCut Synced bits
 IsOpenAt AfterReset bits = (back : List Bool) × (switch ≡ bits ++ back) × (length bits < 16)
@@ -66,20 +66,20 @@ pub record IsOpen (d : Decoder) : Type 0 where
   pub ran : 0 < d.run → d.len ≡ 0
   pub held : d.run ≡ 0 → 0 < d.len → IsOpenAt d.mode (low_bits d.len d.bits)
 
--- an item comes
+-- an item is returned
 pub record Gives (old new : Decoder) (item : Item) : Type 0 where
   pub law : (more : List Bool) → rest old more ≡ item ∷ rest new more
   pub fewer : places new < places old
   pub fed : fed_of new ≡ fed_of old
 
--- a transaction comes, with these bits
+-- a transaction with these bits is returned
 pub record GivesTx (old new : Decoder) (spelled : TxBits) : Type 0 where
   pub whole : IsSpelled spelled
   pub short : spelled.len ≤ 46
   pub found : (tx : Transaction) × Spells tx (bits_of spelled)
   pub gives : (tx : Transaction) → Spells tx (bits_of spelled) → Gives old new (Tx tx)
 
--- bits come that belong to nothing, each an item
+-- junk bits are returned, each of them an item
 pub record GivesJunk (old new : Decoder) (found : TxBits) : Type 0 where
   pub whole : IsSpelled found
   pub short : found.len ≤ 50
@@ -87,7 +87,7 @@ pub record GivesJunk (old new : Decoder) (found : TxBits) : Type 0 where
   pub fewer : places new < places old
   pub fed : fed_of new ≡ fed_of old
 
--- no item comes before the next bit
+-- no item is returned before the next bit
 pub record Waits (old new : Decoder) : Type 0 where
   pub law : (more : List Bool) → rest old more ≡ rest new more
   pub open_end : IsOpen new
@@ -95,12 +95,12 @@ pub record Waits (old new : Decoder) : Type 0 where
   pub places : places new ≤ places old
   pub fed : fed_of new ≡ fed_of old
 
--- idle cycles as an item, where there are any
+-- idle cycles as an item, if there are any
 abbrev pub idle_items : ℕ → List Item
 idle_items zero = []
 idle_items (suc n) = Idle (suc n) ∷ []
 
--- a transaction comes from bits that come, and an item of idle cycles before it, where there are any
+-- a transaction is taken from new bits, after an item of idle cycles if there are any
 pub record TakesTx (old new : Decoder) (bits count : ℕ) (found : FoundTx) : Type 0 where
   pub whole : IsSpelled found.tx
   pub short : found.tx.len ≤ 46
@@ -116,13 +116,13 @@ abbrev pub Decides : Decoder → Decoder → Option Item → Type 0
 Decides old new (Some item) = Gives old new item
 Decides old new None = Waits old new
 
--- an item comes where the bits end
+-- an item is returned where the bits end
 pub record ClosesWith (old new : Decoder) (item : Item) : Type 0 where
   pub law : rest old [] ≡ item ∷ rest new []
   pub fewer : places new < places old
   pub fed : fed_of new ≡ fed_of old
 
--- an item comes where the bits end, or there is none
+-- an item is returned where the bits end, unless all items were returned
 abbrev pub Closes : Decoder → Decoder → Option Item → Type 0
 Closes old new (Some item) = ClosesWith old new item
 Closes old new None = (rest old [] ≡ []) × (fed_of new ≡ fed_of old)

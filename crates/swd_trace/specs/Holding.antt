@@ -1,4 +1,4 @@
--- What is always true of the parts of a decoder.
+-- The invariant of a decoder's fields.
 use Rattle.std.specs.Prelude.{◌≡◌, ◌≢◌, ◌==◌, ℕ, ◌+◌, ◌%◌, ◌^◌, ◌<◌, ◌≤◌, Bool, false, List, ◌++◌, length}
 use Rattle.swd_bits.specs.Bits.{low_bits}
 use Rattle.swd_trace.specs.declared.mode.Mode.{Mode}
@@ -6,9 +6,9 @@ use Rattle.swd_trace.specs.declared.mode.Mode.TheVariants.{Synced}
 use Rattle.swd_trace.specs.Reading.{reading}
 use Rattle.swd_trace.specs.Decided.{IsUndecided}
 
--- A run of equal bits, `run` times `one`, and then `len` bits. At most one bit is there beside a run,
--- and it ends the run; zeros are counted in mode synced alone. Without a run nothing is decided by
--- these bits and others while there are fewer than `next` of them.
+-- A run of equal bits, `run` times `one`, and then `len` bits. After a run there is at most one bit, which
+-- ends it. A run of zeros needs mode synced. Without a run, nothing is decided while these bits and later
+-- ones are fewer than `next`.
 pub record Holds (mode : Mode) (one : Bool) (run len bits next fed : ℕ) : Type 0 where
   pub whole : bits < 2 ^ len
   pub short : len ≤ 50

@@ -1,4 +1,4 @@
--- Which items a listing lists, and what it says where it lists none. The text is this project's
+-- The items that a listing lists, and the error of one that lists no items. The format is this project's
 -- choice.
 use Rattle.std.specs.Prelude.{◌≡◌, ◌≢◌, ℕ, ◌-◌, ◌^◌, ◌<◌, ◌≤◌, ◌==◌, List, [], ◌∷◌, length, take, if◌then◌else◌}
 use Rattle.swd_bits.specs.BitLists.{IsSpelled}
@@ -11,14 +11,14 @@ use Rattle.swd_trace.specs.declared.listing.fault.ListFault.TheVariants.{BadLine
 use Rattle.swd_trace.specs.Reading.{reading_of}
 use Rattle.swd_trace.specs.Texts.{item_line, bits_of_items}
 
--- 1 to 49 bits, and none set past them
+-- 1 to 49 bits, with no bit set after them
 pub record IsCut (bits : TxBits) : Type 0 where
   pub some : 1 ≤ bits.len
   pub short : bits.len ≤ 49
   pub spelled : IsSpelled bits
 
--- the items that have a line: counts and words are within their ranges, and a number that is no
--- acknowledgement is one of five
+-- the items that have a line: counts and words are in range, and the number of three bits that are no ACK is
+-- one of five
 abbrev pub IsLegal : Item → Type 0
 IsLegal (Reset count) = count < 2 ^ 64
 IsLegal Switch = Unit {0}
@@ -27,8 +27,8 @@ IsLegal (Tx tx) = IsTx tx
 IsLegal (Junk bit) = Unit {0}
 IsLegal (Cut bits) = IsCut bits
 
--- the items whose bits can be written: a number that is no acknowledgement is one of five, and what is cut off has
--- fewer bits than fifty ones, and none set past them
+-- the items whose bits can be written: the number of three bits that are no ACK is one of five, and a cut end
+-- has fewer than fifty bits, with no bit set after them
 abbrev pub IsEncodable : Item → Type 0
 IsEncodable (Reset count) = Unit {0}
 IsEncodable Switch = Unit {0}
@@ -42,17 +42,17 @@ abbrev pub AreLegal : List Item → Type 0
 AreLegal [] = Unit {0}
 AreLegal (item ∷ items) = IsLegal item × AreLegal items
 
--- the line, without its end, is the item's
+-- the line, without its line feed, is the item's
 pub record IsLine (line : List ℕ) (item : Item) : Type 0 where
   pub text : line ≡ item_line item
   pub legal : IsLegal item
 
--- a byte before the first of some lines
+-- some lines with this byte before the first of them
 abbrev pub before_lines : ℕ → List (List ℕ) → List (List ℕ)
 before_lines byte [] = (byte ∷ []) ∷ []
 before_lines byte (line ∷ lines) = (byte ∷ line) ∷ lines
 
--- the lines of a text, without the line feeds (10) that end them; the last line may lack its own
+-- the lines of a text, without the line feeds (10) that end them; the last line may lack its line feed
 abbrev pub lines : List ℕ → List (List ℕ)
 lines [] = []
 lines (byte ∷ text) = if byte == 10 then [] ∷ lines text else before_lines byte (lines text)
@@ -69,8 +69,8 @@ pub record Lists (lines : List (List ℕ)) (items : List Item) : Type 0 where
   pub each : AreLines lines items
   pub counted : length (bits_of_items items) < 2 ^ 64
 
--- the line with this number, from 1, is the first bad one: the lines before it list some items, and
--- with it they list none
+-- the line with this number, from 1, is the first bad one: the lines before it list some items, and with it
+-- they list none
 pub record IsFirstBadLine (lines : List (List ℕ)) (number : ℕ) : Type 0 where
   pub before : List Item
   pub good : Lists (take (number - 1) lines) before
@@ -85,7 +85,7 @@ pub record DiffersFirst (items others : List Item) (number : ℕ) : Type 0 where
 abbrev pub IsNormal : List Item → Type 0
 IsNormal items = reading_of (bits_of_items items) ≡ items
 
--- the fault is that of a listing with these lines
+-- the error of a listing with these lines
 abbrev pub Refuses : ListFault → List (List ℕ) → Type 0
 Refuses (BadLine number) lines = IsFirstBadLine lines number
 Refuses (NotNormal number) lines = (items : List Item) × Lists lines items

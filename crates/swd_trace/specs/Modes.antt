@@ -1,4 +1,4 @@
--- The modes as numbers, and what a run of equal bits is.
+-- The modes as numbers, and runs of equal bits.
 use Rattle.std.specs.Prelude.{ℕ, ◌≡◌, ◌≢◌, ◌+◌, ◌%◌, ◌<◌, ◌≤◌, ◌==◌, Bool, false, if◌then◌else◌}
 use Rattle.swd_trace.specs.declared.mode.Mode.{Mode}
 use Rattle.swd_trace.specs.declared.mode.Mode.TheVariants.{Synced, AfterReset, AfterSwitch, Lost}
@@ -9,11 +9,11 @@ mode_number AfterReset = 2
 mode_number AfterSwitch = 3
 mode_number Lost = 4
 
--- the mode with this number; what is read from any other doesn't matter
+-- the mode with this number; any other number gives some mode
 abbrev pub mode_at : ℕ → Mode
 mode_at n = if n == 1 then Synced else if n == 2 then AfterReset else if n == 3 then AfterSwitch else Lost
 
--- `run` times `one`, and at most one bit, which ends it; zeros are counted in mode synced alone
+-- `run` times `one`, and at most one bit after it, which ends the run; a run of zeros needs mode synced
 pub record IsRun (mode : Mode) (one : Bool) (run len bits fed : ℕ) : Type 0 where
   pub counted : run + len ≤ fed
   pub few : len ≤ 1

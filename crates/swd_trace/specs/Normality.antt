@@ -7,13 +7,13 @@ use Rattle.swd_trace.specs.Listed.{IsNormal, DiffersFirst}
 use Rattle.swd_trace.specs.Reading.{reading_of}
 use Rattle.swd_trace.specs.Texts.{bits_of_items}
 
--- the reading of a list's bits begins with so many of the list's items, and goes on as a decoder reads the bits that
--- are ahead of it
+-- the reading of a list's bits is its first `same` items, and then what a decoder reads of the bits ahead of
+-- it
 pub record Agrees (items : List Item) (same : ℕ) (d : Decoder) (ahead : List Bool) : Type 0 where
   pub within : same ≤ length items
   pub law : take same items ++ rest d ahead ≡ reading_of (bits_of_items items)
 
--- after the first items, of which there are so many, the list has this one
+-- after its first `same` items the list has this one
 abbrev pub HasNext : List Item → ℕ → Item → Type 0
 HasNext items same item = (same < length items) × (take (same + 1) items ≡ take same items ++ item ∷ [])
 

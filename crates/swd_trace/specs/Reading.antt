@@ -1,5 +1,5 @@
--- What a list of bits is read as. The division into items is this project's choice; the bits of
--- resets, switches and transactions are the standard's, as `Item` and `Tx` cite it.
+-- The items that a list of bits decodes to. The division into items is this project's choice; the bits of
+-- resets, switches and transactions are the standard's, as cited at `Item` and `Tx`.
 use Rattle.std.specs.Prelude.{ℕ, zero, suc, ◌-◌, nat_le, Bool, true, false, List, [], ◌∷◌, length, if◌then◌else◌}
 use Rattle.swd_bits.specs.Bits.{number}
 use Rattle.swd_bits.specs.declared.tx.TxEnd.{TxEnd}
@@ -11,7 +11,7 @@ use Rattle.swd_trace.specs.declared.mode.Mode.{Mode}
 use Rattle.swd_trace.specs.declared.mode.Mode.TheVariants.{Synced, AfterReset, AfterSwitch, Lost}
 use Rattle.swd_trace.specs.Stands.{Stand, Whole, Begun, Broken, stands}
 
--- how many ones, and how many zeros, stand at the front
+-- the number of ones, and of zeros, at the front
 abbrev pub ones : List Bool → ℕ
 ones [] = 0
 ones (true ∷ bits) = suc (ones bits)
@@ -43,13 +43,13 @@ switch =
     false ∷ true ∷ true ∷ true ∷ true ∷ false ∷ false ∷ true
     ∷ true ∷ true ∷ true ∷ false ∷ false ∷ true ∷ true ∷ true ∷ []
 
--- the first item of some bits, the mode after it, and how many bits it takes
+-- the first item of some bits, the mode after it, and its number of bits
 pub record First : Type 0 where
   pub item : Item
   pub after : Mode
   pub taken : ℕ
 
--- a transaction that was not acknowledged leaves the mode lost
+-- a transaction without acknowledgement leaves the mode lost
 abbrev pub mode_after : TxEnd → Mode
 mode_after (Moved word ok) = Synced
 mode_after Wait = Synced
@@ -63,26 +63,27 @@ whole tx len = record { item = Tx tx; after = mode_after tx.result; taken = len 
 abbrev pub cut : List Bool → First
 cut bits = record { item = Cut (record { len = length bits; bits = number bits }); after = Synced; taken = length bits }
 
--- the mode is lost here, and there are no fifty ones
+-- in mode lost, without fifty ones
 abbrev pub junk : Bool → First
 junk b = record { item = Junk b; after = Lost; taken = 1 }
 
--- a proper beginning of fifty ones, where there are no fifty
+-- a proper prefix of fifty ones, or lost
 abbrev pub cut_or_lost : Bool → List Bool → First
 cut_or_lost b bits = if all_ones (b ∷ bits) then cut (b ∷ bits) else junk b
 
--- by what stands here: a whole transaction; a proper beginning of one, or of fifty ones; none of these
+-- the first item by what is at the front: a whole transaction, a proper prefix of one, or neither; a prefix
+-- of fifty ones is cut
 abbrev pub first_by : Stand → Bool → List Bool → First
 first_by (Whole tx len) b bits = whole tx len
 first_by Begun b bits = cut (b ∷ bits)
 first_by Broken b bits = cut_or_lost b bits
 
--- cases 3 to 6: zeros; a transaction, a proper beginning, or neither
+-- cases 3 to 6: zeros, a transaction, a proper prefix, or neither
 abbrev pub first_synced : Bool → List Bool → First
 first_synced false bits = record { item = Idle (zeros (false ∷ bits)); after = Synced; taken = zeros (false ∷ bits) }
 first_synced true bits = first_by (stands (true ∷ bits)) true bits
 
--- the cases after the first, by the mode
+-- the cases after the first one, by the mode
 abbrev pub first_short : Mode → Bool → List Bool → First
 first_short Synced b bits = first_synced b bits
 first_short AfterReset b bits =
@@ -91,14 +92,14 @@ first_short AfterReset b bits =
 first_short AfterSwitch b bits = cut_or_lost b bits
 first_short Lost b bits = junk b
 
--- what stands at a place, given its bit and those that follow: fifty ones in any mode, then the other cases
+-- the first item of a bit and those after it: fifty ones in any mode, then the other cases
 abbrev pub first : Mode → Bool → List Bool → First
 first mode b bits =
     if nat_le 50 (ones (b ∷ bits)) then
     record { item = Reset (ones (b ∷ bits)); after = AfterReset; taken = ones (b ∷ bits) }
     else first_short mode b bits
 
--- the items, where so many bits still belong to the item before
+-- the items, where the first `passed` bits still belong to the item before
 unfoldable pub items_after : ℕ → Mode → List Bool → List Item
 items_after passed mode [] = []
 items_after (suc passed) mode (b ∷ bits) = items_after passed mode bits

@@ -12,7 +12,7 @@ IsAcknowledged Wait = Unit {0}
 IsAcknowledged Fault = Unit {0}
 IsAcknowledged (NoAck seen) = ⊥
 
--- the bits are these transactions, one after the other, each of them acknowledged
+-- the bits are these transactions in order, each of them acknowledged
 abbrev pub AreSpelled : List Tx → List Bool → Type 0
 AreSpelled [] bits = bits ≡ []
 AreSpelled (tx ∷ txs) bits =

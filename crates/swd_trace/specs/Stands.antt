@@ -1,4 +1,4 @@
--- Whether a transaction, or the beginning of one, stands at the front of some bits.
+-- Whether the front of some bits is a transaction, or the beginning of one.
 use Rattle.std.specs.Prelude.{ℕ, zero, suc, Bool, true, false, not, List, [], ◌∷◌, length, take, drop, nat_le}
 use Rattle.std.specs.Prelude.{if◌then◌else◌}
 use Rattle.swd_bits.specs.Bits.{number, odd}
@@ -9,8 +9,8 @@ use Rattle.swd_bits.specs.declared.tx.TxEnd.{TxEnd}
 use Rattle.swd_bits.specs.declared.tx.TxEnd.TheVariants.{Moved, Wait, Fault, NoAck}
 use Rattle.swd_bits.specs.declared.tx.Tx.{Tx}
 
--- the bits begin with a whole transaction of that length, are all of them a proper beginning of one,
--- or begin as no transaction does
+-- the bits begin with a whole transaction of this length, are a proper prefix of a transaction, or begin as
+-- no transaction does
 pub data Stand : Type 0 where
   Whole : (tx : Tx) (len : ℕ) → Stand
   Begun : Stand
@@ -42,7 +42,7 @@ abbrev pub after_refusal : Request → TxEnd → List Bool → Stand
 after_refusal q end [] = Begun
 after_refusal q end (t ∷ bits) = Whole (record { request = q; result = end }) 13
 
--- after the acknowledgement: OK, WAIT, FAULT, or none of the three
+-- after the acknowledgement: OK, WAIT, FAULT, or no acknowledgement
 abbrev pub after_ack : Request → Bool → Bool → Bool → List Bool → Stand
 after_ack q true false false bits = after_ok q bits
 after_ack q false true false bits = after_refusal q Wait bits

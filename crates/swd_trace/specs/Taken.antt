@@ -1,4 +1,4 @@
--- What is kept of a listing that is read.
+-- What is kept of a listing while it is read.
 use Rattle.std.specs.Prelude.{◌≡◌, ◌≢◌, ℕ, ◌^◌, ◌<◌, List, [], ◌∷◌, ◌++◌, length}
 use Rattle.swd_trace.specs.declared.item.Item.{Item}
 use Rattle.swd_trace.specs.Listed.{lines, AreLines}
@@ -9,8 +9,7 @@ abbrev pub IsUnbroken : List ℕ → Type 0
 IsUnbroken [] = Unit {0}
 IsUnbroken (byte ∷ line) = (byte ≢ 10) × IsUnbroken line
 
--- of the text so far these are the items of the lines that ended, the line that has begun, and how
--- many bits the items have
+-- of the text so far: the items of the complete lines, the current line, and the number of the items' bits
 pub record Takes (seen : List ℕ) (items : List Item) (line : List ℕ) (total : ℕ) : Type 0 where
   pub ended : List (List ℕ)
   pub parts : (more : List ℕ) → lines (seen ++ more) ≡ ended ++ lines (line ++ more)

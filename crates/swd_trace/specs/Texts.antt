@@ -1,4 +1,4 @@
--- The bits of items, and the trace and listing texts.
+-- The bits of items, and their trace and listing texts.
 use Rattle.std.specs.Prelude.{ℕ, Bool, true, false, List, [], ◌∷◌, ◌++◌, map, replicate, codes}
 use Rattle.std.specs.Fmt.{decimal}
 use Rattle.swd_bits.specs.BitLists.{bits_of}
@@ -8,7 +8,7 @@ use Rattle.swd_trace.specs.declared.item.Item.{Item}
 use Rattle.swd_trace.specs.declared.item.Item.TheVariants.{Reset, Switch, Idle, Tx, Junk, Cut}
 use Rattle.swd_trace.specs.Reading.{switch}
 
--- an item's bits, turnarounds written as 1
+-- an item's bits, turnarounds as 1
 abbrev pub item_bits : Item → List Bool
 item_bits (Reset n) = replicate n true
 item_bits Switch = switch
@@ -26,7 +26,7 @@ abbrev pub digit : Bool → ℕ
 digit false = 48
 digit true = 49
 
--- an item's bits as characters, and a line end
+-- an item's bits as characters, and a line feed
 abbrev pub item_text : Item → List ℕ
 item_text item = map digit (item_bits item) ++ 10 ∷ []
 
@@ -34,7 +34,7 @@ abbrev pub trace_text : List Item → List ℕ
 trace_text [] = []
 trace_text (item ∷ items) = item_text item ++ trace_text items
 
--- an item's listing line, without its end
+-- an item's listing line, without the line feed
 abbrev pub item_line : Item → List ℕ
 item_line (Reset n) = codes "reset " ++ decimal n
 item_line Switch = codes "switch"

@@ -1,4 +1,4 @@
-//! Reading a trace bit by bit.
+//! Decodes a trace bit by bit.
 ghost use Rattle.std.specs.Prelude.{◌≡◌, ◌+◌, ◌^◌, ◌<◌, ◌≤◌, List, Bool};
 ghost use Rattle.swd_trace.specs.Holding.{Holds};
 
@@ -13,14 +13,14 @@ use arrayvec::ArrayVec;
 pub use fields::DecoderFields;
 use swd_bits::{MOVED_BITS, SWITCH, SWITCH_BITS, Tx, TxBits, TxEnd};
 
-/// Reads a trace: bits go in one or more at a time, and each item comes out as soon as it is
-/// decided, whatever may follow. How the bits are cut into pieces makes no difference.
+/// A decoder of traces. It takes one or more bits at a time, and returns each item as soon as no later bits
+/// can change it. How the bits are divided into calls makes no difference.
 ///
-/// `feed` and `finish` give the items as lists. Where speed matters, call `take` with a bit, or
-/// `take_bits` with many, and then `due` until it answers `None`; at the end, `last` until it
-/// answers `None`.
+/// `feed` and `finish` return the items as lists. Where speed matters, call `take` with one bit, or
+/// `take_bits` with many, and then `due` until it returns `None`. At the end, call `last` until it returns
+/// `None`.
 ///
-/// It holds one count of equal bits and at most 50 bits beside it, and takes no memory.
+/// It allocates nothing: it holds a count of equal bits and at most 50 further bits.
 ///
 /// ```
 /// let mut decoder = Decoder::new();
@@ -28,19 +28,19 @@ use swd_bits::{MOVED_BITS, SWITCH, SWITCH_BITS, Tx, TxBits, TxEnd};
 /// assert!(rt; none.is_empty());
 /// let idle = decoder.feed(true);
 /// assert_eq!(rt; idle.as_slice(), [Item::Idle(1)].as_slice());
-/// let cut = TxBits { len: 1, bits: 1 }; // a transaction has begun
+/// let cut = TxBits { len: 1, bits: 1 }; // the start bit of a transaction
 /// assert_eq!(rt; decoder.finish().as_slice(), [Item::Cut(cut)].as_slice());
 /// ```
 #[derive(Debug, Drop)]
 pub struct Decoder {
     mode: Mode,
-    // equal bits at the front of what is held: that many, all of them ones or zeros
+    // the run at the front of the held bits: `run` ones if `one`, else `run` zeros
     one: bool,
     run: u64,
-    // the bits after them, the first bit least significant
+    // the `len` bits after the run, the first one least significant
     len: u8,
     bits: u64,
-    // below that many of these bits nothing is decided
+    // with fewer than `next` of these bits nothing is decided
     next: u8,
     fed: u64,
     ghost holds: { Holds mode one run len bits next fed },
@@ -65,7 +65,7 @@ impl Decoder {
     ghost use Rattle.swd_trace.specs.Held.{Gives, GivesTx, Waits, Decides, Closes, ClosesWith, TakesMany, TakesTx};
     ghost use Rattle.swd_trace.specs.Held.{GivesJunk, idle_items};
 
-    /// A decoder that was fed no bit.
+    /// Returns a decoder that was fed no bits.
     pub fn new() -> Decoder
         ensures law { (more : List Bool) → rest result more ≡ reading_of more }
         ensures read { HasRead result [] [] }
@@ -83,15 +83,15 @@ impl Decoder {
         }
     }
 
-    /// How many bits it was fed.
+    /// Returns how many bits it was fed.
     pub fn fed(&self) -> u64
         ensures { result ≡ fed_of self.now }
     {
         self.fed
     }
 
-    /// Takes a bit, and gives the items that it decides, at most 64. They follow those given
-    /// before: all of them together are what the bits so far decide, whatever bits may follow.
+    /// Takes a bit, and returns the items that it decides, at most 64. Together with the items returned
+    /// before, they are exactly the items that no later bits can change.
     pub fn feed(&mut self, bit: bool) -> ArrayVec<Item, 64>
         requires { fed_of self.old < 2 ^ 64 - 1 }
         ensures law { (more : List Bool) → result.items ++ rest self.new more ≡ rest self.old (bit ∷ more) }
@@ -111,16 +111,16 @@ impl Decoder {
         items
     }
 
-    /// The items at the end of the trace, at most 64. All items together are the reading of all
-    /// bits.
+    /// Ends the trace, and returns the remaining items, at most 64. Together with the items returned before,
+    /// they are the reading of all the bits.
     pub fn finish(self) -> ArrayVec<Item, 64>
         ensures law { result.items ≡ rest self [] }
         ensures read { (bits : List Bool) (items : List Item) → HasRead self bits items
             → items ++ result.items ≡ reading_of bits }
-        // all items, written as bits, are read as these items
+        // The bits of all the items decode to the same items.
         ensures again { (bits : List Bool) (items : List Item) → HasRead self bits items
             → reading_of (bits_of_items (items ++ result.items)) ≡ items ++ result.items }
-        // transactions that were acknowledged are found, all of them and nothing else
+        // A trace that consists of acknowledged transactions decodes to exactly these.
         ensures transactions { (txs : List Tx) (bits : List Bool) (items : List Item) → AreSpelled txs bits
             → HasRead self bits items → items ++ result.items ≡ map Item.Tx txs }
     {
@@ -132,7 +132,7 @@ impl Decoder {
         items
     }
 
-    // Every item that is due.
+    // Appends every item that is due.
     fn drain(&mut self, items: &mut ArrayVec<Item, 64>)
         requires { array_vec_len items.old + places self.old < 64 }
         ensures law { (more : List Bool)
@@ -147,7 +147,7 @@ impl Decoder {
         }
     }
 
-    /// Takes a bit. Every item that was due has to be taken before.
+    /// Takes a bit. Take every item that is due first: call `due` until it returns `None`.
     #[inline]
     pub fn take(&mut self, bit: bool)
         requires settled { IsSettled self.old }
@@ -167,10 +167,12 @@ impl Decoder {
         }
     }
 
-    /// Takes one bit or more of the lowest `count`, the first in time least significant, and says
-    /// how many: those at the front. Where a run of equal bits is held, it takes all that go on it;
-    /// else all, or as many as bring the bits that it holds to the 46 of the longest transaction.
-    /// Every item that was due has to be taken before.
+    /// Takes one or more of the lowest `count` bits of `bits`, from the least significant one, which is first
+    /// in time. Returns how many.
+    ///
+    /// With a run of equal bits held, it takes at least all the bits that continue the run. Without one, and
+    /// with fewer than 46 bits held, it takes all of them, or as many as make 46 held bits, the longest
+    /// transaction. Take every item that is due first.
     #[inline(always)]
     pub fn take_bits(&mut self, bits: u64, count: u8) -> u8
         requires settled { IsSettled self.old }
@@ -198,7 +200,7 @@ impl Decoder {
         taken
     }
 
-    // More bits of the run that is held, or the bit that ends it.
+    // Takes the bits that continue the held run, or the one bit that ends it.
     fn continue_run(&mut self, bits: u64, count: u8) -> u8
         requires settled { IsSettled self.old }
         requires run { 0 < self.old.run }
@@ -222,7 +224,7 @@ impl Decoder {
         same
     }
 
-    // More bits after those that are held, where no run is.
+    // Appends bits to the held ones, where no run is held.
     fn append_bits(&mut self, bits: u64, count: u8)
         requires run { self.old.run ≡ 0 }
         requires some { 0 < count }
@@ -239,8 +241,8 @@ impl Decoder {
         self.fed += u64::from(count);
     }
 
-    /// Takes one bit or more of a run of equal bits, and says how many: all of them where the bits
-    /// that are held are a run of that bit too. Every item that was due has to be taken before.
+    /// Takes one or more of `count` bits that all equal `bit`, and returns how many. It takes all of them if
+    /// every held bit equals `bit` and at least one is held. Take every item that is due first.
     pub fn take_run(&mut self, bit: bool, count: u64) -> u64
         requires settled { IsSettled self.old }
         requires some { 0 < count }
@@ -263,7 +265,7 @@ impl Decoder {
         }
     }
 
-    // Whether a run of that bit is held, and no other bit.
+    // Returns whether the held bits are a run of `bit` alone.
     fn holds_run_of(&self, bit: bool) -> bool
         requires { IsSettled self.now }
         ensures run { result ≡ true → (n : ℕ) × (0 < n) × (held self.now ≡ replicate n bit) }
@@ -282,7 +284,7 @@ impl Decoder {
         }
     }
 
-    // More of the run that is held.
+    // Takes `count` more bits of the held run.
     fn extend_run(&mut self, bit: bool, count: u64)
         requires settled { IsSettled self.old }
         requires some { 0 < count }
@@ -299,17 +301,17 @@ impl Decoder {
         self.next = 1;
         self.fed += count;
         if !bit {
-            // Zeros and more zeros are no switch.
+            // The switch doesn't begin with two zeros.
             self.mode = Mode::Synced;
         }
     }
 
-    /// Takes a whole transaction that was acknowledged at the front of the lowest `count` bits, the first in time least
-    /// significant, with the idle cycles before it, where nothing but idle cycles is held, or nothing. `None` says
-    /// nothing of the bits.
+    /// Takes a whole transaction, and the idle cycles before it, from the lowest `count` bits of `bits`. The
+    /// least significant bit is first in time. Idle cycles that were held are added to these. `None` says
+    /// nothing about the bits, and changes nothing.
     ///
-    /// `take_bits` and `due` do the same: where many transactions come whole, this takes less time, since nothing has
-    /// to be held.
+    /// `take_bits` and `due` find the same items. This call is faster where many whole transactions come,
+    /// since it holds no bits.
     #[inline(always)]
     pub fn take_tx(&mut self, bits: u64, count: u8) -> Option<FoundTx>
         requires within { count ≤ 64 }
@@ -339,7 +341,7 @@ impl Decoder {
         Some(FoundTx { idle, taken, tx })
     }
 
-    // Whether nothing is held, or nothing but idle cycles, where more of them or a transaction may follow.
+    // Returns whether nothing is held but idle cycles, if anything, and the mode is synced.
     #[inline(always)]
     fn holds_idle_alone(&self) -> bool
         ensures mode { result ≡ true → self.now.mode ≡ Mode.Synced }
@@ -352,10 +354,10 @@ impl Decoder {
         self.len == 0 && (self.run == 0 || !self.one)
     }
 
-    /// The bits of the next item, where it is decided and is a transaction, and no bits before it have to be looked at
-    /// first. `None` says nothing of what is due.
+    /// Returns the bits of the next decided item, if this call finds a transaction there. `None` says nothing
+    /// about what is due, and changes nothing.
     ///
-    /// `due` gives that item, too: where a transaction is wanted as one number, this takes less time.
+    /// `due` returns the same item. This call is faster where the transaction is needed as a number.
     #[inline(always)]
     pub fn due_tx(&mut self) -> Option<TxBits>
         ensures tx { IfSome result (λ spelled. GivesTx self.old self.new spelled) }
@@ -381,7 +383,7 @@ impl Decoder {
         Some(spelled)
     }
 
-    // Takes away a transaction that stands at the front.
+    // Removes the transaction at the front.
     #[inline(always)]
     fn drop_tx(&mut self, tx: Tx, len: u8)
         requires run { self.old.run ≡ 0 }
@@ -398,10 +400,11 @@ impl Decoder {
         }
     }
 
-    /// The held bits that are decided where the place in the trace is lost, each of which belongs to nothing: all but
-    /// the ones at their end, with which a line reset may begin. `None` says nothing of what is due.
+    /// Returns held bits that are the next items, each of them junk, at most 50 bits. Ones at the end of the
+    /// held bits are never among them, since a line reset may begin with them. `None` says nothing about what
+    /// is due, and changes nothing.
     ///
-    /// `due` gives these items one by one: where many come, this takes less time.
+    /// `due` returns the same items one by one. This call is faster where there are many.
     #[inline(always)]
     pub fn due_junk(&mut self) -> Option<TxBits>
         ensures junk { IfSome result (λ found. GivesJunk self.old self.new found) }
@@ -429,7 +432,7 @@ impl Decoder {
         Some(found)
     }
 
-    // How many of the bits that are held beside a run stand before the ones at their end.
+    // Returns how many of the bits after the run come before the ones at their end.
     #[inline(always)]
     fn before_ones(&self) -> u8
         ensures within { result ≤ self.now.len }
@@ -439,7 +442,8 @@ impl Decoder {
         (u64::BITS - zeros.leading_zeros()) as u8
     }
 
-    /// The next item that is decided, whatever bits may follow. `None` where none is.
+    /// Returns the next decided item: one that no later bits can change. Returns `None` if there is no such
+    /// item.
     #[inline(always)]
     pub fn due(&mut self) -> Option<Item>
         ensures item { IfSome result (λ item. (more : List Bool) → rest self.old more ≡ item ∷ rest self.new more) }
@@ -460,7 +464,7 @@ impl Decoder {
         self.decide()
     }
 
-    // The next item that is decided, by all that is held.
+    // Returns the next decided item, by all held bits.
     #[inline(always)]
     fn decide(&mut self) -> Option<Item>
         ensures { Decides self.old self.new result }
@@ -477,7 +481,7 @@ impl Decoder {
         self.decide_bits()
     }
 
-    // The run as an item, where it has ended.
+    // Ends the run, and returns it as an item.
     fn end_run(&mut self) -> Item
         requires run { 0 < self.old.run }
         requires long { self.old.one ≡ true → 50 ≤ self.old.run }
@@ -496,7 +500,7 @@ impl Decoder {
         }
     }
 
-    // A run of too few ones for a reset is held as bits again.
+    // Holds a run that is too short for a line reset as bits.
     fn unpack(&mut self)
         requires run { 0 < self.old.run }
         requires ones { self.old.one ≡ true }
@@ -513,7 +517,7 @@ impl Decoder {
         self.run = 0;
     }
 
-    // The held bits, which are all equal, as a run.
+    // Holds the bits, which are all equal, as a run.
     fn pack(&mut self, bit: bool)
         requires run { self.old.run ≡ 0 }
         requires some { 0 < self.old.len }
@@ -528,7 +532,7 @@ impl Decoder {
         self.next = 1;
     }
 
-    // The next item of held bits without a run.
+    // Returns the next decided item of the held bits, without a run.
     #[inline(always)]
     fn decide_bits(&mut self) -> Option<Item>
         requires { self.old.run ≡ 0 }
@@ -549,7 +553,7 @@ impl Decoder {
         }
     }
 
-    // A bit that belongs to nothing.
+    // Returns the first held bit as junk.
     fn junk(&mut self) -> Item
         requires run { self.old.run ≡ 0 }
         requires some { 0 < self.old.len }
@@ -567,7 +571,7 @@ impl Decoder {
         Item::Junk(bit)
     }
 
-    // Idle cycles, a transaction or the beginning of one, or neither.
+    // Decides idle cycles, a transaction or its beginning, or junk.
     #[inline(always)]
     fn synced(&mut self) -> Option<Item>
         requires run { self.old.run ≡ 0 }
@@ -592,7 +596,7 @@ impl Decoder {
         }
     }
 
-    // Idle cycles, which a one ends, or which may go on.
+    // Returns idle cycles if a one ends them; otherwise more may follow.
     fn idle(&mut self) -> Option<Item>
         requires run { self.old.run ≡ 0 }
         requires some { 0 < self.old.len }
@@ -611,7 +615,7 @@ impl Decoder {
         Some(Item::Idle(u64::from(zeros)))
     }
 
-    // A switch, or what may become one, or neither.
+    // Decides a switch, its beginning, or what else follows a line reset.
     fn after_reset(&mut self) -> Option<Item>
         requires run { self.old.run ≡ 0 }
         requires some { 0 < self.old.len }
@@ -637,7 +641,7 @@ impl Decoder {
         Some(Item::Switch)
     }
 
-    /// The next item where the trace ends here. `None` where all were given.
+    /// Returns the next item of a trace that ends here. Returns `None` if all items were returned.
     #[inline]
     pub fn last(&mut self) -> Option<Item>
         ensures item { IfSome result (λ item. rest self.old [] ≡ item ∷ rest self.new []) }
@@ -651,7 +655,7 @@ impl Decoder {
         }
     }
 
-    // The item that the end of the trace makes of bits that might have gone on.
+    // Returns the item that the end of the trace makes of undecided bits.
     fn close(&mut self) -> Option<Item>
         requires { IsOpen self.old }
         ensures { Closes self.old self.new result }
@@ -665,7 +669,7 @@ impl Decoder {
         Some(self.close_bits())
     }
 
-    // The same for a run.
+    // Does the same for a run.
     fn close_run(&mut self) -> Item
         requires run { 0 < self.old.run }
         requires alone { self.old.len ≡ 0 }
@@ -686,7 +690,7 @@ impl Decoder {
         Item::Cut(cut)
     }
 
-    // The same for other bits.
+    // Does the same for other bits.
     fn close_bits(&mut self) -> Item
         requires run { self.old.run ≡ 0 }
         requires some { 0 < self.old.len }

@@ -1,4 +1,4 @@
-//! Writing the trace text of an item.
+//! Writes the trace text of an item.
 ghost use Rattle.std.specs.Prelude.{ℕ, ◌<◌, length, take, OnOk, OnErr};
 ghost use Rattle.std.specs.Io.KnownBytes.{Appends};
 ghost use Rattle.swd_trace.specs.Listed.{IsEncodable};
@@ -11,9 +11,13 @@ use std::io;
 use std::io::Write;
 use swd_io::send;
 
-/// Writes the trace text of an item: its bits as characters `0` and `1` in time order, turnarounds
-/// as 1, and a line feed. At an error a beginning of that text was written; a write that takes no
-/// bytes is the error `WriteZero`. A fault is not tried again.
+/// Writes the trace text of an item: its bits as the characters `0` and `1` in time order, turnarounds as 1,
+/// and then a line feed.
+///
+/// # Errors
+///
+/// Returns the writer's error, without a retry, or `WriteZero` if a write takes no bytes. A proper prefix of
+/// the text was written then.
 pub fn encode<W: Write>(item: &Item, writer: &mut W) -> io::Result<()>
     requires { IsEncodable item.now }
     ensures ok { OnOk result (Appends (W.contents writer.old) (W.contents writer.new) (item_text item.now)) }

@@ -1,13 +1,13 @@
-//! A transaction that is found whole in bits that come.
+//! A whole transaction found in bits before they are held.
 
 use swd_bits::TxBits;
 
-/// A transaction that stands whole in bits that come, behind idle cycles or none.
+/// A whole transaction at the front of new bits, after any idle cycles.
 #[derive(Clone, Copy, Debug, PartialEq, Eq)]
 pub struct FoundTx {
-    /// How many idle cycles come before it, with those that were held.
+    /// The number of idle cycles before it, including those that were held.
     pub idle: u64,
-    /// How many of the bits that come are taken, those of idle cycles among them.
+    /// The number of new bits taken, including those of idle cycles.
     pub taken: u8,
     /// The bits of the transaction.
     pub tx: TxBits,

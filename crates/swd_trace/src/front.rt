@@ -1,14 +1,14 @@
-//! Whether held bits begin as a transaction does.
+//! How held bits begin: as a transaction, as a part of one, or as neither.
 
 use swd_bits::Tx;
 
-/// What is found at the front of held bits.
+/// What is at the front of held bits.
 #[derive(Clone, Copy, Debug)]
 pub enum Front {
-    /// A whole transaction of that many bits.
+    /// A whole transaction, and its number of bits.
     Whole(Tx, u8),
-    /// A transaction may have begun. With fewer bits than this that stays so.
+    /// The beginning of a transaction. With fewer bits than this it remains a beginning.
     Begun(u8),
-    /// No transaction begins so.
+    /// No transaction begins with these bits.
     Broken,
 }

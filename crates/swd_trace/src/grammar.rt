@@ -1,4 +1,4 @@
-//! Finding the transaction at the front of held bits.
+//! Finds the transaction at the front of held bits.
 ghost use Rattle.std.specs.Prelude.{◌≡◌, ◌-◌, ◌/◌, ◌%◌, ◌^◌, ◌<◌, ◌≤◌, List, Bool, ◌++◌, IfSome};
 ghost use Rattle.swd_bits.specs.Bits.{low_bits};
 ghost use Rattle.swd_bits.specs.declared.request.Request.{Request};
@@ -8,8 +8,8 @@ ghost use Rattle.swd_trace.specs.Fronts.{IsFront, IsAtFront};
 use crate::front::Front;
 use swd_bits::{MOVED_BITS, REFUSED_BITS, Request, Tx, TxBits, UNACKNOWLEDGED_BITS};
 
-/// What held bits begin as, of which the first is a one: a whole transaction (IHI 0031, B4), the
-/// beginning of one, or neither.
+/// Returns what is at the front of `len` held bits, 1 to 50, the first of which is a one: a whole transaction
+/// (IHI 0031, B4), the beginning of one, or neither.
 #[inline(always)]
 pub fn front_of(bits: u64, len: u8) -> Front
     requires whole { bits < 2 ^ len }
@@ -39,7 +39,7 @@ pub fn front_of(bits: u64, len: u8) -> Front
     front_of_request(bits, len)
 }
 
-// The same, where the first eight bits are a request.
+// Does the same where the first eight bits are a request.
 #[inline(always)]
 fn front_of_request(bits: u64, len: u8) -> Front
     requires whole { bits < 2 ^ len }
@@ -66,7 +66,7 @@ fn front_of_request(bits: u64, len: u8) -> Front
     }
 }
 
-/// The bits of the transaction at the front of 64 bits, where one stands there that was acknowledged.
+/// Returns the bits of an acknowledged transaction at the front of 64 bits, if it finds one.
 #[inline(always)]
 pub(crate) fn acknowledged(bits: u64) -> Option<TxBits>
     ensures { IfSome result (λ spelled. IsAtFront bits spelled) }
@@ -84,7 +84,7 @@ pub(crate) fn acknowledged(bits: u64) -> Option<TxBits>
     })
 }
 
-// How many bits a transaction has, by the number of its acknowledgement.
+// Returns how many bits a transaction has, by the number of its acknowledgement.
 #[inline(always)]
 fn whole_len(seen: u64) -> u8
     requires { seen < 8 }

@@ -1,31 +1,31 @@
-//! The items that a trace of the wire is made of.
+//! The items of a trace of the wire.
 ghost use Rattle.std.specs.Prelude.{◌≡◌};
 
 use swd_bits::{Tx, TxBits};
 
-/// How many ones make a line reset.
+/// The number of ones that make a line reset.
 pub(crate) const RESET_ONES: u64 = 50;
 
-/// One item of a trace (the division into these items is this project's choice).
+/// One item of a trace. The division into these items is this project's choice.
 #[derive(Clone, Copy, Debug, PartialEq, Eq)]
 pub enum Item {
-    /// A line reset: that many ones, at least fifty (IHI 0031, B4, "Line reset").
+    /// A line reset: the number of ones, at least fifty (IHI 0031, B4, "Line reset").
     Reset(u64),
-    /// The sixteen bits 0111100111100111 that switch from JTAG to serial wire, directly after a
-    /// line reset (IHI 0031, B5, "Switching from JTAG to SWD").
+    /// The switch from JTAG to SWD: the sixteen bits 0111100111100111 directly after a line reset (IHI 0031,
+    /// B5, "Switching from JTAG to SWD").
     Switch,
-    /// Idle cycles: that many zeros, at least one.
+    /// Idle cycles: the number of zeros, at least one.
     Idle(u64),
     /// A whole transaction.
     Tx(Tx),
-    /// A bit that belongs to nothing.
+    /// A junk bit: it belongs to no other item.
     Junk(bool),
-    /// The end of the trace, cut off inside of a line reset or a transaction: 1 to 49 bits.
+    /// A cut end: the last 1 to 49 bits of the trace, which begin a line reset or a transaction.
     Cut(TxBits),
 }
 
 impl Default for Item {
-    /// Any item, for lists with room to spare.
+    /// Returns an arbitrary item, for arrays with unused entries.
     fn default() -> Item
         ensures { result ≡ Item.Switch }
     {

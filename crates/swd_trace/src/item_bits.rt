@@ -1,4 +1,4 @@
-//! The bits of an item, as they go by.
+//! The bits of an item, taken one after another.
 ghost use Rattle.std.specs.Prelude.{◌≡◌, ◌+◌, ◌^◌, ◌<◌, ◌≤◌, ◌++◌, ◌∷◌, ◌↔◌, [], Bool, true, false, List};
 ghost use Rattle.std.specs.Prelude.{length, IsTrue, IfSome, IfNone};
 
@@ -6,13 +6,13 @@ use crate::decoder::Decoder;
 use crate::item::Item;
 use swd_bits::{SWITCH, SWITCH_BITS, TxBits};
 
-/// Bits of an item: equal bits, and others after them.
+/// The remaining bits of an item: a run of equal bits, and others after it.
 #[derive(Clone, Copy, Debug, PartialEq, Eq)]
 pub(crate) struct ItemBits {
-    // equal bits, that many
+    // a run of `run` bits that equal `one`
     pub(crate) one: bool,
     pub(crate) run: u64,
-    // the bits after them, the first least significant
+    // the `len` bits after it, the first one least significant
     pub(crate) len: u8,
     pub(crate) bits: u64,
 }
@@ -23,7 +23,7 @@ impl ItemBits {
     ghost use Rattle.swd_trace.specs.Listed.{IsEncodable};
     ghost use Rattle.swd_trace.specs.Texts.{item_bits};
 
-    /// The bits of an item, turnarounds as 1.
+    /// Returns the bits of an item, turnarounds as 1.
     pub(crate) fn of(item: &Item) -> ItemBits
         requires { IsEncodable item.now }
         ensures bits { bits_left result ≡ item_bits item.now }
@@ -64,14 +64,14 @@ impl ItemBits {
         }
     }
 
-    /// Whether no bit is left.
+    /// Returns whether no bits remain.
     pub(crate) fn is_empty(&self) -> bool
         ensures { IsTrue result ↔ (length (bits_left self.now) ≡ 0) }
     {
         self.run == 0 && self.len == 0
     }
 
-    /// The next bit. `None` where none is left.
+    /// Takes the next bit. Returns `None` if no bits remain.
     #[inline]
     pub(crate) fn take_bit(&mut self) -> Option<bool>
         ensures bit { IfSome result (λ bit. bits_left self.old ≡ bit ∷ bits_left self.new) }
@@ -90,7 +90,7 @@ impl ItemBits {
         None
     }
 
-    /// Gives the next bits to a decoder: one or more, and of a run that is held there, all.
+    /// Feeds one or more of the next bits to a decoder.
     pub(crate) fn feed(&mut self, decoder: &mut Decoder)
         requires some { 0 < length (bits_left self.old) }
         requires short { self.old.len ≤ 63 }

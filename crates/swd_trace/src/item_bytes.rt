@@ -1,4 +1,4 @@
-//! An item's trace text, byte by byte.
+//! The trace text of an item, byte by byte.
 ghost use Rattle.std.specs.Prelude.{◌≡◌, ◌<◌, ◌≤◌, ◌++◌, ◌∷◌, [], length, take, map, true, false};
 ghost use Rattle.std.specs.Iterator.{YieldsFirst, item_count};
 ghost use Rattle.swd_trace.specs.Listed.{IsLegal};
@@ -9,17 +9,17 @@ ghost use Rattle.swd_trace.specs.ItemBytes.{bytes_left};
 use crate::item::Item;
 use crate::item_bits::ItemBits;
 
-/// The bytes of an item's trace text: a character `0` or `1` for each bit in time order,
-/// turnarounds written as 1, and then a line feed.
+/// The bytes of an item's trace text: a character `0` or `1` for each bit in time order, turnarounds as 1,
+/// and then a line feed.
 #[derive(Clone, Copy, Debug, PartialEq, Eq)]
 pub struct ItemBytes {
     left: ItemBits,
-    // whether the line feed is still to come
+    // whether the line feed remains
     unended: bool,
 }
 
 impl ItemBytes {
-    /// The bytes of an item.
+    /// Returns the bytes of an item.
     pub fn of(item: &Item) -> ItemBytes
         requires { IsLegal item.now }
         ensures { bytes_left result ≡ item_text item.now }
@@ -27,7 +27,7 @@ impl ItemBytes {
         ItemBytes::with_end(ItemBits::of(item))
     }
 
-    // These bits, and a line feed.
+    // Returns the characters of these bits and a line feed.
     pub(crate) fn with_end(left: ItemBits) -> ItemBytes
         ensures { bytes_left result ≡ map digit_of (bits_left left) ++ 10 ∷ [] }
     {
@@ -37,7 +37,7 @@ impl ItemBytes {
         }
     }
 
-    /// Puts the next bytes into a piece, as many as there are or as fit, and says how many.
+    /// Copies the next bytes into `piece`, all of them or as many as fit. Returns how many.
     #[inline]
     pub fn fill(&mut self, piece: &mut [u8]) -> usize
         ensures within { result ≤ length piece.new }
@@ -50,8 +50,8 @@ impl ItemBytes {
     }
 }
 
-// Puts the next bytes into a piece, and says how many, and what is left. By value and apart, so that
-// what is left stays in registers: this is half of the work of an encoder.
+// Copies the next bytes into `piece`. Returns how many, and the bytes that remain. These are passed by value
+// to an outlined function, so that they stay in registers: this is half of an encoder's work.
 #[inline(never)]
 fn put(bytes: ItemBytes, piece: &mut [u8]) -> (usize, ItemBytes)
     ensures within { result.0 ≤ length piece.new }
@@ -74,7 +74,7 @@ fn put(bytes: ItemBytes, piece: &mut [u8]) -> (usize, ItemBytes)
 fn digit(bit: bool) -> u8
     ensures { result ≡ digit_of bit }
 {
-    // No branch: a bit of data can't be foreseen.
+    // No branch: the branch predictor can't predict a bit of data.
     b'0' + u8::from(bit)
 }
 

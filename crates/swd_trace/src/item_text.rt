@@ -10,16 +10,16 @@ use arrayvec::ArrayString;
 use std::fmt;
 use swd_bits::TxBits;
 
-/// The most bytes of an item's listing line, without its end.
+/// An upper bound on the length of an item's listing line in bytes, without the line feed.
 pub const LONGEST_LINE: usize = 264;
 
 /// The listing line of an item.
 pub type ItemLine = ArrayString<LONGEST_LINE>;
 
 impl Item {
-    /// The listing line of the item, without its end, as in `idle 8` or `dp 0 read ok 2ba01477`.
+    /// Returns the item's listing line, without the line feed, as in `idle 8` or `dp 0 read ok 2ba01477`.
     ///
-    /// `Display` gives the same text. This call can't fail, and a contract knows its bytes.
+    /// `Display` prints the same line. This call can't fail, and its contract gives the bytes.
     pub fn line(&self) -> ItemLine
         ensures { result.bytes ≡ item_line self.now }
     {
@@ -28,7 +28,7 @@ impl Item {
         text
     }
 
-    /// Adds that line to a text.
+    /// Appends the item's listing line, without the line feed.
     pub fn push_line<const N: usize>(&self, text: &mut ArrayString<N>)
         requires { array_string_len text.old + LONGEST_LINE ≤ N }
         ensures bytes { text.new.bytes ≡ text.old.bytes ++ item_line self.now }

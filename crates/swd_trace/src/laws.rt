@@ -10,10 +10,9 @@ ghost use Rattle.swd_trace.specs.Decided.{IsDecided};
 ghost use Rattle.swd_trace.specs.Spelled.{AreSpelled};
 ghost use Rattle.swd_trace.specs.Texts.{bits_of_items};
 
-/// The tests by which the reading goes are what they stand for. A whole transaction stands at the
-/// front of some bits exactly where their front spells it. They are found to be the beginning of
-/// one exactly where more bits make them the spelling of a transaction. The same for fifty ones,
-/// whole and begun, and for the switch.
+/// States what the tests of the reading mean. `stands` finds a whole transaction exactly where the first bits
+/// spell it. It finds a beginning exactly where more bits make them spell a transaction. The same holds for
+/// fifty ones, whole and partial, and for the whole switch.
 pub fn tests_of_the_reading()
     ensures transaction { (bits : List Bool) (tx : Tx) (n : ℕ) → (stands bits ≡ Whole tx n)
         ↔ ((n ≤ length bits) × Spells tx (take n bits)) }
@@ -27,18 +26,18 @@ pub fn tests_of_the_reading()
         ↔ ((more : List Bool) × (bits ≡ switch ++ more)) }
 {}
 
-/// No two lists of items are what the same bits decide.
+/// States that the same bits decide only one list of items.
 pub fn one_list_is_decided()
     ensures { (bits : List Bool) (a b : List Item) → IsDecided bits a → IsDecided bits b → a ≡ b }
 {}
 
-/// The bits of a reading, turnarounds as 1, are read as that reading.
+/// States that the bits of a reading, turnarounds as 1, have that reading.
 pub fn readings_are_read_again()
     ensures { (bits : List Bool) → reading_of (bits_of_items (reading_of bits)) ≡ reading_of bits }
 {}
 
-/// Transactions that follow one another, each of them acknowledged, are read as these transactions,
-/// and no fifty ones in a row stand in their bits.
+/// States that a sequence of acknowledged transactions is read as these transactions. Their bits never
+/// contain fifty ones in a row.
 pub fn transactions_are_read()
     ensures read { (txs : List Tx) (bits : List Bool) → AreSpelled txs bits → reading_of bits ≡ map Item.Tx txs }
     ensures no_reset { (txs : List Tx) (bits front back : List Bool) → AreSpelled txs bits

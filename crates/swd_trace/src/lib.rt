@@ -1,4 +1,4 @@
-//! The items of a trace of the wire: resets, switches, idle cycles, transactions and what is none.
+//! Items of a trace of the wire: line resets, switches, idle cycles, transactions, junk bits and a cut end.
 #![tactic(auto)]
 
 mod decoder;

@@ -1,4 +1,4 @@
-//! Reading a listing: one item a line, as the items are printed.
+//! Reads a listing: one item a line, as the items are printed.
 
 mod fault;
 mod line;

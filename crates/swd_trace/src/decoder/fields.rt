@@ -1,4 +1,4 @@
-//! A decoder as numbers, for callers that keep it in memory of their own, such as programs in C.
+//! A decoder as a struct of numbers, for callers that keep it in their own memory, such as C programs.
 ghost use Rattle.std.specs.Prelude.{◌≡◌, ℕ, Bool, List, IsSome, IfSome, IsTrue};
 ghost use Rattle.swd_trace.specs.Holding.{Holds};
 ghost use Rattle.swd_trace.specs.Modes.{IsRun, mode_at, mode_number};
@@ -6,11 +6,11 @@ ghost use Rattle.swd_trace.specs.Modes.{IsRun, mode_at, mode_number};
 use super::Decoder;
 use crate::mode::Mode;
 
-/// The numbers of a decoder: `Decoder::fields` gives them, and `decoder` gives back a decoder that reads on
-/// as that one does. They are laid out as C does it, and any numbers may stand in them: `decoder` gives
-/// none where they are those of no decoder, as zeros are.
+/// The state of a decoder as numbers, with the layout of C. `Decoder::fields` returns them, and `decoder`
+/// restores a decoder that behaves the same. Any values are allowed: `decoder` rejects those that no decoder
+/// has, such as all zeros.
 ///
-/// `fed` is how many bits it was fed. What the others mean is this crate's own.
+/// `fed` is how many bits the decoder was fed. The other fields are private to this crate.
 #[repr(C)]
 #[derive(Clone, Copy, Debug, PartialEq, Eq)]
 pub struct DecoderFields {
@@ -33,8 +33,8 @@ fn number_of_mode(mode: Mode) -> u8
     }
 }
 
-// What is read from another number doesn't matter: `DecoderFields::decoder` finds that the mode has
-// another.
+// Any other number gives some mode, and `DecoderFields::decoder` then rejects it, since that mode has another
+// number.
 fn mode_with(number: u8) -> Mode
     ensures { result ≡ mode_at number }
 {
@@ -50,7 +50,7 @@ impl DecoderFields {
     ghost use Rattle.swd_trace.specs.DecoderNumbers.{IsDecoder, decoder_fields, rest_in};
     ghost use Rattle.swd_trace.specs.Held.{rest};
 
-    /// A decoder with these numbers, where there is one.
+    /// Restores the decoder with these numbers. Returns `None` if no decoder has them.
     pub fn decoder(&self) -> Option<Decoder>
         ensures found { IsDecoder self.now → IsSome result }
         ensures same { IfSome result (λ d. decoder_fields d ≡ self.now) }
@@ -77,7 +77,7 @@ impl DecoderFields {
         }
     }
 
-    // They are what the parts of a decoder always are.
+    // Returns whether these can be the parts of a decoder.
     fn is_sound(&self, mode: Mode, one: bool) -> bool
         ensures sound { IsTrue result → Holds mode one self.now.run self.now.len self.now.bits 1 self.now.fed }
         ensures all { (next : ℕ) → Holds mode one self.now.run self.now.len self.now.bits next self.now.fed
@@ -92,7 +92,8 @@ impl DecoderFields {
         self.is_run(mode, one)
     }
 
-    // Equal bits, and at most one after them, which ends them. Zeros are counted in mode synced alone.
+    // Returns whether this is a run, and at most one bit after it, which ends it. A run of zeros needs mode
+    // synced.
     fn is_run(&self, mode: Mode, one: bool) -> bool
         ensures sound { IsTrue result → IsRun mode one self.now.run self.now.len self.now.bits self.now.fed }
         ensures all { IsRun mode one self.now.run self.now.len self.now.bits self.now.fed → IsTrue result }
@@ -112,7 +113,7 @@ impl Decoder {
     ghost use Rattle.swd_trace.specs.DecoderNumbers.{decoder_fields, rest_in};
     ghost use Rattle.swd_trace.specs.Held.{rest};
 
-    /// The numbers of the decoder.
+    /// Returns the state of the decoder as numbers.
     pub fn fields(&self) -> DecoderFields
         ensures fields { result ≡ decoder_fields self.now }
         ensures rest { (more : List Bool) → rest_in result more ≡ rest self.now more }

@@ -2,19 +2,19 @@
 
 use thiserror::Error;
 
-/// Why a listing was refused. Lines count from 1.
+/// The reason why a listing was rejected. Lines count from 1.
 #[derive(Clone, Copy, Debug, PartialEq, Eq, Error)]
 pub enum ListFault {
-    /// The first line that is the line of no item, or that brings the bits past 2^64 - 1.
+    /// The first line that isn't the line of an item, or at which the bits of the list exceed 2^64 - 1.
     #[error("list line {line}: bad line")]
     BadLine { line: u64 },
-    /// The line of the first item at which the list and the reading of its bits differ.
+    /// The line of the first item at which the list differs from the reading of its bits.
     #[error("list line {line}: not normal")]
     NotNormal { line: u64 },
-    /// There is no memory for the items.
+    /// Out of memory for the items.
     #[error("no memory")]
     Memory,
-    /// The reader failed, or did not end within 2^64 - 1 reads.
+    /// The reader failed, or didn't end within 2^64 - 1 reads.
     #[error("read failed")]
     Read,
 }

@@ -1,4 +1,4 @@
-//! One line of a listing, and the item that is printed so.
+//! Parses one line of a listing.
 ghost use Rattle.std.specs.Prelude.{◌≡◌, ℕ, ◌++◌, List, Bool, Some, IfSome, IsSomeAnd};
 ghost use Rattle.std.specs.Fmt.{decimal};
 ghost use Rattle.swd_bits.specs.Listing.{port, address, direction, outcome, tx_line};
@@ -14,14 +14,14 @@ use crate::item::Item;
 use crate::listing::word::{bits_in, count_in, seen_in, word_in};
 use swd_bits::{Reg4, Request, Tx, TxEnd};
 
-/// The item whose line this is, without its end. `None` where it is the line of no item: there are
-/// no leading zeros, no upper case and no further blanks.
+/// Returns the item whose line, without the line feed, is exactly this. Returns `None` if there is no such
+/// item: leading zeros, upper case and extra spaces are rejected.
 pub(crate) fn item_of(line: &[u8]) -> Option<Item>
     ensures found { IfSome result (λ item. IsLine line.now item) }
     ensures only { (item : Item) → IsLine line.now item → result ≡ Some item }
 {
     let item = candidate(line)?;
-    // only what is printed so is read so
+    // accepts only the exact line of the item
     let text = item.line();
     if text.as_str().as_bytes() == line {
         Some(item)
@@ -30,7 +30,7 @@ pub(crate) fn item_of(line: &[u8]) -> Option<Item>
     }
 }
 
-// The item whose line this is. Other lines may be read as some item.
+// Returns the item of its line. Of any other line it may return some item.
 fn candidate(line: &[u8]) -> Option<Item>
     ensures legal { IfSome result IsLegal }
     ensures found { (item : Item) → IsLegal item → line.now ≡ item_line item → result ≡ Some item }
@@ -53,7 +53,7 @@ fn candidate(line: &[u8]) -> Option<Item>
     Some(Item::Tx(transaction_of(line)?))
 }
 
-// The transaction whose line this is. Other lines may be read as some transaction.
+// Returns the transaction of its line. Of any other line it may return some transaction.
 fn transaction_of(line: &[u8]) -> Option<Tx>
     ensures legal { IfSome result IsTx }
     ensures found { (tx : Tx) → IsTx tx → line.now ≡ tx_line tx → result ≡ Some tx }
@@ -68,7 +68,7 @@ fn transaction_of(line: &[u8]) -> Option<Tx>
     })
 }
 
-// Whether the access port is named, and what follows.
+// Returns whether the port is the AP, and the rest.
 fn port_of(line: &[u8]) -> Option<(bool, &[u8])>
     ensures { (ap : Bool) (rest : List ℕ) → line.now ≡ port ap ++ rest
         → IsSomeAnd result (λ r. (r.0 ≡ ap) × (r.1.now ≡ rest)) }
@@ -79,7 +79,7 @@ fn port_of(line: &[u8]) -> Option<(bool, &[u8])>
     Some((false, line.strip_prefix(b"dp ")?))
 }
 
-// The register that is named, and what follows.
+// Returns the register address, and the rest.
 fn address_of(line: &[u8]) -> Option<(Reg4, &[u8])>
     ensures { (addr : Reg4) (rest : List ℕ) → line.now ≡ address addr ++ rest
         → IsSomeAnd result (λ r. (r.0 ≡ addr) × (r.1.now ≡ rest)) }
@@ -96,7 +96,7 @@ fn address_of(line: &[u8]) -> Option<(Reg4, &[u8])>
     Some((Reg4::RC, line.strip_prefix(b"c ")?))
 }
 
-// Whether a read is named, and what follows.
+// Returns whether the direction is a read, and the rest.
 fn direction_of(line: &[u8]) -> Option<(bool, &[u8])>
     ensures { (read : Bool) (rest : List ℕ) → line.now ≡ direction read ++ rest
         → IsSomeAnd result (λ r. (r.0 ≡ read) × (r.1.now ≡ rest)) }
@@ -107,7 +107,7 @@ fn direction_of(line: &[u8]) -> Option<(bool, &[u8])>
     Some((false, line.strip_prefix(b"write ")?))
 }
 
-// The result that is printed so. Other texts may be read as some result.
+// Returns the result with this name. Of any other bytes it may return some result.
 fn result_of(text: &[u8]) -> Option<TxEnd>
     ensures legal { IfSome result IsEnd }
     ensures found { (end : TxEnd) → IsEnd end → text.now ≡ outcome end → result ≡ Some end }
@@ -133,7 +133,7 @@ fn result_of(text: &[u8]) -> Option<TxEnd>
     })
 }
 
-// The number as seen of a missing acknowledgement. OK, WAIT and FAULT are none.
+// Returns the result for the number of three bits that aren't OK, WAIT or FAULT.
 fn no_ack_of(digits: &[u8]) -> Option<TxEnd>
     ensures legal { IfSome result IsEnd }
     ensures found { (seen : ℕ) → IsEnd (TxEnd.NoAck seen) → digits.now ≡ decimal seen

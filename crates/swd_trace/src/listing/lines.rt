@@ -1,4 +1,4 @@
-//! The lines of a listing, one byte after another.
+//! Collects the lines of a listing, byte by byte.
 ghost use Rattle.std.specs.Prelude.{◌≡◌, ◌+◌, ◌^◌, ◌<◌, ◌∷◌, ◌++◌, [], ℕ, List, length, true, OnOk, IfOk, IfErr};
 ghost use Rattle.swd_bits.specs.Transactions.{spelling};
 ghost use Rattle.swd_trace.specs.Listed.{AreLegal};
@@ -13,20 +13,20 @@ use arrayvec::ArrayVec;
 use std::alloc::Allocator;
 use swd_bits::{MOVED_BITS, REFUSED_BITS, SWITCH_BITS, Tx, TxEnd, UNACKNOWLEDGED_BITS};
 
-// Longer than the line of any item.
+// Longer than any item's line.
 const LONGEST: usize = 64;
 
-/// The items of the lines that ended, and the line that has begun.
+/// The items of the complete lines, and the bytes of the current line.
 #[derive(Drop)]
 pub(crate) struct Lines<A: Allocator> {
     pub(crate) items: Vec<Item, A>,
-    // how many bits these items have
+    // the number of bits of these items
     pub(crate) total: u64,
     pub(crate) line: ArrayVec<u8, LONGEST>,
 }
 
 impl<A: Allocator> Lines<A> {
-    /// No line yet.
+    /// Returns the state before the first byte.
     pub(crate) fn new(alloc: A) -> Lines<A>
         ensures { Takes [] result.items.items result.line.items result.total }
     {
@@ -37,7 +37,7 @@ impl<A: Allocator> Lines<A> {
         }
     }
 
-    /// Takes a byte. After an `Err` nothing is known of what is kept.
+    /// Takes a byte. After an error the state is unspecified.
     #[inline]
     pub(crate) fn byte(&mut self, byte: u8) -> Result<(), ListFault>
         ensures ok { OnOk result ((seen : List ℕ)
@@ -57,7 +57,7 @@ impl<A: Allocator> Lines<A> {
         Ok(())
     }
 
-    // The fault of the line that has begun.
+    // Returns the error for the current line.
     fn bad_line(&self) -> ListFault
         ensures { result ≡ ListFault.BadLine (length self.now.items.items + 1) }
     {
@@ -66,7 +66,7 @@ impl<A: Allocator> Lines<A> {
         }
     }
 
-    // Takes the line that has begun as a whole one.
+    // Ends the current line.
     fn end_line(&mut self) -> Result<(), ListFault>
         ensures ok { OnOk result ((seen : List ℕ)
             → Takes seen self.old.items.items self.old.line.items self.old.total
@@ -90,7 +90,7 @@ impl<A: Allocator> Lines<A> {
         Ok(())
     }
 
-    /// The items of the whole text, the last line of which may lack its end.
+    /// Returns the items of the whole input, the last line of which may lack its line feed.
     pub(crate) fn finish(mut self) -> Result<Vec<Item, A>, ListFault>
         ensures legal { IfOk result (λ items. (seen : List ℕ)
             → Takes seen self.items.items self.line.items self.total → AreLegal items.items) }
@@ -111,7 +111,7 @@ impl<A: Allocator> Lines<A> {
     }
 }
 
-// How many bits an item has.
+// Returns how many bits an item has.
 fn bit_count(item: &Item) -> u64
     ensures { result ≡ length (item_bits item.now) }
 {
@@ -124,7 +124,7 @@ fn bit_count(item: &Item) -> u64
     }
 }
 
-// How many bits a transaction has.
+// Returns how many bits a transaction has.
 fn tx_bit_count(tx: &Tx) -> u8
     ensures { result ≡ length (spelling tx.now true true) }
 {

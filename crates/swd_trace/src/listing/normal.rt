@@ -1,4 +1,4 @@
-//! Whether a list of items is the reading of its own bits.
+//! Checks whether a list of items is the reading of its own bits.
 ghost use Rattle.std.specs.Prelude.{◌≡◌, ◌+◌, ◌^◌, ◌<◌, ◌≤◌, ◌++◌, [], List, Bool, length, IsTrue, IsFalse, IfSome};
 ghost use Rattle.swd_trace.specs.Held.{fed_of, IsSettled};
 ghost use Rattle.swd_trace.specs.Listed.{IsLegal, AreLegal};
@@ -9,10 +9,10 @@ use crate::decoder::Decoder;
 use crate::item::Item;
 use crate::item_bits::ItemBits;
 
-/// The first item, from 0, at which a list and the reading of its bits differ. `None` where they are
-/// the same.
+/// Returns the first item, from 0, at which a list and the reading of its bits differ. Returns `None` if they
+/// are equal.
 ///
-/// A decoder reads the bits, a run in one step, so that no work grows with a count.
+/// A decoder reads the bits, each run in one step, so the time doesn't depend on the counts.
 pub(crate) fn first_difference(items: &[Item]) -> Option<usize>
     requires legal { AreLegal items.now }
     requires counted { length (bits_of_items items.now) < 2 ^ 64 }
@@ -29,7 +29,8 @@ pub(crate) fn first_difference(items: &[Item]) -> Option<usize>
     last_difference(decoder, items, same)
 }
 
-// Gives an item's bits to a decoder, and says whether what it reads is what the list has next.
+// Feeds an item's bits to a decoder, and returns whether the items decoded by then are the next ones of the
+// list.
 fn take_item(decoder: &mut Decoder, item: &Item, items: &[Item], same: &mut usize) -> bool
     requires settled { IsSettled decoder.old }
     requires legal { IsLegal item.now }
@@ -53,7 +54,7 @@ fn take_item(decoder: &mut Decoder, item: &Item, items: &[Item], same: &mut usiz
     true
 }
 
-// Takes the items that are due, and says whether the list has them next.
+// Takes the items that are due, and returns whether they are the next ones of the list.
 fn take_due(decoder: &mut Decoder, items: &[Item], same: &mut usize) -> bool
     ensures yes { IsTrue result → (ahead : List Bool) → Agrees items.now same.old decoder.old ahead
         → Agrees items.now same.new decoder.new ahead }
@@ -71,7 +72,7 @@ fn take_due(decoder: &mut Decoder, items: &[Item], same: &mut usize) -> bool
     true
 }
 
-// The same at the end of the trace, where the list and its reading have so many items in common.
+// Does the same at the end of the trace, where the first `same` items are equal.
 fn last_difference(mut decoder: Decoder, items: &[Item], same: usize) -> Option<usize>
     requires { Agrees items.now same decoder [] }
     ensures tells { TellsDifference items.now result }
@@ -91,7 +92,7 @@ fn last_difference(mut decoder: Decoder, items: &[Item], same: usize) -> Option<
     }
 }
 
-// Whether the list goes on with this item after its first ones, of which there are so many.
+// Returns whether `item` follows the first `same` items of the list.
 fn has_next(items: &[Item], same: usize, item: &Item) -> bool
     ensures yes { IsTrue result → HasNext items.now same item.now }
     ensures no { IsFalse result → HasNext items.now same item.now → ⊥ }

@@ -1,4 +1,4 @@
-//! Reading a listing from any reader.
+//! Reads a listing from a reader.
 ghost use Rattle.std.specs.Prelude.{◌^◌, ◌<◌, length, IfOk, IfErr, IfSome};
 ghost use Rattle.swd_trace.specs.Listed.{lines as lines_of, AreLegal, Lists, IsNormal, Refuses};
 ghost use Rattle.swd_trace.specs.Texts.{bits_of_items};
@@ -11,18 +11,19 @@ use std::alloc::Allocator;
 use std::io::Read;
 use swd_io::{Consumer, read_pieces};
 
-/// The items of a listing, from a reader, which is read to its end or up to the first bad line.
+/// Reads a listing from a reader, and returns its items.
 ///
-/// Each line is that of one item, as it is printed, and ends by a line feed, which the last line may
-/// lack; an empty line is bad. The items have at most 2^64 - 1 bits, and are the reading of their own
+/// Each line is that of one item, exactly as it is printed, and ends with a line feed, which the last line
+/// may lack. An empty line is bad. The items have at most 2^64 - 1 bits, and are the reading of their own
 /// bits: such a list is called normal.
 ///
 /// # Errors
 ///
-/// `BadLine` for the first line that is bad, or that brings the bits past 2^64 - 1. `NotNormal`,
-/// where no line is bad, for that of the first item at which the list and the reading of its bits
-/// differ. `Memory` where the list could not grow. `Read` where the reader failed, which is not tried
-/// again, or did not end within 2^64 - 1 reads.
+/// - `BadLine`: the first line that is bad, or at which the bits exceed 2^64 - 1.
+/// - `NotNormal`: the line of the first item at which the list and the reading of its bits differ. All lines
+///   are good then.
+/// - `Memory`: out of memory for the items.
+/// - `Read`: the reader failed, which isn't retried, or it didn't end within 2^64 - 1 reads.
 pub fn read_list<R: Read, A: Allocator>(alloc: A, reader: &mut R) -> Result<Vec<Item, A>, ListFault>
     ensures legal { IfOk result (λ items. AreLegal items.items) }
     ensures ok { IfOk result (λ items. IfSome (R.remaining reader.old)
@@ -41,7 +42,7 @@ pub fn read_list<R: Read, A: Allocator>(alloc: A, reader: &mut R) -> Result<Vec<
     }
 }
 
-// The items of the lines of a text.
+// Returns the items of the lines, which need not be normal.
 fn read_lines<R: Read, A: Allocator>(alloc: A, reader: &mut R) -> Result<Vec<Item, A>, ListFault>
     ensures legal { IfOk result (λ items. AreLegal items.items) }
     ensures counted { IfOk result (λ items. length (bits_of_items items.items) < 2 ^ 64) }

@@ -1,4 +1,4 @@
-//! The numbers and bits of a listing line.
+//! Parses the numbers and bits of a listing line.
 ghost use Rattle.std.specs.Prelude.{◌≡◌, ℕ, ◌^◌, ◌<◌, map, IfSome};
 ghost use Rattle.std.specs.Fmt.{decimal};
 ghost use Rattle.swd_bits.specs.BitLists.{bits_of};
@@ -10,10 +10,10 @@ ghost use Rattle.swd_trace.specs.Texts.{digit};
 use std::str;
 use swd_bits::TxBits;
 
-// The most bits that are cut off: one fewer than a line reset has.
+// The most bits of a cut end: one fewer than those of a line reset.
 const LONGEST_CUT: usize = 49;
 
-/// The number that is printed as these digits. Other texts may be read as some number.
+/// Returns the number with these decimal digits. Of any other bytes it may return some number.
 pub(crate) fn count_in(digits: &[u8]) -> Option<u64>
     ensures { (count : ℕ) → count < 2 ^ 64 → digits.now ≡ decimal count → result ≡ Some count }
 {
@@ -23,8 +23,7 @@ pub(crate) fn count_in(digits: &[u8]) -> Option<u64>
     }
 }
 
-/// The acknowledgement as seen that is printed as this number. Other texts may be read as some
-/// number.
+/// Returns the number of the three acknowledgement bits. Of any other bytes it may return some number.
 pub(crate) fn seen_in(digits: &[u8]) -> Option<u8>
     ensures { (seen : ℕ) → seen < 8 → digits.now ≡ decimal seen → result ≡ Some seen }
 {
@@ -34,8 +33,7 @@ pub(crate) fn seen_in(digits: &[u8]) -> Option<u8>
     }
 }
 
-/// The word that is printed as these eight hexadecimal digits. Other texts may be read as some
-/// word.
+/// Returns the word with these eight hexadecimal digits. Of any other bytes it may return some word.
 pub(crate) fn word_in(digits: &[u8]) -> Option<u32>
     ensures { (word : ℕ) → word < 2 ^ 32 → digits.now ≡ hex8 word → result ≡ Some word }
 {
@@ -45,7 +43,7 @@ pub(crate) fn word_in(digits: &[u8]) -> Option<u32>
     }
 }
 
-/// The 1 to 49 bits that are printed as these characters. Other texts may be read as some bits.
+/// Returns the 1 to 49 bits with these characters. Of any other bytes it may return some bits.
 pub(crate) fn bits_in(digits: &[u8]) -> Option<TxBits>
     ensures legal { IfSome result IsCut }
     ensures found { (bits : TxBits) → IsCut bits → digits.now ≡ map digit (bits_of bits) → result ≡ Some bits }
