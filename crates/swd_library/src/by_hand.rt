@@ -67,8 +67,8 @@ impl Pins {
         self.clock(None);
     }
 
-    // Ones, of which the line is released for the first `undriven`, since the target may be driving it there. Then
-    // the switch from JTAG and the ones again, and zeros.
+    // Drives `ones` high, the switch sequence if `switch` and the ones again, then `zeros` low. The first `undriven`
+    // ones are released, since the target may be driving the line.
     fn lead(&mut self, ones: u32, undriven: u32, switch: bool, zeros: u32) {
         self.release(undriven);
         self.hold(true, ones.saturating_sub(undriven));
@@ -79,7 +79,7 @@ impl Pins {
         self.hold(false, zeros);
     }
 
-    // Does what a cue says, and gives what came of it.
+    // Performs a cue, and returns the reply.
     fn follow(&mut self, cue: Cue) -> u64
         ensures { IsSeen cue result }
     {
@@ -115,7 +115,7 @@ impl Pins {
         }
     }
 
-    // Follows the engine until it has come to something. It has after some hundred cues at most.
+    // Drives the engine to its next outcome, which takes some hundred cues at most.
     fn come_to(&mut self, engine: &mut Engine) -> Outcome {
         for _ in 0..u32::MAX {
             let Some(cue) = engine.cue() else {
@@ -127,7 +127,7 @@ impl Pins {
         engine.finished().unwrap_or(Outcome::Stopped(End::Confused))
     }
 
-    // Does an access, where the engine has come to the end of the one before.
+    // Performs an access, once the engine has reached the outcome of the one before.
     fn access(
         &mut self,
         engine: &mut Engine,

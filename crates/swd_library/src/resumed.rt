@@ -9,7 +9,7 @@ use swd_host::{End, Report, resume, run};
 use swd_port::{Access, Answer, Mark, Wire};
 use swd_target::{Bench, Memory};
 
-// Does a list of accesses, and goes on once where an acknowledgement was lost.
+// Performs a list of accesses, and resumes it once after a lost acknowledgement.
 fn write_all<W: Wire>(alloc: Global, wire: &mut W, accesses: &[Access]) -> Result<Report, Failure>
     requires { (W.port wire.old).link.due ≡ Nothing }
 {
@@ -37,7 +37,7 @@ pub fn load(alloc: Global) -> Result<(), Failure> {
     if report.ended != End::All {
         return Err(Failure::Stopped(report.ended));
     }
-    // The report is that of the whole list, with the answers of both calls.
+    // The report covers the whole list, with the answers of both calls.
     if report.answers.len() != IMAGE.len() {
         return Err(Failure::Differs(report.answers.len()));
     }

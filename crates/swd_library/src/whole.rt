@@ -5,7 +5,7 @@ use swd_port::{Access, Answer};
 use swd_target::{Bench, MakeFault, Memory, Quirks};
 use thiserror::Error;
 
-/// Why the words aren't there.
+/// The reason why the words weren't written.
 #[derive(Debug, Drop, Error)]
 pub enum Failure {
     #[error("no memory")]
@@ -16,7 +16,7 @@ pub enum Failure {
     /// The host stopped early.
     #[error("the run ended before all was done")]
     Stopped(End),
-    /// The target answered an access with a bus fault.
+    /// An access was a bus error.
     #[error("access {0} met a bus fault")]
     BusFault(usize),
     /// A word that was read isn't the one that was written.
@@ -86,7 +86,7 @@ fn compare(answers: &[Answer]) -> Result<(), Failure> {
 
 /// Loads the image, and reads it back.
 pub fn load(alloc: Global) -> Result<(), Failure> {
-    // The wire: here a simulated target. A probe's is an `impl Wire` of your own, or a `Transport` under `run_outside`.
+    // The wire: here a simulated target. For a probe, implement `Transport` and call `run_outside`.
     let memory = Memory::new(alloc, BASE, 64, 65_536)?;
     let mut wire = Bench::new(memory, QUIRKS, Vec::new(alloc));
     let written = run(alloc, &mut wire, writes(alloc)?.as_slice(), TRIES)?;
@@ -100,7 +100,7 @@ pub fn load(alloc: Global) -> Result<(), Failure> {
     {
         return Err(Failure::BusFault(index));
     }
-    // The next call asks for a wire that rests, as it does after a whole run.
+    // The next call requires that nothing is due on the wire, which holds after a whole run.
     let read = run_block(alloc, &mut wire, BASE, 4, TRIES)?;
     if read.ended != End::All {
         return Err(Failure::Stopped(read.ended));
