@@ -3,15 +3,7 @@ use Rattle.std.specs.Prelude.{ℕ, ◌≡◌, ◌⊎◌, List, Option, Some, Non
 use Rattle.std.specs.Option.{option_map}
 use Rattle.std.specs.String.{string_bytes}
 use Rattle.swd_words.specs.declared.command.Line.{Line}
-use Rattle.swd_words.specs.declared.command.Line.TheVariants.{One, Decode, Encode, Run, Target, Image}
-use Rattle.swd_words.specs.declared.command.ImageJob.{ImageJob}
-use Rattle.swd_words.specs.declared.command.ImageJob.TheVariants.{Load, Verify, Dump}
-
--- the file that is loaded or compared; that of a dump is written
-abbrev pub image_read : ImageJob → List ℕ → Option (List ℕ)
-image_read (Load verify) file = Some file
-image_read Verify file = Some file
-image_read (Dump count) file = None
+use Rattle.swd_words.specs.declared.command.Line.TheVariants.{One, Decode, Encode, Run, Target}
 
 -- the file that the words name
 abbrev pub named : Line → Option (List ℕ)
@@ -20,7 +12,6 @@ named (Decode decode) = option_map string_bytes decode.file
 named (Encode file) = option_map string_bytes file
 named (Run run) = Some (string_bytes run.script)
 named (Target target) = Some (string_bytes target.script)
-named (Image image) = image_read image.job (string_bytes image.file)
 
 -- standard input is read: no file is named, or `-`
 abbrev pub IsStandard : Line → Type 0

@@ -11,9 +11,8 @@ use Rattle.swd_capture.specs.declared.printed.Printed.{Printed}
 use Rattle.swd_capture_text.specs.Captures.{Prints}
 use Rattle.swd_capture_text.specs.declared.reading.Reading.{Reading}
 use Rattle.swd_commands.specs.Decodings.{printed_for, reading_for}
-use Rattle.swd_commands.specs.Images.{IsDone}
 use Rattle.swd_words.specs.declared.command.Line.{Line}
-use Rattle.swd_words.specs.declared.command.Line.TheVariants.{One, Decode, Encode, Run, Target, Image}
+use Rattle.swd_words.specs.declared.command.Line.TheVariants.{One, Decode, Encode, Run, Target}
 use Rattle.swd_words.specs.declared.command.RunLine.{RunLine}
 use Rattle.swd_host.specs.declared.outcome.End.{End}
 use Rattle.swd_host.specs.declared.outcome.End.TheVariants.{All, Lost, TriesOut, WrongId, Confused}
@@ -94,4 +93,3 @@ Performs (Encode file) status text left old new =
 Performs (Run run) status text left old new = PerformsWhere run.remote run status text old new
 -- the script of a target is no standard input, which is its debugger's
 Performs (Target target) status text left old new = NotOpened status old new
-Performs (Image image) status text left old new = status ≡ 0 → IsDone image.job image.addr text

@@ -3,7 +3,6 @@
 #![tactic(auto)]
 
 mod decode_command;
-mod image_command;
 mod open_files;
 mod program;
 mod remote_command;

@@ -4,7 +4,6 @@ ghost use Rattle.swd_commands.specs.Inputs.{IsStandard, named};
 ghost use Rattle.swd_commands.specs.Statuses.{Performs, PerformsRun, PerformsUnder};
 
 use crate::decode_command::perform_decode;
-use crate::image_command::perform_image;
 use crate::open_files::{Files, Identity};
 use crate::remote_command::{Untold, perform_remote};
 use crate::report::{DONE, FAULT, cannot_open, engine_status, one_status, run_status, tell};
@@ -16,7 +15,7 @@ use std::io::{Read, Write};
 use swd_bits::one_text;
 use swd_run::run_text;
 use swd_text::encode_text;
-use swd_words::{DecodeLine, ImageJob, ImageLine, Line, LineFault, RunLine, line};
+use swd_words::{DecodeLine, Line, LineFault, RunLine, line};
 
 /// Does what the words ask for, the program's name first, and returns the status: 0 where all was
 /// done, 1 where a run ended before all was done, or a strict one met a bus fault, 2 at a fault of words,
@@ -61,10 +60,6 @@ fn file_of(line: &Line) -> Option<&str>
         },
         Line::Run(run) => run.script.as_str(),
         Line::Target(target) => target.script.as_str(),
-        Line::Image(ImageLine { job, file, .. }) => match job {
-            ImageJob::Dump(_) => return None,
-            ImageJob::Load(_) | ImageJob::Verify => file.as_str(),
-        },
     };
     if name == "-" { None } else { Some(name) }
 }
@@ -128,7 +123,6 @@ fn perform<R: Read, F: Files, O: Write, E: Write>(
         }
         Line::Run(run) => perform_run(alloc, run, input, source, files, output, errors),
         Line::Target(_) => tell(errors, "SCRIPT is a file: standard input is the debugger's"),
-        Line::Image(image) => perform_image(alloc, image, input, source, files, output, errors),
     }
 }
 

@@ -18,7 +18,6 @@ mod accesses;
 mod calls;
 mod captures;
 mod expect;
-mod images;
 mod plan;
 mod remote;
 mod target;

@@ -4,4 +4,3 @@ pub mod Lists
 pub mod Sessions
 pub mod Loads
 pub mod Dumps
-pub mod Files

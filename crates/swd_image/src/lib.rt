@@ -4,7 +4,6 @@
 mod calls;
 mod dumping;
 mod fault;
-mod file;
 mod loading;
 mod range;
 mod reading;
@@ -13,6 +12,5 @@ mod writing;
 
 pub use dumping::dump;
 pub use fault::ImageFault;
-pub use file::{NoRoom, read_image};
 pub use loading::load;
 pub use verifying::{ByteDifference, verify};

@@ -4,7 +4,6 @@ ghost use Rattle.swd_target.specs.Marks.{IsPlan};
 
 mod dumps;
 mod expect;
-mod file;
 mod loads;
 mod long;
 mod memory;

@@ -2,14 +2,11 @@
 use Rattle.std.specs.Prelude.{ℕ, ◌≡◌, ◌≤◌, ◌↔◌, ◌⊎◌, List, [], ◌∷◌, Option, Some, None, IsSomeAnd, true, codes, pos}
 use Rattle.std.specs.Option.{option_map}
 use Rattle.std.specs.String.{string_bytes}
-use Rattle.std.specs.Str.Parse.{digits_value, signed_digits_value, without_leading_plus}
+use Rattle.std.specs.Str.Parse.{signed_digits_value}
 use Rattle.clap.specs.Words.{App, HasKind, Kinds, kind_of, Row, first_of, Rule, Text, new_app, new_rule, with_rule}
 use Rattle.clap.specs.Words.{with_subcommand}
 use Rattle.swd_words.specs.declared.command.Line.{Line}
-use Rattle.swd_words.specs.declared.command.Line.TheVariants.{One, Decode, Encode, Run, Target, Image}
-use Rattle.swd_words.specs.declared.command.ImageJob.{ImageJob}
-use Rattle.swd_words.specs.declared.command.ImageJob.TheVariants.{Load, Verify, Dump}
-use Rattle.swd_words.specs.declared.command.ImageLine.{ImageLine}
+use Rattle.swd_words.specs.declared.command.Line.TheVariants.{One, Decode, Encode, Run, Target}
 use Rattle.swd_words.specs.declared.command.DecodeLine.{DecodeLine}
 use Rattle.swd_words.specs.declared.command.RunLine.{RunLine}
 use Rattle.swd_words.specs.declared.command.TargetLine.{TargetLine}
@@ -144,42 +141,12 @@ abbrev pub target_app : App
 target_app = with_rule (with_rule (with_rule (with_rule (new_app (codes "target")) script_rule) plan_rule) log_rule)
     trace_rule
 
--- the address, the number of bytes, and the file, which have to be there
-abbrev pub required_rule : Text → Rule
-required_rule name = let rule = new_rule name in record rule { required = true }
-
--- whether a load is verified, by --verify
-abbrev pub verify_rule : Rule
-verify_rule = let rule = new_rule (codes "verify") in record rule
-    { long = Some (codes "verify"); action = Some SetTrue }
-
--- the plan, the tries and the times that a call is resumed
-abbrev pub over_a_plan : App → App
-over_a_plan app = with_rule (with_rule (with_rule app plan_rule) tries_rule) resume_rule
-
-abbrev pub at_address : Text → App
-at_address name = with_rule (new_app name) (required_rule (codes "ADDR"))
-
-abbrev pub load_app : App
-load_app = with_rule (over_a_plan (with_rule (at_address (codes "load")) (required_rule (codes "FILE")))) verify_rule
-
-abbrev pub verify_app : App
-verify_app = over_a_plan (with_rule (at_address (codes "verify")) (required_rule (codes "FILE")))
-
-abbrev pub dump_app : App
-dump_app = over_a_plan (with_rule (with_rule (at_address (codes "dump")) (required_rule (codes "BYTES")))
-    (required_rule (codes "FILE")))
-
--- with the commands over images
-abbrev pub with_images : App → App
-with_images app = with_subcommand (with_subcommand (with_subcommand app load_app.top) verify_app.top) dump_app.top
-
 -- the whole command
 abbrev pub swd_app : App
 swd_app =
-    with_images (with_subcommand (with_subcommand
+    with_subcommand (with_subcommand
     (with_subcommand (with_subcommand (with_subcommand bare_app (over_file (codes "one")).top)
-    decode_app.top) (over_file (codes "encode")).top) run_app.top) target_app.top)
+    decode_app.top) (over_file (codes "encode")).top) run_app.top) target_app.top
 
 -- the words have this command, and this file or none
 abbrev pub HasFile : Text → Option Text → Option (Text × List Row) → Type 0
@@ -225,26 +192,6 @@ pub record IsTargetOf (target : TargetLine) (rows : List Row) : Type 0 where
   pub log : option_map string_bytes target.log ≡ first_of (codes "log") rows
   pub trace : option_map string_bytes target.trace ≡ first_of (codes "trace") rows
 
--- the number that digits to a base stand for
-abbrev pub IsNumber : ℕ → ℕ → Option Text → Type 0
-IsNumber base number word = (digits : Text) × (word ≡ Some digits)
-    × (number ≡ digits_value base (without_leading_plus digits))
-
--- which command it is
-abbrev pub IsJobOf : ImageJob → Text → List Row → Type 0
-IsJobOf (Load verify) name rows =
-    (name ≡ codes "load") × ((verify ≡ true) ↔ (first_of (codes "verify") rows ≡ Some (codes "true")))
-IsJobOf Verify name rows = name ≡ codes "verify"
-IsJobOf (Dump count) name rows = (name ≡ codes "dump") × IsNumber 10 count (first_of (codes "BYTES") rows)
-
--- the address, in hexadecimal, the file, the plan and the two numbers that the words name
-pub record IsImageOf (image : ImageLine) (rows : List Row) : Type 0 where
-  pub addr : IsNumber 16 image.addr (first_of (codes "ADDR") rows)
-  pub file : Some (string_bytes image.file) ≡ first_of (codes "FILE") rows
-  pub plan : option_map string_bytes image.plan ≡ first_of (codes "plan") rows
-  pub tries : AreTries image.tries (first_of (codes "tries") rows)
-  pub resumes : AreResumes image.resumes (first_of (codes "resume") rows)
-
 -- a fault of this kind, or out of memory
 abbrev pub IsOfKind : ErrorKind → LineFault → Type 0
 IsOfKind kind Memory = Unit {0}
@@ -262,4 +209,3 @@ IsLineOf (Decode decode) rows = IsSomeAnd rows (λ p. (p.0 ≡ codes "decode") �
 IsLineOf (Encode file) rows = HasFile (codes "encode") (option_map string_bytes file) rows
 IsLineOf (Run run) rows = IsSomeAnd rows (λ p. (p.0 ≡ codes "run") × IsRunOf run p.1)
 IsLineOf (Target target) rows = IsSomeAnd rows (λ p. (p.0 ≡ codes "target") × IsTargetOf target p.1)
-IsLineOf (Image image) rows = IsSomeAnd rows (λ p. IsJobOf image.job p.0 p.1 × IsImageOf image p.1)

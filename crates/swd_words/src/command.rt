@@ -16,37 +16,6 @@ pub enum Line {
     Run(RunLine),
     /// `swd target SCRIPT [--plan FILE] [--log FILE] [--trace FILE]`.
     Target(TargetLine),
-    /// `swd load ADDR FILE [--plan FILE] [--tries N] [--resume N] [--verify]`, and without `--verify`
-    /// `swd verify ADDR FILE` and `swd dump ADDR BYTES FILE`.
-    Image(ImageLine),
-}
-
-/// What is done with an image.
-#[derive(Clone, Copy, Debug, PartialEq, Eq)]
-pub enum ImageJob {
-    /// It is loaded; and verified, where this is so.
-    Load(bool),
-    /// It is verified.
-    Verify,
-    /// So many bytes are read.
-    Dump(u64),
-}
-
-/// What `swd load`, `swd verify` and `swd dump` are given.
-#[derive(Debug, Drop)]
-pub struct ImageLine {
-    /// What is done.
-    pub job: ImageJob,
-    /// The address of the first byte.
-    pub addr: u32,
-    /// The file with the bytes, or `-` for standard input; or that they are written to.
-    pub file: String,
-    /// The file of the plan, where one is named.
-    pub plan: Option<String>,
-    /// How many events an access may meet, at most 1,000.
-    pub tries: u32,
-    /// How often a call is resumed at a lost acknowledgement, at most 1,000 times.
-    pub resumes: u32,
 }
 
 /// What `swd decode` is given.

@@ -4,9 +4,8 @@
 
 mod command;
 mod decode_words;
-mod image_words;
 mod target_words;
 mod words;
 
-pub use command::{DecodeLine, ImageJob, ImageLine, Line, LineFault, RunLine, TargetLine};
+pub use command::{DecodeLine, Line, LineFault, RunLine, TargetLine};
 pub use words::line;

@@ -9,13 +9,10 @@ ghost use Rattle.swd_words.specs.Commands.{file_rule, plan_rule, resume_rule, sc
 ghost use Rattle.swd_words.specs.Commands.{tries_rule};
 ghost use Rattle.swd_words.specs.Commands.{remote_rule, report_rule, run_here_app};
 ghost use Rattle.swd_words.specs.Commands.{bare_app, over_a_script, over_file, run_app, swd_app, AreResumes, AreTries};
-ghost use Rattle.swd_words.specs.Commands.{IsLineOf, IsOfKind, IsRunOf, IsRefusal, with_images};
+ghost use Rattle.swd_words.specs.Commands.{IsLineOf, IsOfKind, IsRunOf, IsRefusal};
 
 use crate::command::{Line, LineFault, RunLine};
 use crate::decode_words::{decode_command, decode_line};
-use crate::image_words::{
-    dump_command, dump_line, load_command, load_line, verify_command, verify_line,
-};
 use crate::target_words::{target_command, target_line};
 use clap::error::ErrorKind;
 use clap::{Arg, ArgAction, ArgMatches, Command, Error, value_parser};
@@ -134,9 +131,9 @@ const TRIES: u32 = 8;
 
 const MOST_TRIES: i64 = 1000;
 
-pub(crate) const TRIES_RANGE: &str = "the value of '--tries <N>' is not in 0..=1000";
+const TRIES_RANGE: &str = "the value of '--tries <N>' is not in 0..=1000";
 
-pub(crate) const RESUMES_RANGE: &str = "the value of '--resume <N>' is not in 0..=1000";
+const RESUMES_RANGE: &str = "the value of '--resume <N>' is not in 0..=1000";
 
 // A value as an owned text.
 pub(crate) fn owned(alloc: Global, text: Option<&str>) -> Result<Option<String>, AllocError>
@@ -222,7 +219,7 @@ fn report_arg<'a>(alloc: Global) -> Arg<'a>
 }
 
 // How many events an access may meet.
-pub(crate) fn tries_arg<'a>(alloc: Global) -> Arg<'a>
+fn tries_arg<'a>(alloc: Global) -> Arg<'a>
     ensures rule { rule_of result ≡ tries_rule }
     ensures local { result.global ≡ false }
 {
@@ -235,7 +232,7 @@ pub(crate) fn tries_arg<'a>(alloc: Global) -> Arg<'a>
 }
 
 // How often a run is resumed.
-pub(crate) fn resume_arg<'a>(alloc: Global) -> Arg<'a>
+fn resume_arg<'a>(alloc: Global) -> Arg<'a>
     ensures rule { rule_of result ≡ resume_rule }
     ensures local { result.global ≡ false }
 {
@@ -330,19 +327,7 @@ fn swd_command<'a>(alloc: Global) -> Result<Command<'a>, AllocError>
     let decode = with_sub(one, decode_command(alloc)?)?;
     let encode = with_sub(decode, over_a_file(alloc, "encode", ENCODE_ABOUT)?)?;
     let run = with_sub(encode, run_command(alloc)?)?;
-    let target = with_sub(run, target_command(alloc)?)?;
-    with_images(alloc, target)
-}
-
-// With the commands over images.
-fn with_images<'a>(alloc: Global, command: Command<'a>) -> Result<Command<'a>, AllocError>
-    requires { (out-Command command).has_globals ≡ false }
-    ensures app { IfOk result (λ c. app_of c ≡ with_images (app_of command.entry)) }
-    ensures local { IfOk result (λ c. (out-Command c).has_globals ≡ false) }
-{
-    let load = with_sub(command, load_command(alloc)?)?;
-    let verify = with_sub(load, verify_command(alloc)?)?;
-    with_sub(verify, dump_command(alloc)?)
+    with_sub(run, target_command(alloc)?)
 }
 
 // Words that `clap` took and that ask for nothing: there are none.
@@ -397,7 +382,7 @@ fn number_in(word: &str) -> Option<u32>
 }
 
 // The number of tries, by its word. `None` where that stands for none.
-pub(crate) fn tries_in(word: Option<&str>) -> Option<u32>
+fn tries_in(word: Option<&str>) -> Option<u32>
     ensures { IfSome result (λ tries. AreTries tries (option_map (λ s. s.now) word.entry)) }
 {
     match word {
@@ -407,7 +392,7 @@ pub(crate) fn tries_in(word: Option<&str>) -> Option<u32>
 }
 
 // How often a run is resumed, by its word. `None` where that stands for no such number.
-pub(crate) fn resumes_in(word: Option<&str>) -> Option<u32>
+fn resumes_in(word: Option<&str>) -> Option<u32>
     ensures { IfSome result (λ resumes. AreResumes resumes (option_map (λ s. s.now) word.entry)) }
 {
     match word {
@@ -505,18 +490,6 @@ fn line_of(alloc: Global, matches: &ArgMatches<'_>) -> Result<Line, LineFault>
         },
         "target" => match target_line(alloc, rest) {
             Ok(target) => Ok(Line::Target(target)),
-            Err(fault) => Err(fault),
-        },
-        "load" => match load_line(alloc, rest) {
-            Ok(image) => Ok(Line::Image(image)),
-            Err(fault) => Err(fault),
-        },
-        "verify" => match verify_line(alloc, rest) {
-            Ok(image) => Ok(Line::Image(image)),
-            Err(fault) => Err(fault),
-        },
-        "dump" => match dump_line(alloc, rest) {
-            Ok(image) => Ok(Line::Image(image)),
             Err(fault) => Err(fault),
         },
         _ => Err(unknown(alloc)),
