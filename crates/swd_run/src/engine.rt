@@ -151,10 +151,10 @@ fn run_traced<W: Wire, O: Write, T: Write, A: Allocator + Copy>(
 /// continues by `swd_host::resume`, at most `resumes` times. The report has a line for each time. The answers of a call
 /// are allocated before it starts, and again each time that it is resumed.
 ///
-/// The trace is a listing, with one item a line, of what a `swd_recorder::Recorder` keeps. Its items decode from their
-/// own bits. If the target conforms to the model and was at rest, the trace has one transaction for each request. Its
-/// last item is then a transaction without acknowledgement exactly if the last call ended `Lost`. If an allocation for
-/// an item fails, the run continues. Without a writer no items are kept.
+/// The trace has the items that a `swd_recorder::Recorder` keeps, as bits in characters, one item a line. These bits
+/// decode to the same items. If the target conforms to the model and was at rest, a trace that isn't truncated has one
+/// transaction for each request. Its last item is then a transaction without acknowledgement exactly if the last call
+/// ended `Lost`. If an allocation for an item fails, the run continues. Without a writer no items are kept.
 ///
 /// # Errors
 ///
@@ -167,8 +167,8 @@ fn run_traced<W: Wire, O: Write, T: Write, A: Allocator + Copy>(
 /// In both cases nothing of the trace was written.
 ///
 /// Returns `Write` too if the trace's writer failed: the reports are complete, and exactly the first `written` bytes of
-/// the trace were written. Returns `TraceCut` if an allocation for an item failed: the reports are complete, and the
-/// trace is truncated. Nothing is retried.
+/// the trace were written. Returns `TraceCut` if the trace is truncated, as when an allocation for an item failed: the
+/// reports are complete. Nothing is retried.
 pub fn run_batches<W: Wire, O: Write, T: Write, A: Allocator + Copy>(
     alloc: A,
     wire: W,

@@ -22,11 +22,11 @@ pub enum EngineFault {
     /// Out of memory for a call. The reports of the calls before it are complete.
     #[error("no memory")]
     Memory,
-    /// A writer failed, or took no bytes. Exactly the first `written` bytes of its output were written; more than 2^64
-    /// - 1 are reported as 2^64 - 1.
+    /// A writer failed, or took no bytes. Exactly the first `written` bytes of its output were written; more than
+    /// 2^64 - 1 are reported as 2^64 - 1.
     #[error("write failed")]
     Write { written: u64 },
-    /// The trace is truncated: out of memory for its items.
+    /// The trace is truncated, as when memory runs out for its items.
     #[error("trace cut")]
     TraceCut,
 }

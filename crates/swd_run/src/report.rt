@@ -49,8 +49,8 @@ pub fn answer_line(access: &Access, answer: &Answer) -> ReportLine
 }
 
 /// Returns the line for the end of a run without its line feed, with the number of answers and of accesses in flight
-/// after them: such as `end all 4`, `end lost 0 begun 1`, `end tries 0 begun 1`, `end id 2ba01476` or `end confused 0
-/// begun 0`.
+/// after them: such as `end all 4`, `end lost 0 begun 1`, `end tries 0 begun 1`, `end id 2ba01476` or
+/// `end confused 0 begun 0`.
 pub fn last_line(ended: End, answered: usize, begun: u8) -> ReportLine
     ensures bytes { result.bytes ≡ last_line ended answered begun }
     ensures len { array_string_len result ≤ 48 }
