@@ -1,4 +1,4 @@
-//! A probe over the clocks of a simulated target, as a microcontroller with two pins would be one.
+//! A probe over the clocks of a simulated target, like a microcontroller that moves two pins.
 ghost use Rattle.std.specs.Prelude.{◌≡◌, ◌<◌, ◌≤◌, ◌^◌, ◌++◌, ◌∷◌, [], None, Some, map, replicate, take};
 ghost use Rattle.swd_bits.specs.Bits.{low_bits};
 

@@ -22,8 +22,8 @@ pub enum TargetFault {
 }
 
 /// Reads a script and a plan, and returns the pins of the simulated target that they describe, before the host moved
-/// any. The target's memory has the script's words, all zero, and its requests use the plan's marks. The trace records
-/// the line.
+/// any. The target's memory has the script's words, all zero, and its requests use the plan's marks. The pins record
+/// in `trace`.
 ///
 /// # Errors
 ///
