@@ -46,8 +46,8 @@ abbrev pub port_seen : {W : Type 0} → Bool → (W → Port) → ℕ × W → P
 port_seen false port seen = port seen.1
 port_seen true port seen = with_asked seen.0 (port seen.1)
 
--- how the last run ended, the first `verify` read whose answer wasn't the expected word, whether an access was a bus
--- error, and the capacity of the target's log, if it is known and the log is full
+-- The end of the last run, the first `verify` read whose answer wasn't the expected word, and whether an access was a
+-- bus error. And the capacity of the target's log, if it is known and the log is full.
 pub record IsFinished (batches : List Listed) (runs : List Done) (used : Option ℕ) (finished : Finished) : Type 0 where
   pub ended : finished.ended ≡ ended_of runs
   pub differs : finished.differs ≡ first_difference batches runs

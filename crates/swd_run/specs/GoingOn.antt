@@ -110,9 +110,9 @@ pub record ToldReads (limit : ℕ) (stops : List Stop) (list : List Access) (m :
       → told.answers ≡ answers_of (take (length told.answers) list) m
   pub words : told.ended ≡ All → after.words ≡ m.words
 
--- What the reports of the calls state about the plain memory. The first call's answers are the plain memory's. If the
--- log has room for the repeated accesses, all answers are so for a list of reads, and for any list of which the first
--- call left at most one access begun.
+-- What the reports of the calls state about the plain memory. The first call's answers are the plain memory's. So are
+-- all answers of a list of reads, if the log has room for the repeated reads. And so are those of any list of which the
+-- first call left at most one access begun, if the log has room for the repeated accesses.
 pub record TellOf (limit tries : ℕ) (list : List Access) (m : PlainMemory) (stops : List Stop) (told : Told)
     (after : PlainMemory) : Type 0 where
   pub calls : AreCalls 0 limit tries (length list) 0 0 stops told

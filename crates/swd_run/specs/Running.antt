@@ -31,7 +31,7 @@ use Rattle.swd_run.specs.Sessions.{Done, ended_of, most_begun, requests_of}
 abbrev pub memory_of : Meaning → PlainMemory
 memory_of script = zero_memory script.base script.words script.room
 
--- a run stops early only if a mark of the plan loses a request, or more marks disturb one than the tries allow
+-- a run stops early only if a mark of the plan loses a request, or more marks disturb requests than the tries allow
 abbrev pub IsExcused : End → ℕ → List Mark → Type 0
 IsExcused All tries marks = Unit {0}
 IsExcused Lost tries marks = 0 < lost_among marks
@@ -53,7 +53,7 @@ pub record RunsAs (tries : ℕ) (batch : Listed) (before : PlainMemory) (marks :
 
 -- The result of a run that may be resumed `resumes` times. If it wasn't resumed, `RunsAs` holds of it. `TellOf` holds
 -- of its calls in any case. It was resumed at most as often as marks of the plan lose a request. It ends at a lost
--- acknowledgement only if more than `resumes` marks lose one.
+-- acknowledgement only if more than `resumes` marks lose a request.
 pub record RunsOn (tries resumes : ℕ) (batch : Listed) (before : PlainMemory) (marks : List Mark) (stops : List Stop)
     (told : Told) (after : PlainMemory) : Type 0 where
   pub alone : stops ≡ [] → RunsAs tries batch before marks told after
@@ -144,8 +144,8 @@ AreUnread (Script fault) script plan = IfSome script (IsScriptFault fault)
 AreUnread (Plan fault) script plan = IsScript script × IfSome plan (IsPlanFault fault)
 AreUnread Read script plan = Unit {0}
 
--- What a result states about the inputs, if their bytes are known, and about the contents of the writers of the report
--- and of the trace before and after.
+-- What a result states about the inputs, if their bytes are known, and about the contents of the writers before and
+-- after.
 abbrev pub RunsText : ℕ → ℕ → Result Finished RunFault → Option (List ℕ) → Option (List ℕ) → Option (List ℕ)
     → Option (List ℕ) → Option (Option (List ℕ)) → Option (Option (List ℕ)) → Type 0
 RunsText tries resumes (Ok finished) script plan old new before after =

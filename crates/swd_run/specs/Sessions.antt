@@ -53,7 +53,7 @@ pub data Runs {W : Type 0} (port : W → Port) (plan : W → List Mark) (lawful 
 abbrev pub AreDone : List Listed → List Done → Type 0
 AreDone batches runs = ended_of runs ≡ All → length runs ≡ length batches
 
--- A run that ran out of memory, from the wire s to the wire t: before its first bit, or when it was to be resumed after
+-- A run from the wire s to the wire t that ran out of memory: before its first bit, or when it was to be resumed after
 -- a lost acknowledgement.
 pub data IsRefused {W : Type 0} (port : W → Port) (plan : W → List Mark) (lawful : W → Type 0)
     (limit tries resumes : ℕ) (batch : Listed) (s t : W) : Type 0 where

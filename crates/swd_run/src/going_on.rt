@@ -75,8 +75,7 @@ fn resume_over<W: Wire, A: Allocator + Copy>(
 }
 
 /// Performs the accesses of a batch over a wire, and resumes the run after a lost acknowledgement, at most `resumes`
-/// times. Returns `None` if an allocation fails: for the answers before the first bit is sent, or for a place or the
-/// answers when the run is to be resumed.
+/// times. Returns `None` if an allocation fails, before the first bit is sent or when the run is to be resumed.
 pub fn run_on<W: Wire, A: Allocator + Copy>(
     alloc: A,
     wire: &mut W,

@@ -48,8 +48,8 @@ pub fn answer_line(access: &Access, answer: &Answer) -> ReportLine
     text
 }
 
-/// Returns the line for the end of a run without its line feed, with the number of answers and of accesses in flight
-/// after them: such as `end all 4`, `end lost 0 begun 1`, `end tries 0 begun 1`, `end id 2ba01476` or
+/// Returns the line for the end of a run with these numbers of answers and of accesses in flight, without its line
+/// feed. Examples are `end all 4`, `end lost 0 begun 1`, `end tries 0 begun 1`, `end id 2ba01476` and
 /// `end confused 0 begun 0`.
 pub fn last_line(ended: End, answered: usize, begun: u8) -> ReportLine
     ensures bytes { result.bytes ≡ last_line ended answered begun }
