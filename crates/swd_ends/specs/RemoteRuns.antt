@@ -29,8 +29,8 @@ pub record RanRemote (story : ℕ → Port) (tries resumes : ℕ) (Over : List C
       new before after
   pub over : Over calls
 
--- What a result states about the script, if its bytes are known, and about the contents of the writers of the report
--- and of the trace before and after. `unused` says that the connection wasn't used.
+-- What a result states about the script, if its bytes are known, and about the contents of the writers before and
+-- after. `unused` says that the connection wasn't used.
 abbrev pub RunsRemote : (ℕ → Port) → ℕ → ℕ → (List Call → Type 0) → Type 0 → Result Finished RemoteFault
     → Option (List ℕ) → Option (List ℕ) → Option (List ℕ) → Option (Option (List ℕ)) → Option (Option (List ℕ))
     → Type 0

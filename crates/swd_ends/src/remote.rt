@@ -44,13 +44,13 @@ fn script_fault(unread: Unread<ScriptFault>) -> RemoteFault
 ///
 /// Whatever comes back, the run ends unless the connection blocks, and its report matches the calls that were made. For
 /// every story with which the replies are consistent, the report is as `run_batches` promises. Up to the first I/O
-/// error, the bytes sent are exactly the characters of these calls and `Q`, and one byte is read for each level asked
-/// for. Nothing is sent after that error.
+/// error, exactly the characters of these calls and `Q` are sent, and exactly the levels that they ask for are read.
+/// Nothing is sent after that error.
 ///
 /// # Errors
 ///
-/// Returns `Script` for the first error of the script, or if out of memory for its accesses, and `Read` if its reader
-/// failed. The connection wasn't used then. Returns `Engine` as `run_batches` does.
+/// Returns `Script` for the first error of the script, or if out of memory for its accesses. Returns `Read` if its
+/// reader failed. The connection wasn't used in these cases. Returns `Engine` as `run_batches` does.
 pub fn run_remote<P: Story, S: Read, R: Read, W: Write, O: Write, T: Write, A: Allocator + Copy>(
     alloc: A,
     script: &mut S,

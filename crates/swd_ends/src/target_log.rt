@@ -65,7 +65,7 @@ fn put_log<W: Write, A: Allocator>(block: &mut Block<'_, W>, target: &MarkedCloc
 }
 
 /// Writes the log of a target: a line for each transfer that took effect, and one with the numbers of its cycles and
-/// requests, each at most 2^64 - 1. Allocates no memory.
+/// requests. These two are at most 2^64 - 1. Allocates no memory.
 ///
 /// # Errors
 ///
