@@ -8,9 +8,9 @@ use swd_bits::Request;
 use swd_host::{Engine, Outcome, OutcomeFields};
 use swd_port::Cue;
 
-/// What to send next, by `kind`: 0 nothing, with the engine's outcome; 1 a lead; 2 a request; 3 the data phase of a
-/// read; 4 the data phase of a write; 5 a turnaround; 255 nothing, since the call was refused. Fields that aren't
-/// listed for a kind are 0.
+/// What to send next, by `kind`: 0 nothing, with the outcome; 1 a lead; 2 a request; 3 the data phase of a read; 4 the
+/// data phase of a write; 5 a turnaround; 255 nothing, since the call was refused. Fields that aren't listed for a kind
+/// are 0.
 #[repr(C)]
 #[derive(Clone, Copy, Debug, PartialEq, Eq)]
 pub struct SwdCue {

@@ -21,9 +21,10 @@ pub extern "C" fn swd_decoder_new(decoder: &mut DecoderFields)
 }
 
 /// Takes one or more of the lowest `count` bits of `bits`, the first in time least significant. Returns how many it
-/// took: the first ones. It takes at least one unless the fields are those of no decoder, an item is due, `count` is 0
-/// or above 64, or the number of bits taken so far plus `count` would exceed 2^64 - 1. If it takes none, the fields are
-/// unchanged.
+/// took: the first ones.
+///
+/// Returns 0 only for one of these reasons: the fields are those of no decoder; an item is due; `count` is 0 or above
+/// 64; the number of bits taken so far plus `count` would exceed 2^64 - 1. The fields are unchanged then.
 #[unsafe(no_mangle)]
 pub extern "C" fn swd_decoder_take(decoder: &mut DecoderFields, bits: u64, count: u8) -> u8
     ensures law { 0 < result → (more : List Bool)

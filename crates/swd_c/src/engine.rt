@@ -54,9 +54,10 @@ pub extern "C" fn swd_engine_cue(engine: &EngineFields) -> SwdCue
     }
 }
 
-/// Takes the reply to the cue: the three bits seen after a request, or the 33 bits of a read's data phase, the first in
-/// time least significant. For other cues the number is ignored. Returns the next cue. Refuses the call, and leaves the
-/// fields unchanged, if they are those of no engine or the reply has too many bits.
+/// Takes the reply to the cue, and returns the next cue. The reply is the three bits seen after a request, or the 33
+/// bits of a read's data phase. The first bit in time is the least significant. For other cues the number is ignored.
+///
+/// Refuses the call, and leaves the fields unchanged, if they are those of no engine or the reply has too many bits.
 #[unsafe(no_mangle)]
 pub extern "C" fn swd_engine_next(engine: &mut EngineFields, reply: u64) -> SwdCue
     ensures goes { (e : EngineType) → MayReply engine.old reply e

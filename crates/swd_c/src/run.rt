@@ -55,9 +55,9 @@ pub extern "C" fn swd_run_blocks(run: &mut RunFields, tries: u32)
     *run = Run::blocks(tries).fields();
 }
 
-/// Makes the run that resumes this one over the same list, from the first unanswered access on, and returns whether it
-/// did. Returns false, and leaves the fields unchanged, if they are those of no run, or the run didn't end at a lost
-/// acknowledgement or because its retries ran out.
+/// Makes the run that resumes this one over the same list, from the first unanswered access on. Returns whether it did.
+/// Returns false, and leaves the fields unchanged, if they are those of no run, or the run didn't end `Lost` or
+/// `TriesOut`.
 #[unsafe(no_mangle)]
 pub extern "C" fn swd_run_again(run: &mut RunFields, tries: u32) -> bool
     ensures again { (before : RunType) → fields_of before ≡ run.old → result ≡ true
@@ -88,12 +88,12 @@ pub extern "C" fn swd_run_cue(run: &RunFields) -> SwdCue
     }
 }
 
-/// Takes the reply to the cue: the three bits seen after a request, or the 33 bits of a read's data phase, the first in
-/// time least significant. For other cues the number is ignored. Starts the next access of the list if one was
-/// answered, and stores the answers at the indices of their accesses. Returns the next cue.
+/// Takes the reply to the cue, and returns the next cue. The reply is the three bits seen after a request, or the 33
+/// bits of a read's data phase. The first bit in time is the least significant. For other cues the number is ignored.
+/// Starts the next access of the list if one was answered, and stores the answers at the indices of their accesses.
 ///
-/// Refuses the call only for one of these reasons: the fields are those of no run, the run has ended, the reply has too
-/// many bits, the list isn't valid, or there is room for fewer answers than accesses. Fields and answers are unchanged
+/// Refuses the call only for one of these reasons: the fields are those of no run; the run has ended; the reply has too
+/// many bits; the list isn't valid; there is room for fewer answers than accesses. Fields and answers are unchanged
 /// then.
 #[unsafe(no_mangle)]
 pub extern "C" fn swd_run_next(
