@@ -37,7 +37,7 @@ ClosesAnyhow = (how : Beginning) (accesses : List Access) (calls : List Call) (r
     (end : End) → how.tries < 2 ^ 32 → Ran how accesses calls run answers → run.stage ≡ Ended end
     → Closed how (drop how.from accesses) calls (told run answers end)
 
--- the most calls of a run, whatever comes back: a bound for the opening, one for each access, and one more
+-- the most calls of a run, whatever comes back: a bound for the opening, one for each access, and one more call
 abbrev pub most_calls : Bool → ℕ → ℕ → ℕ
 most_calls again tries count =
     2 * (10 + 5 * tries + stray_left again) + 1 + count * (2 * (6 + 5 * tries) + 1) + 1
@@ -47,8 +47,8 @@ Ends = (how : Beginning) (accesses : List Access) (calls : List Call) (run : Run
     → Ran how accesses calls run answers
     → length calls ≤ most_calls how.again how.tries (length (drop how.from accesses))
 
--- Where the calls of the wire, those of the run and those before, are consistent with a story, the report of a new run
--- is that of the theorem, from the port before the run to the port after it.
+-- The report of a new run is that of the theorem, from the port before the run to the port after it. This assumes that
+-- the calls of the wire, those of the run and those before, are consistent with a story.
 abbrev pub RunsAsTold : Type 0
 RunsAsTold = (kind : Bursts) (tries : ℕ) (accesses : List Access) (calls : List Call) (run : Run)
     (answers : List Answer) (end : End) → tries < 2 ^ 32 → Ran (anew kind tries) accesses calls run answers

@@ -117,7 +117,7 @@ seen_of cue reply = if is_send cue then 0 else reply
 abbrev pub call_of : Cue → ℕ → Call
 call_of cue reply = record { cue = cue; seen = seen_of cue reply }
 
--- a further call was made for a run in any state with these calls and answers
+-- whatever calls and answers led to `before`: with this call, and `more` answers, they lead to `after`
 abbrev pub Extends : Cue → ℕ → List Access → Run → List Answer → Run → Type 0
 Extends cue reply accesses before more after =
     (how : Beginning) (calls : List Call) (answers : List Answer) → Ran how accesses calls before answers
@@ -130,13 +130,13 @@ pub record HasCome (how : Beginning) (accesses : List Access) (calls : List Call
   pub number : run.answered ≡ how.from + length answers
   pub last : IsLast how accesses run answers
 
--- no further call: an outcome of the engine was taken, with this answer
+-- the same without a call: an outcome of the engine was taken, with this answer
 abbrev pub Leaves : List Access → Run → List Answer → Run → Type 0
 Leaves accesses before more after =
     (how : Beginning) (calls : List Call) (answers : List Answer) → HasCome how accesses calls before answers
     → HasCome how accesses calls after (answers ++ more)
 
--- a further call, within a call
+-- the same with a call
 abbrev pub MakesCall : Cue → ℕ → List Access → Run → List Answer → Run → Type 0
 MakesCall cue seen accesses before more after =
     (how : Beginning) (calls : List Call) (answers : List Answer) → HasCome how accesses calls before answers

@@ -3,7 +3,7 @@ ghost use Rattle.swd_steps.specs.Laws.{ClosesAnyhow, Ends, IsShown, ResumesAsTol
 
 /// States what the report of a run that ended says. Whatever came back, it matches the list and the calls that were
 /// made for it. Where what came back is consistent with the port model, the report is that of the theorem of
-/// `swd_host::run`, or of `swd_host::resume` for a run that resumes after an earlier report.
+/// `swd_host::run`. For a run that resumes after an earlier report, it is that of the theorem of `swd_host::resume`.
 pub fn runs()
     ensures closes { ClosesAnyhow }
     ensures runs { RunsAsTold }

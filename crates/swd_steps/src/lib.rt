@@ -1,5 +1,5 @@
-//! A whole run of the host, step by step. Each call takes the reply to the last cue, starts the next access if one was
-//! answered, and returns. It drives no wire and allocates no memory.
+//! A whole run of the host, step by step. Each call takes the reply to the last cue, and starts the next access if one
+//! was answered. It drives no wire and allocates no memory.
 #![tactic(auto)]
 
 mod accesses;

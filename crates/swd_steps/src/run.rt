@@ -166,10 +166,10 @@ impl Run {
         self.engine.requests()
     }
 
-    /// Takes the reply to the cue: the three bits seen after a request, or the 33 bits of a read's data phase, the
-    /// first in time least significant. For other cues the number is ignored. Then starts the next access if one was
-    /// answered, and after the last one asks for eight idle cycles. Returns the answers that came with this reply. The
-    /// first one is that of the access at index `answered()` before the call.
+    /// Takes the reply to the cue. It is the three bits seen after a request, or the 33 bits of a read's data phase.
+    /// The first bit in time is the least significant. For other cues the number is ignored. Then starts the next
+    /// access if one was answered, and after the last one asks for eight idle cycles. Returns the answers that came
+    /// with this reply. The first one is that of the access at index `answered()` before the call.
     ///
     /// The whole list is checked only at the first cue.
     ///
