@@ -1,4 +1,4 @@
--- What an engine has to send next, as numbers.
+-- The cue of an engine as integers.
 use Rattle.std.specs.Prelude.{ℕ, Bool, Option, Some, None}
 use Rattle.swd_bits.specs.Bits.{bit, number}
 use Rattle.swd_bits.specs.Wire.{request}
@@ -11,7 +11,7 @@ use Rattle.swd_host.specs.Engines.{begun_of, cue_of, finished_of}
 use Rattle.swd_host.specs.Fields.{no_outcome, outcome_fields}
 use Rattle.swd_c.specs.declared.cue.SwdCue.{SwdCue}
 
--- a cue of this kind, and nothing else
+-- a cue of this kind whose other fields are 0
 abbrev pub plain_cue : ℕ → SwdCue
 plain_cue kind = record {
   bits = 0;
@@ -25,7 +25,7 @@ plain_cue kind = record {
   begun = 0;
 }
 
--- the answer to a call that is refused
+-- the cue of a refused call
 abbrev pub refusal : SwdCue
 refusal = plain_cue 255
 
@@ -48,7 +48,7 @@ told_step Take = plain_cue 3
 told_step (Give bits) = record (plain_cue 4) { bits = bits }
 told_step Pass = plain_cue 5
 
--- nothing has to be sent
+-- there is nothing to send
 abbrev pub rest_cue : Option Outcome → SwdCue
 rest_cue outcome = record (plain_cue 0) { outcome = told_outcome outcome }
 

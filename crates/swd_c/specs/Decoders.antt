@@ -6,7 +6,7 @@ use Rattle.swd_trace.specs.DecoderNumbers.{IsDecoder, rest_in}
 use Rattle.swd_c.specs.declared.item.SwdItem.{SwdItem}
 use Rattle.swd_c.specs.Items.{told_item}
 
--- an item was given, whatever may follow
+-- an item was returned that no later bits can change
 pub record GaveItem (old new : DecoderFields) (told : SwdItem) : Type 0 where
   pub item : Item
   pub tells : told_item item ≡ told
@@ -14,7 +14,7 @@ pub record GaveItem (old new : DecoderFields) (told : SwdItem) : Type 0 where
   pub is : IsDecoder new
   pub fed : new.fed ≡ old.fed
 
--- an item was given, where the trace ends here
+-- an item was returned, if the trace ends here
 pub record GaveLast (old new : DecoderFields) (told : SwdItem) : Type 0 where
   pub item : Item
   pub tells : told_item item ≡ told

@@ -1,4 +1,4 @@
--- The items of a trace as numbers.
+-- The items of a trace as integers.
 use Rattle.std.specs.Prelude.{ℕ}
 use Rattle.swd_bits.specs.Bits.{bit, number}
 use Rattle.swd_bits.specs.Wire.{request}
@@ -9,7 +9,7 @@ use Rattle.swd_trace.specs.declared.item.Item.{Item}
 use Rattle.swd_trace.specs.declared.item.Item.TheVariants.{Reset, Switch, Idle, Tx, Junk, Cut}
 use Rattle.swd_c.specs.declared.item.SwdItem.{SwdItem}
 
--- an item of this kind, and nothing else
+-- an item of this kind whose other fields are 0
 abbrev pub plain_item : ℕ → SwdItem
 plain_item kind = record { count = 0; bits = 0; word = 0; kind = kind; request = 0; ack = 0; parity_ok = 0 }
 

@@ -1,4 +1,4 @@
--- The structs that cross to C, with a number of its own in each field, in the order of the fields.
+-- The structs that C programs use, with a different number in each field, in the order of the fields.
 use Rattle.std.specs.Prelude.{ℕ, ◌+◌, ◌*◌}
 use Rattle.swd_host.specs.declared.fields.EngineFields.{EngineFields}
 use Rattle.swd_trace.specs.declared.decoder.fields.DecoderFields.{DecoderFields}
@@ -11,7 +11,7 @@ use Rattle.swd_c.specs.declared.engine.SwdAccess.{SwdAccess}
 use Rattle.swd_c.specs.declared.item.SwdItem.{SwdItem}
 use Rattle.swd_c.specs.declared.target.SwdTransfer.{SwdTransfer}
 
--- a number that is the same in each byte of four and of eight
+-- the word of four or eight bytes that are all this number
 abbrev pub word : ℕ → ℕ
 word n = n * 0x0101_0101
 
@@ -97,7 +97,7 @@ item_numbered = record {
   parity_ok = 47;
 }
 
--- the numbers from this one on
+-- the fields with the numbers from this one on
 abbrev pub content_numbered : ℕ → ContentFields
 content_numbered first = record { word = word first; known = first + 1 }
 

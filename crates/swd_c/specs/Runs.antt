@@ -30,18 +30,18 @@ HasNoRun fields = (run : Run) → fields_of run ≡ fields → ⊥
 abbrev pub accesses_told : List SwdAccess → List Access
 accesses_told list = map access_told list
 
--- the cue of a run; where it has ended, how
+-- the cue of a run; its end, if it has ended
 abbrev pub run_told : Run → SwdCue
 run_told run =
     record (told_cue (run_cue run) (option_map Stopped (end_of run))) { begun = begun_of run.engine }
 
--- answers are stored from this index on
+-- the objects with these answers stored from this index on
 abbrev pub stored : ℕ → List Answer → List OutcomeFields → List OutcomeFields
 stored index [] room = room
 stored index (answer ∷ more) room =
     stored (index + 1) more (slice_set room index (outcome_fields (Answered answer)))
 
--- a run took a reply to its cue, and these answers came with it
+-- a run took a reply to its cue, which gave these answers
 pub record Stores (cue : Cue) (reply : ℕ) (list : List SwdAccess) (before : Run) (room : List OutcomeFields)
     (after : Run) (left : List OutcomeFields) (more : List Answer) : Type 0 where
   pub goes : Extends cue reply (accesses_told list) before more after
@@ -49,7 +49,7 @@ pub record Stores (cue : Cue) (reply : ℕ) (list : List SwdAccess) (before : Ru
   pub left_is : left ≡ stored before.answered more room
 
 -- WHAT IS REFUSED
--- the cue of a call that is refused: the kind of its outcome says why, and the word which access
+-- the cue of a refused call: its outcome's kind is the reason, and the word is the index of the access
 abbrev pub refused_with : ℕ → ℕ → SwdCue
 refused_with why index = record (plain_cue 255) { outcome = outcome_with why index }
 
@@ -60,14 +60,14 @@ refused_for TooMany = refused_with 3 0
 refused_for (Unaligned index) = refused_with 4 index
 refused_for TooFew = refused_with 5 0
 
--- the fields are those of no run; the run refuses it; or there isn't room for all answers
+-- the fields are those of no run; the run refuses the call; or there isn't room for all answers
 pub data WhyNot (fields : RunFields) (list : List SwdAccess) (reply room : ℕ) : SwdCue → Type 0 where
   no_run : HasNoRun fields → WhyNot fields list reply room refusal
   refused : (run : Run) (why : Refusal) → fields_of run ≡ fields → HasReason run (accesses_told list) reply why
       → WhyNot fields list reply room (refused_for why)
   no_room : room < length list → WhyNot fields list reply room (refused_with 6 0)
 
--- the number of the access is one of four bytes
+-- the index of the access is below 65,536
 abbrev pub IsSmall : Refusal → Type 0
 IsSmall (Unaligned index) = index < 65536
 IsSmall why = Unit {0}

@@ -1,5 +1,5 @@
--- What the calls of a clocked target leave in the caller's memory. Its transfers are the caller's: what is told of a
--- call holds over every memory that answers them as the caller did.
+-- What the calls of a clocked target leave in the caller's memory. The caller makes its transfers. So each statement
+-- about a call is for every memory that gives the results that the caller gave.
 use Rattle.std.specs.Prelude.{ℕ, ◌≡◌, ◌≢◌, ◌==◌, not, Bool, true, false, Option, Some, None, [], if◌then◌else◌}
 use Rattle.swd_port.specs.PlainMemory.{PlainMemory, address, plain_answer, succeeds_at}
 use Rattle.swd_port.specs.Port.{made_target}
@@ -20,16 +20,16 @@ use Rattle.swd_clocked.specs.Frames.{counted, idle}
 use Rattle.swd_c.specs.declared.nowhere.Nowhere.{Nowhere}
 use Rattle.swd_c.specs.declared.target.SwdTransfer.{SwdTransfer}
 
--- a target has these numbers, and its transfers take effect late
+-- a target has these fields, and its transfers take effect late
 pub record Numbers (fields : ClockedFields) (c : Clocked Nowhere) : Type 0 where
   pub has : fields_of c ≡ fields
   pub late : (simulation_of c).quirks.late ≡ true
 
--- the target with these numbers over a memory, of which this holds
+-- a target with these fields over a memory, of which this holds
 abbrev pub HasTarget : PlainMemory → ClockedFields → (Clocked Nowhere → Type 0) → Type 0
 HasTarget m fields P = (c : Clocked Nowhere) × Numbers fields c × (memory_of c ≡ m) × P c
 
--- no target has these numbers
+-- no target has these fields
 abbrev pub HasNoTarget : ClockedFields → Type 0
 HasNoTarget fields = (c : Clocked Nowhere) → Numbers fields c → ⊥
 
@@ -37,7 +37,7 @@ HasNoTarget fields = (c : Clocked Nowhere) → Numbers fields c → ⊥
 abbrev pub flag_told : ℕ → Bool
 flag_told n = not (n == 0)
 
--- a new target, whose transfers take effect late
+-- the quirks of a new target, whose transfers take effect late
 abbrev pub late_quirks : Bool → ℕ → Quirks
 late_quirks wraps filler = record { wrap = wraps; late = true; filler = filler }
 
@@ -48,7 +48,7 @@ pub record IsMade (wraps : Bool) (filler : ℕ) (m : PlainMemory) (c : Clocked N
   pub held : is_held c ≡ false
   pub cycles : cycles_of c ≡ 0
 
--- what is held changed, and nothing else
+-- the target was made busy, or not, and nothing else changed
 pub record Held (wait : Bool) (c d : Clocked Nowhere) : Type 0 where
   pub holds : Holds wait c d
   pub cycles : cycles_of d ≡ cycles_of c
@@ -58,19 +58,19 @@ pub record Settled (c d : Clocked Nowhere) : Type 0 where
   pub settles : Settles c d
   pub cycles : cycles_of d ≡ cycles_of c
 
--- one cycle went by
+-- one cycle passed
 pub record Cycled (drive : Option Bool) (line : Bool) (c d : Clocked Nowhere) : Type 0 where
   pub clocks : Clocks drive line c d
   pub cycles : cycles_of d ≡ counted 1 (cycles_of c)
 
--- the transfer that is pending at an address, by its numbers
+-- the pending transfer at an address, from its integers
 abbrev pub access_in : PendingFields → ℕ → Option Access
 access_in pending addr =
     if pending.kind == 1 then Some (Read addr)
     else if pending.kind == 2 then Some (Write addr pending.word)
     else None
 
--- the transfer that a target wants
+-- the pending transfer of a target
 abbrev pub wanted : ClockedFields → Option Access
 wanted fields = access_in fields.target.pending fields.target.tar.word
 
@@ -79,7 +79,7 @@ transfer_told None = record { addr = 0; word = 0; kind = 0 }
 transfer_told (Some (Read addr)) = record { addr = addr; word = 0; kind = 1 }
 transfer_told (Some (Write addr word)) = record { addr = addr; word = word; kind = 2 }
 
--- what came of a transfer, by the kinds of outcomes
+-- the result of a transfer, by the kinds of outcomes
 abbrev pub answer_told : ℕ → ℕ → Option Answer
 answer_told kind word =
     if kind == 2 then Some (Value word)
@@ -87,12 +87,12 @@ answer_told kind word =
     else if kind == 4 then Some BusFault
     else None
 
--- this came of the transfer that is pending at an address, over a memory
+-- this is the result of the pending transfer at an address, over a memory
 pub record CameOf (pending : PendingFields) (addr kind word : ℕ) (a : Access) (m : PlainMemory) : Type 0 where
   pub access : access_in pending addr ≡ Some a
   pub answer : answer_told kind word ≡ Some (plain_answer a m)
 
--- the same of the numbers of a target
+-- the same for the fields of a target
 abbrev pub Answered : ClockedFields → ℕ → ℕ → Access → PlainMemory → Type 0
 Answered fields kind word a m = CameOf fields.target.pending fields.target.tar.word kind word a m
 
@@ -100,11 +100,11 @@ Answered fields kind word a m = CameOf fields.target.pending fields.target.tar.w
 abbrev pub IsReadyFor : ClockedFields → PlainMemory → Type 0
 IsReadyFor fields m = (a : Access) → wanted fields ≡ Some a → succeeds_at (address a) m ≡ true
 
--- what the host drives: a bit, or nothing
+-- the bit that the host drives, if any
 abbrev pub drive_told : ℕ → Option Bool
 drive_told n = if n == 2 then None else Some (n == 1)
 
--- a word at TAR, so that the pending transfer would succeed
+-- a memory with a word at TAR, so that the pending transfer would succeed
 abbrev pub ready : ClockedFields → PlainMemory
 ready fields = window fields.target.tar.word (Some 0)
 

@@ -1,4 +1,4 @@
-//! What an engine has to send next, as numbers.
+//! The cue of an engine as integers.
 ghost use Rattle.std.specs.Prelude.{◌≡◌};
 ghost use Rattle.swd_bits.specs.Bits.{number};
 ghost use Rattle.swd_bits.specs.Wire.{request};
@@ -8,37 +8,37 @@ use swd_bits::Request;
 use swd_host::{Engine, Outcome, OutcomeFields};
 use swd_port::Cue;
 
-/// What has to be sent next, by `kind`: 0 nothing, `outcome` tells what the engine has come to; 1 a lead;
-/// 2 a request; 3 the data phase of a read; 4 that of a write; 5 a turnaround; 255 nothing, since the
-/// call was refused. What a kind doesn't name is 0, but for `begun`.
+/// What to send next, by `kind`: 0 nothing, with the outcome; 1 a lead; 2 a request; 3 the data phase of a read; 4 the
+/// data phase of a write; 5 a turnaround; 255 nothing, since the call was refused. Fields that aren't listed for a kind
+/// are 0.
 #[repr(C)]
 #[derive(Clone, Copy, Debug, PartialEq, Eq)]
 pub struct SwdCue {
-    /// Of kind 4 the 33 bits of the data phase, the first in time least significant.
+    /// For kind 4: the 33 bits of the data phase, the first in time least significant.
     pub bits: u64,
-    /// Of kind 1 how many ones.
+    /// For kind 1: the number of ones.
     pub ones: u32,
-    /// Of kind 1 how many zeros after them.
+    /// For kind 1: the number of zeros after them.
     pub zeros: u32,
-    /// Of kind 1 for how many of the first ones the line is left undriven.
+    /// For kind 1: for how many of the first ones to release the line.
     pub undriven: u32,
-    /// Of kind 0 what the engine has come to.
+    /// For kind 0: the outcome. For kind 255 of `swd_run_next`: the reason, and the index of the access.
     pub outcome: OutcomeFields,
     /// The kind.
     pub kind: u8,
-    /// Of kind 2 the eight bits of the request, the first in time least significant.
+    /// For kind 2: the eight bits of the request, the first in time least significant.
     pub request: u8,
-    /// Of kind 1 whether the sixteen bits of the switch, and the ones again, stand before the zeros: 1, else 0.
+    /// For kind 1: 1 if the sixteen bits of the switch and the ones again precede the zeros, else 0.
     pub with_switch: u8,
-    /// Of every kind but 255 how many accesses aren't answered and had their DRW request sent.
+    /// For every kind but 255: the number of unanswered accesses whose DRW request was sent.
     pub begun: u8,
 }
 
-/// The kind of a cue that was refused.
+/// The kind of the cue of a refused call.
 pub const REFUSED: u8 = 255;
 
 impl SwdCue {
-    // A cue of this kind, and nothing else.
+    // Returns a cue of this kind whose other fields are 0.
     fn plain(kind: u8) -> SwdCue
         ensures { result ≡ plain_cue kind }
     {
@@ -55,14 +55,14 @@ impl SwdCue {
         }
     }
 
-    /// What is answered where a call is refused.
+    /// Returns the cue of a refused call.
     pub fn refusal() -> SwdCue
         ensures { result ≡ refusal }
     {
         SwdCue::plain(REFUSED)
     }
 
-    /// The cue of an engine.
+    /// Returns the cue of an engine.
     pub fn of(engine: &Engine) -> SwdCue
         ensures { result ≡ told engine.now }
     {
@@ -71,7 +71,7 @@ impl SwdCue {
         cue
     }
 
-    // A cue, and where nothing has to be sent the outcome.
+    // Returns this cue, or the outcome if there is no cue.
     pub(crate) fn told(cue: Option<Cue>, outcome: Option<Outcome>) -> SwdCue
         ensures { result ≡ told_cue cue outcome }
     {
@@ -81,7 +81,7 @@ impl SwdCue {
         }
     }
 
-    // A cue of what has to be sent.
+    // Returns this cue as integers.
     fn step(cue: Cue) -> SwdCue
         ensures { result ≡ told_step cue }
     {
@@ -129,7 +129,7 @@ impl SwdCue {
     }
 }
 
-// The eight bits of a request, the first in time least significant.
+// Returns the eight bits of a request, the first in time least significant.
 pub(crate) fn bits_of(asked: Request) -> u8
     ensures { result ≡ number (request asked) }
 {

@@ -10,7 +10,7 @@ ghost use Rattle.swd_c.specs.Decoders.{GaveItem, GaveLast};
 use crate::item::SwdItem;
 use swd_trace::{Decoder, DecoderFields};
 
-/// Makes a decoder that was fed no bit.
+/// Makes a decoder before its first bit.
 #[unsafe(no_mangle)]
 pub extern "C" fn swd_decoder_new(decoder: &mut DecoderFields)
     ensures law { (more : List Bool) → rest_in decoder.new more ≡ reading_of more }
@@ -20,10 +20,11 @@ pub extern "C" fn swd_decoder_new(decoder: &mut DecoderFields)
     *decoder = Decoder::new().fields();
 }
 
-/// Takes one bit or more of the lowest `count`, the first in time least significant, and says how many:
-/// those at the front. It takes none, and leaves the fields as they were, where they are those of no
-/// decoder, an item is due, `count` is 0 or above 64, or so many bits more than were fed would be 2^64 or
-/// more.
+/// Takes one or more of the lowest `count` bits of `bits`, the first in time least significant. Returns how many it
+/// took: the first ones.
+///
+/// Returns 0 only for one of these reasons: the fields are those of no decoder; an item is due; `count` is 0 or above
+/// 64; the number of bits taken so far plus `count` would exceed 2^64 - 1. The fields are unchanged then.
 #[unsafe(no_mangle)]
 pub extern "C" fn swd_decoder_take(decoder: &mut DecoderFields, bits: u64, count: u8) -> u8
     ensures law { 0 < result → (more : List Bool)
@@ -49,8 +50,8 @@ pub extern "C" fn swd_decoder_take(decoder: &mut DecoderFields, bits: u64, count
     taken
 }
 
-/// Gives the next item that is decided, whatever bits may follow, and tells whether there is one. Where
-/// there is none, or the fields are those of no decoder, fields and item stay as they were.
+/// Takes the next decided item, and returns whether there was one. Returns false only if no item is decided yet or the
+/// fields are those of no decoder. Fields and item are unchanged then.
 #[unsafe(no_mangle)]
 pub extern "C" fn swd_decoder_due(decoder: &mut DecoderFields, item: &mut SwdItem) -> bool
     ensures item { IsTrue result → GaveItem decoder.old decoder.new item.new }
@@ -71,8 +72,8 @@ pub extern "C" fn swd_decoder_due(decoder: &mut DecoderFields, item: &mut SwdIte
     true
 }
 
-/// Gives the next item where the trace ends here, and tells whether there is one. Where all were given, or
-/// the fields are those of no decoder, fields and item stay as they were.
+/// Takes the next item of a trace that ends here, and returns whether there was one. Returns false only if none is left
+/// or the fields are those of no decoder. Fields and item are unchanged then.
 #[unsafe(no_mangle)]
 pub extern "C" fn swd_decoder_last(decoder: &mut DecoderFields, item: &mut SwdItem) -> bool
     ensures item { IsTrue result → GaveLast decoder.old decoder.new item.new }

@@ -15,8 +15,7 @@ use crate::cue::SwdCue;
 use swd_host::{Engine, EngineFields};
 use swd_port::{Access, Cue};
 
-/// Makes an engine at the start of its opening. Each of the opening and the accesses may meet as many
-/// events as `tries`.
+/// Makes an engine at the start of the opening. The opening, and each access, may meet up to `tries` events.
 #[unsafe(no_mangle)]
 pub extern "C" fn swd_engine_new(engine: &mut EngineFields, tries: u32)
     ensures new { HasEngine engine.new (IsNew Writes false tries) }
@@ -25,7 +24,7 @@ pub extern "C" fn swd_engine_new(engine: &mut EngineFields, tries: u32)
     *engine = Engine::new(tries).fields();
 }
 
-/// The same for blocks of reads: a read gives its word with the request for the next one.
+/// Makes an engine for blocks of reads. The request for the next word returns the word of a read.
 #[unsafe(no_mangle)]
 pub extern "C" fn swd_engine_blocks(engine: &mut EngineFields, tries: u32)
     ensures new { HasEngine engine.new (IsNew Reads false tries) }
@@ -34,7 +33,7 @@ pub extern "C" fn swd_engine_blocks(engine: &mut EngineFields, tries: u32)
     *engine = Engine::blocks(tries).fields();
 }
 
-/// Makes an engine that goes on after a lost acknowledgement, at the start of a new opening.
+/// Makes an engine that resumes after a lost acknowledgement, at the start of a new opening.
 #[unsafe(no_mangle)]
 pub extern "C" fn swd_engine_again(engine: &mut EngineFields, tries: u32)
     ensures again { HasEngine engine.new (IsNew Writes true tries) }
@@ -43,7 +42,7 @@ pub extern "C" fn swd_engine_again(engine: &mut EngineFields, tries: u32)
     *engine = Engine::again(tries).fields();
 }
 
-/// What has to be sent next. Refused where the fields are those of no engine.
+/// Returns what to send next. Refuses fields of no engine.
 #[unsafe(no_mangle)]
 pub extern "C" fn swd_engine_cue(engine: &EngineFields) -> SwdCue
     ensures cue { (e : EngineType) → fields_of e ≡ engine.now → result ≡ told e }
@@ -55,9 +54,10 @@ pub extern "C" fn swd_engine_cue(engine: &EngineFields) -> SwdCue
     }
 }
 
-/// Tells what came of the cue: of a request the three bits that were seen, of a read's data phase its 33
-/// bits, the first in time least significant each; else any number. Gives the next cue. Refused where
-/// the fields are those of no engine, or no such bits are that number: then they stay as they were.
+/// Takes the reply to the cue, and returns the next cue. The reply is the three bits seen after a request, or the 33
+/// bits of a read's data phase. The first bit in time is the least significant. For other cues the number is ignored.
+///
+/// Refuses the call, and leaves the fields unchanged, if they are those of no engine or the reply has too many bits.
 #[unsafe(no_mangle)]
 pub extern "C" fn swd_engine_next(engine: &mut EngineFields, reply: u64) -> SwdCue
     ensures goes { (e : EngineType) → MayReply engine.old reply e
@@ -75,7 +75,7 @@ pub extern "C" fn swd_engine_next(engine: &mut EngineFields, reply: u64) -> SwdC
     SwdCue::of(&now)
 }
 
-// Tells an engine what came of its cue, where that may come of it.
+// Passes a reply to an engine, and returns whether it is a valid reply to the cue.
 fn reply_to(engine: &mut Engine, reply: u64) -> bool
     ensures range { result ≡ is_reply (cue_of engine.old) reply }
     ensures replied { IsTrue result → Replied (cue_of engine.old) reply engine.old engine.new }
@@ -103,11 +103,11 @@ fn reply_to(engine: &mut Engine, reply: u64) -> bool
 #[repr(C)]
 #[derive(Clone, Copy, Debug, PartialEq, Eq)]
 pub struct SwdAccess {
-    /// The address, in bytes.
+    /// The address in bytes.
     pub addr: u32,
-    /// The word that is written.
+    /// The word to write.
     pub word: u32,
-    /// 0 for a read, any other number for a write.
+    /// 0 for a read, any other value for a write.
     pub write: u8,
 }
 
@@ -130,10 +130,10 @@ pub(crate) fn access_at(accesses: &[SwdAccess], index: usize) -> Option<Access>
     }
 }
 
-/// Begins the access at this index of a list, of which the engine looks at the next one too. Tells
-/// whether it did. It doesn't where the fields are those of no engine, the engine doesn't rest or has
-/// stopped, the list has no such access, its address isn't a multiple of 4, or the engine has begun
-/// another one, which it was shown as the next: then the fields stay as they were.
+/// Starts the access at this index of a list. The engine looks at the next access too, with which it may continue a
+/// burst. Returns false, and leaves the fields unchanged, if one of these holds: they are those of no engine; the
+/// engine doesn't rest or has stopped; the list has no such access; its address isn't a multiple of 4; or the DRW
+/// request of the burst's next access was sent already, and this access doesn't continue the burst.
 #[unsafe(no_mangle)]
 pub extern "C" fn swd_engine_start(
     engine: &mut EngineFields,

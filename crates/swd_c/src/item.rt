@@ -1,4 +1,4 @@
-//! The items of a trace, as numbers.
+//! The items of a trace as integers.
 ghost use Rattle.std.specs.Prelude.{◌≡◌};
 ghost use Rattle.swd_c.specs.Items.{plain_item, told_item, told_tx};
 
@@ -6,31 +6,31 @@ use crate::cue::bits_of;
 use swd_bits::{Tx, TxEnd};
 use swd_trace::Item;
 
-/// One item of a trace, by `kind`: 1 a line reset; 2 the switch from JTAG to serial wire; 3 idle cycles;
-/// 4 a transaction; 5 a bit that belongs to nothing; 6 the end of the trace, cut off inside of a line
-/// reset or a transaction. What a kind doesn't name is 0.
+/// An item of a trace, by `kind`: 1 a line reset; 2 the switch from JTAG to serial wire; 3 idle cycles; 4 a
+/// transaction; 5 a stray bit; 6 an incomplete line reset or transaction at the end of the trace. Fields that aren't
+/// listed for a kind are 0.
 #[repr(C)]
 #[derive(Clone, Copy, Debug, PartialEq, Eq)]
 pub struct SwdItem {
-    /// Of kinds 1, 3 and 6 how many bits.
+    /// For kinds 1, 3 and 6: the number of bits.
     pub count: u64,
-    /// Of kinds 5 and 6 the bits, the first in time least significant.
+    /// For kinds 5 and 6: the bits, the first in time least significant.
     pub bits: u64,
-    /// Of kind 4 the word, where `ack` is 1.
+    /// For kind 4 with `ack` 1: the word.
     pub word: u32,
     /// The kind.
     pub kind: u8,
-    /// Of kind 4 the eight bits of the request, the first in time least significant.
+    /// For kind 4: the eight bits of the request, the first in time least significant.
     pub request: u8,
-    /// Of kind 4 the three bits of the acknowledgement, the first in time least significant: 1 is OK, 2
-    /// WAIT, 4 FAULT, and any other none.
+    /// For kind 4: the three bits of the acknowledgement, the first in time least significant. 1 is OK, 2 WAIT, 4
+    /// FAULT, any other number no ACK.
     pub ack: u8,
-    /// Of kind 4, where `ack` is 1, whether the word's parity is right: 1, else 0.
+    /// For kind 4 with `ack` 1: 1 if the word's parity is correct, else 0.
     pub parity_ok: u8,
 }
 
 impl SwdItem {
-    /// An item as numbers.
+    /// Returns an item as integers.
     pub fn of(item: &Item) -> SwdItem
         ensures { result ≡ told_item item.now }
     {

@@ -1,4 +1,4 @@
-//! What a header in C is checked by.
+//! The layout of the structs, for checks of a C header.
 ghost use Rattle.std.specs.Prelude.{◌≡◌, ◌<◌, ◌^◌};
 ghost use Rattle.swd_c.specs.Layouts.{access_numbered, content_numbered, cue_numbered, decoder_numbered, double};
 ghost use Rattle.swd_c.specs.Layouts.{engine_numbered, frame_numbered};
@@ -15,7 +15,7 @@ use swd_steps::RunFields;
 use swd_target::{ContentFields, PendingFields, TargetFields};
 use swd_trace::DecoderFields;
 
-/// The structs that cross to C, and their sizes in bytes.
+/// The structs that C programs use, and their sizes in bytes.
 #[repr(C)]
 #[derive(Clone, Copy, Debug, PartialEq, Eq)]
 pub struct SwdLayout {
@@ -36,7 +36,7 @@ pub struct SwdLayout {
     pub layout_size: u64,
 }
 
-// A number that is the same in each byte.
+// Returns a word whose four bytes are this number.
 const fn word(number: u32) -> u32
     requires { number < 2 ^ 8 }
     ensures { result ≡ word number }
@@ -217,7 +217,7 @@ fn transfer_numbered() -> SwdTransfer
     }
 }
 
-/// Puts a number of its own into each field, by which a header is checked, and the sizes.
+/// Writes a different number to each field, so that a header can be checked, and the sizes.
 #[unsafe(no_mangle)]
 pub extern "C" fn swd_layout(layout: &mut SwdLayout)
     ensures engine { layout.new.engine ≡ engine_numbered }
@@ -256,7 +256,7 @@ pub struct SwdRunLayout {
     pub layout_size: u64,
 }
 
-/// The same for the struct of a run.
+/// Writes a different number to each field of a run's struct, and the sizes.
 #[unsafe(no_mangle)]
 pub extern "C" fn swd_run_layout(layout: &mut SwdRunLayout)
     ensures run { layout.new.run ≡ run_numbered }
@@ -278,7 +278,7 @@ pub extern "C" fn swd_run_layout(layout: &mut SwdRunLayout)
     };
 }
 
-/// The version of the library, 0x000100 for 0.1.0: major, minor and patch in a byte each.
+/// Returns the version of the library: major, minor and patch in a byte each, 0x000100 for 0.1.0.
 #[unsafe(no_mangle)]
 pub extern "C" fn swd_version() -> u32
     ensures { result ≡ 0x0000_0100 }

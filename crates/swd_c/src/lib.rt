@@ -1,8 +1,8 @@
-//! Whole runs of the host, its engine, the decoder and the clocked target for programs in C: `include/swd.h`
-//! declares what is exported here, and `docs/C.md` says how to build the archive and which promises it keeps.
+//! Whole runs of the host, its engine, the decoder and the clocked target for programs in C. `include/swd.h` declares
+//! the exports, and `docs/C.md` says how to build the archive and what is proved.
 //!
-//! All state is in the caller's memory, as structs of numbers. Each call gives back control, takes no
-//! memory, and refuses what it may not be given, whatever those structs hold.
+//! All state is in the caller's memory, as structs of integers. Each call returns, allocates no memory, and refuses
+//! invalid contents and arguments.
 #![tactic(auto)]
 
 mod cue;

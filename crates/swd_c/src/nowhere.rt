@@ -1,9 +1,9 @@
-//! An allocator for what never takes memory.
+//! An allocator for values that never allocate.
 ghost use base.Fml.{ftrue};
 
 use std::alloc::{AllocError, Allocator};
 
-/// It has no memory to give, so nothing that is made with it wants a heap.
+/// An allocator that always fails, so that a value with it needs no heap.
 #[derive(Clone, Copy)]
 pub struct Nowhere;
 

@@ -18,7 +18,7 @@ use swd_host::{Outcome, OutcomeFields};
 use swd_port::Access;
 use swd_steps::{Accesses, Answers, Refusal, Run, RunFields};
 
-// Why a call is refused, where the run itself didn't: there isn't room for all answers.
+// The reason of a refusal by this crate: there isn't room for all answers.
 const NO_ROOM: u8 = 6;
 
 // The accesses of a list.
@@ -39,7 +39,7 @@ impl Accesses for Listed<'_> {
     }
 }
 
-/// Makes a run at its beginning. The opening and each access may meet as many events as `tries`.
+/// Makes a run at the start of the opening. The opening, and each access, may meet up to `tries` events.
 #[unsafe(no_mangle)]
 pub extern "C" fn swd_run_new(run: &mut RunFields, tries: u32)
     ensures { HasRun run.new (λ now. (list : List AccessType) → Ran (anew Writes tries) list [] now []) }
@@ -47,7 +47,7 @@ pub extern "C" fn swd_run_new(run: &mut RunFields, tries: u32)
     *run = Run::new(tries).fields();
 }
 
-/// The same for a block of reads: a read gives its word with the request for the next one.
+/// Makes a run for a block of reads. The request for the next word returns the word of a read.
 #[unsafe(no_mangle)]
 pub extern "C" fn swd_run_blocks(run: &mut RunFields, tries: u32)
     ensures { HasRun run.new (λ now. (list : List AccessType) → Ran (anew Reads tries) list [] now []) }
@@ -55,9 +55,9 @@ pub extern "C" fn swd_run_blocks(run: &mut RunFields, tries: u32)
     *run = Run::blocks(tries).fields();
 }
 
-/// Makes the run that goes on after this one over the same list, from the first access that isn't answered. Tells
-/// whether it did. It doesn't where the fields are those of no run, or the run didn't end by a lost acknowledgement or
-/// past its tries: then the fields stay as they were.
+/// Makes the run that resumes this one over the same list, from the first unanswered access on. Returns whether it did.
+/// Returns false, and leaves the fields unchanged, if they are those of no run, or the run didn't end `Lost` or
+/// `TriesOut`.
 #[unsafe(no_mangle)]
 pub extern "C" fn swd_run_again(run: &mut RunFields, tries: u32) -> bool
     ensures again { (before : RunType) → fields_of before ≡ run.old → result ≡ true
@@ -76,7 +76,7 @@ pub extern "C" fn swd_run_again(run: &mut RunFields, tries: u32) -> bool
     true
 }
 
-/// What has to be sent next. Refused where the fields are those of no run.
+/// Returns what to send next. Refuses fields of no run.
 #[unsafe(no_mangle)]
 pub extern "C" fn swd_run_cue(run: &RunFields) -> SwdCue
     ensures cue { (now : RunType) → fields_of now ≡ run.now → result ≡ run_told now }
@@ -88,12 +88,13 @@ pub extern "C" fn swd_run_cue(run: &RunFields) -> SwdCue
     }
 }
 
-/// Tells what came of the cue: of a request the three bits that were seen, of a read's data phase its 33 bits, the
-/// first in time least significant each; else any number. Begins the next access of the list by itself, and stores the
-/// answers of those that ended. Gives the next cue.
+/// Takes the reply to the cue, and returns the next cue. The reply is the three bits seen after a request, or the 33
+/// bits of a read's data phase. The first bit in time is the least significant. For other cues the number is ignored.
+/// Starts the next access of the list if one was answered, and stores the answers at the indices of their accesses.
 ///
-/// Refused where the fields are those of no run, the run has ended, no such bits are that number, the list isn't one
-/// that may be done, or there is less room than accesses: then fields and answers stay as they were.
+/// Refuses the call only for one of these reasons: the fields are those of no run; the run has ended; the reply has too
+/// many bits; the list isn't valid; there is room for fewer answers than accesses. Fields and answers are unchanged
+/// then.
 #[unsafe(no_mangle)]
 pub extern "C" fn swd_run_next(
     run: &mut RunFields,
@@ -141,7 +142,7 @@ fn store(answers: &mut [OutcomeFields], first: usize, came: Answers)
 }
 
 impl SwdCue {
-    // The cue of a run.
+    // Returns the cue of a run.
     fn of_run(run: &Run) -> SwdCue
         ensures { result ≡ run_told run.now }
     {
@@ -150,7 +151,7 @@ impl SwdCue {
         cue
     }
 
-    // What is answered where a call of a run is refused: why, and which access.
+    // Returns the cue of a refused call of a run, with the reason and the index of the access.
     fn refused(why: u8, index: u32) -> SwdCue
         ensures { result ≡ refused_with why index }
     {

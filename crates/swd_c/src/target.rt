@@ -1,4 +1,4 @@
-//! The clocked target in the caller's memory. It makes no transfer itself: the caller does, on a bus of its own.
+//! The clocked target in the caller's memory. The caller makes its transfers, on any bus.
 ghost use Rattle.std.specs.Prelude.{◌≡◌, ◌≢◌, ◌<◌, ◌≤◌, ◌==◌, true, false, IsTrue, IfSome, IsSome, MatchOption};
 ghost use Rattle.swd_port.specs.PlainMemory.{PlainMemory, plain_after};
 ghost use Rattle.swd_port.specs.declared.access.Access.{Access as AccessType};
@@ -12,25 +12,25 @@ use crate::nowhere::Nowhere;
 use swd_clocked::{Clocked, ClockedFields};
 use swd_target::{Memory, PendingFields, Quirks};
 
-/// A transfer that a target wants, by `kind`: 0 none, 1 a read of the word at an address, 2 a write of a word there.
-/// What a kind doesn't name is 0.
+/// A pending transfer, by `kind`: 0 none, 1 a read of the word at an address, 2 a write of a word there. Fields that
+/// aren't listed for a kind are 0.
 #[repr(C)]
 #[derive(Clone, Copy, Debug, PartialEq, Eq)]
 pub struct SwdTransfer {
-    /// The address, in bytes.
+    /// The address in bytes.
     pub addr: u32,
-    /// The word that is written.
+    /// The word to write.
     pub word: u32,
     /// The kind.
     pub kind: u8,
 }
 
-// The cycle wasn't made: the transfer that is pending has to take effect before.
+// The cycle wasn't made: the pending transfer has to take effect first.
 const WANTS: u8 = 2;
 
 const REFUSED: u8 = 255;
 
-// The target with these numbers, over a memory.
+// Returns the target with these fields over a memory.
 fn target_over(fields: &ClockedFields, memory: Memory<Nowhere>) -> Option<Clocked<Nowhere>>
     ensures found { (c : ClockedType NowhereType) → Numbers fields.now c → IsSome result }
     ensures same { IfSome result (λ c. Numbers fields.now c × (memory_of c ≡ memory)) }
@@ -41,8 +41,8 @@ fn target_over(fields: &ClockedFields, memory: Memory<Nowhere>) -> Option<Clocke
     fields.clocked(memory)
 }
 
-/// Makes a target that had no line reset yet. DPIDR gives 2ba01477. `wraps` says whether TAR wraps at the end of a
-/// kilobyte, and `filler` is what a read gives whose value is unknown.
+/// Makes a target before its first line reset. Its DPIDR is 2ba01477. `wraps` selects whether TAR wraps at the end of a
+/// kilobyte. `filler` is what a read returns whose value is unknown.
 #[unsafe(no_mangle)]
 pub extern "C" fn swd_target_new(target: &mut ClockedFields, wraps: u8, filler: u32)
     ensures new { (m : PlainMemory) → HasTarget m target.new (IsMade (flag_told wraps) filler m) }
@@ -55,8 +55,8 @@ pub extern "C" fn swd_target_new(target: &mut ClockedFields, wraps: u8, filler: 
     *target = Clocked::<Nowhere>::new(Memory::window(0, None), quirks).fields();
 }
 
-/// While it is set, the target is busy: each request that may get WAIT gets it in place of OK. Tells whether the
-/// fields are those of a target; else they stay as they were.
+/// Makes the target busy, or not. While busy it answers WAIT instead of OK to each request that may get WAIT. Returns
+/// false, and leaves the fields unchanged, if they are those of no target.
 #[unsafe(no_mangle)]
 pub extern "C" fn swd_target_hold(target: &mut ClockedFields, wait: u8) -> bool
     ensures holds { IsTrue result → (m : PlainMemory)
@@ -73,7 +73,7 @@ pub extern "C" fn swd_target_hold(target: &mut ClockedFields, wait: u8) -> bool
     true
 }
 
-/// The transfer that was accepted and has not taken effect yet.
+/// Returns the pending transfer: accepted, and not yet in effect.
 #[unsafe(no_mangle)]
 pub extern "C" fn swd_target_wants(target: &ClockedFields) -> SwdTransfer
     ensures { result ≡ transfer_told (wanted target.now) }
@@ -99,8 +99,8 @@ pub extern "C" fn swd_target_wants(target: &ClockedFields) -> SwdTransfer
     }
 }
 
-// A memory whose answer to the pending transfer this is: of `kind` 2 the word was read, of 3 it was written, of 4 there
-// was a bus error.
+// Returns a memory that gives this result for the pending transfer, if the transfer can have it. `kind` is 2 for a word
+// read, 3 for written, and 4 for a bus error.
 fn answering(pending: PendingFields, addr: u32, kind: u8, word: u32) -> Option<Memory<Nowhere>>
     ensures { MatchOption result
         ((a : AccessType) (m : PlainMemory) → CameOf pending addr kind word a m → ⊥)
@@ -115,9 +115,9 @@ fn answering(pending: PendingFields, addr: u32, kind: u8, word: u32) -> Option<M
     }
 }
 
-/// Tells what came of the transfer that is pending, by the kinds of outcomes: of `kind` 2 `word` was read, of 3 it was
-/// written, of 4 there was a bus error. It takes effect in the target. Tells whether it did: not where the fields
-/// are those of no target, nothing is pending, or this can't come of it; then they stay as they were.
+/// Takes the result of the pending transfer, which takes effect in the target. `kind` is 2 if `word` was read, 3 if it
+/// was written, and 4 for a bus error. Returns false, and leaves the fields unchanged, if they are those of no target,
+/// nothing is pending, or the transfer can't have this result.
 #[unsafe(no_mangle)]
 pub extern "C" fn swd_target_settle(target: &mut ClockedFields, kind: u8, word: u32) -> bool
     ensures settles { IsTrue result → (a : AccessType) (m : PlainMemory) → Answered target.old kind word a m
@@ -139,16 +139,16 @@ pub extern "C" fn swd_target_settle(target: &mut ClockedFields, kind: u8, word: 
     true
 }
 
-// What the host drives: a bit, or nothing.
+// Returns the bit that the host drives, if any.
 fn driven(drive: u8) -> Option<bool>
     ensures { result ≡ drive_told drive }
 {
     if drive == 2 { None } else { Some(drive == 1) }
 }
 
-/// One clock: `drive` is the bit that the host drives, or 2 where it leaves the line alone. Gives the bit on the
-/// line. It gives 2 where the transfer that is pending has to take effect before, and 255 where the fields are those
-/// of no target or `drive` is above 2; then they stay as they were.
+/// Performs one clock. `drive` is the bit that the host drives, or 2 if it releases the line. Returns the bit on the
+/// line. Returns 2 if the pending transfer has to take effect first, and 255 if the fields are those of no target or
+/// `drive` is above 2. The fields are unchanged then.
 #[unsafe(no_mangle)]
 pub extern "C" fn swd_target_cycle(target: &mut ClockedFields, drive: u8) -> u8
     ensures clocks { result < 2 → (m : PlainMemory) → (target.old.waits ≡ 1 → IsReadyFor target.old m)

@@ -1,4 +1,4 @@
--- What an answer to a script says that was run at a target of which nothing is proved.
+-- What the result of a script states that was run at a target of which nothing is proved.
 use Rattle.std.specs.Prelude.{◌≡◌, ℕ, List, [], Option, Result, Ok, Err, IfSome}
 use Rattle.swd_io.specs.Pieces.{IsText}
 use Rattle.swd_io.specs.declared.pieces.Unread.{Unread}
@@ -15,8 +15,8 @@ use Rattle.swd_run.specs.Engine.{AnswersAt, ForTrace, IsLeft}
 use Rattle.swd_ends.specs.declared.remote.RemoteFault.{RemoteFault}
 use Rattle.swd_ends.specs.declared.remote.RemoteFault.TheVariants.{Script, Read, Engine}
 
--- The script that the reader has was run over a wire to the outside, whose calls are told with what came back, the last
--- one first: lawful is what fits the story. `Over` is what holds of the line and these calls.
+-- The reader's script was run over a wire to the outside. `calls` are its calls with what came back, the last one
+-- first. The wire is lawful if they are consistent with the story. `Over` holds of the connection and these calls.
 pub record RanRemote (story : ℕ → Port) (tries resumes : ℕ) (Over : List Call → Type 0)
     (answer : Result Finished EngineFault) (script old new : Option (List ℕ)) (before after : Option (Option (List ℕ)))
     : Type 0 where
@@ -29,8 +29,8 @@ pub record RanRemote (story : ℕ → Port) (tries resumes : ℕ) (Over : List C
       new before after
   pub over : Over calls
 
--- What an answer says of the script's text, where its bytes are known, of what the report's writer holds before and
--- after, and that of the trace, where there is one; `unused` of a line over which nothing went.
+-- What a result states about the script, if its bytes are known, and about the contents of the writers before and
+-- after. `unused` says that the connection wasn't used.
 abbrev pub RunsRemote : (ℕ → Port) → ℕ → ℕ → (List Call → Type 0) → Type 0 → Result Finished RemoteFault
     → Option (List ℕ) → Option (List ℕ) → Option (List ℕ) → Option (Option (List ℕ)) → Option (Option (List ℕ))
     → Type 0
@@ -43,7 +43,7 @@ RunsRemote story tries resumes Over unused (Err (Script fault)) script old new b
 RunsRemote story tries resumes Over unused (Err Read) script old new before after =
     IsLeft old new × ForTrace IsLeft before after × unused
 
--- a fault of a script, or of its reader
+-- the error of a script that wasn't read
 abbrev pub script_fault : Unread ScriptFault → RemoteFault
 script_fault Reader = Read
 script_fault (Consumer fault) = Script fault

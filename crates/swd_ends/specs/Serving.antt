@@ -1,4 +1,4 @@
--- What a script and a plan say of a simulated target that a host outside drives.
+-- The simulated target of a script and a plan, for an external host.
 use Rattle.std.specs.Prelude.{ℕ, ◌≡◌, List, [], ◌∷◌, Option, None, true, false}
 use Rattle.swd_port.specs.declared.mark.Mark.{Mark}
 use Rattle.swd_port.specs.Port.{made_target}
@@ -21,7 +21,7 @@ pub record IsMade {A : Type 0} (script : Meaning) (marks : List Mark) (target : 
   pub asked : (tally_of target).asked ≡ 0
   pub cycles : cycles_of target ≡ 0
 
--- the pins of a host that has moved none
+-- the pins before the host moved any
 pub record IsAtRest {A : Type 0} (trace : Trace A) (pins : Pins A) : Type 0 where
   pub clock : pins.clock ≡ false
   pub level : pins.level ≡ true
@@ -35,7 +35,7 @@ IsBare [] = ⊥
 IsBare (batch ∷ []) = batch.accesses ≡ []
 IsBare (batch ∷ next ∷ batches) = ⊥
 
--- the readers' texts are a script without accesses and a plan, and behind the pins is their target
+-- the inputs are a script without accesses and a plan, and the pins have their target
 pub record Simulates {A : Type 0} (script plan : Option (List ℕ)) (trace : Trace A) (pins : Pins A) : Type 0 where
   pub meaning : Meaning
   pub marks : List Mark
@@ -44,7 +44,7 @@ pub record Simulates {A : Type 0} (script plan : Option (List ℕ)) (trace : Tra
   pub made : IsMade meaning marks pins.target
   pub rests : IsAtRest trace pins
 
--- the script has an access, or further calls
+-- the script has an access or further calls
 pub record HasAccesses (script plan : Option (List ℕ)) : Type 0 where
   pub meaning : Meaning
   pub marks : List Mark

@@ -1,4 +1,4 @@
-//! A simulated target's single clocks as a probe: what the pins of a microcontroller do.
+//! A probe over the clocks of a simulated target, like a microcontroller that moves two pins.
 ghost use Rattle.std.specs.Prelude.{◌≡◌, ◌<◌, ◌≤◌, ◌^◌, ◌++◌, ◌∷◌, [], None, Some, map, replicate, take};
 ghost use Rattle.swd_bits.specs.Bits.{low_bits};
 
@@ -7,15 +7,15 @@ use swd_clocked::MarkedClocked;
 use swd_port::Disconnected;
 use swd_remote::{Probe, Sequence};
 
-// How many levels are kept for an exchange.
+// The most levels that are kept for an exchange.
 const MOST: u8 = 64;
 
-/// A probe over the single clocks of a simulated target. Nothing waits but the levels: each sequence goes by at
-/// once. Of more than 64 levels from one exchange to the next the first 64 are kept.
+/// A probe over the clocks of a simulated target. It performs each sequence at once, and keeps the sampled levels until
+/// the next exchange. Of more than 64 levels since the last exchange it keeps the first 64.
 #[derive(Drop)]
 pub struct ClockedProbe<A: Allocator = Global> {
     pub(crate) target: MarkedClocked<A>,
-    // The levels since the last exchange, the first one least significant, and how many there are.
+    // The levels since the last exchange, the first one least significant, and their number.
     pub(crate) levels: u64,
     pub(crate) sampled: u8,
     ghost few: { sampled ≤ 64 },
@@ -25,7 +25,7 @@ pub struct ClockedProbe<A: Allocator = Global> {
 impl<A: Allocator> ClockedProbe<A> {
     ghost use Rattle.swd_ends.specs.ClockedProbes.{target_of, waiting, GoBy, PassesBy, Clocked};
 
-    /// A probe at this target.
+    /// Returns a probe over this target, without levels.
     pub fn new(target: MarkedClocked<A>) -> ClockedProbe<A>
         ensures target { target_of result ≡ target }
         ensures waits { waiting result ≡ [] }
@@ -37,7 +37,7 @@ impl<A: Allocator> ClockedProbe<A> {
         }
     }
 
-    /// The target, once no more clocks come.
+    /// Consumes the probe, and returns the target.
     pub fn into_target(self) -> MarkedClocked<A>
         ensures { result ≡ target_of self }
     {
@@ -72,7 +72,7 @@ impl<A: Allocator> ClockedProbe<A> {
         }
     }
 
-    // One level more, where there is room for it.
+    // Appends a level if there is room for it.
     fn keep(&mut self, level: bool)
         ensures waits { waiting self.new ≡ take 64 (waiting self.old ++ level ∷ []) }
         ensures target { target_of self.new ≡ target_of self.old }

@@ -1,5 +1,5 @@
-//! The two ends of a line that leaves the program: a script that is run at a target behind OpenOCD's
-//! remote_bitbang characters, and the target of a script that a host outside drives, with its log.
+//! The two ends of a remote_bitbang connection. [`run_remote`] runs a script at a target behind OpenOCD's characters.
+//! [`read_target`] makes the target of a script for an external host, and [`write_log`] writes its log.
 #![tactic(auto)]
 
 mod clocked_probe;

@@ -1,4 +1,4 @@
-//! A script, run at a target behind OpenOCD's remote_bitbang characters.
+//! Runs a script at a target behind OpenOCD's remote_bitbang characters.
 ghost use Rattle.std.specs.Prelude.{◌≡◌};
 ghost use Rattle.swd_remote.specs.WholeRuns.{GoesOver, IsUnused};
 ghost use Rattle.swd_run.specs.Engine.{held};
@@ -14,21 +14,21 @@ use swd_run::{EngineFault, Finished, run_batches};
 use swd_script::{ScriptFault, read_script};
 use thiserror::Error;
 
-/// Why a script was not run at a target elsewhere, or not told.
+/// The error of a script's run at a remote target.
 #[derive(Clone, Copy, Debug, PartialEq, Eq, Error)]
 pub enum RemoteFault {
-    /// The script is at fault.
+    /// The script is invalid.
     #[error("script {0}")]
     Script(ScriptFault),
     /// The script's reader failed.
     #[error("read failed")]
     Read,
-    /// The script was not run, or not told.
+    /// The script wasn't run to its end, or not all output was written.
     #[error(transparent)]
     Engine(EngineFault),
 }
 
-// The fault of a script that was not read.
+// Returns the error of a script that wasn't read.
 fn script_fault(unread: Unread<ScriptFault>) -> RemoteFault
     ensures { result ≡ script_fault_of unread }
 {
@@ -38,20 +38,19 @@ fn script_fault(unread: Unread<ScriptFault>) -> RemoteFault
     }
 }
 
-/// Reads a script, runs its calls by `swd_run::run_batches` at the target behind a server of remote_bitbang
-/// characters, with their report, and their trace where one is wanted, and then says that the host is done. The
-/// script's memory and room mean nothing there. The line is handed back, and tells why the other end is gone, where
-/// it is.
+/// Reads a script, and runs its calls by `swd_run::run_batches` at the target behind a remote_bitbang server. Writes
+/// their reports, and the trace if there is a writer for it. Then sends `Q`. The script's memory and log capacity are
+/// ignored. Returns the connection too, with the error that ended it, if any.
 ///
-/// Whatever comes back, the run ends; and of every story of a port machine that the replies fit the report
-/// tells the truth. The bytes that went out are exactly the characters of the calls that the report is of, and
-/// as many are read as levels were asked for, up to the first fault; each is sent where an answer is needed.
-/// Nothing is sent after the other end went away, and the report has what is sure.
+/// Whatever comes back, the run ends unless the connection blocks, and its report matches the calls that were made. For
+/// every story with which the replies are consistent, the report is as `run_batches` promises. Up to the first I/O
+/// error, exactly the characters of these calls and `Q` are sent, and exactly the levels that they ask for are read.
+/// Nothing is sent after that error.
 ///
 /// # Errors
 ///
-/// `Script` for the first fault of the script, `Read` where its reader failed, or memory was refused for the
-/// accesses: the line wasn't used then. `Engine` as `run_batches` has it.
+/// Returns `Script` for the first error of the script, or if out of memory for its accesses. Returns `Read` if its
+/// reader failed. The connection wasn't used in these cases. Returns `Engine` as `run_batches` does.
 pub fn run_remote<P: Story, S: Read, R: Read, W: Write, O: Write, T: Write, A: Allocator + Copy>(
     alloc: A,
     script: &mut S,

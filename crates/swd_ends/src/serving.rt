@@ -1,4 +1,4 @@
-//! A script and a plan, to the simulated target that a host outside drives.
+//! Makes the simulated target of a script and a plan for an external host.
 ghost use Rattle.std.specs.Prelude.{◌≡◌, ◌↔◌, true, map, IfOk, IfErr};
 ghost use Rattle.swd_script.specs.Readers.{listed};
 ghost use Rattle.swd_ends.specs.Serving.{IsBare, IsTargetFault, Simulates};
@@ -10,26 +10,25 @@ use swd_clocked::MarkedClocked;
 use swd_run::{QUIRKS, Texts, TextsFault, read_texts, zero_memory};
 use swd_script::Batch;
 
-/// Why there is no target to serve.
+/// The error of making a target to serve.
 #[derive(Clone, Copy, Debug, PartialEq, Eq, Drop)]
 pub enum TargetFault {
-    /// The script and the plan were not read.
+    /// The script or the plan wasn't read.
     Texts(TextsFault),
-    /// Memory was refused.
+    /// Out of memory.
     Memory,
-    /// The script has accesses, or further calls: a target has those of its host alone.
+    /// The script has accesses or further calls. A target performs only those of its host.
     Accesses,
 }
 
-/// Reads a script and a plan, and makes the pins of a host that has moved none, at the simulated
-/// target that they describe: its memory has the script's words, all zero, and its requests meet the
-/// plan's marks. What goes over the line is kept in the trace.
+/// Reads a script and a plan, and returns the pins of the simulated target that they describe, before the host moved
+/// any. The target's memory has the script's words, all zero, and its requests use the plan's marks. The pins record
+/// in `trace`.
 ///
 /// # Errors
 ///
-/// `Texts` for the first fault of these texts, the script's before the plan's, and where a reader failed.
-/// `Accesses` where the script has accesses, or further calls. `Memory` where memory was refused for the
-/// target's.
+/// Returns `Texts` for the first error of the script or, if the script is valid, of the plan, or if a reader failed.
+/// Returns `Accesses` if the script has accesses or further calls, and `Memory` if out of memory for the target.
 pub fn read_target<S: Read, P: Read, A: Allocator + Copy>(
     alloc: A,
     script: &mut S,
@@ -53,7 +52,7 @@ pub fn read_target<S: Read, P: Read, A: Allocator + Copy>(
     Ok(Pins::new(target, trace))
 }
 
-// Whether there is one call alone, without an access.
+// Returns whether there is exactly one call, without accesses.
 fn is_bare<A: Allocator>(batches: &[Batch<A>]) -> bool
     ensures { (result ≡ true) ↔ IsBare (map listed batches.now) }
 {

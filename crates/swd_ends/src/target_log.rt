@@ -1,4 +1,4 @@
-//! What a target did that was served, as text.
+//! The log of a served target as text.
 ghost use Rattle.std.specs.Prelude.{◌≡◌, ◌≤◌, ℕ, List, ◌++◌, Option};
 ghost use Rattle.arrayvec.specs.ArrayString.{array_string_len};
 ghost use Rattle.swd_io.specs.Blocks.{Sends, Writes};
@@ -15,7 +15,7 @@ use swd_port::Transfer;
 // A line of a log.
 type LogLine = ArrayString<64>;
 
-// The line of a transfer, without its end: as `w 20000000 deadbeef`.
+// Returns the line of a transfer without its line feed, such as `w 20000000 deadbeef`.
 fn transfer_line(transfer: &Transfer) -> LogLine
     ensures bytes { result.bytes ≡ transfer_line transfer.now }
     ensures len { array_string_len result ≤ 64 }
@@ -28,7 +28,7 @@ fn transfer_line(transfer: &Transfer) -> LogLine
     text
 }
 
-// The last line, without its end: as `cycles 552 requests 16`.
+// Returns the last line without its line feed, such as `cycles 552 requests 16`.
 fn counts_line(cycles: u64, requests: u64) -> LogLine
     ensures bytes { result.bytes ≡ counts_line cycles requests }
     ensures len { array_string_len result ≤ 64 }
@@ -42,7 +42,7 @@ fn counts_line(cycles: u64, requests: u64) -> LogLine
     text
 }
 
-// The lines of these transfers are under way, too.
+// Also queues the lines of these transfers.
 fn put_transfers<W: Write>(block: &mut Block<'_, W>, transfers: &[Transfer])
     ensures sends { (start : Option (List ℕ)) (all : List ℕ) → Sends W.contents start block.old all
         → Sends W.contents start block.new (all ++ transfer_lines transfers.now) }
@@ -53,7 +53,7 @@ fn put_transfers<W: Write>(block: &mut Block<'_, W>, transfers: &[Transfer])
     }
 }
 
-// The log of a target is under way, too.
+// Also queues the log of a target.
 fn put_log<W: Write, A: Allocator>(block: &mut Block<'_, W>, target: &MarkedClocked<A>)
     ensures sends { (start : Option (List ℕ)) (all : List ℕ) → Sends W.contents start block.old all
         → Sends W.contents start block.new (all ++ log_of target.now) }
@@ -64,13 +64,13 @@ fn put_log<W: Write, A: Allocator>(block: &mut Block<'_, W>, target: &MarkedCloc
     block.put_line(counts.as_str().as_bytes());
 }
 
-/// Writes what a target did: a line for each transfer that took effect, and one with the numbers of
-/// its cycles and its requests, each at most 2^64 - 1. It takes no memory.
+/// Writes the log of a target: a line for each transfer that took effect, and one with the numbers of its cycles and
+/// requests. These two are at most 2^64 - 1. Allocates no memory.
 ///
 /// # Errors
 ///
-/// How many bytes of the text went out, where the writer failed or took no bytes: exactly its first
-/// ones. Nothing is tried again.
+/// If the writer failed or took no bytes: how many bytes of the log were written, at most 2^64 - 1. They are exactly
+/// its first ones. Nothing is retried.
 pub fn write_log<W: Write, A: Allocator>(
     writer: &mut W,
     target: &MarkedClocked<A>,

@@ -1,4 +1,4 @@
--- What the engine's answer says of a script's calls over a wire, of their report, and of their trace.
+-- What the engine's result states about a script's calls over a wire, their reports, and their trace.
 use Rattle.std.specs.Prelude.{◌≡◌, ℕ, ◌≤◌, ◌↔◌, ◌⊎◌, Bool, true, false, List, [], ◌∷◌, ◌++◌, length, take, drop, is_some}
 use Rattle.std.specs.Prelude.{Option, None, Some, Result, Ok, Err}
 use Rattle.std.specs.Io.KnownBytes.{Appends}
@@ -22,14 +22,15 @@ use Rattle.swd_run.specs.Sessions.{AreDone, Done, IsRefused, Runs, ended_of, mos
 use Rattle.swd_run.specs.Verified.{first_difference, met_bus_fault}
 
 -- WHAT RAN
--- Runs of the first ones of these batches over a wire, from one state of it to another, each but the last one ended all.
--- Whatever came back, their reports close; and where it is lawful, they are those of the theorem of a run.
+-- Runs of the first of these batches over a wire, from its state `start` to `end`. Each run but the last ended `All`.
+-- Whatever came back, `Closes` or `Continues` holds of each call. Where the wire is lawful, the theorem of `run` or
+-- `resume` holds too.
 pub record Ran {W : Type 0} (port : W → Port) (plan : W → List Mark) (lawful : W → Type 0) (tries resumes : ℕ)
     (batches : List Listed) (start end : W) : Type 0 where
   pub runs : List Done
   pub are : Runs port plan lawful most_begun tries resumes start (take (length runs) batches) runs end
 
--- Such runs, each of which ended all, and then the one for which memory was refused.
+-- Such runs, each of which ended `All`, and then one that ran out of memory.
 pub record RanShort {W : Type 0} (port : W → Port) (plan : W → List Mark) (lawful : W → Type 0) (tries resumes : ℕ)
     (batches : List Listed) (start end : W) : Type 0 where
   pub between : W
@@ -40,13 +41,13 @@ pub record RanShort {W : Type 0} (port : W → Port) (plan : W → List Mark) (l
   pub next : drop (length before.runs) batches ≡ batch ∷ later
   pub refused : IsRefused port plan lawful (most_begun batch) tries resumes batch between end
 
--- A wire counts its requests itself; where a trace is wanted, they are counted from 0. So a count stands beside the wire.
+-- The port of a wire beside a count of requests. If there is a trace, this count replaces the wire's own.
 abbrev pub port_seen : {W : Type 0} → Bool → (W → Port) → ℕ × W → Port
 port_seen false port seen = port seen.1
 port_seen true port seen = with_asked seen.0 (port seen.1)
 
--- how the last run ended, the first read that gave another word than the script tells, and whether an access was
--- answered by a bus error; and the room that is used up at the target, where that is known
+-- The end of the last run, the first `verify` read whose answer wasn't the expected word, and whether an access was a
+-- bus error. And the capacity of the target's log, if it is known and the log is full.
 pub record IsFinished (batches : List Listed) (runs : List Done) (used : Option ℕ) (finished : Finished) : Type 0 where
   pub ended : finished.ended ≡ ended_of runs
   pub differs : finished.differs ≡ first_difference batches runs
@@ -54,32 +55,31 @@ pub record IsFinished (batches : List Listed) (runs : List Done) (used : Option 
   pub full : finished.full ≡ used
 
 -- THEIR TRACE
--- items that their own bits are read as
+-- items whose bits decode to the same items
 abbrev pub AreItems : List Item → Type 0
 AreItems items = reading_of (bits_of_items items) ≡ items
 
--- The whole trace of runs that sent so many requests: a transaction for each, the last of all items one without an
--- acknowledgement exactly where the last run was lost.
+-- The complete trace of runs that sent `requests` requests, with one transaction for each. Its last item is a
+-- transaction without acknowledgement exactly if the last run ended `Lost`.
 pub record IsTraceOf (requests : ℕ) (ended : End) (items : List Item) : Type 0 where
   pub read : AreItems items
   pub counted : transactions items ≡ requests
   pub lost : EndsUnacknowledged items ↔ (ended ≡ Lost)
 
--- Items of the trace of runs, of which the last ones may be missing where memory was refused: they are read as they
--- stand, and are no more transactions than requests that were sent.
+-- The items of a truncated trace of runs that sent `requests` requests: they have at most one transaction for each.
 pub record IsOfTrace (requests : ℕ) (items : List Item) : Type 0 where
   pub read : AreItems items
   pub counted : transactions items ≤ requests
 
 module _ {W : Type 0} {port : W → Port} {plan : W → List Mark} {lawful : W → Type 0} {tries resumes : ℕ}
     {batches : List Listed} {start end : W} (ran : Ran port plan lawful tries resumes batches start end) where
-  -- Items that their own bits are read as. Where what came back is lawful, and the other end was at rest, they are the
-  -- whole trace of what ran.
+  -- Items whose bits decode to the same items. If the wire is lawful and the target was at rest, they are the complete
+  -- trace of what ran.
   pub record IsTraceOver (items : List Item) : Type 0 where
     pub read : AreItems items
     pub whole : lawful end → IsAtRest (port start) → IsTraceOf (requests_of ran.runs) (ended_of ran.runs) items
 
-  -- so it is of a trace whose last items may be missing
+  -- the same for a truncated trace
   pub record IsOfTraceOver (items : List Item) : Type 0 where
     pub read : AreItems items
     pub part : lawful end → IsAtRest (port start) → IsOfTrace (requests_of ran.runs) items
@@ -89,19 +89,19 @@ module _ {W : Type 0} {port : W → Port} {plan : W → List Mark} {lawful : W �
 abbrev pub IsLeft : Option (List ℕ) → Option (List ℕ) → Type 0
 IsLeft old new = Appends old new []
 
--- what the trace's writer holds, where there is one
+-- the contents of the trace's writer, if there is one
 abbrev pub held : {T : Type 0} → (T → Option (List ℕ)) → Option T → Option (Option (List ℕ))
 held contents None = None
 held contents (Some writer) = Some (contents writer)
 
--- where there is a writer of the trace it stays, and this holds of what it holds before and after
+-- P holds of the contents of the trace's writer before and after, if there is one
 abbrev pub ForTrace : (Option (List ℕ) → Option (List ℕ) → Type 0) → Option (Option (List ℕ))
     → Option (Option (List ℕ)) → Type 0
 ForTrace P None after = after ≡ None
 ForTrace P (Some old) after = (new : Option (List ℕ)) × (after ≡ Some new) × P old new
 
--- The reports of all of these runs but the last one went out whole, and exactly the first bytes of the last one's, but
--- not all; as many in all as are told.
+-- Exactly the first bytes of these runs' reports were written: all of the earlier reports, and not all of the last one.
+-- `written` is their number, at most 2^64 - 1.
 pub record StopsInLast (written : ℕ) (old new : Option (List ℕ)) (batches : List Listed) (runs : List Done) : Type 0
   where
     pub earlier : List Done
@@ -110,11 +110,11 @@ pub record StopsInLast (written : ℕ) (old new : Option (List ℕ)) (batches : 
     pub stopped : Stopped written old new (session_text batches runs)
     pub past : length (session_text batches earlier) ≤ stopped.sent
 
--- THE ANSWER
--- What an answer says of the batches and of what the report's writer holds before and after, and that of the trace,
--- where there is one. `Came` is what ran, `runs` are its runs; which items are its trace, whole or without its last
--- ones, stands beside. `Short` is what ran where memory was refused, `before` are the runs before the one for which it
--- was. The report of a run is written once it ended, and no other run begins where it isn't; the trace is written last.
+-- THE RESULT
+-- What a result states about the batches, and about the contents of the writers of the report and of the trace before
+-- and after. `Came` is what ran, and `runs` gives its runs. `IsWhole` and `IsPart` say which items are its complete or
+-- truncated trace. `Short` is what ran if memory ran out, and `runs_before` gives the runs before the one without
+-- memory. If a report couldn't be written, its run is the last one. If the trace couldn't be written, all reports were.
 module _ {Came Short : Type 0} (batches : List Listed) (used : Option ℕ) (runs : Came → List Done)
     (runs_before : Short → List Done) (IsWhole IsPart : Came → List Item → Type 0) where
   abbrev pub Answers : Result Finished EngineFault → Option (List ℕ) → Option (List ℕ) → Option (Option (List ℕ))
@@ -138,7 +138,7 @@ module _ {Came Short : Type 0} (batches : List Listed) (used : Option ℕ) (runs
       × ForTrace (λ start now. (items : List Item) × IsPart came items × Appends start now (trace_text items))
       before after
 
--- so it is over a wire, of whose room nothing is known
+-- the same over a wire, where no log's capacity is known
 abbrev pub AnswersOver : {W : Type 0} → (W → Port) → (W → List Mark) → (W → Type 0) → ℕ → ℕ → List Listed → W → W
     → Result Finished EngineFault → Option (List ℕ) → Option (List ℕ) → Option (Option (List ℕ))
     → Option (Option (List ℕ)) → Type 0
@@ -147,7 +147,7 @@ AnswersOver port plan lawful tries resumes batches start end answer old new befo
     {Short = RanShort port plan lawful tries resumes batches start end} batches None (λ ran. ran.runs)
     (λ short. short.before.runs) IsTraceOver IsOfTraceOver answer old new before after
 
--- and over one whose requests are counted by itself, or from 0 where a trace is wanted
+-- the same over a wire that counts its requests itself, or from 0 if there is a trace
 abbrev pub AnswersAt : {W : Type 0} → (W → Port) → (W → List Mark) → (W → Type 0) → ℕ → ℕ → List Listed → W → W
     → Result Finished EngineFault → Option (List ℕ) → Option (List ℕ) → Option (Option (List ℕ))
     → Option (Option (List ℕ)) → Type 0
@@ -156,7 +156,7 @@ AnswersAt port plan lawful tries resumes batches start end answer old new before
     × AnswersOver (port_seen (is_some before) port) (λ seen. plan seen.1) (λ seen. lawful seen.1) tries resumes batches
     (0, start) (counted, end) answer old new before after
 
--- the trace was written after the report, whole or without its last items, or its first bytes
+-- the trace was written, complete or truncated, or only its first bytes were
 pub data TellsTrace (finished : Finished) (cut : Bool) (items : List Item) (old new : Option (List ℕ))
     : Result Finished EngineFault → Type 0 where
   whole : cut ≡ false → Appends old new (trace_text items) → TellsTrace finished cut items old new (Ok finished)

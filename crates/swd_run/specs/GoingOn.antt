@@ -1,4 +1,4 @@
--- A run that was resumed at lost acknowledgements: its calls, and what they tell together.
+-- A run that was resumed after lost acknowledgements: its calls, and what their reports state together.
 use Rattle.std.specs.Prelude.{ℕ, ◌≡◌, ◌≢◌, ◌+◌, ◌-◌, ◌≤◌, List, [], ◌∷◌, ◌++◌, length, take, min, max, if◌then◌else◌}
 use Rattle.swd_port.specs.declared.access.Access.{Access}
 use Rattle.swd_port.specs.declared.mark.Mark.{Mark}
@@ -13,7 +13,7 @@ use Rattle.swd_host.specs.Resuming.{is_all}
 use Rattle.swd_host.specs.Chains.{Chain, AreReads}
 use Rattle.swd_run.specs.declared.going_on.Stop.{Stop}
 
--- where a call ended that told this
+-- the place where a call with this report ended
 abbrev pub stop_of : Told → Stop
 stop_of told = record { answered = length told.answers; begun = told.begun; requests = told.requests }
 
@@ -21,19 +21,19 @@ abbrev pub stops_of : List Told → List Stop
 stops_of [] = []
 stops_of (told ∷ calls) = stop_of told ∷ stops_of calls
 
--- the requests of the calls before the last one
+-- the number of requests of the calls before the last one
 abbrev pub requests_before : List Stop → ℕ
 requests_before [] = 0
 requests_before (stop ∷ stops) = stop.requests + requests_before stops
 
--- what the last call told, with the requests of all calls
+-- the last call's report, with the requests of all calls
 abbrev pub in_all : List Stop → Told → Told
 in_all stops told = record told { requests = requests_before stops + told.requests }
 
 -- THE CALLS
--- A run over a wire and the calls of `resume` after it, each of them at a lost acknowledgement: from the wire s to the
--- wire t, with the places where it was resumed, and with what the last call told. Whatever came back, each call closes;
--- and where it was lawful, it fits.
+-- A run over a wire from s to t, and the calls of `resume` after it, each after a lost acknowledgement. Its arguments
+-- are the places where it was resumed, and the report of the last call. Whatever came back, `Closes` or `Continues`
+-- holds of each call. Where the wire is lawful, the theorem of `run` or `resume` holds too.
 pub data Went {W : Type 0} (port : W → Port) (plan : W → List Mark) (lawful : W → Type 0) (limit : ℕ)
     (list : List Access)
     (tries : ℕ) (s : W) : List Stop → Told → W → Type 0 where
@@ -46,26 +46,25 @@ pub data Went {W : Type 0} (port : W → Port) (plan : W → List Mark) (lawful 
       → (lawful u → lawful t × ResumesOver list tries earlier told (port t) (port u))
       → Went port plan lawful limit list tries s (stops ++ stop_of earlier ∷ []) told u
 
--- WHAT THEY TELL
--- One call of a run over n accesses: after so many answers of the calls before it, which left so many accesses begun
--- that aren't answered, it came to so many answers, with so many accesses begun that aren't answered, and sent so many
--- requests.
+-- WHAT THEY REPORT
+-- One call of a run over n accesses. The calls before it gave `from` answers, and left `left` accesses begun. After it
+-- there are `answered` answers in all, and `begun` accesses begun. It sent `requests` requests.
 pub record IsCall (spare limit tries n from left answered begun requests : ℕ) (ended : End) : Type 0 where
   pub grows : from ≤ answered
   pub number : answered ≤ n
   pub whole : ended ≡ All → answered ≡ n
-  -- so many it began itself
+  -- how many unanswered accesses it began itself
   pub own : ℕ
   pub few : own ≤ limit
-  -- what the calls before it began stays so until it is answered
+  -- accesses that earlier calls began stay begun until they are answered
   pub unanswered : begun ≡ if is_all ended then 0 else max own (left - (answered - from))
-  -- an access is begun only once its requests were sent: nine of the opening, one of TAR, and one for each access
+  -- if it began unanswered accesses: at least ten requests, and one for each access that it answered or began
   pub begins : own ≢ 0 → 10 + (answered - from) + own ≤ requests
-  -- no more than its tries allow, whatever the plan: no access took requests but those that it answered and the next
+  -- at most what the tries allow for the opening, for the accesses that it answered, and for one more
   pub spends : requests ≤ spare + most_requests tries (min (n - from) (answered - from + 1))
 
--- The calls one after the other. Beside what the opening of a run may take, going on may take five requests more, and
--- it begins one access at most that it doesn't answer.
+-- The successive calls. A call that resumes may take five more requests than a run. It begins at most one access that
+-- it doesn't answer.
 abbrev pub AreCalls : (spare limit tries n from left : ℕ) → List Stop → Told → Type 0
 AreCalls spare limit tries n from left [] told =
     IsCall spare limit tries n from left (length told.answers) told.begun told.requests told.ended
@@ -73,7 +72,7 @@ AreCalls spare limit tries n from left (stop ∷ stops) told =
     IsCall spare limit tries n from left stop.answered stop.begun stop.requests Lost
     × AreCalls 5 1 tries n stop.answered stop.begun stops told
 
--- what the first call told: how many answers, and how many accesses after these were begun
+-- the first call's number of answers, and of accesses begun after these
 abbrev pub answered_first : List Stop → Told → ℕ
 answered_first [] told = length told.answers
 answered_first (stop ∷ stops) told = stop.answered
@@ -82,8 +81,8 @@ abbrev pub begun_first : List Stop → Told → ℕ
 begun_first [] told = told.begun
 begun_first (stop ∷ stops) told = stop.begun
 
--- Each call is a run over the rest of the list, from the memory that the one before left: what they told, and the memory
--- that the last one left.
+-- The reports of the calls, where each call is a run over the rest of the list from the memory that the one before
+-- left. The last call left `memory`, which is `after` if the list is whole.
 pub record ToldInTurn (limit : ℕ) (stops : List Stop) (list : List Access) (m : PlainMemory) (told : Told)
     (after : PlainMemory) : Type 0 where
   pub calls : List Told
@@ -92,8 +91,8 @@ pub record ToldInTurn (limit : ℕ) (stops : List Stop) (list : List Access) (m 
   pub chain : Chain limit list m calls told memory
   pub left : told.ended ≡ All → memory ≡ after
 
--- The report is told of the memory, where the accesses at some places were done once more: at most one of them for each
--- time that the run was resumed. A whole list leaves the words that it leaves where it is done once, and that memory.
+-- The report is that of `Again`: the accesses at some places were repeated, at most one for each time that the run was
+-- resumed. A whole list leaves the memory `after`, which has the same words as without repetitions.
 pub record ToldAgain (stops : List Stop) (list : List Access) (m : PlainMemory) (told : Told) (after : PlainMemory)
     : Type 0 where
   pub places : List ℕ
@@ -103,17 +102,17 @@ pub record ToldAgain (stops : List Stop) (list : List Access) (m : PlainMemory) 
   pub left : told.ended ≡ All → memory ≡ after
   pub words : told.ended ≡ All → after.words ≡ (memory_after list m).words
 
--- A list of reads, as a block is: the answers are the plain memory's where the log has room for the reads that may have
--- been done once more, and no word changes.
+-- A list of reads, such as a block. The answers are the plain memory's, if the log has room for the reads that may have
+-- been repeated. A whole list changes no word.
 pub record ToldReads (limit : ℕ) (stops : List Stop) (list : List Access) (m : PlainMemory) (told : Told)
     (after : PlainMemory) : Type 0 where
   pub answers : length (memory_after list m).log + limit + (length stops - 1) ≤ m.room
       → told.answers ≡ answers_of (take (length told.answers) list) m
   pub words : told.ended ≡ All → after.words ≡ m.words
 
--- What the calls over this memory tell, and what they leave. The answers of the first one are the plain memory's. So
--- are all answers of a list of reads; and those of a list with writes, of which the first call left one access begun at
--- most; both where the log has room for the accesses that are done once more.
+-- What the reports of the calls state about the plain memory. The first call's answers are the plain memory's. So are
+-- all answers of a list of reads, if the log has room for the repeated reads. And so are those of any list of which the
+-- first call left at most one access begun, if the log has room for the repeated accesses.
 pub record TellOf (limit tries : ℕ) (list : List Access) (m : PlainMemory) (stops : List Stop) (told : Told)
     (after : PlainMemory) : Type 0 where
   pub calls : AreCalls 0 limit tries (length list) 0 0 stops told

@@ -1,5 +1,5 @@
--- The report of a run: a line for each answer, one for each time that the run was resumed, and one for how it ended.
--- The text is this project's choice.
+-- The report of a run: a line for each answer, for each time that the run was resumed, and for the end. The format is
+-- this project's choice.
 use Rattle.std.specs.Prelude.{ℕ, ◌≡◌, ◌-◌, ◌^◌, min, List, [], ◌∷◌, ◌++◌, length, take, drop, codes, Option, Result, Ok}
 use Rattle.std.specs.Prelude.{Err}
 use Rattle.std.specs.Io.KnownBytes.{Appends}
@@ -26,15 +26,15 @@ answer_text (Value word) = hex8 word
 answer_text Written = codes "written"
 answer_text BusFault = codes "busfault"
 
--- the line of an answered access, without its end
+-- the line of an answered access, without its line feed
 abbrev pub answer_line : Access → Answer → List ℕ
 answer_line access answer = access_text access ++ codes " " ++ answer_text answer
 
--- how many accesses were answered, and how many were begun and not answered
+-- the number of accesses answered, and of those begun and not answered
 abbrev pub stop_text : ℕ → ℕ → List ℕ
 stop_text answered begun = decimal answered ++ codes " begun " ++ decimal begun
 
--- the line of how a run ended, without its end
+-- the line for the end of a run, without its line feed
 abbrev pub last_line : End → ℕ → ℕ → List ℕ
 last_line All answered begun = codes "end all " ++ decimal answered
 last_line Lost answered begun = codes "end lost " ++ stop_text answered begun
@@ -42,13 +42,13 @@ last_line TriesOut answered begun = codes "end tries " ++ stop_text answered beg
 last_line (WrongId word) answered begun = codes "end id " ++ hex8 word
 last_line Confused answered begun = codes "end confused " ++ stop_text answered begun
 
--- the text of each pair of items, one after the other, as far as both lists go
+-- the texts of the pairs of items, up to the end of the shorter list
 abbrev pub pair_texts : {X Y : Type 0} → (X → Y → List ℕ) → List X → List Y → List ℕ
 pair_texts text [] ys = []
 pair_texts text (x ∷ xs) [] = []
 pair_texts text (x ∷ xs) (y ∷ ys) = text x y ++ pair_texts text xs ys
 
--- the line of an answered access, with its end
+-- the line of an answered access, with its line feed
 abbrev pub answer_fed : Access → Answer → List ℕ
 answer_fed access answer = answer_line access answer ++ 10 ∷ []
 
@@ -56,22 +56,22 @@ answer_fed access answer = answer_line access answer ++ 10 ∷ []
 abbrev pub answer_lines : List Access → List Answer → List ℕ
 answer_lines accesses answers = pair_texts answer_fed accesses answers
 
--- the line of a place where the run was resumed, without its end
+-- the line of a place where the run was resumed, without its line feed
 abbrev pub resume_line : Stop → List ℕ
 resume_line stop = codes "resume " ++ stop_text stop.answered stop.begun
 
--- the lines of the answers from one place to another
+-- the lines of the answers from one index to another
 abbrev pub lines_between : ℕ → ℕ → List Access → List Answer → List ℕ
 lines_between i j accesses answers = answer_lines (drop i (take j accesses)) (drop i (take j answers))
 
--- the lines of the answers from a place on, with a line wherever the run was resumed
+-- the lines of the answers from an index on, with a line wherever the run was resumed
 abbrev pub lines_from : ℕ → List Stop → List Access → List Answer → List ℕ
 lines_from i [] accesses answers = answer_lines (drop i accesses) (drop i answers)
 lines_from i (stop ∷ stops) accesses answers =
     lines_between i stop.answered accesses answers
     ++ ((resume_line stop ++ 10 ∷ []) ++ lines_from stop.answered stops accesses answers)
 
--- the text of a report, over the accesses that were asked for
+-- the text of a report of these accesses
 abbrev pub report_text : List Access → List Stop → Told → List ℕ
 report_text accesses stops told =
     lines_from 0 stops accesses told.answers ++ (last_line told.ended (length told.answers) told.begun ++ 10 ∷ [])
@@ -80,16 +80,16 @@ report_text accesses stops told =
 abbrev pub run_report : Listed → Done → List ℕ
 run_report batch run = report_text batch.accesses run.stops run.told
 
--- the reports of its runs, one after the other
+-- the reports of a script's runs, one after the other
 abbrev pub session_text : List Listed → List Done → List ℕ
 session_text batches runs = pair_texts run_report batches runs
 
--- a writer that began with `start` has so many bytes of a text, all that there is; more than 2^64 - 1 are told as that
+-- The writer began with `start`, and all of the output was written. `told` is its number of bytes, at most 2^64 - 1.
 pub record HasWritten (start now : Option (List ℕ)) (all : List ℕ) (told : ℕ) : Type 0 where
   pub gone : Appends start now all
   pub count : told ≡ min (length all) (2 ^ 64 - 1)
 
--- so it is now, or exactly the first bytes of the text went out
+-- all of the output was written, or exactly its first bytes and not all
 abbrev pub WritesOn : Result ℕ ℕ → Option (List ℕ) → Option (List ℕ) → List ℕ → Type 0
 WritesOn (Ok told) start now all = HasWritten start now all told
 WritesOn (Err told) start now all = Stopped told start now all

@@ -1,4 +1,4 @@
--- What an answer to a script and a plan says: the theorem of the host, over texts.
+-- What the result for a script and a plan states: the theorem of the host, for files.
 use Rattle.std.specs.Prelude.{◌≡◌, ℕ, ◌+◌, ◌*◌, ◌<◌, ◌≤◌, List, [], ◌∷◌, ◌++◌, length, take, Option, Result, Ok, Err}
 use Rattle.std.specs.Prelude.{IfSome}
 use Rattle.std.specs.Prelude.{◌==◌, IsOk, None, Some, if◌then◌else◌, min}
@@ -27,11 +27,11 @@ use Rattle.swd_run.specs.Engine.{Answers, IsLeft, IsOfTrace, IsTraceOf, ForTrace
 use Rattle.swd_run.specs.GoingOn.{TellOf, in_all}
 use Rattle.swd_run.specs.Sessions.{Done, ended_of, most_begun, requests_of}
 
--- the memory of a script, before its run
+-- the memory of a script before its run
 abbrev pub memory_of : Meaning → PlainMemory
 memory_of script = zero_memory script.base script.words script.room
 
--- a run stops early only where the plan loses a request, or disturbs more than the tries allow
+-- a run stops early only if a mark of the plan loses a request, or more marks disturb requests than the tries allow
 abbrev pub IsExcused : End → ℕ → List Mark → Type 0
 IsExcused All tries marks = Unit {0}
 IsExcused Lost tries marks = 0 < lost_among marks
@@ -39,7 +39,7 @@ IsExcused TriesOut tries marks = tries < disturbed_among marks
 IsExcused (WrongId word) tries marks = ⊥
 IsExcused Confused tries marks = ⊥
 
--- What a run comes to over a memory under a plan. The report fits the memory before it, and that after it.
+-- The result of a run over a memory with the marks of a plan. The report fits the memories before and after it.
 pub record RunsAs (tries : ℕ) (batch : Listed) (before : PlainMemory) (marks : List Mark) (told : Told)
     (after : PlainMemory)
     : Type 0 where
@@ -48,13 +48,12 @@ pub record RunsAs (tries : ℕ) (batch : Listed) (before : PlainMemory) (marks :
   pub whole : lost_among marks ≡ 0 → disturbed_among marks ≤ tries → told.ended ≡ All
   pub least : told.ended ≡ All → 9 + length batch.accesses ≤ told.requests
   pub most : told.requests ≤ 9 + 6 * length batch.accesses + 5 * disturbed_among marks
-  -- no more than so many tries allow, whatever the plan: no access took requests but those that are answered and the
-  -- next
+  -- at most what the tries allow for the opening, for the answered accesses, and for one more
   pub spends : told.requests ≤ most_requests tries (min (length batch.accesses) (length told.answers + 1))
 
--- What a run comes to that may be resumed so many times. Where it never was, it comes to what a run does. Else its
--- calls tell of the memory before it; each place where it was resumed is a request that the plan lost; and it ends at
--- a lost acknowledgement only where the plan loses more requests than it may be resumed.
+-- The result of a run that may be resumed `resumes` times. If it wasn't resumed, `RunsAs` holds of it. `TellOf` holds
+-- of its calls in any case. It was resumed at most as often as marks of the plan lose a request. It ends at a lost
+-- acknowledgement only if more than `resumes` marks lose a request.
 pub record RunsOn (tries resumes : ℕ) (batch : Listed) (before : PlainMemory) (marks : List Mark) (stops : List Stop)
     (told : Told) (after : PlainMemory) : Type 0 where
   pub alone : stops ≡ [] → RunsAs tries batch before marks told after
@@ -64,12 +63,12 @@ pub record RunsOn (tries resumes : ℕ) (batch : Listed) (before : PlainMemory) 
   pub excused : IsExcused told.ended tries marks
   pub last : told.ended ≡ Lost → (length stops ≡ resumes) × (resumes < lost_among marks)
   pub whole : lost_among marks ≤ resumes → disturbed_among marks ≤ tries → told.ended ≡ All
-  -- the requests of all its calls
+  -- the requests of all calls
   pub most : (in_all stops told).requests ≤ 9 + 6 * length batch.accesses + 5 * disturbed_among marks
       + length stops * (14 + 6 * length batch.accesses + 5 * disturbed_among marks)
 
--- The runs of a script, one after the other over the plain memory: each comes to what `RunsOn` says of the memory that
--- the one before left, and begins only where that one ended all.
+-- The successive runs of a script over the plain memory. `RunsOn` holds of each run, from the memory that the one
+-- before left. A run starts only if the one before ended `All`.
 pub data Session (tries resumes : ℕ) (marks : List Mark) (m : PlainMemory) : List Listed → List Done → PlainMemory
     → Type 0 where
   none : Session tries resumes marks m [] [] m
@@ -78,22 +77,21 @@ pub data Session (tries resumes : ℕ) (marks : List Mark) (m : PlainMemory) : L
       → RunsOn tries resumes batch before marks run.stops run.told after
       → Session tries resumes marks m (batches ++ batch ∷ []) (runs ++ run ∷ []) after
 
--- The runs of the first calls of a script over a target that was just made with its memory, and the memory that they
--- left.
+-- The runs of a script's first calls from its initial memory, and the memory that they left.
 abbrev pub RunsScript : (tries resumes : ℕ) → Meaning → List Mark → List Done → PlainMemory → Type 0
 RunsScript tries resumes script marks runs memory =
     Session tries resumes marks (memory_of script) (take (length runs) script.batches) runs memory
 
--- the room of a memory, where its log is full: each later transfer is a bus error
+-- the capacity of a memory's log, if the log is full: each later transfer is a bus error
 abbrev pub full_room : ℕ → PlainMemory → Option ℕ
 full_room room memory = if length memory.log == room then Some room else None
 
--- an answer with the room that is used up
+-- a result with the capacity of the full log
 abbrev pub with_full : Option ℕ → Result Finished EngineFault → Result Finished EngineFault
 with_full used (Ok finished) = Ok (record finished { full = used })
 with_full used (Err fault) = Err fault
 
--- the readers' texts are a script and a plan with these meanings
+-- the inputs are a script with this meaning, and a plan with these marks
 pub record AreRead (script plan : Option (List ℕ)) (meaning : Meaning) (marks : List Mark) : Type 0 where
   pub script_text : List ℕ
   pub is_script : IsText script script_text
@@ -102,19 +100,19 @@ pub record AreRead (script plan : Option (List ℕ)) (meaning : Meaning) (marks 
   pub is_plan : IsText plan plan_text
   pub plans : plan_of plan_text ≡ Ok marks
 
--- the runs of a script over a target that was just made
+-- the runs of a script from its initial memory
 pub record RanScript (tries resumes : ℕ) (script : Meaning) (marks : List Mark) (memory : PlainMemory) : Type 0 where
   pub runs : List Done
   pub are : RunsScript tries resumes script marks runs memory
 
--- such runs, each of which ended all, before one for which memory was refused
+-- such runs, each of which ended `All`, before one that ran out of memory
 pub record RanScriptShort (tries resumes : ℕ) (script : Meaning) (marks : List Mark) : Type 0 where
   pub runs : List Done
   pub memory : PlainMemory
   pub are : RunsScript tries resumes script marks runs memory
   pub all : ended_of runs ≡ All
 
--- What the engine's answer says of a script over a target that was just made, which is left with this memory.
+-- What the engine's result states about a script over a new target, and some memory that it is left with.
 abbrev pub AnswersScript : ℕ → ℕ → Meaning → List Mark → Result Finished EngineFault → Option (List ℕ)
     → Option (List ℕ) → Option (Option (List ℕ)) → Option (Option (List ℕ)) → Type 0
 AnswersScript tries resumes script marks answer old new before after =
@@ -124,7 +122,7 @@ AnswersScript tries resumes script marks answer old new before after =
     (λ ran items. IsTraceOf (requests_of ran.runs) (ended_of ran.runs) items)
     (λ ran items. IsOfTrace (requests_of ran.runs) items) answer old new before after
 
--- the readers' texts were read, and this is what came of them
+-- the inputs were read, and the engine gave this result
 pub record RanText (tries resumes : ℕ) (answer : Result Finished EngineFault) (script plan old new : Option (List ℕ))
     (before after : Option (Option (List ℕ))) : Type 0 where
   pub meaning : Meaning
@@ -132,21 +130,22 @@ pub record RanText (tries resumes : ℕ) (answer : Result Finished EngineFault) 
   pub read : AreRead script plan meaning marks
   pub answers : AnswersScript tries resumes meaning marks answer old new before after
 
--- the text, where it is known, is a script, or a plan
+-- the input, if it is known, is a valid script, or a valid plan
 abbrev pub IsScript : Option (List ℕ) → Type 0
 IsScript known = IfSome known (λ text. IsOk (script_of text))
 
 abbrev pub IsPlan : Option (List ℕ) → Type 0
 IsPlan known = IfSome known (λ text. IsOk (plan_of text))
 
--- why the texts were not read: the first fault of the script, or of the plan of a good script, or a reader failed
+-- why the inputs weren't read: the first error of the script, or of the plan after a valid script; nothing is stated
+-- about a reader that failed
 abbrev pub AreUnread : TextsFault → Option (List ℕ) → Option (List ℕ) → Type 0
 AreUnread (Script fault) script plan = IfSome script (IsScriptFault fault)
 AreUnread (Plan fault) script plan = IsScript script × IfSome plan (IsPlanFault fault)
 AreUnread Read script plan = Unit {0}
 
--- What an answer says of the readers' texts, where their bytes are known, of what the report's writer holds before and
--- after, and that of the trace, where there is one.
+-- What a result states about the inputs, if their bytes are known, and about the contents of the writers before and
+-- after.
 abbrev pub RunsText : ℕ → ℕ → Result Finished RunFault → Option (List ℕ) → Option (List ℕ) → Option (List ℕ)
     → Option (List ℕ) → Option (Option (List ℕ)) → Option (Option (List ℕ)) → Type 0
 RunsText tries resumes (Ok finished) script plan old new before after =
@@ -156,7 +155,7 @@ RunsText tries resumes (Err (Engine fault)) script plan old new before after =
 RunsText tries resumes (Err (Texts fault)) script plan old new before after =
     AreUnread fault script plan × IsLeft old new × ForTrace IsLeft before after
 
--- a fault of a script, or of its reader
+-- the error of a script that wasn't read
 abbrev pub script_fault : Unread ScriptFault → TextsFault
 script_fault Reader = Read
 script_fault (Consumer fault) = Script fault

@@ -1,4 +1,4 @@
-//! The engine of a script's run over any wire: its calls, their report, and the trace where one is wanted.
+//! Runs the calls of a script over any wire, and writes their reports and their trace.
 ghost use Rattle.std.specs.Prelude.{◌≡◌, All as Each, List, [], ◌∷◌, ◌++◌, None, Some, length, map};
 ghost use Rattle.swd_port.specs.declared.wire.Due.TheVariants.{Nothing};
 ghost use Rattle.swd_trace.specs.Listed.{AreLegal};
@@ -22,22 +22,22 @@ use swd_script::Batch;
 use swd_text::write_items;
 use swd_trace::Item;
 
-/// How a script's run came out.
+/// The result of a script's run.
 #[derive(Clone, Copy, Debug, PartialEq, Eq)]
 pub struct Finished {
-    /// How the last of its calls ended.
+    /// The end of its last call.
     pub ended: End,
-    /// The first read that gave another word than the script tells.
+    /// The first `verify` read whose answer wasn't the expected word.
     pub differs: Option<Difference>,
-    /// Whether an access was answered by a bus error.
+    /// Whether an access was a bus error.
     pub bus_fault: bool,
-    /// The room of the simulated target, in transfers, where its log is full: each later transfer is a bus error.
-    /// `None` at any other target.
+    /// The capacity of the simulated target's log in transfers, if the log is full, so that each later transfer is a
+    /// bus error. `None` over any other wire.
     pub full: Option<u32>,
 }
 
 impl Finished {
-    // No run yet.
+    // The result before any run.
     const NONE: Finished = Finished {
         ended: End::All,
         differs: None,
@@ -45,7 +45,7 @@ impl Finished {
         full: None,
     };
 
-    // How the runs came out with this one, the last.
+    // Returns the result with this run as the last one.
     fn and<A: Allocator>(self, batch: &Batch<A>, run: &Resumed<A>) -> Finished
         ensures ended { result.ended ≡ (done_of run.now).told.ended }
         ensures finished { (batches : List Listed) (runs : List Done) → length runs ≡ length batches
@@ -63,7 +63,7 @@ impl Finished {
     }
 }
 
-// Runs the batches over a wire, as long as each is done whole, and writes the report of each once it ended.
+// Runs the batches over a wire, up to the first that doesn't end `All`. Writes the report of each when it ends.
 fn run_reported<W: Wire, O: Write, A: Allocator + Copy>(
     alloc: A,
     wire: &mut W,
@@ -99,7 +99,7 @@ fn run_reported<W: Wire, O: Write, A: Allocator + Copy>(
     Ok(finished)
 }
 
-// Writes the trace of these items, of which the last ones were cut off or not, for a run that came out so.
+// Writes the trace of these items. Returns `finished`, or `TraceCut` if `cut`: the items are truncated.
 fn write_trace<T: Write>(
     trace: &mut T,
     items: &[Item],
@@ -119,7 +119,7 @@ fn write_trace<T: Write>(
     }
 }
 
-// Runs the batches over a wire that is recorded from its start, and writes the report of each, and then their trace.
+// Runs the batches over a wire that is recorded, and writes their reports and then the trace.
 fn run_traced<W: Wire, O: Write, T: Write, A: Allocator + Copy>(
     alloc: A,
     recorder: &mut Recorder<W, A>,
@@ -143,28 +143,32 @@ fn run_traced<W: Wire, O: Write, T: Write, A: Allocator + Copy>(
     }
 }
 
-/// Runs the calls of a script one after the other over a wire on which nothing is due, as long as each is done
-/// whole, and writes the report of each once it ended, before the first bit of the next. Then, where a trace's writer
-/// is passed, it writes the trace of what went over the wire. Hands the wire back.
+/// Runs the calls of a script in order over a wire on which nothing is due, up to the first that doesn't end `All`.
+/// Writes the report of each call before the next one starts. Then writes the trace, if there is a writer for it.
+/// Returns the wire too.
 ///
-/// Each access, or each opening, may meet as many events as `tries`. Where an acknowledgement is lost the call goes
-/// on by `swd_host::resume`, at most `resumes` times, and the report has a line there. Memory is taken for the
-/// answers of each call before its first bit is sent, and then each time that it is resumed.
+/// `tries` is the number of events that the opening, and each access, may meet. After a lost acknowledgement a call
+/// continues by `swd_host::resume`, at most `resumes` times. The report has a line for each time. The answers of a call
+/// are allocated before it starts, and again each time that it is resumed.
 ///
-/// The trace is the trace text of the items, one line an item, the ones and zeros of each opening among them. A word
-/// that arrived damaged stands there as it arrived, one that was sent as it was sent. Memory is taken for the items
-/// while the run goes on: it changes nothing in the run whether that is refused. Where no trace is wanted no item is
-/// kept.
+/// The trace has the items that a `swd_recorder::Recorder` keeps, as bits in characters, one item a line. These bits
+/// decode to the same items. If the target conforms to the model and was at rest, a trace that isn't truncated has one
+/// transaction for each request. Its last item is then a transaction without acknowledgement exactly if the last call
+/// ended `Lost`. If an allocation for an item fails, the run continues. Without a writer no items are kept.
 ///
 /// # Errors
 ///
-/// `Memory` where memory was refused for a call's answers, also where it was to be resumed: the report of the calls
-/// before it stands whole, nothing of its own was written, and no other call was made. `Write` where the report's
-/// writer failed, or took no bytes, in the lines of a call: exactly the first `written` bytes of the report went
-/// out, those of the calls before it among them, and no call was made after it. In both cases nothing of the trace
-/// was written. `Write` also where the trace's writer failed: the report then stands whole, and exactly the first
-/// `written` bytes of the trace went out. `TraceCut` where memory was refused for an item: the report stands whole,
-/// and the trace of the items before it. Nothing is tried again.
+/// Returns `Memory` if an allocation for a call fails, at its start or when it is resumed. The reports of the calls
+/// before it are complete then. Nothing of its own report was written, and no other call was made.
+///
+/// Returns `Write` if the report's writer failed or took no bytes. Exactly the first `written` bytes of the reports
+/// were written then, including all reports of the calls before. No call was made after that.
+///
+/// In both cases nothing of the trace was written.
+///
+/// Returns `Write` too if the trace's writer failed: the reports are complete, and exactly the first `written` bytes of
+/// the trace were written. Returns `TraceCut` if the trace is truncated, as when an allocation for an item failed: the
+/// reports are complete. Nothing is retried.
 pub fn run_batches<W: Wire, O: Write, T: Write, A: Allocator + Copy>(
     alloc: A,
     wire: W,

@@ -1,14 +1,14 @@
-//! Why a script's run gave no answer.
+//! Errors of a script's run.
 use swd_script::ScriptFault;
 use thiserror::Error;
 
-/// Why a script and a plan were not read.
+/// The error of reading a script and a plan.
 #[derive(Clone, Copy, Debug, PartialEq, Eq, Error)]
 pub enum TextsFault {
-    /// The script is at fault.
+    /// The script is invalid.
     #[error("script {0}")]
     Script(ScriptFault),
-    /// The plan is at fault.
+    /// The plan is invalid.
     #[error("plan {0}")]
     Plan(ScriptFault),
     /// A reader failed.
@@ -16,28 +16,28 @@ pub enum TextsFault {
     Read,
 }
 
-/// Why the calls of a script were not run, or not told.
+/// The error of running the calls of a script, or of writing their reports or their trace.
 #[derive(Clone, Copy, Debug, PartialEq, Eq, Error)]
 pub enum EngineFault {
-    /// Memory was refused for a call: the report of the calls before it stands whole.
+    /// Out of memory for a call. The reports of the calls before it are complete.
     #[error("no memory")]
     Memory,
-    /// A writer failed, or took no bytes, after it took exactly the first `written` bytes of the
-    /// text; more than 2^64 - 1 are told as 2^64 - 1.
+    /// A writer failed, or took no bytes. Exactly the first `written` bytes of its output were written; more than
+    /// 2^64 - 1 are reported as 2^64 - 1.
     #[error("write failed")]
     Write { written: u64 },
-    /// The trace was cut off: memory was refused for it.
+    /// The trace is truncated, as when memory runs out for its items.
     #[error("trace cut")]
     TraceCut,
 }
 
-/// Why a script was not run over a simulated target, or not told.
+/// The error of a script's run over a simulated target.
 #[derive(Clone, Copy, Debug, PartialEq, Eq, Error)]
 pub enum RunFault {
-    /// The script and the plan were not read.
+    /// The script or the plan wasn't read.
     #[error(transparent)]
     Texts(TextsFault),
-    /// The script was not run, or not told.
+    /// The script wasn't run to its end, or not all output was written.
     #[error(transparent)]
     Engine(EngineFault),
 }

@@ -1,4 +1,4 @@
-//! A run that goes on after a lost acknowledgement.
+//! A run that is resumed after lost acknowledgements.
 ghost use Rattle.std.specs.Prelude.{◌≡◌, ◌≤◌, IfNone, IfSome, length};
 ghost use Rattle.swd_port.specs.declared.wire.Due.TheVariants.{Nothing};
 ghost use Rattle.swd_host.specs.declared.outcome.End.TheVariants.{Lost};
@@ -16,19 +16,19 @@ use swd_host::{End, Report, resume};
 use swd_port::Wire;
 use swd_script::Batch;
 
-/// Where a run was resumed: what the call told that ended there, at a lost acknowledgement.
+/// The place where a run was resumed: the report of the call that ended there, at a lost acknowledgement.
 #[derive(Clone, Copy, Debug, PartialEq, Eq)]
 pub struct Stop {
-    /// How many accesses were answered so far.
+    /// The number of accesses answered so far.
     pub answered: usize,
-    /// How many after these were begun.
+    /// The number of accesses in flight after these.
     pub begun: u8,
-    /// How many requests that call sent.
+    /// The number of requests that this call sent.
     pub requests: u64,
 }
 
 impl Stop {
-    // Where a call with this report ended.
+    // Returns the place where a call with this report ended.
     fn of<A: Allocator>(report: &Report<A>) -> Stop
         ensures { result ≡ stop_of (told_of report.now) }
     {
@@ -40,16 +40,16 @@ impl Stop {
     }
 }
 
-/// A run and what was resumed of it.
+/// The result of a run that may have been resumed.
 #[derive(Debug, Drop)]
 pub struct Resumed<A: Allocator> {
-    /// Where it was resumed, the first place first.
+    /// The places where it was resumed, in order.
     pub stops: Vec<Stop, A>,
-    /// What the last call told, with all answers.
+    /// The report of the last call, with the answers of all calls.
     pub report: Report<A>,
 }
 
-// Goes on with the accesses of a batch. `None` where memory was refused, before the first bit.
+// Resumes the run of a batch. Returns `None` if an allocation fails; nothing is sent then.
 fn resume_over<W: Wire, A: Allocator + Copy>(
     alloc: A,
     wire: &mut W,
@@ -74,9 +74,8 @@ fn resume_over<W: Wire, A: Allocator + Copy>(
     }
 }
 
-/// Runs the accesses of a batch over a wire, and resumes the run where it ends at a lost acknowledgement, at
-/// most so many times. `None` where memory was refused: for the answers, before the first bit, or for a place or the
-/// answers where the run was to be resumed.
+/// Performs the accesses of a batch over a wire, and resumes the run after a lost acknowledgement, at most `resumes`
+/// times. Returns `None` if an allocation fails, before the first bit is sent or when the run is to be resumed.
 pub fn run_on<W: Wire, A: Allocator + Copy>(
     alloc: A,
     wire: &mut W,

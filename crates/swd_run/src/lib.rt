@@ -1,7 +1,6 @@
-//! The engine of `swd run`: a script's calls over any wire, each access once, whatever happens on the wire, and
-//! where a call is resumed at a lost acknowledgement; the report of each, as text, once it ended, the first
-//! word that isn't the script's, and the trace of what went over the wire. And the same over a simulated target whose
-//! requests meet a plan.
+//! The engine of `swd run`. It runs a script's calls over any wire, and resumes a call after a lost acknowledgement. It
+//! writes the report of each call when it ends, and then the trace. It returns the first read whose answer wasn't the
+//! expected word. [`run_text`] does the same over a simulated target with the marks of a plan.
 #![tactic(auto)]
 
 mod engine;

@@ -1,4 +1,4 @@
-//! The report of a run, as text.
+//! The text of a run's report.
 ghost use Rattle.std.specs.Prelude.{◌≡◌, ℕ, ◌+◌, ◌≤◌, List, ◌++◌, Option, take, drop};
 ghost use Rattle.std.specs.Fmt.{decimal};
 ghost use Rattle.arrayvec.specs.ArrayString.{array_string_len};
@@ -19,11 +19,11 @@ use swd_io::Block;
 use swd_port::{Access, Answer};
 use swd_script::Batch;
 
-/// The line of a report.
+/// A line of a report.
 pub type ReportLine = ArrayString<48>;
 
-/// The line of an answered access, without its end: as `r 20000000 deadbeef`, `w 20000000 written`
-/// or `r 30000000 busfault`.
+/// Returns the line of an answered access without its line feed, such as `r 20000000 deadbeef`, `w 20000000 written` or
+/// `r 30000000 busfault`.
 pub fn answer_line(access: &Access, answer: &Answer) -> ReportLine
     ensures bytes { result.bytes ≡ answer_line access.now answer.now }
     ensures len { array_string_len result ≤ 32 }
@@ -48,9 +48,9 @@ pub fn answer_line(access: &Access, answer: &Answer) -> ReportLine
     text
 }
 
-/// The line of how a run ended, with the number of its answers and of the accesses that were begun
-/// after these; without its end. As `end all 4`, `end lost 0 begun 1`, `end tries 0 begun 1`,
-/// `end id 2ba01476` or `end confused 0 begun 0`.
+/// Returns the line for the end of a run with these numbers of answers and of accesses in flight, without its line
+/// feed. Examples are `end all 4`, `end lost 0 begun 1`, `end tries 0 begun 1`, `end id 2ba01476` and
+/// `end confused 0 begun 0`.
 pub fn last_line(ended: End, answered: usize, begun: u8) -> ReportLine
     ensures bytes { result.bytes ≡ last_line ended answered begun }
     ensures len { array_string_len result ≤ 48 }
@@ -81,7 +81,7 @@ pub fn last_line(ended: End, answered: usize, begun: u8) -> ReportLine
     text
 }
 
-/// The line of a place where a run was resumed, without its end: as `resume 3 begun 1`.
+/// Returns the line of a place where a run was resumed, without its line feed, such as `resume 3 begun 1`.
 pub fn resume_line(stop: &Stop) -> ReportLine
     ensures bytes { result.bytes ≡ resume_line stop.now }
     ensures len { array_string_len result ≤ 48 }
@@ -92,7 +92,7 @@ pub fn resume_line(stop: &Stop) -> ReportLine
     text
 }
 
-// How many accesses were answered, and how many begun.
+// Appends the number of answered accesses and of those in flight.
 fn push_stop(text: &mut ReportLine, answered: usize, begun: u8)
     requires { array_string_len text.old ≤ 13 }
     ensures bytes { text.new.bytes ≡ text.old.bytes ++ stop_text answered begun }
@@ -113,7 +113,7 @@ fn push_count(text: &mut ReportLine, count: usize)
     text.push_str(digits.format(count));
 }
 
-// The items from one place to another, as far as there are any.
+// Returns the items from one index to another, as far as they exist.
 fn between<T>(items: &[T], from: usize, to: usize) -> &[T]
     ensures { result.now ≡ drop from (take to items.now) }
 {
@@ -122,7 +122,7 @@ fn between<T>(items: &[T], from: usize, to: usize) -> &[T]
     &items[start..end]
 }
 
-// The lines of the accesses that have answers are under way, too.
+// Also queues the lines of the accesses that have answers.
 fn put_answers<W: Write>(block: &mut Block<'_, W>, accesses: &[Access], answers: &[Answer])
     ensures sends { (start : Option (List ℕ)) (all : List ℕ) → Sends W.contents start block.old all
         → Sends W.contents start block.new (all ++ answer_lines accesses.now answers.now) }
@@ -133,7 +133,7 @@ fn put_answers<W: Write>(block: &mut Block<'_, W>, accesses: &[Access], answers:
     }
 }
 
-// And with them those of the places where the run was resumed.
+// Also queues these lines, with those of the places where the run was resumed.
 fn put_lines<W: Write>(
     block: &mut Block<'_, W>,
     accesses: &[Access],
@@ -157,7 +157,7 @@ fn put_lines<W: Write>(
     put_answers(block, rest, last);
 }
 
-// The report of a run of these accesses is under way, too.
+// Also queues the report of a run of these accesses.
 fn put_report<W: Write, A: Allocator>(
     block: &mut Block<'_, W>,
     accesses: &[Access],
@@ -173,12 +173,12 @@ fn put_report<W: Write, A: Allocator>(
     block.put_line(last.as_str().as_bytes());
 }
 
-/// Writes the report of one run of a batch, and tells how many bytes that were, at most 2^64 - 1. It takes no memory.
+/// Writes the report of one run of a batch. Returns the number of its bytes, at most 2^64 - 1. Allocates no memory.
 ///
 /// # Errors
 ///
-/// How many bytes of the report went out, where the writer failed or took no bytes: exactly its first ones, and not
-/// all. Nothing is tried again.
+/// If the writer failed or took no bytes: how many bytes of the report were written, at most 2^64 - 1. They are exactly
+/// its first ones, and not all. Nothing is retried.
 pub(crate) fn write_run<W: Write, A: Allocator>(
     writer: &mut W,
     batch: &Batch<A>,

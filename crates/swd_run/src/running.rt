@@ -1,4 +1,4 @@
-//! A script and a plan, to the report of their run.
+//! Runs a script over a simulated target with the marks of a plan.
 ghost use Rattle.std.specs.Prelude.{◌≡◌, IfNone, IfSome};
 ghost use Rattle.swd_port.specs.declared.wire.Due.TheVariants.{Nothing};
 ghost use Rattle.swd_port.specs.Port.{made};
@@ -23,14 +23,15 @@ use swd_script::{Batch, Script};
 use swd_target::laws::marks_used;
 use swd_target::{Bench, MakeFault, Memory, Quirks};
 
-/// What the standard leaves to a target, as the simulated target of a script has it.
+/// The choices of the simulated target of a script.
 pub const QUIRKS: Quirks = Quirks {
     wrap: true,
     late: false,
     filler: 0,
 };
 
-/// The memory that a script describes: its words, all zero, and its room. `None` where memory was refused.
+/// Returns the memory that a script describes: its words, all zero, and the capacity of its log. Returns `None` if out
+/// of memory.
 pub fn zero_memory<A: Allocator + Copy>(alloc: A, script: &Script<A>) -> Option<Memory<A>>
     requires { IsRunnable (meaning script.now) }
     ensures { IfSome result (λ memory. memory ≡ memory_of (meaning script.now)) }
@@ -42,7 +43,7 @@ pub fn zero_memory<A: Allocator + Copy>(alloc: A, script: &Script<A>) -> Option<
     }
 }
 
-/// The room of a memory, where its log is full.
+/// Returns the capacity of a memory's log, if the log is full.
 fn full_room<A: Allocator>(memory: &Memory<A>, room: u32) -> Option<u32>
     ensures { result ≡ full_room room memory.now }
 {
@@ -53,7 +54,7 @@ fn full_room<A: Allocator>(memory: &Memory<A>, room: u32) -> Option<u32>
     }
 }
 
-// An answer with the room that is used up.
+// Returns this result with the capacity of the full log.
 fn with_full(
     answer: Result<Finished, EngineFault>,
     full: Option<u32>,
@@ -66,7 +67,7 @@ fn with_full(
     }
 }
 
-// The simulated target of a script, whose requests meet these marks. `None` where memory was refused.
+// Returns the simulated target of a script, with the marks of a plan. Returns `None` if out of memory.
 fn target_of<A: Allocator + Copy>(
     alloc: A,
     script: &Script<A>,
@@ -81,8 +82,8 @@ fn target_of<A: Allocator + Copy>(
     Some(Bench::new(memory, QUIRKS, plan))
 }
 
-/// Runs the accesses of a batch over a wire, as a block where they are one. `None` where memory was
-/// refused, before the first bit.
+/// Performs the accesses of a batch over a wire, as a block if they are one. Returns `None` if an allocation fails;
+/// nothing is sent then.
 pub(crate) fn run_over<W: Wire, A: Allocator + Copy>(
     alloc: A,
     wire: &mut W,
@@ -112,8 +113,8 @@ pub(crate) fn run_over<W: Wire, A: Allocator + Copy>(
     }
 }
 
-// Runs a script over a simulated target, whose requests meet these marks, and writes its report, and its trace where
-// one is wanted.
+// Runs a script over a simulated target with these marks. Writes the reports, and the trace if there is a writer for
+// it.
 fn run_script<W: Write, T: Write, A: Allocator + Copy>(
     alloc: A,
     script: &Script<A>,
@@ -131,7 +132,7 @@ fn run_script<W: Write, T: Write, A: Allocator + Copy>(
     let Some(bench) = target_of(alloc, script, plan) else {
         return Err(EngineFault::Memory);
     };
-    // The marks that a run meets are among those of the plan.
+    // The marks that a run uses are among those of the plan.
     marks_used::<A>();
     let batches = script.batches.as_slice();
     let (answer, bench) = run_batches(alloc, bench, batches, tries, resumes, writer, trace);
@@ -139,16 +140,15 @@ fn run_script<W: Write, T: Write, A: Allocator + Copy>(
 }
 
 /// Reads a script and a plan, and runs the script's calls by [`run_batches`](crate::run_batches) over a simulated
-/// target whose requests meet the plan's marks. Returns how the last one ended, the first read that gave another word
-/// than the script tells, and the target's room where it is used up.
+/// target with the plan's marks. The target is a `Bench` whose memory has the script's words, all zero.
 ///
-/// The target is a `Bench` whose memory has the script's words, all zero. Memory is taken for the accesses, the marks
-/// and the memory, too, before anything is run.
+/// Allocates the accesses, the marks and the memory before the first call.
 ///
 /// # Errors
 ///
-/// `Texts` for the first fault of these texts, the script's before the plan's, and where a reader failed: nothing was
-/// written then. `Engine` as `run_batches` has it; `Memory` also where memory was refused for the target.
+/// Returns `Texts` for the first error of the script or, if the script is valid, of the plan, or if a reader failed.
+/// Nothing was written then. Returns `Engine` as `run_batches` does, and with `Memory` also if out of memory for the
+/// target.
 pub fn run_text<S: Read, P: Read, W: Write, T: Write, A: Allocator + Copy>(
     alloc: A,
     script: &mut S,

@@ -1,4 +1,4 @@
-//! The script and the plan of a run, read before it.
+//! Reads the script and the plan of a run.
 ghost use Rattle.std.specs.Prelude.{◌≡◌, IfOk, IfErr};
 ghost use Rattle.swd_script.specs.Readers.{meaning};
 ghost use Rattle.swd_run.specs.Running.{AreRead, AreUnread};
@@ -18,7 +18,7 @@ pub struct Texts<A: Allocator> {
     pub plan: Vec<Mark, A>,
 }
 
-// The fault of a script that was not read.
+// Returns the error of a script that wasn't read.
 fn script_fault(unread: Unread<ScriptFault>) -> TextsFault
     ensures { result ≡ script_fault_of unread }
 {
@@ -28,7 +28,7 @@ fn script_fault(unread: Unread<ScriptFault>) -> TextsFault
     }
 }
 
-// The fault of a plan that was not read.
+// Returns the error of a plan that wasn't read.
 fn plan_fault(unread: Unread<ScriptFault>) -> TextsFault
     ensures { result ≡ plan_fault_of unread }
 {
@@ -42,8 +42,8 @@ fn plan_fault(unread: Unread<ScriptFault>) -> TextsFault
 ///
 /// # Errors
 ///
-/// `Script` and `Plan` for the first fault of these texts, the script's before the plan's; `Read` where a reader
-/// failed.
+/// Returns `Script` or `Plan` for the first error of the script or, if the script is valid, of the plan, and `Read` if
+/// a reader failed.
 pub fn read_texts<S: Read, P: Read, A: Allocator + Copy>(
     alloc: A,
     script: &mut S,

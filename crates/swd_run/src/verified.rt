@@ -1,4 +1,4 @@
-//! Words that a script tells, and what was read; and accesses that were answered by a bus error.
+//! Compares read words with those that a script expects, and finds bus errors.
 ghost use Rattle.std.specs.Prelude.{◌≡◌, ◌||◌};
 ghost use Rattle.swd_run.specs.Verified.{difference_in, differs, differs_among, has_bus_fault, is_bus_fault};
 ghost use Rattle.swd_run.specs.Verified.{or_else};
@@ -6,20 +6,20 @@ ghost use Rattle.swd_run.specs.Verified.{or_else};
 use swd_port::Answer;
 use swd_script::Expected;
 
-/// A read that was answered, and not by the word that the script tells.
+/// An answered read whose answer isn't the expected word.
 #[derive(Clone, Copy, Debug, PartialEq, Eq)]
 pub struct Difference {
-    /// The script's line, from 1.
+    /// The line of the script, from 1.
     pub line: u64,
-    /// The address that was read.
+    /// The address of the read.
     pub addr: u32,
-    /// The word that the script tells.
+    /// The expected word.
     pub expected: u32,
-    /// What came in its place: another word, or a bus error.
+    /// The answer: another word, or a bus error.
     pub found: Answer,
 }
 
-// What differs, where an answer isn't the word that is told.
+// Returns the difference, if the answer isn't the expected word.
 fn differs(read: &Expected, answer: Answer) -> Option<Difference>
     ensures { result ≡ differs read.now answer }
 {
@@ -34,7 +34,7 @@ fn differs(read: &Expected, answer: Answer) -> Option<Difference>
     })
 }
 
-// So it is where the read was answered.
+// Returns the same for a read that may not be answered; an unanswered read isn't a difference.
 fn differs_among(answers: &[Answer], read: &Expected) -> Option<Difference>
     ensures { result ≡ differs_among answers.now read.now }
 {
@@ -45,7 +45,7 @@ fn differs_among(answers: &[Answer], read: &Expected) -> Option<Difference>
     }
 }
 
-// The first read of a run that differs.
+// Returns the first difference of a run.
 fn difference_in(reads: &[Expected], answers: &[Answer]) -> Option<Difference>
     ensures { result ≡ difference_in reads.now answers.now }
 {
@@ -57,7 +57,7 @@ fn difference_in(reads: &[Expected], answers: &[Answer]) -> Option<Difference>
     None
 }
 
-/// What differed first in earlier runs, or in this one where nothing did.
+/// Returns the first difference of earlier runs or, if there was none, of this one.
 pub(crate) fn or_difference_in(
     earlier: Option<Difference>,
     reads: &[Expected],
@@ -77,7 +77,7 @@ fn is_bus_fault(answer: Answer) -> bool
     matches!(answer, Answer::BusFault)
 }
 
-// Whether one of these answers is a bus error.
+// Returns whether one of these answers is a bus error.
 fn has_bus_fault(answers: &[Answer]) -> bool
     ensures { result ≡ has_bus_fault answers.now }
 {
@@ -89,7 +89,7 @@ fn has_bus_fault(answers: &[Answer]) -> bool
     false
 }
 
-/// Whether an access of earlier runs was answered by a bus error, or one of this run.
+/// Returns whether an access of earlier runs, or of this one, was a bus error.
 pub(crate) fn or_bus_fault(earlier: bool, answers: &[Answer]) -> bool
     ensures { result ≡ (earlier || has_bus_fault answers.now) }
 {

@@ -1,4 +1,4 @@
--- A run as numbers. Zeros are no run.
+-- A run as a struct of integers. Zeros are no run.
 use Rattle.std.specs.Prelude.{ℕ, ◌==◌, if◌then◌else◌}
 use Rattle.swd_host.specs.declared.fields.OutcomeFields.{OutcomeFields}
 use Rattle.swd_host.specs.declared.outcome.End.{End}
@@ -16,12 +16,12 @@ stage_number Driving = 1
 stage_number Between = 2
 stage_number (Ended end) = 3
 
--- how a run ended
+-- the end of a run
 abbrev pub end_fields : Stage → OutcomeFields
 end_fields (Ended end) = outcome_fields (Stopped end)
 end_fields stage = no_outcome
 
--- the numbers of a run
+-- the fields of a run
 abbrev pub fields_of : Run → RunFields
 fields_of run = record {
   requests = requests_of run.engine;
@@ -32,7 +32,7 @@ fields_of run = record {
   stage = stage_number run.stage;
 }
 
--- what is read from numbers, as if they were those of a run
+-- what the integers stand for, if they are those of a run
 abbrev pub end_at : OutcomeFields → End
 end_at f =
     if f.kind == 5 then All else if f.kind == 6 then Lost else if f.kind == 7 then TriesOut

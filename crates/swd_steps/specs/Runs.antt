@@ -1,4 +1,4 @@
--- What a run has come to, by the calls of a line that were made for it, the last one first, and what came of each.
+-- The state of a run after the calls that were made for it, the last one first, with their replies.
 use Rattle.std.specs.Prelude.{ℕ, ◌≡◌, ◌+◌, ◌≤◌, Bool, true, false, Option, Some, None, List, [], ◌∷◌, ◌++◌}
 use Rattle.std.specs.Prelude.{length, drop, slice_get, if◌then◌else◌}
 use Rattle.swd_port.specs.declared.access.Access.{Access}
@@ -26,23 +26,23 @@ use Rattle.swd_steps.specs.declared.run.Run.{Run}
 use Rattle.swd_steps.specs.declared.run.Stage.{Stage}
 use Rattle.swd_steps.specs.declared.run.Stage.TheVariants.{Driving, Between, Ended}
 
--- How a run was made: for bursts of writes or of reads, anew or going on after so many answers, and with so many
--- tries.
+-- How a run was made: for bursts of writes or of reads, whether it resumes, its tries, and the number of accesses
+-- answered before it.
 pub record Beginning : Type 0 where
   pub kind : Bursts
   pub again : Bool
   pub tries : ℕ
   pub from : ℕ
 
--- a new run, and one that goes on after so many answers
+-- a new run, and one that resumes after `from` answers
 abbrev pub anew : Bursts → ℕ → Beginning
 anew kind tries = record { kind = kind; again = false; tries = tries; from = 0 }
 
 abbrev pub after : ℕ → ℕ → Beginning
 after from tries = record { kind = Writes; again = true; tries = tries; from = from }
 
--- What came of these calls for a list: the engine, where the run is, and the answers. An access is begun, with the one
--- that follows it, where the one before it is answered; when all are, eight idle cycles follow.
+-- The engine, the stage and the answers after these calls for a list. An access starts, with the one that follows it,
+-- when the one before it is answered. When all are answered, eight idle cycles follow.
 pub data Came (how : Beginning) (list : List Access) : List Call → Engine → Stage → List Answer → Type 0 where
   has_begun : (e : Engine) → IsNew how.kind how.again how.tries e → Came how list [] e Driving []
   has_turned : {calls : List Call} {answers : List Answer} (call : Call) (e f : Engine)
@@ -62,18 +62,18 @@ pub data Came (how : Beginning) (list : List Access) : List Call → Engine → 
       → Came how list calls e Driving answers → finished_of e ≡ Some (Stopped end)
       → Came how list calls e (Ended end) answers
 
--- a list of which calls were made may be done, and has the accesses that the run goes on after
+-- a list for which calls were made is valid, and has the accesses answered before the run
 abbrev pub Accepted : ℕ → List Access → List Call → Type 0
 Accepted from accesses [] = Unit {0}
 Accepted from accesses (call ∷ calls) =
     (length accesses ≤ 65536) × AreAccesses accesses × (from ≤ length accesses)
 
--- where no access is in hand, all are answered
+-- if no access is in progress, all are answered
 abbrev pub IsLast : Beginning → List Access → Run → List Answer → Type 0
 IsLast how accesses run answers = run.stage ≡ Between → length answers ≡ length (drop how.from accesses)
 
--- A run that was made so has come to this over a list of accesses, in these calls, with these answers. As long as it
--- hasn't ended there is something to send.
+-- A run that was made as `how` says has reached this state over a list, after these calls and with these answers. Until
+-- it ends, it has a cue.
 pub record Ran (how : Beginning) (accesses : List Access) (calls : List Call) (run : Run) (answers : List Answer) :
     Type 0
   where
@@ -89,7 +89,7 @@ cue_at Driving e = cue_of e
 cue_at Between e = Some (Lead 0 0 false 8)
 cue_at (Ended end) e = None
 
--- what has to be sent next
+-- what to send next
 abbrev pub run_cue : Run → Option Cue
 run_cue run = cue_at run.stage run.engine
 
@@ -97,46 +97,46 @@ abbrev pub end_at : Stage → Option End
 end_at (Ended end) = Some end
 end_at stage = None
 
--- how it ended
+-- the end of a run, if it has ended
 abbrev pub end_of : Run → Option End
 end_of run = end_at run.stage
 
--- A CALL MORE
+-- A FURTHER CALL
 abbrev pub listed : Option Answer → List Answer
 listed (Some answer) = answer ∷ []
 listed None = []
 
--- the answers that came
+-- the answers of one call
 abbrev pub answered_by : Answers → List Answer
 answered_by came = listed came.first ++ listed came.second
 
--- what came of a cue, where this is told; only of a request and of a read's data phase anything comes
+-- what was seen at a cue: the reply to a request or to a read's data phase, else 0
 abbrev pub seen_of : Cue → ℕ → ℕ
 seen_of cue reply = if is_send cue then 0 else reply
 
 abbrev pub call_of : Cue → ℕ → Call
 call_of cue reply = record { cue = cue; seen = seen_of cue reply }
 
--- a call more was made of the line for a run that has come to this
+-- whatever calls and answers led to `before`: with this call, and `more` answers, they lead to `after`
 abbrev pub Extends : Cue → ℕ → List Access → Run → List Answer → Run → Type 0
 Extends cue reply accesses before more after =
     (how : Beginning) (calls : List Call) (answers : List Answer) → Ran how accesses calls before answers
     → Ran how accesses (call_of cue reply ∷ calls) after (answers ++ more)
 
--- The same within a call, before it is known that there is something to send.
+-- The same within a call, before it is known whether there is a cue.
 pub record HasCome (how : Beginning) (accesses : List Access) (calls : List Call) (run : Run) (answers : List Answer)
     : Type 0 where
   pub came : Came how (drop how.from accesses) calls run.engine run.stage answers
   pub number : run.answered ≡ how.from + length answers
   pub last : IsLast how accesses run answers
 
--- no call more: an outcome of the engine was followed, with this answer
+-- the same without a call: an outcome of the engine was taken, with this answer
 abbrev pub Leaves : List Access → Run → List Answer → Run → Type 0
 Leaves accesses before more after =
     (how : Beginning) (calls : List Call) (answers : List Answer) → HasCome how accesses calls before answers
     → HasCome how accesses calls after (answers ++ more)
 
--- a call more, likewise
+-- the same with a call
 abbrev pub MakesCall : Cue → ℕ → List Access → Run → List Answer → Run → Type 0
 MakesCall cue seen accesses before more after =
     (how : Beginning) (calls : List Call) (answers : List Answer) → HasCome how accesses calls before answers
@@ -147,13 +147,13 @@ abbrev pub is_lead : Option Cue → Bool
 is_lead (Some (Lead ones undriven switch zeros)) = true
 is_lead cue = false
 
--- a list may go on to be done, of which this run has answered so many accesses
+-- a list for which the run may take a further call
 pub record IsFit (accesses : List Access) (run : Run) : Type 0 where
   pub few : length accesses ≤ 65536
   pub answered : run.answered ≤ length accesses
   pub are : is_lead (cue_of run.engine) ≡ true → AreAccesses accesses
 
--- why a call does nothing
+-- why a call is refused
 abbrev pub HasReason : Run → List Access → ℕ → Refusal → Type 0
 HasReason run accesses reply HasEnded = run_cue run ≡ None
 HasReason run accesses reply Reply = HasCue (λ cue. IsSeen cue (seen_of cue reply) → ⊥) (run_cue run)
@@ -163,7 +163,7 @@ HasReason run accesses reply TooFew =
     (how : Beginning) (calls : List Call) (answers : List Answer) → Ran how accesses calls run answers
     → how.from ≤ length accesses → ⊥
 
--- it stopped where a run may go on
+-- a run that ended so may be resumed
 abbrev pub may_go_on : Stage → Bool
 may_go_on (Ended Lost) = true
 may_go_on (Ended TriesOut) = true

@@ -1,4 +1,4 @@
-//! Lists of accesses, however the caller keeps them.
+//! Lists of accesses, however the caller stores them.
 ghost use Rattle.std.specs.Prelude.{◌≡◌, List, length, slice_get};
 ghost use Rattle.swd_port.specs.declared.access.Access.{Access};
 
@@ -6,14 +6,14 @@ use swd_port::Access;
 
 /// A list of accesses.
 pub trait Accesses {
-    /// The accesses in their order.
+    /// The accesses in order.
     ghost list: { Self → List Access };
 
-    /// How many accesses there are.
+    /// Returns the number of accesses.
     fn count(&self) -> usize
         ensures { result ≡ length (list self.now) };
 
-    /// The access at this index, from 0 on.
+    /// Returns the access at this index, from 0.
     fn access(&self, index: usize) -> Option<Access>
         ensures { result ≡ slice_get (list self.now) index };
 }

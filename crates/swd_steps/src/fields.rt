@@ -1,4 +1,4 @@
-//! A run as numbers, for callers that keep it in memory of their own, such as programs in C.
+//! A run as a struct of integers, for callers that store it themselves, such as programs in C.
 ghost use Rattle.std.specs.Prelude.{◌≡◌, IfSome, Some};
 ghost use Rattle.swd_steps.specs.declared.run.Run.{Run as RunType};
 ghost use Rattle.swd_steps.specs.Fields.{end_at, end_fields, fields_of, stage_at, stage_number};
@@ -6,22 +6,22 @@ ghost use Rattle.swd_steps.specs.Fields.{end_at, end_fields, fields_of, stage_at
 use crate::run::{Run, Stage};
 use swd_host::{End, EngineFields, Outcome, OutcomeFields};
 
-/// The numbers of a run: `Run::fields` gives them, and `run` gives the run back. They are laid out as C does it, and
-/// any numbers may stand in them: `run` gives none where they are those of no run, as zeros are.
+/// The state of a run as integers, laid out as in C. [`Run::fields`] returns it, and [`run`](RunFields::run) restores
+/// the run. Any values are safe: `run` rejects those of no run, such as zeros.
 ///
-/// `requests`, `answered` and `begun` are what the methods of `Run` with these names tell, and `end` what `ended` does.
-/// What the others mean is this crate's own.
+/// `requests`, `answered` and `begun` are what the methods of `Run` with these names return, and `end` is what `ended`
+/// returns. The meaning of the other fields is private to this crate.
 #[repr(C)]
 #[derive(Clone, Copy, Debug, PartialEq, Eq)]
 pub struct RunFields {
-    /// How many requests were sent.
+    /// The number of requests sent.
     pub requests: u64,
     pub engine: EngineFields,
-    /// How the run ended: an outcome that is a stop, or of kind 0 none, as long as it goes on.
+    /// The end of the run: an outcome that is a stop, or one of kind 0 before the end.
     pub end: OutcomeFields,
-    /// How many accesses are answered.
+    /// The number of answered accesses.
     pub answered: u32,
-    /// How many accesses aren't answered and had their DRW request sent.
+    /// The number of unanswered accesses whose DRW request was sent.
     pub begun: u8,
     pub stage: u8,
 }
@@ -45,8 +45,7 @@ fn fields_of_end(stage: Stage) -> OutcomeFields
     }
 }
 
-// Here and below, what is read from numbers that nothing has doesn't matter: `RunFields::run` finds that the run has
-// other numbers.
+// Here and below, invalid numbers may give any result: `RunFields::run` rejects a run whose own fields differ.
 fn end_with(fields: OutcomeFields) -> End
     ensures { result ≡ end_at fields }
 {
@@ -70,7 +69,7 @@ fn stage_with(number: u8, end: OutcomeFields) -> Stage
 }
 
 impl RunFields {
-    /// The run with these numbers, where there is one.
+    /// Returns the run with these fields, or `None` if no run has them.
     pub fn run(&self) -> Option<Run>
         ensures found { (run : RunType) → fields_of run ≡ self.now → result ≡ Some run }
         ensures same { IfSome result (λ run. fields_of run ≡ self.now) }
@@ -90,7 +89,7 @@ impl RunFields {
 }
 
 impl Run {
-    /// The numbers of the run.
+    /// Returns the fields of the run.
     pub fn fields(&self) -> RunFields
         ensures { result ≡ fields_of self.now }
     {

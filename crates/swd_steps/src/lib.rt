@@ -1,5 +1,5 @@
-//! A whole run of the host step by step: each call takes what came of the last cue, begins the next access by
-//! itself, and gives control back. It drives no wire and takes no memory.
+//! A whole run of the host, step by step. Each call takes the reply to the last cue, and starts the next access if one
+//! was answered. It drives no wire and allocates no memory.
 #![tactic(auto)]
 
 mod accesses;

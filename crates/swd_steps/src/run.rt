@@ -1,4 +1,4 @@
-//! A run, as what has to be sent next and what came of it.
+//! A run as a state machine without I/O: it returns what to send next, and takes the replies.
 ghost use Rattle.std.specs.Prelude.{◌≡◌, ◌+◌, ◌≤◌, [], length, List, true, false};
 ghost use Rattle.std.specs.Prelude.{◌++◌, IfOk, IfErr, IfNone, IfSome, Some, None, slice_get, ℕ};
 ghost use Rattle.swd_steps.specs.declared.run.Run.{Run as RunType};
@@ -17,80 +17,81 @@ use crate::accesses::Accesses;
 use swd_host::{End, Engine, Outcome};
 use swd_port::{Access, Answer, Cue, MOST_ACCESSES};
 
-/// Where a run is.
+/// The stage of a run.
 #[derive(Clone, Copy, Debug, PartialEq, Eq)]
 pub(crate) enum Stage {
-    /// The engine has something to send.
+    /// The engine has a cue.
     Driving,
-    /// No access is in hand: the next one is begun, or where all are answered the eight idle cycles follow.
+    /// No access is in progress: the next one starts, or the eight idle cycles follow if all are answered.
     Between,
     /// The run has ended.
     Ended(End),
 }
 
-/// The answers that came with one call, in their order: mostly one or none. Two come in a block of reads, where the
-/// next access was a bus error that was met while the one before it was read.
+/// The answers of one call, in order: mostly one or none. In a block of reads there may be two, where the next access
+/// was a bus error that was found before the answer of the current one.
 #[derive(Clone, Copy, Debug, PartialEq, Eq)]
 pub struct Answers {
     pub first: Option<Answer>,
-    /// Nothing, unless there is a first one.
+    /// `None` unless there is a first one.
     pub second: Option<Answer>,
 }
 
-/// Why a call did nothing. The run is as it was.
+/// The reason why a call was refused. The run is unchanged.
 #[derive(Clone, Copy, Debug, PartialEq, Eq)]
 pub enum Refusal {
     /// The run has ended.
     Ended,
-    /// No such bits come of the cue.
+    /// The reply has too many bits for the cue.
     Reply,
     /// There are more than 65,536 accesses.
     TooMany,
     /// The first access whose address isn't a multiple of 4.
     Unaligned { index: usize },
-    /// The list has fewer accesses than are answered: it isn't the one of the calls before.
+    /// The list has fewer accesses than are answered: it isn't that of the calls before.
     TooFew,
 }
 
-/// A run of the host over a list of accesses, which says what has to be sent next and takes what came of it. The caller
-/// shows the same list with each call.
+/// A run of the host over a list of accesses. It returns what to send next, and takes the replies. The caller passes
+/// the same list to each call.
 ///
 /// ```text
 /// let mut run = Run::new(tries);
 /// while let Some(cue) = run.cue() {
-///     let reply = /* do what the cue says; what was seen */;
+///     let first = run.answered();
+///     let reply = /* perform the cue; what was seen */;
 ///     let answers = run.next(&accesses, reply)?;
-///     /* store them from `run.answered()` before the call on */
+///     /* store the answers from index `first` on */
 /// }
-/// /* `run.ended()` says how it ended */
+/// /* `run.ended()` is the end */
 /// ```
 #[derive(Clone, Copy, Debug, PartialEq, Eq)]
 pub struct Run {
     pub(crate) engine: Engine,
     pub(crate) stage: Stage,
-    // How many accesses are answered, those of the runs before that this one goes on after among them.
+    // The number of answered accesses, including those of earlier runs that this one resumes.
     pub(crate) answered: u32,
 }
 
 impl Run {
-    /// A run at its beginning. The opening and each access may meet as many events as `tries`.
+    /// Creates a run at the start of the opening. The opening, and each access, may meet up to `tries` events.
     pub fn new(tries: u32) -> Run
         ensures { (list : List AccessType) → Ran (anew Writes tries) list [] result [] }
     {
         Run::beginning(Engine::new(tries), 0)
     }
 
-    /// The same for a block of reads: its bursts are reads in place of writes. A read gives its word at the request for
-    /// the next one.
+    /// Creates a run for a block of reads: its bursts are of reads instead of writes. The request for the next word
+    /// returns the word of a read.
     pub fn blocks(tries: u32) -> Run
         ensures { (list : List AccessType) → Ran (anew Reads tries) list [] result [] }
     {
         Run::beginning(Engine::blocks(tries), 0)
     }
 
-    /// A run that goes on after this one over the same list, from the first access that isn't answered; nothing where
-    /// this one didn't end `Lost` or `TriesOut`. That access may be done a second time, where it was begun. `requests`
-    /// and `begun` are of the new run alone.
+    /// Creates a run that resumes this one over the same list, from the first unanswered access on. Returns `None` if
+    /// this one didn't end `Lost` or `TriesOut`. Accesses in flight may take effect a second time. `requests` and
+    /// `begun` are those of the new run alone.
     pub fn again(&self, tries: u32) -> Option<Run>
         ensures again { IfSome result (λ run.
             (list : List AccessType) → Ran (after self.now.answered tries) list [] run []) }
@@ -117,7 +118,7 @@ impl Run {
         }
     }
 
-    /// What has to be sent next; nothing once the run has ended.
+    /// Returns what to send next, or `None` once the run has ended.
     pub fn cue(&self) -> Option<Cue>
         ensures cue { result ≡ run_cue self.now }
         ensures range { IfSome result IsPhaseCue }
@@ -134,7 +135,7 @@ impl Run {
         }
     }
 
-    /// How the run ended, once it has.
+    /// Returns the end of the run, or `None` before it.
     pub fn ended(&self) -> Option<End>
         ensures { result ≡ end_of self.now }
     {
@@ -144,39 +145,39 @@ impl Run {
         }
     }
 
-    /// How many accesses are answered, those of the runs before this one among them.
+    /// Returns the number of answered accesses, including those of earlier runs.
     pub fn answered(&self) -> u32
         ensures { result ≡ self.now.answered }
     {
         self.answered
     }
 
-    /// How many accesses aren't answered and had their DRW request sent by this run.
+    /// Returns the number of unanswered accesses whose DRW request this run sent.
     pub fn begun(&self) -> u8
         ensures { result ≡ begun_of self.now.engine }
     {
         self.engine.begun()
     }
 
-    /// How many requests this run sent.
+    /// Returns how many requests this run sent, saturating at `u64::MAX`.
     pub fn requests(&self) -> u64
         ensures { result ≡ requests_of self.now.engine }
     {
         self.engine.requests()
     }
 
-    /// Takes what came of the cue: of a request the three bits that were seen, of a read's data phase its 33 bits, the
-    /// first in time least significant each; of any other any number. Begins the next access by itself, and after the
-    /// last one has eight idle cycles sent. Gives the answers that came with it, the first of which is that of the
-    /// access at `answered` before the call.
+    /// Takes the reply to the cue. It is the three bits seen after a request, or the 33 bits of a read's data phase.
+    /// The first bit in time is the least significant. For other cues the number is ignored. Then starts the next
+    /// access if one was answered, and after the last one asks for eight idle cycles. Returns the answers that came
+    /// with this reply. The first one is that of the access at index `answered()` before the call.
     ///
-    /// The list is checked as a whole with the first cue alone.
+    /// The whole list is checked only at the first cue.
     ///
     /// # Errors
     ///
-    /// `Ended` once the run has ended. `Reply` where the number isn't below 8 at a request, or below 2^33 at a read's
-    /// data phase. `TooMany`, `Unaligned` and `TooFew` where the list isn't one that may be done. The run is as it was
-    /// then.
+    /// Returns `Ended` once the run has ended. Returns `Reply` if the number isn't below 8 after a request, or below
+    /// 2^33 for a read's data phase. Returns `TooMany`, `Unaligned` or `TooFew` if the list isn't valid. The run is
+    /// unchanged then.
     pub fn next<L: Accesses>(&mut self, accesses: &L, reply: u64) -> Result<Answers, Refusal>
         ensures goes { IfOk result (λ came. HasCue (λ cue.
             Extends cue reply (L.list accesses.now) self.old (answered_by came) self.new) (run_cue self.old)) }
@@ -205,7 +206,7 @@ impl Run {
 }
 
 impl Run {
-    // Why no call is made for this list.
+    // Returns why this list is refused, if it is.
     fn refusal<L: Accesses>(&self, accesses: &L) -> Option<Refusal>
         ensures none { IfNone result (IsFit (L.list accesses.now) self.now) }
         ensures some { IfSome result (λ refusal. (reply : ℕ) → HasReason self.now (L.list accesses.now) reply refusal) }
@@ -224,14 +225,14 @@ impl Run {
         }
     }
 
-    // The line reset comes next.
+    // Returns whether the line reset comes next.
     fn is_first(&self) -> bool
         ensures { result ≡ is_lead (cue_of self.now.engine) }
     {
         matches!(self.engine.cue(), Some(Cue::Lead { .. }))
     }
 
-    // This came of the cue.
+    // Takes a valid reply to the cue.
     fn turn<L: Accesses>(&mut self, accesses: &L, seen: u64) -> Answers
         requires cue { HasCue (λ cue. IsSeen cue seen × IsPhaseCue cue) (run_cue self.old) }
         requires few { self.old.answered ≤ 65536 }
@@ -250,7 +251,7 @@ impl Run {
         Answers::of(first, second)
     }
 
-    // Follows an outcome of the engine, where it has come to one.
+    // Takes the outcome of the engine, if it has reached one.
     fn follow<L: Accesses>(&mut self, accesses: &L) -> Option<Answer>
         requires few { self.old.answered ≤ 65537 }
         ensures follows { Leaves (L.list accesses.now) self.old (listed result) self.new }
@@ -284,7 +285,7 @@ impl Run {
         }
     }
 
-    // Begins the next access, where there is one.
+    // Starts the next access, if there is one.
     fn begin<L: Accesses>(&mut self, accesses: &L)
         requires rests { may_start (finished_of self.old.engine) ≡ true }
         requires few { self.old.answered ≤ 65538 }
@@ -321,7 +322,7 @@ impl Answers {
     }
 }
 
-// What came of a cue, where such bits may come of it.
+// Returns what was seen at a cue, or `None` if the reply has too many bits.
 fn seen(cue: Cue, reply: u64) -> Option<u64>
     ensures some { IfSome result (λ seen. (seen ≡ seen_of cue reply) × IsSeen cue seen) }
     ensures none { IfNone result (IsSeen cue (seen_of cue reply) → ⊥) }
@@ -334,7 +335,7 @@ fn seen(cue: Cue, reply: u64) -> Option<u64>
     }
 }
 
-// The first of so many accesses whose address isn't a multiple of 4, as a refusal.
+// Returns a refusal for the first access whose address isn't a multiple of 4, if there is one.
 fn unaligned<L: Accesses>(accesses: &L, count: usize) -> Option<Refusal>
     requires count { count ≡ length (L.list accesses.now) }
     requires few { length (L.list accesses.now) ≤ 65536 }
@@ -352,7 +353,7 @@ fn unaligned<L: Accesses>(accesses: &L, count: usize) -> Option<Refusal>
     None
 }
 
-// The address is a multiple of 4.
+// Returns whether the address is a multiple of 4.
 fn is_aligned(access: Access) -> bool
     ensures aligned { result ≡ is_aligned access }
     ensures ranges { HasRanges access }

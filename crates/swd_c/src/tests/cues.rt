@@ -28,7 +28,7 @@ fn new_engine() -> EngineFields {
     fields
 }
 
-// An engine whose lead was sent.
+// Returns an engine whose lead was sent.
 fn led() -> EngineFields {
     let mut fields = new_engine();
     let _ = swd_engine_next(&mut fields, 0);
@@ -104,7 +104,7 @@ fn an_engine_stops_at_each_first_answer_but_ok(rt: HostRuntime) {
     );
 }
 
-// The caller's memory holds exactly what the library's engine is.
+// The fields in the caller's memory are exactly those of the library's engine.
 #[test]
 fn exports_keep_an_engine_of_the_library(rt: HostRuntime) {
     let mut fields = new_engine();
@@ -115,7 +115,7 @@ fn exports_keep_an_engine_of_the_library(rt: HostRuntime) {
     expect_eq(&rt, &fields.engine(), &Some(Engine::again(0)));
 }
 
-/// An engine once its opening was answered OK.
+/// Returns an engine after its opening.
 pub fn opened() -> EngineFields {
     let mut fields = led();
     for word in [0x2ba0_1477, 0, 0, 0, 0, 0xf000_0000, 0, 0, 0x2300_0052] {
@@ -125,7 +125,7 @@ pub fn opened() -> EngineFields {
     fields
 }
 
-// Between two writes of a burst nothing else may be begun.
+// Between two writes of a burst, only the second one may be started.
 #[test]
 fn a_burst_is_gone_on_with(rt: HostRuntime) {
     let accesses = [
@@ -136,7 +136,7 @@ fn a_burst_is_gone_on_with(rt: HostRuntime) {
     let mut fields = opened();
     expect_eq(&rt, &swd_engine_cue(&fields).outcome, &plain(1));
     assert!(rt; swd_engine_start(&mut fields, accesses.as_slice(), 0));
-    // TAR, DRW, and DRW of the next one, whose data is due.
+    // TAR, DRW, and the next write's DRW, whose data is due.
     for reply in [1, 0, 1, 0, 1] {
         let _ = swd_engine_next(&mut fields, reply);
     }

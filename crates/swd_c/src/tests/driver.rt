@@ -1,4 +1,4 @@
-//! A host that goes by the exports alone, over any wire.
+//! A host over any wire that uses only the exports.
 use crate::{
     SwdAccess, SwdCue, swd_engine_cue, swd_engine_next, swd_engine_start, swd_run_cue, swd_run_next,
 };
@@ -67,7 +67,7 @@ pub const ZEROS: EngineFields = EngineFields {
     stray: 0,
 };
 
-/// The same of a run.
+/// A run's fields that are zero.
 pub const NO_RUN: RunFields = RunFields {
     requests: 0,
     engine: ZEROS,
@@ -93,17 +93,17 @@ pub const fn write(addr: u32, word: u32) -> SwdAccess {
     }
 }
 
-/// An outcome of this kind, without a word.
+/// Returns an outcome of this kind, without a word.
 pub const fn plain(kind: u8) -> OutcomeFields {
     OutcomeFields { word: 0, kind }
 }
 
-/// A value that was read.
+/// Returns the outcome of a read.
 pub const fn value(word: u32) -> OutcomeFields {
     OutcomeFields { word, kind: VALUE }
 }
 
-/// What came of a run.
+/// The result of a run.
 #[derive(Debug, Drop)]
 pub struct Told {
     pub answers: Vec<OutcomeFields>,
@@ -112,7 +112,7 @@ pub struct Told {
     pub ended: u8,
 }
 
-// Ones and zeros, where they may stand; with no ones idle cycles.
+// Sends the ones and zeros of a lead, or idle cycles if there are no ones. Returns whether the wire allows it.
 fn leads<W: Wire>(wire: &mut W, cue: SwdCue) -> bool {
     if cue.ones == 0 {
         let Due::Nothing = wire.due() else {
@@ -132,8 +132,7 @@ fn leads<W: Wire>(wire: &mut W, cue: SwdCue) -> bool {
     true
 }
 
-/// Does what a cue says over a wire, and gives what comes of it. None where the wire may not be
-/// given that.
+/// Performs a cue over a wire, and returns the reply. Returns `None` if the wire doesn't allow the cue.
 pub fn reply<W: Wire>(wire: &mut W, cue: SwdCue) -> Option<u64> {
     match (cue.kind, wire.due()) {
         (1, _) => { if leads(wire, cue) { Some(0) } else { None } }
@@ -154,8 +153,8 @@ pub fn reply<W: Wire>(wire: &mut W, cue: SwdCue) -> Option<u64> {
     }
 }
 
-/// Goes on to the next outcome, and gives that cue. None where there is none after so many calls, or the
-/// wire may not be given what the engine wants.
+/// Drives an engine to its next outcome, and returns that cue. Returns `None` if it takes too many calls, or the wire
+/// doesn't allow a cue.
 pub fn drive<W: Wire>(wire: &mut W, engine: &mut EngineFields) -> Option<SwdCue> {
     let mut cue = swd_engine_cue(engine);
     for _ in 0..10_000u32 {
@@ -167,8 +166,8 @@ pub fn drive<W: Wire>(wire: &mut W, engine: &mut EngineFields) -> Option<SwdCue>
     None
 }
 
-/// Does the accesses from this index on with a new engine, and tells what came of it. A run that is
-/// whole is told by the kind `ALL`.
+/// Performs the accesses from this index on with a new engine, and returns the result. If all are answered, it ends
+/// with the kind `ALL`.
 pub fn run_from<W: Wire>(
     alloc: Global,
     wire: &mut W,
@@ -203,8 +202,8 @@ pub fn run_from<W: Wire>(
     }))
 }
 
-/// Drives a run to its end over a wire, and tells what came of it. None where it comes to none after so many calls, or
-/// the wire may not be given what the run wants.
+/// Drives a run to its end over a wire, and returns the result. Returns `None` if it takes too many calls, or the wire
+/// doesn't allow a cue.
 pub fn run_whole<W: Wire>(
     alloc: Global,
     wire: &mut W,

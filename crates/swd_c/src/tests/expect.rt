@@ -1,15 +1,15 @@
-//! Assertions as calls. An `assert_eq!` is its whole code at each place, with the message of a failure, and the prover
-//! goes through that each time anew.
+//! Assertions as calls. An `assert_eq!` expands to its code and the failure's message at each use, and the prover
+//! checks each of them.
 
 use std::fmt::Debug;
 use std::process::Abort;
 
-/// Ends the test where it found another value than it wanted.
+/// Fails the test if the values differ.
 pub(super) fn expect_eq<R: Abort, T: PartialEq + Debug>(rt: &R, found: &T, wanted: &T) {
     assert_eq!(rt; found, wanted);
 }
 
-/// The same at one of several places, which is told.
+/// Fails the test if the values differ, and reports the place.
 pub(super) fn expect_eq_at<R: Abort, P: Debug, T: PartialEq + Debug>(
     rt: &R,
     place: &P,
@@ -19,7 +19,7 @@ pub(super) fn expect_eq_at<R: Abort, P: Debug, T: PartialEq + Debug>(
     assert_eq!(rt; found, wanted, "at {place:?}");
 }
 
-/// Ends the test where this doesn't hold at one of several places, which is told.
+/// Fails the test if the condition is false, and reports the place.
 pub(super) fn expect_at<R: Abort, P: Debug>(rt: &R, place: &P, holds: bool) {
     assert!(rt; holds, "at {place:?}");
 }

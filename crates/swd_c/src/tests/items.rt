@@ -1,4 +1,4 @@
-//! The decoder by the exports, by worked traces, bit by bit and many bits at once.
+//! The decoder by the exports, over worked traces, bit by bit and many bits at once.
 use super::expect::expect_eq;
 use crate::{SwdItem, swd_decoder_due, swd_decoder_last, swd_decoder_new, swd_decoder_take};
 use std::alloc::{AllocError, Global};
@@ -42,7 +42,7 @@ fn transaction(request: u8, ack: u8, word: u32, parity_ok: u8) -> SwdItem {
     item
 }
 
-// The items that are due.
+// Appends the items that are due.
 fn add_due(decoder: &mut DecoderFields, items: &mut Vec<SwdItem>) -> Result<(), AllocError> {
     let mut item = NONE;
     for _ in 0..100u8 {
@@ -54,7 +54,7 @@ fn add_due(decoder: &mut DecoderFields, items: &mut Vec<SwdItem>) -> Result<(), 
     Ok(())
 }
 
-// The items at the end.
+// Appends the items at the end of the trace.
 fn add_last(decoder: &mut DecoderFields, items: &mut Vec<SwdItem>) -> Result<(), AllocError> {
     let mut item = NONE;
     for _ in 0..100u8 {
@@ -66,7 +66,7 @@ fn add_last(decoder: &mut DecoderFields, items: &mut Vec<SwdItem>) -> Result<(),
     Ok(())
 }
 
-// Takes the lowest of these bits, so many at once at most.
+// Takes the lowest of these bits, in pieces of limited length.
 fn add_bits(
     decoder: &mut DecoderFields,
     items: &mut Vec<SwdItem>,
@@ -88,7 +88,7 @@ fn add_bits(
     Ok(())
 }
 
-// Pieces of a trace, each so many of the lowest bits of a number, and its items.
+// Compares the items of a trace, in pieces of the lowest bits of a number, with those expected.
 fn reads<R: Abort>(
     rt: &R,
     alloc: Global,
@@ -138,11 +138,11 @@ fn worked_traces_are_read(rt: HostRuntime) -> Result<(), Fail> {
         &[(changed, 46)],
         &[transaction(0xa5, 1, 0x2ba0_1476, 0)],
     )?;
-    // It is cut off before its last bit.
+    // Its last bit is missing.
     let mut cut = counted(6, 45);
     cut.bits = dpidr ^ 1 << 45;
     reads(&rt, alloc, &[(dpidr, 45)], &[cut])?;
-    // No acknowledgement, and then nothing is known.
+    // No acknowledgement: the bits after it are stray.
     let mut junk = NONE;
     junk.kind = 5;
     let items = [transaction(0xa5, 7, 0, 0), junk, junk, junk];
@@ -150,7 +150,7 @@ fn worked_traces_are_read(rt: HostRuntime) -> Result<(), Fail> {
     Ok(())
 }
 
-// One number after the other is none that a decoder has.
+// Each of these fields in turn is invalid.
 #[test]
 fn fields_of_no_decoder_are_refused(rt: HostRuntime) {
     let mut decoder = ZEROS;

@@ -1,4 +1,4 @@
-//! What the exports refuse, with the caller's memory as it was.
+//! What the exports refuse, with the caller's memory unchanged.
 use super::cues::opened;
 use super::driver::{ASK, NO_RUN, REFUSED, ZEROS, plain, read, write};
 use super::expect::{expect_eq, expect_eq_at};
@@ -25,7 +25,7 @@ fn new_engine() -> EngineFields {
     fields
 }
 
-// One number after the other is none that an engine has.
+// Each of these fields in turn is invalid.
 #[test]
 fn fields_of_no_engine_are_refused(rt: HostRuntime) {
     is_refused(&rt, ZEROS);
@@ -103,7 +103,7 @@ fn accesses_that_may_not_begin_are_refused(rt: HostRuntime) {
     assert!(rt; !swd_engine_start(&mut fields, accesses.as_slice(), usize::MAX));
     expect_eq(&rt, &fields, &before);
     assert!(rt; swd_engine_start(&mut fields, accesses.as_slice(), 1));
-    // It is under way.
+    // The access is started.
     let before = fields;
     assert!(rt; !swd_engine_start(&mut fields, accesses.as_slice(), 1));
     expect_eq(&rt, &fields, &before);
@@ -115,7 +115,7 @@ fn new_run() -> RunFields {
     fields
 }
 
-// A run that is shown a list, with room for so many answers.
+// A run with the list that is passed to it, and room for `room` answers.
 #[derive(Clone, Copy)]
 struct Shown<'a> {
     run: RunFields,
@@ -131,7 +131,7 @@ fn with_room(run: RunFields, accesses: &[SwdAccess]) -> Shown {
     }
 }
 
-// The call is refused for this: the kind and the word of the cue's outcome.
+// Checks that the call is refused for this reason: the kind and the word of the cue's outcome.
 fn is_refused_for<R: Abort>(rt: &R, name: &str, shown: Shown, reply: u64, why: OutcomeFields) {
     let mut run = shown.run;
     let mut room = [plain(77), plain(77), plain(77)];

@@ -1,4 +1,4 @@
-//! Runs by the exports over both simulated targets, by worked values.
+//! Runs by the exports over both simulated targets, with worked results.
 ghost use Rattle.std.specs.Prelude.{IsTrue};
 ghost use Rattle.swd_target.specs.Marks.{IsPlan};
 
@@ -30,8 +30,8 @@ const QUIRKS: Quirks = Quirks {
     filler: 0xa5a5_a5a5,
 };
 
-// What a run meets: a memory of so many words with room for so many transfers, marks by the number of their
-// request from 1, the tries, and the accesses.
+// The conditions of a run: the memory's number of words, its log's capacity, marks by the number of their request from
+// 1, the tries, and the accesses.
 #[derive(Clone, Copy)]
 struct Run<'m, 'a> {
     quirks: Quirks,
@@ -53,7 +53,7 @@ fn run_of<'m, 'a>(marks: &'m [(usize, Mark)], accesses: &'a [SwdAccess]) -> Run<
     }
 }
 
-// What has to come of it.
+// The expected result.
 #[derive(Clone, Copy)]
 struct Wanted<'w, 'l> {
     answers: &'w [OutcomeFields],
@@ -104,7 +104,7 @@ fn is_told<R: Abort>(rt: &R, name: &str, told: Option<Told>, wanted: Wanted) {
     expect_eq_at(rt, &name, &told.answers.as_slice(), &wanted.answers);
 }
 
-// The same host twice: as an engine, whose loop over the accesses is the test's, and as a run.
+// The same host as an engine, with the loop over the accesses in the test, and as a run.
 #[derive(Clone, Copy)]
 struct Host {
     engine: EngineFields,
@@ -377,7 +377,7 @@ fn writes_whose_acknowledgement_is_lost(rt: HostRuntime) -> Result<(), Fail> {
     runs(&rt, rt.alloc(), "of what confirms it", run, unconfirmed)
 }
 
-// Four words by as many DRW reads and one of RDBUFF, behind TAR.
+// After TAR, four words take four reads of DRW and one of RDBUFF.
 #[test]
 fn blocks_of_reads(rt: HostRuntime) -> Result<(), Fail> {
     let accesses = [
@@ -411,7 +411,7 @@ fn blocks_of_reads(rt: HostRuntime) -> Result<(), Fail> {
     )
 }
 
-// Over one word: the second read is a bus error, and mostly answered with the first.
+// The memory has one word: the second read is a bus error, and mostly answered with the first.
 #[test]
 fn bus_errors_in_a_block(rt: HostRuntime) -> Result<(), Fail> {
     let accesses = [read(BASE), read(0x2000_0004), read(0x2000_0008)];
@@ -432,8 +432,8 @@ fn bus_errors_in_a_block(rt: HostRuntime) -> Result<(), Fail> {
     Ok(())
 }
 
-// The first run ends with the acknowledgement of the second write's data; the second write is in the
-// log twice, one directly after the other.
+// The first run ends at the acknowledgement of the second write's data. The log has the second write twice, in
+// succession.
 #[test]
 fn going_on_after_a_lost_acknowledgement(rt: HostRuntime) -> Result<(), Fail> {
     let accesses = [write(BASE, WORD), write(0x2000_0010, 1)];
@@ -469,12 +469,12 @@ fn going_on_after_a_lost_acknowledgement(rt: HostRuntime) -> Result<(), Fail> {
     let told = run_whole(rt.alloc(), &mut clocked, &mut run, &accesses)?;
     is_told(&rt, "again, by a run", told, rest);
     expect_eq(&rt, &clocked.memory().log(), &log.as_slice());
-    // It is whole: there is nothing to go on with.
+    // The run ended `All`, so it can't be resumed.
     assert!(rt; !swd_run_again(&mut run, 8));
     Ok(())
 }
 
-// A target that doesn't see the fifteenth request.
+// Returns a target that doesn't see the fifteenth request.
 fn deaf_bench<R: Abort>(rt: &R, alloc: Global) -> Result<ClockedBench, Fail> {
     let plan = plan_of(alloc, &[(15, Mark::Deaf)])?;
     if !are_legal(&plan) {

@@ -1,5 +1,5 @@
-//! The clocked target over the border beside that of Rattle, cycle by cycle: a host goes by the exports alone, and its
-//! caller has a bus of sixteen words.
+//! The exported clocked target beside that of Rattle, cycle by cycle. The host uses only the exports, and its caller
+//! has a bus of sixteen words.
 use super::driver::{BUS_FAULT, REFUSED, REST, VALUE, WRITTEN, ZEROS, plain, read, value, write};
 use super::expect::{expect_at, expect_eq, expect_eq_at};
 use crate::{
@@ -61,20 +61,20 @@ fn new_target() -> ClockedFields {
     target
 }
 
-// A target over the border with the caller's bus, and the same target in Rattle over a memory.
+// An exported target with the caller's bus, and the same target in Rattle over a memory.
 #[derive(Drop)]
 struct Pair {
     target: ClockedFields,
     words: [u32; 16],
     transfers: u32,
     twin: Clocked,
-    // A transfer is made once it is wanted, and not as late as is allowed.
+    // Transfers are made as soon as they are wanted, and not as late as allowed.
     at_once: bool,
     alike: bool,
 }
 
 impl Pair {
-    // The transfer that is wanted is made on the bus, and told.
+    // Makes the wanted transfer on the bus, and passes its result to the target.
     fn transfer(&mut self) -> bool {
         let wanted = swd_target_wants(&self.target);
         let place = (wanted.addr.wrapping_sub(BASE) / 4) as usize;
@@ -90,7 +90,7 @@ impl Pair {
         swd_target_settle(&mut self.target, WRITTEN, 0)
     }
 
-    // One clock of both.
+    // Performs one clock of both.
     fn cycle(&mut self, drive: Option<bool>) -> bool {
         let number = match drive {
             Some(bit) => u8::from(bit),
@@ -124,7 +124,7 @@ impl Pair {
         }
     }
 
-    // So many bits that are seen, the last one in bit 63.
+    // Samples `count` bits; the last one is in bit 63.
     fn see(&mut self, count: u32) -> u64 {
         let mut seen = 0u64;
         for _ in 0..count {
@@ -141,7 +141,7 @@ impl Pair {
         }
     }
 
-    // Does what a cue says, and gives what comes of it.
+    // Performs a cue, and returns the reply.
     fn reply(&mut self, cue: SwdCue) -> u64 {
         match cue.kind {
             1 => {
@@ -175,7 +175,7 @@ impl Pair {
         }
     }
 
-    // Goes on to the next outcome.
+    // Drives an engine to its next outcome.
     fn drive(&mut self, engine: &mut EngineFields) -> OutcomeFields {
         let mut cue = swd_engine_cue(engine);
         for _ in 0..1_000u32 {
@@ -203,7 +203,7 @@ fn is_alike<R: Abort>(rt: &R, name: &str, pair: &Pair) {
     }
 }
 
-// The same lines, counts and words, whether transfers are made at once or as late as is allowed.
+// The levels, counts and words agree, whether transfers are made at once or as late as allowed.
 #[test]
 fn accesses_over_the_exported_target(rt: HostRuntime) -> Result<(), Fail> {
     let accesses = [
@@ -257,7 +257,7 @@ fn accesses_over_the_exported_target(rt: HostRuntime) -> Result<(), Fail> {
     Ok(())
 }
 
-// What is wanted, and what can't come of it; then WAIT is answered while a transfer is pending.
+// Checks the wanted transfer and the results that it can't have. Then WAIT is answered while a transfer is pending.
 #[test]
 fn a_slow_bus_is_waited_for(rt: HostRuntime) -> Result<(), Fail> {
     let quirks = Quirks {
@@ -295,7 +295,7 @@ fn a_slow_bus_is_waited_for(rt: HostRuntime) -> Result<(), Fail> {
         &(wanted.kind, wanted.addr, wanted.word),
         &(1, 0x2000_0004, 0),
     );
-    // RDBUFF waits for it while the target is busy.
+    // RDBUFF is answered WAIT while the target is busy.
     assert!(rt; swd_target_hold(&mut pair.target, 1));
     pair.twin.hold(true);
     pair.send(0xbd, 8);
@@ -304,7 +304,7 @@ fn a_slow_bus_is_waited_for(rt: HostRuntime) -> Result<(), Fail> {
     pair.leave(1);
     assert!(rt; swd_target_hold(&mut pair.target, 0));
     pair.twin.hold(false);
-    // Of a read comes no word that was written, and no other kind.
+    // The result of a read can't be `WRITTEN` or another kind.
     for kind in [0, 1, WRITTEN, 5, 255] {
         assert!(rt; !swd_target_settle(&mut pair.target, kind, 7));
     }
@@ -327,7 +327,7 @@ fn refuses<R: Abort>(rt: &R, fields: ClockedFields) {
     expect_eq(rt, &now, &fields);
 }
 
-// What the exports refuse, with the caller's memory as it was.
+// What the exports refuse, with the caller's memory unchanged.
 #[test]
 fn numbers_of_no_target_are_refused(rt: HostRuntime) {
     refuses(&rt, NO_TARGET);
