@@ -1,4 +1,4 @@
-//! Reads the bytes of an image.
+//! Reads an image from a file.
 ghost use Rattle.std.specs.Prelude.{IfOk};
 ghost use Rattle.swd_io.specs.Pieces.{IsText};
 
@@ -7,12 +7,12 @@ use std::io::Read;
 use swd_io::{Consumer, Unread, read_pieces};
 use thiserror::Error;
 
-/// Out of memory for the bytes of an image.
+/// The error that memory for the bytes of an image ran out.
 #[derive(Clone, Copy, Debug, PartialEq, Eq, Error)]
 #[error("no memory")]
 pub struct NoRoom;
 
-// The bytes so far.
+// The bytes read so far.
 #[derive(Drop)]
 struct Gathered<A: Allocator> {
     bytes: Vec<u8, A>,
@@ -31,7 +31,7 @@ impl<A: Allocator> Consumer<()> for Gathered<A> {
 
     ghost stops = { λ _ _ _ _. Unit {0} };
 
-    // Takes the next piece. After an `Err` nothing is known of what is kept.
+    // Appends the next piece. After an `Err` the bytes are unspecified.
     fn take(&mut self, _writer: &mut (), piece: &[u8]) -> Result<(), NoRoom> {
         match self.bytes.extend_from_slice(piece) {
             Ok(()) => Ok(()),
@@ -46,12 +46,12 @@ impl<A: Allocator> Consumer<()> for Gathered<A> {
     ghost stops_later = { λ _ _ _ _ _ _ _ _. tt };
 }
 
-/// Reads an image: all bytes of the reader, up to its end. Nothing is tried again.
+/// Reads an image: all bytes of the reader, up to its end. Nothing is retried.
 ///
 /// # Errors
 ///
-/// `Consumer(NoRoom)` where memory was refused for the bytes, `Reader` where the reader failed, or did not end within
-/// 2^64 - 1 reads.
+/// - `Consumer(NoRoom)`: out of memory for the bytes.
+/// - `Reader`: the reader failed, or didn't end within 2^64 - 1 reads.
 pub fn read_image<R: Read, A: Allocator>(
     alloc: A,
     reader: &mut R,
