@@ -1,5 +1,5 @@
-//! What is printed of a capture beside its listing: where each item stands, the names of its registers and the flags
-//! of its words, and how often each kind of item came.
+//! Prints a trace or a capture: each part with its place, and with the names of its registers and the flags of its
+//! words, or the number of each kind of part, or the accesses of the target's memory.
 #![tactic(auto)]
 
 mod bit_count;
