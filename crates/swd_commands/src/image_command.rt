@@ -1,4 +1,4 @@
-//! Images, loaded into a simulated target's memory, compared with it, and read from it.
+//! Performs `swd load`, `swd verify` and `swd dump` over a simulated target.
 ghost use Rattle.std.specs.Prelude.{◌≡◌, ◌≢◌, IfOk, List, ℕ};
 ghost use Rattle.swd_io.specs.Pieces.{IsText};
 ghost use Rattle.swd_port.specs.PlainMemory.{PlainMemory};
@@ -20,18 +20,18 @@ use swd_script::read_plan;
 use swd_target::{Bench, Memory};
 use swd_words::{ImageJob, ImageLine};
 
-// Why nothing was loaded, or read, or why a byte isn't as it should be.
+// The reason why a command over an image failed.
 #[derive(Drop)]
 enum Failure {
-    // The file was not read.
+    // The file wasn't read.
     Unread(Unread<NoRoom>),
-    // The image was not loaded, or not read.
+    // The image wasn't loaded or read.
     Image(ImageFault),
     // This byte differs.
     Differs(ByteDifference),
 }
 
-// Says what failed, on one line.
+// Prints a line with the failure, and returns the status.
 fn failure_status<E: Write>(errors: &mut E, failure: Failure) -> u8
     ensures { result ≢ 0 }
 {
@@ -62,7 +62,7 @@ fn failure_status<E: Write>(errors: &mut E, failure: Failure) -> u8
     }
 }
 
-// The status where a line on standard output says what was done.
+// Returns the status after the line on standard output, which may not have been written.
 fn done_status<E: Write>(errors: &mut E, written: io::Result<()>) -> u8 {
     match written {
         Ok(()) => DONE,
@@ -70,8 +70,8 @@ fn done_status<E: Write>(errors: &mut E, written: io::Result<()>) -> u8 {
     }
 }
 
-// A target with the words of a range, all zero. Its log has room for what a load, a verification after it, and each
-// resumption under this plan may do.
+// Returns a target with the words of a range, all zero. Its log has room for a load, a verification after it, and the
+// resumptions under this plan.
 fn target_for(alloc: Global, addr: u32, len: u64, plan: Vec<Mark>) -> Result<Bench, ImageFault>
     requires { IsPlan plan.items }
     ensures { IfOk result (λ bench. (m : PlainMemory) × IsMadeWith m (port_of bench)) }
@@ -88,7 +88,7 @@ fn target_for(alloc: Global, addr: u32, len: u64, plan: Vec<Mark>) -> Result<Ben
     }
 }
 
-// The bytes of a file.
+// Reads the bytes of a file.
 fn bytes_of<R: Read>(alloc: Global, input: &mut R) -> Result<Vec<u8>, Failure>
     ensures { IfOk result (λ bytes. IsText (R.remaining input.old) bytes.items) }
 {
@@ -98,7 +98,7 @@ fn bytes_of<R: Read>(alloc: Global, input: &mut R) -> Result<Vec<u8>, Failure>
     }
 }
 
-// Loads a file, and verifies it where that is wanted. Answers how many bytes it has.
+// Loads a file, and then verifies it if `verified`. Returns its number of bytes.
 fn load_file<R: Read>(
     alloc: Global,
     image: &ImageLine,
@@ -128,7 +128,7 @@ fn load_file<R: Read>(
     }
 }
 
-// Compares the memory with a file. Answers how many bytes it has.
+// Compares the memory with a file. Returns the file's number of bytes.
 fn verify_file<R: Read>(
     alloc: Global,
     image: &ImageLine,
@@ -151,7 +151,7 @@ fn verify_file<R: Read>(
     }
 }
 
-// Reads bytes of the memory.
+// Reads `count` bytes of the memory.
 fn dump_bytes(
     alloc: Global,
     image: &ImageLine,
@@ -178,7 +178,7 @@ fn dump_bytes(
     }
 }
 
-// Makes the file that the bytes are written to, reads them, and writes them.
+// Opens the output file, reads the bytes, and writes them.
 fn dump_to_file<F: Files, O: Write, E: Write>(
     alloc: Global,
     image: &ImageLine,
@@ -209,7 +209,7 @@ fn dump_to_file<F: Files, O: Write, E: Write>(
     }
 }
 
-// Performs it under a plan that was read.
+// Performs the command under a plan.
 fn perform_under<R: Read, F: Files, O: Write, E: Write>(
     alloc: Global,
     image: &ImageLine,
@@ -245,7 +245,7 @@ fn perform_under<R: Read, F: Files, O: Write, E: Write>(
     }
 }
 
-/// Opens the plan, where one is named, and performs the command under it.
+/// Opens the plan, if one is named, and performs the command under it. Returns the status: 0 only if all was done.
 pub fn perform_image<R: Read, F: Files, O: Write, E: Write>(
     alloc: Global,
     image: &ImageLine,
