@@ -1,4 +1,4 @@
-//! The words of `swd load`, `swd verify` and `swd dump`.
+//! The arguments of `swd load`, `swd verify` and `swd dump`.
 ghost use Rattle.std.specs.Prelude.{◌≡◌, IfOk, IfSome, Some, codes, false};
 ghost use Rattle.std.specs.Option.{option_map};
 ghost use Rattle.clap.specs.Words.{app_of, found_of, rows_of, rule_of};
@@ -55,7 +55,7 @@ const ADDR_RANGE: &str = "ADDR is not 1 to 8 hexadecimal digits";
 
 const BYTES_RANGE: &str = "BYTES is not a decimal number of 64 bits";
 
-// A word that has to be there.
+// Returns a required argument.
 fn required_arg<'a>(alloc: Global, name: &'a str, help: &'a str) -> Arg<'a>
     ensures rule { rule_of result ≡ required_rule name.entry.now }
     ensures local { result.global ≡ false }
@@ -63,7 +63,7 @@ fn required_arg<'a>(alloc: Global, name: &'a str, help: &'a str) -> Arg<'a>
     Arg::new(alloc, name).required(true).help(help)
 }
 
-// Whether a load is verified.
+// Returns the flag for the verification of a load.
 fn verify_arg<'a>(alloc: Global) -> Arg<'a>
     ensures rule { rule_of result ≡ verify_rule }
     ensures local { result.global ≡ false }
@@ -74,7 +74,7 @@ fn verify_arg<'a>(alloc: Global) -> Arg<'a>
         .help("Read the bytes back, and compare them")
 }
 
-// The options of each.
+// Adds the options of all three commands.
 fn over_a_plan<'a>(alloc: Global, command: Command<'a>) -> Result<Command<'a>, AllocError>
     requires { (out-Command command).has_globals ≡ false }
     ensures app { IfOk result (λ c. app_of c ≡ over_a_plan (app_of command.entry)) }
@@ -85,7 +85,7 @@ fn over_a_plan<'a>(alloc: Global, command: Command<'a>) -> Result<Command<'a>, A
     with_arg(tries, resume_arg(alloc))
 }
 
-/// The command that loads a file.
+/// Returns the command `load`.
 pub(crate) fn load_command<'a>(alloc: Global) -> Result<Command<'a>, AllocError>
     ensures app { IfOk result (λ c. app_of c ≡ load_app) }
     ensures local { IfOk result (λ c. (out-Command c).has_globals ≡ false) }
@@ -102,7 +102,7 @@ pub(crate) fn load_command<'a>(alloc: Global) -> Result<Command<'a>, AllocError>
     with_arg(planned, verify_arg(alloc))
 }
 
-/// The command that compares the memory with a file.
+/// Returns the command `verify`.
 pub(crate) fn verify_command<'a>(alloc: Global) -> Result<Command<'a>, AllocError>
     ensures app { IfOk result (λ c. app_of c ≡ verify_app) }
     ensures local { IfOk result (λ c. (out-Command c).has_globals ≡ false) }
@@ -118,7 +118,7 @@ pub(crate) fn verify_command<'a>(alloc: Global) -> Result<Command<'a>, AllocErro
     over_a_plan(alloc, file)
 }
 
-/// The command that reads the memory into a file.
+/// Returns the command `dump`.
 pub(crate) fn dump_command<'a>(alloc: Global) -> Result<Command<'a>, AllocError>
     ensures app { IfOk result (λ c. app_of c ≡ dump_app) }
     ensures local { IfOk result (λ c. (out-Command c).has_globals ≡ false) }
@@ -135,7 +135,7 @@ pub(crate) fn dump_command<'a>(alloc: Global) -> Result<Command<'a>, AllocError>
     over_a_plan(alloc, file)
 }
 
-// The number of hexadecimal digits.
+// Returns the address that hexadecimal digits stand for, or `None` if the argument isn't such a number below 2^32.
 fn addr_in(word: Option<&str>) -> Option<u32>
     ensures { IfSome result (λ addr. IsNumber 16 addr (option_map (λ s. s.now) word.entry)) }
 {
@@ -148,7 +148,7 @@ fn addr_in(word: Option<&str>) -> Option<u32>
     }
 }
 
-// The number of decimal digits.
+// Returns the number that decimal digits stand for, or `None` if the argument isn't such a number below 2^64.
 fn count_in(word: Option<&str>) -> Option<u64>
     ensures { IfSome result (λ count. IsNumber 10 count (option_map (λ s. s.now) word.entry)) }
 {
@@ -161,7 +161,7 @@ fn count_in(word: Option<&str>) -> Option<u64>
     }
 }
 
-// What each is given.
+// Returns the arguments of a command.
 fn image_line(
     alloc: Global,
     job: ImageJob,
@@ -195,7 +195,7 @@ fn image_line(
     })
 }
 
-/// What `swd load` is given.
+/// Returns the arguments of `swd load`.
 pub(crate) fn load_line(alloc: Global, matches: &ArgMatches<'_>) -> Result<ImageLine, LineFault>
     ensures job { IfOk result (λ image. IsJobOf image.job (codes "load") (rows_of (found_of matches.now))) }
     ensures image { IfOk result (λ image. IsImageOf image (rows_of (found_of matches.now))) }
@@ -204,7 +204,7 @@ pub(crate) fn load_line(alloc: Global, matches: &ArgMatches<'_>) -> Result<Image
     image_line(alloc, ImageJob::Load(verify), matches)
 }
 
-/// What `swd verify` is given.
+/// Returns the arguments of `swd verify`.
 pub(crate) fn verify_line(alloc: Global, matches: &ArgMatches<'_>) -> Result<ImageLine, LineFault>
     ensures job { IfOk result (λ image. IsJobOf image.job (codes "verify") (rows_of (found_of matches.now))) }
     ensures image { IfOk result (λ image. IsImageOf image (rows_of (found_of matches.now))) }
@@ -212,7 +212,7 @@ pub(crate) fn verify_line(alloc: Global, matches: &ArgMatches<'_>) -> Result<Ima
     image_line(alloc, ImageJob::Verify, matches)
 }
 
-/// What `swd dump` is given.
+/// Returns the arguments of `swd dump`.
 pub(crate) fn dump_line(alloc: Global, matches: &ArgMatches<'_>) -> Result<ImageLine, LineFault>
     ensures job { IfOk result (λ image. IsJobOf image.job (codes "dump") (rows_of (found_of matches.now))) }
     ensures image { IfOk result (λ image. IsImageOf image (rows_of (found_of matches.now))) }
