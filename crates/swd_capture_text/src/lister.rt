@@ -222,7 +222,8 @@ impl Lister {
     ///
     /// # Errors
     ///
-    /// If the writer fails: how many bytes of the output were written. These are exactly its first ones.
+    /// If the writer fails: how many bytes of the output were written, at most 2^64 - 1. These are exactly its first
+    /// ones.
     pub(crate) fn finish<W: Write>(&mut self, writer: &mut W) -> Result<(), u64>
         ensures { (start : Start) (seen : List ℕ) → HasRead W.contents start (self.old, writer.old) seen
             → Finishes start.reading start.printed result seen start.from (W.contents writer.new) }
