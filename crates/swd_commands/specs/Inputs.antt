@@ -7,13 +7,13 @@ use Rattle.swd_words.specs.declared.command.Line.TheVariants.{One, Decode, Encod
 use Rattle.swd_words.specs.declared.command.ImageJob.{ImageJob}
 use Rattle.swd_words.specs.declared.command.ImageJob.TheVariants.{Load, Verify, Dump}
 
--- the file that is loaded or compared; that of a dump is written
+-- the file that is loaded or compared; the file of a dump is written
 abbrev pub image_read : ImageJob → List ℕ → Option (List ℕ)
 image_read (Load verify) file = Some file
 image_read Verify file = Some file
 image_read (Dump count) file = None
 
--- the file that the words name
+-- the file that the arguments name
 abbrev pub named : Line → Option (List ℕ)
 named (One file) = option_map string_bytes file
 named (Decode decode) = option_map string_bytes decode.file
@@ -22,6 +22,6 @@ named (Run run) = Some (string_bytes run.script)
 named (Target target) = Some (string_bytes target.script)
 named (Image image) = image_read image.job (string_bytes image.file)
 
--- standard input is read: no file is named, or `-`
+-- standard input is read: no file is named, or `-` is
 abbrev pub IsStandard : Line → Type 0
 IsStandard line = (named line ≡ None) ⊎ (named line ≡ Some (codes "-"))
