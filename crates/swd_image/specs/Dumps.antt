@@ -14,8 +14,8 @@ use Rattle.swd_image.specs.Sessions.{FailsAs, ReadsAs}
 
 module _ {W : Type 0} (port : W → Port) (plan : W → List Mark) (lawful : W → Type 0) (tries resumes : ℕ) where
   -- `count` bytes were read. Whatever was seen, they are the bytes of the words that the calls read. If the wire was
-  -- lawful and the target at rest, they are the memory's bytes, no word of the memory changed, and the target is at
-  -- rest again.
+  -- lawful and the target at rest, they are the memory's bytes. Then no word of the memory changed, and the target is
+  -- at rest again.
   pub record Dumps (addr count : ℕ) (bytes : List ℕ) (s t : W) : Type 0 where
     pub fits : addr + count ≤ 2 ^ 32
     pub words : List ℕ

@@ -13,7 +13,7 @@ module _ {W : Type 0} (port : W → Port) (plan : W → List Mark) (lawful : W �
     (bytes : List ℕ) (s t : W) where
   -- The image was loaded. Whatever was seen, these are the calls: they read the partial words, and then wrote each
   -- word, a partial one as it was read, with the image's bytes in it. If the wire was lawful and the target at rest,
-  -- the memory contains the image, nothing else of it changed, and the target is at rest again.
+  -- the memory contains the image, and nothing else of it changed. The target is then at rest again.
   pub record Loads : Type 0 where
     pub fits : addr + length bytes ≤ 2 ^ 32
     pub head : ℕ

@@ -45,8 +45,8 @@ fn bytes_of<A: Allocator>(
 /// blocks of at most 65,536 words. Each access may meet `tries` events. Each block is resumed up to `resumes` times
 /// after a lost acknowledgement.
 ///
-/// Over a target that conforms to the model and was at rest, the result is the bytes of its memory, and no word of the
-/// memory changed.
+/// Over a target that conforms to the model and was at rest, the result is the bytes of its memory. No word of the
+/// memory changed then.
 ///
 /// # Errors
 ///

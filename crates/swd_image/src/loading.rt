@@ -67,8 +67,8 @@ fn read_edges<W: Wire, A: Allocator + Copy>(
 /// meet `tries` events. A call is resumed up to `resumes` times after a lost acknowledgement. An empty image makes no
 /// call.
 ///
-/// Over a target that conforms to the model and was at rest, a load that succeeds leaves the image in the range, and
-/// all other memory unchanged.
+/// Over a target that conforms to the model and was at rest, the range contains the image after a load that succeeds.
+/// All other memory is unchanged then.
 ///
 /// # Errors
 ///
