@@ -64,7 +64,7 @@ pub data StopsWriting (reading : Reading) (printed : Printed) (text left : Optio
       → Stopped count old new (printout printed (is_over reading) parts)
       → StopsWriting reading printed text left count old new
 
--- What a result says of the reader's text, if its bytes are known, of what the reader has left, and of what the writer
+-- What a result says of the reader's text, if its bytes are known, and of what is left of it. Also what the writer
 -- holds before and after.
 abbrev pub Prints : Reading → Printed → Result (Unit {0}) DecodeFault → Option (List ℕ) → Option (List ℕ)
     → Option (List ℕ) → Option (List ℕ) → Type 0
