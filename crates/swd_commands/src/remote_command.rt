@@ -16,7 +16,7 @@ use swd_remote::Fault;
 use swd_run::Finished;
 use swd_words::RunLine;
 
-/// A story of the other end. Which one is irrelevant: a run's contract is proved for each.
+/// An instance of `Story` for the other end. Which one is irrelevant: a run's contract is proved for each.
 pub struct Untold;
 
 impl Story for Untold {

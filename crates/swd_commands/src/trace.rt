@@ -24,8 +24,8 @@ pub struct Sources {
 ///
 /// # Errors
 ///
-/// Returns an error if the file is one of these under any name, or may be, for `-`, and if the file can't be opened or
-/// created. An existing file isn't truncated then.
+/// Returns an error if the file is one of these under any name, or may be. Also for `-`, and if the file can't be
+/// opened or created. An existing file isn't truncated then.
 pub fn open_trace<F: Files>(files: &F, name: &str, read: Sources) -> io::Result<Opened<F::Made>>
     ensures { IfOk result (λ trace. IsBeside trace.identity name.now read) }
 {
