@@ -23,7 +23,7 @@ use Rattle.clap.specs.declared.builder.value_parser.ValueParser.TheVariants.{Sig
 abbrev pub file_rule : Rule
 file_rule = new_rule (codes "FILE")
 
--- a command over a file
+-- a command with an optional file
 abbrev pub over_file : Text → App
 over_file name = with_rule (new_app name) file_rule
 

@@ -12,7 +12,7 @@ pub enum Line {
     /// `swd encode [FILE]`. Without a file it reads standard input.
     Encode(Option<String>),
     /// `swd run SCRIPT [--plan FILE] [--tries N] [--resume N] [--trace FILE] [--strict]`, or
-    /// `swd run SCRIPT --remote --report FILE [--tries N] [--strict]`.
+    /// `swd run SCRIPT --remote --report FILE [--tries N] [--resume N] [--trace FILE] [--strict]`.
     Run(RunLine),
     /// `swd target SCRIPT [--plan FILE] [--log FILE] [--trace FILE]`.
     Target(TargetLine),
