@@ -1,4 +1,4 @@
-//! Loads an image.
+//! Loads images.
 ghost use Rattle.std.specs.Prelude.{◌≡◌, ◌+◌, ◌%◌, ◌≤◌, ◌<◌, ◌^◌, IfErr, IfOk, OnOk};
 ghost use Rattle.swd_port.specs.declared.wire.Due.TheVariants.{Nothing};
 ghost use Rattle.swd_image.specs.Lists.{edge_list, edge_words, read_if, word_if};
