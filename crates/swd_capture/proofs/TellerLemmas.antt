@@ -89,7 +89,7 @@ told_more (Accesses made) over parts part =
     ap (λ i. accesses i (observer_of made)) (items_more over parts part)
     ∙ accesses_join (items_of over parts) (items_of_part over part) (observer_of made)
 
--- nothing is told of no parts
+-- the output for no parts is empty
 pub told_none : (printed : Printed) (over : Bool) → told printed over [] ≡ []
 told_none (Lines form) over = refl
 told_none Counts over = refl

@@ -11,7 +11,7 @@ use Rattle.swd_port.specs.declared.select.Select.{Select}
 use Rattle.swd_capture.specs.declared.flags.Flagged.{Flagged}
 use Rattle.swd_capture.specs.declared.flags.Flagged.TheVariants.{Abort, CtrlStat, Csw, Nothing}
 
--- a flag's name behind a space, where its bit is set
+-- a space and a flag's name if its bit is set
 abbrev pub flag : ℕ → List ℕ → ℕ → List ℕ
 flag place name word = if bit_of place word then (codes " " ++ name) else []
 
@@ -48,7 +48,7 @@ dp_flagged (Some select) R4 read = in_bank select.dpbanksel CtrlStat
 dp_flagged select R8 read = Nothing
 dp_flagged select RC read = Nothing
 
--- a read of an access port gives the word of the read before it, so only its writes have a word of their own
+-- a read of an access port returns the word of the read before it, so only writes have their own word
 abbrev pub ap_flagged : Option Select → Reg4 → Bool → Flagged
 ap_flagged None addr read = Nothing
 ap_flagged (Some select) R0 false = in_bank select.apbanksel Csw
@@ -65,7 +65,7 @@ flagged_in select false addr read = dp_flagged select addr read
 abbrev pub flagged : Option Select → Request → Flagged
 flagged select q = flagged_in select q.ap q.addr q.read
 
--- the flags of the word that a transaction moved, where its parity is right
+-- the flags of a transaction's word if its parity is right
 abbrev pub moved_flags : Flagged → ℕ → Bool → List ℕ
 moved_flags which word true = flags_in which word
 moved_flags which word false = []

@@ -15,7 +15,7 @@ use Rattle.swd_trace.specs.declared.item.Item.TheVariants.{Reset, Switch, Idle, 
 use Rattle.swd_port.specs.Registers.{select_of}
 use Rattle.swd_port.specs.declared.select.Select.{Select}
 
--- ---- what SELECT has
+-- ---- what is known of SELECT
 
 abbrev pub is_at_eight : Reg4 → Bool
 is_at_eight R0 = false
@@ -23,24 +23,23 @@ is_at_eight R4 = false
 is_at_eight R8 = true
 is_at_eight RC = false
 
--- a write of SELECT, which is the debug port's at address 8
+-- a write of SELECT: the debug port's register at address 8
 abbrev pub writes_select : Request → Bool
 writes_select q = is_at_eight q.addr && (not q.ap && not q.read)
 
--- the word of a write that was answered OK, where its parity is right; with wrong parity nobody knows what was taken
+-- the word of a write that was answered OK, if its parity is right; with wrong parity what was written is unknown
 abbrev pub written : Bool → ℕ → Option Select
 written true word = Some (select_of word)
 written false word = None
 
--- after an acknowledgement: WAIT and FAULT change nothing; where none was seen, the request may have been another
+-- after a transaction: WAIT and FAULT change nothing; without an acknowledgement the request may have been another one
 abbrev pub select_by : Option Select → Request → TxEnd → Option Select
 select_by select q (Moved word ok) = if writes_select q then written ok word else select
 select_by select q Wait = select
 select_by select q Fault = select
 select_by select q (NoAck seen) = None
 
--- after an item. A line reset may come of a target that lost its power, and bits that belong to nothing may hide a
--- write
+-- after an item: a line reset may be due to a loss of power, and junk bits may hide a write
 abbrev pub select_after : Option Select → Item → Option Select
 select_after select (Reset n) = None
 select_after select Switch = None
@@ -53,13 +52,13 @@ abbrev pub select_from : Option Select → List Item → Option Select
 select_from select [] = select
 select_from select (item ∷ items) = select_from (select_after select item) items
 
--- what is known of SELECT behind these items, of which nothing is known before
+-- what is known of SELECT after these items, if nothing is known before
 abbrev pub select_behind : List Item → Option Select
 select_behind items = select_from None items
 
 -- ---- names
 
--- the number of an access port, and of a bank as a hexadecimal digit, where it isn't 0
+-- the number of an access port, and that of a bank as a hexadecimal digit, unless it is 0
 abbrev pub ap_number : ℕ → List ℕ
 ap_number n = if n == 0 then [] else (decimal n ++ codes " ")
 
@@ -85,7 +84,7 @@ dp_register select R8 false = codes "select "
 dp_register select RC true = codes "rdbuff "
 dp_register select RC false = codes "targetsel "
 
--- the registers of a memory access port, by bank and address
+-- the registers of a MEM-AP, by bank and address
 abbrev pub access_name : Reg4 → List ℕ
 access_name R0 = codes "csw "
 access_name R4 = codes "tar "

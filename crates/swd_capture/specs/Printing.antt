@@ -1,4 +1,4 @@
--- What is printed of the parts of a capture; a trace is one whose parts are its items. The text is this project's
+-- The output for the parts of a capture. A trace is a capture whose parts are its items. The text is this project's
 -- choice.
 use Rattle.std.specs.Prelude.{ℕ, zero, suc, Bool, true, false, List, [], ◌∷◌, ◌++◌, Option}
 use Rattle.swd_bits.specs.Listing.{port, direction, outcome}
@@ -37,7 +37,7 @@ named_line select (Idle n) = item_line (Idle n)
 named_line select (Junk b) = item_line (Junk b)
 named_line select (Cut bits) = item_line (Cut bits)
 
--- the place, where lines begin with it
+-- the place, if lines begin with it
 abbrev pub place_if : Bool → ℕ → List ℕ
 place_if true place = place_text place
 place_if false place = []
@@ -52,18 +52,18 @@ abbrev pub part_text : Bool → Option Select → Part → List ℕ
 part_text names select (Told item) = line_if names select item
 part_text names select (Skip n) = part_line (Skip n)
 
--- the line of a part behind these items, and its end
+-- the line of a part after these items, and its line feed
 abbrev pub line_behind : LineForm → List Item → Part → List ℕ
 line_behind form before part = place_if form.places (place_behind before)
     ++ part_text form.names (select_behind before) part ++ 10 ∷ []
 
--- the lines of parts behind others
+-- the lines of parts after others
 abbrev pub lines_behind : LineForm → Bool → List Part → List Part → List ℕ
 lines_behind form over before [] = []
 lines_behind form over before (part ∷ parts) =
     line_behind form (items_of over before) part ++ lines_behind form over (before ++ part ∷ []) parts
 
--- what is known first of the target whose accesses are told: all where it was just made, else nothing
+-- the observer before the first part: of a target in its reset state, or of one of which nothing is known
 abbrev pub observer_of : Bool → TraceObserver
 observer_of true = from_made
 observer_of false = from_unknown
@@ -73,21 +73,21 @@ first_observer (Lines form) = from_unknown
 first_observer Counts = from_unknown
 first_observer (Accesses made) = observer_of made
 
--- what is told of a part behind others as soon as it is decided
+-- the output for a part after others, which is due as soon as the part is decided
 abbrev pub entry : Printed → Bool → List Part → Part → List ℕ
 entry (Lines form) over before part = line_behind form (items_of over before) part
 entry Counts over before part = []
 entry (Accesses made) over before part =
     accesses (items_of_part over part) (after_items (items_of over before) (observer_of made))
 
--- What is told of the first parts of a capture, while more may follow. Places, SELECT and accesses are those of the
--- items of a trace that the parts are.
+-- The output for the first parts of a capture, while more may follow. Places, SELECT and accesses are those of a trace
+-- with the items that the parts count as.
 abbrev pub told : Printed → Bool → List Part → List ℕ
 told (Lines form) over parts = lines_behind form over [] parts
 told Counts over parts = []
 told (Accesses made) over parts = accesses (items_of over parts) (observer_of made)
 
--- what stands at the end: a number of rows of a table, or the lines of accesses that nothing confirms
+-- the number of rows at the end: those of a table, or one for the lines of the accesses that nothing confirms
 abbrev pub row_count : Printed → ℕ
 row_count (Lines form) = 0
 row_count Counts = 86
@@ -99,12 +99,12 @@ end_row_text Counts over parts row = row_text parts row
 end_row_text (Accesses made) over parts row =
     tells_text (last_tells (after_items (items_of over parts) (observer_of made)).observer)
 
--- the first of these rows
+-- the first `n` of these rows
 abbrev pub end_rows_text : Printed → Bool → List Part → ℕ → List ℕ
 end_rows_text printed over parts zero = []
 end_rows_text printed over parts (suc n) =
     end_rows_text printed over parts n ++ end_row_text printed over parts n
 
--- what is printed of all parts of a capture
+-- the output for a whole capture
 abbrev pub printout : Printed → Bool → List Part → List ℕ
 printout printed over parts = told printed over parts ++ end_rows_text printed over parts (row_count printed)

@@ -1,4 +1,4 @@
--- How often each kind of part came.
+-- The counts of each kind of part.
 use Rattle.std.specs.Prelude.{◌≡◌, ℕ, ◌+◌, ◌-◌, ◌/◌, ◌%◌, ◌^◌, ◌<◌, ◌==◌, nat_lt, min, Bool, true}
 use Rattle.std.specs.Prelude.{false, List, [], ◌∷◌, ◌++◌, length, codes, if◌then◌else◌, slice_index}
 use Rattle.std.specs.Fmt.{decimal}
@@ -39,7 +39,7 @@ end_row Wait = 2
 end_row Fault = 3
 end_row (NoAck seen) = 4
 
--- transactions by port, address, direction and what came of them, and then the other kinds
+-- transactions by port, address, direction and result, and then the other kinds
 abbrev pub item_row : Item → ℕ
 item_row (Tx tx) = port_rows tx.request.ap + addr_rows tx.request.addr + direction_rows tx.request.read
     + end_row tx.result
@@ -49,12 +49,12 @@ item_row (Idle n) = 82
 item_row (Junk b) = 83
 item_row (Cut bits) = 84
 
--- and bits that are skipped
+-- and skips
 abbrev pub row_of : Part → ℕ
 row_of (Told item) = item_row item
 row_of (Skip n) = 85
 
--- idle cycles and bits that are cut off are counted each, and so are bits that belong to nothing
+-- idle cycles, junk bits and the bits of cut ends are counted one by one
 abbrev pub item_weight : Item → ℕ
 item_weight (Idle n) = n
 item_weight (Cut bits) = bits.len
@@ -63,7 +63,7 @@ item_weight (Reset n) = 1
 item_weight Switch = 1
 item_weight (Junk b) = 1
 
--- and so are those that are skipped
+-- and so are the bits of skips
 abbrev pub weight_of : Part → ℕ
 weight_of (Told item) = item_weight item
 weight_of (Skip n) = n
@@ -71,14 +71,14 @@ weight_of (Skip n) = n
 abbrev pub counted : ℕ → Part → ℕ
 counted row part = if row_of part == row then weight_of part else 0
 
--- what is counted in a row
+-- the count of a row
 abbrev pub count_in : ℕ → List Part → ℕ
 count_in row [] = 0
 count_in row (part ∷ parts) = counted row part + count_in row parts
 
 -- ---- the text
 
--- what a part is told as where it is counted
+-- the name of a part's kind
 abbrev pub kind_end : TxEnd → List ℕ
 kind_end (Moved word true) = codes "ok"
 kind_end (Moved word false) = codes "bad"
@@ -123,15 +123,15 @@ row_name n =
     if nat_lt n 80 then (port_name (n / 40) ++ addr_name (n / 10 % 4) ++ direction_name (n / 5 % 2) ++ end_name (n % 5))
     else other_name n
 
--- a row's line: its number and its name; none where nothing was counted
+-- a row's line: its count and its name; no line if the count is 0
 abbrev pub row_line : ℕ → List ℕ → List ℕ
 row_line count name = if count == 0 then [] else (decimal count ++ codes " " ++ name ++ 10 ∷ [])
 
--- the line of a row, whose number is at most 2^64 - 1
+-- the line of a row; its count is at most 2^64 - 1
 abbrev pub row_text : List Part → ℕ → List ℕ
 row_text parts row = row_line (min (count_in row parts) (2 ^ 64 - 1)) (row_name row)
 
--- the table has what is counted of these parts
+-- the table has the counts of these parts
 pub record IsTableOf (parts : List Part) (table : Table) : Type 0 where
   pub rows : length table.counts ≡ 86
   pub counts : (row : ℕ) → row < 86 → slice_index table.counts row ≡ min (count_in row parts) (2 ^ 64 - 1)

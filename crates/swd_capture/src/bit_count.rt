@@ -1,4 +1,4 @@
-//! How many bits items have.
+//! Counts the bits of items.
 ghost use Rattle.std.specs.Prelude.{◌≡◌, length, true};
 ghost use Rattle.swd_bits.specs.Transactions.{spelling};
 ghost use Rattle.swd_trace.specs.Texts.{item_bits};
@@ -6,7 +6,7 @@ ghost use Rattle.swd_trace.specs.Texts.{item_bits};
 use swd_bits::{MOVED_BITS, REFUSED_BITS, SWITCH_BITS, Tx, TxEnd, UNACKNOWLEDGED_BITS};
 use swd_trace::Item;
 
-/// How many bits an item has.
+/// Returns how many bits an item has.
 pub(crate) fn bit_count(item: &Item) -> u64
     ensures { result ≡ length (item_bits item.now) }
 {
@@ -19,7 +19,7 @@ pub(crate) fn bit_count(item: &Item) -> u64
     }
 }
 
-// How many bits a transaction has.
+// Returns how many bits a transaction has.
 fn tx_bit_count(tx: &Tx) -> u8
     ensures { result ≡ length (spelling tx.now true true) }
 {

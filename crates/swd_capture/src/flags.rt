@@ -1,4 +1,4 @@
-//! The flags of the words that a transaction moves.
+//! Prints the flags of a transaction's word.
 ghost use Rattle.std.specs.Prelude.{◌≡◌, ◌+◌, ◌<◌, ◌≤◌, ◌++◌, length};
 ghost use Rattle.arrayvec.specs.ArrayString.{array_string_len};
 ghost use Rattle.swd_capture.specs.Flags.{abort_flags, csw_flags, flag, flagged, flags_in, flags_of, in_bank};
@@ -8,7 +8,7 @@ use arrayvec::ArrayString;
 use swd_bits::{Reg4, Request, TxEnd};
 use swd_port::Select;
 
-/// The most bytes of the flags of a word.
+/// The most bytes of a word's flags.
 pub(crate) const LONGEST_FLAGS: usize = 160;
 
 /// A register whose word has flags.
@@ -17,18 +17,18 @@ pub(crate) enum Flagged {
     Abort,
     CtrlStat,
     Csw,
-    /// None of these.
+    /// Any other register.
     Nothing,
 }
 
-// The register, where its bank is 0.
+// Returns the register if the bank is 0.
 fn in_first_bank(bank: u8, which: Flagged) -> Flagged
     ensures { result ≡ in_bank bank which }
 {
     if bank == 0 { which } else { Flagged::Nothing }
 }
 
-// The debug port's register.
+// Returns the debug port's register at an address.
 fn of_debug_port(select: Option<Select>, addr: Reg4, read: bool) -> Flagged
     ensures { result ≡ dp_flagged select addr read }
 {
@@ -48,7 +48,7 @@ fn of_debug_port(select: Option<Select>, addr: Reg4, read: bool) -> Flagged
     }
 }
 
-// The access port's register.
+// Returns the access port's register at an address.
 fn of_access_port(select: Option<Select>, addr: Reg4, read: bool) -> Flagged
     ensures { result ≡ ap_flagged select addr read }
 {
@@ -67,7 +67,7 @@ fn of_access_port(select: Option<Select>, addr: Reg4, read: bool) -> Flagged
     }
 }
 
-/// The register whose flags the word of a transaction has.
+/// Returns the register whose flags the word of a transaction with this request has.
 pub(crate) fn flagged_by(select: Option<Select>, request: Request) -> Flagged
     ensures { result ≡ flagged select request }
 {
@@ -78,7 +78,7 @@ pub(crate) fn flagged_by(select: Option<Select>, request: Request) -> Flagged
     }
 }
 
-// Adds a flag's name, where its bit is set.
+// Appends a space and a flag's name if its bit is set.
 fn push_flag<const N: usize>(text: &mut ArrayString<N>, word: u32, place: u8, name: &'static str)
     requires place { place < 32 }
     requires room { array_string_len text.old + (1 + length name.now) ≤ N }
@@ -140,7 +140,7 @@ fn push_csw_flags<const N: usize>(text: &mut ArrayString<N>, word: u32)
     push_flag(text, word, 31, "dbg_sw_enable");
 }
 
-// Adds the flags of such a register's word.
+// Appends the set flags of a register's word.
 fn push_flags_in<const N: usize>(text: &mut ArrayString<N>, which: Flagged, word: u32)
     requires { array_string_len text.old + LONGEST_FLAGS ≤ N }
     ensures bytes { text.new.bytes ≡ text.old.bytes ++ flags_in which word }
@@ -157,7 +157,7 @@ fn push_flags_in<const N: usize>(text: &mut ArrayString<N>, which: Flagged, word
     }
 }
 
-/// Adds the flags of the word that was moved, where its parity is right.
+/// Appends the set flags of a transaction's word. Appends nothing without a word or if its parity is wrong.
 pub(crate) fn push_flags<const N: usize>(text: &mut ArrayString<N>, which: Flagged, end: TxEnd)
     requires { array_string_len text.old + LONGEST_FLAGS ≤ N }
     ensures bytes { text.new.bytes ≡ text.old.bytes ++ flags_of which end }

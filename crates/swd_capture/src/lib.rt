@@ -1,5 +1,5 @@
-//! What is printed of a capture beside its listing: where each item stands, the names of its registers and the flags
-//! of its words, and how often each kind of item came.
+//! Prints a trace or a capture in one of three forms: a line for each part, the counts of the kinds of parts, or the
+//! accesses of the target's memory. A line may have the part's place, the register's name, and the flags of its word.
 #![tactic(auto)]
 
 mod bit_count;

@@ -1,4 +1,4 @@
-//! Registers by name, where SELECT is known.
+//! Prints registers by name, as far as SELECT is known.
 ghost use Rattle.std.specs.Prelude.{◌≡◌, ◌+◌, ◌-◌, ◌<◌, ◌≤◌, ◌++◌, ◌∷◌, [], length};
 ghost use Rattle.arrayvec.specs.ArrayString.{array_string_len};
 ghost use Rattle.swd_bits.specs.Listing.{address, direction, hex_digit, outcome, port};
@@ -16,13 +16,13 @@ use swd_trace::Item;
 // The most bytes of a register's name.
 const LONGEST_REGISTER: usize = 30;
 
-// How many bytes of a listing line stand before the direction.
+// The number of bytes of a listing line before the direction.
 const BEHIND_ADDRESS: usize = 5;
 
 /// The most bytes of a transaction's line with names.
 pub(crate) const LONGEST_NAMED: usize = 3 + LONGEST_REGISTER + LONGEST_TX_LINE + LONGEST_FLAGS;
 
-// Whether a request writes SELECT.
+// Returns whether a request writes SELECT.
 fn is_select_write(request: Request) -> bool
     ensures { result ≡ writes_select request }
 {
@@ -32,7 +32,7 @@ fn is_select_write(request: Request) -> bool
     }
 }
 
-// What is known of SELECT after a transaction.
+// Returns what is known of SELECT after a transaction.
 fn selected_by(select: Option<Select>, request: Request, end: TxEnd) -> Option<Select>
     ensures { result ≡ select_by select request end }
 {
@@ -51,7 +51,7 @@ fn selected_by(select: Option<Select>, request: Request, end: TxEnd) -> Option<S
     }
 }
 
-/// What is known of SELECT after an item.
+/// Returns what is known of SELECT after an item.
 pub(crate) fn selected_after(select: Option<Select>, item: &Item) -> Option<Select>
     ensures { result ≡ select_after select item.now }
 {
@@ -134,7 +134,7 @@ fn identity_text(addr: Reg4) -> &'static str
     }
 }
 
-// A register of a memory access port.
+// Returns the name of a MEM-AP register, by bank and address.
 fn mem_ap_text(number: u8, addr: Reg4) -> &'static str
     ensures bytes { result.now ≡ mem_ap_name number addr }
     ensures len { length result.now ≤ 10 }
@@ -148,7 +148,7 @@ fn mem_ap_text(number: u8, addr: Reg4) -> &'static str
     }
 }
 
-// Adds the number of an access port, where it isn't 0.
+// Appends the number of an access port, unless it is 0.
 fn push_ap_number<const N: usize>(text: &mut ArrayString<N>, number: u8)
     requires { array_string_len text.old + 4 ≤ N }
     ensures bytes { text.new.bytes ≡ text.old.bytes ++ ap_number number }
@@ -186,7 +186,7 @@ fn digit_text(digit: u8) -> &'static str
     }
 }
 
-// Adds the number of a bank, where it isn't 0.
+// Appends the number of a bank as a hexadecimal digit, unless it is 0.
 fn push_bank<const N: usize>(text: &mut ArrayString<N>, number: u8)
     requires { array_string_len text.old + 7 ≤ N }
     ensures bytes { text.new.bytes ≡ text.old.bytes ++ bank number }
@@ -200,7 +200,7 @@ fn push_bank<const N: usize>(text: &mut ArrayString<N>, number: u8)
     text.push_str(" ");
 }
 
-// Adds the debug port's register at address 4.
+// Appends the debug port's register at address 4.
 fn push_banked<const N: usize>(text: &mut ArrayString<N>, select: Option<Select>)
     requires { array_string_len text.old + LONGEST_REGISTER ≤ N }
     ensures bytes { text.new.bytes ≡ text.old.bytes ++ banked select }
@@ -214,7 +214,7 @@ fn push_banked<const N: usize>(text: &mut ArrayString<N>, select: Option<Select>
     text.push_str(banked_text(select.dpbanksel));
 }
 
-// Adds a register of the debug port.
+// Appends a register of the debug port.
 fn push_dp_register<const N: usize>(
     text: &mut ArrayString<N>,
     select: Option<Select>,
@@ -233,7 +233,7 @@ fn push_dp_register<const N: usize>(
     }
 }
 
-// Adds a register of an access port.
+// Appends a register of an access port.
 fn push_ap_register<const N: usize>(text: &mut ArrayString<N>, select: Option<Select>, addr: Reg4)
     requires { array_string_len text.old + LONGEST_REGISTER ≤ N }
     ensures bytes { text.new.bytes ≡ text.old.bytes ++ ap_register select addr }
@@ -248,7 +248,7 @@ fn push_ap_register<const N: usize>(text: &mut ArrayString<N>, select: Option<Se
     text.push_str(mem_ap_text(select.apbanksel, addr));
 }
 
-// Adds the register that a request names.
+// Appends the register of a request.
 fn push_register<const N: usize>(
     text: &mut ArrayString<N>,
     select: Option<Select>,
@@ -265,7 +265,7 @@ fn push_register<const N: usize>(
     }
 }
 
-// Adds what stands behind the address in the listing line.
+// Appends the rest of the listing line, after the address.
 fn push_ending<const N: usize>(text: &mut ArrayString<N>, tx: &Tx)
     requires { array_string_len text.old + LONGEST_TX_LINE ≤ N }
     ensures bytes { text.new.bytes
@@ -276,7 +276,7 @@ fn push_ending<const N: usize>(text: &mut ArrayString<N>, tx: &Tx)
     text.push_str(&line.as_str()[BEHIND_ADDRESS..]);
 }
 
-/// Adds a transaction's line with the register's name and the flags of its word, without its end.
+/// Appends a transaction's line with the register's name and the flags of its word, without the line feed.
 pub(crate) fn push_named<const N: usize>(text: &mut ArrayString<N>, select: Option<Select>, tx: &Tx)
     requires { array_string_len text.old + LONGEST_NAMED ≤ N }
     ensures bytes { text.new.bytes ≡ text.old.bytes ++ named_tx select tx.now }

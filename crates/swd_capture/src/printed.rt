@@ -1,24 +1,25 @@
-//! What is printed of a capture.
+//! The forms of output.
 
-/// How a line of a listing is written.
+/// The form of a listing line.
 #[derive(Clone, Copy, Debug, PartialEq, Eq)]
 pub struct LineForm {
-    /// Each line begins with `@N `: N bits stand before the part's first one, at most 2^64 - 1.
+    /// Whether each line begins with `@N `: the number of bits before the part's first bit, at most 2^64 - 1.
     pub places: bool,
-    /// A register has its name where SELECT is known, and the flags of a word stand behind it.
+    /// Whether registers have names, and words are followed by their set flags. Where these depend on SELECT, it has
+    /// to be known.
     pub names: bool,
 }
 
-/// What is printed of a trace or a capture.
+/// The form in which a trace or a capture is printed.
 #[derive(Clone, Copy, Debug, PartialEq, Eq)]
 pub enum Printed {
     /// A line for each part.
     Lines(LineForm),
-    /// At the end, how often each kind of part came.
+    /// The count of each kind of part, at the end.
     Counts,
     /// A line for each access of the target's memory that the parts show.
     Accesses {
-        /// Whether the target was just made: else nothing is known of it at first.
+        /// Whether the target begins in its reset state. Otherwise nothing is known of it at first.
         made: bool,
     },
 }

@@ -1,4 +1,4 @@
-//! How often each kind of part came.
+//! Counts the parts of each kind.
 ghost use Rattle.std.specs.Prelude.{◌≡◌, ◌+◌, ◌-◌, ◌/◌, ◌%◌, ◌^◌, ◌<◌, ◌≤◌, ◌++◌, ◌∷◌, [], length, List};
 ghost use Rattle.arrayvec.specs.ArrayString.{array_string_len};
 ghost use Rattle.swd_resync.specs.declared.part.Part.{Part};
@@ -12,16 +12,17 @@ use swd_bits::{Reg4, Tx, TxEnd};
 use swd_resync::Part;
 use swd_trace::Item;
 
-/// How many rows a table has: a transaction's port, address, direction and end, and six other kinds.
+/// The number of rows of a table: one for each port, address, direction and result of a transaction, and for six other
+/// kinds.
 pub const ROWS: usize = 86;
 
-// The rows of the transactions.
+// The number of rows of transactions.
 const TRANSACTION_ROWS: usize = 80;
 
-/// The most bytes of a row's line, and its end.
+/// The most bytes of a row's line, with its line feed.
 pub(crate) const LONGEST_ROW: usize = 40;
 
-/// How often each kind of part came, each at most 2^64 - 1 times.
+/// The count of each kind of part, at most 2^64 - 1.
 #[derive(Drop)]
 pub(crate) struct Table {
     counts: [u64; ROWS],
@@ -75,7 +76,7 @@ fn row_of_tx(tx: &Tx) -> usize
         + row_of_end(tx.result)
 }
 
-// The row in which an item is counted.
+// Returns the row in which an item is counted.
 fn row_of_item(item: &Item) -> usize
     ensures row { result ≡ item_row item.now }
     ensures within { result < ROWS }
@@ -90,7 +91,7 @@ fn row_of_item(item: &Item) -> usize
     }
 }
 
-// The row in which a part is counted.
+// Returns the row in which a part is counted.
 fn row_of_part(part: &Part) -> usize
     ensures row { result ≡ row_of part.now }
     ensures within { result < ROWS }
@@ -101,7 +102,7 @@ fn row_of_part(part: &Part) -> usize
     }
 }
 
-// What an item adds to its row.
+// Returns what an item adds to its row: a number of bits for idle cycles and cut ends, otherwise 1.
 fn weight_of_item(item: &Item) -> u64
     ensures { result ≡ item_weight item.now }
 {
@@ -112,7 +113,7 @@ fn weight_of_item(item: &Item) -> u64
     }
 }
 
-// What a part adds to its row.
+// Returns what a part adds to its row.
 fn weight_of_part(part: &Part) -> u64
     ensures { result ≡ weight_of part.now }
 {
@@ -161,7 +162,7 @@ fn addr_text(number: usize) -> &'static str
     }
 }
 
-// Adds a row's name.
+// Appends a row's name.
 fn push_row_name<const N: usize>(text: &mut ArrayString<N>, row: usize)
     requires { array_string_len text.old + 17 ≤ N }
     ensures bytes { text.new.bytes ≡ text.old.bytes ++ row_name row }
@@ -177,7 +178,7 @@ fn push_row_name<const N: usize>(text: &mut ArrayString<N>, row: usize)
     }
 }
 
-// Adds a row's line and its end; none where nothing was counted.
+// Appends a row's line and its line feed. Appends nothing if the count is 0.
 fn push_row_line<const N: usize>(text: &mut ArrayString<N>, count: u64, row: usize)
     requires { array_string_len text.old + LONGEST_ROW ≤ N }
     ensures bytes { text.new.bytes ≡ text.old.bytes ++ row_line count (row_name row) }
@@ -196,7 +197,7 @@ fn push_row_line<const N: usize>(text: &mut ArrayString<N>, count: u64, row: usi
 impl Table {
     ghost use Rattle.swd_capture.specs.Tables.{IsTableOf, row_text};
 
-    /// A table in which nothing is counted.
+    /// Returns an empty table.
     pub(crate) fn new() -> Table
         ensures { IsTableOf [] result }
     {
@@ -211,7 +212,7 @@ impl Table {
         self.counts[row] = self.counts[row].saturating_add(weight_of_part(part));
     }
 
-    /// Adds the line of a row, and its end.
+    /// Appends a row's line and its line feed. Appends nothing if the count is 0.
     pub(crate) fn push_row<const N: usize>(&self, row: usize, text: &mut ArrayString<N>)
         requires row { row < ROWS }
         requires room { array_string_len text.old + LONGEST_ROW ≤ N }

@@ -1,4 +1,4 @@
-//! What is printed of the parts of a capture, one after the other.
+//! Prints the parts of a capture one after another.
 ghost use Rattle.std.specs.Prelude.{◌≡◌, ◌+◌, ◌-◌, ◌^◌, ◌<◌, ◌≤◌, ◌++◌, ◌∷◌, [], List, Bool, length, min};
 ghost use Rattle.arrayvec.specs.ArrayString.{array_string_len};
 ghost use Rattle.swd_resync.specs.declared.part.Part.{Part};
@@ -22,17 +22,17 @@ use swd_trace::{Item, LONGEST_LINE};
 // The most bytes of a place.
 const LONGEST_PLACE: usize = 22;
 
-/// The most bytes of what is printed of one part, or of one row at the end.
+/// The most bytes printed for one part, or for one row at the end.
 pub const LONGEST_ENTRY: usize = LONGEST_PLACE + LONGEST_LINE + 1;
 
-/// Takes the parts of a capture one after the other, and says what is printed of each. It holds some counts, and takes
-/// no memory.
+/// A printer of the parts of a capture. It takes one part after another, and appends the output of each to a text. It
+/// allocates nothing.
 #[derive(Drop)]
 pub struct Teller {
     printed: Printed,
     // Whether a data phase follows WAIT and FAULT.
     over: bool,
-    // How many bits the parts had, at most 2^64 - 1.
+    // The number of bits of the parts so far, at most 2^64 - 1.
     place: u64,
     // What is known of SELECT.
     select: Option<Select>,
@@ -40,7 +40,7 @@ pub struct Teller {
     observer: TraceObserver,
 }
 
-// Adds a place, where lines begin with it.
+// Appends a place, if lines begin with it.
 fn push_place<const N: usize>(text: &mut ArrayString<N>, places: bool, place: u64)
     requires { array_string_len text.old + LONGEST_PLACE ≤ N }
     ensures bytes { text.new.bytes ≡ text.old.bytes ++ place_if places place }
@@ -55,7 +55,7 @@ fn push_place<const N: usize>(text: &mut ArrayString<N>, places: bool, place: u6
     text.push_str(" ");
 }
 
-// Adds an item's line without its end, with names where they are wanted.
+// Appends an item's line without the line feed, with names if `names`.
 fn push_item_line<const N: usize>(
     text: &mut ArrayString<N>,
     names: bool,
@@ -73,7 +73,7 @@ fn push_item_line<const N: usize>(
     }
 }
 
-// Adds a part's line without its end.
+// Appends a part's line without the line feed.
 fn push_part_line<const N: usize>(
     text: &mut ArrayString<N>,
     names: bool,
@@ -90,7 +90,7 @@ fn push_part_line<const N: usize>(
     }
 }
 
-// What is known of SELECT after a part.
+// Returns what is known of SELECT after a part.
 fn selected_behind(select: Option<Select>, over: bool, part: &Part) -> Option<Select>
     ensures { result ≡ select_from select (items_of_part over part.now) }
 {
@@ -100,7 +100,7 @@ fn selected_behind(select: Option<Select>, over: bool, part: &Part) -> Option<Se
     }
 }
 
-// The number of bits before what follows a part, at most 2^64 - 1.
+// Returns the number of bits before the next part, at most 2^64 - 1.
 fn place_behind_part(place: u64, over: bool, part: &Part) -> u64
     ensures { result ≡ min (place + length (bits_of_items (items_of_part over part.now))) (2 ^ 64 - 1) }
 {
@@ -112,7 +112,7 @@ fn place_behind_part(place: u64, over: bool, part: &Part) -> u64
     }
 }
 
-// What is known first of the target whose accesses are told.
+// Returns the observer before the first part.
 fn observer_of_printed(printed: Printed) -> TraceObserver
     ensures { result ≡ first_observer printed }
 {
@@ -126,8 +126,8 @@ impl Teller {
     ghost use Rattle.swd_capture.specs.Printing.{end_row_text, entry, row_count};
     ghost use Rattle.swd_capture.specs.Tellers.{IsAfter};
 
-    /// A teller that was given no part; `over` where a data phase follows WAIT and FAULT, since the host uses overrun
-    /// detection.
+    /// Returns a teller that was given no parts. `over` says that the host uses overrun detection (IHI 0031, B4), so
+    /// that a data phase follows WAIT and FAULT.
     pub fn new(printed: Printed, over: bool) -> Teller
         ensures { IsAfter printed over [] result }
     {
@@ -141,7 +141,7 @@ impl Teller {
         }
     }
 
-    /// Takes a part, and adds what is printed of it to a text.
+    /// Takes the next part, and appends its output to `text`.
     pub fn tell<const N: usize>(&mut self, part: &Part, text: &mut ArrayString<N>)
         requires { array_string_len text.old + LONGEST_ENTRY ≤ N }
         ensures after { (printed : Printed) (over : Bool) (parts : List Part) → IsAfter printed over parts self.old
@@ -157,7 +157,7 @@ impl Teller {
         }
     }
 
-    // Adds the part's line, and continues behind it.
+    // Appends the part's line, and updates place and SELECT.
     fn tell_line<const N: usize>(&mut self, form: LineForm, part: &Part, text: &mut ArrayString<N>)
         requires { array_string_len text.old + LONGEST_ENTRY ≤ N }
         ensures printed { self.new.printed ≡ self.old.printed }
@@ -176,7 +176,7 @@ impl Teller {
         self.select = selected_behind(self.select, self.over, part);
     }
 
-    /// How many rows stand at the end.
+    /// Returns how many rows are printed at the end.
     pub fn rows(&self) -> usize
         ensures count { (printed : Printed) (over : Bool) (parts : List Part) → IsAfter printed over parts self.now
             → result ≡ row_count printed }
@@ -189,7 +189,7 @@ impl Teller {
         }
     }
 
-    /// Adds a row of the end to a text.
+    /// Appends a row of the end to `text`.
     pub fn push_row<const N: usize>(&self, row: usize, text: &mut ArrayString<N>)
         requires row { row < ROWS }
         requires room { array_string_len text.old + LONGEST_ENTRY ≤ N }

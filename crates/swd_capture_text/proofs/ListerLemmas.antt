@@ -18,7 +18,7 @@ use Rattle.swd_capture_text.specs.Listers.{Start, IsBehind, told_of, Lists, List
 use Rattle.swd_capture_text.specs.Readings.{Decides, is_over}
 use Rattle.swd_capture_text.specs.Sources.{Has, fed_of}
 
--- what is told of a part behind others
+-- the output for a part after others
 abbrev pub entry_of : Start → List Part → Part → List ℕ
 entry_of start parts part = entry start.printed (is_over start.reading) parts part
 
@@ -46,7 +46,7 @@ has_read_nothing contents start lister writer from has decides fed scan place wr
       place = omega arith;
     }
 
--- one more part is given, and what is told of it is under way
+-- one more part is returned, and its output is queued
 pub one_more : {W : Type 0} (contents : W → Option (List ℕ)) (start : Start) (before after : Source)
     (told_before told_after : Teller) (old new : Block W) (bits : List Bool) (parts : List Part) (part : Part) →
     (Has start.reading before bits parts → Has start.reading after bits (parts ++ part ∷ []))

@@ -1,4 +1,4 @@
--- What is answered to a trace text of which something is to be printed.
+-- What is written for a trace text that is to be printed.
 use Rattle.std.specs.Prelude.{◌≡◌, ℕ, ◌+◌, ◌-◌, ◌^◌, ◌<◌, ◌⊎◌, min, Bool, List, length, take, Option, Some, Result, Ok}
 use Rattle.std.specs.Prelude.{Err, IfSome}
 use Rattle.std.specs.Io.KnownBytes.{Appends, Consumes, IsAtEnd}
@@ -15,28 +15,28 @@ use Rattle.swd_capture.specs.Printing.{told, printout}
 use Rattle.swd_capture_text.specs.declared.reading.Reading.{Reading}
 use Rattle.swd_capture_text.specs.Readings.{Decides, is_over, parts_by}
 
--- the text has bits, fewer than 2^64, and they decide these parts
+-- the text has fewer than 2^64 bits, and they decide these parts
 pub record DecidedBy (reading : Reading) (text : List ℕ) (parts : List Part) : Type 0 where
   pub bits : List Bool
   pub has : bits_of_text text ≡ Some bits
   pub counted : length bits < 2 ^ 64
   pub decided : Decides reading bits parts
 
--- the text has bits, fewer than 2^64, and these are their parts
+-- the text has fewer than 2^64 bits, and these are their parts
 pub record ReadsAs (reading : Reading) (text : List ℕ) (parts : List Part) : Type 0 where
   pub bits : List Bool
   pub has : bits_of_text text ≡ Some bits
   pub counted : length bits < 2 ^ 64
   pub read : parts ≡ parts_by reading bits
 
--- the byte at this place is the first bad one, and the parts are those that were decided before it
+-- the byte at this place is the first bad one, and the parts are those decided before it
 pub record StopsAtBad (reading : Reading) (number : ℕ) (parts : List Part) (text : List ℕ) : Type 0 where
   pub place : ℕ
   pub tells : number ≡ min place (2 ^ 64 - 1)
   pub bad : IsFirstBad text place
   pub decided : DecidedBy reading (take place text) parts
 
--- the byte at this place is one bit more than 2^64 - 1, and the parts are those that were decided before it
+-- with the byte at this place the text has one bit more than 2^64 - 1, and the parts are those decided before it
 pub record StopsAtLong (reading : Reading) (parts : List Part) (text : List ℕ) : Type 0 where
   pub place : ℕ
   pub bits : List Bool
@@ -44,17 +44,17 @@ pub record StopsAtLong (reading : Reading) (parts : List Part) (text : List ℕ)
   pub long : length bits ≡ 2 ^ 64
   pub decided : DecidedBy reading (take place text) parts
 
--- the text can't go on at some byte, and the parts are those that were decided before it
+-- the text is invalid at some byte, and the parts are those decided before it
 abbrev pub StopsWith : Reading → TextFault → List Part → List ℕ → Type 0
 StopsWith reading (BadChar number) parts text = StopsAtBad reading number parts text
 StopsWith reading TooLong parts text = StopsAtLong reading parts text
 
--- the parts that are told of what was read of a text: those that it decides, or decides before the byte at which it
--- can't go on
+-- the parts that are printed of what was read of a text: those that it decides, or if it is invalid, those decided
+-- before its first invalid byte
 abbrev pub IsDue : Reading → List ℕ → List Part → Type 0
 IsDue reading text parts = DecidedBy reading text parts ⊎ ((fault : TextFault) × StopsWith reading fault parts text)
 
--- a writer stopped in what is told while more may follow, or in what is printed of the whole text
+-- a writer failed in the output of the parts so far, or in the output of the whole text
 pub data StopsWriting (reading : Reading) (printed : Printed) (text left : Option (List ℕ)) (count : ℕ)
     (old new : Option (List ℕ)) : Type 0 where
   Before : (read : List ℕ) (parts : List Part) → Consumes text left read → IsDue reading read parts
@@ -64,8 +64,8 @@ pub data StopsWriting (reading : Reading) (printed : Printed) (text left : Optio
       → Stopped count old new (printout printed (is_over reading) parts)
       → StopsWriting reading printed text left count old new
 
--- What an answer says of the reader's text, where its bytes are known, of what the reader has left of it, and of what
--- the writer holds before and after.
+-- What a result says of the reader's text, if its bytes are known, and of what is left of it. Also what the writer
+-- holds before and after.
 abbrev pub Prints : Reading → Printed → Result (Unit {0}) DecodeFault → Option (List ℕ) → Option (List ℕ)
     → Option (List ℕ) → Option (List ℕ) → Type 0
 Prints reading printed (Ok u) text left old new =
@@ -79,7 +79,7 @@ Prints reading printed (Err Read) text left old new =
     × Appends old new (told printed (is_over reading) parts)
 Prints reading printed (Err (Write count)) text left old new = StopsWriting reading printed text left count old new
 
--- what is printed of a whole text went out, all of it or exactly its first bytes
+-- the output for a whole text was written: all of it, or exactly its first bytes
 abbrev pub Finishes : Reading → Printed → Result (Unit {0}) ℕ → List ℕ → Option (List ℕ) → Option (List ℕ) → Type 0
 Finishes reading printed (Ok u) text start now =
     (parts : List Part) × ReadsAs reading text parts × Appends start now (printout printed (is_over reading) parts)

@@ -1,4 +1,4 @@
--- A trace text of which something is printed as it is read.
+-- A trace text that is printed as it is read.
 use Rattle.std.specs.Prelude.{◌≡◌, ℕ, ◌-◌, ◌^◌, ◌<◌, min, Bool, List, ◌++◌, length, Option}
 use Rattle.std.specs.Io.KnownBytes.{Appends}
 use Rattle.swd_io.specs.Blocks.{Sends, Stopped}
@@ -19,20 +19,20 @@ use Rattle.swd_capture_text.specs.Captures.{StopsWith, IsDue}
 use Rattle.swd_capture_text.specs.Readings.{Decides, is_over}
 use Rattle.swd_capture_text.specs.Sources.{Has, fed_of}
 
--- what a writer began with, and what is asked for
+-- what a writer began with, and the requested reading and form
 pub record Start : Type 0 where
   pub from : Option (List ℕ)
   pub reading : Reading
   pub printed : Printed
 
--- what is told of some parts, and the teller behind them
+-- the output for some parts, and the teller after them
 abbrev pub told_of : Start → List Part → List ℕ
 told_of start parts = told start.printed (is_over start.reading) parts
 
 abbrev pub IsBehind : Start → List Part → Teller → Type 0
 IsBehind start parts teller = IsAfter start.printed (is_over start.reading) parts teller
 
--- A source has these bits and parts; a teller has the parts, and what it tells of them is under way.
+-- A source has these bits and parts, and a teller was given the parts. Their output is queued or written.
 pub record Lists {W : Type 0} (contents : W → Option (List ℕ)) (start : Start) (source : Source) (teller : Teller)
     (block : Block W) (bits : List Bool) (parts : List Part) : Type 0 where
   pub has : Has start.reading source bits parts
@@ -41,7 +41,7 @@ pub record Lists {W : Type 0} (contents : W → Option (List ℕ)) (start : Star
   pub after : IsBehind start parts teller
   pub sends : Sends contents start.from block (told_of start parts)
 
--- A text was read so far, which ends in a comment or outside: these are its bits, and the parts that they decide.
+-- A text was read so far, which ends inside a comment or outside: its bits, and the parts that they decide.
 pub record IsRead (reading : Reading) (source : Source) (comment : Bool) (seen : List ℕ) : Type 0 where
   pub bits : List Bool
   pub parts : List Part
@@ -51,18 +51,19 @@ pub record IsRead (reading : Reading) (source : Source) (comment : Bool) (seen :
   pub count : fed_of source ≡ length bits
   pub counted : length bits < 2 ^ 64
 
--- the same, and what is told of these parts is under way
+-- the same, and the output for these parts is queued or written
 pub record Listed {W : Type 0} (contents : W → Option (List ℕ)) (start : Start) (source : Source) (comment : Bool)
     (teller : Teller) (block : Block W) (seen : List ℕ) : Type 0 where
   pub read : IsRead start.reading source comment seen
   pub after : IsBehind start read.parts teller
   pub sends : Sends contents start.from block (told_of start read.parts)
 
--- the same, and the lister reads on from there
+-- the same, and the lister continues from there
 abbrev pub GoesOn : {W : Type 0} → (W → Option (List ℕ)) → Start → Lister → Block W → List ℕ → Type 0
 GoesOn contents start lister block seen = Listed contents start lister.source lister.scan lister.teller block seen
 
--- These bytes were taken, and what is told of the parts that they decide went out to the writer.
+-- These bytes were taken, and the output for the parts that they decide was written to a writer that began as `start`
+-- says.
 pub record HasRead {W : Type 0} (contents : W → Option (List ℕ)) (start : Start) (state : Lister × W) (seen : List ℕ)
     : Type 0 where
   pub read : IsRead start.reading state.0.source state.0.scan seen
@@ -71,26 +72,26 @@ pub record HasRead {W : Type 0} (contents : W → Option (List ℕ)) (start : St
   pub written : state.0.written ≡ min (length (told_of start read.parts)) (2 ^ 64 - 1)
   pub place : state.0.place ≡ min (length seen) (2 ^ 64 - 1)
 
--- The text can't go on, whatever follows, and what is told before that is under way.
+-- The text is invalid, whatever follows, and the output for the parts decided before that is queued or written.
 pub record StopsIn {W : Type 0} (contents : W → Option (List ℕ)) (start : Start) (block : Block W) (fault : TextFault)
     (text : List ℕ) : Type 0 where
   pub parts : List Part
   pub stops : (more : List ℕ) → StopsWith start.reading fault parts (text ++ more)
   pub sends : Sends contents start.from block (told_of start parts)
 
--- what is told before a fault of the text went out, all of it
+-- all output for the parts decided before an error of the text was written
 pub record TellsFault (start : Start) (now : Option (List ℕ)) (fault : TextFault) (text : List ℕ) : Type 0 where
   pub parts : List Part
   pub stops : (more : List ℕ) → StopsWith start.reading fault parts (text ++ more)
   pub gone : Appends start.from now (told_of start parts)
 
--- a beginning of what is told went out
+-- a proper prefix of the output was written
 pub record TellsCut (start : Start) (now : Option (List ℕ)) (count : ℕ) (text : List ℕ) : Type 0 where
   pub parts : List Part
   pub due : IsDue start.reading text parts
   pub cut : Stopped count start.from now (told_of start parts)
 
--- what a writer holds at a fault
+-- what a writer holds at an error
 abbrev pub EndsBy : TakeFault → Start → Option (List ℕ) → List ℕ → Type 0
 EndsBy (Text fault) start now text = TellsFault start now fault text
 EndsBy (Write count) start now text = TellsCut start now count text

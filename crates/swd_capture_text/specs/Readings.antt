@@ -21,8 +21,9 @@ abbrev pub parts_by : Reading → List Bool → List Part
 parts_by Trace bits = map Told (reading_of bits)
 parts_by (Capture over) bits = parts_of over bits
 
--- The parts that bits decide, whatever may follow. Of a trace all of them; of a capture those before what a decoder
--- holds: fewer than 142 bits, one count of zeros, and one of the bits of a part that isn't over.
+-- Parts that bits decide: no later bits can change them. For a trace these are all such items. For a capture they are
+-- the parts before the bits that a decoder holds: fewer than 142, apart from a count of zeros and a count of the bits
+-- of an unfinished part.
 abbrev pub Decides : Reading → List Bool → List Part → Type 0
 Decides Trace bits parts = (items : List Item) × (parts ≡ map Told items) × IsDecided bits items
 Decides (Capture over) bits parts =

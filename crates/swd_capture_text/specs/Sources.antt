@@ -1,4 +1,4 @@
--- What a decoder of either reading has read.
+-- What a decoder for either reading has read.
 use Rattle.std.specs.Prelude.{◌≡◌, ℕ, Bool, List, [], ◌++◌, map}
 use Rattle.swd_trace.specs.declared.item.Item.{Item}
 use Rattle.swd_trace.specs.Held as trace
@@ -11,7 +11,7 @@ use Rattle.swd_capture_text.specs.declared.source.Source.{Source}
 use Rattle.swd_capture_text.specs.declared.source.Source.TheVariants.{Trace as OfTrace, Capture as OfCapture}
 use Rattle.swd_capture_text.specs.Readings.{parts_by}
 
--- it reads in this way, was fed these bits and gave these parts
+-- it has this reading, was fed these bits and returned these parts
 abbrev pub Has : Reading → Source → List Bool → List Part → Type 0
 Has Trace (OfTrace d) bits parts = (items : List Item) × (parts ≡ map Told items) × trace.HasRead d bits items
 Has Trace (OfCapture d) bits parts = ⊥
@@ -28,16 +28,16 @@ abbrev pub IsReady : Source → Type 0
 IsReady (OfTrace d) = trace.IsSettled d
 IsReady (OfCapture d) = capture.IsSettled d
 
--- at most so many parts come before the next bit is taken
+-- an upper bound on the number of parts returned before the next bit is taken
 abbrev pub steps_left : Source → ℕ
 steps_left (OfTrace d) = trace.places d
 steps_left (OfCapture d) = capture.steps_left d
 
--- the parts that it gives where the bits end here
+-- the parts that it returns if the bits end here
 abbrev pub last_parts : Source → List Part
 last_parts (OfTrace d) = map Told (trace.rest d [])
 last_parts (OfCapture d) = capture.rest d []
 
--- with those the parts that it gave are all of the bits
+-- with those, the parts that it returned are the reading of all the bits
 abbrev pub EndsAt : Reading → Source → List Bool → List Part → Type 0
 EndsAt reading source bits parts = parts ++ last_parts source ≡ parts_by reading bits

@@ -1,4 +1,4 @@
-//! What is printed of a trace or a capture, from its text: the engine of `swd decode` with an option.
+//! Prints a trace or a capture from its text: the engine of `swd decode` with an option.
 #![tactic(auto)]
 
 pub mod laws;

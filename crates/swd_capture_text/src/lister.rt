@@ -1,4 +1,4 @@
-//! A trace text on its way to what is printed of it.
+//! Prints a trace text piece by piece.
 ghost use Rattle.std.specs.Prelude.{◌≡◌, ℕ, ◌+◌, ◌-◌, ◌^◌, ◌<◌, min, List, Bool, false, [], ◌∷◌, ◌++◌};
 ghost use Rattle.std.specs.Prelude.{length, Option, OnOk, OnErr, IfErr};
 ghost use Rattle.swd_io.specs.Blocks.{Sends};
@@ -25,21 +25,21 @@ use swd_io::{Block, Consumer};
 use swd_resync::Part;
 use swd_text::{TakeFault, TextFault};
 
-/// Takes a trace text piece by piece, and sends what is told of each part as soon as it is decided.
+/// A consumer of a trace text. It writes the output of each part as soon as the part is decided.
 #[derive(Drop)]
 pub(crate) struct Lister {
     scan: Scan,
     source: Source,
     teller: Teller,
-    // How many bytes were taken, at most 2^64 - 1.
+    // The number of bytes taken, at most 2^64 - 1.
     place: u64,
-    // How many bytes went out, at most 2^64 - 1.
+    // The number of bytes written, at most 2^64 - 1.
     written: u64,
-    // What it holds has no meaning: making it anew for each part takes time.
+    // A buffer for one part's output. It is kept, since a new one for each part takes time.
     line: ArrayString<LONGEST_ENTRY>,
 }
 
-// What is told of a part is under way, too.
+// Also queues the output of a part.
 #[inline(never)]
 fn put_part<W: Write>(
     block: &mut Block<'_, W>,
@@ -59,7 +59,7 @@ fn put_part<W: Write>(
     block.put(line.as_str().as_bytes());
 }
 
-// A row of the end is under way, too.
+// Also queues a row of the end.
 fn put_row<W: Write>(
     block: &mut Block<'_, W>,
     line: &mut ArrayString<LONGEST_ENTRY>,
@@ -98,7 +98,7 @@ impl Lister {
         }
     }
 
-    // What is told of the parts that are due is under way, too.
+    // Also queues the output of the parts that are due.
     fn put_due<W: Write>(&mut self, block: &mut Block<'_, W>)
         ensures lists { (start : Start) (bits : List Bool) (parts : List Part)
             → Lists W.contents start self.old.source self.old.teller block.old bits parts
@@ -114,7 +114,7 @@ impl Lister {
         }
     }
 
-    // Takes a bit, where it is none too many.
+    // Takes a bit, unless it is one too many.
     #[inline(always)]
     fn bit<W: Write>(&mut self, block: &mut Block<'_, W>, bit: bool) -> Result<(), TextFault>
         requires { IsReady self.old.source }
@@ -138,7 +138,7 @@ impl Lister {
         Ok(())
     }
 
-    // Takes the byte at an index of a piece, or says why no trace text goes on so.
+    // Takes the byte at an index of a piece, or returns why it isn't allowed there.
     #[inline(always)]
     fn byte<W: Write>(
         &mut self,
@@ -168,7 +168,7 @@ impl Lister {
         }
     }
 
-    // Takes the bytes of a piece, up to one at which no trace text goes on.
+    // Takes the bytes of a piece, up to the first one that isn't allowed.
     fn bytes<W: Write>(&mut self, block: &mut Block<'_, W>, piece: &[u8]) -> Result<(), TextFault>
         requires { IsReady self.old.source }
         ensures ready { IsReady self.new.source }
@@ -193,7 +193,7 @@ impl Lister {
         Ok(())
     }
 
-    // What is told of the parts that the end of the bits decides is under way, too.
+    // Also queues the output of the parts that the end of the bits decides.
     fn put_last<W: Write>(&mut self, block: &mut Block<'_, W>)
         ensures lists { (start : Start) (bits : List Bool) (parts : List Part)
             → Lists W.contents start self.old.source self.old.teller block.old bits parts
@@ -206,7 +206,7 @@ impl Lister {
         }
     }
 
-    // The rows of the end are under way, too.
+    // Also queues the rows of the end.
     fn put_rows<W: Write>(&mut self, block: &mut Block<'_, W>)
         ensures sends { (start : Option (List ℕ)) (printed : Printed) (over : Bool) (parts : List Part)
             → IsAfter printed over parts self.old.teller → Sends W.contents start block.old (told printed over parts)
@@ -218,7 +218,12 @@ impl Lister {
         }
     }
 
-    /// Ends what is printed of a text that was read to its end.
+    /// Writes the rest of the output of a text that was read to its end.
+    ///
+    /// # Errors
+    ///
+    /// If the writer fails: how many bytes of the output were written, at most 2^64 - 1. These are exactly its first
+    /// ones.
     pub(crate) fn finish<W: Write>(&mut self, writer: &mut W) -> Result<(), u64>
         ensures { (start : Start) (seen : List ℕ) → HasRead W.contents start (self.old, writer.old) seen
             → Finishes start.reading start.printed result seen start.from (W.contents writer.new) }
@@ -242,7 +247,7 @@ impl<W: Write> Consumer<W> for Lister {
 
     ghost stops = { LeadsToEnd (HasRead W.contents) (Ends W.contents) };
 
-    // What the piece decides goes out before more is read.
+    // Writes what the piece decides before more is read.
     fn take(&mut self, writer: &mut W, piece: &[u8]) -> Result<(), TakeFault> {
         let mut block = Block::new(writer, self.written);
         let listed = self.bytes(&mut block, piece);

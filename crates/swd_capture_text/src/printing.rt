@@ -1,4 +1,4 @@
-//! The engine of `swd decode` with an option: from a trace text to what is printed of it.
+//! The engine of `swd decode` with an option: prints a trace text.
 ghost use Rattle.swd_capture_text.specs.Captures.{Prints};
 
 use crate::lister::Lister;
@@ -8,13 +8,16 @@ use swd_capture::Printed;
 use swd_io::read_pieces;
 use swd_text::DecodeFault;
 
-/// Reads a trace text as a trace or as a capture, and writes what is to be printed of it: of each part as soon as it is
-/// decided, whatever may follow, and at the end the rows of a table or the accesses that nothing confirms. It takes no
-/// memory, and its time is linear in the text.
+/// Reads a trace text as a trace or as a capture, and prints it. The output of each part is written as soon as the
+/// part is decided: no later bits can change it, and in a capture `swd_resync::CaptureDecoder` holds it no longer. At
+/// the end come the rows of a table, or the accesses that nothing confirms. It allocates nothing, its time is linear in
+/// the text, and nothing is retried.
 ///
-/// At `Ok` all has been written. At `Text` and `Read` what is printed of the parts that were decided before has been
-/// written, and nothing of the end. At `Write` exactly the first `written` bytes of that went out. The first fault that
-/// is met is answered, but where the writer fails in what stands before it, that is. Nothing is tried again.
+/// # Errors
+///
+/// Returns the first error, or `Write` if the writer fails on the output before it.
+/// - `Text` and `Read`: exactly the output of the parts decided before the error was written, and nothing of the end.
+/// - `Write`: exactly the first `written` bytes of the output so far were written.
 pub fn print_capture<R: Read, W: Write>(
     reading: Reading,
     printed: Printed,

@@ -1,21 +1,21 @@
-//! How bits are read.
+//! The ways to read bits.
 ghost use Rattle.std.specs.Prelude.{◌≡◌};
 ghost use Rattle.swd_capture_text.specs.Readings.{is_over};
 
-/// How the bits of a text are read.
+/// The way in which the bits of a text are read.
 #[derive(Clone, Copy, Debug, PartialEq, Eq)]
 pub enum Reading {
-    /// As a trace, which begins where its session does.
+    /// As a trace, which begins with its session.
     Trace,
-    /// As a capture, which begins anywhere and loses bits: its stretches are found again.
+    /// As a capture, which may begin anywhere and lose bits. It is divided into stretches and skips.
     Capture {
-        /// Whether a data phase follows WAIT and FAULT, since the host uses overrun detection (IHI 0031, B4).
+        /// Whether the host uses overrun detection (IHI 0031, B4), so that a data phase follows WAIT and FAULT.
         over: bool,
     },
 }
 
 impl Reading {
-    /// Whether a data phase follows WAIT and FAULT.
+    /// Returns whether a data phase follows WAIT and FAULT.
     pub(crate) fn is_over(self) -> bool
         ensures { result ≡ is_over self }
     {

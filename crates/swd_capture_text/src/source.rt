@@ -1,9 +1,9 @@
-//! The parts of bits, by either reading.
+//! Decodes bits to parts, by either reading.
 use crate::reading::Reading;
 use swd_resync::{CaptureDecoder, Part};
 use swd_trace::Decoder;
 
-/// A decoder of either reading: a trace is a capture whose parts are the trace's items.
+/// A decoder for either reading. The parts of a trace are its items.
 #[derive(Drop)]
 pub(crate) enum Source {
     Trace(Decoder),
@@ -17,7 +17,7 @@ impl Source {
     ghost use Rattle.swd_capture_text.specs.Readings.{Decides, parts_by};
     ghost use Rattle.swd_capture_text.specs.Sources.{EndsAt, Has, IsReady, fed_of, steps_left};
 
-    /// A decoder that was fed no bit.
+    /// Returns a decoder that was fed no bits.
     pub(crate) fn new(reading: Reading) -> Source
         ensures has { Has reading result [] [] }
         ensures decides { Decides reading [] [] }
@@ -30,7 +30,7 @@ impl Source {
         }
     }
 
-    /// How many bits it was fed.
+    /// Returns how many bits it was fed.
     #[inline(always)]
     pub(crate) fn fed(&self) -> u64
         ensures { result ≡ fed_of self.now }
@@ -41,7 +41,7 @@ impl Source {
         }
     }
 
-    /// Takes a bit. Every part that was due has to be taken before.
+    /// Takes a bit. Take every part that is due first: call `due` until it returns `None`.
     #[inline(always)]
     pub(crate) fn take(&mut self, bit: bool)
         requires ready { IsReady self.old }
@@ -56,7 +56,7 @@ impl Source {
         }
     }
 
-    /// The next part that is decided, whatever bits may follow. `None` where none is.
+    /// Returns the next part, which no later bits can change. Returns `None` if it needs more bits.
     #[inline(always)]
     pub(crate) fn due(&mut self) -> Option<Part>
         ensures part { IfSome result (λ part. (reading : Reading) (bits : List Bool) (parts : List Part)
@@ -76,7 +76,8 @@ impl Source {
         }
     }
 
-    /// The next part where the bits end here. `None` where all were given.
+    /// Returns the next part of bits that end here. Returns `None` if all parts were returned: together they are the
+    /// reading of all the bits.
     pub(crate) fn last(&mut self) -> Option<Part>
         ensures part { IfSome result (λ part. (reading : Reading) (bits : List Bool) (parts : List Part)
             → EndsAt reading self.old bits parts → EndsAt reading self.new bits (parts ++ part ∷ [])) }

@@ -1,4 +1,4 @@
-//! The files of the machine.
+//! Opens the machine's files.
 ghost use Rattle.std.specs.Prelude.{◌<ℤ◌, IfOk, pos};
 ghost use Rattle.std.specs.Fd.{file_raw_fd};
 
@@ -9,7 +9,7 @@ use std::os::unix::fs::MetadataExt;
 use std::{fs, io};
 use swd_commands::{Files, Identity, Opened};
 
-/// The files of the machine.
+/// The machine's file system and standard streams.
 #[derive(Drop)]
 pub struct Disk<'a> {
     pub rt: &'a HostRuntime,
@@ -51,7 +51,7 @@ impl Files for Disk<'_> {
     }
 }
 
-// The last number of the standard streams: input, output and errors are 0, 1 and 2.
+// The highest file descriptor of a standard stream: input, output and errors are 0, 1 and 2.
 const LAST_STREAM: i32 = 2;
 
 fn identity_of(metadata: &Metadata) -> Identity {
@@ -61,7 +61,7 @@ fn identity_of(metadata: &Metadata) -> Identity {
     }
 }
 
-// A file with its identity, under a number of its own.
+// Returns a file with its identity. Its file descriptor isn't one of the standard streams'.
 fn identified(file: File) -> io::Result<Opened<File>>
     ensures { IfOk result (λ opened. pos 2 <ℤ file_raw_fd opened.file) }
 {
@@ -70,15 +70,15 @@ fn identified(file: File) -> io::Result<Opened<File>>
     Ok(Opened { file, identity })
 }
 
-// The system gives a new file the least number that is free: that of a standard stream, where this one is closed.
-// What is written to the stream, or read of it, would be the file's then.
+// Returns the file under a file descriptor above those of the standard streams. A new file gets the lowest free one. If
+// a standard stream is closed, that is the stream's, and reads and writes of the stream would go to the file.
 fn beside_the_streams(file: File) -> io::Result<File>
     ensures { IfOk result (λ file. pos 2 <ℤ file_raw_fd file) }
 {
     if file.as_raw_fd() > LAST_STREAM {
         return Ok(file);
     }
-    // A copy gets a number above those of the streams.
+    // A copy gets a descriptor above those of the streams.
     let copy = file.try_clone()?;
     if copy.as_raw_fd() > LAST_STREAM {
         Ok(copy)
@@ -87,14 +87,14 @@ fn beside_the_streams(file: File) -> io::Result<File>
     }
 }
 
-// Which file a stream is, by what is known of the file behind it.
+// Returns which file a stream is, by the metadata of its file. Returns `None` if the stream is closed.
 fn stream_identity<S: AsFd>(
     stream: &S,
     known: io::Result<Metadata>,
 ) -> io::Result<Option<Identity>> {
     match known {
         Ok(metadata) => Ok(Some(identity_of(&metadata))),
-        // A stream that is open and unknown may be any file.
+        // An open stream without metadata may be any file.
         Err(error) if stream.as_fd().try_clone_to_owned().is_ok() => Err(error),
         Err(_) => Ok(None),
     }

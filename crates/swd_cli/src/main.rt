@@ -8,10 +8,10 @@ use std::process::ExitCode;
 use std::{env, io};
 use swd_commands::{run_words, tell};
 
-// The status of the program, with its words, its standard streams and the machine's files.
+// Runs the program with its arguments, its standard streams and the machine's files, and returns its status.
 fn status(rt: &HostRuntime) -> io::Result<u8> {
     let words: Vec<String> = env::args(rt)?.skip(1).collect(rt.alloc())?;
-    // Whatever the file is called that was started, help calls the program `swd`.
+    // The help calls the program `swd`, whatever the name of its file.
     let mut texts: Vec<&str> = Vec::new(rt.alloc());
     texts.push("swd")?;
     for word in &words {

@@ -1,4 +1,4 @@
--- What is printed in place of a listing, and how the bits are read.
+-- What is printed instead of a listing, and how the bits are read.
 use Rattle.std.specs.Prelude.{◌||◌, Option, None, Some, if◌then◌else◌}
 use Rattle.swd_words.specs.declared.command.DecodeLine.{DecodeLine}
 use Rattle.swd_capture.specs.declared.printed.Printed.{Printed}
@@ -6,7 +6,7 @@ use Rattle.swd_capture.specs.declared.printed.Printed.TheVariants.{Lines, Counts
 use Rattle.swd_capture_text.specs.declared.reading.Reading.{Reading}
 use Rattle.swd_capture_text.specs.declared.reading.Reading.TheVariants.{Trace, Capture}
 
--- accesses, counts, or lines with places or names, or those of a capture; none where the listing of a trace is wanted
+-- accesses, counts, lines with places or names, or the lines of a capture; `None` for the listing of a trace
 abbrev pub printed_for : DecodeLine → Option Printed
 printed_for decode =
     if decode.accesses then Some (Accesses decode.made) else
@@ -14,6 +14,6 @@ printed_for decode =
     if (decode.places || decode.names) || decode.resync
     then Some (Lines (record { places = decode.places; names = decode.names })) else None
 
--- a capture by --resync, with data phases behind WAIT and FAULT by --overrun
+-- a capture by --resync, with data phases after WAIT and FAULT by --overrun
 abbrev pub reading_for : DecodeLine → Reading
 reading_for decode = if decode.resync then Capture decode.overrun else Trace

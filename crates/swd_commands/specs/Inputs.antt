@@ -5,7 +5,7 @@ use Rattle.std.specs.String.{string_bytes}
 use Rattle.swd_words.specs.declared.command.Line.{Line}
 use Rattle.swd_words.specs.declared.command.Line.TheVariants.{One, Decode, Encode, Run, Target}
 
--- the file that the words name
+-- the file that the arguments name
 abbrev pub named : Line → Option (List ℕ)
 named (One file) = option_map string_bytes file
 named (Decode decode) = option_map string_bytes decode.file
@@ -13,6 +13,6 @@ named (Encode file) = option_map string_bytes file
 named (Run run) = Some (string_bytes run.script)
 named (Target target) = Some (string_bytes target.script)
 
--- standard input is read: no file is named, or `-`
+-- standard input is read: no file is named, or `-` is
 abbrev pub IsStandard : Line → Type 0
 IsStandard line = (named line ≡ None) ⊎ (named line ≡ Some (codes "-"))

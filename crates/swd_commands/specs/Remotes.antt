@@ -1,4 +1,4 @@
--- The status of a run at a target elsewhere.
+-- The status of a run at a remote target.
 use Rattle.std.specs.Prelude.{◌≡◌, ◌⊎◌, ℕ, Bool, List, Option, Some, Result, Ok, is_some}
 use Rattle.swd_port.specs.declared.call.Call.{Call}
 use Rattle.swd_port.specs.Port.{Port}
@@ -11,19 +11,19 @@ use Rattle.swd_ends.specs.RemoteRuns.{RunsRemote}
 use Rattle.swd_words.specs.declared.command.RunLine.{RunLine}
 use Rattle.swd_commands.specs.Statuses.{status_of_run}
 
--- where the other end went away, the status is 1; else it is that of the run
+-- the status is 1 if the run has a report but the other end is gone, and otherwise that of the run
 abbrev pub status_at : Bool → Option Fault → Result Finished RemoteFault → ℕ
 status_at strict (Some fault) (Ok finished) = 1
 status_at strict _ answer = status_of_run strict answer
 
--- what went over the line whose end this is, by the calls of the wire
+-- what was sent and received over a line by the calls of the wire, up to this state of the line
 abbrev pub WentOver : {R W : Type 0} → (R → Option (List ℕ)) → (W → Option (List ℕ)) → Option (List ℕ) → Option (List ℕ)
     → Line R W
     → List Call → Type 0
 WentOver remaining contents sent left line calls = ∥ GoesOver remaining contents sent left line calls ∥₁
 
--- The script is run over a line. Its report goes to a file or to standard error, and its trace, where one is named, to a
--- file, of which nothing else is known. That the line is over the standard streams, tests show.
+-- The script is run over a line. Its report is written to a file or to standard error, and its trace, if one is named,
+-- to a file. Nothing else is known of these files. Only tests show that the line is over the standard streams.
 abbrev pub PerformsAt : {R W : Type 0} → (ℕ → Port) → RunLine → ℕ → (R → Option (List ℕ)) → (W → Option (List ℕ))
     → Option (List ℕ) → Option (List ℕ) → Option (List ℕ) → Type 0
 PerformsAt {R} {W} story run status remaining contents sent left script =
@@ -34,7 +34,7 @@ PerformsAt {R} {W} story run status remaining contents sent left script =
     (IsUnused remaining contents sent left line)
     answer script before after untraced traced × (status ≡ status_at run.strict line.fault answer)
 
--- or a file can't be opened
+-- or the status is 2, for instance if a file can't be opened
 abbrev pub PerformsRemote : {R W : Type 0} → (ℕ → Port) → RunLine → ℕ → (R → Option (List ℕ)) → (W → Option (List ℕ))
     → Option (List ℕ) → Option (List ℕ) → Option (List ℕ) → Type 0
 PerformsRemote story run status remaining contents sent left script =

@@ -21,11 +21,11 @@ use Rattle.swd_run.specs.declared.fault.RunFault.{RunFault}
 use Rattle.swd_run.specs.Running.{RunsText}
 use Rattle.std.specs.Io.KnownBytes.{Appends}
 
--- 0 where all was done, 2 at a fault
+-- 0 if all was done, 2 at an error
 abbrev pub status_of : Bool → ℕ
 status_of done = if done then 0 else 2
 
--- the status at the end of a run: 0 where it ended all, 1 where it ended otherwise or failed its script
+-- the status at the end of a run: 0 if it ended `All`, 1 if it ended otherwise or failed its script
 abbrev pub status_of_end : Bool → End → ℕ
 status_of_end failed All = if failed then 1 else 0
 status_of_end failed Lost = 1
@@ -33,22 +33,21 @@ status_of_end failed TriesOut = 1
 status_of_end failed (WrongId word) = 1
 status_of_end failed Confused = 1
 
--- a run fails its script where a word isn't the one that the script tells; a strict one also where an access was
--- answered by a bus error
+-- a run fails its script if a word differs from the script's; a strict run also if an access met a bus error
 abbrev pub has_failed : Bool → Finished → Bool
 has_failed strict finished = (strict && finished.bus_fault) || is_some finished.differs
 
--- the status of a run, strict or not; 2 at a fault
+-- the status of a run, strict or not; 2 at an error
 abbrev pub status_of_run : {F : Type 0} → Bool → Result Finished F → ℕ
 status_of_run strict (Ok finished) = status_of_end (has_failed strict finished) finished.ended
 status_of_run strict (Err fault) = 2
 
--- a file can't be opened or made: status 2, and nothing was written
+-- a file can't be opened or created: status 2, and nothing was written to the output
 abbrev pub NotOpened : ℕ → Option (List ℕ) → Option (List ℕ) → Type 0
 NotOpened status old new = (status ≡ 2) × Appends old new []
 
--- A run reads a script and a plan and writes a report, and its status is that of its end. The trace goes to the file
--- that is named for it, of which nothing else is known.
+-- A run reads a script and a plan, and writes a report. Its status is that of its end. The trace is written to the file
+-- that is named for it. Nothing else is known of that file.
 abbrev pub PerformsUnder : {S : Type 0} → Option S → RunLine → ℕ → Option (List ℕ) → Option (List ℕ) → Option (List ℕ)
     → Option (List ℕ) → Type 0
 PerformsUnder None run status script plan old new =
@@ -61,19 +60,19 @@ PerformsUnder (Some trace) run status script plan old new =
     × RunsText run.tries run.resumes answer script plan old new (Some before) after
     × (status ≡ status_of_run run.strict answer))
 
--- The plan is empty where none is named, and else some text: no contract knows what a file held.
+-- Without a named plan the plan is empty. Otherwise it is some text: no contract knows the contents of a file.
 abbrev pub PerformsRun : {S : Type 0} → Option S → RunLine → ℕ → Option (List ℕ) → Option (List ℕ) → Option (List ℕ)
     → Type 0
 PerformsRun None run status script old new = PerformsUnder run.trace run status script (Some []) old new
 PerformsRun (Some plan) run status script old new =
     NotOpened status old new ⊎ ((text : Option (List ℕ)) × PerformsUnder run.trace run status script text old new)
 
--- a run at a target elsewhere has its standard input for that target, and no script there
+-- a run at a remote target has its standard input for that target, so its script can't be standard input
 abbrev pub PerformsWhere : Bool → RunLine → ℕ → Option (List ℕ) → Option (List ℕ) → Option (List ℕ) → Type 0
 PerformsWhere false run status text old new = PerformsRun run.plan run status text old new
 PerformsWhere true run status text old new = NotOpened status old new
 
--- the listing of a trace, or something in its place, of a trace or a capture
+-- the listing of a trace, or another output for a trace or a capture
 abbrev pub PerformsDecode : Reading → Option Printed → ℕ → Option (List ℕ) → Option (List ℕ) → Option (List ℕ)
     → Option (List ℕ) → Type 0
 PerformsDecode reading None status text left old new =
@@ -82,7 +81,8 @@ PerformsDecode reading (Some printed) status text left old new =
     (answer : Result (Unit {0}) DecodeFault) × Prints reading printed answer text left old new
     × (status ≡ status_of (is_ok answer))
 
--- A command reads a text and writes another as its engine says, and its status is that of the engine's answer.
+-- A command reads an input and writes an output as its engine's contract says. Its status is that of the engine's
+-- result.
 abbrev pub Performs : Line → ℕ → Option (List ℕ) → Option (List ℕ) → Option (List ℕ) → Option (List ℕ) → Type 0
 Performs (One file) status text left old new =
     (answer : Result (Unit {0}) OneFault) × Answers answer text old new × (status ≡ status_of (is_ok answer))
@@ -91,5 +91,5 @@ Performs (Decode decode) status text left old new =
 Performs (Encode file) status text left old new =
     (answer : Result (Unit {0}) EncodeFault) × Encodes answer text old new × (status ≡ status_of (is_ok answer))
 Performs (Run run) status text left old new = PerformsWhere run.remote run status text old new
--- the script of a target is no standard input, which is its debugger's
+-- the script of a target can't be standard input, which comes from the debugger
 Performs (Target target) status text left old new = NotOpened status old new

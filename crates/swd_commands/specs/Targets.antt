@@ -8,13 +8,13 @@ use Rattle.swd_bitbang.specs.Sessions.{Serves}
 use Rattle.swd_ends.specs.Serving.{Simulates}
 use Rattle.swd_commands.specs.Statuses.{NotOpened}
 
--- 0 where the host was served to its end and log and trace were written, 2 else
+-- 0 or 2; 0 only if the host was served to its end
 abbrev pub IsServedStatus : Served → ℕ → Type 0
 IsServedStatus Quit status = (status ≡ 0) ⊎ (status ≡ 2)
 IsServedStatus Ended status = (status ≡ 0) ⊎ (status ≡ 2)
 IsServedStatus served status = status ≡ 2
 
--- Nothing was written, or a host was served at the pins of a target of the script and the plan.
+-- Nothing was written, or a host was served at the pins of the target of the script, under the plan.
 abbrev pub ServesHost : (A : Type 0) → ℕ → Option (List ℕ) → Option (List ℕ) → Option (List ℕ) → Option (List ℕ)
     → Option (List ℕ) → Option (List ℕ) → Type 0
 ServesHost A status script plan text left old new =

@@ -1,10 +1,10 @@
--- Which file a trace goes to.
+-- The file that a trace is written to.
 use Rattle.std.specs.Prelude.{◌≢◌, ℕ, List, Some, codes}
 use Rattle.swd_commands.specs.declared.open_files.Identity.{Identity}
 use Rattle.swd_commands.specs.declared.trace.Sources.{Sources}
 
--- the trace's file is neither the script's, nor the plan's, nor another that is written, and has a name: `-` would be
--- standard output
+-- the trace's file is neither the script's, nor the plan's, nor another one that is written, and its name isn't `-`,
+-- which would be standard output
 pub record IsBeside (trace : Identity) (name : List ℕ) (read : Sources) : Type 0 where
   pub named : name ≢ codes "-"
   pub script : read.script ≢ Some trace

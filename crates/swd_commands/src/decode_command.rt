@@ -1,4 +1,4 @@
-//! What `swd decode` does.
+//! Performs `swd decode`.
 ghost use Rattle.std.specs.Prelude.{◌≡◌};
 ghost use Rattle.swd_commands.specs.Decodings.{printed_for, reading_for};
 ghost use Rattle.swd_commands.specs.Statuses.{PerformsDecode};
@@ -10,7 +10,7 @@ use swd_capture_text::{Reading, print_capture};
 use swd_text::decode_text;
 use swd_words::DecodeLine;
 
-// How the bits are read.
+// Returns how the bits are read.
 fn reading(decode: &DecodeLine) -> Reading
     ensures { result ≡ reading_for decode.now }
 {
@@ -23,7 +23,7 @@ fn reading(decode: &DecodeLine) -> Reading
     }
 }
 
-// What is printed, where it isn't the listing of a trace.
+// Returns what is printed, or `None` for the listing of a trace.
 fn printed(decode: &DecodeLine) -> Option<Printed>
     ensures { result ≡ printed_for decode.now }
 {
@@ -42,7 +42,7 @@ fn printed(decode: &DecodeLine) -> Option<Printed>
     None
 }
 
-/// Lists a trace, or prints what is asked for in place of its listing.
+/// Lists a trace, or prints what the arguments ask for instead. Returns the status: 0, or 2 at an error.
 pub(crate) fn perform_decode<R: Read, O: Write, E: Write>(
     decode: &DecodeLine,
     input: &mut R,

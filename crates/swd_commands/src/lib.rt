@@ -1,5 +1,5 @@
-//! What the program `swd` does with its words: it opens the files that they name, makes the one call of a command,
-//! and says what came of it. The machine's files and the standard streams are handed to it.
+//! Carries out the program `swd`: opens the files that its arguments name, makes the one call of a command, and
+//! reports the result. The caller passes the machine's files and the standard streams.
 #![tactic(auto)]
 
 mod decode_command;

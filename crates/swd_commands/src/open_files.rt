@@ -1,45 +1,45 @@
-//! The files that words name, and which of them are the same.
+//! Opens files by name, and identifies them.
 
 use std::io;
 use std::io::{Read, Write};
 
-/// Which file it is, whatever its names are.
+/// The identity of a file, the same under each of its names.
 #[derive(Clone, Copy, PartialEq, Eq)]
 pub struct Identity {
-    /// The device that it is on.
+    /// The device of the file.
     pub device: u64,
-    /// Its number on that device.
+    /// The file's number on the device.
     pub number: u64,
 }
 
-/// An open file, and which one it is.
+/// An open file and its identity.
 #[derive(Drop)]
 pub struct Opened<F> {
     pub file: F,
     pub identity: Identity,
 }
 
-/// What opens files by their names, and knows those behind the standard streams.
+/// A file system, with the standard streams.
 pub trait Files {
     type File: Read + Drop;
 
     type Made: Write + Drop;
 
-    /// Opens a file to read it.
+    /// Opens a file for reading.
     fn open(&self, name: &str) -> io::Result<Opened<Self::File>>;
 
-    /// Opens a file to write it, or makes an empty one. One that is there keeps what it holds.
+    /// Opens a file for writing, or creates an empty one. An existing file isn't truncated.
     fn open_to_write(&self, name: &str) -> io::Result<Opened<Self::Made>>;
 
-    /// Cuts off all that a file holds, where it is one that holds anything.
+    /// Truncates a file to length 0, if it is one with a length.
     fn cut_off(&self, file: &Self::Made) -> io::Result<()>;
 
-    /// Which file standard input is. `None` where it is closed.
+    /// Returns which file standard input is, or `None` if it is closed.
     fn standard_input(&self) -> io::Result<Option<Identity>>;
 
-    /// Which file standard output is. `None` where it is closed.
+    /// Returns which file standard output is, or `None` if it is closed.
     fn standard_output(&self) -> io::Result<Option<Identity>>;
 
-    /// Which file standard error is. `None` where it is closed.
+    /// Returns which file standard error is, or `None` if it is closed.
     fn standard_error(&self) -> io::Result<Option<Identity>>;
 }

@@ -1,4 +1,4 @@
-//! What the program does with its words.
+//! Carries out the program's arguments.
 ghost use Rattle.std.specs.Prelude.{◌≡◌, ◌≢◌, IfNone, IfSome, Some, codes};
 ghost use Rattle.swd_commands.specs.Inputs.{IsStandard, named};
 ghost use Rattle.swd_commands.specs.Statuses.{Performs, PerformsRun, PerformsUnder};
@@ -17,10 +17,14 @@ use swd_run::run_text;
 use swd_text::encode_text;
 use swd_words::{DecodeLine, Line, LineFault, RunLine, line};
 
-/// Does what the words ask for, the program's name first, and returns the status: 0 where all was
-/// done, 1 where a run ended before all was done, or a strict one met a bus fault, 2 at a fault of words,
-/// texts, files or memory, which takes one line on standard error (where `clap` refuses the words, its own
-/// lines). Standard output gets the text that was asked for and nothing else.
+/// Carries out the arguments, the program's name first, and returns the status. Standard output gets the requested
+/// text and nothing else.
+///
+/// | Status | Meaning |
+/// |---|---|
+/// | 0 | all was done |
+/// | 1 | a call ended early, a word or byte differs, or a strict run or an image command met a bus error |
+/// | 2 | a usage, input, I/O or out-of-memory error: one line on standard error, or the lines of `clap` |
 pub fn run_words<I: Read, F: Files, O: Write, E: Write>(
     alloc: Global,
     words: &[&str],
@@ -36,7 +40,7 @@ pub fn run_words<I: Read, F: Files, O: Write, E: Write>(
     }
 }
 
-// The help or the version that was asked for, or what is wrong with the words.
+// Prints the help or the version, or the usage error.
 fn answer_by_clap<O: Write, E: Write>(error: &Error, output: &mut O, errors: &mut E) -> u8 {
     if error.use_stderr() {
         let _ = write!(errors, "{error}");
@@ -48,7 +52,8 @@ fn answer_by_clap<O: Write, E: Write>(error: &Error, output: &mut O, errors: &mu
     }
 }
 
-// The file that a command reads, the script of a run. Without one, and for `-`, it is standard input.
+// Returns the file that a command reads, such as the script of a run. Returns `None` for standard input: without a
+// name, and for `-`.
 fn file_of(line: &Line) -> Option<&str>
     ensures standard { IfNone result (IsStandard line.now) }
     ensures file { IfSome result (λ name. (named line.now ≡ Some name.now) × (name.now ≢ codes "-")) }
@@ -64,7 +69,7 @@ fn file_of(line: &Line) -> Option<&str>
     if name == "-" { None } else { Some(name) }
 }
 
-// Opens what a command reads, and performs it.
+// Opens the file that a command reads, and performs the command.
 fn carry_out<I: Read, F: Files, O: Write, E: Write>(
     alloc: Global,
     line: &Line,
@@ -101,7 +106,7 @@ fn carry_out<I: Read, F: Files, O: Write, E: Write>(
     }
 }
 
-// Makes the one call of a command. What it reads is this file, or standard input.
+// Makes the one call of a command. `input` is the file that it reads, or standard input.
 fn perform<R: Read, F: Files, O: Write, E: Write>(
     alloc: Global,
     line: &Line,
@@ -126,7 +131,7 @@ fn perform<R: Read, F: Files, O: Write, E: Write>(
     }
 }
 
-// Opens the plan, and runs the script under it. Without a plan nothing happens to the requests.
+// Opens the plan, and runs the script under it. Without a plan no faults are injected.
 fn perform_run<S: Read, F: Files, O: Write, E: Write>(
     alloc: Global,
     run: &RunLine,
@@ -179,7 +184,7 @@ fn perform_run<S: Read, F: Files, O: Write, E: Write>(
     }
 }
 
-// Makes the file of the trace, where one is named, and runs the script under the plan.
+// Opens the trace's file, if one is named, and runs the script under the plan.
 fn perform_under<S: Read, P: Read, F: Files, O: Write, E: Write>(
     alloc: Global,
     run: &RunLine,

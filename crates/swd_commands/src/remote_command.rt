@@ -1,4 +1,4 @@
-//! A run at a target that is elsewhere, on the standard streams.
+//! Performs `swd run --remote`: a run at a remote target on the standard streams.
 ghost use Rattle.std.specs.Prelude.{◌≡◌, [], is_some};
 ghost use Rattle.std.specs.FinMap.{empty};
 ghost use Rattle.swd_port.specs.Port.{made};
@@ -16,23 +16,23 @@ use swd_remote::Fault;
 use swd_run::Finished;
 use swd_words::RunLine;
 
-/// Any story of the other end: what is proved of a run is proved of each.
+/// An instance of `Story` for the other end. Which one is irrelevant: a run's contract is proved for each.
 pub struct Untold;
 
 impl Story for Untold {
     ghost at = { λ _. made 0 (record { words = empty; log = []; room = 0 }) };
 }
 
-// Where the report goes.
+// The destination of the report.
 #[derive(Drop)]
 struct Destination<M> {
-    // Its file. `None` for standard error.
+    // The file, or `None` for standard error.
     file: Option<M>,
-    // Which file that is, or standard error. `None` where that is closed.
+    // The identity of the file or of standard error, or `None` if standard error is closed.
     identity: Option<Identity>,
 }
 
-// Opens the file of the report. `-` is standard error, of which nothing is cut off.
+// Opens the file of the report. `-` is standard error, which isn't truncated.
 fn open_report<F: Files>(files: &F, name: &str, read: Sources) -> io::Result<Destination<F::Made>> {
     if name == "-" {
         return Ok(Destination {
@@ -47,7 +47,7 @@ fn open_report<F: Files>(files: &F, name: &str, read: Sources) -> io::Result<Des
     })
 }
 
-// A file without which one it is.
+// Returns the file without its identity.
 fn file_alone<M>(opened: Option<Opened<M>>) -> Option<M>
     ensures { is_some result ≡ is_some opened }
 {
@@ -57,8 +57,8 @@ fn file_alone<M>(opened: Option<Opened<M>>) -> Option<M>
     }
 }
 
-/// Opens the files of the report and, where one is named, of the trace, and runs the script at the target behind these
-/// streams.
+/// Opens the report's file, and the trace's file if one is named. Then runs the script at the target behind the
+/// streams, and returns the status.
 pub fn perform_remote<P: Story, S: Read, I: Read + Drop, F: Files, O: Write + Drop, E: Write>(
     alloc: Global,
     run: &RunLine,
@@ -104,7 +104,7 @@ pub fn perform_remote<P: Story, S: Read, I: Read + Drop, F: Files, O: Write + Dr
     reached_status(errors, answer, line.fault, strict)
 }
 
-// The status of a run over a line whose other end is gone or not.
+// Returns the status of a run over a line: 1 if a report was made but the other end is gone, else the run's status.
 fn reached_status<E: Write>(
     errors: &mut E,
     answer: Result<Finished, RemoteFault>,
@@ -121,7 +121,7 @@ fn reached_status<E: Write>(
     }
 }
 
-// Says why the other end is gone, on one line.
+// Prints a line with the reason why the other end is gone.
 fn gone_status<E: Write>(errors: &mut E, fault: Fault) -> u8
     ensures { result ≡ 1 }
 {

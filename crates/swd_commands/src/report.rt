@@ -1,4 +1,4 @@
-//! What the program says of a fault, and the status that it ends with.
+//! Prints the program's errors, and returns its status.
 ghost use Rattle.std.specs.Prelude.{◌≡◌, is_ok};
 ghost use Rattle.swd_commands.specs.Statuses.{has_failed, status_of, status_of_end, status_of_run};
 
@@ -10,17 +10,17 @@ use swd_host::End;
 use swd_port::Answer;
 use swd_run::{Difference, Finished};
 
-/// The status where all was done.
+/// The status if all was done.
 pub const DONE: u8 = 0;
 
-/// The status of a run that ended before all was done, read a word that isn't the script's, or met a bus
-/// fault that it may not meet.
+/// The status of a run that ended early, read a word that differs from the script's, or met a bus error although it is
+/// strict. Also of a command over an image that ended early, met a bus error, or found a byte that differs.
 pub const STOPPED: u8 = 1;
 
-/// The status at a fault of words, texts, files or memory.
+/// The status at a usage, input, I/O or out-of-memory error.
 pub const FAULT: u8 = 2;
 
-// A name on one line: its control characters are shown by their escapes.
+// A name, displayed on one line: control characters are escaped.
 #[derive(Drop)]
 struct Shown<'a>(&'a str);
 
@@ -37,8 +37,8 @@ impl Display for Shown<'_> {
     }
 }
 
-/// Says what is wrong, on one line of standard error. Where that can't be written, the status says
-/// it alone.
+/// Prints an error as one line on standard error, and returns the status 2, whether or not the line could be
+/// written.
 pub fn tell<E: Write>(errors: &mut E, what: &str) -> u8
     ensures { result ≡ 2 }
 {
@@ -46,7 +46,7 @@ pub fn tell<E: Write>(errors: &mut E, what: &str) -> u8
     FAULT
 }
 
-/// Says that a file can't be opened or made.
+/// Prints that a file can't be opened or created, and returns the status 2.
 pub fn cannot_open<E: Write>(errors: &mut E, name: &str) -> u8
     ensures { result ≡ 2 }
 {
@@ -54,7 +54,7 @@ pub fn cannot_open<E: Write>(errors: &mut E, name: &str) -> u8
     FAULT
 }
 
-/// The status of `swd one`.
+/// Prints the error of `swd one`, if there is one, and returns the status: 0 or 2.
 pub fn one_status<E: Write>(errors: &mut E, answer: Result<(), OneFault>) -> u8
     ensures { result ≡ status_of (is_ok answer) }
 {
@@ -70,7 +70,7 @@ pub fn one_status<E: Write>(errors: &mut E, answer: Result<(), OneFault>) -> u8
     }
 }
 
-/// The status of a text engine.
+/// Prints the error of a conversion, if there is one, and returns the status: 0 or 2.
 pub fn engine_status<E: Write, F: Display + Drop>(errors: &mut E, answer: Result<(), F>) -> u8
     ensures { result ≡ status_of (is_ok answer) }
 {
@@ -83,7 +83,7 @@ pub fn engine_status<E: Write, F: Display + Drop>(errors: &mut E, answer: Result
     }
 }
 
-/// The status of a run, strict or not.
+/// Prints what went wrong in a run, and returns the status: 2 at an error, else that of `finished_status`.
 pub fn run_status<E: Write, F: Display + Drop>(
     errors: &mut E,
     answer: Result<Finished, F>,
@@ -97,9 +97,9 @@ pub fn run_status<E: Write, F: Display + Drop>(
     }
 }
 
-/// The status of a run that came to its report. Where a word isn't the one that the script tells, one line
-/// says so; a strict run fails where an access was answered by a bus error. Where one was, and the room of the
-/// simulated target is used up, a line before says so.
+/// Returns the status of a run that has a report: 0, or 1 if it ended early, a word differs from the script's, or a
+/// strict run met a bus error. Prints a line for the word that differs. If an access met a bus error and the simulated
+/// target's room is used up, prints a line for that first.
 pub fn finished_status<E: Write>(errors: &mut E, finished: Finished, strict: bool) -> u8
     ensures { result ≡ status_of_end (has_failed strict finished) finished.ended }
 {
@@ -115,7 +115,7 @@ pub fn finished_status<E: Write>(errors: &mut E, finished: Finished, strict: boo
     }
 }
 
-// Says that the room of the simulated target is used up, where an access met a bus error.
+// Prints that the simulated target's room is used up, if an access met a bus error.
 fn tell_full<E: Write>(errors: &mut E, finished: Finished) {
     if let Some(room) = finished.full
         && finished.bus_fault
@@ -127,7 +127,7 @@ fn tell_full<E: Write>(errors: &mut E, finished: Finished) {
     }
 }
 
-// Names the line of the script, the address, and both words.
+// Prints the script's line number, the address, and both words.
 fn tell_difference<E: Write>(errors: &mut E, difference: Difference) {
     let Difference {
         line,

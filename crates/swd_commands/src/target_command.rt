@@ -1,4 +1,4 @@
-//! A simulated target on the standard streams.
+//! Performs `swd target`: a simulated target on the standard streams.
 ghost use Rattle.std.specs.Prelude.{◌≡◌, ℕ, List, Option};
 ghost use Rattle.swd_commands.specs.Targets.{IsServedStatus, ServesHost};
 
@@ -13,8 +13,8 @@ use swd_ends::{TargetFault, read_target, write_log};
 use swd_io::send;
 use swd_words::TargetLine;
 
-/// Opens the plan, and serves a host at the target of the script. Without a plan nothing happens to the
-/// requests.
+/// Opens the plan, and serves a host at the script's target. Without a plan no faults are injected. Returns the
+/// status: 0 or 2.
 pub fn perform_target<S: Read, I: Read, F: Files, O: Write, E: Write, A: Allocator + Copy>(
     alloc: A,
     target: &TargetLine,
@@ -47,7 +47,7 @@ pub fn perform_target<S: Read, I: Read, F: Files, O: Write, E: Write, A: Allocat
             errors,
         );
     };
-    // Standard input is the debugger's.
+    // Standard input comes from the debugger.
     match open_plan(files, name.as_str(), None) {
         Ok(mut opened) => {
             let read = Sources {
@@ -64,7 +64,7 @@ pub fn perform_target<S: Read, I: Read, F: Files, O: Write, E: Write, A: Allocat
     }
 }
 
-// Opens the files of log and trace, and serves a host. They are written once it is served.
+// Opens the files of the log and the trace, and serves a host. Writes both files afterwards.
 fn serve_under<S: Read, P: Read, I: Read, F: Files, O: Write, E: Write, A: Allocator + Copy>(
     alloc: A,
     target: &TargetLine,
@@ -104,7 +104,7 @@ fn serve_under<S: Read, P: Read, I: Read, F: Files, O: Write, E: Write, A: Alloc
     }
 }
 
-// Writes the log and the trace, and says whether both stand whole.
+// Writes the log and the trace, and returns whether both were written completely.
 fn write_records<M: Write + Drop, A: Allocator>(
     log: Option<Opened<M>>,
     trace: Option<Opened<M>>,
@@ -122,12 +122,12 @@ fn write_records<M: Write + Drop, A: Allocator>(
     logged && traced
 }
 
-// Writes the trace, and says whether it stands whole.
+// Writes the trace, and returns whether it was written completely.
 fn write_trace<M: Write, A: Allocator>(writer: &mut M, kept: &Trace<A>) -> bool {
     send(writer, kept.text()).is_ok() && send(writer, b"\n").is_ok() && !kept.is_cut()
 }
 
-// The status of a session, where its log and trace stand whole or not.
+// Returns the status of a session. `done`: its log and its trace were written completely.
 fn served_status<E: Write>(errors: &mut E, served: Served, done: bool) -> u8
     ensures { IsServedStatus served result }
 {
@@ -145,7 +145,7 @@ fn served_status<E: Write>(errors: &mut E, served: Served, done: bool) -> u8
     }
 }
 
-// The status where a byte is none of the protocol's.
+// Prints that a byte isn't of the protocol, and returns the status 2.
 fn bad_status<E: Write>(errors: &mut E, place: u64, byte: u8) -> u8
     ensures { result ≡ 2 }
 {
@@ -157,7 +157,7 @@ fn bad_status<E: Write>(errors: &mut E, place: u64, byte: u8) -> u8
     FAULT
 }
 
-// The status where there is no target.
+// Prints why there is no target, and returns the status 2.
 fn target_status<E: Write>(errors: &mut E, fault: TargetFault) -> u8
     ensures { result ≡ 2 }
 {

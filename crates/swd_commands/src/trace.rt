@@ -1,4 +1,4 @@
-//! The files of a plan and of a trace, which may be none of the others.
+//! Opens the files of plans and traces, and refuses a file that is already in use.
 ghost use Rattle.std.specs.Prelude.{◌≡◌, ◌≢◌, IfOk, Some, is_some};
 ghost use Rattle.swd_commands.specs.Traces.{IsBeside};
 
@@ -7,24 +7,25 @@ use crate::report::{FAULT, cannot_open};
 use std::io;
 use std::io::{ErrorKind, Write};
 
-/// The files of a run beside the one that is opened.
+/// The other files of a run.
 #[derive(Clone, Copy)]
 pub struct Sources {
-    /// The script's. `None` where it is standard input.
+    /// The script's file, or `None` for standard input.
     pub script: Option<Identity>,
-    /// The plan's, where one is named.
+    /// The plan's file, if one is named.
     pub plan: Option<Identity>,
-    /// That of another file that is written, where one is open: the report's, which may be standard error's, or the log's.
+    /// Another file that is written, if there is one: the report's, which may be standard error, or the log's.
     pub written: Option<Identity>,
 }
 
-/// Opens the file that a trace is written to, and cuts off what it holds once it is known to be neither the
-/// script, nor the plan, nor another file that is written, nor standard output.
+/// Opens the file that a trace is written to, and truncates it. Before it truncates, it checks that the file is neither
+/// the script, nor the plan, nor another file that is written, nor standard output. The contract leaves out the
+/// standard streams.
 ///
 /// # Errors
 ///
-/// Where it is one of these, under whatever name, or may be; for `-`; and where it can't be opened or made. A file
-/// that was there is as it was then.
+/// Returns an error if the file is one of these under any name, or may be. Also for `-`, and if the file can't be
+/// opened or created. An existing file isn't truncated then.
 pub fn open_trace<F: Files>(files: &F, name: &str, read: Sources) -> io::Result<Opened<F::Made>>
     ensures { IfOk result (λ trace. IsBeside trace.identity name.now read) }
 {
@@ -48,11 +49,11 @@ pub fn open_trace<F: Files>(files: &F, name: &str, read: Sources) -> io::Result<
     Ok(trace)
 }
 
-/// Opens such a file where one is named.
+/// Opens such a file if one is named.
 ///
 /// # Errors
 ///
-/// As [`open_trace`] has it.
+/// Returns an error where [`open_trace`] does.
 pub fn open_record<F: Files>(
     files: &F,
     name: &Option<String>,
@@ -69,7 +70,7 @@ pub fn open_record<F: Files>(
     }
 }
 
-/// Says that it can't be opened or made.
+/// Prints that the file can't be opened or created, and returns the status 2.
 pub fn cannot_open_record<E: Write>(errors: &mut E, name: &Option<String>) -> u8
     ensures { result ≡ 2 }
 {
@@ -79,12 +80,12 @@ pub fn cannot_open_record<E: Write>(errors: &mut E, name: &Option<String>) -> u8
     }
 }
 
-/// Opens the file of a plan, once it is known not to be this other file that is read, or standard input where that is
-/// `None`: where both are one stream, what one reader takes is missing to the other.
+/// Opens the file of a plan. It has to differ from `other`, the other file that is read, or from standard input if that
+/// is `None`: two readers of one stream would take bytes from each other. The contract leaves out standard input.
 ///
 /// # Errors
 ///
-/// Where it is that file, under whatever name, or may be, and where it can't be opened.
+/// Returns an error if it is that file under any name, or may be, and if it can't be opened.
 pub fn open_plan<F: Files>(
     files: &F,
     name: &str,

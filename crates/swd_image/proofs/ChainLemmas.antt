@@ -48,7 +48,7 @@ module _ (want : ℕ → ℕ) (P : ℕ → Type 0) (words : FinMap nat_cmp ℕ) 
   abbrev pub Later : FinMap nat_cmp ℕ → FinMap nat_cmp ℕ → Type 0
   Later old now = (q : ℕ) → get old q ≡ Some (want q) → get now q ≡ Some (want q)
 
-  -- what an answer tells of an access
+  -- what an answer means for an access
   abbrev pub Tells : FinMap nat_cmp ℕ → Access → Answer → Type 0
   Tells now (Read at) (Value word) = (word ≡ word_in words at) ⊎ P at
   Tells now (Read at) Written = Unit {0}

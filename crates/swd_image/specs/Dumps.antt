@@ -1,4 +1,4 @@
--- What a dump and a verification come to over a wire.
+-- The results of a dump and of a verification over a wire.
 use Rattle.std.specs.Prelude.{ℕ, ◌≡◌, ◌+◌, ◌<◌, ◌≤◌, ◌%◌, ◌^◌, List, length, Option, None, Some}
 use Rattle.std.specs.FinMap.{get}
 use Rattle.swd_port.specs.declared.mark.Mark.{Mark}
@@ -13,8 +13,9 @@ use Rattle.swd_image.specs.Lists.{dump_list}
 use Rattle.swd_image.specs.Sessions.{FailsAs, ReadsAs}
 
 module _ {W : Type 0} (port : W → Port) (plan : W → List Mark) (lawful : W → Type 0) (tries resumes : ℕ) where
-  -- So many bytes were read. Whatever came back, they are those of the words that its calls read. Where it was lawful,
-  -- and the target at rest, they are the memory's, and no word of it changed.
+  -- `count` bytes were read. Whatever was seen, they are the bytes of the words that the calls read. If the wire was
+  -- lawful and the target at rest, they are the memory's bytes. Then no word of the memory changed, and the target is
+  -- at rest again.
   pub record Dumps (addr count : ℕ) (bytes : List ℕ) (s t : W) : Type 0 where
     pub fits : addr + count ≤ 2 ^ 32
     pub words : List ℕ
@@ -25,7 +26,7 @@ module _ {W : Type 0} (port : W → Port) (plan : W → List Mark) (lawful : W �
         → (q : ℕ) → get (port t).target.memory.words q ≡ get (port s).target.memory.words q
     pub rests : lawful t → IsAtRest (port s) → IsAtRest (port t)
 
-  -- why a dump failed: no call was made of a range that extends past the addresses
+  -- the error of a dump: for a range that extends past the addresses no call was made
   abbrev pub DumpFails : ℕ → ℕ → W → W → ImageFault → Type 0
   DumpFails addr count s t Range = (2 ^ 32 < addr + count) × (t ≡ s)
   DumpFails addr count s t Memory = addr + count ≤ 2 ^ 32
@@ -34,14 +35,14 @@ module _ {W : Type 0} (port : W → Port) (plan : W → List Mark) (lawful : W �
   DumpFails addr count s t (FaultAt at) =
       (addr + count ≤ 2 ^ 32) × FailsAs port plan lawful tries resumes (dump_list addr count) s t (FaultAt at)
 
--- these bytes are the image's, or this is the first that isn't
+-- the bytes are the image's, or this is the first one that differs
 abbrev pub Compares : ℕ → List ℕ → List ℕ → Option ByteDifference → Type 0
 Compares addr bytes found None = found ≡ bytes
 Compares addr bytes found (Some difference) =
     DiffersAt addr bytes found difference.addr difference.found difference.expected
 
--- An image was verified: the bytes of its range were read, and compared. So, where it was lawful and the target at
--- rest, the memory's were.
+-- The bytes of an image's range were read and compared. If the wire was lawful and the target at rest, the result
+-- holds for the memory's bytes.
 pub record Verifies {W : Type 0} (port : W → Port) (plan : W → List Mark) (lawful : W → Type 0) (tries resumes addr : ℕ)
     (bytes : List ℕ) (difference : Option ByteDifference) (s t : W) : Type 0 where
   pub found : List ℕ

@@ -1,4 +1,4 @@
--- What a load comes to over a wire.
+-- The result of a load over a wire.
 use Rattle.std.specs.Prelude.{ℕ, ◌≡◌, ◌+◌, ◌<◌, ◌≤◌, ◌^◌, ◌⊎◌, List, length}
 use Rattle.swd_port.specs.declared.mark.Mark.{Mark}
 use Rattle.swd_port.specs.Port.{Port}
@@ -11,9 +11,9 @@ use Rattle.swd_image.specs.Sessions.{FailsAs, MadeAll, ReadsAs}
 
 module _ {W : Type 0} (port : W → Port) (plan : W → List Mark) (lawful : W → Type 0) (tries resumes addr : ℕ)
     (bytes : List ℕ) (s t : W) where
-  -- It was loaded. Whatever came back, these are its calls: the partial words were read, and then each word was
-  -- written, the partial ones as they were read with the image's bytes in them. Where it was lawful, and the target at
-  -- rest, the memory has the image, and nothing else of it changed.
+  -- The image was loaded. Whatever was seen, these are the calls: they read the partial words, and then wrote each
+  -- word, a partial one as it was read, with the image's bytes in it. If the wire was lawful and the target at rest,
+  -- the memory contains the image, and nothing else of it changed. The target is then at rest again.
   pub record Loads : Type 0 where
     pub fits : addr + length bytes ≤ 2 ^ 32
     pub head : ℕ
@@ -25,7 +25,7 @@ module _ {W : Type 0} (port : W → Port) (plan : W → List Mark) (lawful : W �
     pub memory : lawful t → IsAtRest (port s)
         → IsLoaded addr bytes (port s).target.memory (port t).target.memory × IsAtRest (port t)
 
-  -- It failed among the writes.
+  -- the load failed in its writes
   pub record FailsLate (fault : ImageFault) : Type 0 where
     pub head : ℕ
     pub tail : ℕ
@@ -34,8 +34,8 @@ module _ {W : Type 0} (port : W → Port) (plan : W → List Mark) (lawful : W �
         (edge_words addr (length bytes) head tail) s reached
     pub writes : FailsAs port plan lawful tries resumes (load_list addr bytes head tail) reached t fault
 
-  -- Why a load failed: no call was made of an image that extends past the addresses; else a call of its reads, or of
-  -- its writes.
+  -- The error of a load: for an image that extends past the addresses no call was made. Otherwise a call of the reads
+  -- failed, or one of the writes.
   abbrev pub LoadFails : ImageFault → Type 0
   LoadFails Range = (2 ^ 32 < addr + length bytes) × (t ≡ s)
   LoadFails Memory = addr + length bytes ≤ 2 ^ 32

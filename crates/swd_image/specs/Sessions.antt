@@ -1,4 +1,4 @@
--- What the calls of a load, a verification or a dump are, over any wire, whatever came back.
+-- The calls of a load, a verification or a dump, over any wire and whatever was seen.
 use Rattle.std.specs.Prelude.{ℕ, ◌≡◌, ◌≢◌, Bool, true, false, List, [], ◌∷◌, ◌++◌, map, Option, Some, None}
 use Rattle.std.specs.Prelude.{if◌then◌else◌}
 use Rattle.swd_port.specs.declared.access.Access.{Access}
@@ -16,7 +16,7 @@ use Rattle.swd_image.specs.declared.fault.ImageFault.{ImageFault}
 use Rattle.swd_image.specs.declared.fault.ImageFault.TheVariants.{Range, Memory, Stopped, BusFault as FaultAt}
 
 -- ANSWERS
--- the access took place: a read was answered by a word, a write as written
+-- the access succeeded: the answer to a read is a word, that to a write is written
 abbrev pub is_done : Access → Answer → Bool
 is_done (Read at) (Value word) = true
 is_done (Read at) Written = false
@@ -25,14 +25,14 @@ is_done (Write at word) Written = true
 is_done (Write at word) (Value other) = false
 is_done (Write at word) BusFault = false
 
--- all of them did
+-- all of them succeeded
 abbrev pub AreDone : List Access → List Answer → Type 0
 AreDone [] [] = Unit {0}
 AreDone [] (x ∷ answers) = ⊥
 AreDone (a ∷ list) [] = ⊥
 AreDone (a ∷ list) (x ∷ answers) = (is_done a x ≡ true) × AreDone list answers
 
--- the address of the first one that didn't
+-- the address of the first one that failed
 abbrev pub first_failed : List Access → List Answer → Option ℕ
 first_failed [] answers = None
 first_failed (a ∷ list) [] = None
@@ -49,13 +49,13 @@ words_told answers = map word_told answers
 
 -- THE CALLS
 module _ {W : Type 0} (port : W → Port) (plan : W → List Mark) (lawful : W → Type 0) (tries resumes : ℕ) where
-  -- one call over a wire, from one state of it to another, with its report: a batch of at most 65,536 accesses, which
-  -- may have been resumed
+  -- one call over a wire, from one state of the wire to another, with its report: a batch of at most 65,536
+  -- accesses, which may have been resumed
   pub record Call (batch : Listed) (s : W) (run : Done) (t : W) : Type 0 where
     pub fits : IsBatch batch
     pub goes : GoesOn port plan lawful (most_begun batch) tries resumes batch s run t
 
-  -- Calls one after the other, each of which ended `All` with each access done: their accesses, and their answers.
+  -- consecutive calls, each of which ended `All` with each access done: their accesses, and their answers
   pub data Calls (s : W) : List Access → List Answer → W → Type 0 where
     none : Calls s [] [] s
     more : {list : List Access} {answers : List Answer} {t u : W} {batch : Listed} {run : Done}
@@ -63,19 +63,19 @@ module _ {W : Type 0} (port : W → Port) (plan : W → List Mark) (lawful : W �
         → AreDone batch.accesses run.told.answers
         → Calls s (list ++ batch.accesses) (answers ++ run.told.answers) u
 
-  -- the same, which read these words
+  -- such calls, which read these words
   pub record ReadsAs (list : List Access) (words : List ℕ) (s t : W) : Type 0 where
     pub answers : List Answer
     pub calls : Calls s list answers t
     pub told : words ≡ words_told answers
 
-  -- the same, whatever they were answered
+  -- such calls, with any answers
   pub record MadeAll (list : List Access) (s t : W) : Type 0 where
     pub answers : List Answer
     pub calls : Calls s list answers t
 
-  -- The calls of which the last one ended otherwise: the accesses up to its end, and then those that this list has
-  -- more; how it ended.
+  -- Calls of which the last one ended otherwise, as `P` says: the accesses of the calls are the first ones of the
+  -- list, and the list's `rest` was in no call.
   pub record Fails (list : List Access) (s u : W) (P : Listed → Done → Type 0) : Type 0 where
     pub before : List Access
     pub answers : List Answer
@@ -88,7 +88,7 @@ module _ {W : Type 0} (port : W → Port) (plan : W → List Mark) (lawful : W �
     pub split : list ≡ before ++ (batch.accesses ++ rest)
     pub ended : P batch run
 
-  -- Why a load or a dump with these accesses failed, from one state of the wire to another.
+  -- the error of a load or a dump with these accesses, from one state of the wire to another
   abbrev pub FailsAs : List Access → W → W → ImageFault → Type 0
   FailsAs list s u Range = ⊥
   FailsAs list s u Memory = Unit {0}

@@ -1,4 +1,4 @@
-//! One call whose accesses all have to take place.
+//! Makes one call, and requires each of its accesses to succeed.
 ghost use Rattle.std.specs.Prelude.{◌≡◌, IfErr, IfOk, None, length};
 ghost use Rattle.swd_port.specs.PlainMemory.{address};
 ghost use Rattle.swd_port.specs.declared.wire.Due.TheVariants.{Nothing};
@@ -15,7 +15,7 @@ use swd_port::{Access, Answer, Wire};
 use swd_run::{Resumed, run_on};
 use swd_script::Batch;
 
-// Whether an access took place.
+// Returns whether an access succeeded: a read has a word, a write is written.
 fn is_done(access: Access, answer: Answer) -> bool
     ensures { result ≡ is_done access answer }
 {
@@ -33,7 +33,7 @@ fn address(access: Access) -> u32
     }
 }
 
-// The address of the first access that didn't.
+// Returns the address of the first access that failed.
 fn first_failed(accesses: &[Access], answers: &[Answer]) -> Option<u32>
     requires { length answers.now ≡ length accesses.now }
     ensures { result ≡ first_failed accesses.now answers.now }
@@ -46,8 +46,8 @@ fn first_failed(accesses: &[Access], answers: &[Answer]) -> Option<u32>
     None
 }
 
-/// Makes one call, resumed at most so many times. `Stopped` where it ended early, `BusFault` where an access of it met
-/// a bus error, `Memory` where memory was refused.
+/// Makes one call, and resumes it up to `resumes` times. Returns `Stopped` if it ended early, `BusFault` if one of its
+/// accesses met a bus error, and `Memory` if out of memory.
 pub(crate) fn run_call<W: Wire, A: Allocator + Copy>(
     alloc: A,
     wire: &mut W,

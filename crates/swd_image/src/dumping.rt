@@ -1,4 +1,4 @@
-//! Reads the bytes of a range.
+//! Reads a range of bytes.
 ghost use Rattle.std.specs.Prelude.{◌≡◌, ◌+◌, ◌*◌, ◌<◌, ◌≤◌, IfErr, IfOk, length};
 ghost use Rattle.swd_port.specs.declared.wire.Due.TheVariants.{Nothing};
 ghost use Rattle.swd_image.specs.declared.fault.ImageFault.TheVariants.{Memory};
@@ -11,14 +11,14 @@ use crate::reading::read_words;
 use std::alloc::Allocator;
 use swd_port::Wire;
 
-// The byte at this place of a word.
+// Returns byte `place % 4` of a word, the least significant byte first.
 fn byte_in(word: u32, place: u64) -> u8
     ensures { result ≡ byte_in word place }
 {
     word.to_le_bytes()[(place % 4) as usize]
 }
 
-// So many bytes of consecutive words, from this place on.
+// Returns `count` bytes of consecutive words, from byte `place` on.
 fn bytes_of<A: Allocator>(
     alloc: A,
     words: &[u32],
@@ -41,17 +41,19 @@ fn bytes_of<A: Allocator>(
     Ok(bytes)
 }
 
-/// Reads `count` bytes at `addr` and the addresses after it, over a wire on which nothing is due. Each word of the
-/// range is read once, by blocks of at most 65,536 words. Each access may meet `tries` events, and each block may be
-/// resumed `resumes` times after a lost acknowledgement.
+/// Reads `count` bytes from `addr` on, over a wire on which nothing is due. It reads each word of the range once, in
+/// blocks of at most 65,536 words. Each access may meet `tries` events. Each block is resumed up to `resumes` times
+/// after a lost acknowledgement.
 ///
-/// Where the wire is lawful and the target was at rest, these are the memory's bytes, and no word of it changed.
+/// Over a target that conforms to the model and was at rest, the result is the bytes of its memory. No word of the
+/// memory changed then.
 ///
 /// # Errors
 ///
-/// `Range` if the range extends past ffffffff: nothing was sent. `Stopped` where a call ended early, `BusFault` where
-/// an access met a bus error: no call was made after that one. `Memory` where memory was refused for the accesses,
-/// the answers, or the bytes.
+/// - `Range`: the range extends past ffffffff. Nothing was sent.
+/// - `Stopped`: a call ended early. No call was made after it.
+/// - `BusFault`: an access met a bus error. No call was made after its call.
+/// - `Memory`: out of memory. Calls may have been made before.
 pub fn dump<W: Wire, A: Allocator + Copy>(
     alloc: A,
     wire: &mut W,

@@ -1,21 +1,21 @@
-//! Why an image was not loaded, read or verified.
+//! Errors of loads, dumps and verifications.
 use swd_host::End;
 use thiserror::Error;
 
-/// Why an image was not loaded or read.
+/// The error of a load, a dump or a verification.
 #[derive(Clone, Copy, Debug, PartialEq, Eq, Error)]
 pub enum ImageFault {
     /// The image extends past ffffffff. Nothing was sent.
     #[error("the image extends past ffffffff")]
     Range,
-    /// Out of memory. Calls before this one may have been made.
+    /// Out of memory. Calls may have been made before.
     #[error("no memory")]
     Memory,
-    /// A call ended early, as this says; never `All`.
+    /// A call ended early. The value is its end, never `All`.
     #[error("the run ended early: {0}")]
     Stopped(End),
-    /// The access of the word at this address was answered by a bus error. The other accesses of its call were made,
-    /// and none after that call.
+    /// The word at this byte address met a bus error, as the first one of its call. The call itself ended `All`, and
+    /// no call was made after it.
     #[error("bus error at {0:08x}")]
     BusFault(u32),
 }

@@ -1,4 +1,5 @@
-//! Loads an image into a target's memory, reads it back, and verifies it: bytes at any address, over any wire.
+//! Loads images into a target's memory, verifies them, and dumps memory. An image is bytes at any address. Works over
+//! any wire.
 #![tactic(auto)]
 
 mod calls;

@@ -1,4 +1,4 @@
-//! Loads an image.
+//! Loads images.
 ghost use Rattle.std.specs.Prelude.{◌≡◌, ◌+◌, ◌%◌, ◌≤◌, ◌<◌, ◌^◌, IfErr, IfOk, OnOk};
 ghost use Rattle.swd_port.specs.declared.wire.Due.TheVariants.{Nothing};
 ghost use Rattle.swd_image.specs.Lists.{edge_list, edge_words, read_if, word_if};
@@ -12,7 +12,7 @@ use crate::writing::{Edges, write_words};
 use std::alloc::Allocator;
 use swd_port::Wire;
 
-// Reads the word at this address where it is needed; else it is 0.
+// Reads the word at an address if it is needed, and otherwise returns 0.
 fn read_word<W: Wire, A: Allocator + Copy>(
     alloc: A,
     wire: &mut W,
@@ -36,7 +36,7 @@ fn read_word<W: Wire, A: Allocator + Copy>(
     Ok(words[0])
 }
 
-// Reads the partial words of a range.
+// Reads the words that a range covers only in part: the first one, the last one, both or neither.
 fn read_edges<W: Wire, A: Allocator + Copy>(
     alloc: A,
     wire: &mut W,
@@ -60,20 +60,22 @@ fn read_edges<W: Wire, A: Allocator + Copy>(
     Ok(Edges { head, tail })
 }
 
-/// Loads an image: writes `bytes` at `addr` and the addresses after it, over a wire on which nothing is due.
+/// Loads an image: writes `bytes` from `addr` on, over a wire on which nothing is due.
 ///
-/// A first or last word of which the image has only some bytes is read before, and written with its other bytes
-/// unchanged. Each other word of the range is written once. Each call has at most 65,536 accesses, each of which may
-/// meet `tries` events, and may be resumed `resumes` times after a lost acknowledgement. An empty image makes no call.
+/// The image may cover its first or last word only in part. Such a word is read first, and its other bytes are written
+/// as they were read. Each word of the range is written once. Each call has at most 65,536 accesses, each of which may
+/// meet `tries` events. A call is resumed up to `resumes` times after a lost acknowledgement. An empty image makes no
+/// call.
 ///
-/// Where the wire is lawful and the target was at rest, a load that succeeds leaves each byte of the range as in the
-/// image, and all other memory unchanged.
+/// Over a target that conforms to the model and was at rest, the range contains the image after a load that succeeds.
+/// All other memory is unchanged then.
 ///
 /// # Errors
 ///
-/// `Range` if the image extends past ffffffff: nothing was sent. `Stopped` where a call ended early, `BusFault` where
-/// an access met a bus error: no call was made after that one, and all accesses of the calls before it took place.
-/// `Memory` where memory was refused for the accesses or the answers of a call, which may be after other calls.
+/// - `Range`: the image extends past ffffffff. Nothing was sent.
+/// - `Stopped`: a call ended early. `BusFault`: an access met a bus error. In both cases no call was made after that
+///   one, and each access of the calls before it was answered without a bus error.
+/// - `Memory`: out of memory. Calls may have been made before.
 pub fn load<W: Wire, A: Allocator + Copy>(
     alloc: A,
     wire: &mut W,

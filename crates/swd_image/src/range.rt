@@ -1,16 +1,16 @@
-//! The words of a range of bytes.
+//! Computes the words of a range of bytes.
 ghost use Rattle.std.specs.Prelude.{◌≡◌, ◌+◌, ◌≤◌, ◌^◌};
 ghost use Rattle.swd_image.specs.Bytes.{word_of};
 ghost use Rattle.swd_image.specs.Lists.{is_partial, last_word, needs_head, needs_tail, word_count};
 
-/// The address of the word that has the byte at this address.
+/// Returns the address of the word that contains the byte at `at`.
 pub(crate) fn word_of(at: u32) -> u32
     ensures { result ≡ word_of at }
 {
     at - at % 4
 }
 
-/// How many words have a byte of the range.
+/// Returns how many words contain a byte of the range.
 pub(crate) fn word_count(addr: u32, len: u64) -> u32
     requires { addr + len ≤ 2 ^ 32 }
     ensures { result ≡ word_count addr len }
@@ -22,7 +22,7 @@ pub(crate) fn word_count(addr: u32, len: u64) -> u32
     }
 }
 
-/// The address of the last of them.
+/// Returns the address of the last word that contains a byte of the range.
 pub(crate) fn last_word(addr: u32, len: u64) -> u32
     requires { addr + len ≤ 2 ^ 32 }
     ensures { result ≡ last_word addr len }
@@ -30,7 +30,7 @@ pub(crate) fn last_word(addr: u32, len: u64) -> u32
     word_of((addr as u64 + len).saturating_sub(1) as u32)
 }
 
-// Whether the word at this address has a byte that isn't in the range.
+// Returns whether the word at `at` has a byte outside the range.
 fn is_partial(addr: u32, len: u64, at: u32) -> bool
     requires { addr + len ≤ 2 ^ 32 }
     ensures { result ≡ is_partial addr len at }
@@ -38,7 +38,7 @@ fn is_partial(addr: u32, len: u64, at: u32) -> bool
     at < addr || addr as u64 + len < at as u64 + 4
 }
 
-/// Whether the first word is read before a load.
+/// Returns whether a load reads the first word before it writes.
 pub(crate) fn needs_head(addr: u32, len: u64) -> bool
     requires { addr + len ≤ 2 ^ 32 }
     ensures { result ≡ needs_head addr len }
@@ -46,7 +46,7 @@ pub(crate) fn needs_head(addr: u32, len: u64) -> bool
     0 < len && is_partial(addr, len, word_of(addr))
 }
 
-/// Whether the last word is read before a load.
+/// Returns whether a load reads the last word before it writes.
 pub(crate) fn needs_tail(addr: u32, len: u64) -> bool
     requires { addr + len ≤ 2 ^ 32 }
     ensures { result ≡ needs_tail addr len }

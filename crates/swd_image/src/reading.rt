@@ -1,4 +1,4 @@
-//! Reads the words of a range.
+//! Reads a range of words.
 ghost use Rattle.std.specs.Prelude.{◌≡◌, ◌+◌, ◌*◌, ◌%◌, ◌≤◌, ◌^◌, ◌++◌, [], IfErr, IfOk, OnOk, Some};
 ghost use Rattle.swd_port.specs.PlainMemory.{reads};
 ghost use Rattle.swd_port.specs.declared.wire.Due.TheVariants.{Nothing};
@@ -12,7 +12,7 @@ use std::alloc::Allocator;
 use swd_port::{Answer, MOST_ACCESSES, Wire, push_reads};
 use swd_script::Batch;
 
-// The call that reads so many words as a block.
+// Returns the call that reads `count` words from `at` on as a block.
 fn block_at<A: Allocator + Copy>(alloc: A, at: u32, count: u32) -> Result<Batch<A>, ImageFault>
     requires { at + 4 * count ≤ 2 ^ 32 }
     ensures batch { IfOk result (λ batch. listed batch ≡ record {
@@ -35,7 +35,7 @@ fn block_at<A: Allocator + Copy>(alloc: A, at: u32, count: u32) -> Result<Batch<
     })
 }
 
-// The word of an answer; 0 where it has none.
+// Returns the word of an answer, 0 if it has no word.
 fn word_told(answer: Answer) -> u32
     ensures { result ≡ word_told answer }
 {
@@ -45,7 +45,7 @@ fn word_told(answer: Answer) -> u32
     }
 }
 
-// Adds the words of these answers.
+// Appends the words of the answers.
 fn push_words<A: Allocator>(words: &mut Vec<u32, A>, answers: &[Answer]) -> Result<(), ImageFault>
     ensures pushed { OnOk result (words.new.items ≡ words.old.items ++ words_told answers.now) }
     ensures fault { IfErr result (λ fault. fault ≡ Memory) }
@@ -58,7 +58,7 @@ fn push_words<A: Allocator>(words: &mut Vec<u32, A>, answers: &[Answer]) -> Resu
     Ok(())
 }
 
-/// Reads `count` words from `first` on by calls of blocks, each of at most 65,536 words.
+/// Reads `count` words from `first` on, in blocks of at most 65,536 words, a call for each.
 pub(crate) fn read_words<W: Wire, A: Allocator + Copy>(
     alloc: A,
     wire: &mut W,

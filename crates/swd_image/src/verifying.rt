@@ -1,4 +1,4 @@
-//! Compares a target's memory with an image.
+//! Verifies an image: compares a target's memory with it.
 ghost use Rattle.std.specs.Prelude.{◌≡◌, ◌+◌, ◌≤◌, ◌^◌, IfErr, IfOk, length};
 ghost use Rattle.swd_port.specs.declared.wire.Due.TheVariants.{Nothing};
 ghost use Rattle.swd_image.specs.Dumps.{Compares, DumpFails, Verifies};
@@ -8,18 +8,18 @@ use crate::fault::ImageFault;
 use std::alloc::Allocator;
 use swd_port::Wire;
 
-/// A byte of the memory that isn't the image's.
+/// A byte of the memory that differs from the image.
 #[derive(Clone, Copy, Debug, PartialEq, Eq)]
 pub struct ByteDifference {
-    /// Its address.
+    /// The byte's address.
     pub addr: u32,
-    /// What it is.
+    /// The byte in the memory.
     pub found: u8,
-    /// What the image has there.
+    /// The byte in the image.
     pub expected: u8,
 }
 
-// The first of these bytes that isn't the image's.
+// Returns the first byte that differs from the image.
 fn first_difference(addr: u32, bytes: &[u8], found: &[u8]) -> Option<ByteDifference>
     requires same { length found.now ≡ length bytes.now }
     requires range { addr + length bytes.now ≤ 2 ^ 32 }
@@ -37,14 +37,14 @@ fn first_difference(addr: u32, bytes: &[u8], found: &[u8]) -> Option<ByteDiffere
     None
 }
 
-/// Reads the bytes of an image's range, as [`dump`](crate::dump) does, and compares them with the image, which is
-/// `bytes` at `addr`. Returns the first byte that differs; `None` if there is none.
+/// Reads the range of an image, as [`dump`](crate::dump) does, and compares it with the image: `bytes` at `addr`.
+/// Returns the first byte that differs, or `None` if they are equal.
 ///
-/// Where the wire is lawful and the target was at rest, `None` means that each byte of the range is the image's.
+/// Over a target that conforms to the model and was at rest, the result holds for the bytes of its memory.
 ///
 /// # Errors
 ///
-/// As [`dump`](crate::dump): then nothing was compared.
+/// Returns the errors of [`dump`](crate::dump). Nothing was compared then.
 pub fn verify<W: Wire, A: Allocator + Copy>(
     alloc: A,
     wire: &mut W,

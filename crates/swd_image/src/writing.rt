@@ -13,14 +13,14 @@ use std::alloc::Allocator;
 use swd_port::{Access, MOST_ACCESSES, Wire};
 use swd_script::Batch;
 
-/// What the partial words of an image's range are: the first and the last.
+/// The words that an image covers only in part, as they were read: the first one and the last one.
 #[derive(Clone, Copy, Debug, PartialEq, Eq)]
 pub(crate) struct Edges {
     pub(crate) head: u32,
     pub(crate) tail: u32,
 }
 
-// The byte at an address once the image is loaded over this word.
+// Returns the byte at `at` after a load over the word `word`: the image's byte, and outside the image the word's.
 fn image_byte(addr: u32, bytes: &[u8], word: u32, at: u32) -> u8
     ensures { result ≡ image_byte addr bytes.now word at }
 {
@@ -32,7 +32,7 @@ fn image_byte(addr: u32, bytes: &[u8], word: u32, at: u32) -> u8
 }
 
 impl Edges {
-    // The one that a partial word at this address is.
+    // Returns the one at a word's address.
     fn word(self, addr: u32, at: u32) -> u32
         ensures { result ≡ edge_word addr self.head self.tail at }
     {
@@ -40,7 +40,7 @@ impl Edges {
     }
 }
 
-// The word at an address once the image is loaded over partial words that are these.
+// Returns the word at `at` after a load over these partial words.
 fn loaded_word(addr: u32, bytes: &[u8], edges: Edges, at: u32) -> u32
     requires { at % 4 ≡ 0 }
     ensures { result ≡ loaded_word addr bytes.now edges.head edges.tail at }
@@ -54,7 +54,7 @@ fn loaded_word(addr: u32, bytes: &[u8], edges: Edges, at: u32) -> u32
     ])
 }
 
-// The call that writes so many words of the image.
+// Returns the call that writes `count` words of the image from `at` on.
 fn writes_at<A: Allocator + Copy>(
     alloc: A,
     addr: u32,
@@ -89,7 +89,7 @@ fn writes_at<A: Allocator + Copy>(
     })
 }
 
-/// Writes `count` words of the image from `first` on by calls of at most 65,536 writes, each word once.
+/// Writes `count` words of the image from `first` on, each word once, in calls of at most 65,536 writes.
 pub(crate) fn write_words<W: Wire, A: Allocator + Copy>(
     alloc: A,
     wire: &mut W,

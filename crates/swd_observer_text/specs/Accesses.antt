@@ -1,4 +1,4 @@
--- The text of what a trace shows, an access a line.
+-- The text of what a trace shows, one line for each access.
 use Rattle.std.specs.Prelude.{ℕ, Bool, true, false, List, [], ◌∷◌, ◌++◌, Option, None, Some, codes}
 use Rattle.std.specs.Fmt.{decimal}
 use Rattle.swd_bits.specs.Listing.{hex8}
@@ -15,7 +15,7 @@ abbrev pub direction : Bool → List ℕ
 direction true = codes " r "
 direction false = codes " w "
 
--- eight digits, or as many question marks
+-- eight hexadecimal digits, or eight question marks for an unknown word
 abbrev pub word_text : Option ℕ → List ℕ
 word_text None = codes "????????"
 word_text (Some word) = hex8 word
@@ -25,7 +25,7 @@ suffix Took = []
 suffix May = codes " may"
 suffix Not = codes " not"
 
--- an access, and the first of some bits that belong to nothing, without the line's end
+-- the lines of an access and of a gap, without the line feed
 abbrev pub access_line : Told → List ℕ
 access_line t =
     (64 ∷ decimal t.place) ++ direction t.read ++ word_text t.addr ++ codes " " ++ word_text t.word ++ suffix t.how
@@ -48,7 +48,7 @@ tells_text t = (told_text t.older ++ told_text t.before) ++ told_text t.itself
 abbrev pub shown_text : Shown → List ℕ
 shown_text s = tells_text s.tells ++ gap_text s.gap
 
--- those of some items, by an observer that begins so
+-- the lines of what some items show to an observer that begins as `t`
 abbrev pub accesses : List Item → TraceObserver → List ℕ
 accesses [] t = []
 accesses (item ∷ items) t = shown_text (shown_at item t) ++ accesses items (after_item item t)

@@ -1,4 +1,4 @@
-//! A law of what captures show. The function does nothing: its contract is the law.
+//! A property of what captures show. The function does nothing: its contract states the property.
 ghost use Rattle.std.specs.Prelude.{◌≡◌, ◌<◌, ℕ, Bool};
 ghost use Rattle.swd_observer.specs.declared.trace.TraceObserver.{TraceObserver};
 ghost use Rattle.swd_observer.specs.Observing.{unknown};
@@ -6,8 +6,8 @@ ghost use Rattle.swd_observer.specs.Traces.{after_items};
 ghost use Rattle.swd_resync.specs.AsItems.{items_of_part};
 ghost use Rattle.swd_resync.specs.declared.part.Part.TheVariants.{Skip};
 
-/// After a skip an observer knows nothing of the target, as at the beginning of a trace: so each stretch is observed as
-/// one that begins anywhere.
+/// States that an observer knows nothing of the target after a skip of at least one bit. So each stretch is observed
+/// as a trace that begins anywhere.
 pub fn skips_are_forgotten()
     ensures { (over : Bool) (n : ℕ) (t : TraceObserver) → 0 < n
         → (after_items (items_of_part over (Skip n)) t).observer ≡ unknown }

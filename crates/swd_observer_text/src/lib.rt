@@ -1,5 +1,5 @@
-//! The text of `swd decode --accesses`: the parts of a capture to what they show of the target's memory, an access a
-//! line.
+//! Prints the lines of `swd decode --accesses`: what the parts of a capture show of the target's memory, one line for
+//! each access.
 #![tactic(auto)]
 
 pub mod laws;

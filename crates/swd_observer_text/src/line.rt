@@ -1,4 +1,4 @@
-//! The lines of what is told, on the stack.
+//! Formats the lines of accesses and gaps, on the stack.
 ghost use Rattle.std.specs.Prelude.{◌≡◌, ◌+◌, ◌≤◌, ◌++◌, ◌∷◌, []};
 ghost use Rattle.std.specs.Fmt.{decimal};
 ghost use Rattle.arrayvec.specs.ArrayString.{array_string_len};
@@ -8,13 +8,14 @@ use arrayvec::ArrayString;
 use swd_bits::push_word;
 use swd_observer::{How, Told};
 
-/// The most bytes of a line, its end among them.
+/// The most bytes of a line, with its line feed.
 pub(crate) const LONGEST: usize = 46;
 
-/// A line and its end.
+/// A line with its line feed.
 pub(crate) type Line = ArrayString<LONGEST>;
 
-/// The line of an access: `@PLACE r ADDR WORD`, and what is told of it beside that.
+/// Returns the line of an access: `@PLACE r ADDR WORD`, or with `w` for a write. ` may` or ` not` follows if it may
+/// not have taken effect, or didn't.
 pub(crate) fn line_of(told: &Told) -> Line
     ensures bytes { result.bytes ≡ access_line told.now ++ 10 ∷ [] }
 {
@@ -32,7 +33,7 @@ pub(crate) fn line_of(told: &Told) -> Line
     line
 }
 
-/// The line of bits that belong to nothing: `@PLACE gap`.
+/// Returns the line of a gap: `@PLACE gap`.
 pub(crate) fn line_of_gap(place: u64) -> Line
     ensures bytes { result.bytes ≡ gap_line place ++ 10 ∷ [] }
 {
@@ -52,7 +53,7 @@ fn push_place(line: &mut Line, place: u64)
     line.push_str(digits.format(place));
 }
 
-// Eight digits, or as many question marks.
+// Appends eight hexadecimal digits, or eight question marks for an unknown word.
 fn push_known(line: &mut Line, word: Option<u32>)
     requires { array_string_len line.old + 8 ≤ LONGEST }
     ensures bytes { line.new.bytes ≡ line.old.bytes ++ word_text word }

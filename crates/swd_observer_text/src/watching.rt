@@ -1,4 +1,4 @@
-//! What the parts of a capture show of the target's memory.
+//! Prints what the parts of a capture show of the target's memory.
 ghost use Rattle.std.specs.Prelude.{◌≡◌, ◌+◌, ◌*◌, ◌≤◌, ◌++◌, false, replicate};
 ghost use Rattle.arrayvec.specs.ArrayString.{array_string_len};
 ghost use Rattle.swd_trace.specs.declared.item.Item.TheVariants.{Junk};
@@ -15,10 +15,10 @@ use swd_observer::{Shown, Tells, Told, TraceObserver};
 use swd_resync::{Part, phase_len};
 use swd_trace::Item;
 
-/// The most bytes of the lines of what one part shows.
+/// The most bytes of the lines for one part.
 pub const LONGEST_SHOWN: usize = 4 * LONGEST;
 
-// Adds the line of an access, where there is one.
+// Appends the line of an access, if there is one.
 fn push_told<const N: usize>(text: &mut ArrayString<N>, told: Option<Told>)
     requires { array_string_len text.old + LONGEST ≤ N }
     ensures bytes { text.new.bytes ≡ text.old.bytes ++ told_text told }
@@ -29,7 +29,7 @@ fn push_told<const N: usize>(text: &mut ArrayString<N>, told: Option<Told>)
     }
 }
 
-// Adds the lines of the accesses that are reported together.
+// Appends the lines of the accesses that are reported together.
 fn push_tells<const N: usize>(text: &mut ArrayString<N>, tells: Tells)
     requires { array_string_len text.old + 3 * LONGEST ≤ N }
     ensures bytes { text.new.bytes ≡ text.old.bytes ++ tells_text tells }
@@ -40,7 +40,7 @@ fn push_tells<const N: usize>(text: &mut ArrayString<N>, tells: Tells)
     push_told(text, tells.itself);
 }
 
-// Adds the line of bits that belong to nothing, where there is one.
+// Appends the line of a gap, if there is one.
 fn push_gap<const N: usize>(text: &mut ArrayString<N>, gap: Option<u64>)
     requires { array_string_len text.old + LONGEST ≤ N }
     ensures bytes { text.new.bytes ≡ text.old.bytes ++ gap_text gap }
@@ -51,7 +51,7 @@ fn push_gap<const N: usize>(text: &mut ArrayString<N>, gap: Option<u64>)
     }
 }
 
-// Adds the lines of what an item shows.
+// Appends the lines of what an item shows.
 fn push_shown<const N: usize>(text: &mut ArrayString<N>, shown: Shown)
     requires { array_string_len text.old + LONGEST_SHOWN ≤ N }
     ensures bytes { text.new.bytes ≡ text.old.bytes ++ shown_text shown }
@@ -61,7 +61,7 @@ fn push_shown<const N: usize>(text: &mut ArrayString<N>, shown: Shown)
     push_gap(text, shown.gap);
 }
 
-// Takes the data phase behind WAIT or FAULT, where there is one: it shows nothing.
+// Takes the data phase of `len` bits after WAIT or FAULT, if there is one. It shows nothing.
 fn watch_phase(observer: &mut TraceObserver, len: u8)
     ensures { observer.new ≡ after_items (idle_items len) observer.old }
 {
@@ -70,7 +70,7 @@ fn watch_phase(observer: &mut TraceObserver, len: u8)
     }
 }
 
-// Takes an item of a stretch, and adds the lines of what it shows.
+// Takes an item of a stretch, and appends the lines of what it shows.
 fn watch_item<const N: usize>(
     observer: &mut TraceObserver,
     over: bool,
@@ -86,7 +86,7 @@ fn watch_item<const N: usize>(
     watch_phase(observer, phase_len(item, over));
 }
 
-// Takes bits that belong to nothing, and adds the lines of what they show: behind the first of them nothing is known.
+// Takes a skip, and appends the lines of what it shows. After its first bit nothing is known of the target.
 fn watch_skip<const N: usize>(observer: &mut TraceObserver, count: u64, text: &mut ArrayString<N>)
     requires { array_string_len text.old + LONGEST_SHOWN ≤ N }
     ensures observer { observer.new ≡ after_items (replicate count (Junk false)) observer.old }
@@ -100,18 +100,18 @@ fn watch_skip<const N: usize>(observer: &mut TraceObserver, count: u64, text: &m
     observer.place = observer.place.saturating_add(count - 1);
 }
 
-/// Takes the next part of a capture, and adds the lines of what it shows to a text; `over` where a data phase follows
-/// WAIT and FAULT.
+/// Takes the next part of a capture, and appends the lines of what it shows to `text`. `over` says that the host uses
+/// overrun detection (IHI 0031, B4), so that a data phase follows WAIT and FAULT.
 ///
-/// | Line | What became of the access |
+/// | Line | What happened to the access |
 /// |---|---|
-/// | `@PLACE r ADDR WORD`, `@PLACE w ADDR WORD` | it took place, exactly once |
-/// | the same with ` may` | it took place once, or not at all: the trace doesn't show which |
-/// | the same with ` not` | it did not take place: a bus error, or data that was corrupted on the wire |
-/// | `@PLACE gap` | bits that belong to nothing begin here: they may hide accesses |
+/// | `@PLACE r ADDR WORD`, `@PLACE w ADDR WORD` | it took effect, exactly once |
+/// | the same with ` may` | it took effect once, or not at all: the trace doesn't show which |
+/// | the same with ` not` | it had no effect: a bus error, or data that was corrupted on the wire |
+/// | `@PLACE gap` | no access: a gap begins here, which may hide accesses |
 ///
-/// `PLACE` is the number of bits before the first bit of its request, in decimal. `ADDR` and `WORD` are eight
-/// lower-case hexadecimal digits, or `????????` where they aren't known. The lines are in the order of the accesses.
+/// `PLACE` is in decimal: the number of bits before the first bit of the access's request, or of the gap. `ADDR` and
+/// `WORD` are eight lower-case hexadecimal digits, or `????????` if unknown. Accesses are listed in their order.
 pub fn watch_part<const N: usize>(
     observer: &mut TraceObserver,
     over: bool,
@@ -129,7 +129,7 @@ pub fn watch_part<const N: usize>(
     }
 }
 
-/// Adds the lines of what a capture that ends here shows of the accesses before its end.
+/// Appends the lines of the accesses that weren't reported yet, for a capture that ends here.
 pub fn push_last<const N: usize>(observer: &TraceObserver, text: &mut ArrayString<N>)
     requires { array_string_len text.old + LONGEST_SHOWN ≤ N }
     ensures bytes { text.new.bytes ≡ text.old.bytes ++ tells_text (last_tells observer.now.observer) }

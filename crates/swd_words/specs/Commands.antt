@@ -1,4 +1,4 @@
--- The program's command, as a parse reads it, and what its words mean.
+-- The program's command line, as the parser reads it, and the meaning of its arguments.
 use Rattle.std.specs.Prelude.{ℕ, ◌≡◌, ◌≤◌, ◌↔◌, ◌⊎◌, List, [], ◌∷◌, Option, Some, None, IsSomeAnd, true, codes, pos}
 use Rattle.std.specs.Option.{option_map}
 use Rattle.std.specs.String.{string_bytes}
@@ -16,16 +16,16 @@ use Rattle.clap.specs.declared.error.kind.ErrorKind.{ErrorKind}
 use Rattle.clap.specs.declared.builder.action.ArgAction.TheVariants.{SetTrue}
 use Rattle.clap.specs.declared.builder.value_parser.ValueParser.TheVariants.{Signed}
 
--- the file, which may be left out
+-- the optional file
 abbrev pub file_rule : Rule
 file_rule = new_rule (codes "FILE")
 
--- a command over a file
+-- a command with an optional file
 abbrev pub over_file : Text → App
 over_file name = with_rule (new_app name) file_rule
 
--- whether lines begin with their place, by --places; whether registers have names, by --names; whether items are
--- counted, by --count; and whether accesses are told, by --accesses, of a target that was just made, by --made
+-- --places: lines begin with their place; --names: registers are printed by name; --count: items are counted;
+-- --accesses: accesses are listed; --made: the target begins in its reset state
 abbrev pub places_rule : Rule
 places_rule = let rule = new_rule (codes "places") in record rule
     { long = Some (codes "places"); action = Some SetTrue }
@@ -46,8 +46,7 @@ abbrev pub made_rule : Rule
 made_rule = let rule = new_rule (codes "made") in record rule
     { long = Some (codes "made"); action = Some SetTrue }
 
--- whether the trace may begin in mid-session and lose bits, by --resync, and has a data phase behind WAIT and FAULT
--- then, by --overrun
+-- --resync: the trace may begin in mid-session and lose bits; --overrun: a data phase then follows WAIT and FAULT
 abbrev pub resync_rule : Rule
 resync_rule = let rule = new_rule (codes "resync") in record rule
     { long = Some (codes "resync"); action = Some SetTrue }
@@ -56,7 +55,7 @@ abbrev pub overrun_rule : Rule
 overrun_rule = let rule = new_rule (codes "overrun") in record rule
     { long = Some (codes "overrun"); action = Some SetTrue }
 
--- the command that lists a trace, without the words that tell accesses, with them, and with the words of captures
+-- the command `decode`: without the flags for accesses, with them, and with the flags for captures
 abbrev pub listing_app : App
 listing_app = with_rule (with_rule (with_rule (over_file (codes "decode")) places_rule) names_rule) count_rule
 
@@ -66,13 +65,13 @@ telling_app = with_rule (with_rule listing_app accesses_rule) made_rule
 abbrev pub decode_app : App
 decode_app = with_rule (with_rule telling_app resync_rule) overrun_rule
 
--- the program without its commands: one of them is required
+-- the program without its commands, one of which is required
 abbrev pub bare_app : App
 bare_app =
     let named = new_app (codes "swd") in
     record named { top = record named.top { subcommand_required = true; has_version = true } }
 
--- the script, which has to be there
+-- the required script
 abbrev pub script_rule : Rule
 script_rule = let rule = new_rule (codes "SCRIPT") in record rule { required = true }
 
@@ -91,7 +90,7 @@ tries_rule =
       defaults = codes "8" ∷ [];
     }
 
--- how often the run is resumed, after --resume: 0 to 1,000, and 0 without it
+-- how often a call is resumed, after --resume: 0 to 1,000, and 0 without it
 abbrev pub resume_rule : Rule
 resume_rule =
     let rule = new_rule (codes "resume") in
@@ -106,29 +105,29 @@ resume_rule =
 abbrev pub trace_rule : Rule
 trace_rule = let rule = new_rule (codes "trace") in record rule { long = Some (codes "trace"); value_names = 1 }
 
--- whether bus faults fail the run, by --strict
+-- --strict: bus errors fail the run
 abbrev pub strict_rule : Rule
 strict_rule = let rule = new_rule (codes "strict") in record rule
     { long = Some (codes "strict"); action = Some SetTrue }
 
--- whether the target is behind the standard streams, by --remote
+-- --remote: the target is behind the standard streams
 abbrev pub remote_rule : Rule
 remote_rule = let rule = new_rule (codes "remote") in record rule
     { long = Some (codes "remote"); action = Some SetTrue }
 
--- the report then, after --report
+-- the report of a remote run, after --report
 abbrev pub report_rule : Rule
 report_rule = let rule = new_rule (codes "report") in record rule { long = Some (codes "report"); value_names = 1 }
 
--- the command that runs a script, with the texts that it reads
+-- the command `run` with the files that it reads
 abbrev pub over_a_script : App
 over_a_script = with_rule (with_rule (new_app (codes "run")) script_rule) plan_rule
 
--- and with what else it is given
+-- with the other options of a run at a simulated target
 abbrev pub run_here_app : App
 run_here_app = with_rule (with_rule (with_rule (with_rule over_a_script tries_rule) resume_rule) trace_rule) strict_rule
 
--- also for a target that is elsewhere
+-- with the options of a run at a remote target
 abbrev pub run_app : App
 run_app = with_rule (with_rule run_here_app remote_rule) report_rule
 
@@ -136,7 +135,7 @@ run_app = with_rule (with_rule run_here_app remote_rule) report_rule
 abbrev pub log_rule : Rule
 log_rule = let rule = new_rule (codes "log") in record rule { long = Some (codes "log"); value_names = 1 }
 
--- the command that serves a target
+-- the command `target`
 abbrev pub target_app : App
 target_app = with_rule (with_rule (with_rule (with_rule (new_app (codes "target")) script_rule) plan_rule) log_rule)
     trace_rule
@@ -148,11 +147,11 @@ swd_app =
     (with_subcommand (with_subcommand (with_subcommand bare_app (over_file (codes "one")).top)
     decode_app.top) (over_file (codes "encode")).top) run_app.top) target_app.top
 
--- the words have this command, and this file or none
+-- the arguments have this command, and this file or no file
 abbrev pub HasFile : Text → Option Text → Option (Text × List Row) → Type 0
 HasFile name file rows = IsSomeAnd rows (λ p. (p.0 ≡ name) × (file ≡ first_of (codes "FILE") p.1))
 
--- the file that the words name, or none, and what they ask for
+-- the file that the arguments name, if any, and their flags
 pub record IsDecodeOf (decode : DecodeLine) (rows : List Row) : Type 0 where
   pub file : option_map string_bytes decode.file ≡ first_of (codes "FILE") rows
   pub places : (decode.places ≡ true) ↔ (first_of (codes "places") rows ≡ Some (codes "true"))
@@ -163,18 +162,18 @@ pub record IsDecodeOf (decode : DecodeLine) (rows : List Row) : Type 0 where
   pub resync : (decode.resync ≡ true) ↔ (first_of (codes "resync") rows ≡ Some (codes "true"))
   pub overrun : (decode.overrun ≡ true) ↔ (first_of (codes "overrun") rows ≡ Some (codes "true"))
 
--- the number of tries, at most 1,000, is the one that the word stands for; 8 without a word
+-- the number of tries is that of the argument, at most 1,000; 8 without an argument
 abbrev pub AreTries : ℕ → Option Text → Type 0
 AreTries tries None = tries ≡ 8
 AreTries tries (Some text) = (tries ≤ 1000) × (pos tries ≡ signed_digits_value 10 text)
 
--- and so is the number of times that the run is resumed; 0 without a word
+-- and so is the number of times that a call is resumed; 0 without an argument
 abbrev pub AreResumes : ℕ → Option Text → Type 0
 AreResumes resumes None = resumes ≡ 0
 AreResumes resumes (Some text) = (resumes ≤ 1000) × (pos resumes ≡ signed_digits_value 10 text)
 
--- the script, the plan, the two numbers, the trace and the report that the words name, and whether they ask for a
--- strict run and for one at a target elsewhere
+-- the script, the plan, the two numbers, the trace and the report that the arguments name, and whether the run is
+-- strict, and remote
 pub record IsRunOf (run : RunLine) (rows : List Row) : Type 0 where
   pub script : Some (string_bytes run.script) ≡ first_of (codes "SCRIPT") rows
   pub plan : option_map string_bytes run.plan ≡ first_of (codes "plan") rows
@@ -185,24 +184,24 @@ pub record IsRunOf (run : RunLine) (rows : List Row) : Type 0 where
   pub remote : (run.remote ≡ true) ↔ (first_of (codes "remote") rows ≡ Some (codes "true"))
   pub report : option_map string_bytes run.report ≡ first_of (codes "report") rows
 
--- the script, the plan, the log and the trace that the words name
+-- the script, the plan, the log and the trace that the arguments name
 pub record IsTargetOf (target : TargetLine) (rows : List Row) : Type 0 where
   pub script : Some (string_bytes target.script) ≡ first_of (codes "SCRIPT") rows
   pub plan : option_map string_bytes target.plan ≡ first_of (codes "plan") rows
   pub log : option_map string_bytes target.log ≡ first_of (codes "log") rows
   pub trace : option_map string_bytes target.trace ≡ first_of (codes "trace") rows
 
--- a fault of this kind, or out of memory
+-- an error of this kind, or out of memory
 abbrev pub IsOfKind : ErrorKind → LineFault → Type 0
 IsOfKind kind Memory = Unit {0}
 IsOfKind kind (Clap error) = kind_of error ≡ kind
 
--- Words are refused for a mistake of one of these kinds, where they have one, or when out of memory.
+-- Arguments are rejected with an error of one of these kinds if they have one, or when out of memory.
 abbrev pub IsRefusal : Kinds → LineFault → Type 0
 IsRefusal kinds Memory = Unit {0}
 IsRefusal kinds (Clap error) = HasKind kinds error ⊎ (kinds ≡ [])
 
--- the line is the command that the words have
+-- the line is the command that the arguments have
 abbrev pub IsLineOf : Line → Option (Text × List Row) → Type 0
 IsLineOf (One file) rows = HasFile (codes "one") (option_map string_bytes file) rows
 IsLineOf (Decode decode) rows = IsSomeAnd rows (λ p. (p.0 ≡ codes "decode") × IsDecodeOf decode p.1)

@@ -1,83 +1,83 @@
-//! What the command line asks for.
+//! The commands of the command line.
 use clap::Error;
 
-/// A command of the program, with the names that it was given.
+/// A command of the program, with its arguments.
 #[derive(Drop)]
 pub enum Line {
-    /// `swd one [FILE]`: without a file, standard input.
+    /// `swd one [FILE]`. Without a file it reads standard input.
     One(Option<String>),
     /// `swd decode [FILE] [--places] [--names]`, `swd decode [FILE] --count`, or
-    /// `swd decode [FILE] --accesses [--made]`, each with `--resync [--overrun]` or without.
+    /// `swd decode [FILE] --accesses [--made]`. Each takes `--resync [--overrun]` too.
     Decode(DecodeLine),
-    /// `swd encode [FILE]`: without a file, standard input.
+    /// `swd encode [FILE]`. Without a file it reads standard input.
     Encode(Option<String>),
     /// `swd run SCRIPT [--plan FILE] [--tries N] [--resume N] [--trace FILE] [--strict]`, or
-    /// `swd run SCRIPT --remote --report FILE [--tries N] [--strict]`.
+    /// `swd run SCRIPT --remote --report FILE [--tries N] [--resume N] [--trace FILE] [--strict]`.
     Run(RunLine),
     /// `swd target SCRIPT [--plan FILE] [--log FILE] [--trace FILE]`.
     Target(TargetLine),
 }
 
-/// What `swd decode` is given.
+/// The arguments of `swd decode`.
 #[derive(Drop)]
 pub struct DecodeLine {
-    /// The file of the trace: without one, standard input.
+    /// The file of the trace, or `None` for standard input.
     pub file: Option<String>,
     /// Whether each line begins with the place of its item.
     pub places: bool,
-    /// Whether registers have their names.
+    /// Whether registers are printed by name.
     pub names: bool,
-    /// Whether items are counted in place of a listing.
+    /// Whether items are counted instead of listed.
     pub count: bool,
-    /// Whether it is told what became of each access, in place of a listing.
+    /// Whether the accesses of memory are listed, with their effect, instead of the items.
     pub accesses: bool,
-    /// Whether the target was just made then.
+    /// Whether the target then begins in its reset state.
     pub made: bool,
     /// Whether the trace may begin in mid-session and lose bits.
     pub resync: bool,
-    /// Whether a data phase follows WAIT and FAULT then.
+    /// Whether a data phase then follows WAIT and FAULT.
     pub overrun: bool,
 }
 
-/// What `swd run` is given.
+/// The arguments of `swd run`.
 #[derive(Drop)]
 pub struct RunLine {
     /// The file of the script, or `-` for standard input.
     pub script: String,
-    /// The file of the plan, where one is named.
+    /// The file of the plan, if one is named.
     pub plan: Option<String>,
-    /// How many events an access may meet, at most 1,000.
+    /// The number of events that an access may meet, at most 1,000.
     pub tries: u32,
-    /// How often the run is resumed at a lost acknowledgement, at most 1,000 times.
+    /// How often a call is resumed after a lost acknowledgement, at most 1,000 times.
     pub resumes: u32,
-    /// The file that the trace is written to, where one is named.
+    /// The file that the trace is written to, if one is named.
     pub trace: Option<String>,
-    /// Whether a bus fault fails the run.
+    /// Whether a bus error fails the run.
     pub strict: bool,
     /// Whether the target is behind the standard streams.
     pub remote: bool,
-    /// The file that the report is written to then.
+    /// The file that the report is then written to.
     pub report: Option<String>,
 }
 
-/// What `swd target` is given.
+/// The arguments of `swd target`.
 #[derive(Debug, Drop)]
 pub struct TargetLine {
-    /// The file of the script, whose memory the target has.
+    /// The file of the script, which describes the target's memory.
     pub script: String,
-    /// The file of the plan, where one is named.
+    /// The file of the plan, if one is named.
     pub plan: Option<String>,
-    /// The file that the log is written to, where one is named.
+    /// The file that the log is written to, if one is named.
     pub log: Option<String>,
-    /// The file that the trace is written to, where one is named.
+    /// The file that the trace is written to, if one is named.
     pub trace: Option<String>,
 }
 
-/// Why the words are no command.
+/// The reason why the arguments are not a command.
 #[derive(Drop)]
 pub enum LineFault {
-    /// What `clap` says of the words: a mistake, or the help that was asked for.
+    /// The answer of `clap`: a usage error, the help, or the version.
     Clap(Error),
-    /// Memory was refused.
+    /// Out of memory.
     Memory,
 }

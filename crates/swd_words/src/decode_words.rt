@@ -1,4 +1,4 @@
-//! The words of `swd decode`.
+//! The arguments of `swd decode`.
 ghost use Rattle.std.specs.Prelude.{◌≡◌, IfOk, false};
 ghost use Rattle.clap.specs.Words.{app_of, found_of, rows_of, rule_of};
 ghost use Rattle.clap.specs.declared.builder.command.Command.TheViews.{out-Command};
@@ -58,7 +58,7 @@ const MADE_WITH_ACCESSES: &str = "--made goes with --accesses";
 
 const OVERRUN_WITH_RESYNC: &str = "--overrun goes with --resync";
 
-// Whether each line begins with its place.
+// Returns the flag for places at the beginning of lines.
 fn places_arg<'a>(alloc: Global) -> Arg<'a>
     ensures rule { rule_of result ≡ places_rule }
     ensures local { result.global ≡ false }
@@ -69,7 +69,7 @@ fn places_arg<'a>(alloc: Global) -> Arg<'a>
         .help("Begin each line with the item's place in the trace")
 }
 
-// Whether registers have their names.
+// Returns the flag for registers by name.
 fn names_arg<'a>(alloc: Global) -> Arg<'a>
     ensures rule { rule_of result ≡ names_rule }
     ensures local { result.global ≡ false }
@@ -80,7 +80,7 @@ fn names_arg<'a>(alloc: Global) -> Arg<'a>
         .help("Print names of registers, and of flags that are set")
 }
 
-// Whether items are counted in place of a listing.
+// Returns the flag for counts instead of a listing.
 fn count_arg<'a>(alloc: Global) -> Arg<'a>
     ensures rule { rule_of result ≡ count_rule }
     ensures local { result.global ≡ false }
@@ -91,7 +91,7 @@ fn count_arg<'a>(alloc: Global) -> Arg<'a>
         .help("Count each kind of item, with no listing")
 }
 
-// Whether it is told what became of each access, in place of a listing.
+// Returns the flag for accesses, with their effect, instead of a listing.
 fn accesses_arg<'a>(alloc: Global) -> Arg<'a>
     ensures rule { rule_of result ≡ accesses_rule }
     ensures local { result.global ≡ false }
@@ -102,7 +102,7 @@ fn accesses_arg<'a>(alloc: Global) -> Arg<'a>
         .help("List the accesses of memory, with their effect")
 }
 
-// Whether the target was just made.
+// Returns the flag for a target in its reset state.
 fn made_arg<'a>(alloc: Global) -> Arg<'a>
     ensures rule { rule_of result ≡ made_rule }
     ensures local { result.global ≡ false }
@@ -113,7 +113,7 @@ fn made_arg<'a>(alloc: Global) -> Arg<'a>
         .help("With --accesses: the target begins in its reset state")
 }
 
-// Whether the trace may begin in mid-session and lose bits.
+// Returns the flag for a trace that may begin in mid-session and lose bits.
 fn resync_arg<'a>(alloc: Global) -> Arg<'a>
     ensures rule { rule_of result ≡ resync_rule }
     ensures local { result.global ≡ false }
@@ -124,7 +124,7 @@ fn resync_arg<'a>(alloc: Global) -> Arg<'a>
         .help("Read a capture that begins in mid-session or lost bits")
 }
 
-// Whether a data phase follows WAIT and FAULT then.
+// Returns the flag for a data phase after WAIT and FAULT.
 fn overrun_arg<'a>(alloc: Global) -> Arg<'a>
     ensures rule { rule_of result ≡ overrun_rule }
     ensures local { result.global ≡ false }
@@ -135,7 +135,7 @@ fn overrun_arg<'a>(alloc: Global) -> Arg<'a>
         .help("With --resync, WAIT and FAULT have a data phase")
 }
 
-// The command that lists a trace, without the words that tell accesses.
+// Returns the command `decode` without the flags for accesses and captures.
 fn listing_command<'a>(alloc: Global) -> Result<Command<'a>, AllocError>
     ensures app { IfOk result (λ c. app_of c ≡ listing_app) }
     ensures local { IfOk result (λ c. (out-Command c).has_globals ≡ false) }
@@ -149,7 +149,7 @@ fn listing_command<'a>(alloc: Global) -> Result<Command<'a>, AllocError>
     with_arg(names, count_arg(alloc))
 }
 
-// The command that lists a trace, without the words of captures.
+// Returns the command `decode` without the flags for captures.
 fn telling_command<'a>(alloc: Global) -> Result<Command<'a>, AllocError>
     ensures app { IfOk result (λ c. app_of c ≡ telling_app) }
     ensures local { IfOk result (λ c. (out-Command c).has_globals ≡ false) }
@@ -159,7 +159,7 @@ fn telling_command<'a>(alloc: Global) -> Result<Command<'a>, AllocError>
     with_arg(accesses, made_arg(alloc))
 }
 
-/// The command that lists a trace.
+/// Returns the command `decode`.
 pub(crate) fn decode_command<'a>(alloc: Global) -> Result<Command<'a>, AllocError>
     ensures app { IfOk result (λ c. app_of c ≡ decode_app) }
     ensures local { IfOk result (λ c. (out-Command c).has_globals ≡ false) }
@@ -169,7 +169,8 @@ pub(crate) fn decode_command<'a>(alloc: Global) -> Result<Command<'a>, AllocErro
     with_arg(resync, overrun_arg(alloc))
 }
 
-/// What `swd decode` is given.
+/// Returns the arguments of `swd decode`. Rejects flags that exclude each other, and a flag without the one that it
+/// needs.
 pub(crate) fn decode_line(alloc: Global, matches: &ArgMatches<'_>) -> Result<DecodeLine, LineFault>
     ensures { IfOk result (λ decode. IsDecodeOf decode (rows_of (found_of matches.now))) }
 {

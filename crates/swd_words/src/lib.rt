@@ -1,5 +1,4 @@
-//! The words of the command line of `swd`: the commands that there are, and what is said of words that
-//! are none.
+//! Parses the command line of `swd`: its commands with their arguments, the help, and the usage errors.
 #![tactic(auto)]
 
 mod command;

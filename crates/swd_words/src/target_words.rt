@@ -1,4 +1,4 @@
-//! The words of `swd target`.
+//! The arguments of `swd target`.
 ghost use Rattle.std.specs.Prelude.{◌≡◌, IfOk, false};
 ghost use Rattle.clap.specs.Words.{app_of, found_of, rows_of, rule_of};
 ghost use Rattle.clap.specs.declared.builder.command.Command.TheViews.{out-Command};
@@ -25,7 +25,7 @@ and requests. The trace has every bit on the line. Both are written at the end.
 
 Status: 0 if the debugger sent Q or closed its end, 2 at an error.";
 
-// The file that the log is written to.
+// Returns the option for the log's file.
 fn log_arg<'a>(alloc: Global) -> Arg<'a>
     ensures rule { rule_of result ≡ log_rule }
     ensures local { result.global ≡ false }
@@ -36,7 +36,7 @@ fn log_arg<'a>(alloc: Global) -> Arg<'a>
         .help("Write the log to FILE (overwrites it)")
 }
 
-/// The command that serves a target.
+/// Returns the command `target`.
 pub(crate) fn target_command<'a>(alloc: Global) -> Result<Command<'a>, AllocError>
     ensures app { IfOk result (λ c. app_of c ≡ target_app) }
     ensures local { IfOk result (λ c. (out-Command c).has_globals ≡ false) }
@@ -50,7 +50,7 @@ pub(crate) fn target_command<'a>(alloc: Global) -> Result<Command<'a>, AllocErro
     with_arg(log, trace_arg(alloc))
 }
 
-/// What `swd target` is given.
+/// Returns the arguments of `swd target`.
 pub(crate) fn target_line(alloc: Global, matches: &ArgMatches<'_>) -> Result<TargetLine, LineFault>
     ensures { IfOk result (λ target. IsTargetOf target (rows_of (found_of matches.now))) }
 {

@@ -1,4 +1,4 @@
-//! The words of the command line.
+//! Parses the arguments of the command line.
 ghost use Rattle.std.specs.Prelude.{◌≡◌, ◌↔◌, IfOk, IfErr, IfSome, Some, [], map, true, false, codes};
 ghost use Rattle.std.specs.Option.{option_map};
 ghost use Rattle.std.specs.String.{string_bytes};
@@ -126,7 +126,7 @@ An error in a script or plan is printed with its line, counted from 1:
   no memory line  an access or room before memory
   memory          out of memory at this line";
 
-// How many events an access may meet, where the words don't say it, and at most.
+// The number of events that an access may meet: the default and the maximum.
 const TRIES: u32 = 8;
 
 const MOST_TRIES: i64 = 1000;
@@ -135,7 +135,7 @@ const TRIES_RANGE: &str = "the value of '--tries <N>' is not in 0..=1000";
 
 const RESUMES_RANGE: &str = "the value of '--resume <N>' is not in 0..=1000";
 
-// A value as an owned text.
+// Returns a value as an owned string.
 pub(crate) fn owned(alloc: Global, text: Option<&str>) -> Result<Option<String>, AllocError>
     ensures { IfOk result (λ o. option_map string_bytes o ≡ option_map (λ s. s.now) text.entry) }
 {
@@ -145,7 +145,7 @@ pub(crate) fn owned(alloc: Global, text: Option<&str>) -> Result<Option<String>,
     }
 }
 
-// The file that a command reads, or standard input.
+// Returns the argument for the file that a command reads. Without it the command reads standard input.
 pub(crate) fn file_arg<'a>(alloc: Global) -> Arg<'a>
     ensures rule { rule_of result ≡ file_rule }
     ensures local { result.global ≡ false }
@@ -153,7 +153,7 @@ pub(crate) fn file_arg<'a>(alloc: Global) -> Arg<'a>
     Arg::new(alloc, "FILE").help("The file to read; standard input without it, or for -")
 }
 
-// The file of the script, which has to be there.
+// Returns the required argument for the script's file.
 pub(crate) fn script_arg<'a>(alloc: Global) -> Arg<'a>
     ensures rule { rule_of result ≡ script_rule }
     ensures local { result.global ≡ false }
@@ -163,7 +163,7 @@ pub(crate) fn script_arg<'a>(alloc: Global) -> Arg<'a>
         .help("The script to run; - for standard input")
 }
 
-// The file of the plan.
+// Returns the option for the plan's file.
 pub(crate) fn plan_arg<'a>(alloc: Global) -> Arg<'a>
     ensures rule { rule_of result ≡ plan_rule }
     ensures local { result.global ≡ false }
@@ -174,7 +174,7 @@ pub(crate) fn plan_arg<'a>(alloc: Global) -> Arg<'a>
         .help("Inject faults by the plan in FILE")
 }
 
-// The file that the trace is written to.
+// Returns the option for the trace's file.
 pub(crate) fn trace_arg<'a>(alloc: Global) -> Arg<'a>
     ensures rule { rule_of result ≡ trace_rule }
     ensures local { result.global ≡ false }
@@ -185,7 +185,7 @@ pub(crate) fn trace_arg<'a>(alloc: Global) -> Arg<'a>
         .help("Write the trace to FILE (overwrites it)")
 }
 
-// Whether bus faults fail the run.
+// Returns the flag by which bus errors fail the run.
 fn strict_arg<'a>(alloc: Global) -> Arg<'a>
     ensures rule { rule_of result ≡ strict_rule }
     ensures local { result.global ≡ false }
@@ -196,7 +196,7 @@ fn strict_arg<'a>(alloc: Global) -> Arg<'a>
         .help("Exit with status 1 if an access met a bus error")
 }
 
-// Whether the target is behind the standard streams.
+// Returns the flag for a target behind the standard streams.
 fn remote_arg<'a>(alloc: Global) -> Arg<'a>
     ensures rule { rule_of result ≡ remote_rule }
     ensures local { result.global ≡ false }
@@ -207,7 +207,7 @@ fn remote_arg<'a>(alloc: Global) -> Arg<'a>
         .help("The target is a remote_bitbang server on the streams")
 }
 
-// The file that the report is written to then.
+// Returns the option for the report's file.
 fn report_arg<'a>(alloc: Global) -> Arg<'a>
     ensures rule { rule_of result ≡ report_rule }
     ensures local { result.global ≡ false }
@@ -218,7 +218,7 @@ fn report_arg<'a>(alloc: Global) -> Arg<'a>
         .help("With --remote: write the report to FILE, - is stderr")
 }
 
-// How many events an access may meet.
+// Returns the option for the number of events that an access may meet.
 fn tries_arg<'a>(alloc: Global) -> Arg<'a>
     ensures rule { rule_of result ≡ tries_rule }
     ensures local { result.global ≡ false }
@@ -231,7 +231,7 @@ fn tries_arg<'a>(alloc: Global) -> Arg<'a>
         .help("Retries per access after WAIT or corruption, 0 to 1000")
 }
 
-// How often a run is resumed.
+// Returns the option for how often a run is resumed.
 fn resume_arg<'a>(alloc: Global) -> Arg<'a>
     ensures rule { rule_of result ≡ resume_rule }
     ensures local { result.global ≡ false }
@@ -262,7 +262,7 @@ fn with_sub<'a>(command: Command<'a>, sub: Command<'a>) -> Result<Command<'a>, A
     command.subcommand(sub)
 }
 
-// A command over a file.
+// Returns a command with a file as its argument.
 fn over_a_file<'a>(alloc: Global, name: &'a str, about: &'a str) -> Result<Command<'a>, AllocError>
     ensures app { IfOk result (λ c. app_of c ≡ over_file name.entry.now) }
     ensures local { IfOk result (λ c. (out-Command c).has_globals ≡ false) }
@@ -271,7 +271,7 @@ fn over_a_file<'a>(alloc: Global, name: &'a str, about: &'a str) -> Result<Comma
     with_arg(bare, file_arg(alloc))
 }
 
-// The command that runs a script, with the texts that it reads.
+// Returns the command `run` with the files that it reads.
 fn over_a_script<'a>(alloc: Global) -> Result<Command<'a>, AllocError>
     ensures app { IfOk result (λ c. app_of c ≡ over_a_script) }
     ensures local { IfOk result (λ c. (out-Command c).has_globals ≡ false) }
@@ -283,7 +283,7 @@ fn over_a_script<'a>(alloc: Global) -> Result<Command<'a>, AllocError>
     with_arg(script, plan_arg(alloc))
 }
 
-// And what else it is given.
+// Adds the other options of a run at a simulated target.
 fn run_here<'a>(alloc: Global) -> Result<Command<'a>, AllocError>
     ensures app { IfOk result (λ c. app_of c ≡ run_here_app) }
     ensures local { IfOk result (λ c. (out-Command c).has_globals ≡ false) }
@@ -295,7 +295,7 @@ fn run_here<'a>(alloc: Global) -> Result<Command<'a>, AllocError>
     with_arg(trace, strict_arg(alloc))
 }
 
-// The whole of it.
+// Adds the options of a run at a remote target: the whole command `run`.
 fn run_command<'a>(alloc: Global) -> Result<Command<'a>, AllocError>
     ensures app { IfOk result (λ c. app_of c ≡ run_app) }
     ensures local { IfOk result (λ c. (out-Command c).has_globals ≡ false) }
@@ -305,7 +305,7 @@ fn run_command<'a>(alloc: Global) -> Result<Command<'a>, AllocError>
     with_arg(remote, report_arg(alloc))
 }
 
-// The program without its commands, of which one is required.
+// Returns the program without its commands. One of them is required.
 fn bare_command<'a>(alloc: Global) -> Command<'a>
     ensures app { app_of result ≡ bare_app }
     ensures local { (out-Command result).has_globals ≡ false }
@@ -317,7 +317,7 @@ fn bare_command<'a>(alloc: Global) -> Command<'a>
         .subcommand_required(true)
 }
 
-// The program's command.
+// Returns the program with its commands.
 fn swd_command<'a>(alloc: Global) -> Result<Command<'a>, AllocError>
     ensures app { IfOk result (λ c. app_of c ≡ swd_app) }
     ensures local { IfOk result (λ c. (out-Command c).has_globals ≡ false) }
@@ -330,7 +330,7 @@ fn swd_command<'a>(alloc: Global) -> Result<Command<'a>, AllocError>
     with_sub(run, target_command(alloc)?)
 }
 
-// Words that `clap` took and that ask for nothing: there are none.
+// Returns the error of arguments that `clap` accepted and that aren't allowed.
 pub(crate) fn refused(alloc: Global, kind: ErrorKind, why: &str) -> LineFault
     ensures { IsOfKind kind result }
 {
@@ -345,8 +345,8 @@ fn unknown(alloc: Global) -> LineFault {
     refused(alloc, ErrorKind::InvalidSubcommand, "unknown command")
 }
 
-// Whether a run's number behind this option is below 0: `clap` takes the number for an option that nobody
-// knows.
+// Returns whether the option of a run is followed by a negative number. `clap` reports that number as an unknown
+// option.
 fn asks_for_negative(words: &[&str], option: &str) -> bool {
     words.get(1) == Some(&"run")
         && words.windows(2).any(|pair| {
@@ -354,7 +354,7 @@ fn asks_for_negative(words: &[&str], option: &str) -> bool {
         })
 }
 
-// A mistake that `clap` found. Negative numbers are told by their range.
+// Returns the error for a mistake that `clap` found. For a negative number it names the range.
 fn line_fault(alloc: Global, words: &[&str], fault: Error) -> LineFault
     ensures { IsOfKind (kind_of fault) result }
 {
@@ -367,7 +367,7 @@ fn line_fault(alloc: Global, words: &[&str], fault: Error) -> LineFault
     }
 }
 
-// The number that a word stands for. `None` where it is none of 0 to 1,000.
+// Returns the number of an argument, or `None` if it isn't one of 0 to 1,000.
 fn number_in(word: &str) -> Option<u32>
     ensures { IfSome result (λ tries. AreTries tries (Some word.now)) }
 {
@@ -381,7 +381,7 @@ fn number_in(word: &str) -> Option<u32>
     }
 }
 
-// The number of tries, by its word. `None` where that stands for none.
+// Returns the number of tries, 8 without an argument. Returns `None` if it isn't one of 0 to 1,000.
 fn tries_in(word: Option<&str>) -> Option<u32>
     ensures { IfSome result (λ tries. AreTries tries (option_map (λ s. s.now) word.entry)) }
 {
@@ -391,7 +391,7 @@ fn tries_in(word: Option<&str>) -> Option<u32>
     }
 }
 
-// How often a run is resumed, by its word. `None` where that stands for no such number.
+// Returns how often a run is resumed, 0 without an argument. Returns `None` if it isn't one of 0 to 1,000.
 fn resumes_in(word: Option<&str>) -> Option<u32>
     ensures { IfSome result (λ resumes. AreResumes resumes (option_map (λ s. s.now) word.entry)) }
 {
@@ -401,14 +401,14 @@ fn resumes_in(word: Option<&str>) -> Option<u32>
     }
 }
 
-// Whether a flag is set, by its word.
+// Returns whether a flag is set.
 pub(crate) fn is_asked_for(word: Option<&str>) -> bool
     ensures { (result ≡ true) ↔ (option_map (λ s. s.now) word.entry ≡ Some (codes "true")) }
 {
     word == Some("true")
 }
 
-// What `swd run` is given.
+// Returns the arguments of `swd run`.
 fn run_line(alloc: Global, matches: &ArgMatches<'_>) -> Result<RunLine, LineFault>
     ensures { IfOk result (λ run. IsRunOf run (rows_of (found_of matches.now))) }
 {
@@ -442,7 +442,7 @@ fn run_line(alloc: Global, matches: &ArgMatches<'_>) -> Result<RunLine, LineFaul
     })
 }
 
-// What `swd run` is given, where one goes with the other.
+// Returns the arguments of `swd run`. Rejects options that can't be combined.
 fn matched_line(alloc: Global, matches: &ArgMatches<'_>) -> Result<RunLine, LineFault>
     ensures { IfOk result (λ run. IsRunOf run (rows_of (found_of matches.now))) }
 {
@@ -456,7 +456,7 @@ fn matched_line(alloc: Global, matches: &ArgMatches<'_>) -> Result<RunLine, Line
     }
 }
 
-// Why options don't go with each other.
+// Returns why the options can't be combined, if they can't.
 fn why_unmatched(run: &RunLine) -> Option<&'static str> {
     if run.remote != run.report.is_some() {
         Some("--remote and --report FILE go together")
@@ -467,7 +467,7 @@ fn why_unmatched(run: &RunLine) -> Option<&'static str> {
     }
 }
 
-// The command that was matched.
+// Returns the command that was matched.
 fn line_of(alloc: Global, matches: &ArgMatches<'_>) -> Result<Line, LineFault>
     ensures { IfOk result (λ l. IsLineOf l (subcommand_rows_of matches.now)) }
 {
@@ -496,15 +496,14 @@ fn line_of(alloc: Global, matches: &ArgMatches<'_>) -> Result<Line, LineFault>
     }
 }
 
-/// What the words ask for, the program's name first.
+/// Parses the arguments, the program's name first.
 ///
-/// At `Ok` the command, its names and its number are those that the words have by `clap`'s meaning of
-/// them, by which nothing is wrong with them.
+/// Returns the command that they mean by the rules of `clap`. By these rules the arguments then have no error.
 ///
 /// # Errors
 ///
-/// Where something is wrong with the words by that meaning, `Clap` with its kind: for a mistake, the
-/// help or the version. `Memory`, or `Clap` of that kind, where memory was refused.
+/// - `Clap`: a usage error, the help or the version. If `clap`'s rules find errors, its kind is one of theirs.
+/// - `Memory`: out of memory.
 pub fn line<'a>(alloc: Global, words: &'a [&'a str]) -> Result<Line, LineFault>
     ensures line { IfOk result (λ l. IsLineOf l (subcommand_of swd_app (map (λ w. w.now) words.entry.now))) }
     ensures right { IfOk result (λ _. fault_of swd_app (map (λ w. w.now) words.entry.now) ≡ []) }

@@ -14,7 +14,7 @@ use Rattle.swd_capture_text.proofs.ListerLemmas.{on_ok_then}
 use Rattle.swd_capture_text.specs.declared.lister.Lister.{Lister}
 use Rattle.swd_capture_text.proofs.lister.ListerConsumer.take.Goals as goal
 
--- what is told of a text is under way, whether it goes on or not
+-- the output that a text decides is queued, whether it is valid or not
 under_way : {W : Type 0} (contents : W → Option (List ℕ)) (start : Start) (lister : Lister) (block : Block W)
     (text : List ℕ) (r : Result (Unit {0}) TextFault) → OnOk r (GoesOn contents start lister block text)
     → IfErr r (λ fault. StopsIn contents start block fault text)
