@@ -228,7 +228,7 @@ fn tries_arg<'a>(alloc: Global) -> Arg<'a>
         .value_name("N")
         .value_parser(value_parser!(u32).range(0..=1000))
         .default_value("8")
-        .help("Retries per access after WAIT or corruption, 0 to 1000")
+        .help("Retries per access, from 0 to 1000")
 }
 
 // Returns the option for how often a run is resumed.
@@ -241,7 +241,7 @@ fn resume_arg<'a>(alloc: Global) -> Arg<'a>
         .value_name("N")
         .value_parser(value_parser!(u32).range(0..=1000))
         .default_value("0")
-        .help("Resume a call after a lost ACK N times, 0 to 1000")
+        .help("Resumptions per call, from 0 to 1000")
 }
 
 pub(crate) fn with_arg<'a>(command: Command<'a>, arg: Arg<'a>) -> Result<Command<'a>, AllocError>
