@@ -102,7 +102,7 @@ fn carry_out<I: Read, F: Files, O: Write, E: Write>(
             }
             perform(alloc, line, &mut opened.file, source, files, output, errors)
         }
-        Err(_) => cannot_open(errors, name),
+        Err(why) => cannot_open(errors, name, &why),
     }
 }
 
@@ -180,7 +180,7 @@ fn perform_run<S: Read, F: Files, O: Write, E: Write>(
                 errors,
             )
         }
-        Err(_) => cannot_open(errors, name.as_str()),
+        Err(why) => cannot_open(errors, name.as_str(), &why),
     }
 }
 
@@ -209,6 +209,6 @@ fn perform_under<S: Read, P: Read, F: Files, O: Write, E: Write>(
             let answer = run_text(alloc, script, plan, run.tries, run.resumes, output, trace);
             run_status(errors, answer, run.strict)
         }
-        Err(_) => cannot_open(errors, name.as_str()),
+        Err(why) => cannot_open(errors, name.as_str(), &why),
     }
 }

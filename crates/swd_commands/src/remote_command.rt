@@ -80,15 +80,17 @@ pub fn perform_remote<P: Story, S: Read, I: Read + Drop, F: Files, O: Write + Dr
         plan: None,
         written: None,
     };
-    let Ok(report) = open_report(files, name.as_str(), read) else {
-        return cannot_open(errors, name.as_str());
+    let report = match open_report(files, name.as_str(), read) {
+        Ok(report) => report,
+        Err(why) => return cannot_open(errors, name.as_str(), &why),
     };
     let beside = Sources {
         written: report.identity,
         ..read
     };
-    let Ok(trace) = open_record(files, &run.trace, beside) else {
-        return cannot_open_record(errors, &run.trace);
+    let trace = match open_record(files, &run.trace, beside) {
+        Ok(trace) => trace,
+        Err(why) => return cannot_open_record(errors, &run.trace, &why),
     };
     let trace = &mut file_alone(trace);
     let (tries, resumes, strict) = (run.tries, run.resumes, run.strict);

@@ -2,9 +2,9 @@
 ghost use Rattle.std.specs.Prelude.{◌≡◌, is_ok};
 ghost use Rattle.swd_commands.specs.Statuses.{has_failed, status_of, status_of_end, status_of_run};
 
-use std::fmt;
 use std::fmt::{Display, Formatter};
 use std::io::Write;
+use std::{fmt, io};
 use swd_bits::OneFault;
 use swd_host::End;
 use swd_port::Answer;
@@ -46,11 +46,11 @@ pub fn tell<E: Write>(errors: &mut E, what: &str) -> u8
     FAULT
 }
 
-/// Prints that a file can't be opened or created, and returns the status 2.
-pub fn cannot_open<E: Write>(errors: &mut E, name: &str) -> u8
+/// Prints that a file can't be opened or created, and why, and returns the status 2.
+pub fn cannot_open<E: Write>(errors: &mut E, name: &str, why: &io::Error) -> u8
     ensures { result ≡ 2 }
 {
-    let _ = writeln!(errors, "swd: cannot open {}", Shown(name));
+    let _ = writeln!(errors, "swd: cannot open {}: {why}", Shown(name));
     FAULT
 }
 

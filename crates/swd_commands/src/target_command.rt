@@ -60,7 +60,7 @@ pub fn perform_target<S: Read, I: Read, F: Files, O: Write, E: Write, A: Allocat
                 alloc, target, script, plan, read, input, files, output, errors,
             )
         }
-        Err(_) => cannot_open(errors, name.as_str()),
+        Err(why) => cannot_open(errors, name.as_str(), &why),
     }
 }
 
@@ -79,15 +79,17 @@ fn serve_under<S: Read, P: Read, I: Read, F: Files, O: Write, E: Write, A: Alloc
     ensures { ServesHost A result (S.remaining script.old) (P.remaining plan.old) (I.remaining input.old)
         (I.remaining input.new) (O.contents output.old) (O.contents output.new) }
 {
-    let Ok(log) = open_record(files, &target.log, read) else {
-        return cannot_open_record(errors, &target.log);
+    let log = match open_record(files, &target.log, read) {
+        Ok(log) => log,
+        Err(why) => return cannot_open_record(errors, &target.log, &why),
     };
     let beside = Sources {
         written: log.as_ref().map(|log| log.identity),
         ..read
     };
-    let Ok(trace) = open_record(files, &target.trace, beside) else {
-        return cannot_open_record(errors, &target.trace);
+    let trace = match open_record(files, &target.trace, beside) {
+        Ok(trace) => trace,
+        Err(why) => return cannot_open_record(errors, &target.trace, &why),
     };
     let kept = match &trace {
         Some(_) => Trace::new(alloc),

@@ -18,6 +18,19 @@ pub struct Sources {
     pub written: Option<Identity>,
 }
 
+// Returns the error for a file that may not be used.
+fn refusal(why: &str) -> io::Error {
+    io::Error::new(ErrorKind::InvalidInput, why)
+}
+
+// Returns which file a stream is, or an error with this reason where that can't be found out.
+fn known(stream: io::Result<Option<Identity>>, why: &str) -> io::Result<Option<Identity>> {
+    match stream {
+        Ok(identity) => Ok(identity),
+        Err(_) => Err(refusal(why)),
+    }
+}
+
 /// Opens the file that a trace is written to, and truncates it. Before it truncates, it checks that the file is neither
 /// the script, nor the plan, nor another file that is written, nor standard output. The contract leaves out the
 /// standard streams.
@@ -30,20 +43,20 @@ pub fn open_trace<F: Files>(files: &F, name: &str, read: Sources) -> io::Result<
     ensures { IfOk result (λ trace. IsBeside trace.identity name.now read) }
 {
     if name == "-" {
-        return Err(io::Error::from(ErrorKind::InvalidInput));
+        return Err(refusal("it has to be a file"));
     }
     let script = match read.script {
         Some(script) => Some(script),
-        None => files.standard_input()?,
+        None => known(files.standard_input(), "standard input is unknown")?,
     };
-    let output = files.standard_output()?;
+    let output = known(files.standard_output(), "standard output is unknown")?;
     let trace = files.open_to_write(name)?;
     let identity = Some(trace.identity);
     if identity == script || identity == read.plan {
-        return Err(io::Error::from(ErrorKind::InvalidInput));
+        return Err(refusal("it is the script or the plan"));
     }
     if identity == read.written || identity == output {
-        return Err(io::Error::from(ErrorKind::InvalidInput));
+        return Err(refusal("it is another output"));
     }
     files.cut_off(&trace.file)?;
     Ok(trace)
@@ -58,7 +71,7 @@ pub fn open_record<F: Files>(
     files: &F,
     name: &Option<String>,
     read: Sources,
-) -> Result<Option<Opened<F::Made>>, ()>
+) -> io::Result<Option<Opened<F::Made>>>
     ensures { IfOk result (λ opened. is_some opened ≡ is_some name.now) }
 {
     let Some(name) = name else {
@@ -66,16 +79,16 @@ pub fn open_record<F: Files>(
     };
     match open_trace(files, name.as_str(), read) {
         Ok(opened) => Ok(Some(opened)),
-        Err(_) => Err(()),
+        Err(why) => Err(why),
     }
 }
 
-/// Prints that the file can't be opened or created, and returns the status 2.
-pub fn cannot_open_record<E: Write>(errors: &mut E, name: &Option<String>) -> u8
+/// Prints that the file can't be opened or created, and why, and returns the status 2.
+pub fn cannot_open_record<E: Write>(errors: &mut E, name: &Option<String>, why: &io::Error) -> u8
     ensures { result ≡ 2 }
 {
     match name {
-        Some(name) => cannot_open(errors, name.as_str()),
+        Some(name) => cannot_open(errors, name.as_str(), why),
         None => FAULT,
     }
 }
@@ -96,10 +109,10 @@ pub fn open_plan<F: Files>(
     let plan = files.open(name)?;
     let other = match other {
         Some(other) => Some(other),
-        None => files.standard_input()?,
+        None => known(files.standard_input(), "standard input is unknown")?,
     };
     if other == Some(plan.identity) {
-        return Err(io::Error::from(ErrorKind::InvalidInput));
+        return Err(refusal("it is read already"));
     }
     Ok(plan)
 }

@@ -301,7 +301,7 @@ fn a_trace_that_may_be_standard_output_is_refused(rt: HostRuntime) {
     expect_eq(
         &rt,
         &errors.as_slice(),
-        &b"swd: cannot open traced\n".as_slice(),
+        &b"swd: cannot open traced: standard output is unknown\n".as_slice(),
     );
     assert!(rt; output.is_empty());
     expect_eq(&rt, &cuts.get(), &0);
@@ -449,7 +449,13 @@ fn each_fault_of_an_engine_has_its_words(rt: HostRuntime) {
 #[test]
 fn a_file_that_is_not_there_has_a_status(rt: HostRuntime) {
     let mut errors = Vec::new(rt.alloc());
-    expect_eq(&rt, &cannot_open(&mut errors, "b"), &2);
+    let why = io::Error::from(io::ErrorKind::IsADirectory);
+    expect_eq(&rt, &cannot_open(&mut errors, "b", &why), &2);
+    expect_eq(
+        &rt,
+        &errors.as_slice(),
+        &b"swd: cannot open b: is a directory\n".as_slice(),
+    );
 }
 
 #[test]

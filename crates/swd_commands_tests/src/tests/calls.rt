@@ -282,7 +282,7 @@ const FAULTS: [Call; 10] = [
         b"",
         2,
         b"",
-        b"swd: cannot open nope\n",
+        b"swd: cannot open nope: entity not found\n",
     ),
     (
         "a plan that isn't there",
@@ -290,7 +290,7 @@ const FAULTS: [Call; 10] = [
         b"",
         2,
         b"",
-        b"swd: cannot open none\n",
+        b"swd: cannot open none: entity not found\n",
     ),
     (
         "a trace that can't be made",
@@ -298,7 +298,7 @@ const FAULTS: [Call; 10] = [
         b"",
         2,
         b"",
-        b"swd: cannot open locked\n",
+        b"swd: cannot open locked: permission denied\n",
     ),
     (
         "one: a bad character",
@@ -346,7 +346,7 @@ const FAULTS: [Call; 10] = [
         b"",
         2,
         b"",
-        b"swd: cannot open b\n",
+        b"swd: cannot open b: entity not found\n",
     ),
     (
         "a name with control characters",
@@ -354,7 +354,7 @@ const FAULTS: [Call; 10] = [
         b"",
         2,
         b"",
-        b"swd: cannot open a\\nb\\t\\u{1b}[1m\n",
+        b"swd: cannot open a\\nb\\t\\u{1b}[1m: entity not found\n",
     ),
 ];
 
@@ -399,7 +399,7 @@ const TARGETS: [Call; 11] = [
         b"",
         2,
         b"",
-        b"swd: cannot open traced\n",
+        b"swd: cannot open traced: it is another output\n",
     ),
     (
         "a target's log can't be made",
@@ -407,7 +407,7 @@ const TARGETS: [Call; 11] = [
         b"",
         2,
         b"",
-        b"swd: cannot open locked\n",
+        b"swd: cannot open locked: permission denied\n",
     ),
     // Standard input is the debugger's.
     (
@@ -416,7 +416,7 @@ const TARGETS: [Call; 11] = [
         b"Q",
         2,
         b"",
-        b"swd: cannot open input\n",
+        b"swd: cannot open input: it is read already\n",
     ),
     (
         "a target's plan isn't there",
@@ -424,7 +424,7 @@ const TARGETS: [Call; 11] = [
         b"",
         2,
         b"",
-        b"swd: cannot open missing\n",
+        b"swd: cannot open missing: entity not found\n",
     ),
     (
         "a bad character of a debugger",
