@@ -23,8 +23,8 @@ complete -c swd -n '__fish_seen_subcommand_from encode' -F
 complete -c swd -n '__fish_seen_subcommand_from encode' -s h -l help -d 'Print help'
 complete -c swd -n '__fish_seen_subcommand_from run' -F
 complete -c swd -n '__fish_seen_subcommand_from run' -l plan -r -F -d 'Inject faults by the plan in FILE'
-complete -c swd -n '__fish_seen_subcommand_from run' -l tries -x -d 'Retries per access after WAIT or corruption, 0 to 1000 [default: 8]'
-complete -c swd -n '__fish_seen_subcommand_from run' -l resume -x -d 'Resume a call after a lost ACK N times, 0 to 1000 [default: 0]'
+complete -c swd -n '__fish_seen_subcommand_from run' -l tries -x -d 'Retries per access, from 0 to 1000 [default: 8]'
+complete -c swd -n '__fish_seen_subcommand_from run' -l resume -x -d 'Resumptions per call, from 0 to 1000 [default: 0]'
 complete -c swd -n '__fish_seen_subcommand_from run' -l trace -r -F -d 'Write the trace to FILE (overwrites it)'
 complete -c swd -n '__fish_seen_subcommand_from run' -l strict -d 'Exit with status 1 if an access met a bus error'
 complete -c swd -n '__fish_seen_subcommand_from run' -l remote -d 'The target is a remote_bitbang server on the streams'
