@@ -624,9 +624,9 @@ class Libraries(unittest.TestCase):
         library._check_layout()
 
     def test_the_names_of_the_fields(self):
-        """They are those of the C example that checks the header, in that order."""
+        """They are those of the C example that checks the header, in that order, but for the run's, which isn't bound."""
         with open(os.path.join(ROOT, "examples", "c", "layout.c"), encoding="ascii") as source:
-            fields = re.findall(r"\tCHECK\(([a-z_.]+), [0-9]+\);", source.read())
+            fields = re.findall(r"\tCHECK\((?!run\.)([a-z_.]+), [0-9]+\);", source.read())
         layout = swd._Layout()
         paths = [path for name, _ in swd._CROSSING for path, _, _ in swd._leaves(name, getattr(layout, name))]
         self.assertEqual(paths, fields)
