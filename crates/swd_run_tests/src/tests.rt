@@ -41,7 +41,7 @@ fn ended<F>(ended: End) -> Result<Finished, F> {
     })
 }
 
-// Whether a report tells of a bus error.
+// Returns whether a report has a bus error.
 fn has_bus_fault(report: &[u8]) -> bool {
     report
         .split(|byte| *byte == b'\n')

@@ -2,7 +2,7 @@
 use super::expect::expect_eq_at;
 use super::run_on;
 
-// The options, a listing of a trace, and what is told of it. A transaction with OK has 46 bits.
+// The options, a listing of a trace, and what is reported of it. A transaction with OK has 46 bits.
 type Row<'a> = (&'a [&'a str], &'a [u8], &'a [u8]);
 
 const ROWS: [Row; 5] = [

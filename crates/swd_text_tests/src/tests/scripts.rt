@@ -34,7 +34,7 @@ pub(super) fn plan_in<A: Allocator>(
     reader.finish()
 }
 
-// A call of a script: its accesses, the address of its block, and the words that are told of its reads.
+// A call of a script: its accesses, the address of its block, and the words that its reads have to give.
 #[derive(Clone, Copy)]
 struct Call {
     accesses: &'static [Access],
