@@ -357,6 +357,7 @@ const FLAGS: [Row; 12] = [
 
 #[test]
 fn a_reply_that_breaks_the_law_has_its_request(rt: HostRuntime) {
+    all_go(&rt, &FIRST_LOOK);
     all_go(&rt, &POWER);
     all_go(&rt, &FLAGS);
 }
