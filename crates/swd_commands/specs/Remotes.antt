@@ -25,17 +25,18 @@ WentOver remaining contents sent left line calls = ∥ GoesOver remaining conten
 -- The script is run over a line. Its report is written to a file or to standard error, and its trace, if one is named,
 -- to a file. Nothing else is known of these files. Only tests show that the line is over the standard streams.
 abbrev pub PerformsAt : {R W : Type 0} → (ℕ → Port) → RunLine → ℕ → (R → Option (List ℕ)) → (W → Option (List ℕ))
-    → Option (List ℕ) → Option (List ℕ) → Option (List ℕ) → Type 0
-PerformsAt {R} {W} story run status remaining contents sent left script =
-    (answer : Result Finished RemoteFault) × (line : Line R W) × (before : Option (List ℕ)) × (after : Option (List ℕ))
+    → Option (List ℕ) → Option (List ℕ) → Line R W → Option (List ℕ) → Type 0
+PerformsAt story run status remaining contents sent left line script =
+    (answer : Result Finished RemoteFault) × (before : Option (List ℕ)) × (after : Option (List ℕ))
     × (untraced : Option (Option (List ℕ))) × (traced : Option (Option (List ℕ)))
     × (is_some untraced ≡ is_some run.trace)
     × RunsRemote story run.tries run.resumes (WentOver remaining contents sent left line)
     (IsUnused remaining contents sent left line)
     answer script before after untraced traced × (status ≡ status_at run.strict line.fault answer)
 
--- or the status is 2, for instance if a file can't be opened
+-- or a file can't be opened: the status is 2, and nothing was sent or read
 abbrev pub PerformsRemote : {R W : Type 0} → (ℕ → Port) → RunLine → ℕ → (R → Option (List ℕ)) → (W → Option (List ℕ))
-    → Option (List ℕ) → Option (List ℕ) → Option (List ℕ) → Type 0
-PerformsRemote story run status remaining contents sent left script =
-    (status ≡ 2) ⊎ PerformsAt story run status remaining contents sent left script
+    → Option (List ℕ) → Option (List ℕ) → Line R W → Option (List ℕ) → Type 0
+PerformsRemote story run status remaining contents sent left line script =
+    ((status ≡ 2) × IsUnused remaining contents sent left line)
+    ⊎ PerformsAt story run status remaining contents sent left line script

@@ -35,8 +35,17 @@ pub fn run_words<I: Read, F: Files, O: Write, E: Write>(
 ) -> u8 {
     match line(alloc, words) {
         Ok(line) => carry_out(alloc, &line, input, files, output, errors),
-        Err(LineFault::Clap(error)) => answer_by_clap(&error, output, errors),
-        Err(LineFault::Memory) => tell(errors, "no memory"),
+        Err(fault) => refuse(fault, output, errors),
+    }
+}
+
+// Prints why the arguments are no command, or the help or the version, and returns the status.
+fn refuse<O: Write, E: Write>(fault: LineFault, output: &mut O, errors: &mut E) -> u8
+    ensures memory { fault ≡ LineFault.Memory → result ≡ 2 }
+{
+    match fault {
+        LineFault::Clap(error) => answer_by_clap(&error, output, errors),
+        LineFault::Memory => tell(errors, "no memory"),
     }
 }
 
@@ -96,9 +105,10 @@ fn carry_out<I: Read, F: Files, O: Write, E: Write>(
                 && run.remote
             {
                 let script = &mut opened.file;
-                return perform_remote::<Untold, _, _, _, _, _>(
+                let (status, _) = perform_remote::<Untold, _, _, _, _, _>(
                     alloc, run, script, source, input, files, output, errors,
                 );
+                return status;
             }
             perform(alloc, line, &mut opened.file, source, files, output, errors)
         }

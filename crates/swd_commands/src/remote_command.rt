@@ -12,7 +12,7 @@ use std::io;
 use std::io::{Read, Write};
 use swd_ends::{RemoteFault, run_remote};
 use swd_port::Story;
-use swd_remote::Fault;
+use swd_remote::{Fault, Line};
 use swd_run::Finished;
 use swd_words::RunLine;
 
@@ -58,7 +58,8 @@ fn file_alone<M>(opened: Option<Opened<M>>) -> Option<M>
 }
 
 /// Opens the report's file, and the trace's file if one is named. Then runs the script at the target behind the
-/// streams, and returns the status.
+/// streams. Returns the status, and the streams with the error that ended the connection, if any. If a file can't be
+/// opened, the streams weren't used.
 pub fn perform_remote<P: Story, S: Read, I: Read + Drop, F: Files, O: Write + Drop, E: Write>(
     alloc: Global,
     run: &RunLine,
@@ -68,12 +69,13 @@ pub fn perform_remote<P: Story, S: Read, I: Read + Drop, F: Files, O: Write + Dr
     files: &F,
     output: O,
     errors: &mut E,
-) -> u8
-    ensures { PerformsRemote P.at run.now result I.remaining O.contents (O.contents output) (I.remaining input)
-        (S.remaining script.old) }
+) -> (u8, Line<I, O>)
+    ensures { PerformsRemote P.at run.now result.0 I.remaining O.contents (O.contents output) (I.remaining input)
+        result.1 (S.remaining script.old) }
 {
     let Some(name) = &run.report else {
-        return tell(errors, "--remote and --report FILE go together");
+        let status = tell(errors, "--remote and --report FILE go together");
+        return (status, Line::unused(input, output));
     };
     let read = Sources {
         script: source,
@@ -82,7 +84,10 @@ pub fn perform_remote<P: Story, S: Read, I: Read + Drop, F: Files, O: Write + Dr
     };
     let report = match open_report(files, name.as_str(), read) {
         Ok(report) => report,
-        Err(why) => return cannot_open(errors, name.as_str(), &why),
+        Err(why) => {
+            let status = cannot_open(errors, name.as_str(), &why);
+            return (status, Line::unused(input, output));
+        }
     };
     let beside = Sources {
         written: report.identity,
@@ -90,7 +95,10 @@ pub fn perform_remote<P: Story, S: Read, I: Read + Drop, F: Files, O: Write + Dr
     };
     let trace = match open_record(files, &run.trace, beside) {
         Ok(trace) => trace,
-        Err(why) => return cannot_open_record(errors, &run.trace, &why),
+        Err(why) => {
+            let status = cannot_open_record(errors, &run.trace, &why);
+            return (status, Line::unused(input, output));
+        }
     };
     let trace = &mut file_alone(trace);
     let (tries, resumes, strict) = (run.tries, run.resumes, run.strict);
@@ -98,12 +106,12 @@ pub fn perform_remote<P: Story, S: Read, I: Read + Drop, F: Files, O: Write + Dr
         let (answer, line) = run_remote::<P, _, _, _, _, _, _>(
             alloc, script, input, output, tries, resumes, errors, trace,
         );
-        return reached_status(errors, answer, line.fault, strict);
+        return (reached_status(errors, answer, line.fault, strict), line);
     };
     let (answer, line) = run_remote::<P, _, _, _, _, _, _>(
         alloc, script, input, output, tries, resumes, &mut file, trace,
     );
-    reached_status(errors, answer, line.fault, strict)
+    (reached_status(errors, answer, line.fault, strict), line)
 }
 
 // Returns the status of a run over a line: 1 if a report was made but the other end is gone, else the run's status.

@@ -1,5 +1,6 @@
 //! Performs `swd target`: a simulated target on the standard streams.
-ghost use Rattle.std.specs.Prelude.{◌≡◌, ℕ, List, Option};
+ghost use Rattle.std.specs.Prelude.{◌≡◌, ℕ, true, false, List, Option};
+ghost use Rattle.swd_bitbang.specs.Traces.{is_cut_off};
 ghost use Rattle.swd_commands.specs.Targets.{IsServedStatus, ServesHost};
 
 use crate::open_files::{Files, Identity, Opened};
@@ -106,13 +107,15 @@ fn serve_under<S: Read, P: Read, I: Read, F: Files, O: Write, E: Write, A: Alloc
     }
 }
 
-// Writes the log and the trace, and returns whether both were written completely.
+// Writes the log and the trace. Returns whether both were written completely, and the trace isn't truncated.
 fn write_records<M: Write + Drop, A: Allocator>(
     log: Option<Opened<M>>,
     trace: Option<Opened<M>>,
     target: &MarkedClocked<A>,
     kept: &Trace<A>,
-) -> bool {
+) -> bool
+    ensures { result ≡ true → is_cut_off kept.now ≡ false }
+{
     let logged = match log {
         Some(mut log) => write_log(&mut log.file, target).is_ok(),
         None => true,
@@ -121,17 +124,18 @@ fn write_records<M: Write + Drop, A: Allocator>(
         Some(mut trace) => write_trace(&mut trace.file, kept),
         None => true,
     };
-    logged && traced
+    logged && traced && !kept.is_cut()
 }
 
 // Writes the trace, and returns whether it was written completely.
 fn write_trace<M: Write, A: Allocator>(writer: &mut M, kept: &Trace<A>) -> bool {
-    send(writer, kept.text()).is_ok() && send(writer, b"\n").is_ok() && !kept.is_cut()
+    send(writer, kept.text()).is_ok() && send(writer, b"\n").is_ok()
 }
 
-// Returns the status of a session. `done`: its log and its trace were written completely.
+// Returns the status of a session. `done`: its log and its trace were written completely, and the trace isn't
+// truncated.
 fn served_status<E: Write>(errors: &mut E, served: Served, done: bool) -> u8
-    ensures { IsServedStatus served result }
+    ensures { IsServedStatus served (done ≡ true) result }
 {
     match served {
         Served::Quit | Served::Ended => {

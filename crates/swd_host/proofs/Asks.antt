@@ -2,14 +2,16 @@
 use Rattle.swd_host.proofs.Words.{◌≡◌, ◌≢◌, ◌+◌, ◌%◌, ◌≤◌, ℕ, Bool, true, false, refl, sym, ap, subst, inl, arith, ◌∙◌}
 use Rattle.swd_host.proofs.Words.{Option, Some, None, ◌⊎◌, Task, PlainMemory, Port, register, Register, DpidrRead}
 use Rattle.swd_host.proofs.Words.{ResendRead, RdbuffRead, DrwRead, is_exempt, Asks, has_power, is_posted, Stays}
-use Rattle.swd_host.proofs.Words.{Accepts, okay, lost, OnLine, Place, Identify, Wipe, Select, Power, Configure, Recall}
-use Rattle.swd_host.proofs.Words.{Configured, Aim, Transfer, At, Resend, request_for, confirmed_by, Hand, Counted, Calm}
+use Rattle.swd_host.proofs.Words.{Accepts, okay, lost, OnLine, Place, Identify, WriteAbort, Select, Power, Configure}
+use Rattle.swd_host.proofs.Words.{ReadCsw}
+use Rattle.swd_host.proofs.Words.{Configured, WriteTar, Transfer, At, Resend, request_for, confirmed_by, Hand, Counted}
+use Rattle.swd_host.proofs.Words.{Calm}
 use Rattle.swd_host.proofs.Words.{Has, no_select, Sure, Hurt, by_damage, Resent, During, Within, Reads, Writes, Awake}
 use Rattle.swd_port.specs.declared.register.Register.TheVariants.{CswRead}
 use Rattle.swd_port.proofs.RequestLaws.{identification_read_at_rest}
 use Rattle.swd_port.proofs.StatusLaws.{identification_returned, buffer_returned, value_resent}
 use Rattle.swd_host.specs.Requests.{register_at, is_exempt_place}
-use Rattle.swd_host.specs.Tracks.{csw_word_read, Reachable, is_wipe, Spoilt}
+use Rattle.swd_host.specs.Tracks.{csw_word_read, Reachable, is_abort_write, Spoilt}
 use Rattle.swd_host.proofs.Frames.{Frame, Same, frame_accepts, same_accepts, has_framed, sure_framed, resent_framed}
 use Rattle.swd_host.proofs.Frames.{before_within, has_within, within_idle, lost_within, has_debug}
 use Rattle.swd_host.proofs.Asked.{Came, came_okay, came_lost, reads_from, writes_from, free_asked, flagged_asked}
@@ -17,11 +19,11 @@ use Rattle.swd_host.proofs.Asked.{abort_asked}
 
 -- THE WRITE BEFORE
 abbrev is_written : Place → Bool
-is_written Wipe = true
+is_written WriteAbort = true
 is_written Select = true
 is_written Power = true
 is_written Configure = true
-is_written Aim = true
+is_written WriteTar = true
 is_written Transfer = true
 is_written _ = false
 
@@ -84,7 +86,8 @@ hurt_asked p n base b c k v s t plain g l h asks =
 -- SURE WRITES
 module _ (p : Place) (n : ℕ) (base : Counted) (b c : ℕ) (k : Hand) (v : ℕ) (s t : Port) where
   pub write_asked : (r : Register) → register_at p k.task ≡ r → (request_for (At p) k.task).read ≡ false
-      → is_exempt r ≡ false → is_posted r ≡ false → is_exempt_place p ≡ false → is_wipe p ≡ false → r ≢ DrwRead → b ≤ c
+      → is_exempt r ≡ false → is_posted r ≡ false → is_exempt_place p ≡ false → is_abort_write p ≡ false
+      → r ≢ DrwRead → b ≤ c
       → Calm k.memory s.target → ((request_for (At p) k.task).ap ≡ true → has_power s.target ≡ true)
       → base.lost ≤ s.tally.lost → Sure p n b k s → Asks s (request_for (At p) k.task) v t
       → (Writes r n (λ x. Sure p x c k t) t → During (At p) n c k t) → Came (At p) n base c k v t
@@ -112,11 +115,12 @@ identify_lost b k s t h w = lost_within DpidrRead true b b k s t (omega arith) (
     (within_idle b k s h.pending h.memory)
 
 -- ABORT is written, whatever the flags
-pub wipe_asked : (n : ℕ) (base : Counted) (b : ℕ) (k : Hand) (v : ℕ) (s t : Port) → base.lost ≤ s.tally.lost
-    → Sure Wipe n b k s → Asks s (request_for (At Wipe) k.task) v t → Came (At Wipe) n base b k v t
-wipe_asked n base b k v s t l h asks =
-    abort_asked (At Wipe) n base b k v s t (λ c. Sure Wipe c b k t) h.has.select h.has.live h.has.pending l (inl h) asks
-    (λ n' f e more. sure_framed n n' b k s t f e more Wipe h) (λ w. w)
+pub write_abort_asked : (n : ℕ) (base : Counted) (b : ℕ) (k : Hand) (v : ℕ) (s t : Port) → base.lost ≤ s.tally.lost
+    → Sure WriteAbort n b k s → Asks s (request_for (At WriteAbort) k.task) v t → Came (At WriteAbort) n base b k v t
+write_abort_asked n base b k v s t l h asks =
+    abort_asked (At WriteAbort) n base b k v s t (λ c. Sure WriteAbort c b k t)
+    h.has.select h.has.live h.has.pending l (inl h) asks
+    (λ n' f e more. sure_framed n n' b k s t f e more WriteAbort h) (λ w. w)
 
 -- DPIDR is read
 pub identify_asked : (n : ℕ) (base : Counted) (b : ℕ) (k : Hand) (v : ℕ) (s t : Port) → base.lost ≤ s.tally.lost
@@ -147,20 +151,20 @@ identify_asked n base b k v s t l h asks =
     ]
 
 -- CSW is read: its word goes to the read buffer
-recalled : (n b : ℕ) (k : Hand) (s t : Port) (flip : Option ℕ) → Sure Recall n b k s
+csw_was_read : (n b : ℕ) (k : Hand) (s t : Port) (flip : Option ℕ) → Sure ReadCsw n b k s
     → Accepts CswRead true flip s t → s.tally.disturbed ≤ t.tally.disturbed → Sure Configured n b k t
-recalled n b k s t flip h a more = grind arith
+csw_was_read n b k s t flip h a more = grind arith
 
-pub recall_asked : (n : ℕ) (base : Counted) (b : ℕ) (k : Hand) (v : ℕ) (s t : Port) → base.lost ≤ s.tally.lost
-    → Sure Recall n b k s → Asks s (request_for (At Recall) k.task) v t → Came (At Recall) n base b k v t
-recall_asked n base b k v s t l h asks =
+pub read_csw_asked : (n : ℕ) (base : Counted) (b : ℕ) (k : Hand) (v : ℕ) (s t : Port) → base.lost ≤ s.tally.lost
+    → Sure ReadCsw n b k s → Asks s (request_for (At ReadCsw) k.task) v t → Came (At ReadCsw) n base b k v t
+read_csw_asked n base b k v s t l h asks =
     let calm : Calm k.memory s.target = h.has.up.calm in
-    free_asked (At Recall) CswRead n base b b k v s t (request_for (At Recall) k.task)
-    (register_there Recall k.task s calm.select) refl (λ e. absurd (cc)) calm.live calm.pending
+    free_asked (At ReadCsw) CswRead n base b b k v s t (request_for (At ReadCsw) k.task)
+    (register_there ReadCsw k.task s calm.select) refl (λ e. absurd (cc)) calm.live calm.pending
     (h.flag refl) calm.sticky (λ e. has_debug s.target h.has.up.debug h.has.up.seen) l (omega arith)
-    (has_within Recall b k s h.has) h.paid asks
-    (λ flip sp a more. recalled n b k s t flip h a more)
-    refl (λ f e d. inl (sure_framed n (n + 1) b k s t f e (omega arith) Recall h))
+    (has_within ReadCsw b k s h.has) h.paid asks
+    (λ flip sp a more. csw_was_read n b k s t flip h a more)
+    refl (λ f e d. inl (sure_framed n (n + 1) b k s t f e (omega arith) ReadCsw h))
 
 -- CSW is read back
 configured_word : (n n' : ℕ) (b : ℕ) (k : Hand) (s t : Port) (flip : Option ℕ)

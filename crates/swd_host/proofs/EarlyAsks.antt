@@ -4,20 +4,23 @@ use Rattle.swd_host.proofs.Words.{◌≡◌, ◌≢◌, ◌+◌, ◌%◌, ◌≤
 use Rattle.swd_host.proofs.Words.{◌∙◌, Option, None, ◌⊎◌, Request, Port, register, Register, DpidrRead, AbortWrite}
 use Rattle.swd_host.proofs.Words.{CtrlStatRead, SelectWrite, DrwRead, Live, is_exempt, Asks, is_posted, status_in}
 use Rattle.swd_host.proofs.Words.{Completes, Stays, Accepts, Spares, okay, wait, fault, lost, OnLine, Flags, Identify}
-use Rattle.swd_host.proofs.Words.{Wipe, Inspect, Select, Job, At, Status, Clear, Check, Task, flags_in, request_for}
+use Rattle.swd_host.proofs.Words.{WriteAbort, CheckCtrlStat, Select, Job, At, Status, Clear, Check, Task, flags_in}
+use Rattle.swd_host.proofs.Words.{request_for}
 use Rattle.swd_host.proofs.Words.{Counted, Reads, Writes, no_select, ComesFrom, Glimpsed, Shows, Anywhere, Resettled}
-use Rattle.swd_host.proofs.Words.{Woken, Wiped, clean, hurt, Met, Clearing, Cleared, EarlyBefore, Settled, IsOver}
+use Rattle.swd_host.proofs.Words.{Woken, AbortWritten, clean, hurt, Met, Clearing, Cleared, EarlyBefore, Settled}
+use Rattle.swd_host.proofs.Words.{IsOver}
 use Rattle.swd_host.proofs.Words.{EarlyDuring, EarlySaw}
 use Rattle.swd_port.specs.Moves.{Kept}
 use Rattle.swd_port.proofs.CompletionLaws.{none_done, kept as kept_by}
 use Rattle.swd_port.proofs.RequestLaws.{exempt_request, identification_read, free_request, lost_request}
 use Rattle.swd_port.proofs.StatusLaws.{status_returned, identification_returned}
-use Rattle.swd_host.specs.Early.{Inspected, EarlyLost, early_okay, early_wait, early_fault, early_none}
+use Rattle.swd_host.specs.Early.{CtrlStatChecked, EarlyLost, early_okay, early_wait, early_fault, early_none}
 use Rattle.swd_host.proofs.Frames.{Frame, Same, frame_same, frame_accepts, same_accepts, frame_waits, same_waits}
 use Rattle.swd_host.proofs.Frames.{frame_refuses, same_refuses}
 use Rattle.swd_host.proofs.Asked.{reads_from, writes_from}
 use Rattle.swd_host.proofs.EarlyFrames.{comes_stays, comes_same, comes_carried, come_at_rest, none_stays, quiet_met}
-use Rattle.swd_host.proofs.EarlyFrames.{any_stays, woken_stays, early_stays, early_carried, wiped_woken, cleared_woken}
+use Rattle.swd_host.proofs.EarlyFrames.{any_stays, woken_stays, early_stays, early_carried, aborted_woken}
+use Rattle.swd_host.proofs.EarlyFrames.{cleared_woken}
 use Rattle.swd_host.proofs.EarlyFrames.{cleared_rests}
 
 -- what a phase was spared stays so while nothing more is disturbed
@@ -111,14 +114,14 @@ module _ (job : Job) (n : ℕ) (stray : Bool) (start s y z t : Port) (flip : Opt
       }
 
   -- what it tells while the transfer may be pending
-  status_glimpsed : Wiped n stray start s → (a : Accepts CtrlStatRead true flip y z)
+  status_glimpsed : AbortWritten n stray start s → (a : Accepts CtrlStatRead true flip y z)
       → Glimpsed (flags_in (status_in a.busy y.target)) stray t.target
-  status_glimpsed wiped a =
+  status_glimpsed aborted a =
       let r = (status_returned flip y z a).1 in
       let f : Frame y z = frame_accepts CtrlStatRead true flip y z refl live_then a in
       let e : Same y z = same_accepts CtrlStatRead true flip y z a in
       let w : t.target.write_error ≡ y.target.write_error = (kept_by z t last).write_error ∙ e.write in
-      let there : Wiped n stray start y = early_stays (At Inspect) n stray start s y first wiped in
+      let there : AbortWritten n stray start y = early_stays (At CheckCtrlStat) n stray start s y first aborted in
       record {
         damaged = r.write_held ∙ sym w;
         error = λ i clear. elim there [
@@ -140,12 +143,13 @@ module _ (n : ℕ) (base : Counted) (stray : Bool) (start : Port) (v : ℕ) (s t
       → register s.target.select (request_for job k) ≡ register no_select (request_for job k)
   reached job e = ap (λ z. register z (request_for job k)) e
 
-  ask_wipe : Woken n stray start s → Asks s (request_for (At Wipe) k) v t → EarlySaw (At Wipe) v n base stray start t
-  ask_wipe h asks =
-      exempt_early (At Wipe) n base stray start v s t (request_for (At Wipe) k) AbortWrite
-      (reached (At Wipe) h.any.select) refl (no_drw AbortWrite refl) h l asks
+  ask_abort : Woken n stray start s → Asks s (request_for (At WriteAbort) k) v t
+      → EarlySaw (At WriteAbort) v n base stray start t
+  ask_abort h asks =
+      exempt_early (At WriteAbort) n base stray start v s t (request_for (At WriteAbort) k) AbortWrite
+      (reached (At WriteAbort) h.any.select) refl (no_drw AbortWrite refl) h l asks
       (λ y z flip first sp a more last.
-      abort_awaits (At Wipe) n stray start s y z t flip h.live first sp more last h a)
+      abort_awaits (At WriteAbort) n stray start s y z t flip h.live first sp more last h a)
 
   ask_clear : (owed : Flags) → Clearing owed n stray start s → Asks s (request_for (Clear Select owed) k) v t
       → EarlySaw (Clear Select owed) v n base stray start t
@@ -166,16 +170,16 @@ module _ (n : ℕ) (base : Counted) (stray : Bool) (start : Port) (v : ℕ) (s t
         status_reads (Status Select) n stray start s y z t flip h.woken.live first sp more last h a,
       ))
 
-  ask_inspect : Wiped n stray start s → Asks s (request_for (At Inspect) k) v t
-      → EarlySaw (At Inspect) v n base stray start t
-  ask_inspect h asks =
-      let w : Woken n stray start s = wiped_woken n stray start s h in
-      exempt_early (At Inspect) n base stray start v s t (request_for (At Inspect) k) CtrlStatRead
-      (reached (At Inspect) w.any.select) refl (no_drw CtrlStatRead refl) w l asks
+  ask_ctrl_stat : AbortWritten n stray start s → Asks s (request_for (At CheckCtrlStat) k) v t
+      → EarlySaw (At CheckCtrlStat) v n base stray start t
+  ask_ctrl_stat h asks =
+      let w : Woken n stray start s = aborted_woken n stray start s h in
+      exempt_early (At CheckCtrlStat) n base stray start v s t (request_for (At CheckCtrlStat) k) CtrlStatRead
+      (reached (At CheckCtrlStat) w.any.select) refl (no_drw CtrlStatRead refl) w l asks
       (λ y z flip first sp a more last. (
         status_in a.busy y.target,
-        status_glimpsed (At Inspect) n stray start s y z t flip w.live first sp more last h h a,
-        status_reads (At Inspect) n stray start s y z t flip w.live first sp more last h a,
+        status_glimpsed (At CheckCtrlStat) n stray start s y z t flip w.live first sp more last h h a,
+        status_reads (At CheckCtrlStat) n stray start s y z t flip w.live first sp more last h a,
       ))
 
   ask_check : (owed : Flags) → Cleared owed n stray start s → Asks s (request_for (Check Select owed) k) v t
@@ -235,12 +239,12 @@ module _ (n : ℕ) (base : Counted) (stray : Bool) (start : Port) (v : ℕ) (s t
 
   -- SELECT is written: its OK tells that nothing is pending any more, and that the transfer left pending was no bus
   -- error; FAULT that it was one
-  select_okay : (y z : Port) (flip : Option ℕ) → Inspected n stray start s → Completes s y
+  select_okay : (y z : Port) (flip : Option ℕ) → CtrlStatChecked n stray start s → Completes s y
       → y.target.sticky_error ≡ false → Spares flip y z → Accepts SelectWrite false flip y z
       → y.tally.disturbed ≤ z.tally.disturbed → Completes z t → IsOver n start t
   select_okay y z flip h first calm sp a more last =
       let none : y.target.pending ≡ None = a.settled refl in
-      let there : Inspected n stray start y = early_stays (At Select) n stray start s y first h in
+      let there : CtrlStatChecked n stray start y = early_stays (At Select) n stray start s y first h in
       let f : Frame y z = frame_accepts SelectWrite false flip y z refl there.woken.live a in
       let e : Same y z = same_accepts SelectWrite false flip y z a in
       let same : t ≡ z = none_done z t (f.pending ∙ none) last in
@@ -265,13 +269,13 @@ module _ (n : ℕ) (base : Counted) (stray : Bool) (start : Port) (v : ℕ) (s t
             (λ d. settled (n + 1) (omega (arith, there.woken.any.paid, d)));
       }
 
-  ask_select : Inspected n stray start s → Asks s (request_for (At Select) k) v t
+  ask_select : CtrlStatChecked n stray start s → Asks s (request_for (At Select) k) v t
       → EarlySaw (At Select) v n base stray start t
   ask_select h asks =
       let q : Request = request_for (At Select) k in
       let (y, z, first, came, last) = free_request SelectWrite q v s t (reached (At Select) h.woken.any.select) refl
       h.woken.live h.flag (λ e. absurd (cc)) asks in
-      let there : Inspected n stray start y = early_stays (At Select) n stray start s y first h in
+      let there : CtrlStatChecked n stray start y = early_stays (At Select) n stray start s y first h in
       let comes : ComesFrom start y = there.woken.any.comes in
       elim came [
         | inl w ↦ elim w.1 [
@@ -290,7 +294,7 @@ module _ (n : ℕ) (base : Counted) (stray : Bool) (start : Port) (v : ℕ) (s t
               (let met = quiet_met stray y.target w.0 there.quiet in
               let f : Frame y z = frame_refuses SelectWrite false y z o.refuses in
               let e : Same y z = same_refuses SelectWrite false y z (λ e. absurd (cc)) o.refuses in
-              let after : Inspected n stray start z =
+              let after : CtrlStatChecked n stray start z =
               early_carried (At Select) n n stray start y z f e (omega (arith, o.heard.disturbed_least)) there in
               let same : t ≡ z = none_done z t (f.pending ∙ met.0) last in
               early_fault o.is (subst (Met n stray start) (sym same) (record {
@@ -315,8 +319,8 @@ module _ (n : ℕ) (base : Counted) (stray : Bool) (start : Port) (v : ℕ) (s t
   pub ask_early : (job : Job) → EarlyBefore job n stray start s → Asks s (request_for job k) v t
       → EarlySaw job v n base stray start t
   ask_early (At Identify) h asks = ask_identify h asks
-  ask_early (At Wipe) h asks = ask_wipe h asks
-  ask_early (At Inspect) h asks = ask_inspect h asks
+  ask_early (At WriteAbort) h asks = ask_abort h asks
+  ask_early (At CheckCtrlStat) h asks = ask_ctrl_stat h asks
   ask_early (At Select) h asks = ask_select h asks
   ask_early (Status Select) h asks = ask_status h asks
   ask_early (Clear Select owed) h asks = ask_clear owed h asks

@@ -1,6 +1,7 @@
 -- Going on after a lost acknowledgement: what stays known of the port, whatever the transfer left pending comes to.
 use Rattle.swd_host.proofs.Words.{◌≡◌, ◌+◌, ◌≤◌, ℕ, Bool, true, false, ap, inl, inr, arith, ◌∙◌, None, Port, Target}
-use Rattle.swd_host.proofs.Words.{Completes, MayBecome, Flags, Job, ComesFrom, Anywhere, Woken, Wiped, Cleared, gone}
+use Rattle.swd_host.proofs.Words.{Completes, MayBecome, Flags, Job, ComesFrom, Anywhere, Woken, AbortWritten, Cleared}
+use Rattle.swd_host.proofs.Words.{gone}
 use Rattle.swd_host.proofs.Words.{still, EarlyBefore}
 use Rattle.swd_port.proofs.CompletionLaws.{none_done, may_become_of_none}
 use Rattle.swd_host.specs.Early.{IsAwaited, Quiet, none_left, to_come}
@@ -61,8 +62,8 @@ early_carried job n n' x start s t f e more h = grind arith
 pub woken_less : (n : ℕ) (stray : Bool) (start s : Port) → Woken (n + 1) stray start s → Woken n stray start s
 woken_less n stray start s w = grind arith
 
-pub wiped_woken : (n : ℕ) (stray : Bool) (start s : Port) → Wiped n stray start s → Woken n stray start s
-wiped_woken n stray start s h = grind (arith, woken_less)
+pub aborted_woken : (n : ℕ) (stray : Bool) (start s : Port) → AbortWritten n stray start s → Woken n stray start s
+aborted_woken n stray start s h = grind (arith, woken_less)
 
 pub cleared_woken : (owed : Flags) (n : ℕ) (stray : Bool) (start s : Port) → Cleared owed n stray start s
     → Woken n stray start s

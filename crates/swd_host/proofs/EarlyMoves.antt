@@ -1,9 +1,11 @@
 -- Going on after a lost acknowledgement: each data phase, each turnaround and the line reset keep what is known.
 use Rattle.swd_host.proofs.Words.{◌≡◌, ◌≢◌, ◌+◌, ◌^◌, ◌<◌, ℕ, Bool, refl, sym, ap, subst, arith, ◌∙◌, inl, inr, Some}
 use Rattle.swd_host.proofs.Words.{None, ◌⊎◌, Port, AbortWrite, Reset, Unreset, Live, phase_number, word_in, Takes}
-use Rattle.swd_host.proofs.Words.{Gives, Gave, Spoiled, Clears, Flags, Identify, Wipe, Inspect, Select, Job, At, Status}
+use Rattle.swd_host.proofs.Words.{Gives, Gave, Spoiled, Clears, Flags, Identify, WriteAbort, CheckCtrlStat, Select, Job}
+use Rattle.swd_host.proofs.Words.{At, Status}
 use Rattle.swd_host.proofs.Words.{Clear, Check, Task, flags_in, clear_word, word_for, Reads, Writes, whole, changed}
-use Rattle.swd_host.proofs.Words.{Glimpsed, Shows, Woken, Wiped, clean, hurt, Met, Clearing, Cleared, gone, still}
+use Rattle.swd_host.proofs.Words.{Glimpsed, Shows, Woken, AbortWritten, clean, hurt, Met, Clearing, Cleared, gone}
+use Rattle.swd_host.proofs.Words.{still}
 use Rattle.swd_host.proofs.Words.{EarlyBefore, EarlyDuring, EarlyTaken}
 use Rattle.swd_port.proofs.MovingLaws.{data_taken, take_moves_nothing, data_given}
 use Rattle.swd_port.proofs.StatusLaws.{flags_cleared}
@@ -53,21 +55,22 @@ module _ (n : ℕ) (stray : Bool) (start : Port) (bits : ℕ) (s t : Port) (rang
     take_identify : Reads s.target.identification n (λ c. Woken c stray start s) s
         → EarlyTaken (At Identify) (word_in bits) n stray start t
     take_identify h = take_early (At Identify) s.target.identification (λ c. Woken c stray start s) h
-        (λ w. (read_keeps (At Wipe) n w, w.any.odd))
-        (λ w. (let u : Woken (n + 1) stray start t = read_keeps (At Wipe) (n + 1) w in
+        (λ w. (read_keeps (At WriteAbort) n w, w.any.odd))
+        (λ w. (let u : Woken (n + 1) stray start t = read_keeps (At WriteAbort) (n + 1) w in
         record { any = u.any; reset = not_unreset t.target.reset u.live }))
 
-    take_inspect : (word : ℕ) → Glimpsed (flags_in word) stray s.target → Reads word n (λ c. Wiped c stray start s) s
-        → EarlyTaken (At Inspect) (word_in bits) n stray start t
-    take_inspect word told h = take_early (At Inspect) word (λ c. Wiped c stray start s) h
+    take_ctrl_stat : (word : ℕ) → Glimpsed (flags_in word) stray s.target
+        → Reads word n (λ c. AbortWritten c stray start s) s
+        → EarlyTaken (At CheckCtrlStat) (word_in bits) n stray start t
+    take_ctrl_stat word told h = take_early (At CheckCtrlStat) word (λ c. AbortWritten c stray start s) h
         (λ w. (
           record {
             damaged = told.damaged ∙ sym write_passed;
             error = λ i e. (let m = told.error i (sym write_passed ∙ e) in (none_passed m.0, m.1));
           },
-          read_keeps (At Inspect) n w,
+          read_keeps (At CheckCtrlStat) n w,
         ))
-        (λ w. read_keeps (At Inspect) (n + 1) w)
+        (λ w. read_keeps (At CheckCtrlStat) (n + 1) w)
 
     -- what CTRL/STAT said of the flags is still so
     shown : (word : ℕ) → s.target.pending ≡ None → Shows (flags_in word) s.target → Shows (flags_in word) t.target
@@ -88,7 +91,7 @@ module _ (n : ℕ) (stray : Bool) (start : Port) (bits : ℕ) (s t : Port) (rang
     pub read_early : (job : Job) (task : Task) → word_for job task ≡ None → EarlyDuring job n stray start s
         → EarlyTaken job (word_in bits) n stray start t
     read_early (At Identify) task none h = take_identify h
-    read_early (At Inspect) task none h = take_inspect h.0 h.1 h.2
+    read_early (At CheckCtrlStat) task none h = take_ctrl_stat h.0 h.1 h.2
     read_early (Status Select) task none h = take_status h.0 h.1 h.2
     read_early (Check Select owed) task none h = take_check owed h.0 h.1 h.2
     read_early _ task none h = grind arith
@@ -96,21 +99,22 @@ module _ (n : ℕ) (stray : Bool) (start : Port) (bits : ℕ) (s t : Port) (rang
 -- DATA PHASES THAT ARE WRITTEN
 module _ (n : ℕ) (stray : Bool) (start : Port) (sent : ℕ) (s t : Port) (range : sent < 2 ^ 33) (gives : Gives s sent t)
   where
-    give_wipe : sent ≡ phase_number 0x1e → Writes AbortWrite n (λ c. Woken c stray start s) s → Wiped n stray start t
-    give_wipe is (whole line h) =
+    give_abort : sent ≡ phase_number 0x1e → Writes AbortWrite n (λ c. Woken c stray start s) s
+        → AbortWritten n stray start t
+    give_abort is (whole line h) =
         let (y, z, first, given, last) = data_given AbortWrite None 0x1e sent s t line (omega arith) range
         (spells 0x1e sent (omega arith) is) gives in
         let g : Gave AbortWrite 0x1e y z = whole_given AbortWrite 0x1e y z given in
         let c : Clears 0x1e y.target z.target = flags_cleared 0x1e y z g in
         let w : Woken n stray start z = woken_carried n n stray start y z (frame_abort 0x1e y z g)
         (omega (arith, ap (λ i. i.disturbed) g.tally)) (woken_stays n stray start s y first h) in
-        early_stays (At Inspect) n stray start z t last
+        early_stays (At CheckCtrlStat) n stray start z t last
         (clean w (c.write_cleared refl) (awaited_quiet stray z.target (c.sticky_cleared refl) w.any.awaited))
-    give_wipe is (changed place line h) =
+    give_abort is (changed place line h) =
         let (y, z, first, given, last) = data_given AbortWrite (Some place) 0x1e sent s t line (omega arith) range
         (spells 0x1e sent (omega arith) is) gives in
         let g : Spoiled y z = changed_given place AbortWrite 0x1e y z given in
-        early_stays (At Inspect) n stray start z t last
+        early_stays (At CheckCtrlStat) n stray start z t last
         (hurt (woken_carried (n + 1) (n + 1) stray start y z (frame_spoiled y z g)
         (omega (arith, ap (λ i. i.disturbed) g.tally)) (woken_stays (n + 1) stray start s y first h))
         (ap (λ i. i.write_error) g.target))
@@ -147,7 +151,7 @@ module _ (n : ℕ) (stray : Bool) (start : Port) (sent : ℕ) (s t : Port) (rang
 
     pub given_early : (job : Job) (task : Task) (word : ℕ) → word_for job task ≡ Some word → sent ≡ phase_number word
         → EarlyDuring job n stray start s → (job ≡ At Select) ⊎ EarlySent job n stray start t
-    given_early (At Wipe) task word is e h = inr (give_wipe (phase_is word 0x1e is e) h)
+    given_early (At WriteAbort) task word is e h = inr (give_abort (phase_is word 0x1e is e) h)
     given_early (Clear Select owed) task word is e h = inr (give_clear owed (phase_is word (clear_word owed) is e) h)
     given_early (At Select) task word is e h = inl refl
     given_early _ task word is e h = grind arith

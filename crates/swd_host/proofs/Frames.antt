@@ -3,7 +3,8 @@ use Rattle.swd_host.proofs.Words.{◌≡◌, ◌≢◌, ◌+◌, ◌≤◌, ℕ,
 use Rattle.swd_host.proofs.Words.{Option, None, ◌⊎◌, ◌||◌, if◌then◌else◌, PlainMemory, plain_after, Port, Target}
 use Rattle.swd_host.proofs.Words.{Register, DrwRead, AbortWrite, Live, Completes, has_power, is_posted, Seen, Stays}
 use Rattle.swd_host.proofs.Words.{Refuses, Accepts, Passed, Gave, Spoiled, Sent, Flags, access_of, is_block, Ahead}
-use Rattle.swd_host.proofs.Words.{Unsent, NextSent, NextFailed, Place, Powered, Configure, Recall, Configured, Aim}
+use Rattle.swd_host.proofs.Words.{Unsent, NextSent, NextFailed, Place, Powered, Configure, ReadCsw, Configured}
+use Rattle.swd_host.proofs.Words.{WriteTar}
 use Rattle.swd_host.proofs.Words.{Transfer, Confirm, Behind, Job, At, Resend, Status, LastStatus, Clear, Check, Hand}
 use Rattle.swd_host.proofs.Words.{Calm, Has, Sure, Hurt, Facts, Refused, by_damage, by_error, Owes, Checks, cleared}
 use Rattle.swd_host.proofs.Words.{kept, Returned, Resent, Before, Within, IsWithin, within_none, within_first}
@@ -208,9 +209,9 @@ within_next b k s g block h =
 pub has_within : (p : Place) (b : ℕ) (k : Hand) (s : Port) → Has p b k s.target → Within b k s.target
 has_within Powered b k s h = within_idle b k s h.calm.pending h.calm.memory
 has_within Configure b k s h = within_idle b k s h.calm.pending h.calm.memory
-has_within Recall b k s h = within_idle b k s h.up.calm.pending h.up.calm.memory
+has_within ReadCsw b k s h = within_idle b k s h.up.calm.pending h.up.calm.memory
 has_within Configured b k s h = within_idle b k s h.up.calm.pending h.up.calm.memory
-has_within Aim b k s h = within_idle b k s h.up.calm.pending h.up.calm.memory
+has_within WriteTar b k s h = within_idle b k s h.up.calm.pending h.up.calm.memory
 has_within Transfer b k s h = within_idle b k s h.up.calm.pending h.up.calm.memory
 has_within Confirm b k s h = within_sent b k s h.begun h.sent
 has_within Behind b k s h = absurd h

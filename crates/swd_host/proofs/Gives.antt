@@ -2,10 +2,11 @@
 use Rattle.swd_host.proofs.Words.{◌≡◌, ◌≢◌, ◌+◌, ◌^◌, ◌≤◌, ◌<◌, ℕ, Bool, true, false, refl, sym, ap, subst, inl, inr}
 use Rattle.swd_host.proofs.Words.{arith, ◌∙◌, Some, None, low_bits, AccessWrite, Task, Write, BurstWrite, access_of}
 use Rattle.swd_host.proofs.Words.{address, phase_number, Port, Target, Register, AbortWrite, CtrlStatWrite, SelectWrite}
-use Rattle.swd_host.proofs.Words.{CswWrite, TarWrite, DrwWrite, Gives, Gave, Spoiled, Clears, Flags, Place, Wipe}
-use Rattle.swd_host.proofs.Words.{Inspect, Select, Power, Powered, Configure, Recall, Aim, Transfer, Confirm, Job, At}
+use Rattle.swd_host.proofs.Words.{CswWrite, TarWrite, DrwWrite, Gives, Gave, Spoiled, Clears, Flags, Place, WriteAbort}
+use Rattle.swd_host.proofs.Words.{CheckCtrlStat, Select, Power, Powered, Configure, ReadCsw, WriteTar, Transfer}
+use Rattle.swd_host.proofs.Words.{Confirm, Job, At}
 use Rattle.swd_host.proofs.Words.{Clear, Check, clear_word, word_for, word_of_task, confirmed_by, written_by, Hand}
-use Rattle.swd_host.proofs.Words.{IsAimed, Under, Sure, Hurt, Owes, Checks, cleared, kept, Before, During, Transfers}
+use Rattle.swd_host.proofs.Words.{HasTar, Under, Sure, Hurt, Owes, Checks, cleared, kept, Before, During, Transfers}
 use Rattle.swd_host.proofs.Words.{Writes, whole, changed, IsTask}
 use Rattle.swd_bits.specs.Wire.{phase}
 use Rattle.swd_bits.specs.Phases.{IsPhaseOf}
@@ -69,9 +70,11 @@ module _ (n b : ℕ) (k : Hand) (s t : Port) (sent : ℕ) (range : sent < 2 ^ 33
   paid_on : (r : Register) (word : ℕ) → Gave r word s t → n ≤ s.tally.disturbed → n ≤ t.tally.disturbed
   paid_on r word g h = omega (arith, ap (λ i. i.disturbed) g.tally)
 
-  wipe_gave : sent ≡ phase_number 0x1e → Writes AbortWrite n (λ c. Sure Wipe c b k s) s → Before (At Inspect) n b k t
-  wipe_gave is w =
-      gave AbortWrite 0x1e (λ c. Sure Wipe c b k s) (Before (At Inspect) n b k t) (omega arith) is (λ x. absurd (cc))
+  abort_gave : sent ≡ phase_number 0x1e → Writes AbortWrite n (λ c. Sure WriteAbort c b k s) s
+      → Before (At CheckCtrlStat) n b k t
+  abort_gave is w =
+      gave AbortWrite 0x1e (λ c. Sure WriteAbort c b k s) (Before (At CheckCtrlStat) n b k t)
+      (omega arith) is (λ x. absurd (cc))
       (λ c h. h.has.pending) w
       (λ h g. (let clears = flags_cleared 0x1e s t g in
       inl (record {
@@ -80,7 +83,7 @@ module _ (n b : ℕ) (k : Hand) (s t : Port) (sent : ℕ) (range : sent < 2 ^ 33
         flag = λ x. clears.write_cleared refl;
         paid = paid_on AbortWrite 0x1e g h.paid;
       })))
-      (λ h x. inr (hurt_next Inspect Wipe refl x h))
+      (λ h x. inr (hurt_next CheckCtrlStat WriteAbort refl x h))
 
   select_gave : sent ≡ phase_number 0 → Writes SelectWrite n (λ c. Sure Select c b k s) s → Before (At Power) n b k t
   select_gave is w =
@@ -122,9 +125,9 @@ module _ (n b : ℕ) (k : Hand) (s t : Port) (sent : ℕ) (range : sent < 2 ^ 33
       (λ h x. inr (hurt_next Powered Power refl x h))
 
   configure_gave : sent ≡ phase_number 0x2300_0012 → Writes CswWrite n (λ c. Sure Configure c b k s) s
-      → Before (At Recall) n b k t
+      → Before (At ReadCsw) n b k t
   configure_gave is w =
-      gave CswWrite 0x2300_0012 (λ c. Sure Configure c b k s) (Before (At Recall) n b k t) (omega arith) is
+      gave CswWrite 0x2300_0012 (λ c. Sure Configure c b k s) (Before (At ReadCsw) n b k t) (omega arith) is
       (λ x. absurd (cc)) (λ c h. h.has.calm.pending) w
       (λ h g. (let c = h.has.calm in inl (record {
         has = record {
@@ -146,16 +149,16 @@ module _ (n b : ℕ) (k : Hand) (s t : Port) (sent : ℕ) (range : sent < 2 ^ 33
         flag = λ x. ap (λ i. i.write_error) g.target ∙ h.flag refl;
         paid = paid_on CswWrite 0x2300_0012 g h.paid;
       })))
-      (λ h x. inr (hurt_next Recall Configure refl x h))
+      (λ h x. inr (hurt_next ReadCsw Configure refl x h))
 
   -- DRW's request confirms TAR's write
-  aims_back : k.aims ≡ true → confirmed_by Transfer k.task k.aims ≡ Some Aim
+  aims_back : k.aims ≡ true → confirmed_by Transfer k.task k.aims ≡ Some WriteTar
   aims_back aims = rw aims refl
 
-  aim_gave : address (access_of k.task) < 2 ^ 32 → sent ≡ phase_number (address (access_of k.task))
-      → Writes TarWrite n (λ c. Sure Aim c b k s) s → Before (At Transfer) n b k t
-  aim_gave small is w =
-      gave TarWrite (address (access_of k.task)) (λ c. Sure Aim c b k s) (Before (At Transfer) n b k t) small is
+  write_tar_gave : address (access_of k.task) < 2 ^ 32 → sent ≡ phase_number (address (access_of k.task))
+      → Writes TarWrite n (λ c. Sure WriteTar c b k s) s → Before (At Transfer) n b k t
+  write_tar_gave small is w =
+      gave TarWrite (address (access_of k.task)) (λ c. Sure WriteTar c b k s) (Before (At Transfer) n b k t) small is
       (λ x. absurd (cc)) (λ c h. h.has.up.calm.pending) w
       (λ h g. (let c = h.has.up.calm in inl (record {
         has = record {
@@ -177,11 +180,11 @@ module _ (n b : ℕ) (k : Hand) (s t : Port) (sent : ℕ) (range : sent < 2 ^ 33
         flag = λ x. ap (λ i. i.write_error) g.target ∙ h.flag refl;
         paid = paid_on TarWrite (address (access_of k.task)) g h.paid;
       })))
-      (λ h x. inr (hurt_next Transfer Aim (aims_back h.has.aims) x h))
+      (λ h x. inr (hurt_next Transfer WriteTar (aims_back h.has.aims) x h))
 
   -- A WRITE OF DRW
   drw_under : (word : ℕ) (y : Port) → access_of k.task ≡ AccessWrite (address (access_of k.task)) word → 1 ≤ b
-      → IsAimed k s.target → Gave DrwWrite word s y → Under b k y.target
+      → HasTar k s.target → Gave DrwWrite word s y → Under b k y.target
   drw_under word y is begun h g = grind arith
 
   drw_gave : (word : ℕ) → word < 2 ^ 32 → access_of k.task ≡ AccessWrite (address (access_of k.task)) word
@@ -239,11 +242,11 @@ module _ (n b : ℕ) (k : Hand) (s t : Port) (sent : ℕ) (range : sent < 2 ^ 33
 
   pub job_gave : (job : Job) (word : ℕ) → word_for job k.task ≡ Some word → sent ≡ phase_number word → IsTask k.task
       → During job n b k s → WasSent job n b k t
-  job_gave (At Wipe) word is e ok h = wipe_gave (phase_is word 0x1e is e) h
+  job_gave (At WriteAbort) word is e ok h = abort_gave (phase_is word 0x1e is e) h
   job_gave (At Select) word is e ok h = select_gave (phase_is word 0 is e) h
   job_gave (At Power) word is e ok h = power_gave (phase_is word 0x5000_0000 is e) h
   job_gave (At Configure) word is e ok h = configure_gave (phase_is word 0x2300_0012 is e) h
-  job_gave (At Aim) word is e ok h = aim_gave (address_small k.task ok) (phase_is word
+  job_gave (At WriteTar) word is e ok h = write_tar_gave (address_small k.task ok) (phase_is word
       (address (access_of k.task)) is e) h
   job_gave (At Transfer) word is e ok h = transfer_gave k.task word refl ok is e h
   job_gave (Clear p owed) word is e ok h = clear_gave p owed (phase_is word (clear_word owed) is e) h

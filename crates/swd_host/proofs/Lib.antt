@@ -28,7 +28,7 @@ mod Performing
 mod Openings
 mod Opened
 mod Alone
-mod Outsides
+pub mod Outsides
 mod Blocked
 mod Runs
 pub mod Chains

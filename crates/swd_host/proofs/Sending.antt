@@ -3,7 +3,7 @@ use Rattle.swd_host.proofs.Words.{◌≡◌, ◌+◌, ◌≤◌, ◌==◌, ◌++
 use Rattle.swd_host.proofs.Words.{inl, inr, arith, ◌∙◌, ◌⊎◌, List, length, Option, Some, None, if◌then◌else◌}
 use Rattle.swd_host.proofs.Words.{word_in, phase_number, Answered, Stopped, Task, Job, Ask, Data, Waited}
 use Rattle.swd_host.proofs.Words.{State, Doing, Resting, Ahead, Unsent, NextSent, NextFailed, Place, Flags, Lost}
-use Rattle.swd_host.proofs.Words.{At, Check, Clear, LastStatus, Resend, Status, Aim, Behind, Confirm, Transfer}
+use Rattle.swd_host.proofs.Words.{At, Check, Clear, LastStatus, Resend, Status, WriteTar, Behind, Confirm, Transfer}
 use Rattle.swd_host.proofs.Words.{word_for, begins, confirmed_by, is_ahead_at, is_job_of, flags_in, state_seen}
 use Rattle.swd_host.proofs.Words.{not, is_read, is_block, access_of, Access, Answer, Request, ◌&&◌, ◌||◌, Engine}
 use Rattle.swd_host.proofs.Words.{is_state_of}
@@ -228,7 +228,7 @@ module _ (list : List Access) (answers : List Answer) where
       → is_job_of false job ≡ true → awaits_data (call ∷ calls) ≡ false
       → Stood list answers b (refused_stage job task) (call ∷ calls)
       → KnowsAt list answers (faulted_to job task) task (begun_left (faulted_to job task) task b) ahead (call ∷ calls)
-  faulted_at (At Aim) task b ahead call calls on none h = again_between (Status Aim) task b call calls _
+  faulted_at (At WriteTar) task b ahead call calls on none h = again_between (Status WriteTar) task b call calls _
       (λ s c f i. i) none h
   faulted_at (At Transfer) task b ahead call calls on none h =
       again_between (Status Transfer) task b call calls _ (λ s c f i. i) none h
@@ -287,7 +287,7 @@ module _ (list : List Access) (answers : List Answer) where
       → Stood list answers b (data_stage job task) (okay (register_for job task) ∷ earlier) → GoesTo (written_to job) x
       → KnowsAt list answers x task (begun_left x task b) ahead
       (record { cue = Give (phase_number word); seen = v } ∷ okay (register_for job task) ∷ earlier)
-  given_at (At Aim) task b word v ahead earlier x here on is begun h goes =
+  given_at (At WriteTar) task b word v ahead earlier x here on is begun h goes =
       goes_job x (At Transfer) task b ahead _ goes
       (again_between (At Transfer) task b _ _ _ (λ s c f i. i) refl (stood_other b _ _ _ refl refl h))
   given_at (At Transfer) (TaskWrite at w) b word v ahead earlier x here on is begun h goes =
@@ -553,9 +553,10 @@ module _ (list : List Access) (answers : List Answer) where
       (is_read task) ahead earlier x refl refl is h goes
   taken_status Behind task aims b v (Some word) ahead earlier x on is h goes =
       status_behind task b v word (holds 0x20 word) (holds 0x80 word) ahead earlier x refl is h goes
-  taken_status Aim task aims b v (Some word) ahead earlier x on is h goes =
-      goes_job x (Clear Aim (flags_in word)) task b ahead _ goes
-      (again_between (Clear Aim (flags_in word)) task b _ _ _ (λ s c f i. i) refl (stood_other b _ _ _ refl refl h))
+  taken_status WriteTar task aims b v (Some word) ahead earlier x on is h goes =
+      goes_job x (Clear WriteTar (flags_in word)) task b ahead _ goes
+      (again_between (Clear WriteTar (flags_in word)) task b _ _ _ (λ s c f i. i)
+      refl (stood_other b _ _ _ refl refl h))
   taken_status Transfer task aims b v (Some word) ahead earlier x on is h goes =
       goes_job x (Clear Transfer (flags_in word)) task b ahead _ goes
       (again_between (Clear Transfer (flags_in word)) task b _ _ _ (λ s c f i. i) refl
@@ -654,12 +655,13 @@ module _ (list : List Access) (answers : List Answer) where
       goes rests
   taken_check Behind owed task aims b v (Some word) ahead earlier x here on h goes rests =
       checked_behind task aims b v (holds 0x20 word || holds 0x80 word) owed.error owed.damaged ahead earlier x h goes
-  taken_check Aim owed task aims b v (Some word) ahead earlier x here on h goes rests =
-      checked_early Aim task aims b v (holds 0x20 word || holds 0x80 word) owed.error ahead earlier x Aim Aim h
+  taken_check WriteTar owed task aims b v (Some word) ahead earlier x here on h goes rests =
+      checked_early WriteTar task aims b v (holds 0x20 word || holds 0x80 word) owed.error ahead earlier x
+      WriteTar WriteTar h
       (λ s c f i. i) (λ s c f i. i) (λ s c f i. i) goes
   taken_check Transfer owed task true b v (Some word) ahead earlier x here on h goes rests =
       checked_early Transfer task true b v
-      (holds 0x20 word || holds 0x80 word) owed.error ahead earlier x Transfer Aim h
+      (holds 0x20 word || holds 0x80 word) owed.error ahead earlier x Transfer WriteTar h
       (λ s c f i. i) (λ s c f i. i) (λ s c f i. i) goes
   taken_check Transfer owed task false b v (Some word) ahead earlier x here on h goes rests =
       checked_early Transfer task false b v (holds 0x20 word || holds 0x80 word) owed.error ahead earlier x Transfer
@@ -673,7 +675,7 @@ module _ (list : List Access) (answers : List Answer) where
       → GoesTo (read_to job word task aims) x → RestsWith (ahead_to job task) x ahead
       → KnowsAt list answers x task (begun_left x task b) ahead
       (record { cue = Take; seen = v } ∷ okay (register_for job task) ∷ earlier)
-  taken_at (At Aim) task aims b v word ahead earlier x here on reads apart begun is h goes rests = absurd (cc)
+  taken_at (At WriteTar) task aims b v word ahead earlier x here on reads apart begun is h goes rests = absurd (cc)
   taken_at (At Transfer) (TaskRead at) aims b v None ahead earlier x here on reads apart begun is h goes rests =
       goes_job x (At Confirm) (TaskRead at) b ahead _ goes (again_between (At Confirm) (TaskRead at) b _ _ _
       (λ s c f i. i) refl (sent_here b (TaskRead at) earlier _ _ here begun (refl, refl) h))
@@ -695,10 +697,10 @@ module _ (list : List Access) (answers : List Answer) where
       taken_resend task aims b v word ahead earlier x here is h goes rests
   taken_at (Resend Behind) task aims b v word ahead earlier x here on reads apart begun is h goes rests =
       taken_behind task aims b v word ahead earlier x here is h goes rests
-  taken_at (Resend Aim) task aims b v None ahead earlier x here on reads apart begun is h goes rests =
-      goes_job x (Resend Aim) task b ahead _ goes
-      (again_between (Resend Aim) task b _ _ _ (λ s c f i. i) refl (stood_other b _ _ _ refl refl h))
-  taken_at (Resend Aim) task aims b v (Some word) ahead earlier x here on reads apart begun is h goes rests =
+  taken_at (Resend WriteTar) task aims b v None ahead earlier x here on reads apart begun is h goes rests =
+      goes_job x (Resend WriteTar) task b ahead _ goes
+      (again_between (Resend WriteTar) task b _ _ _ (λ s c f i. i) refl (stood_other b _ _ _ refl refl h))
+  taken_at (Resend WriteTar) task aims b v (Some word) ahead earlier x here on reads apart begun is h goes rests =
       goes_stopped x task b ahead _ _ goes (stood_other b _ _ _ refl refl h)
   taken_at (Resend Transfer) task aims b v None ahead earlier x here on reads apart begun is h goes rests =
       goes_job x (Resend Transfer) task b ahead _ goes

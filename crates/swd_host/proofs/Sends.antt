@@ -1,8 +1,9 @@
 -- Every request keeps what the engine knows.
 use Rattle.swd_host.proofs.Words.{◌≡◌, ◌≤◌, ℕ, Bool, false, refl, sym, ap, subst, inl, inr, arith, ◌∙◌, None, max, Task}
 use Rattle.swd_host.proofs.Words.{BurstRead, PlainMemory, Port, CtrlStatWrite, SelectWrite, CswWrite, TarWrite, Live}
-use Rattle.swd_host.proofs.Words.{Asks, Flags, Place, Identify, Wipe, Inspect, Select, Power, Powered, Configure}
-use Rattle.swd_host.proofs.Words.{Recall, Configured, Aim, Transfer, Confirm, Behind, Job, At, Resend, Status}
+use Rattle.swd_host.proofs.Words.{Asks, Flags, Place, Identify, WriteAbort, CheckCtrlStat, Select, Power, Powered}
+use Rattle.swd_host.proofs.Words.{Configure}
+use Rattle.swd_host.proofs.Words.{ReadCsw, Configured, WriteTar, Transfer, Confirm, Behind, Job, At, Resend, Status}
 use Rattle.swd_host.proofs.Words.{LastStatus, Clear, Check, request_for, begins, begins_next, Hand, Saw, Counted}
 use Rattle.swd_host.proofs.Words.{no_select, Calm, Sure, Hurt, Broken, Facts, Refused, Owes, Checks, Before, During}
 use Rattle.swd_host.proofs.Words.{Says, is_block, BusErrorOf, IsTask, is_confirm}
@@ -11,8 +12,8 @@ use Rattle.swd_port.proofs.CallLaws.{request_counted}
 use Rattle.swd_host.proofs.Frames.{owes_framed, has_debug}
 use Rattle.swd_host.proofs.Asked.{Came, status, status_asked, power_asked, abort_asked}
 use Rattle.swd_host.proofs.Transfers.{drw_asked, confirm_asked}
-use Rattle.swd_host.proofs.Asks.{hurt_calm, spoilt_calm, hurt_asked, write_asked, wipe_asked, identify_asked}
-use Rattle.swd_host.proofs.Asks.{recall_asked, configured_asked}
+use Rattle.swd_host.proofs.Asks.{hurt_calm, spoilt_calm, hurt_asked, write_asked, write_abort_asked, identify_asked}
+use Rattle.swd_host.proofs.Asks.{read_csw_asked, configured_asked}
 use Rattle.swd_host.proofs.Blocks.{next_asked, resend_asked}
 
 -- AT REST
@@ -39,8 +40,8 @@ refused_rest p n b k s h = grind (arith, bus_error_rest, calm_rest, hurt_calm)
 pub checks_rest : (p : Place) (owed : Flags) (n b : ℕ) (k : Hand) (s : Port) → Checks p owed n b k s → AtRest s
 checks_rest p owed n b k s h = grind (arith, facts_rest)
 
-pub inspect_rest : (n b : ℕ) (k : Hand) (s : Port) → Before (At Inspect) n b k s → AtRest s
-inspect_rest n b k s h = grind (arith, calm_rest, hurt_calm)
+pub ctrl_stat_rest : (n b : ℕ) (k : Hand) (s : Port) → Before (At CheckCtrlStat) n b k s → AtRest s
+ctrl_stat_rest n b k s h = grind (arith, calm_rest, hurt_calm)
 
 pub powered_rest : (n b : ℕ) (k : Hand) (s : Port) → Before (At Powered) n b k s → AtRest s
 powered_rest n b k s h = grind (arith, calm_rest, hurt_calm)
@@ -77,8 +78,9 @@ module _ (n : ℕ) (base : Counted) (b : ℕ) (k : Hand) (v : ℕ) (s t : Port) 
   plain_asked : (p : Place) → Sure p n b k s → Asks s (request_for (At p) k.task) v t
       → begins (At p) k.task ≡ 0 → is_confirm p ≡ false → Came (At p) n base b k v t
   plain_asked Identify h asks none other = identify_asked n base b k v s t l h asks
-  plain_asked Wipe h asks none other = wipe_asked n base b k v s t l h asks
-  plain_asked Inspect h asks none other = says_asked (At Inspect) (inspect_rest n b k s (inl h)) (inl h) asks (λ x. x)
+  plain_asked WriteAbort h asks none other = write_abort_asked n base b k v s t l h asks
+  plain_asked CheckCtrlStat h asks none other =
+      says_asked (At CheckCtrlStat) (ctrl_stat_rest n b k s (inl h)) (inl h) asks (λ x. x)
   plain_asked Select h asks none other = write_asked Select n base b b k v s t SelectWrite refl refl refl refl refl refl
       (λ e. absurd (cc)) (omega arith) h.has (λ e. absurd (cc)) l h asks (λ w. w)
   plain_asked Power h asks none other = write_asked Power n base b b k v s t CtrlStatWrite refl refl refl refl refl refl
@@ -87,9 +89,10 @@ module _ (n : ℕ) (base : Counted) (b : ℕ) (k : Hand) (v : ℕ) (s t : Port) 
   plain_asked Configure h asks none other = write_asked Configure n base b b k v s t CswWrite refl refl refl refl
       refl refl
       (λ e. absurd (cc)) (omega arith) h.has.calm (λ e. has_debug s.target h.has.debug h.has.seen) l h asks (λ w. w)
-  plain_asked Recall h asks none other = recall_asked n base b k v s t l h asks
+  plain_asked ReadCsw h asks none other = read_csw_asked n base b k v s t l h asks
   plain_asked Configured h asks none other = configured_asked n base b k v s t l h asks
-  plain_asked Aim h asks none other = write_asked Aim n base b b k v s t TarWrite refl refl refl refl refl refl
+  plain_asked WriteTar h asks none other =
+      write_asked WriteTar n base b b k v s t TarWrite refl refl refl refl refl refl
       (λ e. absurd (cc)) (omega arith) h.has.up.calm (λ e. has_debug s.target h.has.up.debug h.has.up.seen) l h asks
       (λ w. w)
   plain_asked _ h asks none other = grind arith
@@ -100,25 +103,26 @@ module _ (n : ℕ) (base : Counted) (b : ℕ) (k : Hand) (v : ℕ) (s t : Port) 
       drw_asked k.task n base b (max b 1) k v s t refl (le-max_left b 1) (le-max_right b 1) l h asks
   sure_asked Confirm h asks = confirm_sent k.task n base b k v s t refl ok l h asks
   sure_asked Identify h asks = came_same (At Identify) n base b k v t (plain_asked Identify h asks refl refl)
-  sure_asked Wipe h asks = came_same (At Wipe) n base b k v t (plain_asked Wipe h asks refl refl)
-  sure_asked Inspect h asks = came_same (At Inspect) n base b k v t (plain_asked Inspect h asks refl refl)
+  sure_asked WriteAbort h asks = came_same (At WriteAbort) n base b k v t (plain_asked WriteAbort h asks refl refl)
+  sure_asked CheckCtrlStat h asks =
+      came_same (At CheckCtrlStat) n base b k v t (plain_asked CheckCtrlStat h asks refl refl)
   sure_asked Select h asks = came_same (At Select) n base b k v t (plain_asked Select h asks refl refl)
   sure_asked Power h asks = came_same (At Power) n base b k v t (plain_asked Power h asks refl refl)
   sure_asked Powered h asks = came_same (At Powered) n base b k v t (plain_asked Powered h asks refl refl)
   sure_asked Configure h asks = came_same (At Configure) n base b k v t (plain_asked Configure h asks refl refl)
-  sure_asked Recall h asks = came_same (At Recall) n base b k v t (plain_asked Recall h asks refl refl)
+  sure_asked ReadCsw h asks = came_same (At ReadCsw) n base b k v t (plain_asked ReadCsw h asks refl refl)
   sure_asked Configured h asks = came_same (At Configured) n base b k v t (plain_asked Configured h asks refl refl)
-  sure_asked Aim h asks = came_same (At Aim) n base b k v t (plain_asked Aim h asks refl refl)
+  sure_asked WriteTar h asks = came_same (At WriteTar) n base b k v t (plain_asked WriteTar h asks refl refl)
   sure_asked Behind h asks = absurd h.has
 
   -- a request that meets the damage of the write before
   place_hurt : (p : Place) → Hurt p n b k s → Asks s (request_for (At p) k.task) v t
       → Came (At p) n base (max b (begins (At p) k.task)) k v t
-  place_hurt Inspect h asks = came_same (At Inspect) n base b k v t
-      (says_asked (At Inspect) (inspect_rest n b k s (inr h)) (inr h) asks (λ x. x))
+  place_hurt CheckCtrlStat h asks = came_same (At CheckCtrlStat) n base b k v t
+      (says_asked (At CheckCtrlStat) (ctrl_stat_rest n b k s (inr h)) (inr h) asks (λ x. x))
   place_hurt Powered h asks = came_same (At Powered) n base b k v t (powers_asked (inr h) asks)
   place_hurt Power h asks = hurt_asked Power n base b (max b 0) k v s t refl (le-max_left b 0) l h asks
-  place_hurt Recall h asks = hurt_asked Recall n base b (max b 0) k v s t refl (le-max_left b 0) l h asks
+  place_hurt ReadCsw h asks = hurt_asked ReadCsw n base b (max b 0) k v s t refl (le-max_left b 0) l h asks
   place_hurt Transfer h asks = hurt_asked Transfer n base b (max b 1) k v s t refl (le-max_left b 1) l h asks
   place_hurt Confirm h asks =
       hurt_asked Confirm n base b (max b (begins_next k.task)) k v s t refl (le-max_left b

@@ -1,7 +1,8 @@
 -- What a data phase that was read tells the engine.
 use Rattle.swd_host.proofs.Words.{◌≡◌, ◌≢◌, ◌+◌, ◌%◌, ◌^◌, ◌<◌, ℕ, Bool, false, sym, ap, subst, inl, arith, ◌∙◌, Option}
 use Rattle.swd_host.proofs.Words.{Some, None, Task, Read, BurstRead, Write, BurstWrite, word_in, Port, Reset, Unreset}
-use Rattle.swd_host.proofs.Words.{Live, Takes, Flags, Place, Identify, Inspect, Powered, Recall, Configured, Transfer}
+use Rattle.swd_host.proofs.Words.{Live, Takes, Flags, Place, Identify, CheckCtrlStat, Powered, ReadCsw, Configured}
+use Rattle.swd_host.proofs.Words.{Transfer}
 use Rattle.swd_host.proofs.Words.{Confirm, Job, At, Resend, Status, Check, word_for, word_of_task, is_burst_write}
 use Rattle.swd_host.proofs.Words.{is_ahead_at, Data, is_powered, Hand, Sure, Resent, Before, During, Transfers}
 use Rattle.swd_host.proofs.Words.{Confirms, Confirmed, HasAsked, SaysPower, Says, Tells, Reads, whole, changed, Awake}
@@ -10,7 +11,7 @@ use Rattle.swd_port.specs.Moves.{Got, whole as got_whole, damaged as got_damaged
 use Rattle.swd_port.proofs.MovingLaws.{data_taken, take_moves_nothing}
 use Rattle.swd_host.proofs.Frames.{Frame, Same, frame_passed, same_passed, calm_framed, resent_framed, before_framed}
 use Rattle.swd_host.proofs.Blocks.{resent_stays}
-use Rattle.swd_host.proofs.Sends.{refused_rest, checks_rest, inspect_rest, powered_rest}
+use Rattle.swd_host.proofs.Sends.{refused_rest, checks_rest, ctrl_stat_rest, powered_rest}
 
 pub got_whole_of : (word bits : ℕ) → Got None word bits → word_in bits ≡ Some word
 got_whole_of word bits (got_whole e i h) = h
@@ -113,8 +114,8 @@ module _ (n b : ℕ) (k : Hand) (s t : Port) (bits : ℕ) (range : bits < 2 ^ 33
       (omega (arith, ap (λ i. i.disturbed) passed.tally)) p word (resent_stays p word c b k s x first h)) (good word)
       (λ h. bad (word, h))
 
-  recall_facts : Sure Configured n b k s → Sure Configured n b k t
-  recall_facts h = grind arith
+  read_csw_facts : Sure Configured n b k s → Sure Configured n b k t
+  read_csw_facts h = grind arith
 
   drw_facts : Sure Confirm n b k s → Sure Confirm n b k t
   drw_facts h = grind arith
@@ -134,8 +135,8 @@ module _ (n b : ℕ) (k : Hand) (s t : Port) (bits : ℕ) (range : bits < 2 ^ 33
   awake_pending (whole line small h) = h.calm.pending
   awake_pending (changed place line small h) = h.calm.pending
 
-  inspect_pending : (word : ℕ) → Reads word n (λ c. Before (At Inspect) c b k s) s → s.target.pending ≡ None
-  inspect_pending word h = grind (arith, inspect_rest)
+  ctrl_stat_pending : (word : ℕ) → Reads word n (λ c. Before (At CheckCtrlStat) c b k s) s → s.target.pending ≡ None
+  ctrl_stat_pending word h = grind (arith, ctrl_stat_rest)
 
   status_pending : (p : Place) (word : ℕ) → Reads word n (λ c. Before (Status p) c b k s) s → s.target.pending ≡ None
   status_pending p word h = grind (arith, refused_rest)
@@ -150,10 +151,10 @@ module _ (n b : ℕ) (k : Hand) (s t : Port) (bits : ℕ) (range : bits < 2 ^ 33
   pub taken_facts : (job : Job) → word_for job k.task ≡ None → is_ahead_at job Data k.task ≡ false
       → During job n b k s → TakenFor job (word_in bits) n b k t
   taken_facts (At Identify) e none h = identify_facts h (awake_pending h)
-  taken_facts (At Inspect) e none h = says_facts (At Inspect) (inspect_pending h.0 h.2) h
-      (λ w. TookAt Inspect w n b k t) (λ w x y. (x, y)) (λ x. x)
+  taken_facts (At CheckCtrlStat) e none h = says_facts (At CheckCtrlStat) (ctrl_stat_pending h.0 h.2) h
+      (λ w. TookAt CheckCtrlStat w n b k t) (λ w x y. (x, y)) (λ x. x)
   taken_facts (At Powered) e none h = power_facts h
-  taken_facts (At Recall) e none h = recall_facts h
+  taken_facts (At ReadCsw) e none h = read_csw_facts h
   taken_facts (At Configured) e none h = resent_facts Configured h.0 h.1
       (λ w. TookAt Configured w n b k t) (λ w x. x) (λ x. x)
   taken_facts (At Transfer) e none h = transfers_facts k.task e h

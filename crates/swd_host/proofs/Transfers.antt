@@ -5,7 +5,7 @@ use Rattle.swd_host.proofs.Words.{BurstWrite, access_of, is_block, Value, plain_
 use Rattle.swd_host.proofs.Words.{register, Register, RdbuffRead, DrwRead, DrwWrite, Completes, Asks, has_power}
 use Rattle.swd_host.proofs.Words.{pending_once_read, Drw, Stays, Accepts, Refuses, Spares, okay, wait, lost, Sent}
 use Rattle.swd_host.proofs.Words.{Succeeded, Buffered, Transfer, Confirm, Job, At, request_for, drw_register}
-use Rattle.swd_host.proofs.Words.{confirming_register, Hand, Counted, Up, IsAimed, Under, Sure, Broken, Refused}
+use Rattle.swd_host.proofs.Words.{confirming_register, Hand, Counted, Up, HasTar, Under, Sure, Broken, Refused}
 use Rattle.swd_host.proofs.Words.{by_error, Done, Resent, During, Transfers, Confirms, Confirmed, FaultedAt, Within}
 use Rattle.swd_host.proofs.Words.{Writes, Waiting, own_error, DoneBy, ahead_of}
 use Rattle.swd_port.specs.Port.{request_of}
@@ -25,12 +25,12 @@ use Rattle.swd_host.proofs.Asks.{register_there, not_exempt, write_asked}
 pub under_stays : (b : ℕ) (k : Hand) (s t : Port) → Completes s t → Under b k s.target → Under b k t.target
 under_stays b k s t c h = grind arith
 
-read_sent : (k : Hand) (at : ℕ) (flip : Option ℕ) (s y : Port) → access_of k.task ≡ AccessRead at → IsAimed k s.target
+read_sent : (k : Hand) (at : ℕ) (flip : Option ℕ) (s y : Port) → access_of k.task ≡ AccessRead at → HasTar k s.target
     → Accepts DrwRead true flip s y → Sent (access_of k.task) k.memory y.target
 read_sent k at flip s y e h a = grind arith
 
 read_under : (b : ℕ) (k : Hand) (at : ℕ) (flip : Option ℕ) (s y : Port) → 1 ≤ b → access_of k.task ≡ AccessRead at
-    → IsAimed k s.target → Accepts DrwRead true flip s y → Under b k y.target
+    → HasTar k s.target → Accepts DrwRead true flip s y → Under b k y.target
 read_under b k at flip s y some e h a = grind arith
 
 pub under_sure : (n n' b : ℕ) (k : Hand) (s y t : Port) → Under b k y.target → Completes y t
@@ -38,7 +38,7 @@ pub under_sure : (n n' b : ℕ) (k : Hand) (s y t : Port) → Under b k y.target
 under_sure n n' b k s y t h c flag paid = grind arith
 
 lost_read : (b c : ℕ) (k : Hand) (at : ℕ) (s y t : Port) → 1 ≤ c → access_of k.task ≡ AccessRead at
-    → IsAimed k s.target → Completes y t → Stays s y ⊎ Accepts DrwRead true None s y → Within c k t.target
+    → HasTar k s.target → Completes y t → Stays s y ⊎ Accepts DrwRead true None s y → Within c k t.target
 lost_read b c k at s y t some e h last (inl w) =
     within_stays c k y t last (within_carried 0 c k s y (omega arith) (ap (λ i. i.pending) w.target)
     (ap (λ i. i.tar) w.target) (ap (λ i. i.memory) w.target)

@@ -12,7 +12,7 @@ pub use Rattle.swd_host.specs.Addresses.{continues}
 pub use Rattle.swd_host.specs.Again.{Again, AllBelow, HasRoom, IsAfter, repeated, times}
 pub use Rattle.swd_host.specs.Early.{Anywhere, clean, Cleared, Clearing, ComesFrom, early, Early, EarlyBefore}
 pub use Rattle.swd_host.specs.Early.{EarlyDuring, EarlySaw, EarlyTaken, EarlyTold, Glimpsed, gone, hurt, IsEarly}
-pub use Rattle.swd_host.specs.Early.{IsOver, Met, over, Resettled, Resumes, Settled, Shows, still, Wiped, Woken}
+pub use Rattle.swd_host.specs.Early.{IsOver, Met, over, Resettled, Resumes, Settled, Shows, still, AbortWritten, Woken}
 pub use Rattle.swd_host.specs.Engines.{begun_of, cue_of, finished_at, finished_of, is_ahead, is_ahead_at, is_ahead_in}
 pub use Rattle.swd_host.specs.Engines.{is_resting, job_in, may_start, one_more}
 pub use Rattle.swd_host.specs.Fields.{fields_of}
@@ -33,7 +33,7 @@ pub use Rattle.swd_host.specs.Tasks.{task_for}
 pub use Rattle.swd_host.specs.Tracks.{ahead_of, AheadAt, Awake, Before, Broken, BusErrorOf, by_damage, by_error, Calm}
 pub use Rattle.swd_host.specs.Tracks.{changed, Checks, cleared, Confirmed, Confirms, ConfirmTook, Counted, Done, DoneBy}
 pub use Rattle.swd_host.specs.Tracks.{due_of, DueAt, DueFits, During, Facts, FaultedAt, Follows, Hand, hand_of, Has}
-pub use Rattle.swd_host.specs.Tracks.{HasAsked, Hurt, IsAimed, IsKnownAt, IsReady, IsTask, IsWithin, kept, Left}
+pub use Rattle.swd_host.specs.Tracks.{HasAsked, Hurt, HasTar, IsKnownAt, IsReady, IsTask, IsWithin, kept, Left}
 pub use Rattle.swd_host.specs.Tracks.{memory_once_done, next_error, next_hand, next_read, Owes, own_error, Reads}
 pub use Rattle.swd_host.specs.Tracks.{Refused, Resent, Returned, Saw, Says, SaysPower, state_seen, Sure, TakenFor}
 pub use Rattle.swd_host.specs.Tracks.{Tells, TookAt, Tracks, TracksEngine, Transfers, Under, Up, Waiting, whole, Within}
@@ -55,9 +55,11 @@ pub use Rattle.swd_host.specs.declared.outcome.Outcome.TheVariants.{Answered, Op
 pub use Rattle.swd_host.specs.declared.request.Job.{Job}
 pub use Rattle.swd_host.specs.declared.request.Job.TheVariants.{At, Check, Clear, LastStatus, Resend, Status}
 pub use Rattle.swd_host.specs.declared.request.Place.{Place}
-pub use Rattle.swd_host.specs.declared.request.Place.TheVariants.{Aim, Behind, Configure, Configured, Confirm, Identify}
-pub use Rattle.swd_host.specs.declared.request.Place.TheVariants.{Inspect, Power, Powered, Recall, Select, Transfer}
-pub use Rattle.swd_host.specs.declared.request.Place.TheVariants.{Wipe}
+pub use Rattle.swd_host.specs.declared.request.Place.TheVariants.{WriteTar, Behind, Configure, Configured}
+pub use Rattle.swd_host.specs.declared.request.Place.TheVariants.{Confirm, Identify}
+pub use Rattle.swd_host.specs.declared.request.Place.TheVariants.{CheckCtrlStat, Power, Powered, ReadCsw}
+pub use Rattle.swd_host.specs.declared.request.Place.TheVariants.{Select, Transfer}
+pub use Rattle.swd_host.specs.declared.request.Place.TheVariants.{WriteAbort}
 pub use Rattle.swd_host.specs.declared.task.Bursts.{Bursts}
 pub use Rattle.swd_host.specs.declared.task.Task.{Task}
 pub use Rattle.swd_host.specs.declared.task.Task.TheVariants.{BurstRead, BurstWrite, Read, Write}

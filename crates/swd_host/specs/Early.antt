@@ -11,7 +11,7 @@ use Rattle.swd_host.specs.declared.flags.Flags.{Flags}
 use Rattle.swd_host.specs.declared.outcome.End.{End}
 use Rattle.swd_host.specs.declared.outcome.End.TheVariants.{Lost, TriesOut}
 use Rattle.swd_host.specs.declared.outcome.Outcome.TheVariants.{Stopped}
-use Rattle.swd_host.specs.declared.request.Place.TheVariants.{Identify, Wipe, Inspect, Select}
+use Rattle.swd_host.specs.declared.request.Place.TheVariants.{Identify, WriteAbort, CheckCtrlStat, Select}
 use Rattle.swd_host.specs.declared.request.Job.{Job}
 use Rattle.swd_host.specs.declared.request.Job.TheVariants.{At, Status, Clear, Check}
 use Rattle.swd_host.specs.declared.engine.Phase.TheVariants.{Ask, Data, Waited, Faulted}
@@ -74,12 +74,12 @@ pub record Woken (n : ℕ) (stray : Bool) (start s : Port) : Type 0 where
 
 -- ABORT was written: WDATAERR is clear, and so is STICKYERR unless the transfer set it after that; or ABORT's data was
 -- corrupted
-pub data Wiped (n : ℕ) (stray : Bool) (start s : Port) : Type 0 where
-  clean : Woken n stray start s → s.target.write_error ≡ false → Quiet stray s.target → Wiped n stray start s
-  hurt : Woken (n + 1) stray start s → s.target.write_error ≡ true → Wiped n stray start s
+pub data AbortWritten (n : ℕ) (stray : Bool) (start s : Port) : Type 0 where
+  clean : Woken n stray start s → s.target.write_error ≡ false → Quiet stray s.target → AbortWritten n stray start s
+  hurt : Woken (n + 1) stray start s → s.target.write_error ≡ true → AbortWritten n stray start s
 
 -- CTRL/STAT showed that
-pub record Inspected (n : ℕ) (stray : Bool) (start s : Port) : Type 0 where
+pub record CtrlStatChecked (n : ℕ) (stray : Bool) (start s : Port) : Type 0 where
   pub woken : Woken n stray start s
   pub flag : s.target.write_error ≡ false
   pub quiet : Quiet stray s.target
@@ -110,9 +110,9 @@ pub data Cleared (owed : Flags) (n : ℕ) (stray : Bool) (start s : Port) : Type
 -- what holds before a request; no other requests are sent that early
 abbrev pub EarlyBefore : Job → ℕ → Bool → Port → Port → Type 0
 EarlyBefore (At Identify) n stray start s = Resettled n stray start s
-EarlyBefore (At Wipe) n stray start s = Woken n stray start s
-EarlyBefore (At Inspect) n stray start s = Wiped n stray start s
-EarlyBefore (At Select) n stray start s = Inspected n stray start s
+EarlyBefore (At WriteAbort) n stray start s = Woken n stray start s
+EarlyBefore (At CheckCtrlStat) n stray start s = AbortWritten n stray start s
+EarlyBefore (At Select) n stray start s = CtrlStatChecked n stray start s
 EarlyBefore (Status Select) n stray start s = Met n stray start s
 EarlyBefore (Clear Select owed) n stray start s = Clearing owed n stray start s
 EarlyBefore (Check Select owed) n stray start s = Cleared owed n stray start s
@@ -132,9 +132,9 @@ pub record IsOver (n : ℕ) (start s : Port) : Type 0 where
 -- what holds before a data phase
 abbrev pub EarlyDuring : Job → ℕ → Bool → Port → Port → Type 0
 EarlyDuring (At Identify) n stray start s = Reads s.target.identification n (λ c. Woken c stray start s) s
-EarlyDuring (At Wipe) n stray start s = Writes AbortWrite n (λ c. Woken c stray start s) s
-EarlyDuring (At Inspect) n stray start s =
-    (word : ℕ) × Glimpsed (flags_in word) stray s.target × Reads word n (λ c. Wiped c stray start s) s
+EarlyDuring (At WriteAbort) n stray start s = Writes AbortWrite n (λ c. Woken c stray start s) s
+EarlyDuring (At CheckCtrlStat) n stray start s =
+    (word : ℕ) × Glimpsed (flags_in word) stray s.target × Reads word n (λ c. AbortWritten c stray start s) s
 EarlyDuring (At Select) n stray start s = IsOver n start s
 EarlyDuring (Status Select) n stray start s =
     (word : ℕ) × Shows (flags_in word) s.target × Reads word n (λ c. Met c stray start s) s
@@ -145,7 +145,7 @@ EarlyDuring job n stray start s = ⊥
 
 -- only SELECT's write may be answered WAIT or FAULT
 abbrev pub EarlyWaiting : Job → ℕ → Bool → Port → Port → Type 0
-EarlyWaiting (At Select) n stray start s = Inspected (n + 1) stray start s
+EarlyWaiting (At Select) n stray start s = CtrlStatChecked (n + 1) stray start s
 EarlyWaiting job n stray start s = ⊥
 
 abbrev pub EarlyFaulted : Job → ℕ → Bool → Port → Port → Type 0
@@ -194,7 +194,7 @@ pub data EarlySaw (job : Job) (seen n : ℕ) (base : Counted) (stray : Bool) (st
 
 -- what holds after a data phase that was written
 abbrev pub EarlySent : Job → ℕ → Bool → Port → Port → Type 0
-EarlySent (At Wipe) n stray start s = Wiped n stray start s
+EarlySent (At WriteAbort) n stray start s = AbortWritten n stray start s
 EarlySent (Clear Select owed) n stray start s = Cleared owed n stray start s
 EarlySent job n stray start s = ⊥
 
@@ -209,7 +209,8 @@ EarlyLeft state n stray start s = ⊥
 -- what a word that was read early shows
 abbrev pub EarlyTold : Job → ℕ → ℕ → Bool → Port → Port → Type 0
 EarlyTold (At Identify) word n stray start s = Woken n stray start s × (word % 2 ≡ 1)
-EarlyTold (At Inspect) word n stray start s = Glimpsed (flags_in word) stray s.target × Wiped n stray start s
+EarlyTold (At CheckCtrlStat) word n stray start s =
+    Glimpsed (flags_in word) stray s.target × AbortWritten n stray start s
 EarlyTold (Status Select) word n stray start s = Shows (flags_in word) s.target × Met n stray start s
 EarlyTold (Check Select owed) word n stray start s = Shows (flags_in word) s.target × Cleared owed n stray start s
 EarlyTold job word n stray start s = ⊥
@@ -217,7 +218,7 @@ EarlyTold job word n stray start s = ⊥
 -- the same where the word has to be read again; no other word is read early
 abbrev pub EarlyAgain : Job → ℕ → Bool → Port → Port → Type 0
 EarlyAgain (At Identify) n stray start s = Resettled (n + 1) stray start s
-EarlyAgain (At Inspect) n stray start s = Wiped (n + 1) stray start s
+EarlyAgain (At CheckCtrlStat) n stray start s = AbortWritten (n + 1) stray start s
 EarlyAgain (Status Select) n stray start s = Met (n + 1) stray start s
 EarlyAgain (Check Select owed) n stray start s = Cleared owed (n + 1) stray start s
 EarlyAgain job n stray start s = ⊥

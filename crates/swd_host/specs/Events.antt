@@ -7,7 +7,7 @@ use Rattle.swd_host.specs.declared.outcome.End.TheVariants.{TriesOut, WrongId}
 use Rattle.swd_host.specs.declared.outcome.Outcome.TheVariants.{Stopped}
 use Rattle.swd_host.specs.declared.task.Task.{Task}
 use Rattle.swd_host.specs.declared.request.Place.{Place}
-use Rattle.swd_host.specs.declared.request.Place.TheVariants.{Identify, Inspect, Powered}
+use Rattle.swd_host.specs.declared.request.Place.TheVariants.{Identify, CheckCtrlStat, Powered}
 use Rattle.swd_host.specs.declared.request.Job.{Job}
 use Rattle.swd_host.specs.declared.request.Job.TheVariants.{At, Resend, Status, LastStatus, Clear, Check}
 use Rattle.swd_host.specs.declared.engine.Phase.TheVariants.{Waited}
@@ -40,7 +40,7 @@ is_left_over stray flags = stray && flags.error && not flags.damaged
 
 -- a word that was read at a place with right parity is an event
 abbrev pub is_event_at : Place → ℕ → Bool → Bool
-is_event_at Inspect word stray = is_flagged (flags_in word) && not (is_left_over stray (flags_in word))
+is_event_at CheckCtrlStat word stray = is_flagged (flags_in word) && not (is_left_over stray (flags_in word))
 is_event_at Powered word stray = is_unpowered (flags_in word) (is_powered word)
 is_event_at p word stray = false
 

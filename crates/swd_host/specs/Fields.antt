@@ -11,8 +11,10 @@ use Rattle.swd_host.specs.declared.task.Bursts.TheVariants.{Writes, Reads}
 use Rattle.swd_host.specs.declared.task.Task.{Task}
 use Rattle.swd_host.specs.declared.task.Task.TheVariants.{Read, BurstRead, Write, BurstWrite}
 use Rattle.swd_host.specs.declared.request.Place.{Place}
-use Rattle.swd_host.specs.declared.request.Place.TheVariants.{Identify, Wipe, Inspect, Select, Power, Powered}
-use Rattle.swd_host.specs.declared.request.Place.TheVariants.{Configure, Recall, Configured, Aim, Transfer, Confirm}
+use Rattle.swd_host.specs.declared.request.Place.TheVariants.{Identify, WriteAbort, CheckCtrlStat, Select, Power}
+use Rattle.swd_host.specs.declared.request.Place.TheVariants.{Powered}
+use Rattle.swd_host.specs.declared.request.Place.TheVariants.{Configure, ReadCsw, Configured, WriteTar, Transfer}
+use Rattle.swd_host.specs.declared.request.Place.TheVariants.{Confirm}
 use Rattle.swd_host.specs.declared.request.Place.TheVariants.{Behind}
 use Rattle.swd_host.specs.declared.request.Job.{Job}
 use Rattle.swd_host.specs.declared.request.Job.TheVariants.{At, Resend, Status, LastStatus, Clear, Check}
@@ -33,15 +35,15 @@ use Rattle.swd_host.specs.Flags.{no_flags}
 
 abbrev pub place_number : Place → ℕ
 place_number Identify = 1
-place_number Wipe = 2
-place_number Inspect = 3
+place_number WriteAbort = 2
+place_number CheckCtrlStat = 3
 place_number Select = 4
 place_number Power = 5
 place_number Powered = 6
 place_number Configure = 7
-place_number Recall = 8
+place_number ReadCsw = 8
 place_number Configured = 9
-place_number Aim = 10
+place_number WriteTar = 10
 place_number Transfer = 11
 place_number Confirm = 12
 place_number Behind = 13

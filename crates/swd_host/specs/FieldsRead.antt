@@ -11,8 +11,10 @@ use Rattle.swd_host.specs.declared.task.Bursts.TheVariants.{Writes, Reads}
 use Rattle.swd_host.specs.declared.task.Task.{Task}
 use Rattle.swd_host.specs.declared.task.Task.TheVariants.{Read, BurstRead, Write, BurstWrite}
 use Rattle.swd_host.specs.declared.request.Place.{Place}
-use Rattle.swd_host.specs.declared.request.Place.TheVariants.{Identify, Wipe, Inspect, Select, Power, Powered}
-use Rattle.swd_host.specs.declared.request.Place.TheVariants.{Configure, Recall, Configured, Aim, Transfer, Confirm}
+use Rattle.swd_host.specs.declared.request.Place.TheVariants.{Identify, WriteAbort, CheckCtrlStat, Select, Power}
+use Rattle.swd_host.specs.declared.request.Place.TheVariants.{Powered}
+use Rattle.swd_host.specs.declared.request.Place.TheVariants.{Configure, ReadCsw, Configured, WriteTar, Transfer}
+use Rattle.swd_host.specs.declared.request.Place.TheVariants.{Confirm}
 use Rattle.swd_host.specs.declared.request.Place.TheVariants.{Behind}
 use Rattle.swd_host.specs.declared.request.Job.{Job}
 use Rattle.swd_host.specs.declared.request.Job.TheVariants.{At, Resend, Status, LastStatus, Clear, Check}
@@ -32,9 +34,9 @@ use Rattle.swd_host.specs.declared.fields.TaskFields.{TaskFields}
 
 abbrev pub place_at : ℕ → Place
 place_at n =
-    if n == 1 then Identify else if n == 2 then Wipe else if n == 3 then Inspect else if n == 4 then Select
-    else if n == 5 then Power else if n == 6 then Powered else if n == 7 then Configure else if n == 8 then Recall
-    else if n == 9 then Configured else if n == 10 then Aim else if n == 11 then Transfer
+    if n == 1 then Identify else if n == 2 then WriteAbort else if n == 3 then CheckCtrlStat else if n == 4 then Select
+    else if n == 5 then Power else if n == 6 then Powered else if n == 7 then Configure else if n == 8 then ReadCsw
+    else if n == 9 then Configured else if n == 10 then WriteTar else if n == 11 then Transfer
     else if n == 12 then Confirm else Behind
 
 abbrev pub phase_at : ℕ → Phase

@@ -4,8 +4,10 @@ use Rattle.swd_bits.specs.Bits.{bit}
 use Rattle.swd_host.specs.declared.outcome.End.TheVariants.{Lost}
 use Rattle.swd_host.specs.declared.outcome.Outcome.TheVariants.{Opened, Answered, Stopped}
 use Rattle.swd_host.specs.declared.request.Place.{Place}
-use Rattle.swd_host.specs.declared.request.Place.TheVariants.{Identify, Wipe, Inspect, Select, Power, Powered}
-use Rattle.swd_host.specs.declared.request.Place.TheVariants.{Configure, Recall, Configured, Aim, Transfer, Confirm}
+use Rattle.swd_host.specs.declared.request.Place.TheVariants.{Identify, WriteAbort, CheckCtrlStat, Select, Power}
+use Rattle.swd_host.specs.declared.request.Place.TheVariants.{Powered}
+use Rattle.swd_host.specs.declared.request.Place.TheVariants.{Configure, ReadCsw, Configured, WriteTar, Transfer}
+use Rattle.swd_host.specs.declared.request.Place.TheVariants.{Confirm}
 use Rattle.swd_host.specs.declared.request.Place.TheVariants.{Behind}
 use Rattle.swd_host.specs.declared.request.Job.{Job}
 use Rattle.swd_host.specs.declared.request.Job.TheVariants.{At, Resend, Status, LastStatus, Clear, Check}
@@ -17,15 +19,15 @@ use Rattle.swd_host.specs.declared.engine.Engine.{Engine}
 -- REQUESTS STILL OPEN: the most before the next outcome, without an event
 abbrev pub left_at : Place → ℕ
 left_at Identify = 10
-left_at Wipe = 9
-left_at Inspect = 8
+left_at WriteAbort = 9
+left_at CheckCtrlStat = 8
 left_at Select = 7
 left_at Power = 6
 left_at Powered = 5
 left_at Configure = 4
-left_at Recall = 3
+left_at ReadCsw = 3
 left_at Configured = 2
-left_at Aim = 6
+left_at WriteTar = 6
 left_at Transfer = 5
 left_at Confirm = 4
 left_at Behind = 6
@@ -80,15 +82,15 @@ calls_left e = 2 * open_requests e + moves_first e.state
 -- before. `aims`: TAR has to be written.
 abbrev pub least_at : Bool → Place → ℕ
 least_at aims Identify = 0
-least_at aims Wipe = 1
-least_at aims Inspect = 2
+least_at aims WriteAbort = 1
+least_at aims CheckCtrlStat = 2
 least_at aims Select = 3
 least_at aims Power = 4
 least_at aims Powered = 5
 least_at aims Configure = 6
-least_at aims Recall = 7
+least_at aims ReadCsw = 7
 least_at aims Configured = 8
-least_at aims Aim = 0
+least_at aims WriteTar = 0
 least_at aims Transfer = bit aims
 least_at aims Confirm = bit aims + 1
 least_at aims Behind = bit aims + 2
@@ -111,7 +113,7 @@ least_in aims (Resting (Stopped end)) = 0
 
 -- THE OPENING (true) AND AN ACCESS (false)
 abbrev pub is_opening_place : Place → Bool
-is_opening_place Aim = false
+is_opening_place WriteTar = false
 is_opening_place Transfer = false
 is_opening_place Confirm = false
 is_opening_place Behind = false

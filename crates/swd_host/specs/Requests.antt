@@ -11,8 +11,10 @@ use Rattle.swd_port.specs.declared.register.Register.TheVariants.{TarWrite, DrwR
 use Rattle.swd_host.specs.declared.task.Task.{Task}
 use Rattle.swd_host.specs.declared.task.Task.TheVariants.{Read, BurstRead, Write, BurstWrite}
 use Rattle.swd_host.specs.declared.request.Place.{Place}
-use Rattle.swd_host.specs.declared.request.Place.TheVariants.{Identify, Wipe, Inspect, Select, Power, Powered}
-use Rattle.swd_host.specs.declared.request.Place.TheVariants.{Configure, Recall, Configured, Aim, Transfer, Confirm}
+use Rattle.swd_host.specs.declared.request.Place.TheVariants.{Identify, WriteAbort, CheckCtrlStat, Select, Power}
+use Rattle.swd_host.specs.declared.request.Place.TheVariants.{Powered}
+use Rattle.swd_host.specs.declared.request.Place.TheVariants.{Configure, ReadCsw, Configured, WriteTar, Transfer}
+use Rattle.swd_host.specs.declared.request.Place.TheVariants.{Confirm}
 use Rattle.swd_host.specs.declared.request.Place.TheVariants.{Behind}
 use Rattle.swd_host.specs.declared.request.Job.{Job}
 use Rattle.swd_host.specs.declared.request.Job.TheVariants.{At, Resend, Status, LastStatus, Clear, Check}
@@ -35,15 +37,15 @@ confirming_register task = RdbuffRead
 -- the register of each place, for SELECT 0
 abbrev pub register_at : Place → Task → Register
 register_at Identify task = DpidrRead
-register_at Wipe task = AbortWrite
-register_at Inspect task = CtrlStatRead
+register_at WriteAbort task = AbortWrite
+register_at CheckCtrlStat task = CtrlStatRead
 register_at Select task = SelectWrite
 register_at Power task = CtrlStatWrite
 register_at Powered task = CtrlStatRead
 register_at Configure task = CswWrite
-register_at Recall task = CswRead
+register_at ReadCsw task = CswRead
 register_at Configured task = RdbuffRead
-register_at Aim task = TarWrite
+register_at WriteTar task = TarWrite
 register_at Transfer task = drw_register task
 register_at Confirm task = confirming_register task
 register_at Behind task = ResendRead
@@ -68,11 +70,11 @@ word_of_task (BurstWrite at word) = Some word
 
 -- the word that is written, if the request is a write whose word the engine has
 abbrev pub word_for : Job → Task → Option ℕ
-word_for (At Wipe) task = Some 0x0000_001e
+word_for (At WriteAbort) task = Some 0x0000_001e
 word_for (At Select) task = Some 0
 word_for (At Power) task = Some 0x5000_0000
 word_for (At Configure) task = Some 0x2300_0012
-word_for (At Aim) task = Some (address (access_of task))
+word_for (At WriteTar) task = Some (address (access_of task))
 word_for (At Transfer) task = word_of_task task
 word_for (At p) task = None
 word_for (Clear p owed) task = Some (clear_word owed)
@@ -83,16 +85,16 @@ word_for (Check p owed) task = None
 
 -- the next place where no error occurs; the last place of each sequence follows itself
 abbrev pub next_place : Place → Place
-next_place Identify = Wipe
-next_place Wipe = Inspect
-next_place Inspect = Select
+next_place Identify = WriteAbort
+next_place WriteAbort = CheckCtrlStat
+next_place CheckCtrlStat = Select
 next_place Select = Power
 next_place Power = Powered
 next_place Powered = Configure
-next_place Configure = Recall
-next_place Recall = Configured
+next_place Configure = ReadCsw
+next_place ReadCsw = Configured
 next_place Configured = Configured
-next_place Aim = Transfer
+next_place WriteTar = Transfer
 next_place Transfer = Confirm
 next_place Confirm = Confirm
 next_place Behind = Behind
@@ -105,19 +107,19 @@ written_by task = Some Transfer
 
 -- the write that the request at a place confirms; `aims`: TAR was written for the access
 abbrev pub confirmed_by : Place → Task → Bool → Option Place
-confirmed_by Inspect task aims = Some Wipe
+confirmed_by CheckCtrlStat task aims = Some WriteAbort
 confirmed_by Power task aims = Some Select
 confirmed_by Powered task aims = Some Power
-confirmed_by Recall task aims = Some Configure
-confirmed_by Transfer task aims = if aims then Some Aim else None
+confirmed_by ReadCsw task aims = Some Configure
+confirmed_by Transfer task aims = if aims then Some WriteTar else None
 confirmed_by Confirm task aims = written_by task
 confirmed_by p task aims = None
 
 -- never answered WAIT or FAULT
 abbrev pub is_exempt_place : Place → Bool
 is_exempt_place Identify = true
-is_exempt_place Wipe = true
-is_exempt_place Inspect = true
+is_exempt_place WriteAbort = true
+is_exempt_place CheckCtrlStat = true
 is_exempt_place Powered = true
 is_exempt_place p = false
 
@@ -139,7 +141,7 @@ is_write job task = is_some (word_for job task)
 
 -- the word that is read here is ignored: that of a posted read, and RDBUFF's after a write
 abbrev pub is_unread : Place → Task → Bool
-is_unread Recall task = true
+is_unread ReadCsw task = true
 is_unread Transfer task = true
 is_unread Confirm task = not (is_read task)
 is_unread p task = false

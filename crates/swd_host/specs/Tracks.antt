@@ -10,13 +10,14 @@
 -- phase is due. `During` implies `Before` of the next job. For an access without an error:
 --
 --     job           the request         before it (`Has`)                      the data phase that is due
---     At Aim        write TAR           IsUnaimed: TAR has to be written       the address
---     At Transfer   read or write DRW   IsAimed: TAR has the address           a write's word; a read's is ignored
+--     At WriteTar   write TAR           LacksTar: TAR has to be written        the address
+--     At Transfer   read or write DRW   HasTar: TAR has the address            a write's word; a read's is ignored
 --     At Confirm    read RDBUFF         Under: sent, perhaps not done yet      a read's word; a write's is ignored
 --     (the end)                         Finished: done, and the answer known
 --
--- Aim is left out where TAR is known to have the address. In a burst DRW's request for the next access takes RDBUFF's
--- place. In a block of reads it starts that access before this one is answered, and `AheadAt` has what is known of it.
+-- WriteTar is left out where TAR is known to have the address. In a burst the request for DRW of the next access takes
+-- RDBUFF's place. In a block of reads it starts that access before this one is answered, and `AheadAt` has what is
+-- known of it.
 --
 -- AFTER AN ERROR, what is known instead of `Sure` (`Has` holds, and no write was corrupted):
 --
@@ -58,8 +59,10 @@ use Rattle.swd_host.specs.declared.outcome.Outcome.TheVariants.{Opened, Answered
 use Rattle.swd_host.specs.declared.task.Task.{Task}
 use Rattle.swd_host.specs.declared.task.Task.TheVariants.{Read, BurstRead, Write, BurstWrite}
 use Rattle.swd_host.specs.declared.request.Place.{Place}
-use Rattle.swd_host.specs.declared.request.Place.TheVariants.{Identify, Wipe, Inspect, Select, Power, Powered}
-use Rattle.swd_host.specs.declared.request.Place.TheVariants.{Configure, Recall, Configured, Aim, Transfer, Confirm}
+use Rattle.swd_host.specs.declared.request.Place.TheVariants.{Identify, WriteAbort, CheckCtrlStat, Select, Power}
+use Rattle.swd_host.specs.declared.request.Place.TheVariants.{Powered}
+use Rattle.swd_host.specs.declared.request.Place.TheVariants.{Configure, ReadCsw, Configured, WriteTar, Transfer}
+use Rattle.swd_host.specs.declared.request.Place.TheVariants.{Confirm}
 use Rattle.swd_host.specs.declared.request.Place.TheVariants.{Behind}
 use Rattle.swd_host.specs.declared.request.Job.{Job}
 use Rattle.swd_host.specs.declared.request.Job.TheVariants.{At, Resend, Status, LastStatus, Clear, Check}
@@ -150,16 +153,16 @@ pub record HasCsw (m : PlainMemory) (s : Target) : Type 0 where
 abbrev pub csw_word_read : ℕ
 csw_word_read = 0x2300_0052
 
-pub record HasRecalled (m : PlainMemory) (s : Target) : Type 0 where
+pub record HasReadCsw (m : PlainMemory) (s : Target) : Type 0 where
   pub up : Up m s
   pub buffer : s.buffer ≡ Some csw_word_read
 
-pub record IsAimed (k : Hand) (s : Target) : Type 0 where
+pub record HasTar (k : Hand) (s : Target) : Type 0 where
   pub up : Up k.memory s
   pub tar : s.tar ≡ Some (address (access_of k.task))
 
 -- TAR has to be written
-pub record IsUnaimed (k : Hand) (s : Target) : Type 0 where
+pub record LacksTar (k : Hand) (s : Target) : Type 0 where
   pub up : Up k.memory s
   pub aims : k.aims ≡ true
 
@@ -177,27 +180,27 @@ pub record Under (b : ℕ) (k : Hand) (s : Target) : Type 0 where
 -- what holds before the request at a place, apart from WDATAERR
 abbrev pub Has : Place → ℕ → Hand → Target → Type 0
 Has Identify b k s = Reachable k.memory s
-Has Wipe b k s = Calm k.memory s
-Has Inspect b k s = Calm k.memory s
+Has WriteAbort b k s = Calm k.memory s
+Has CheckCtrlStat b k s = Calm k.memory s
 Has Select b k s = Calm k.memory s
 Has Power b k s = Calm k.memory s
 Has Powered b k s = AsksPower k.memory s
 Has Configure b k s = HasPower k.memory s
-Has Recall b k s = HasCsw k.memory s
-Has Configured b k s = HasRecalled k.memory s
-Has Aim b k s = IsUnaimed k s
-Has Transfer b k s = IsAimed k s
+Has ReadCsw b k s = HasCsw k.memory s
+Has Configured b k s = HasReadCsw k.memory s
+Has WriteTar b k s = LacksTar k s
+Has Transfer b k s = HasTar k s
 Has Confirm b k s = Under b k s
 Has Behind b k s = ⊥
 
-abbrev pub is_wipe : Place → Bool
-is_wipe Wipe = true
-is_wipe _ = false
+abbrev pub is_abort_write : Place → Bool
+is_abort_write WriteAbort = true
+is_abort_write _ = false
 
 -- what holds where no write was corrupted; n disturbances were met as events, so at least n occurred
 pub record Sure (p : Place) (n b : ℕ) (k : Hand) (s : Port) : Type 0 where
   pub has : Has p b k s.target
-  pub flag : is_wipe p ≡ false → s.target.write_error ≡ false
+  pub flag : is_abort_write p ≡ false → s.target.write_error ≡ false
   pub paid : n ≤ s.tally.disturbed
 
 -- the write before, which this request confirms, was corrupted
@@ -394,15 +397,15 @@ Confirms (BurstWrite at word) n b k s = Writes DrwWrite n (λ c. Confirmed c b k
 -- what holds before a data phase
 abbrev pub During : Job → ℕ → ℕ → Hand → Port → Type 0
 During (At Identify) n b k s = Reads s.target.identification n (λ c. Awake c k s) s
-During (At Wipe) n b k s = Writes AbortWrite n (λ c. Sure Wipe c b k s) s
-During (At Inspect) n b k s = Says (At Inspect) n b k s
+During (At WriteAbort) n b k s = Writes AbortWrite n (λ c. Sure WriteAbort c b k s) s
+During (At CheckCtrlStat) n b k s = Says (At CheckCtrlStat) n b k s
 During (At Select) n b k s = Writes SelectWrite n (λ c. Sure Select c b k s) s
 During (At Power) n b k s = Writes CtrlStatWrite n (λ c. Sure Power c b k s) s
 During (At Powered) n b k s = SaysPower n b k s
 During (At Configure) n b k s = Writes CswWrite n (λ c. Sure Configure c b k s) s
-During (At Recall) n b k s = Sure Configured n b k s
+During (At ReadCsw) n b k s = Sure Configured n b k s
 During (At Configured) n b k s = (word : ℕ) × Reads word n (λ c. Resent Configured word c b k s) s
-During (At Aim) n b k s = Writes TarWrite n (λ c. Sure Aim c b k s) s
+During (At WriteTar) n b k s = Writes TarWrite n (λ c. Sure WriteTar c b k s) s
 During (At Transfer) n b k s = Transfers k.task n b k s
 During (At Confirm) n b k s = Confirms k.task n b k s
 During (At Behind) n b k s = ⊥
@@ -534,7 +537,7 @@ DueFits e s = DueAt e.state e.stray e.task s.link.due
 -- what a word that was taken at a place shows
 abbrev pub Taken : Place → ℕ → ℕ → ℕ → Hand → Port → Type 0
 Taken Identify word n b k s = Awake n k s × (word % 2 ≡ 1)
-Taken Inspect word n b k s = Tells word s.target × Before (At Inspect) n b k s
+Taken CheckCtrlStat word n b k s = Tells word s.target × Before (At CheckCtrlStat) n b k s
 Taken Powered word n b k s = Tells word s.target × HasAsked (is_powered word) n b k s
 Taken Configured word n b k s = Resent Configured word n b k s
 Taken Confirm word n b k s = Resent Confirm word n b k s
@@ -589,7 +592,7 @@ ConfirmTook (BurstWrite at w) word n b k s = ⊥
 
 -- what a word that was read at a place shows, or that it has to be read again
 abbrev pub TookAt : Place → Option ℕ → ℕ → ℕ → Hand → Port → Type 0
-TookAt Recall word n b k s = Sure Configured n b k s
+TookAt ReadCsw word n b k s = Sure Configured n b k s
 TookAt Transfer word n b k s = Sure Confirm n b k s
 TookAt Confirm word n b k s = ConfirmTook k.task word n b k s
 TookAt Configured None n b k s = Before (Resend Configured) (n + 1) b k s

@@ -13,7 +13,7 @@ use Rattle.swd_host.specs.declared.outcome.End.TheVariants.{All, Lost}
 use Rattle.swd_host.specs.declared.outcome.Outcome.{Outcome}
 use Rattle.swd_host.specs.declared.outcome.Outcome.TheVariants.{Opened, Answered, Stopped}
 use Rattle.swd_host.specs.declared.task.Bursts.{Bursts}
-use Rattle.swd_host.specs.declared.request.Place.TheVariants.{Aim, Transfer, Confirm}
+use Rattle.swd_host.specs.declared.request.Place.TheVariants.{WriteTar, Transfer, Confirm}
 use Rattle.swd_port.specs.declared.access.Answer.TheVariants.{BusFault}
 use Rattle.swd_host.specs.declared.engine.Ahead.{Ahead}
 use Rattle.swd_host.specs.declared.engine.Ahead.TheVariants.{Unsent, Sent, Failed}
@@ -59,7 +59,7 @@ abbrev pub first_state : Bool → Ahead → Bool → State
 first_state true ahead aims = Doing (At Transfer) Data
 first_state false Sent aims = Doing (At Confirm) Ask
 first_state false Failed aims = Resting (Answered BusFault)
-first_state false Unsent true = Doing (At Aim) Ask
+first_state false Unsent true = Doing (At WriteTar) Ask
 first_state false Unsent false = Doing (At Transfer) Ask
 
 -- An access starts, without an event so far. It is begun exactly where its DRW request was sent already, to confirm the

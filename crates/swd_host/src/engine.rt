@@ -183,7 +183,7 @@ impl Engine {
         match self.ahead {
             Ahead::Failed => State::Resting(Outcome::Answered(Answer::BusFault)),
             Ahead::Sent => State::Doing(Job::At(Place::Confirm), Phase::Ask),
-            Ahead::Unsent if self.aims => State::Doing(Job::At(Place::Aim), Phase::Ask),
+            Ahead::Unsent if self.aims => State::Doing(Job::At(Place::WriteTar), Phase::Ask),
             Ahead::Unsent => State::Doing(Job::At(Place::Transfer), Phase::Ask),
         }
     }

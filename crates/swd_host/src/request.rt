@@ -14,9 +14,9 @@ pub(crate) enum Place {
     /// DPIDR is read: it wakes the target.
     Identify,
     /// ABORT is written, to clear the flags that an earlier host left.
-    Wipe,
+    WriteAbort,
     /// CTRL/STAT is read, to check that no flag is left.
-    Inspect,
+    CheckCtrlStat,
     /// SELECT is written: access port 0, bank 0.
     Select,
     /// CTRL/STAT is written, to request power.
@@ -26,11 +26,11 @@ pub(crate) enum Place {
     /// CSW is written, for the word size and increments of TAR.
     Configure,
     /// CSW is read, posted.
-    Recall,
+    ReadCsw,
     /// RDBUFF is read, to check that CSW is configured.
     Configured,
     /// TAR is written.
-    Aim,
+    WriteTar,
     /// DRW is read or written.
     Transfer,
     /// The request that confirms the access: RDBUFF is read, or DRW is read or written for the next access of a burst.
@@ -63,14 +63,14 @@ impl Place {
     {
         match self {
             Place::Identify => Register::DpidrRead,
-            Place::Wipe => Register::AbortWrite,
-            Place::Inspect | Place::Powered => Register::CtrlStatRead,
+            Place::WriteAbort => Register::AbortWrite,
+            Place::CheckCtrlStat | Place::Powered => Register::CtrlStatRead,
             Place::Select => Register::SelectWrite,
             Place::Power => Register::CtrlStatWrite,
             Place::Configure => Register::CswWrite,
-            Place::Recall => Register::CswRead,
+            Place::ReadCsw => Register::CswRead,
             Place::Configured => Register::RdbuffRead,
-            Place::Aim => Register::TarWrite,
+            Place::WriteTar => Register::TarWrite,
             Place::Transfer => task.drw(),
             Place::Confirm => {
                 if task.is_burst() {
@@ -88,11 +88,11 @@ impl Place {
         ensures { result ≡ word_for (Job.At self) task }
     {
         match self {
-            Place::Wipe => Some(0x0000_001e),
+            Place::WriteAbort => Some(0x0000_001e),
             Place::Select => Some(0x0000_0000),
             Place::Power => Some(0x5000_0000),
             Place::Configure => Some(0x2300_0012),
-            Place::Aim => Some(task.address()),
+            Place::WriteTar => Some(task.address()),
             Place::Transfer => match task {
                 Task::Read(_) | Task::BurstRead(_) => None,
                 Task::Write(_, word) | Task::BurstWrite(_, word) => Some(word),
@@ -106,15 +106,15 @@ impl Place {
         ensures { result ≡ next_place self }
     {
         match self {
-            Place::Identify => Place::Wipe,
-            Place::Wipe => Place::Inspect,
-            Place::Inspect => Place::Select,
+            Place::Identify => Place::WriteAbort,
+            Place::WriteAbort => Place::CheckCtrlStat,
+            Place::CheckCtrlStat => Place::Select,
             Place::Select => Place::Power,
             Place::Power => Place::Powered,
             Place::Powered => Place::Configure,
-            Place::Configure => Place::Recall,
-            Place::Recall | Place::Configured => Place::Configured,
-            Place::Aim => Place::Transfer,
+            Place::Configure => Place::ReadCsw,
+            Place::ReadCsw | Place::Configured => Place::Configured,
+            Place::WriteTar => Place::Transfer,
             Place::Transfer | Place::Confirm => Place::Confirm,
             Place::Behind => Place::Behind,
         }
@@ -137,11 +137,11 @@ impl Place {
         ensures { result ≡ confirmed_by self task aims }
     {
         match self {
-            Place::Inspect => Some(Place::Wipe),
+            Place::CheckCtrlStat => Some(Place::WriteAbort),
             Place::Power => Some(Place::Select),
             Place::Powered => Some(Place::Power),
-            Place::Recall => Some(Place::Configure),
-            Place::Transfer => { if aims { Some(Place::Aim) } else { None } }
+            Place::ReadCsw => Some(Place::Configure),
+            Place::Transfer => { if aims { Some(Place::WriteTar) } else { None } }
             Place::Confirm => match task {
                 Task::Read(_) | Task::BurstRead(_) => None,
                 _ => Some(Place::Transfer),
@@ -201,7 +201,7 @@ impl Job {
         match self {
             Job::At(place) => matches!(
                 place,
-                Place::Identify | Place::Wipe | Place::Inspect | Place::Powered
+                Place::Identify | Place::WriteAbort | Place::CheckCtrlStat | Place::Powered
             ),
             Job::Resend(_) => false,
             _ => true,

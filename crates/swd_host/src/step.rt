@@ -206,7 +206,7 @@ impl Engine {
         ensures { result ≡ is_unread place self.now.task }
     {
         match place {
-            Place::Recall | Place::Transfer => true,
+            Place::ReadCsw | Place::Transfer => true,
             Place::Confirm => !self.task.is_read(),
             _ => false,
         }
@@ -238,7 +238,7 @@ impl Engine {
     {
         match place {
             Place::Identify => self.identify(word),
-            Place::Inspect => self.inspect(flags_of(word)),
+            Place::CheckCtrlStat => self.check_ctrl_stat(flags_of(word)),
             Place::Powered => self.check_power(flags_of(word), is_powered(word)),
             Place::Configured => self.check_csw(is_configured(word)),
             Place::Confirm => self.give_word(word),
@@ -287,24 +287,24 @@ impl Engine {
         ensures rests { is_rested self.new.state ≡ false }
     {
         self.state = if word % 2 == 1 {
-            State::Doing(Job::At(Place::Wipe), Phase::Ask)
+            State::Doing(Job::At(Place::WriteAbort), Phase::Ask)
         } else {
             State::Resting(Outcome::Stopped(End::WrongId(word)))
         };
     }
 
     // Checks CTRL/STAT after the opening cleared the flags.
-    fn inspect(&mut self, flags: Flags)
-        ensures tracks { ComesWith flags (Before (Job.At Place.Inspect)) self.old self.new }
-        ensures early { GlimpsedEarly flags (EarlyBefore (Job.At Place.Inspect)) self.old self.new }
-        ensures lands { LandsFrom (Job.At Place.Inspect) Phase.Data self.old self.new }
+    fn check_ctrl_stat(&mut self, flags: Flags)
+        ensures tracks { ComesWith flags (Before (Job.At Place.CheckCtrlStat)) self.old self.new }
+        ensures early { GlimpsedEarly flags (EarlyBefore (Job.At Place.CheckCtrlStat)) self.old self.new }
+        ensures lands { LandsFrom (Job.At Place.CheckCtrlStat) Phase.Data self.old self.new }
         ensures meets { Meets (is_flagged flags && not (is_left_over self.old.stray flags)) None self.old self.new }
         ensures rests { is_rested self.new.state ≡ false }
     {
         if self.stray && flags.error && !flags.damaged {
-            self.forgive(Job::At(Place::Wipe));
+            self.forgive(Job::At(Place::WriteAbort));
         } else if flags.error || flags.damaged {
-            self.event(Job::At(Place::Wipe));
+            self.event(Job::At(Place::WriteAbort));
         } else {
             self.state = State::Doing(Job::At(Place::Select), Phase::Ask);
         }

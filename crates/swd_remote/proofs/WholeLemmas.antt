@@ -1,20 +1,10 @@
--- What a run over a wire of which no call was made says of a story.
-use Rattle.std.proofs.Common.{◌≡◌, ℕ, List, [], subst}
-use Rattle.std.specs.Prelude.{Result, Ok, Err, IfOk}
-use Rattle.swd_port.specs.declared.access.Access.{Access}
+-- What a run that made no call leaves of its wire.
+use Rattle.std.proofs.Common.{◌≡◌, ◌∙◌, List, [], ap}
+use Rattle.std.specs.Prelude.{Result, Ok, Err, IfErr}
 use Rattle.swd_port.specs.declared.call.Call.{Call}
-use Rattle.swd_port.specs.Port.{Port}
-use Rattle.swd_port.specs.Stories.{port_at, FitsStory}
-use Rattle.swd_host.specs.declared.outcome.Refused.{Refused}
-use Rattle.swd_host.specs.declared.outcome.Report.{Report}
-use Rattle.swd_host.specs.Reports.{RunsOver, told_of}
 
-pub fresh_fits : {A : Type 0} (result : Result (Report A) Refused) (list : List Access) (tries : ℕ) (story : ℕ → Port)
-    (before after : List Call) → before ≡ []
-    → IfOk result (λ report. FitsStory story after → FitsStory story before
-    × RunsOver list tries (told_of report) (port_at story before) (port_at story after))
-    → IfOk result (λ report. FitsStory story after
-    → RunsOver list tries (told_of report) (port_at story []) (port_at story after))
-fresh_fits (Ok report) list tries story before after none runs = λ fits.
-    subst (λ calls. RunsOver list tries (told_of report) (port_at story calls) (port_at story after)) none (runs fits).1
-fresh_fits (Err refused) list tries story before after none runs = runs
+-- a wire without calls that is unchanged at an error has none then
+pub still_none : {X F W : Type 0} (result : Result X F) (calls : W → List Call) (new old : W) → calls old ≡ []
+    → IfErr result (λ fault. new ≡ old) → IfErr result (λ fault. calls new ≡ [])
+still_none (Ok x) calls new old none same = same
+still_none (Err fault) calls new old none same = ap calls same ∙ none

@@ -11,16 +11,17 @@ use swd_port::{Access, Outside, Story, Tied};
 
 /// Performs the accesses in order over a remote_bitbang connection, and then sends `Q`.
 ///
-/// The run always ends within a bounded number of requests, whatever is received, unless a read or write
-/// blocks. If what was received is consistent with the port model, the report is correct, as that of
-/// `swd_host::run`.
+/// Whatever is received, the run ends within a bounded number of requests, unless a read or write blocks, and its
+/// report matches the calls that were made. If what was received is consistent with the port model, the report is
+/// correct, as that of `swd_host::run`.
 ///
 /// Up to the first error, exactly the characters of the calls that the report is of are written, and then
 /// `Q`. Up to that error, exactly as many bytes are read as levels were asked for.
 ///
 /// # Errors
 ///
-/// As `swd_host::run`: `TooMany`, `Unaligned`, `Memory`.
+/// Returns `TooMany`, `Unaligned` and `Memory` as `swd_host::run` does. No call is made in these cases: only `Q` is
+/// sent.
 pub fn run_over_line<S: Story, R: Read, W: Write, A: Allocator>(
     alloc: A,
     reader: R,

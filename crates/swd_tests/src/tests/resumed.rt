@@ -2,10 +2,10 @@
 use super::expect::expect_eq_at;
 use super::items::recorder_over;
 use super::order::{
-    ABORT, CSW, CSW_WRITE, CTRL_STAT, CTRL_STAT_WRITE, DPIDR, DRW_WRITE, IDLE, RDBUFF, SELECT,
+    ABORT, CSW, CSW_WRITE, CTRL_STAT, CTRL_STAT_WRITE, DPIDR, DRW, DRW_WRITE, IDLE, RDBUFF, SELECT,
     Sent, TAR, items_of,
 };
-use super::row::{BASE, FILLER, QUIRKS, RUN, Run, WORD, WRITE, target_of};
+use super::row::{BASE, FILLER, QUIRKS, READ, RUN, Run, WORD, WRITE, target_of};
 use crate::Simulated;
 use std::alloc::Global;
 use std::process::Abort;
@@ -32,7 +32,7 @@ const RESET: Sent = Sent::Reset(100);
 
 const ZEROS: Sent = Sent::Idle(2);
 
-const ROWS: [Row; 5] = [
+const ROWS: [Row; 6] = [
     Row {
         name: "going on begins with a line reset and the opening",
         run: Run {
@@ -59,6 +59,36 @@ const ROWS: [Row; 5] = [
             Sent::Moved(TAR, BASE),
             Sent::Moved(DRW_WRITE, WORD),
             Sent::Unknown(RDBUFF),
+            IDLE,
+        ],
+    },
+    // The write is answered before the loss, so the resumed call does the read alone. Eight zeros end it as well.
+    Row {
+        name: "what was answered before isn't sent again",
+        run: Run {
+            marks: &[(14, Mark::Mute(0))],
+            accesses: &[WRITE, READ],
+            ..RUN
+        },
+        late: false,
+        tries: 8,
+        before: 18,
+        ended: End::All,
+        after: &[
+            RESET,
+            ZEROS,
+            Sent::Moved(DPIDR, 0x2ba0_1477),
+            Sent::Moved(ABORT, 0x0000_001e),
+            Sent::Moved(CTRL_STAT, 0xf000_0040),
+            Sent::Moved(SELECT, 0x0000_0000),
+            Sent::Moved(CTRL_STAT_WRITE, 0x5000_0000),
+            Sent::Moved(CTRL_STAT, 0xf000_0040),
+            Sent::Moved(CSW_WRITE, 0x2300_0012),
+            Sent::Unknown(CSW),
+            Sent::Moved(RDBUFF, 0x2300_0052),
+            Sent::Moved(TAR, BASE),
+            Sent::Unknown(DRW),
+            Sent::Moved(RDBUFF, WORD),
             IDLE,
         ],
     },

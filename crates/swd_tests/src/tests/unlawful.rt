@@ -1,6 +1,6 @@
 //! Which request follows a reply that no target gives that keeps the law: an engine driven by hand.
 use super::engine::{CONFUSED, Row, Turn, all_go};
-use super::order::{ABORT, CSW_WRITE, CTRL_STAT, DRW, DRW_WRITE, RDBUFF, RESEND, TAR};
+use super::order::{ABORT, CSW_WRITE, CTRL_STAT, DRW, DRW_WRITE, RDBUFF, RESEND, SELECT, TAR};
 use super::row::{BASE, READ, WORD, WRITE};
 use swd_host::{End, Outcome};
 use swd_port::{Access, Answer};
@@ -55,6 +55,42 @@ const RESEND_REFUSED: &[Turn] = &[
 const IS_CONFUSED: &[Turn] = &[Turn::Finished(CONFUSED)];
 
 const IS_CONFUSED_AND_BEGUN: &[Turn] = &[Turn::Finished(CONFUSED), Turn::Begun(1)];
+
+// The opening's first read of CTRL/STAT comes next.
+const CLEARED: &[Turn] = &[
+    Turn::Led,
+    Turn::Answered(0x2ba0_1477),
+    Turn::Moves(ABORT, 0x1e),
+];
+
+const FIRST_LOOK: [Row; 2] = [
+    Row {
+        name: "a bus error at the first read of CTRL/STAT is cleared again",
+        tries: 1,
+        turns: &[
+            CLEARED,
+            &[
+                Turn::Moves(CTRL_STAT, 0x0000_0020),
+                Turn::Moves(ABORT, 0x1e),
+                Turn::Moves(CTRL_STAT, 0x0000_0000),
+                Turn::Asks(SELECT),
+            ],
+        ],
+    },
+    Row {
+        name: "a bus error at the first read of CTRL/STAT twice is one event too many",
+        tries: 1,
+        turns: &[
+            CLEARED,
+            &[
+                Turn::Moves(CTRL_STAT, 0x0000_0020),
+                Turn::Moves(ABORT, 0x1e),
+                Turn::Moves(CTRL_STAT, 0x0000_0020),
+                Turn::Finished(TRIES_OUT),
+            ],
+        ],
+    },
+];
 
 const POWER: [Row; 9] = [
     // Neither acknowledgement; debug power's alone; system power's alone.
@@ -321,6 +357,7 @@ const FLAGS: [Row; 12] = [
 
 #[test]
 fn a_reply_that_breaks_the_law_has_its_request(rt: HostRuntime) {
+    all_go(&rt, &FIRST_LOOK);
     all_go(&rt, &POWER);
     all_go(&rt, &FLAGS);
 }

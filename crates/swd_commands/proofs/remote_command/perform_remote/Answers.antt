@@ -13,7 +13,6 @@ returns-in_default-file g c =
     let ran = c.run_remote-answer.result in
     inr (
       ran.0,
-      ran.1,
       _,
       _,
       held g.F.Made.Write.contents c.file_alone.result,
@@ -28,7 +27,6 @@ returns g c =
     let ran = c.run_remote-answer-2.result in
     inr (
       ran.0,
-      ran.1,
       _,
       _,
       held g.F.Made.Write.contents c.file_alone.result,
