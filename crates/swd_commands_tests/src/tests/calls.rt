@@ -301,6 +301,14 @@ const FAULTS: [Call; 10] = [
         b"swd: cannot open locked: permission denied\n",
     ),
     (
+        "a file of accesses that can't be made",
+        &["swd", "run", "script", "--accesses", "locked"],
+        b"",
+        2,
+        b"",
+        b"swd: cannot open locked: permission denied\n",
+    ),
+    (
         "one: a bad character",
         &["swd", "one"],
         b"10x",

@@ -1,9 +1,8 @@
 use Rattle.std.proofs.Common.{◌≡◌, ℕ, ◌+◌, ◌<◌, List, [], ◌∷◌, ◌++◌, false, length, map, take, get_or, refl, sym, ap, subst, ◌∙◌}
 use Rattle.std.proofs.KnownBytes.{Appends-nil}
-use Rattle.std.proofs.lemmas.List.{map-append, take_more, take_all}
+use Rattle.std.proofs.lemmas.List.{map-append, take_more}
 use Rattle.swd_io.specs.Blocks.{Sends}
 use Rattle.swd_trace.specs.declared.item.Item.{Item}
-use Rattle.swd_resync.specs.declared.part.Part.{Part}
 use Rattle.swd_resync.specs.declared.part.Part.TheVariants.{Item as Told}
 use Rattle.swd_capture.specs.Printing.{told}
 use Rattle.swd_capture.specs.Tellers.{IsAfter}
