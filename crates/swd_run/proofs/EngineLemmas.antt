@@ -22,7 +22,7 @@ use Rattle.swd_run.specs.declared.fault.EngineFault.{EngineFault}
 use Rattle.swd_run.specs.declared.fault.EngineFault.TheVariants.{Memory, Write, WriteAccesses, TraceCut}
 use Rattle.swd_run.specs.declared.going_on.Stop.{Stop}
 use Rattle.swd_run.specs.Engine.{Answers, AnswersAt, AnswersOver, IsFinished, IsOfTraceOver, IsTraceOver}
-use Rattle.swd_run.specs.Engine.{IsOfTrace, IsTraceOf, Ran, RanShort, TellsRecords, port_seen, whole, short}
+use Rattle.swd_run.specs.Engine.{IsOfTrace, Ran, RanShort, TellsRecords, port_seen, whole, short}
 use Rattle.swd_run.specs.Engine.{trace_stops, accesses_stop}
 use Rattle.swd_run.specs.GoingOn.{Went, ran, resumed}
 use Rattle.swd_run.specs.Reports.{session_text}
@@ -31,7 +31,7 @@ use Rattle.swd_run.specs.Records.{AreLeft, Files, ForFile, IfRecorded, IsLeft, f
 use Rattle.swd_observer.specs.Explained.{Explains}
 use Rattle.swd_observer.specs.Traces.{from_made, told_in}
 use Rattle.swd_run.specs.Running.{AnswersScript, IsTraceIn, RunsScript, full_room, memory_of, with_full}
-use Rattle.swd_run.specs.Sessions.{AreDone, Done, IsRefused, Runs, ended_of, most_begun, none, requests_of, then}
+use Rattle.swd_run.specs.Sessions.{AreDone, Done, IsRefused, Runs, most_begun, none, requests_of, then}
 use Rattle.swd_run.specs.Sessions.{unresumed, unsent}
 use Rattle.swd_run.proofs.RunLemmas.{made_rests}
 use Rattle.swd_run.proofs.SessionLemmas.{script_runs}
@@ -161,7 +161,12 @@ module _ {W V : Type 0} (by : W → V) (port : V → Port) (plan : V → List Ma
         (subst (λ x. AnswersOver port plan lawful tries resumes batches (by s) x answer old new before after) ends
         (answers_as batches None (λ over. over.runs) (λ over. over.before.runs) IsTraceOver IsOfTraceOver IsTraceOver
         IsOfTraceOver (ran_by batches s t) (short_by batches s t)
-        (λ over items is. record { read = is.read; whole = is.whole; explained = is.explained })
+        (λ over items is. record {
+          read = is.read;
+          whole = is.whole;
+          explained = is.explained;
+          explained_any = is.explained_any;
+        })
         (λ over items is. record { read = is.read; part = is.part }) answer old new before after h))
 
 -- also beside a count

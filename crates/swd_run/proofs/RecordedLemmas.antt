@@ -32,8 +32,8 @@ use Rattle.swd_recorder.proofs.ChainLemmas.{count_added}
 use Rattle.swd_observer.specs.Runs.{Event, Happens, Lifts, Moves, Runs}
 use Rattle.swd_observer.specs.Traces.{is_gap, is_whole, moved_at, moves_in, moves_of, place_after}
 use Rattle.swd_observer.specs.Transacts.{Moves as MovesData, Transacts}
-use Rattle.swd_observer.proofs.TraceLemmas.{trace_accounted}
-use Rattle.swd_run.specs.Recorded.{RecordedIsAccounted, Stepped, at_start, further}
+use Rattle.swd_observer.proofs.TraceLemmas.{any_trace_accounted, trace_accounted}
+use Rattle.swd_run.specs.Recorded.{AnyRecordedIsAccounted, RecordedIsAccounted, Stepped, at_start, further}
 
 -- ---- the transactions of items, and of one more
 
@@ -440,11 +440,23 @@ at_end : (in_hand : Option InHand) (last t : Port) → held in_hand ≡ 0 → St
 at_end None last t empty h = h.0
 at_end (Some asked) last t empty h = absurd (omega arith)
 
+-- calls whose requests led to whole transactions are a run of the model
+run_of : (start : Port) (calls : List Call) (t : Port) → start.link.due ≡ Nothing → Stepped start calls t
+    → asks_in calls ≤ transactions (items_by calls) → (events : List Event) × Runs events start t
+    × (is_whole (items_by calls) ≡ true) × (moves_in (items_by calls) 0 ≡ moves_of events)
+run_of start calls t begins steps all =
+    let most = counted_most calls in
+    let h = tracked start calls t begins steps (outside calls (omega (arith, all))) in
+    let rests : t ≡ h.last = at_end (in_hand_by calls) h.last t (omega (arith, all, most)) h.stands in
+    (h.events, subst (Runs h.events start) (sym rests) h.runs, h.whole, h.moves)
+
 -- THE THEOREM
 pub recorded_accounted : RecordedIsAccounted
 recorded_accounted identification m calls t steps all =
-    let most = counted_most calls in
-    let h = tracked (made identification m) calls t refl steps (outside calls (omega (arith, all))) in
-    let rests : t ≡ h.last = at_end (in_hand_by calls) h.last t (omega (arith, all, most)) h.stands in
-    trace_accounted identification m (items_by calls) h.events t
-    (subst (Runs h.events (made identification m)) (sym rests) h.runs) h.whole h.moves
+    let run = run_of (made identification m) calls t refl steps all in
+    trace_accounted identification m (items_by calls) run.0 t run.1 run.2 run.3
+
+pub any_recorded_accounted : AnyRecordedIsAccounted
+any_recorded_accounted calls s t begins settled idle steps all =
+    let run = run_of s calls t begins steps all in
+    any_trace_accounted (items_by calls) run.0 s t settled idle run.1 run.2 run.3

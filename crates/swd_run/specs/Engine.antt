@@ -8,11 +8,12 @@ use Rattle.swd_trace.specs.Reading.{reading_of}
 use Rattle.swd_trace.specs.Texts.{bits_of_items}
 use Rattle.swd_recorder.specs.Steps.{transactions, EndsUnacknowledged}
 use Rattle.swd_port.specs.declared.mark.Mark.{Mark}
+use Rattle.swd_port.specs.Leading.{is_awaiting}
 use Rattle.swd_port.specs.PlainMemory.{PlainMemory}
 use Rattle.swd_port.specs.Port.{Port, made}
 use Rattle.swd_port.specs.Laws.Calls.{with_asked}
 use Rattle.swd_observer.specs.Runs.{Accounted}
-use Rattle.swd_observer.specs.Traces.{from_made, told_in}
+use Rattle.swd_observer.specs.Traces.{from_made, from_unknown, told_in}
 use Rattle.swd_host.specs.declared.outcome.End.{End}
 use Rattle.swd_host.specs.declared.outcome.End.TheVariants.{All, Lost}
 use Rattle.swd_host.specs.Reports.{IsAtRest}
@@ -85,6 +86,9 @@ module _ {W : Type 0} {port : W → Port} {plan : W → List Mark} {lawful : W �
     -- if the target began in its reset state, the accesses that the items show explain the log of its memory
     pub explained : lawful end → IsAtRest (port start) → (identification : ℕ) (m : PlainMemory)
         → port start ≡ made identification m → ∥ Accounted m.log (told_in items from_made) (port end) ∥₁
+    -- of any other target at rest that awaits no write data, those do which they show where nothing is known at first
+    pub explained_any : lawful end → IsAtRest (port start) → is_awaiting (port start).link.line ≡ false
+        → ∥ Accounted (port start).target.memory.log (told_in items from_unknown) (port end) ∥₁
 
   -- the same for a truncated trace
   pub record IsOfTraceOver (items : List Item) : Type 0 where

@@ -275,7 +275,7 @@ const RUNS: [Call; 16] = [
     ),
 ];
 
-const FAULTS: [Call; 10] = [
+const FAULTS: [Call; 11] = [
     (
         "the script is opened before the plan",
         &["swd", "run", "nope", "--plan", "none"],

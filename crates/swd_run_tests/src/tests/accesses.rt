@@ -16,6 +16,14 @@ struct Seen {
     accesses: ShortWriter,
 }
 
+// The writer that was passed, or one that took nothing.
+fn taken_by(rt: &HostRuntime, writer: Option<ShortWriter>) -> ShortWriter {
+    match writer {
+        Some(writer) => writer,
+        None => ShortWriter::new(rt.alloc(), 0, true),
+    }
+}
+
 // A run whose trace and accesses are written to files with so much room.
 fn run_on(rt: &HostRuntime, script: &[u8], plan: &[u8], trace: usize, accesses: usize) -> Seen {
     let mut script = script;
@@ -38,8 +46,8 @@ fn run_on(rt: &HostRuntime, script: &[u8], plan: &[u8], trace: usize, accesses: 
     Seen {
         answer,
         report,
-        trace: records.trace.expect(rt, "its writer"),
-        accesses: records.accesses.expect(rt, "its writer"),
+        trace: taken_by(rt, records.trace),
+        accesses: taken_by(rt, records.accesses),
     }
 }
 
@@ -49,11 +57,11 @@ const ROWS: [(&str, &[u8], &[u8], &[u8]); 7] = [
     ("none", b"memory 20000000 1\n", b"", b""),
     ("a write", ONE_WRITE, b"", b"@590 w 20000000 deadbeef\n"),
     (
-        "a write, two reads, each followed by a read of RDBUFF, and a bus error",
+        "a write, two reads and a bus error, each behind a read of RDBUFF, and two of them behind a write of TAR",
         WORKED,
         b"",
-        b"@590 w 20000000 deadbeef\n@682 r 20000000 deadbeef\n@774 r 20000004 00000000\n\
-            @912 r 30000000 ???????? not\n",
+        b"@590 w 20000000 deadbeef\n@728 r 20000000 deadbeef\n@820 r 20000004 00000000\n\
+            @958 r 30000000 ???????? not\n",
     ),
     (
         "a write whose data is damaged is written again, after FAULT, CTRL/STAT, ABORT and CTRL/STAT",

@@ -2,7 +2,7 @@ use Rattle.std.proofs.Common.{◌≡◌, ◌≤◌, ◌+◌, ◌∙◌, ℕ, Lis
 use Rattle.std.proofs.Math.Logic.{∥∥₁_map}
 use Rattle.swd_trace.specs.declared.item.Item.{Item}
 use Rattle.swd_observer.specs.Runs.{Accounted}
-use Rattle.swd_observer.specs.Traces.{from_made, told_in}
+use Rattle.swd_observer.specs.Traces.{from_made, from_unknown, told_in}
 use Rattle.swd_host.specs.Reports.{IsAtRest}
 use Rattle.swd_recorder.specs.Recorders.{calls_by, lawful_by, plan_by, port_by}
 use Rattle.swd_recorder.specs.Items.{items_by}
@@ -12,7 +12,7 @@ use Rattle.swd_run.specs.Records.{files_of, no_files}
 use Rattle.swd_run.specs.Recorded.{Stepped}
 use Rattle.swd_run.specs.Sessions.{ended_of, requests_of}
 use Rattle.swd_run.proofs.EngineLemmas.{answers_by, ran_by, recorded_in, untold}
-use Rattle.swd_run.proofs.RecordedLemmas.{recorded_accounted}
+use Rattle.swd_run.proofs.RecordedLemmas.{any_recorded_accounted, recorded_accounted}
 use Rattle.swd_run.proofs.RunLemmas.{IsRecorded, of_trace, trace_of}
 use Rattle.swd_run.proofs.SessionLemmas.{recorded}
 use Rattle.swd_run.proofs.engine.run_traced.Goals as goal
@@ -51,6 +51,14 @@ returns-in-Ok-clause-answer g c =
           subst (λ l. Accounted m.log (told_in l from_made) (port_by end)) (sym same)
           (recorded_accounted identification m (calls_by end) (port_by end)
           (subst (λ s. Stepped s (calls_by end) (port_by end)) (c.requires.start ∙ is_made) (steps law))
+          (all_whole items (items_by (calls_by end)) (asks_in (calls_by end)) _ same count (kept law rest).rests)));
+      explained_any = λ law rest idle.
+          let same = c.items.ensures.whole uncut in
+          let count = c.items.ensures.counted uncut in
+          ∥∥₁_map c.run_reported.new.wire.steps (λ steps.
+          subst (λ l. Accounted (port_by start).target.memory.log (told_in l from_unknown) (port_by end)) (sym same)
+          (any_recorded_accounted (calls_by end) (port_by start) (port_by end) rest.due rest.settled idle
+          (subst (λ s. Stepped s (calls_by end) (port_by end)) c.requires.start (steps law))
           (all_whole items (items_by (calls_by end)) (asks_in (calls_by end)) _ same count (kept law rest).rests)));
     })
     (record {
