@@ -55,12 +55,17 @@ fn a_script_sends_what_was_recorded(rt: HostRuntime) {
     expect_eq(&rt, &sent.as_slice(), &UNDISTURBED.characters);
 }
 
-// The trace is that of a run over the simulated target, which shows the same words.
+// The trace is that of a run over the simulated target, which shows the same words. The opening shows SELECT and CSW, so
+// that the accesses are known.
 #[test]
 fn a_remote_run_is_traced(rt: HostRuntime) {
     let mut sent = Vec::new(rt.alloc());
     let mut report = Vec::new(rt.alloc());
-    let mut records = only_trace(Vec::new(rt.alloc()));
+    let mut records = Records {
+        trace: Some(Vec::new(rt.alloc())),
+        accesses: Some(Vec::new(rt.alloc())),
+        made: false,
+    };
     let mut script = SCRIPT;
     let (answer, line) = run_remote::<Untold, _, _, _, _, _, _>(
         rt.alloc(),
@@ -73,6 +78,12 @@ fn a_remote_run_is_traced(rt: HostRuntime) {
         &mut records,
     );
     let trace = records.trace.expect(&rt, "its writer");
+    let accesses = records.accesses.expect(&rt, "its writer");
+    expect_eq(
+        &rt,
+        &accesses.as_slice(),
+        &b"@590 w 20000000 deadbeef\n@728 r 20000000 deadbeef\n".as_slice(),
+    );
     let finished = Finished {
         ended: End::All,
         differs: None,
