@@ -1,6 +1,6 @@
 //! Prints a trace text piece by piece.
 ghost use Rattle.std.specs.Prelude.{◌≡◌, ℕ, ◌+◌, ◌-◌, ◌^◌, ◌<◌, min, List, Bool, false, [], ◌∷◌, ◌++◌};
-ghost use Rattle.std.specs.Prelude.{length, Option, OnOk, OnErr, IfErr};
+ghost use Rattle.std.specs.Prelude.{length, OnOk, OnErr, IfErr};
 ghost use Rattle.swd_io.specs.Blocks.{Sends};
 ghost use Rattle.swd_io.specs.Pieces.{LeadsOn, LeadsToEnd};
 ghost use Rattle.swd_io.proofs.PieceLemmas.{leads_nowhere, leads_further, leads_to_later_end};
