@@ -23,8 +23,9 @@ abbrev pub WentOver : {R W : Type 0} → (R → Option (List ℕ)) → (W → Op
     → List Call → Type 0
 WentOver remaining contents sent left line calls = ∥ GoesOver remaining contents sent left line calls ∥₁
 
--- The script is run over a line. Its report is written to a file or to standard error, and its trace and accesses to the
--- files that are named for them. Nothing else is known of these files. Only tests show that the line is over the standard streams.
+-- The script is run over a line. Its report is written to a file or to standard error, and its trace and accesses to
+-- the files that are named for them. Nothing else is known of these files. Only tests show that the line is over the
+-- standard streams.
 abbrev pub PerformsAt : {R W : Type 0} → (ℕ → Port) → RunLine → ℕ → (R → Option (List ℕ)) → (W → Option (List ℕ))
     → Option (List ℕ) → Option (List ℕ) → Option (List ℕ) → Type 0
 PerformsAt {R} {W} story run status remaining contents sent left script =

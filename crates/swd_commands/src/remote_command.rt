@@ -47,8 +47,8 @@ fn open_report<F: Files>(files: &F, name: &str, read: Sources) -> io::Result<Des
     })
 }
 
-/// Opens the report's file, and those of the trace and the accesses if they are named. Then runs the script at the target behind the
-/// streams, and returns the status.
+/// Opens the report's file, and those of the trace and the accesses if they are named. Then runs the script at the
+/// target behind the streams, and returns the status.
 pub fn perform_remote<P: Story, S: Read, I: Read + Drop, F: Files, O: Write + Drop, E: Write>(
     alloc: Global,
     run: &RunLine,

@@ -39,8 +39,8 @@ fn script_fault(unread: Unread<ScriptFault>) -> RemoteFault
 }
 
 /// Reads a script, and runs its calls by `swd_run::run_batches` at the target behind a remote_bitbang server. Writes
-/// their reports, and the files for which `records` has a writer. Then sends `Q`. The script's memory and log capacity are
-/// ignored. Returns the connection too, with the error that ended it, if any.
+/// their reports, and the files for which `records` has a writer. Then sends `Q`. The script's memory and log capacity
+/// are ignored. Returns the connection too, with the error that ended it, if any.
 ///
 /// Whatever comes back, the run ends unless the connection blocks, and its report matches the calls that were made. For
 /// every story with which the replies are consistent, the report is as `run_batches` promises. Up to the first I/O

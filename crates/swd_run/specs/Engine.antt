@@ -107,11 +107,11 @@ pub record StopsInLast (written : ℕ) (old new : Option (List ℕ)) (batches : 
     pub past : length (session_text batches earlier) ≤ stopped.sent
 
 -- THE RESULT
--- What a result states about the batches, about the contents of the report's writer before and after, and about those of
--- the other files. `Came` is what ran, and `runs` gives its runs. `IsWhole` and `IsPart` say which items are its complete
--- or truncated trace. `Short` is what ran if memory ran out, and `runs_before` gives the runs before the one without
--- memory. If a report couldn't be written, its run is the last one. If another file couldn't be written, all reports
--- were.
+-- What a result states about the batches, about the contents of the report's writer before and after, and about those
+-- of the other files. `Came` is what ran, and `runs` gives its runs. `IsWhole` and `IsPart` say which items are its
+-- complete or truncated trace. `Short` is what ran if memory ran out, and `runs_before` gives the runs before the one
+-- without memory. If a report couldn't be written, its run is the last one. If another file couldn't be written, all
+-- reports were.
 module _ {Came Short : Type 0} (batches : List Listed) (used : Option ℕ) (runs : Came → List Done)
     (runs_before : Short → List Done) (IsWhole IsPart : Came → List Item → Type 0) where
   abbrev pub Answers : Result Finished EngineFault → Option (List ℕ) → Option (List ℕ) → Files → Files → Type 0

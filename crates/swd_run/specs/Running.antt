@@ -128,7 +128,8 @@ AnswersScript tries resumes script marks answer old new before after =
     (memory : PlainMemory)
     × Answers {Came = RanScript tries resumes script marks memory} {Short = RanScriptShort tries resumes script marks}
     script.batches (full_room script.room memory) (λ ran. ran.runs) (λ short. short.runs)
-    (λ ran items. IsTraceIn memory ran.runs items) (λ ran items. IsOfTrace (requests_of ran.runs) items) answer old new before after
+    (λ ran items. IsTraceIn memory ran.runs items) (λ ran items. IsOfTrace (requests_of ran.runs) items) answer old new
+    before after
 
 -- the inputs were read, and the engine gave this result
 pub record RanText (tries resumes : ℕ) (answer : Result Finished EngineFault) (script plan old new : Option (List ℕ))

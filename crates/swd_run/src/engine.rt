@@ -170,9 +170,10 @@ fn run_recorded<B: Origin, W: Wire, O: Write, T: Write, A: Allocator + Copy>(
     requires due { (W.port wire).link.due ≡ Nothing }
     requires start { B.start ≡ with_asked 0 (W.port wire) }
     requires wanted { is_recorded (files_of T.contents records.old) ≡ true }
-    ensures answer { (counted : ℕ) × AnswersOver (port_seen true W.port) (λ seen. W.plan seen.1) (λ seen. W.lawful seen.1)
-        tries resumes (map listed batches.now) (0, wire) (counted, result.1) result.0 (O.contents report.old)
-        (O.contents report.new) (files_of T.contents records.old) (files_of T.contents records.new) }
+    ensures answer { (counted : ℕ)
+        × AnswersOver (port_seen true W.port) (λ seen. W.plan seen.1) (λ seen. W.lawful seen.1) tries resumes
+        (map listed batches.now) (0, wire) (counted, result.1) result.0 (O.contents report.old) (O.contents report.new)
+        (files_of T.contents records.old) (files_of T.contents records.new) }
     ensures plan { W.plan result.1 ≡ W.plan wire }
 {
     let mut traced = Traced::<W, A, B>::new(alloc, wire);
@@ -181,8 +182,8 @@ fn run_recorded<B: Origin, W: Wire, O: Write, T: Write, A: Allocator + Copy>(
 }
 
 /// Runs the calls of a script in order over a wire on which nothing is due, up to the first that doesn't end `All`.
-/// Writes the report of each call before the next one starts. Then writes the trace and the accesses that it shows, each
-/// if there is a writer for it. Returns the wire too.
+/// Writes the report of each call before the next one starts. Then writes the trace and the accesses that it shows,
+/// each if there is a writer for it. Returns the wire too.
 ///
 /// `tries` is the number of events that the opening, and each access, may meet. After a lost acknowledgement a call
 /// continues by `swd_host::resume`, at most `resumes` times. The report has a line for each time. The answers of a call

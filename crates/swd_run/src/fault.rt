@@ -22,8 +22,8 @@ pub enum EngineFault {
     /// Out of memory for a call. The reports of the calls before it are complete.
     #[error("no memory")]
     Memory,
-    /// The writer of the reports or of the trace failed, or took no bytes. Exactly the first `written` bytes of its output were written; more than
-    /// 2^64 - 1 are reported as 2^64 - 1.
+    /// The writer of the reports or of the trace failed, or took no bytes. Exactly the first `written` bytes of its
+    /// output were written; more than 2^64 - 1 are reported as 2^64 - 1.
     #[error("write failed")]
     Write { written: u64 },
     /// The writer of the accesses failed, or took no bytes. Exactly the first `written` bytes of them were written, at

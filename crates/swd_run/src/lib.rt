@@ -1,6 +1,7 @@
 //! The engine of `swd run`. It runs a script's calls over any wire, and resumes a call after a lost acknowledgement. It
-//! writes the report of each call when it ends, and then the trace and the accesses that it shows. It returns the first read whose answer wasn't the
-//! expected word. [`run_text`] does the same over a simulated target with the marks of a plan.
+//! writes the report of each call when it ends, and then the trace and the accesses that it shows. It returns the first
+//! read whose answer wasn't the expected word. [`run_text`] does the same over a simulated target with the marks of a
+//! plan.
 #![tactic(auto)]
 
 mod engine;

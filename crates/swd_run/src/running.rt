@@ -160,7 +160,8 @@ pub fn run_text<S: Read, P: Read, W: Write, T: Write, A: Allocator + Copy>(
     records: &mut Records<T>,
 ) -> Result<Finished, RunFault>
     ensures { RunsText tries resumes result (S.remaining script.old) (P.remaining plan.old)
-        (W.contents writer.old) (W.contents writer.new) (files_of T.contents records.old) (files_of T.contents records.new) }
+        (W.contents writer.old) (W.contents writer.new) (files_of T.contents records.old)
+        (files_of T.contents records.new) }
 {
     let Texts { script, plan } = match read_texts(alloc, script, plan) {
         Ok(texts) => texts,
