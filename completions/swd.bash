@@ -26,14 +26,14 @@ _swd() {
         words='--help -h'
         ;;
     run)
-        words='--plan --tries --resume --trace --strict --remote --report --help -h'
+        words='--plan --tries --resume --trace --accesses --strict --remote --report --help -h'
         ;;
     target)
         words='--plan --log --trace --help -h'
         ;;
     esac
     case $before in
-    --log | --plan | --report | --trace)
+    --accesses | --log | --plan | --report | --trace)
         mapfile -t COMPREPLY < <(compgen -f -- "$word")
         return
         ;;

@@ -26,6 +26,7 @@ complete -c swd -n '__fish_seen_subcommand_from run' -l plan -r -F -d 'Inject fa
 complete -c swd -n '__fish_seen_subcommand_from run' -l tries -x -d 'Retries per access, from 0 to 1000 [default: 8]'
 complete -c swd -n '__fish_seen_subcommand_from run' -l resume -x -d 'Resumptions per call, from 0 to 1000 [default: 0]'
 complete -c swd -n '__fish_seen_subcommand_from run' -l trace -r -F -d 'Write the trace to FILE (overwrites it)'
+complete -c swd -n '__fish_seen_subcommand_from run' -l accesses -r -F -d 'Write the accesses to FILE (overwrites it)'
 complete -c swd -n '__fish_seen_subcommand_from run' -l strict -d 'Exit with status 1 if an access met a bus error'
 complete -c swd -n '__fish_seen_subcommand_from run' -l remote -d 'The target is a remote_bitbang server on the streams'
 complete -c swd -n '__fish_seen_subcommand_from run' -l report -r -F -d 'With --remote: write the report to FILE, - is stderr'

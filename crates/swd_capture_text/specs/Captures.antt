@@ -1,11 +1,15 @@
 -- What is written for a trace text that is to be printed.
 use Rattle.std.specs.Prelude.{◌≡◌, ℕ, ◌+◌, ◌-◌, ◌^◌, ◌<◌, ◌⊎◌, min, Bool, List, length, take, Option, Some, Result, Ok}
-use Rattle.std.specs.Prelude.{Err, IfSome}
+use Rattle.std.specs.Prelude.{Err, IfSome, map}
 use Rattle.std.specs.Io.KnownBytes.{Appends, Consumes, IsAtEnd}
 use Rattle.swd_io.specs.Blocks.{Stopped}
 use Rattle.swd_bits.specs.TraceText.{bits_of_text}
 use Rattle.swd_bits.specs.One.{IsFirstBad}
+use Rattle.swd_trace.specs.declared.item.Item.{Item}
+use Rattle.swd_trace.specs.Reading.{reading_of}
+use Rattle.swd_trace.specs.Texts.{bits_of_items, trace_text}
 use Rattle.swd_resync.specs.declared.part.Part.{Part}
+use Rattle.swd_resync.specs.declared.part.Part.TheVariants.{Item as Told}
 use Rattle.swd_text.specs.declared.fault.TextFault.{TextFault}
 use Rattle.swd_text.specs.declared.fault.TextFault.TheVariants.{BadChar, TooLong}
 use Rattle.swd_text.specs.declared.fault.DecodeFault.{DecodeFault}
@@ -13,6 +17,7 @@ use Rattle.swd_text.specs.declared.fault.DecodeFault.TheVariants.{Text, Read, Wr
 use Rattle.swd_capture.specs.declared.printed.Printed.{Printed}
 use Rattle.swd_capture.specs.Printing.{told, printout}
 use Rattle.swd_capture_text.specs.declared.reading.Reading.{Reading}
+use Rattle.swd_capture_text.specs.declared.reading.Reading.TheVariants.{Trace}
 use Rattle.swd_capture_text.specs.Readings.{Decides, is_over, parts_by}
 
 -- the text has fewer than 2^64 bits, and they decide these parts
@@ -86,3 +91,13 @@ Finishes reading printed (Ok u) text start now =
 Finishes reading printed (Err count) text start now =
     (parts : List Part) × ReadsAs reading text parts
     × Stopped count start now (printout printed (is_over reading) parts)
+
+-- the output for the items of a whole trace
+abbrev pub printout_of_items : Printed → List Item → List ℕ
+printout_of_items printed items = printout printed (is_over Trace) (map Told items)
+
+-- The text of a trace is read as its items, if these are what their bits are read as. So what is printed of that text
+-- is the output for the items.
+abbrev pub TextsAreRead : Type 0
+TextsAreRead = (items : List Item) → reading_of (bits_of_items items) ≡ items → length (bits_of_items items) < 2 ^ 64
+    → ReadsAs Trace (trace_text items) (map Told items)

@@ -1,13 +1,11 @@
 //! Prints a trace text piece by piece.
 ghost use Rattle.std.specs.Prelude.{◌≡◌, ℕ, ◌+◌, ◌-◌, ◌^◌, ◌<◌, min, List, Bool, false, [], ◌∷◌, ◌++◌};
-ghost use Rattle.std.specs.Prelude.{length, Option, OnOk, OnErr, IfErr};
+ghost use Rattle.std.specs.Prelude.{length, OnOk, OnErr, IfErr};
 ghost use Rattle.swd_io.specs.Blocks.{Sends};
 ghost use Rattle.swd_io.specs.Pieces.{LeadsOn, LeadsToEnd};
 ghost use Rattle.swd_io.proofs.PieceLemmas.{leads_nowhere, leads_further, leads_to_later_end};
 ghost use Rattle.swd_resync.specs.declared.part.Part.{Part};
 ghost use Rattle.swd_text.specs.Listers.{StopsAt};
-ghost use Rattle.swd_capture.specs.declared.printed.Printed.{Printed};
-ghost use Rattle.swd_capture.specs.Printing.{end_row_text, entry, printout, told};
 ghost use Rattle.swd_capture.specs.Tellers.{IsAfter};
 ghost use Rattle.swd_capture_text.specs.Captures.{Finishes};
 ghost use Rattle.swd_capture_text.specs.Listers.{Start, IsBehind, told_of, Lists, GoesOn, Listed, HasRead, StopsIn};
@@ -15,12 +13,13 @@ ghost use Rattle.swd_capture_text.specs.Listers.{Ends};
 ghost use Rattle.swd_capture_text.specs.Readings.{Decides, is_over, parts_by};
 ghost use Rattle.swd_capture_text.specs.Sources.{Has, IsReady, fed_of};
 
+use crate::queue::{put_part, put_rows};
 use crate::reading::Reading;
 use crate::source::Source;
 use arrayvec::ArrayString;
 use std::io::Write;
 use swd_bits::{Scan, Sign};
-use swd_capture::{LONGEST_ENTRY, Printed, ROWS, Teller};
+use swd_capture::{LONGEST_ENTRY, Printed, Teller};
 use swd_io::{Block, Consumer};
 use swd_resync::Part;
 use swd_text::{TakeFault, TextFault};
@@ -37,44 +36,6 @@ pub(crate) struct Lister {
     written: u64,
     // A buffer for one part's output. It is kept, since a new one for each part takes time.
     line: ArrayString<LONGEST_ENTRY>,
-}
-
-// Also queues the output of a part.
-#[inline(never)]
-fn put_part<W: Write>(
-    block: &mut Block<'_, W>,
-    line: &mut ArrayString<LONGEST_ENTRY>,
-    teller: &mut Teller,
-    part: &Part,
-)
-    ensures after { (printed : Printed) (over : Bool) (parts : List Part) → IsAfter printed over parts teller.old
-        → IsAfter printed over (parts ++ part.now ∷ []) teller.new }
-    ensures sends { (printed : Printed) (over : Bool) (parts : List Part) → IsAfter printed over parts teller.old
-        → (start : Option (List ℕ)) (all : List ℕ) → Sends W.contents start block.old all
-        → Sends W.contents start block.new (all ++ entry printed over parts part.now) }
-    ensures writer { block.new.writer.ghost_name ≡ block.old.writer.ghost_name }
-{
-    line.clear();
-    teller.tell(part, line);
-    block.put(line.as_str().as_bytes());
-}
-
-// Also queues a row of the end.
-fn put_row<W: Write>(
-    block: &mut Block<'_, W>,
-    line: &mut ArrayString<LONGEST_ENTRY>,
-    teller: &Teller,
-    row: usize,
-)
-    requires { row < ROWS }
-    ensures sends { (printed : Printed) (over : Bool) (parts : List Part) → IsAfter printed over parts teller.now
-        → (start : Option (List ℕ)) (all : List ℕ) → Sends W.contents start block.old all
-        → Sends W.contents start block.new (all ++ end_row_text printed over parts row) }
-    ensures writer { block.new.writer.ghost_name ≡ block.old.writer.ghost_name }
-{
-    line.clear();
-    teller.push_row(row, line);
-    block.put(line.as_str().as_bytes());
 }
 
 impl Lister {
@@ -206,18 +167,6 @@ impl Lister {
         }
     }
 
-    // Also queues the rows of the end.
-    fn put_rows<W: Write>(&mut self, block: &mut Block<'_, W>)
-        ensures sends { (start : Option (List ℕ)) (printed : Printed) (over : Bool) (parts : List Part)
-            → IsAfter printed over parts self.old.teller → Sends W.contents start block.old (told printed over parts)
-            → Sends W.contents start block.new (printout printed over parts) }
-        ensures writer { block.new.writer.ghost_name ≡ block.old.writer.ghost_name }
-    {
-        for row in 0..self.teller.rows() {
-            put_row(block, &mut self.line, &self.teller, row);
-        }
-    }
-
     /// Writes the rest of the output of a text that was read to its end.
     ///
     /// # Errors
@@ -230,7 +179,7 @@ impl Lister {
     {
         let mut block = Block::new(writer, self.written);
         self.put_last(&mut block);
-        self.put_rows(&mut block);
+        put_rows(&mut block, &mut self.line, &self.teller);
         match block.flush() {
             Ok(_) => Ok(()),
             Err(written) => Err(written),

@@ -1,15 +1,16 @@
 -- The status of a run at a remote target.
-use Rattle.std.specs.Prelude.{◌≡◌, ◌⊎◌, ℕ, Bool, List, Option, Some, Result, Ok, is_some}
+use Rattle.std.specs.Prelude.{◌≡◌, ◌⊎◌, ℕ, Bool, false, List, Option, Some, Result, Ok}
 use Rattle.swd_port.specs.declared.call.Call.{Call}
 use Rattle.swd_port.specs.Port.{Port}
 use Rattle.swd_remote.specs.declared.kept.Line.{Line}
 use Rattle.swd_remote.specs.declared.remote.Fault.{Fault}
 use Rattle.swd_remote.specs.WholeRuns.{GoesOver, IsUnused}
 use Rattle.swd_run.specs.declared.engine.Finished.{Finished}
+use Rattle.swd_run.specs.Records.{Files}
 use Rattle.swd_ends.specs.declared.remote.RemoteFault.{RemoteFault}
 use Rattle.swd_ends.specs.RemoteRuns.{RunsRemote}
 use Rattle.swd_words.specs.declared.command.RunLine.{RunLine}
-use Rattle.swd_commands.specs.Statuses.{status_of_run}
+use Rattle.swd_commands.specs.Statuses.{AreFor, status_of_run}
 
 -- the status is 1 if the run has a report but the other end is gone, and otherwise that of the run
 abbrev pub status_at : Bool → Option Fault → Result Finished RemoteFault → ℕ
@@ -22,17 +23,17 @@ abbrev pub WentOver : {R W : Type 0} → (R → Option (List ℕ)) → (W → Op
     → List Call → Type 0
 WentOver remaining contents sent left line calls = ∥ GoesOver remaining contents sent left line calls ∥₁
 
--- The script is run over a line. Its report is written to a file or to standard error, and its trace, if one is named,
--- to a file. Nothing else is known of these files. Only tests show that the line is over the standard streams.
+-- The script is run over a line. Its report is written to a file or to standard error, and its trace and accesses to
+-- the files that are named for them. Nothing else is known of these files. Only tests show that the line is over the
+-- standard streams.
 abbrev pub PerformsAt : {R W : Type 0} → (ℕ → Port) → RunLine → ℕ → (R → Option (List ℕ)) → (W → Option (List ℕ))
     → Option (List ℕ) → Option (List ℕ) → Line R W → Option (List ℕ) → Type 0
 PerformsAt story run status remaining contents sent left line script =
     (answer : Result Finished RemoteFault) × (before : Option (List ℕ)) × (after : Option (List ℕ))
-    × (untraced : Option (Option (List ℕ))) × (traced : Option (Option (List ℕ)))
-    × (is_some untraced ≡ is_some run.trace)
+    × (unwritten : Files) × (written : Files) × AreFor run false unwritten
     × RunsRemote story run.tries run.resumes (WentOver remaining contents sent left line)
     (IsUnused remaining contents sent left line)
-    answer script before after untraced traced × (status ≡ status_at run.strict line.fault answer)
+    answer script before after unwritten written × (status ≡ status_at run.strict line.fault answer)
 
 -- or a file can't be opened: the status is 2, and nothing was sent or read
 abbrev pub PerformsRemote : {R W : Type 0} → (ℕ → Port) → RunLine → ℕ → (R → Option (List ℕ)) → (W → Option (List ℕ))

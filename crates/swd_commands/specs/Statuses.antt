@@ -18,6 +18,7 @@ use Rattle.swd_host.specs.declared.outcome.End.{End}
 use Rattle.swd_host.specs.declared.outcome.End.TheVariants.{All, Lost, TriesOut, WrongId, Confused}
 use Rattle.swd_run.specs.declared.engine.Finished.{Finished}
 use Rattle.swd_run.specs.declared.fault.RunFault.{RunFault}
+use Rattle.swd_run.specs.Records.{Files}
 use Rattle.swd_run.specs.Running.{RunsText}
 use Rattle.std.specs.Io.KnownBytes.{Appends}
 
@@ -46,26 +47,32 @@ status_of_run strict (Err fault) = 2
 abbrev pub NotOpened : ℕ → Option (List ℕ) → Option (List ℕ) → Type 0
 NotOpened status old new = (status ≡ 2) × Appends old new []
 
--- A run reads a script and a plan, and writes a report. Its status is that of its end. The trace is written to the file
--- that is named for it. Nothing else is known of that file.
-abbrev pub PerformsUnder : {S : Type 0} → Option S → RunLine → ℕ → Option (List ℕ) → Option (List ℕ) → Option (List ℕ)
-    → Option (List ℕ) → Type 0
-PerformsUnder None run status script plan old new =
-    (answer : Result Finished RunFault) × (after : Option (Option (List ℕ)))
-    × RunsText run.tries run.resumes answer script plan old new None after
-    × (status ≡ status_of_run run.strict answer)
-PerformsUnder (Some trace) run status script plan old new =
-    NotOpened status old new
-    ⊎ ((answer : Result Finished RunFault) × (before : Option (List ℕ)) × (after : Option (Option (List ℕ)))
-    × RunsText run.tries run.resumes answer script plan old new (Some before) after
+-- whether a file is named that a run writes beside its report
+abbrev pub names_record : RunLine → Bool
+names_record run = is_some run.trace || is_some run.accesses
+
+-- the files that a run writes beside its report are those that are named; `made` says that the target begins in its
+-- reset state
+pub record AreFor (run : RunLine) (made : Bool) (files : Files) : Type 0 where
+  pub trace : is_some files.trace ≡ is_some run.trace
+  pub accesses : is_some files.accesses ≡ is_some run.accesses
+  pub reset : files.made ≡ made
+
+-- A run reads a script and a plan, and writes a report. Its status is that of its end. The trace and the accesses are
+-- written to the files that are named for them. Nothing else is known of these files.
+abbrev pub PerformsUnder : RunLine → ℕ → Option (List ℕ) → Option (List ℕ) → Option (List ℕ) → Option (List ℕ) → Type 0
+PerformsUnder run status script plan old new =
+    ((names_record run ≡ true) × NotOpened status old new)
+    ⊎ ((answer : Result Finished RunFault) × (before : Files) × (after : Files) × AreFor run true before
+    × RunsText run.tries run.resumes answer script plan old new before after
     × (status ≡ status_of_run run.strict answer))
 
 -- Without a named plan the plan is empty. Otherwise it is some text: no contract knows the contents of a file.
 abbrev pub PerformsRun : {S : Type 0} → Option S → RunLine → ℕ → Option (List ℕ) → Option (List ℕ) → Option (List ℕ)
     → Type 0
-PerformsRun None run status script old new = PerformsUnder run.trace run status script (Some []) old new
+PerformsRun None run status script old new = PerformsUnder run status script (Some []) old new
 PerformsRun (Some plan) run status script old new =
-    NotOpened status old new ⊎ ((text : Option (List ℕ)) × PerformsUnder run.trace run status script text old new)
+    NotOpened status old new ⊎ ((text : Option (List ℕ)) × PerformsUnder run status script text old new)
 
 -- a run at a remote target has its standard input for that target, so its script can't be standard input
 abbrev pub PerformsWhere : Bool → RunLine → ℕ → Option (List ℕ) → Option (List ℕ) → Option (List ℕ) → Type 0

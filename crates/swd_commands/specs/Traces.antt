@@ -1,12 +1,13 @@
--- The file that a trace is written to.
+-- The file that a trace or the accesses are written to.
 use Rattle.std.specs.Prelude.{◌≢◌, ℕ, List, Some, codes}
 use Rattle.swd_commands.specs.declared.open_files.Identity.{Identity}
 use Rattle.swd_commands.specs.declared.trace.Sources.{Sources}
 
--- the trace's file is neither the script's, nor the plan's, nor another one that is written, and its name isn't `-`,
--- which would be standard output
-pub record IsBeside (trace : Identity) (name : List ℕ) (read : Sources) : Type 0 where
+-- the file is neither the script's, nor the plan's, nor another one that is written, and its name isn't `-`, which
+-- would be standard output
+pub record IsBeside (file : Identity) (name : List ℕ) (read : Sources) : Type 0 where
   pub named : name ≢ codes "-"
-  pub script : read.script ≢ Some trace
-  pub plan : read.plan ≢ Some trace
-  pub written : read.written ≢ Some trace
+  pub script : read.script ≢ Some file
+  pub plan : read.plan ≢ Some file
+  pub written : read.written ≢ Some file
+  pub trace : read.trace ≢ Some file

@@ -8,7 +8,7 @@ use crate::open_files::{Files, Identity};
 use crate::remote_command::{Untold, perform_remote};
 use crate::report::{DONE, FAULT, cannot_open, engine_status, one_status, run_status, tell};
 use crate::target_command::perform_target;
-use crate::trace::{Sources, open_plan, open_trace};
+use crate::trace::{Sources, open_plan, open_records};
 use clap::Error;
 use std::alloc::Global;
 use std::io::{Read, Write};
@@ -160,6 +160,7 @@ fn perform_run<S: Read, F: Files, O: Write, E: Write>(
             script: source,
             plan: None,
             written: None,
+            trace: None,
         };
         return perform_under(
             alloc,
@@ -178,6 +179,7 @@ fn perform_run<S: Read, F: Files, O: Write, E: Write>(
                 script: source,
                 plan: Some(opened.identity),
                 written: None,
+                trace: None,
             };
             perform_under(
                 alloc,
@@ -194,7 +196,7 @@ fn perform_run<S: Read, F: Files, O: Write, E: Write>(
     }
 }
 
-// Opens the trace's file, if one is named, and runs the script under the plan.
+// Opens the files of the trace and the accesses, if they are named, and runs the script under the plan.
 fn perform_under<S: Read, P: Read, F: Files, O: Write, E: Write>(
     alloc: Global,
     run: &RunLine,
@@ -205,20 +207,14 @@ fn perform_under<S: Read, P: Read, F: Files, O: Write, E: Write>(
     output: &mut O,
     errors: &mut E,
 ) -> u8
-    ensures { PerformsUnder run.now.trace run.now result (S.remaining script.old) (P.remaining plan.old)
-        (O.contents output.old) (O.contents output.new) }
+    ensures { PerformsUnder run.now result (S.remaining script.old) (P.remaining plan.old) (O.contents output.old)
+        (O.contents output.new) }
 {
-    let Some(name) = &run.trace else {
-        let none = &mut None::<F::Made>;
-        let answer = run_text(alloc, script, plan, run.tries, run.resumes, output, none);
-        return run_status(errors, answer, run.strict);
+    let mut records = match open_records(run, true, files, read, errors) {
+        Ok(records) => records,
+        Err(status) => return status,
     };
-    match open_trace(files, name.as_str(), read) {
-        Ok(opened) => {
-            let trace = &mut Some(opened.file);
-            let answer = run_text(alloc, script, plan, run.tries, run.resumes, output, trace);
-            run_status(errors, answer, run.strict)
-        }
-        Err(why) => cannot_open(errors, name.as_str(), &why),
-    }
+    let (tries, resumes) = (run.tries, run.resumes);
+    let answer = run_text(alloc, script, plan, tries, resumes, output, &mut records);
+    run_status(errors, answer, run.strict)
 }

@@ -1,12 +1,12 @@
 //! Performs `swd run --remote`: a run at a remote target on the standard streams.
-ghost use Rattle.std.specs.Prelude.{◌≡◌, [], is_some};
+ghost use Rattle.std.specs.Prelude.{◌≡◌, []};
 ghost use Rattle.std.specs.FinMap.{empty};
 ghost use Rattle.swd_port.specs.Port.{made};
 ghost use Rattle.swd_commands.specs.Remotes.{PerformsRemote, status_at};
 
-use crate::open_files::{Files, Identity, Opened};
+use crate::open_files::{Files, Identity};
 use crate::report::{STOPPED, cannot_open, run_status, tell};
-use crate::trace::{Sources, cannot_open_record, open_record, open_trace};
+use crate::trace::{Sources, open_records, open_trace};
 use std::alloc::Global;
 use std::io;
 use std::io::{Read, Write};
@@ -47,19 +47,9 @@ fn open_report<F: Files>(files: &F, name: &str, read: Sources) -> io::Result<Des
     })
 }
 
-// Returns the file without its identity.
-fn file_alone<M>(opened: Option<Opened<M>>) -> Option<M>
-    ensures { is_some result ≡ is_some opened }
-{
-    match opened {
-        Some(opened) => Some(opened.file),
-        None => None,
-    }
-}
-
-/// Opens the report's file, and the trace's file if one is named. Then runs the script at the target behind the
-/// streams. Returns the status, and the streams with the error that ended the connection, if any. If a file can't be
-/// opened, the streams weren't used.
+/// Opens the report's file, and those of the trace and the accesses if they are named. Then runs the script at the
+/// target behind the streams. Returns the status, and the streams with the error that ended the connection, if any. If
+/// a file can't be opened, the streams weren't used.
 pub fn perform_remote<P: Story, S: Read, I: Read + Drop, F: Files, O: Write + Drop, E: Write>(
     alloc: Global,
     run: &RunLine,
@@ -81,6 +71,7 @@ pub fn perform_remote<P: Story, S: Read, I: Read + Drop, F: Files, O: Write + Dr
         script: source,
         plan: None,
         written: None,
+        trace: None,
     };
     let report = match open_report(files, name.as_str(), read) {
         Ok(report) => report,
@@ -93,23 +84,20 @@ pub fn perform_remote<P: Story, S: Read, I: Read + Drop, F: Files, O: Write + Dr
         written: report.identity,
         ..read
     };
-    let trace = match open_record(files, &run.trace, beside) {
-        Ok(trace) => trace,
-        Err(why) => {
-            let status = cannot_open_record(errors, &run.trace, &why);
-            return (status, Line::unused(input, output));
-        }
+    let mut opened = match open_records(run, false, files, beside, errors) {
+        Ok(opened) => opened,
+        Err(status) => return (status, Line::unused(input, output)),
     };
-    let trace = &mut file_alone(trace);
+    let records = &mut opened;
     let (tries, resumes, strict) = (run.tries, run.resumes, run.strict);
     let Some(mut file) = report.file else {
         let (answer, line) = run_remote::<P, _, _, _, _, _, _>(
-            alloc, script, input, output, tries, resumes, errors, trace,
+            alloc, script, input, output, tries, resumes, errors, records,
         );
         return (reached_status(errors, answer, line.fault, strict), line);
     };
     let (answer, line) = run_remote::<P, _, _, _, _, _, _>(
-        alloc, script, input, output, tries, resumes, &mut file, trace,
+        alloc, script, input, output, tries, resumes, &mut file, records,
     );
     (reached_status(errors, answer, line.fault, strict), line)
 }

@@ -35,6 +35,7 @@ pub fn perform_target<S: Read, I: Read, F: Files, O: Write, E: Write, A: Allocat
             script: source,
             plan: None,
             written: None,
+            trace: None,
         };
         return serve_under(
             alloc,
@@ -55,6 +56,7 @@ pub fn perform_target<S: Read, I: Read, F: Files, O: Write, E: Write, A: Allocat
                 script: source,
                 plan: Some(opened.identity),
                 written: None,
+                trace: None,
             };
             let plan = &mut opened.file;
             serve_under(

@@ -1,11 +1,14 @@
-//! Opens the files of plans and traces, and refuses a file that is already in use.
-ghost use Rattle.std.specs.Prelude.{◌≡◌, ◌≢◌, IfOk, Some, is_some};
+//! Opens the files of plans, traces and accesses, and refuses a file that is already in use.
+ghost use Rattle.std.specs.Prelude.{◌≡◌, ◌≢◌, IfErr, IfOk, OnErr, Some, is_some, true};
+ghost use Rattle.swd_commands.specs.Statuses.{names_record};
 ghost use Rattle.swd_commands.specs.Traces.{IsBeside};
 
 use crate::open_files::{Files, Identity, Opened};
 use crate::report::{FAULT, cannot_open};
 use std::io;
 use std::io::{ErrorKind, Write};
+use swd_run::Records;
+use swd_words::RunLine;
 
 /// The other files of a run.
 #[derive(Clone, Copy)]
@@ -16,6 +19,8 @@ pub struct Sources {
     pub plan: Option<Identity>,
     /// Another file that is written, if there is one: the report's, which may be standard error, or the log's.
     pub written: Option<Identity>,
+    /// The trace's file, if it is open already.
+    pub trace: Option<Identity>,
 }
 
 // Returns the error for a file that may not be used.
@@ -31,9 +36,9 @@ fn known(stream: io::Result<Option<Identity>>, why: &str) -> io::Result<Option<I
     }
 }
 
-/// Opens the file that a trace is written to, and truncates it. Before it truncates, it checks that the file is neither
-/// the script, nor the plan, nor another file that is written, nor standard output. The contract leaves out the
-/// standard streams.
+/// Opens the file that a trace or the accesses are written to, and truncates it. Before it truncates, it checks that
+/// the file is neither the script, nor the plan, nor another file that is written, nor standard output. The contract
+/// leaves out the standard streams.
 ///
 /// # Errors
 ///
@@ -55,7 +60,7 @@ pub fn open_trace<F: Files>(files: &F, name: &str, read: Sources) -> io::Result<
     if identity == script || identity == read.plan {
         return Err(refusal("it is the script or the plan"));
     }
-    if identity == read.written || identity == output {
+    if identity == read.written || identity == read.trace || identity == output {
         return Err(refusal("it is another output"));
     }
     files.cut_off(&trace.file)?;
@@ -72,7 +77,8 @@ pub fn open_record<F: Files>(
     name: &Option<String>,
     read: Sources,
 ) -> io::Result<Option<Opened<F::Made>>>
-    ensures { IfOk result (λ opened. is_some opened ≡ is_some name.now) }
+    ensures ok { IfOk result (λ opened. is_some opened ≡ is_some name.now) }
+    ensures err { OnErr result (is_some name.now ≡ true) }
 {
     let Some(name) = name else {
         return Ok(None);
@@ -91,6 +97,52 @@ pub fn cannot_open_record<E: Write>(errors: &mut E, name: &Option<String>, why: 
         Some(name) => cannot_open(errors, name.as_str(), why),
         None => FAULT,
     }
+}
+
+// Returns the file without its identity.
+fn file_alone<M>(opened: Option<Opened<M>>) -> Option<M>
+    ensures { is_some result ≡ is_some opened }
+{
+    match opened {
+        Some(opened) => Some(opened.file),
+        None => None,
+    }
+}
+
+/// Opens the files that a run writes beside its report, as far as they are named. `made` says that the target begins in
+/// its reset state.
+///
+/// # Errors
+///
+/// Prints which file can't be opened or created, and why, and returns the status 2.
+pub fn open_records<F: Files, E: Write>(
+    run: &RunLine,
+    made: bool,
+    files: &F,
+    read: Sources,
+    errors: &mut E,
+) -> Result<Records<F::Made>, u8>
+    ensures ok { IfOk result (λ records. (is_some records.trace ≡ is_some run.now.trace)
+        × (is_some records.accesses ≡ is_some run.now.accesses) × (records.made ≡ made)) }
+    ensures err { IfErr result (λ status. (status ≡ 2) × (names_record run.now ≡ true)) }
+{
+    let trace = match open_record(files, &run.trace, read) {
+        Ok(trace) => trace,
+        Err(why) => return Err(cannot_open_record(errors, &run.trace, &why)),
+    };
+    let beside = Sources {
+        trace: trace.as_ref().map(|trace| trace.identity),
+        ..read
+    };
+    let accesses = match open_record(files, &run.accesses, beside) {
+        Ok(accesses) => accesses,
+        Err(why) => return Err(cannot_open_record(errors, &run.accesses, &why)),
+    };
+    Ok(Records {
+        trace: file_alone(trace),
+        accesses: file_alone(accesses),
+        made,
+    })
 }
 
 /// Opens the file of a plan. It has to differ from `other`, the other file that is read, or from standard input if that

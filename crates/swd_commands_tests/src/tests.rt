@@ -218,7 +218,8 @@ fn a_run_is_traced(rt: HostRuntime) {
     }
 }
 
-// A trace that is one of the other files, under whatever name, is refused with nothing written or cut off.
+// A trace, or a file of accesses, that is one of the other files, under whatever name, is refused with nothing written
+// or cut off.
 #[test]
 fn a_trace_is_none_of_the_other_files(rt: HostRuntime) {
     for (script, plan, trace, refused) in [
@@ -234,13 +235,15 @@ fn a_trace_is_none_of_the_other_files(rt: HostRuntime) {
         ("script", "quiet", "./-", false),
         ("script", "quiet", "traced", false),
     ] {
-        let words = ["swd", "run", script, "--plan", plan, "--trace", trace];
-        let ran = run_on(rt.alloc(), words.as_slice(), SCRIPT);
-        expect_eq(&rt, &ran.status, &if refused { 2 } else { 0 });
-        expect_eq(&rt, &ran.cuts, &usize::from(!refused));
-        expect_eq(&rt, &ran.output.is_empty(), &refused);
-        expect_eq(&rt, &(ran.traced == 0), &refused);
-        expect_eq(&rt, &ran.errors.starts_with(b"swd: cannot open "), &refused);
+        for record in ["--trace", "--accesses"] {
+            let words = ["swd", "run", script, "--plan", plan, record, trace];
+            let ran = run_on(rt.alloc(), words.as_slice(), SCRIPT);
+            expect_eq(&rt, &ran.status, &if refused { 2 } else { 0 });
+            expect_eq(&rt, &ran.cuts, &usize::from(!refused));
+            expect_eq(&rt, &ran.output.is_empty(), &refused);
+            expect_eq(&rt, &(ran.traced == 0), &refused);
+            expect_eq(&rt, &ran.errors.starts_with(b"swd: cannot open "), &refused);
+        }
     }
 }
 

@@ -10,6 +10,7 @@ use Rattle.swd_script.specs.Scripts.{Meaning, script_of}
 use Rattle.swd_run.specs.declared.engine.Finished.{Finished}
 use Rattle.swd_run.specs.declared.fault.EngineFault.{EngineFault}
 use Rattle.swd_run.specs.Engine.{AnswersAt}
+use Rattle.swd_run.specs.Records.{Files}
 use Rattle.swd_run.proofs.EngineLemmas.{answers_at_by}
 use Rattle.swd_ends.specs.RemoteRuns.{RanRemote}
 use Rattle.swd_remote.specs.declared.kept.Kept.{Kept}
@@ -38,7 +39,7 @@ went_over remaining contents sent left calls gone kept line went hangs_up =
 pub ran_remote : {W : Type 0} (calls_in : W → List Call) (story : ℕ → Port) (tries resumes : ℕ) (Over : List Call → Type 0)
     (script : Option (List ℕ)) (text : List ℕ) (meaning : Meaning) (s t : W) → IsText script text
     → script_of text ≡ Ok meaning → calls_in s ≡ [] → Over (calls_in t) → (answer : Result Finished EngineFault)
-    (old new : Option (List ℕ)) (before after : Option (Option (List ℕ)))
+    (old new : Option (List ℕ)) (before after : Files)
     → AnswersAt (λ w. port_at story (calls_in w)) (λ w. []) (λ w. FitsStory story (calls_in w)) tries resumes
     meaning.batches s t answer old new before after
     → RanRemote story tries resumes Over answer script old new before after

@@ -11,14 +11,15 @@ use Rattle.swd_script.specs.Readers.{IsScriptFault}
 use Rattle.swd_script.specs.declared.fault.ScriptFault.{ScriptFault}
 use Rattle.swd_run.specs.declared.engine.Finished.{Finished}
 use Rattle.swd_run.specs.declared.fault.EngineFault.{EngineFault}
-use Rattle.swd_run.specs.Engine.{AnswersAt, ForTrace, IsLeft}
+use Rattle.swd_run.specs.Engine.{AnswersAt}
+use Rattle.swd_run.specs.Records.{AreLeft, Files, IsLeft}
 use Rattle.swd_ends.specs.declared.remote.RemoteFault.{RemoteFault}
 use Rattle.swd_ends.specs.declared.remote.RemoteFault.TheVariants.{Script, Read, Engine}
 
 -- The reader's script was run over a wire to the outside. `calls` are its calls with what came back, the last one
 -- first. The wire is lawful if they are consistent with the story. `Over` holds of the connection and these calls.
 pub record RanRemote (story : ℕ → Port) (tries resumes : ℕ) (Over : List Call → Type 0)
-    (answer : Result Finished EngineFault) (script old new : Option (List ℕ)) (before after : Option (Option (List ℕ)))
+    (answer : Result Finished EngineFault) (script old new : Option (List ℕ)) (before after : Files)
     : Type 0 where
   pub text : List ℕ
   pub is_script : IsText script text
@@ -32,16 +33,15 @@ pub record RanRemote (story : ℕ → Port) (tries resumes : ℕ) (Over : List C
 -- What a result states about the script, if its bytes are known, and about the contents of the writers before and
 -- after. `unused` says that the connection wasn't used.
 abbrev pub RunsRemote : (ℕ → Port) → ℕ → ℕ → (List Call → Type 0) → Type 0 → Result Finished RemoteFault
-    → Option (List ℕ) → Option (List ℕ) → Option (List ℕ) → Option (Option (List ℕ)) → Option (Option (List ℕ))
-    → Type 0
+    → Option (List ℕ) → Option (List ℕ) → Option (List ℕ) → Files → Files → Type 0
 RunsRemote story tries resumes Over unused (Ok finished) script old new before after =
     RanRemote story tries resumes Over (Ok finished) script old new before after
 RunsRemote story tries resumes Over unused (Err (Engine fault)) script old new before after =
     RanRemote story tries resumes Over (Err fault) script old new before after
 RunsRemote story tries resumes Over unused (Err (Script fault)) script old new before after =
-    IfSome script (IsScriptFault fault) × IsLeft old new × ForTrace IsLeft before after × unused
+    IfSome script (IsScriptFault fault) × IsLeft old new × AreLeft before after × unused
 RunsRemote story tries resumes Over unused (Err Read) script old new before after =
-    IsLeft old new × ForTrace IsLeft before after × unused
+    IsLeft old new × AreLeft before after × unused
 
 -- the error of a script that wasn't read
 abbrev pub script_fault : Unread ScriptFault → RemoteFault

@@ -1,7 +1,7 @@
 //! Runs a script at a target behind OpenOCD's remote_bitbang characters.
 ghost use Rattle.std.specs.Prelude.{◌≡◌};
 ghost use Rattle.swd_remote.specs.WholeRuns.{GoesOver, IsUnused};
-ghost use Rattle.swd_run.specs.Engine.{held};
+ghost use Rattle.swd_run.specs.Records.{files_of};
 ghost use Rattle.swd_ends.specs.RemoteRuns.{RunsRemote, script_fault as script_fault_of};
 
 use std::alloc::Allocator;
@@ -10,7 +10,7 @@ use std::marker::Brand;
 use swd_io::Unread;
 use swd_port::{Outside, Story, Tied};
 use swd_remote::{Beginning, Kept, Line};
-use swd_run::{EngineFault, Finished, run_batches};
+use swd_run::{EngineFault, Finished, Records, run_batches};
 use swd_script::{ScriptFault, read_script};
 use thiserror::Error;
 
@@ -39,8 +39,8 @@ fn script_fault(unread: Unread<ScriptFault>) -> RemoteFault
 }
 
 /// Reads a script, and runs its calls by `swd_run::run_batches` at the target behind a remote_bitbang server. Writes
-/// their reports, and the trace if there is a writer for it. Then sends `Q`. The script's memory and log capacity are
-/// ignored. Returns the connection too, with the error that ended it, if any.
+/// their reports, and the files for which `records` has a writer. Then sends `Q`. The script's memory and log capacity
+/// are ignored. Returns the connection too, with the error that ended it, if any.
 ///
 /// Whatever comes back, the run ends unless the connection blocks, and its report matches the calls that were made. For
 /// every story with which the replies are consistent, the report is as `run_batches` promises. Up to the first I/O
@@ -59,16 +59,16 @@ pub fn run_remote<P: Story, S: Read, R: Read, W: Write, O: Write, T: Write, A: A
     tries: u32,
     resumes: u32,
     report: &mut O,
-    trace: &mut Option<T>,
+    records: &mut Records<T>,
 ) -> (Result<Finished, RemoteFault>, Line<R, W>)
     ensures { RunsRemote P.at tries resumes
         (λ calls. ∥ GoesOver R.remaining W.contents (W.contents writer) (R.remaining reader) result.1 calls ∥₁)
         (IsUnused R.remaining W.contents (W.contents writer) (R.remaining reader) result.1)
         result.0 (S.remaining script.old) (O.contents report.old) (O.contents report.new)
-        (held T.contents trace.old) (held T.contents trace.new) }
+        (files_of T.contents records.old) (files_of T.contents records.new) }
 {
     run_begun::<P, Brand, S, R, W, O, T, A>(
-        alloc, script, reader, writer, tries, resumes, report, trace,
+        alloc, script, reader, writer, tries, resumes, report, records,
     )
 }
 
@@ -89,7 +89,7 @@ fn run_begun<
     tries: u32,
     resumes: u32,
     report: &mut O,
-    trace: &mut Option<T>,
+    records: &mut Records<T>,
 ) -> (Result<Finished, RemoteFault>, Line<R, W>)
     requires sent { B.sent ≡ W.contents writer }
     requires left { B.left ≡ R.remaining reader }
@@ -97,7 +97,7 @@ fn run_begun<
         (λ calls. ∥ GoesOver R.remaining W.contents B.sent B.left result.1 calls ∥₁)
         (IsUnused R.remaining W.contents B.sent B.left result.1)
         result.0 (S.remaining script.old) (O.contents report.old) (O.contents report.new)
-        (held T.contents trace.old) (held T.contents trace.new) }
+        (files_of T.contents records.old) (files_of T.contents records.new) }
 {
     let script = match read_script(alloc, script) {
         Ok(script) => script,
@@ -105,7 +105,7 @@ fn run_begun<
     };
     let wire: Outside<Kept<R, W, B>, P, Tied> = Outside::begun(Kept::new(reader, writer));
     let batches = script.batches.as_slice();
-    let (answer, wire) = run_batches(alloc, wire, batches, tries, resumes, report, trace);
+    let (answer, wire) = run_batches(alloc, wire, batches, tries, resumes, report, records);
     let line = wire.into_transport().hang_up();
     match answer {
         Ok(finished) => (Ok(finished), line),

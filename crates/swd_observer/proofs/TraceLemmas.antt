@@ -5,12 +5,13 @@ use Rattle.swd_trace.specs.declared.item.Item.{Item}
 use Rattle.swd_trace.specs.declared.item.Item.TheVariants.{Reset, Switch, Idle, Tx, Junk, Cut}
 use Rattle.swd_observer.specs.declared.told.Told.{Told}
 use Rattle.swd_observer.specs.declared.trace.TraceObserver.{TraceObserver}
-use Rattle.swd_observer.specs.Observing.{as_made, last_tells}
+use Rattle.swd_observer.specs.Observing.{last_tells}
 use Rattle.swd_observer.specs.Explained.{and_told}
 use Rattle.swd_observer.specs.Runs.{Event, Moves, Lifts, Accounted, told_after, observer_after}
-use Rattle.swd_observer.specs.Traces.{from_made, after_item, after_items, told_from, is_whole}
+use Rattle.swd_observer.specs.Traces.{from_made, from_unknown, after_item, after_items, told_from, told_in, is_whole}
 use Rattle.swd_observer.specs.Traces.{moves_in, moves_of, TraceIsAccounted}
-use Rattle.swd_observer.proofs.ObservedLemmas.{made_accounted}
+use Rattle.swd_observer.specs.AnyTraces.{AnyTraceIsAccounted}
+use Rattle.swd_observer.proofs.ObservedLemmas.{any_accounted, made_accounted}
 
 -- ones and zeros tell nothing
 told_moves : (events : List Event) (told : List Told) (o : _) → told_after (moves_of events) told o
@@ -59,13 +60,25 @@ seen_whole (Idle n ∷ items) t e = seen_whole items (after_item (Idle n) t) e
 seen_whole (Junk b ∷ items) t e = absurd (cc)
 seen_whole (Cut bits ∷ items) t e = absurd (cc)
 
+-- so a trace tells what the run tells, whatever was known at first
+told_as_run : (items : List Item) (events : List Event) (first : TraceObserver) → is_whole items ≡ true
+    → moves_in items first.place ≡ moves_of events → told_in items first
+    ≡ and_told (told_after events [] first.observer) (last_tells (observer_after events first.observer))
+told_as_run items events first whole same =
+    let told : told_from items [] first ≡ told_after events [] first.observer =
+    told_whole items [] first whole ∙ ap (λ l. told_after l [] first.observer) same
+    ∙ told_moves events [] first.observer in
+    let seen : (after_items items first).observer ≡ observer_after events first.observer =
+    seen_whole items first whole ∙ ap (λ l. observer_after l first.observer) same ∙ seen_moves events first.observer in
+    ap (λ l. and_told l (last_tells (after_items items first).observer)) told
+    ∙ ap (λ o. and_told (told_after events [] first.observer) (last_tells o)) seen
+
 pub trace_accounted : TraceIsAccounted
 trace_accounted identification m items events t runs whole same =
-    let told : told_from items [] from_made ≡ told_after events [] as_made =
-    told_whole items [] from_made whole ∙ ap (λ l. told_after l [] as_made) same ∙ told_moves events [] as_made in
-    let seen : (after_items items from_made).observer ≡ observer_after events as_made =
-    seen_whole items from_made whole ∙ ap (λ l. observer_after l as_made) same ∙ seen_moves events as_made in
-    subst (λ l. Accounted m.log l t)
-    (sym (ap (λ l. and_told l (last_tells (after_items items from_made).observer)) told
-    ∙ ap (λ o. and_told (told_after events [] as_made) (last_tells o)) seen))
+    subst (λ l. Accounted m.log l t) (sym (told_as_run items events from_made whole same))
     (made_accounted identification m events t runs)
+
+pub any_trace_accounted : AnyTraceIsAccounted
+any_trace_accounted items events s t settled idle runs whole same =
+    subst (λ l. Accounted s.target.memory.log l t) (sym (told_as_run items events from_unknown whole same))
+    (any_accounted events s t settled idle runs)

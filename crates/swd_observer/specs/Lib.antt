@@ -6,3 +6,4 @@ pub mod Laws
 pub mod Runs
 pub mod Sure
 pub mod Traces
+pub mod AnyTraces

@@ -4,6 +4,7 @@ ghost use Rattle.swd_observer.specs.Laws.{KnownAtDpidr, KnownAtLost, KnownAtStat
 ghost use Rattle.swd_observer.specs.Runs.{RunsAreAccounted, MadeIsAccounted, AnyIsAccounted};
 ghost use Rattle.swd_observer.specs.Sure.{ClearIsSure};
 ghost use Rattle.swd_observer.specs.Traces.{TraceIsAccounted};
+ghost use Rattle.swd_observer.specs.AnyTraces.{AnyTraceIsAccounted};
 
 /// States that what is known remains true whenever a pending transfer takes effect.
 pub fn completion()
@@ -59,9 +60,11 @@ pub fn observed_runs()
     ensures sure { ClearIsSure }
 {}
 
-/// States the theorem of a trace from the target's reset state on, without junk bits or a cut end. If its
-/// transactions are those of a run, the reported accesses, with those of `last`, are those that the memory
-/// logged in that run, as in `observed_runs`.
+/// States the theorem of a trace without junk bits or a cut end. If its transactions are those of a run, the
+/// reported accesses, with those of `last`, are those that the memory logged in that run, as in
+/// `observed_runs`. The run starts in the target's reset state, or for an observer that knows nothing, in any
+/// state without a pending transfer in which no write data is awaited.
 pub fn observed_traces()
-    ensures { TraceIsAccounted }
+    ensures made { TraceIsAccounted }
+    ensures any { AnyTraceIsAccounted }
 {}

@@ -2,7 +2,8 @@
 use Rattle.std.proofs.Common.{◌≡◌, ℕ, List, Option, None, Some, Result, Ok, Err, Bool, true, false, inl, inr, refl, sym, ap, ap₂, ◌∙◌}
 use Rattle.std.proofs.Common.{subst}
 use Rattle.std.proofs.KnownBytes.{Appends-nil}
-use Rattle.std.specs.Prelude.{◌≤◌, is_some, take, length}
+use Rattle.std.proofs.Math.Logic.{∥∥₁_map}
+use Rattle.std.specs.Prelude.{◌≤◌, ◌||◌, is_some, take, length}
 use Rattle.std.specs.Io.KnownBytes.{Appends}
 use Rattle.swd_trace.specs.declared.item.Item.{Item}
 use Rattle.swd_port.specs.declared.access.Access.{Access}
@@ -18,55 +19,87 @@ use Rattle.swd_host.specs.Reports.{IsAtRest, Told}
 use Rattle.swd_script.specs.Scripts.{Listed, Meaning}
 use Rattle.swd_run.specs.declared.engine.Finished.{Finished}
 use Rattle.swd_run.specs.declared.fault.EngineFault.{EngineFault}
-use Rattle.swd_run.specs.declared.fault.EngineFault.TheVariants.{Memory, Write, TraceCut}
+use Rattle.swd_run.specs.declared.fault.EngineFault.TheVariants.{Memory, Write, WriteAccesses, TraceCut}
 use Rattle.swd_run.specs.declared.going_on.Stop.{Stop}
-use Rattle.swd_run.specs.Engine.{Answers, AnswersAt, AnswersOver, ForTrace, IsFinished, IsLeft, IsOfTraceOver, IsTraceOver}
-use Rattle.swd_run.specs.Engine.{IsOfTrace, IsTraceOf, Ran, RanShort, TellsTrace, port_seen, whole, short, stopped}
+use Rattle.swd_run.specs.Engine.{Answers, AnswersAt, AnswersOver, IsFinished, IsOfTraceOver, IsTraceOver}
+use Rattle.swd_run.specs.Engine.{IsOfTrace, Ran, RanShort, TellsRecords, port_seen, whole, short}
+use Rattle.swd_run.specs.Engine.{trace_stops, accesses_stop}
 use Rattle.swd_run.specs.GoingOn.{Went, ran, resumed}
 use Rattle.swd_run.specs.Reports.{session_text}
-use Rattle.swd_run.specs.Running.{AnswersScript, RunsScript, full_room, memory_of, with_full}
-use Rattle.swd_run.specs.Sessions.{AreDone, Done, IsRefused, Runs, ended_of, most_begun, none, requests_of, then}
+use Rattle.swd_run.specs.declared.records.Records.{Records}
+use Rattle.swd_run.specs.Records.{AreLeft, Files, ForFile, IfRecorded, IsLeft, files_of, held, is_recorded, no_files}
+use Rattle.swd_observer.specs.Explained.{Explains}
+use Rattle.swd_observer.specs.Traces.{from_made, told_in}
+use Rattle.swd_run.specs.Running.{AnswersScript, IsTraceIn, RunsScript, full_room, memory_of, with_full}
+use Rattle.swd_run.specs.Sessions.{AreDone, Done, IsRefused, Runs, most_begun, none, requests_of, then}
 use Rattle.swd_run.specs.Sessions.{unresumed, unsent}
 use Rattle.swd_run.proofs.RunLemmas.{made_rests}
 use Rattle.swd_run.proofs.SessionLemmas.{script_runs}
 use Rattle.swd_run.proofs.WentLemmas.{law_before}
 
--- what is said of a trace's writer says what follows
-pub for_trace : (P Q : Option (List ℕ) → Option (List ℕ) → Type 0) (before after : Option (Option (List ℕ)))
-    → ((old new : Option (List ℕ)) → P old new → Q old new) → ForTrace P before after → ForTrace Q before after
-for_trace P Q None after f h = h
-for_trace P Q (Some old) after f h = (h.0, h.1, f old h.0 h.2)
+-- what follows of items
+pub recorded_as : (flag : Bool) (P R : List Item → Type 0) (Q : Type 0) → ((items : List Item) → P items → R items)
+    → IfRecorded flag P Q → IfRecorded flag R Q
+recorded_as true P R Q f h = (h.0, f h.0 h.1)
+recorded_as false P R Q f h = h
 
-pub left_alone : (trace : Option (Option (List ℕ))) → ForTrace IsLeft trace trace
+once_recorded : (flag : Bool) (P : List Item → Type 0) (Q : Type 0) → flag ≡ true → (items : List Item) → P items
+    → IfRecorded flag P Q
+once_recorded true P Q is items h = (items, h)
+once_recorded false P Q is items h = absurd cc
+
+once_unrecorded : (flag : Bool) (P : List Item → Type 0) (Q : Type 0) → flag ≡ false → Q → IfRecorded flag P Q
+once_unrecorded true P Q is h = absurd cc
+once_unrecorded false P Q is h = h
+
+-- a file to which nothing is written
+pub left_alone : (file : Option (Option (List ℕ))) → ForFile IsLeft file file
 left_alone None = refl
 left_alone (Some held) = (held, refl, Appends-nil held)
+
+-- a writer is there where its contents are
+pub held_is : {T : Type 0} (contents : T → Option (List ℕ)) (file : Option T)
+    → is_some (held contents file) ≡ is_some file
+held_is contents None = refl
+held_is contents (Some writer) = refl
+
+pub held_some : {T : Type 0} (contents : T → Option (List ℕ)) (file : Option T) → is_some file ≡ true
+    → is_some (held contents file) ≡ true
+held_some contents file is = held_is contents file ∙ is
+
+-- a file is to be written where there is a writer
+pub recorded_is : {T : Type 0} (contents : T → Option (List ℕ)) (records : Records T)
+    → is_recorded (files_of contents records) ≡ (is_some records.trace || is_some records.accesses)
+recorded_is contents records = ap₂ ◌||◌ (held_is contents records.trace) (held_is contents records.accesses)
+
+pub left_files : (files : Files) → AreLeft files files
+left_files files = record { trace = left_alone files.trace; accesses = left_alone files.accesses }
 
 -- each account of what ran is one of another kind, with the same runs and the same traces
 pub answers_as : {X U Y V : Type 0} (batches : List Listed) (used : Option ℕ) (runs : Y → List Done) (before : V → List Done)
     (IsWhole IsPart : X → List Item → Type 0) (IsWholeToo IsPartToo : Y → List Item → Type 0) (f : X → Y) (e : U → V)
     → ((x : X) (items : List Item) → IsWhole x items → IsWholeToo (f x) items)
     → ((x : X) (items : List Item) → IsPart x items → IsPartToo (f x) items)
-    → (answer : Result Finished EngineFault) (old new : Option (List ℕ)) (held now : Option (Option (List ℕ)))
+    → (answer : Result Finished EngineFault) (old new : Option (List ℕ)) (held now : Files)
     → Answers {Came = X} {Short = U} batches used (λ x. runs (f x)) (λ u. before (e u)) IsWhole IsPart answer old new held now
     → Answers {Came = Y} {Short = V} batches used runs before IsWholeToo IsPartToo answer old new held now
-answers_as batches used runs before IsWhole IsPart IsWholeToo IsPartToo f e w p (Ok finished) old new held now h =
-    (f h.0, h.1, h.2, h.3, for_trace _ _ held now (λ start end t. (t.0, w h.0 t.0 t.1, t.2)) h.4)
+answers_as batches used runs before IsWhole IsPart IsWholeToo IsPartToo f e w p (Ok finished) old new held now h = (
+  f h.0,
+  h.1,
+  h.2,
+  h.3,
+  recorded_as (is_recorded held) _ _ _ (λ items t. (w h.0 items t.0, t.1)) h.4,
+)
 answers_as batches used runs before IsWhole IsPart IsWholeToo IsPartToo f e w p (Err Memory) old new held now h =
     (e h.0, h.1, h.2)
 answers_as batches used runs before IsWhole IsPart IsWholeToo IsPartToo f e w p (Err (Write written)) old new held now
     (x, inl stop) = (f x, inl stop)
 answers_as batches used runs before IsWhole IsPart IsWholeToo IsPartToo f e w p (Err (Write written)) old new held now
-    (x, inr stop) = (
-      f x,
-      inr (
-        stop.0,
-        stop.1,
-        stop.2,
-        for_trace _ _ held now (λ start end t. (t.0, p x t.0 t.1, t.2)) stop.3,
-      ),
-    )
+    (x, inr stop) = (f x, inr (stop.0, stop.1, stop.2, p x stop.0 stop.3, stop.4))
+answers_as batches used runs before IsWhole IsPart IsWholeToo IsPartToo f e w p (Err (WriteAccesses written)) old new
+    held now h = (f h.0, h.1, h.2, h.3, p h.0 h.1 h.4, h.5)
 answers_as batches used runs before IsWhole IsPart IsWholeToo IsPartToo f e w p (Err TraceCut) old new held now h =
-    (f h.0, h.1, h.2, h.3, for_trace _ _ held now (λ start end t. (t.0, p h.0 t.0 t.1, t.2)) h.4)
+    (f h.0, h.1, h.2, h.3, p h.0 h.1 h.4, h.5, h.6)
 
 -- runs over wires are runs over all that the wires are known by
 module _ {W V : Type 0} (by : W → V) (port : V → Port) (plan : V → List Mark) (lawful : V → Type 0) (tries resumes : ℕ)
@@ -78,7 +111,7 @@ module _ {W V : Type 0} (by : W → V) (port : V → Port) (plan : V → List Ma
     went_by limit list s stops told t (resumed {stops = before} {earlier = e} {t = u} went lost same goes over) =
         resumed (went_by limit list s before e u went) lost same goes over
 
-    runs_by : (s : W) (batches : List Listed) (runs : List Done) (t : W)
+    pub runs_by : (s : W) (batches : List Listed) (runs : List Done) (t : W)
         → Runs (λ w. port (by w)) (λ w. plan (by w)) (λ w. lawful (by w)) most_begun tries resumes s batches runs t
         → Runs port plan lawful most_begun tries resumes (by s) batches runs (by t)
     runs_by s batches runs t none = none
@@ -97,7 +130,7 @@ module _ {W V : Type 0} (by : W → V) (port : V → Port) (plan : V → List Ma
     refused_by limit batch s t (unresumed {stops = stops} {told = told} went lost few) =
         unresumed (went_by limit batch.accesses s stops told t went) lost few
 
-    abbrev ran_by : (batches : List Listed) (s t : W)
+    abbrev pub ran_by : (batches : List Listed) (s t : W)
         → Ran (λ w. port (by w)) (λ w. plan (by w)) (λ w. lawful (by w)) tries resumes batches s t
         → Ran port plan lawful tries resumes batches (by s) (by t)
     ran_by batches s t over = record {
@@ -120,7 +153,7 @@ module _ {W V : Type 0} (by : W → V) (port : V → Port) (plan : V → List Ma
 
     -- and so are the answers
     pub answers_by : (batches : List Listed) (s t : W) (start end : V) → by s ≡ start → by t ≡ end
-        → (answer : Result Finished EngineFault) (old new : Option (List ℕ)) (before after : Option (Option (List ℕ)))
+        → (answer : Result Finished EngineFault) (old new : Option (List ℕ)) (before after : Files)
         → AnswersOver (λ w. port (by w)) (λ w. plan (by w)) (λ w. lawful (by w)) tries resumes batches s t answer old new
         before after → AnswersOver port plan lawful tries resumes batches start end answer old new before after
     answers_by batches s t start end begins ends answer old new before after h =
@@ -128,57 +161,84 @@ module _ {W V : Type 0} (by : W → V) (port : V → Port) (plan : V → List Ma
         (subst (λ x. AnswersOver port plan lawful tries resumes batches (by s) x answer old new before after) ends
         (answers_as batches None (λ over. over.runs) (λ over. over.before.runs) IsTraceOver IsOfTraceOver IsTraceOver
         IsOfTraceOver (ran_by batches s t) (short_by batches s t)
-        (λ over items is. record { read = is.read; whole = is.whole })
+        (λ over items is. record {
+          read = is.read;
+          whole = is.whole;
+          explained = is.explained;
+          explained_any = is.explained_any;
+        })
         (λ over items is. record { read = is.read; part = is.part }) answer old new before after h))
 
 -- also beside a count
+seen_by : {W V : Type 0} (flag : Bool) (by : W → V) (port : V → Port) (plan : V → List Mark) (lawful : V → Type 0)
+    (tries resumes : ℕ) (batches : List Listed) (counted : ℕ) (s t : W) (start : V) → by s ≡ start
+    → (answer : Result Finished EngineFault) (old new : Option (List ℕ)) (before after : Files)
+    → AnswersOver (port_seen flag (λ w. port (by w))) (λ seen. plan (by seen.1)) (λ seen. lawful (by seen.1)) tries
+    resumes batches (0, s) (counted, t) answer old new before after
+    → AnswersOver (port_seen flag port) (λ seen. plan seen.1) (λ seen. lawful seen.1) tries resumes batches (0, start)
+    (counted, by t) answer old new before after
+seen_by false by port plan lawful tries resumes batches counted s t start begins answer old new before after h =
+    answers_by (λ seen. (seen.0, by seen.1)) (port_seen false port) (λ seen. plan seen.1) (λ seen. lawful seen.1) tries
+    resumes batches (0, s) (counted, t) (0, start) (counted, by t) (ap (λ v. (0, v)) begins) refl answer old new before
+    after h
+seen_by true by port plan lawful tries resumes batches counted s t start begins answer old new before after h =
+    answers_by (λ seen. (seen.0, by seen.1)) (port_seen true port) (λ seen. plan seen.1) (λ seen. lawful seen.1) tries
+    resumes batches (0, s) (counted, t) (0, start) (counted, by t) (ap (λ v. (0, v)) begins) refl answer old new before
+    after h
+
 pub answers_at_by : {W V : Type 0} (by : W → V) (port : V → Port) (plan : V → List Mark) (lawful : V → Type 0)
     (tries resumes : ℕ) (batches : List Listed) (s t : W) (start : V) → by s ≡ start
-    → (answer : Result Finished EngineFault) (old new : Option (List ℕ)) (before after : Option (Option (List ℕ)))
+    → (answer : Result Finished EngineFault) (old new : Option (List ℕ)) (before after : Files)
     → AnswersAt (λ w. port (by w)) (λ w. plan (by w)) (λ w. lawful (by w)) tries resumes batches s t answer old new
     before after → AnswersAt port plan lawful tries resumes batches start (by t) answer old new before after
-answers_at_by by port plan lawful tries resumes batches s t start begins answer old new None after h = (
+answers_at_by by port plan lawful tries resumes batches s t start begins answer old new before after h = (
   h.0,
-  answers_by (λ seen. (seen.0, by seen.1)) (port_seen false port) (λ seen. plan seen.1) (λ seen. lawful seen.1) tries
-      resumes batches (0, s) (h.0, t) (0, start) (h.0, by t) (ap (λ v. (0, v)) begins) refl answer old new None after h.1,
-)
-answers_at_by by port plan lawful tries resumes batches s t start begins answer old new (Some held) after h = (
-  h.0,
-  answers_by (λ seen. (seen.0, by seen.1)) (port_seen true port) (λ seen. plan seen.1) (λ seen. lawful seen.1) tries
-      resumes batches (0, s) (h.0, t) (0, start) (h.0, by t) (ap (λ v. (0, v)) begins) refl answer old new (Some held)
-      after h.1,
+  seen_by (is_recorded before) by port plan lawful tries resumes batches h.0 s t start begins answer old new before after
+      h.1,
 )
 
--- ---- a trace after the report
+-- ---- the files after the report
 
 module _ {W : Type 0} (port : W → Port) (plan : W → List Mark) (lawful : W → Type 0) (tries resumes : ℕ)
     (batches : List Listed) (start end : W) (old new : Option (List ℕ)) where
-  -- it was written
-  pub traced : (finished : Finished) (cut : Bool) (items : List Item) (over : Ran port plan lawful tries resumes batches
-      start end) → AreDone batches over.runs → IsFinished batches over.runs None finished
-      → Appends old new (session_text batches over.runs) → (cut ≡ false → IsTraceOver over items) → IsOfTraceOver over items → (before after : Option (List ℕ))
-      (answer : Result Finished EngineFault) → TellsTrace finished cut items before after answer
-      → AnswersOver port plan lawful tries resumes batches start end answer old new (Some before) (Some after)
-  traced finished cut items over done is gone of part before after answer (whole uncut all) =
-      (over, done, is, gone, (after, refl, (items, of uncut, all)))
-  traced finished cut items over done is gone of part before after answer (short is_cut all) =
-      (over, refl, done, gone, (after, refl, (items, part, all)))
-  traced finished cut items over done is gone of part before after answer (stopped some) =
-      (over, inr (refl, done, gone, (after, refl, (items, part, some))))
+  -- they were written
+  pub recorded_in : (finished : Finished) (cut : Bool) (items : List Item) (over : Ran port plan lawful tries resumes
+      batches start end) → AreDone batches over.runs → IsFinished batches over.runs None finished
+      → Appends old new (session_text batches over.runs) → (cut ≡ false → IsTraceOver over items) → IsOfTraceOver over items
+      → (before after : Files) → is_recorded before ≡ true → (answer : Result Finished EngineFault)
+      → TellsRecords finished cut items before after answer
+      → AnswersOver port plan lawful tries resumes batches start end answer old new before after
+  recorded_in finished cut items over done is gone of part before after wanted answer (whole uncut all) =
+      (over, done, is, gone, once_recorded (is_recorded before) _ _ wanted items (of uncut, all))
+  recorded_in finished cut items over done is gone of part before after wanted answer (short is_cut all) =
+      (over, items, done, gone, part, wanted, all)
+  recorded_in finished cut items over done is gone of part before after wanted answer (trace_stops stop) =
+      (over, inr (items, done, gone, part, stop))
+  recorded_in finished cut items over done is gone of part before after wanted answer (accesses_stop stop) =
+      (over, items, done, gone, part, stop)
 
-  -- where there was no report it was not
-  pub untraced : (fault : EngineFault) (held : Option (List ℕ))
-      → AnswersOver port plan lawful tries resumes batches start end (Err fault) old new None None
-      → AnswersOver port plan lawful tries resumes batches start end (Err fault) old new (Some held) (Some held)
-  untraced Memory held h = (h.0, h.1, (held, refl, Appends-nil held))
-  untraced (Write written) held (over, inl stop) = (over, inl (stop.0, (held, refl, Appends-nil held)))
-  untraced (Write written) held (over, inr stop) = absurd cc
-  untraced TraceCut held h = let never = h.1 in absurd cc
+  -- if a report couldn't be written, they weren't
+  pub untold : (fault : EngineFault) (held : Files)
+      → AnswersOver port plan lawful tries resumes batches start end (Err fault) old new no_files no_files
+      → AnswersOver port plan lawful tries resumes batches start end (Err fault) old new held held
+  untold Memory held h = (h.0, h.1, left_files held)
+  untold (Write written) held (over, inl stop) = (over, inl (stop.0, left_files held))
+  untold (Write written) held (over, inr stop) = let never = stop.4.wanted in absurd cc
+  untold (WriteAccesses written) held h = let never = h.5.wanted in absurd cc
+  untold TraceCut held h = let never = h.5 in absurd cc
+
+  -- nor if none was to be written
+  pub unwanted : (held : Files) → is_recorded held ≡ false → (answer : Result Finished EngineFault)
+      → AnswersOver port plan lawful tries resumes batches start end answer old new no_files no_files
+      → AnswersOver port plan lawful tries resumes batches start end answer old new held held
+  unwanted held empty (Ok finished) h =
+      (h.0, h.1, h.2, h.3, once_unrecorded (is_recorded held) _ _ empty (left_files held))
+  unwanted held empty (Err fault) h = untold fault held h
 
 -- where the wire was recorded from its start
 pub recorded_by : {W A : Type 0} {g : Ghosts W} (tries resumes : ℕ) (batches : List Listed) (s t : Recorder W A g)
     (start end : W) → wire_under s ≡ start → (port_by s).tally.asked ≡ 0 → wire_under t ≡ end
-    → (answer : Result Finished EngineFault) (old new : Option (List ℕ)) (before after : Option (Option (List ℕ)))
+    → (answer : Result Finished EngineFault) (old new : Option (List ℕ)) (before after : Files)
     → AnswersOver port_by plan_by lawful_by tries resumes batches s t answer old new before after
     → (counted : ℕ)
     × AnswersOver (port_seen true g.port) (λ seen. g.plan seen.1) (λ seen. g.lawful seen.1) tries resumes batches
@@ -218,7 +278,7 @@ marks_seen true port disturbed lost n w h = h
 -- what an answer says with the room that is used up
 full_answers : {Came Short : Type 0} (batches : List Listed) (used : Option ℕ) (runs : Came → List Done)
     (before : Short → List Done) (IsWhole IsPart : Came → List Item → Type 0) (answer : Result Finished EngineFault)
-    (old new : Option (List ℕ)) (held now : Option (Option (List ℕ)))
+    (old new : Option (List ℕ)) (held now : Files)
     → Answers {Came = Came} {Short = Short} batches None runs before IsWhole IsPart answer old new held now
     → Answers {Came = Came} {Short = Short} batches used runs before IsWhole IsPart (with_full used answer) old new held
     now
@@ -231,6 +291,7 @@ full_answers batches used runs before IsWhole IsPart (Ok finished) old new held 
 )
 full_answers batches used runs before IsWhole IsPart (Err Memory) old new held now h = h
 full_answers batches used runs before IsWhole IsPart (Err (Write written)) old new held now h = h
+full_answers batches used runs before IsWhole IsPart (Err (WriteAccesses written)) old new held now h = h
 full_answers batches used runs before IsWhole IsPart (Err TraceCut) old new held now h = h
 
 pub script_answers : {W : Type 0} (port : W → Port) (plan : W → List Mark) (lawful : W → Type 0) (tries resumes : ℕ)
@@ -238,12 +299,12 @@ pub script_answers : {W : Type 0} (port : W → Port) (plan : W → List Mark) (
     → ((w : W) → plan w ≡ marks
     → ((port w).tally.disturbed ≤ disturbed_among marks) × ((port w).tally.lost ≤ lost_among marks)) → lawful t
     → (memory : PlainMemory) → memory ≡ (port t).target.memory → (answer : Result Finished EngineFault)
-    (old new : Option (List ℕ)) (before after : Option (Option (List ℕ)))
+    (old new : Option (List ℕ)) (before after : Files)
     → AnswersAt port plan lawful tries resumes script.batches s t answer old new before after
     → AnswersScript tries resumes script marks (with_full (full_room script.room memory) answer) old new before after
 script_answers port plan lawful tries resumes script marks s t is_made planned marked law memory left answer old new
     before after h =
-    let traced : Bool = is_some before in
+    let traced : Bool = is_recorded before in
     let seen = port_seen traced port in
     let begins : seen (0, s) ≡ made 731911287 (memory_of script) = made_seen traced port (memory_of script) s is_made in
     let rest : IsAtRest (seen (0, s)) = made_rests (memory_of script) (seen (0, s)) begins in
@@ -255,10 +316,10 @@ script_answers port plan lawful tries resumes script marks s t is_made planned m
     let left_seen : (seen (h.0, t)).target.memory ≡ memory = memory_seen traced port h.0 t ∙ sym left in (
       memory,
       full_answers script.batches (full_room script.room memory) (λ over. over.runs) (λ over. over.runs)
-          (λ ran items. IsTraceOf (requests_of ran.runs) (ended_of ran.runs) items)
+          (λ ran items. IsTraceIn memory ran.runs items)
           (λ ran items. IsOfTrace (requests_of ran.runs) items) answer old new before after
           (answers_as script.batches None (λ over. over.runs) (λ over. over.runs) IsTraceOver IsOfTraceOver
-          (λ ran items. IsTraceOf (requests_of ran.runs) (ended_of ran.runs) items)
+          (λ ran items. IsTraceIn memory ran.runs items)
           (λ ran items. IsOfTrace (requests_of ran.runs) items)
           (λ over. record {
             runs = over.runs;
@@ -273,5 +334,10 @@ script_answers port plan lawful tries resumes script marks s t is_made planned m
                 over.refused law) over.before.are;
             all = over.all;
           })
-          (λ over items is. is.whole law rest) (λ over items is. is.part law rest) answer old new before after h.1),
+          (λ over items is. record {
+            is = is.whole law rest;
+            explained = ∥∥₁_map (is.explained law rest 731911287 (memory_of script) begins)
+                (λ told. subst (λ (m : PlainMemory). Explains (told_in items from_made) m.log) left_seen
+                (subst (Explains (told_in items from_made)) (sym told.now.is) told.now.explains));
+          }) (λ over items is. is.part law rest) answer old new before after h.1),
     )

@@ -6,3 +6,4 @@ pub mod SessionLemmas
 pub mod Reported
 pub mod VerifiedLemmas
 pub mod WorkedReports
+pub mod RecordedLemmas

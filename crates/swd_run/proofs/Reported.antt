@@ -14,6 +14,7 @@ use Rattle.swd_script.specs.Scripts.{Listed}
 use Rattle.swd_run.specs.declared.engine.Finished.{Finished}
 use Rattle.swd_run.specs.declared.fault.EngineFault.TheVariants.{Memory, Write}
 use Rattle.swd_run.specs.Engine.{AnswersOver, IsFinished, Ran}
+use Rattle.swd_run.specs.Records.{AreLeft, no_files}
 use Rattle.swd_run.specs.Reports.{HasWritten, run_report, session_text}
 use Rattle.swd_run.specs.Sessions.{Done, GoesOn, IsRefused, Runs, most_begun, none, then}
 use Rattle.swd_run.specs.Verified.{difference_in, first_difference, has_bus_fault, or_else}
@@ -34,6 +35,10 @@ finished_and finished next batch run ended differs bus_fault full batches runs s
   bus_fault = bus_fault ∙ ap (λ b. b || has_bus_fault run.told.answers) is.bus_fault ∙ sym (fault_last runs run);
   full = full ∙ is.full;
 }
+
+-- without files nothing is written to one
+untouched : AreLeft no_files no_files
+untouched = record { trace = refl; accesses = refl }
 
 -- a count of bytes, and more of them
 abbrev Sums : ℕ → ℕ → ℕ → Type 0
@@ -102,7 +107,7 @@ module _ {W : Type 0} (port : W → Port) (plan : W → List Mark) (lawful : W �
 
     -- no run is left, or the last one did not end all
     pub all_told : i ≤ length batches → (finished.ended ≡ All → i ≡ length batches)
-        → AnswersOver port plan lawful tries resumes batches s t (Ok finished) old now None None
+        → AnswersOver port plan lawful tries resumes batches s t (Ok finished) old now no_files no_files
     all_told low whole = (
       ran low,
       λ all. counted low ∙ whole (so_far.is.ended ∙ all),
@@ -115,14 +120,14 @@ module _ {W : Type 0} (port : W → Port) (plan : W → List Mark) (lawful : W �
         full = so_far.is.full;
       },
       subst (Appends old now) (front_text low) so_far.gone.gone,
-      refl,
+      untouched,
     )
 
     -- memory was refused for the next one
     pub refused_next : finished.ended ≡ All → i ≤ length batches → (batch : Listed) (later : List Listed)
         → drop i batches ≡ batch ∷ later → (u : W)
         → IsRefused port plan lawful (most_begun batch) tries resumes batch t u
-        → AnswersOver port plan lawful tries resumes batches s u (Err Memory) old now None None
+        → AnswersOver port plan lawful tries resumes batches s u (Err Memory) old now no_files no_files
     refused_next all low batch later next u refused = (
       record {
         between = t;
@@ -134,7 +139,7 @@ module _ {W : Type 0} (port : W → Port) (plan : W → List Mark) (lawful : W �
         refused = refused;
       },
       subst (Appends old now) (front_text low) so_far.gone.gone,
-      refl,
+      untouched,
     )
 
     -- the run of the next batch
@@ -175,7 +180,7 @@ module _ {W : Type 0} (port : W → Port) (plan : W → List Mark) (lawful : W �
 
       pub stopped_in : (more total : ℕ) → i < length batches → Stopped more now new (run_report batch run)
           → Sums total written more
-          → AnswersOver port plan lawful tries resumes batches s u (Err (Write total)) old new None None
+          → AnswersOver port plan lawful tries resumes batches s u (Err (Write total)) old new no_files no_files
       stopped_in more total low stop sum =
           let front = session_text (take i batches) so_far.runs in
           let runs : List Done = so_far.runs ++ run ∷ [] in
@@ -198,6 +203,6 @@ module _ {W : Type 0} (port : W → Port) (plan : W → List Mark) (lawful : W �
                     (session_text batches runs) sum so_far.gone stop whole;
                 past = omega (arith, before);
               },
-              refl,
+              untouched,
             ),
           )

@@ -1,22 +1,27 @@
 -- What the engine's result states about a script's calls over a wire, their reports, and their trace.
-use Rattle.std.specs.Prelude.{◌≡◌, ℕ, ◌≤◌, ◌↔◌, ◌⊎◌, Bool, true, false, List, [], ◌∷◌, ◌++◌, length, take, drop, is_some}
-use Rattle.std.specs.Prelude.{Option, None, Some, Result, Ok, Err}
+use Rattle.std.specs.Prelude.{◌≡◌, ℕ, ◌≤◌, ◌↔◌, ◌⊎◌, Bool, true, false, List, [], ◌∷◌, ◌++◌, length, take, drop}
+use Rattle.std.specs.Prelude.{Option, None, Result, Ok, Err}
 use Rattle.std.specs.Io.KnownBytes.{Appends}
 use Rattle.swd_io.specs.Blocks.{Stopped}
 use Rattle.swd_trace.specs.declared.item.Item.{Item}
 use Rattle.swd_trace.specs.Reading.{reading_of}
-use Rattle.swd_trace.specs.Texts.{bits_of_items, trace_text}
+use Rattle.swd_trace.specs.Texts.{bits_of_items}
 use Rattle.swd_recorder.specs.Steps.{transactions, EndsUnacknowledged}
 use Rattle.swd_port.specs.declared.mark.Mark.{Mark}
-use Rattle.swd_port.specs.Port.{Port}
+use Rattle.swd_port.specs.Leading.{is_awaiting}
+use Rattle.swd_port.specs.PlainMemory.{PlainMemory}
+use Rattle.swd_port.specs.Port.{Port, made}
 use Rattle.swd_port.specs.Laws.Calls.{with_asked}
+use Rattle.swd_observer.specs.Runs.{Accounted}
+use Rattle.swd_observer.specs.Traces.{from_made, from_unknown, told_in}
 use Rattle.swd_host.specs.declared.outcome.End.{End}
 use Rattle.swd_host.specs.declared.outcome.End.TheVariants.{All, Lost}
 use Rattle.swd_host.specs.Reports.{IsAtRest}
 use Rattle.swd_script.specs.Scripts.{Listed}
 use Rattle.swd_run.specs.declared.engine.Finished.{Finished}
 use Rattle.swd_run.specs.declared.fault.EngineFault.{EngineFault}
-use Rattle.swd_run.specs.declared.fault.EngineFault.TheVariants.{Memory, Write, TraceCut}
+use Rattle.swd_run.specs.declared.fault.EngineFault.TheVariants.{Memory, Write, WriteAccesses, TraceCut}
+use Rattle.swd_run.specs.Records.{AccessesStop, AreLeft, AreWritten, Files, IfRecorded, TraceStops, is_recorded}
 use Rattle.swd_run.specs.Reports.{session_text}
 use Rattle.swd_run.specs.Sessions.{AreDone, Done, IsRefused, Runs, ended_of, most_begun, requests_of}
 use Rattle.swd_run.specs.Verified.{first_difference, met_bus_fault}
@@ -41,7 +46,7 @@ pub record RanShort {W : Type 0} (port : W → Port) (plan : W → List Mark) (l
   pub next : drop (length before.runs) batches ≡ batch ∷ later
   pub refused : IsRefused port plan lawful (most_begun batch) tries resumes batch between end
 
--- The port of a wire beside a count of requests. If there is a trace, this count replaces the wire's own.
+-- The port of a wire beside a count of requests. If the run is recorded, this count replaces the wire's own.
 abbrev pub port_seen : {W : Type 0} → Bool → (W → Port) → ℕ × W → Port
 port_seen false port seen = port seen.1
 port_seen true port seen = with_asked seen.0 (port seen.1)
@@ -78,6 +83,12 @@ module _ {W : Type 0} {port : W → Port} {plan : W → List Mark} {lawful : W �
   pub record IsTraceOver (items : List Item) : Type 0 where
     pub read : AreItems items
     pub whole : lawful end → IsAtRest (port start) → IsTraceOf (requests_of ran.runs) (ended_of ran.runs) items
+    -- if the target began in its reset state, the accesses that the items show explain the log of its memory
+    pub explained : lawful end → IsAtRest (port start) → (identification : ℕ) (m : PlainMemory)
+        → port start ≡ made identification m → ∥ Accounted m.log (told_in items from_made) (port end) ∥₁
+    -- of any other target at rest that awaits no write data, those do which they show where nothing is known at first
+    pub explained_any : lawful end → IsAtRest (port start) → is_awaiting (port start).link.line ≡ false
+        → ∥ Accounted (port start).target.memory.log (told_in items from_unknown) (port end) ∥₁
 
   -- the same for a truncated trace
   pub record IsOfTraceOver (items : List Item) : Type 0 where
@@ -85,21 +96,6 @@ module _ {W : Type 0} {port : W → Port} {plan : W → List Mark} {lawful : W �
     pub part : lawful end → IsAtRest (port start) → IsOfTrace (requests_of ran.runs) items
 
 -- THE WRITERS
--- nothing was written
-abbrev pub IsLeft : Option (List ℕ) → Option (List ℕ) → Type 0
-IsLeft old new = Appends old new []
-
--- the contents of the trace's writer, if there is one
-abbrev pub held : {T : Type 0} → (T → Option (List ℕ)) → Option T → Option (Option (List ℕ))
-held contents None = None
-held contents (Some writer) = Some (contents writer)
-
--- P holds of the contents of the trace's writer before and after, if there is one
-abbrev pub ForTrace : (Option (List ℕ) → Option (List ℕ) → Type 0) → Option (Option (List ℕ))
-    → Option (Option (List ℕ)) → Type 0
-ForTrace P None after = after ≡ None
-ForTrace P (Some old) after = (new : Option (List ℕ)) × (after ≡ Some new) × P old new
-
 -- Exactly the first bytes of these runs' reports were written: all of the earlier reports, and not all of the last one.
 -- `written` is their number, at most 2^64 - 1.
 pub record StopsInLast (written : ℕ) (old new : Option (List ℕ)) (batches : List Listed) (runs : List Done) : Type 0
@@ -111,55 +107,57 @@ pub record StopsInLast (written : ℕ) (old new : Option (List ℕ)) (batches : 
     pub past : length (session_text batches earlier) ≤ stopped.sent
 
 -- THE RESULT
--- What a result states about the batches, and about the contents of the writers of the report and of the trace before
--- and after. `Came` is what ran, and `runs` gives its runs. `IsWhole` and `IsPart` say which items are its complete or
--- truncated trace. `Short` is what ran if memory ran out, and `runs_before` gives the runs before the one without
--- memory. If a report couldn't be written, its run is the last one. If the trace couldn't be written, all reports were.
+-- What a result states about the batches, about the contents of the report's writer before and after, and about those
+-- of the other files. `Came` is what ran, and `runs` gives its runs. `IsWhole` and `IsPart` say which items are its
+-- complete or truncated trace. `Short` is what ran if memory ran out, and `runs_before` gives the runs before the one
+-- without memory. If a report couldn't be written, its run is the last one. If another file couldn't be written, all
+-- reports were.
 module _ {Came Short : Type 0} (batches : List Listed) (used : Option ℕ) (runs : Came → List Done)
     (runs_before : Short → List Done) (IsWhole IsPart : Came → List Item → Type 0) where
-  abbrev pub Answers : Result Finished EngineFault → Option (List ℕ) → Option (List ℕ) → Option (Option (List ℕ))
-      → Option (Option (List ℕ)) → Type 0
+  abbrev pub Answers : Result Finished EngineFault → Option (List ℕ) → Option (List ℕ) → Files → Files → Type 0
   Answers (Ok finished) old new before after =
       (came : Came) × AreDone batches (runs came) × IsFinished batches (runs came) used finished
       × Appends old new (session_text batches (runs came))
-      × ForTrace (λ start now. (items : List Item) × IsWhole came items × Appends start now (trace_text items))
-      before after
+      × IfRecorded (is_recorded before) (λ items. IsWhole came items × AreWritten items before after)
+      (AreLeft before after)
   Answers (Err Memory) old new before after =
-      (short : Short) × Appends old new (session_text batches (runs_before short)) × ForTrace IsLeft before after
+      (short : Short) × Appends old new (session_text batches (runs_before short)) × AreLeft before after
   Answers (Err (Write written)) old new before after =
       (came : Came)
-      × ((StopsInLast written old new batches (runs came) × ForTrace IsLeft before after)
-      ⊎ ((is_some before ≡ true) × AreDone batches (runs came) × Appends old new (session_text batches (runs came))
-      × ForTrace (λ start now. (items : List Item) × IsPart came items × Stopped written start now (trace_text items))
-      before after))
+      × ((StopsInLast written old new batches (runs came) × AreLeft before after)
+      ⊎ ((items : List Item) × AreDone batches (runs came) × Appends old new (session_text batches (runs came))
+      × IsPart came items × TraceStops written items before after))
+  Answers (Err (WriteAccesses written)) old new before after =
+      (came : Came) × (items : List Item) × AreDone batches (runs came)
+      × Appends old new (session_text batches (runs came)) × IsPart came items
+      × AccessesStop written items before after
   Answers (Err TraceCut) old new before after =
-      (came : Came) × (is_some before ≡ true) × AreDone batches (runs came)
-      × Appends old new (session_text batches (runs came))
-      × ForTrace (λ start now. (items : List Item) × IsPart came items × Appends start now (trace_text items))
-      before after
+      (came : Came) × (items : List Item) × AreDone batches (runs came)
+      × Appends old new (session_text batches (runs came)) × IsPart came items
+      × (is_recorded before ≡ true) × AreWritten items before after
 
 -- the same over a wire, where no log's capacity is known
 abbrev pub AnswersOver : {W : Type 0} → (W → Port) → (W → List Mark) → (W → Type 0) → ℕ → ℕ → List Listed → W → W
-    → Result Finished EngineFault → Option (List ℕ) → Option (List ℕ) → Option (Option (List ℕ))
-    → Option (Option (List ℕ)) → Type 0
+    → Result Finished EngineFault → Option (List ℕ) → Option (List ℕ) → Files → Files → Type 0
 AnswersOver port plan lawful tries resumes batches start end answer old new before after =
     Answers {Came = Ran port plan lawful tries resumes batches start end}
     {Short = RanShort port plan lawful tries resumes batches start end} batches None (λ ran. ran.runs)
     (λ short. short.before.runs) IsTraceOver IsOfTraceOver answer old new before after
 
--- the same over a wire that counts its requests itself, or from 0 if there is a trace
+-- the same over a wire that counts its requests itself, or from 0 if the run is recorded
 abbrev pub AnswersAt : {W : Type 0} → (W → Port) → (W → List Mark) → (W → Type 0) → ℕ → ℕ → List Listed → W → W
-    → Result Finished EngineFault → Option (List ℕ) → Option (List ℕ) → Option (Option (List ℕ))
-    → Option (Option (List ℕ)) → Type 0
+    → Result Finished EngineFault → Option (List ℕ) → Option (List ℕ) → Files → Files → Type 0
 AnswersAt port plan lawful tries resumes batches start end answer old new before after =
     (counted : ℕ)
-    × AnswersOver (port_seen (is_some before) port) (λ seen. plan seen.1) (λ seen. lawful seen.1) tries resumes batches
-    (0, start) (counted, end) answer old new before after
+    × AnswersOver (port_seen (is_recorded before) port) (λ seen. plan seen.1) (λ seen. lawful seen.1) tries resumes
+    batches (0, start) (counted, end) answer old new before after
 
--- the trace was written, complete or truncated, or only its first bytes were
-pub data TellsTrace (finished : Finished) (cut : Bool) (items : List Item) (old new : Option (List ℕ))
+-- the files were written, complete or truncated, or only the first bytes of one were
+pub data TellsRecords (finished : Finished) (cut : Bool) (items : List Item) (old new : Files)
     : Result Finished EngineFault → Type 0 where
-  whole : cut ≡ false → Appends old new (trace_text items) → TellsTrace finished cut items old new (Ok finished)
-  short : cut ≡ true → Appends old new (trace_text items) → TellsTrace finished cut items old new (Err TraceCut)
-  stopped : {written : ℕ} → Stopped written old new (trace_text items)
-      → TellsTrace finished cut items old new (Err (Write written))
+  whole : cut ≡ false → AreWritten items old new → TellsRecords finished cut items old new (Ok finished)
+  short : cut ≡ true → AreWritten items old new → TellsRecords finished cut items old new (Err TraceCut)
+  trace_stops : {written : ℕ} → TraceStops written items old new
+      → TellsRecords finished cut items old new (Err (Write written))
+  accesses_stop : {written : ℕ} → AccessesStop written items old new
+      → TellsRecords finished cut items old new (Err (WriteAccesses written))

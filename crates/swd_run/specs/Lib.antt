@@ -1,3 +1,5 @@
+pub mod Records
+pub mod Recorded
 pub mod Engine
 pub mod GoingOn
 pub mod Sessions

@@ -5,6 +5,9 @@ use Rattle.std.specs.Prelude.{◌==◌, IsOk, None, Some, if◌then◌else◌, m
 use Rattle.swd_io.specs.Pieces.{IsText}
 use Rattle.swd_io.specs.declared.pieces.Unread.{Unread}
 use Rattle.swd_io.specs.declared.pieces.Unread.TheVariants.{Reader, Consumer}
+use Rattle.swd_trace.specs.declared.item.Item.{Item}
+use Rattle.swd_observer.specs.Explained.{Explains}
+use Rattle.swd_observer.specs.Traces.{from_made, told_in}
 use Rattle.swd_port.specs.declared.mark.Mark.{Mark}
 use Rattle.swd_port.specs.Choices.{disturbed_among, lost_among}
 use Rattle.swd_port.specs.PlainMemory.{PlainMemory}
@@ -23,8 +26,9 @@ use Rattle.swd_run.specs.declared.fault.RunFault.{RunFault}
 use Rattle.swd_run.specs.declared.fault.RunFault.TheVariants.{Texts, Engine}
 use Rattle.swd_run.specs.declared.fault.TextsFault.{TextsFault}
 use Rattle.swd_run.specs.declared.fault.TextsFault.TheVariants.{Script, Plan, Read}
-use Rattle.swd_run.specs.Engine.{Answers, IsLeft, IsOfTrace, IsTraceOf, ForTrace}
+use Rattle.swd_run.specs.Engine.{Answers, IsOfTrace, IsTraceOf}
 use Rattle.swd_run.specs.GoingOn.{TellOf, in_all}
+use Rattle.swd_run.specs.Records.{AreLeft, Files, IsLeft}
 use Rattle.swd_run.specs.Sessions.{Done, ended_of, most_begun, requests_of}
 
 -- the memory of a script before its run
@@ -112,19 +116,24 @@ pub record RanScriptShort (tries resumes : ℕ) (script : Meaning) (marks : List
   pub are : RunsScript tries resumes script marks runs memory
   pub all : ended_of runs ≡ All
 
+-- The complete trace of a script's runs. The accesses that it shows explain the log of the target's memory.
+pub record IsTraceIn (memory : PlainMemory) (runs : List Done) (items : List Item) : Type 0 where
+  pub is : IsTraceOf (requests_of runs) (ended_of runs) items
+  pub explained : ∥ Explains (told_in items from_made) memory.log ∥₁
+
 -- What the engine's result states about a script over a new target, and some memory that it is left with.
 abbrev pub AnswersScript : ℕ → ℕ → Meaning → List Mark → Result Finished EngineFault → Option (List ℕ)
-    → Option (List ℕ) → Option (Option (List ℕ)) → Option (Option (List ℕ)) → Type 0
+    → Option (List ℕ) → Files → Files → Type 0
 AnswersScript tries resumes script marks answer old new before after =
     (memory : PlainMemory)
     × Answers {Came = RanScript tries resumes script marks memory} {Short = RanScriptShort tries resumes script marks}
     script.batches (full_room script.room memory) (λ ran. ran.runs) (λ short. short.runs)
-    (λ ran items. IsTraceOf (requests_of ran.runs) (ended_of ran.runs) items)
-    (λ ran items. IsOfTrace (requests_of ran.runs) items) answer old new before after
+    (λ ran items. IsTraceIn memory ran.runs items) (λ ran items. IsOfTrace (requests_of ran.runs) items) answer old new
+    before after
 
 -- the inputs were read, and the engine gave this result
 pub record RanText (tries resumes : ℕ) (answer : Result Finished EngineFault) (script plan old new : Option (List ℕ))
-    (before after : Option (Option (List ℕ))) : Type 0 where
+    (before after : Files) : Type 0 where
   pub meaning : Meaning
   pub marks : List Mark
   pub read : AreRead script plan meaning marks
@@ -147,13 +156,13 @@ AreUnread Read script plan = Unit {0}
 -- What a result states about the inputs, if their bytes are known, and about the contents of the writers before and
 -- after.
 abbrev pub RunsText : ℕ → ℕ → Result Finished RunFault → Option (List ℕ) → Option (List ℕ) → Option (List ℕ)
-    → Option (List ℕ) → Option (Option (List ℕ)) → Option (Option (List ℕ)) → Type 0
+    → Option (List ℕ) → Files → Files → Type 0
 RunsText tries resumes (Ok finished) script plan old new before after =
     RanText tries resumes (Ok finished) script plan old new before after
 RunsText tries resumes (Err (Engine fault)) script plan old new before after =
     RanText tries resumes (Err fault) script plan old new before after
 RunsText tries resumes (Err (Texts fault)) script plan old new before after =
-    AreUnread fault script plan × IsLeft old new × ForTrace IsLeft before after
+    AreUnread fault script plan × IsLeft old new × AreLeft before after
 
 -- the error of a script that wasn't read
 abbrev pub script_fault : Unread ScriptFault → TextsFault

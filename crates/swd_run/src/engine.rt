@@ -1,25 +1,28 @@
-//! Runs the calls of a script over any wire, and writes their reports and their trace.
-ghost use Rattle.std.specs.Prelude.{◌≡◌, All as Each, List, [], ◌∷◌, ◌++◌, None, Some, length, map};
+//! Runs the calls of a script over any wire, and writes their reports, their trace and the accesses that it shows.
+ghost use Rattle.std.specs.Prelude.{ℕ, ◌≡◌, All as Each, List, [], ◌∷◌, ◌++◌, None, length, map, true};
 ghost use Rattle.swd_port.specs.declared.wire.Due.TheVariants.{Nothing};
+ghost use Rattle.swd_port.specs.Laws.Calls.{with_asked};
 ghost use Rattle.swd_trace.specs.Listed.{AreLegal};
 ghost use Rattle.swd_recorder.specs.Recorders.{lawful_by, plan_by, port_by};
 ghost use Rattle.swd_script.specs.Readers.{listed};
 ghost use Rattle.swd_script.specs.Laws.{IsBatch};
 ghost use Rattle.swd_script.specs.Scripts.{Listed};
 ghost use Rattle.swd_run.specs.Sessions.{Done, done_of};
-ghost use Rattle.swd_run.specs.Engine.{AnswersAt, AnswersOver, IsFinished, TellsTrace, held};
+ghost use Rattle.swd_run.specs.Engine.{AnswersAt, AnswersOver, IsFinished, TellsRecords, port_seen};
+ghost use Rattle.swd_run.specs.Records.{files_of, is_recorded, no_files};
 
 use crate::fault::EngineFault;
 use crate::going_on::{Resumed, run_on};
+use crate::records::{Records, write_accesses, write_trace};
 use crate::report::write_run;
+use crate::traced::{Origin, Traced};
 use crate::verified::{Difference, or_bus_fault, or_difference_in};
 use std::alloc::Allocator;
 use std::io::Write;
+use std::marker::Brand;
 use swd_host::End;
 use swd_port::Wire;
-use swd_recorder::Recorder;
 use swd_script::Batch;
-use swd_text::write_items;
 use swd_trace::Item;
 
 /// The result of a script's run.
@@ -75,7 +78,7 @@ fn run_reported<W: Wire, O: Write, A: Allocator + Copy>(
     requires batches { Each IsBatch (map listed batches.now) }
     requires due { (W.port wire.old).link.due ≡ Nothing }
     ensures answer { AnswersOver W.port W.plan W.lawful tries resumes (map listed batches.now) wire.old wire.new
-        result (O.contents report.old) (O.contents report.new) None None }
+        result (O.contents report.old) (O.contents report.new) no_files no_files }
     ensures plan { W.plan wire.new ≡ W.plan wire.old }
 {
     let mut finished = Finished::NONE;
@@ -99,18 +102,23 @@ fn run_reported<W: Wire, O: Write, A: Allocator + Copy>(
     Ok(finished)
 }
 
-// Writes the trace of these items. Returns `finished`, or `TraceCut` if `cut`: the items are truncated.
-fn write_trace<T: Write>(
-    trace: &mut T,
+// Writes the trace of these items, and the accesses that they show, each if there is a writer for it. Returns
+// `finished`, or `TraceCut` if `cut`: the items are truncated.
+fn write_records<T: Write>(
+    records: &mut Records<T>,
     items: &[Item],
     cut: bool,
     finished: Finished,
 ) -> Result<Finished, EngineFault>
     requires { AreLegal items.now }
-    ensures { TellsTrace finished cut items.now (T.contents trace.old) (T.contents trace.new) result }
+    ensures { TellsRecords finished cut items.now (files_of T.contents records.old) (files_of T.contents records.new)
+        result }
 {
-    if let Err(written) = write_items(trace, items) {
+    if let Err(written) = write_trace(&mut records.trace, items) {
         return Err(EngineFault::Write { written });
+    }
+    if let Err(written) = write_accesses(&mut records.accesses, items, records.made) {
+        return Err(EngineFault::WriteAccesses { written });
     }
     if cut {
         Err(EngineFault::TraceCut)
@@ -119,33 +127,63 @@ fn write_trace<T: Write>(
     }
 }
 
-// Runs the batches over a wire that is recorded, and writes their reports and then the trace.
-fn run_traced<W: Wire, O: Write, T: Write, A: Allocator + Copy>(
+// Runs the batches over a wire that is recorded from its start, and writes their reports and then the other files.
+fn run_traced<B: Origin, W: Wire, O: Write, T: Write, A: Allocator + Copy>(
     alloc: A,
-    recorder: &mut Recorder<W, A>,
+    traced: &mut Traced<W, A, B>,
     batches: &[Batch<A>],
     tries: u32,
     resumes: u32,
     report: &mut O,
-    trace: &mut T,
+    records: &mut Records<T>,
 ) -> Result<Finished, EngineFault>
     requires batches { Each IsBatch (map listed batches.now) }
-    requires due { (port_by recorder.old).link.due ≡ Nothing }
-    requires start { (port_by recorder.old).tally.asked ≡ 0 }
-    ensures answer { AnswersOver port_by plan_by lawful_by tries resumes (map listed batches.now) recorder.old
-        recorder.new result (O.contents report.old) (O.contents report.new) (Some (T.contents trace.old))
-        (Some (T.contents trace.new)) }
-    ensures plan { plan_by recorder.new ≡ plan_by recorder.old }
+    requires due { (port_by traced.old.recorder).link.due ≡ Nothing }
+    requires asked { (port_by traced.old.recorder).tally.asked ≡ 0 }
+    requires start { B.start ≡ port_by traced.old.recorder }
+    requires wanted { is_recorded (files_of T.contents records.old) ≡ true }
+    ensures answer { AnswersOver port_by plan_by lawful_by tries resumes (map listed batches.now) traced.old.recorder
+        traced.new.recorder result (O.contents report.old) (O.contents report.new) (files_of T.contents records.old)
+        (files_of T.contents records.new) }
+    ensures plan { plan_by traced.new.recorder ≡ plan_by traced.old.recorder }
 {
-    match run_reported(alloc, recorder, batches, tries, resumes, report) {
-        Ok(finished) => write_trace(trace, recorder.items(), recorder.is_cut(), finished),
+    match run_reported(alloc, traced, batches, tries, resumes, report) {
+        Ok(finished) => {
+            let recorder = &traced.recorder;
+            write_records(records, recorder.items(), recorder.is_cut(), finished)
+        }
         Err(fault) => Err(fault),
     }
 }
 
+// Records a wire, runs the batches over it, and writes their reports and then the other files.
+fn run_recorded<B: Origin, W: Wire, O: Write, T: Write, A: Allocator + Copy>(
+    alloc: A,
+    wire: W,
+    batches: &[Batch<A>],
+    tries: u32,
+    resumes: u32,
+    report: &mut O,
+    records: &mut Records<T>,
+) -> (Result<Finished, EngineFault>, W)
+    requires batches { Each IsBatch (map listed batches.now) }
+    requires due { (W.port wire).link.due ≡ Nothing }
+    requires start { B.start ≡ with_asked 0 (W.port wire) }
+    requires wanted { is_recorded (files_of T.contents records.old) ≡ true }
+    ensures answer { (counted : ℕ)
+        × AnswersOver (port_seen true W.port) (λ seen. W.plan seen.1) (λ seen. W.lawful seen.1) tries resumes
+        (map listed batches.now) (0, wire) (counted, result.1) result.0 (O.contents report.old) (O.contents report.new)
+        (files_of T.contents records.old) (files_of T.contents records.new) }
+    ensures plan { W.plan result.1 ≡ W.plan wire }
+{
+    let mut traced = Traced::<W, A, B>::new(alloc, wire);
+    let answer = run_traced(alloc, &mut traced, batches, tries, resumes, report, records);
+    (answer, traced.into_wire())
+}
+
 /// Runs the calls of a script in order over a wire on which nothing is due, up to the first that doesn't end `All`.
-/// Writes the report of each call before the next one starts. Then writes the trace, if there is a writer for it.
-/// Returns the wire too.
+/// Writes the report of each call before the next one starts. Then writes the trace and the accesses that it shows,
+/// each if there is a writer for it. Returns the wire too.
 ///
 /// `tries` is the number of events that the opening, and each access, may meet. After a lost acknowledgement a call
 /// continues by `swd_host::resume`, at most `resumes` times. The report has a line for each time. The answers of a call
@@ -154,7 +192,8 @@ fn run_traced<W: Wire, O: Write, T: Write, A: Allocator + Copy>(
 /// The trace has the items that a `swd_recorder::Recorder` keeps, as bits in characters, one item a line. These bits
 /// decode to the same items. If the target conforms to the model and was at rest, a trace that isn't truncated has one
 /// transaction for each request. Its last item is then a transaction without acknowledgement exactly if the last call
-/// ended `Lost`. If an allocation for an item fails, the run continues. Without a writer no items are kept.
+/// ended `Lost`. The accesses are the lines that `swd decode --accesses` prints of this trace, with `--made` if
+/// `records.made`. If an allocation for an item fails, the run continues. Without such a file no items are kept.
 ///
 /// # Errors
 ///
@@ -164,11 +203,13 @@ fn run_traced<W: Wire, O: Write, T: Write, A: Allocator + Copy>(
 /// Returns `Write` if the report's writer failed or took no bytes. Exactly the first `written` bytes of the reports
 /// were written then, including all reports of the calls before. No call was made after that.
 ///
-/// In both cases nothing of the trace was written.
+/// In both cases nothing of the trace and of the accesses was written.
 ///
-/// Returns `Write` too if the trace's writer failed: the reports are complete, and exactly the first `written` bytes of
-/// the trace were written. Returns `TraceCut` if the trace is truncated, as when an allocation for an item failed: the
-/// reports are complete. Nothing is retried.
+/// Returns `Write` too if the trace's writer failed: the reports are complete, exactly the first `written` bytes of
+/// the trace were written, and nothing of the accesses. Returns `WriteAccesses` if the accesses' writer failed: the
+/// reports and the trace are complete, and exactly the first `written` bytes of the accesses were written. Returns
+/// `TraceCut` if the items are truncated, as when an allocation for an item failed: the reports are complete, and the
+/// other files have these items. Nothing is retried.
 pub fn run_batches<W: Wire, O: Write, T: Write, A: Allocator + Copy>(
     alloc: A,
     wire: W,
@@ -176,20 +217,21 @@ pub fn run_batches<W: Wire, O: Write, T: Write, A: Allocator + Copy>(
     tries: u32,
     resumes: u32,
     report: &mut O,
-    trace: &mut Option<T>,
+    records: &mut Records<T>,
 ) -> (Result<Finished, EngineFault>, W)
     requires batches { Each IsBatch (map listed batches.now) }
     requires due { (W.port wire).link.due ≡ Nothing }
     ensures answer { AnswersAt W.port W.plan W.lawful tries resumes (map listed batches.now) wire result.1 result.0
-        (O.contents report.old) (O.contents report.new) (held T.contents trace.old) (held T.contents trace.new) }
+        (O.contents report.old) (O.contents report.new) (files_of T.contents records.old)
+        (files_of T.contents records.new) }
     ensures plan { W.plan result.1 ≡ W.plan wire }
 {
-    let Some(trace) = trace else {
-        let mut wire = wire;
-        let answer = run_reported(alloc, &mut wire, batches, tries, resumes, report);
-        return (answer, wire);
-    };
-    let mut recorder = Recorder::new(alloc, wire);
-    let answer = run_traced(alloc, &mut recorder, batches, tries, resumes, report, trace);
-    (answer, recorder.into_wire())
+    if records.is_wanted() {
+        return run_recorded::<Brand, W, O, T, A>(
+            alloc, wire, batches, tries, resumes, report, records,
+        );
+    }
+    let mut wire = wire;
+    let answer = run_reported(alloc, &mut wire, batches, tries, resumes, report);
+    (answer, wire)
 }

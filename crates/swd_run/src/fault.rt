@@ -16,16 +16,20 @@ pub enum TextsFault {
     Read,
 }
 
-/// The error of running the calls of a script, or of writing their reports or their trace.
+/// The error of running the calls of a script, or of writing their reports, their trace or its accesses.
 #[derive(Clone, Copy, Debug, PartialEq, Eq, Error)]
 pub enum EngineFault {
     /// Out of memory for a call. The reports of the calls before it are complete.
     #[error("no memory")]
     Memory,
-    /// A writer failed, or took no bytes. Exactly the first `written` bytes of its output were written; more than
-    /// 2^64 - 1 are reported as 2^64 - 1.
+    /// The writer of the reports or of the trace failed, or took no bytes. Exactly the first `written` bytes of its
+    /// output were written; more than 2^64 - 1 are reported as 2^64 - 1.
     #[error("write failed")]
     Write { written: u64 },
+    /// The writer of the accesses failed, or took no bytes. Exactly the first `written` bytes of them were written, at
+    /// most 2^64 - 1. The reports and the trace are complete.
+    #[error("write of the accesses failed")]
+    WriteAccesses { written: u64 },
     /// The trace is truncated, as when memory runs out for its items.
     #[error("trace cut")]
     TraceCut,

@@ -1,19 +1,24 @@
 //! The engine of `swd run`. It runs a script's calls over any wire, and resumes a call after a lost acknowledgement. It
-//! writes the report of each call when it ends, and then the trace. It returns the first read whose answer wasn't the
-//! expected word. [`run_text`] does the same over a simulated target with the marks of a plan.
+//! writes the report of each call when it ends, and then the trace and the accesses that it shows. It returns the first
+//! read whose answer wasn't the expected word. [`run_text`] does the same over a simulated target with the marks of a
+//! plan.
 #![tactic(auto)]
 
 mod engine;
 mod fault;
 mod going_on;
+pub mod laws;
+mod records;
 mod report;
 mod running;
 mod texts;
+mod traced;
 mod verified;
 
 pub use engine::{Finished, run_batches};
 pub use fault::{EngineFault, RunFault, TextsFault};
 pub use going_on::{Resumed, Stop, run_on};
+pub use records::Records;
 pub use report::{ReportLine, answer_line, last_line, resume_line};
 pub use running::{QUIRKS, run_text, zero_memory};
 pub use texts::{Texts, read_texts};

@@ -9,11 +9,12 @@ ghost use Rattle.swd_script.specs.Laws.{IsBatch, IsRunnable};
 ghost use Rattle.swd_target.specs.Marks.{IsPlan};
 ghost use Rattle.swd_target.specs.Benches.{port_of, plan_of};
 ghost use Rattle.swd_run.specs.Sessions.{most_begun};
-ghost use Rattle.swd_run.specs.Engine.{held};
+ghost use Rattle.swd_run.specs.Records.{files_of};
 ghost use Rattle.swd_run.specs.Running.{AnswersScript, RunsText, full_room, memory_of, with_full};
 
 use crate::engine::{Finished, run_batches};
 use crate::fault::{EngineFault, RunFault};
+use crate::records::Records;
 use crate::texts::{Texts, read_texts};
 use std::alloc::Allocator;
 use std::io::{Read, Write};
@@ -113,8 +114,8 @@ pub(crate) fn run_over<W: Wire, A: Allocator + Copy>(
     }
 }
 
-// Runs a script over a simulated target with these marks. Writes the reports, and the trace if there is a writer for
-// it.
+// Runs a script over a simulated target with these marks. Writes the reports, and the files for which there is a
+// writer.
 fn run_script<W: Write, T: Write, A: Allocator + Copy>(
     alloc: A,
     script: &Script<A>,
@@ -122,12 +123,12 @@ fn run_script<W: Write, T: Write, A: Allocator + Copy>(
     tries: u32,
     resumes: u32,
     writer: &mut W,
-    trace: &mut Option<T>,
+    records: &mut Records<T>,
 ) -> Result<Finished, EngineFault>
     requires script { IsRunnable (meaning script.now) }
     requires plan { IsPlan plan.items }
     ensures { AnswersScript tries resumes (meaning script.now) plan.items result (W.contents writer.old)
-        (W.contents writer.new) (held T.contents trace.old) (held T.contents trace.new) }
+        (W.contents writer.new) (files_of T.contents records.old) (files_of T.contents records.new) }
 {
     let Some(bench) = target_of(alloc, script, plan) else {
         return Err(EngineFault::Memory);
@@ -135,7 +136,7 @@ fn run_script<W: Write, T: Write, A: Allocator + Copy>(
     // The marks that a run uses are among those of the plan.
     marks_used::<A>();
     let batches = script.batches.as_slice();
-    let (answer, bench) = run_batches(alloc, bench, batches, tries, resumes, writer, trace);
+    let (answer, bench) = run_batches(alloc, bench, batches, tries, resumes, writer, records);
     with_full(answer, full_room(bench.memory(), script.room))
 }
 
@@ -156,16 +157,17 @@ pub fn run_text<S: Read, P: Read, W: Write, T: Write, A: Allocator + Copy>(
     tries: u32,
     resumes: u32,
     writer: &mut W,
-    trace: &mut Option<T>,
+    records: &mut Records<T>,
 ) -> Result<Finished, RunFault>
     ensures { RunsText tries resumes result (S.remaining script.old) (P.remaining plan.old)
-        (W.contents writer.old) (W.contents writer.new) (held T.contents trace.old) (held T.contents trace.new) }
+        (W.contents writer.old) (W.contents writer.new) (files_of T.contents records.old)
+        (files_of T.contents records.new) }
 {
     let Texts { script, plan } = match read_texts(alloc, script, plan) {
         Ok(texts) => texts,
         Err(fault) => return Err(RunFault::Texts(fault)),
     };
-    match run_script(alloc, &script, plan, tries, resumes, writer, trace) {
+    match run_script(alloc, &script, plan, tries, resumes, writer, records) {
         Ok(finished) => Ok(finished),
         Err(fault) => Err(RunFault::Engine(fault)),
     }

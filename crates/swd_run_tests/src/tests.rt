@@ -5,11 +5,12 @@ use swd_fakes::{FailingReader, ShortWriter};
 use swd_host::End;
 use swd_port::{Access, Answer};
 use swd_run::{
-    EngineFault, Finished, RunFault, Stop, TextsFault, answer_line, last_line, resume_line,
-    run_text,
+    EngineFault, Finished, Records, RunFault, Stop, TextsFault, answer_line, last_line,
+    resume_line, run_text,
 };
 use swd_script::ScriptFault;
 
+mod accesses;
 mod expect;
 mod faults;
 mod line;
@@ -58,6 +59,15 @@ fn ended_with<F>(ended: End, report: &[u8]) -> Result<Finished, F> {
     })
 }
 
+// The writer of a trace, with no file beside it, of a run at a target in its reset state.
+fn only_trace<T>(trace: T) -> Records<T> {
+    Records {
+        trace: Some(trace),
+        accesses: None,
+        made: true,
+    }
+}
+
 fn run_on(rt: &HostRuntime, script: &[u8], plan: &[u8], tries: u32) -> Ran {
     resumed_on(rt, script, plan, tries, 0)
 }
@@ -74,7 +84,7 @@ fn resumed_on(rt: &HostRuntime, script: &[u8], plan: &[u8], tries: u32, resumes:
         tries,
         resumes,
         &mut text,
-        &mut None::<Vec<u8>>,
+        &mut Records::<Vec<u8>>::none(),
     );
     Ran { answer, text }
 }
@@ -162,7 +172,7 @@ fn a_run_at_each_read_that_fails(rt: HostRuntime) {
             TRIES,
             0,
             &mut text,
-            &mut None::<Vec<u8>>,
+            &mut Records::<Vec<u8>>::none(),
         );
         expect_eq_at(&rt, &i, &answer, &Err(RunFault::Texts(TextsFault::Read)));
         assert!(rt; text.is_empty());
@@ -178,7 +188,7 @@ fn a_run_at_each_read_that_fails(rt: HostRuntime) {
             TRIES,
             0,
             &mut text,
-            &mut None::<Vec<u8>>,
+            &mut Records::<Vec<u8>>::none(),
         );
         expect_eq_at(&rt, &i, &answer, &Err(RunFault::Texts(TextsFault::Read)));
         assert!(rt; text.is_empty());
@@ -199,7 +209,7 @@ fn a_run_at_each_write_that_fails(rt: HostRuntime) {
                 TRIES,
                 0,
                 &mut writer,
-                &mut None::<Vec<u8>>,
+                &mut Records::<Vec<u8>>::none(),
             );
             let written = room as u64;
             expect_eq(
@@ -239,7 +249,7 @@ fn a_long_report_where_a_write_fails(rt: HostRuntime) -> Result<(), Fail> {
             TRIES,
             0,
             &mut writer,
-            &mut None::<Vec<u8>>,
+            &mut Records::<Vec<u8>>::none(),
         );
         let written = room as u64;
         expect_eq(

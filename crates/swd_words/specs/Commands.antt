@@ -105,6 +105,11 @@ resume_rule =
 abbrev pub trace_rule : Rule
 trace_rule = let rule = new_rule (codes "trace") in record rule { long = Some (codes "trace"); value_names = 1 }
 
+-- the accesses of a run, after --accesses
+abbrev pub accesses_file_rule : Rule
+accesses_file_rule = let rule = new_rule (codes "accesses") in record rule
+    { long = Some (codes "accesses"); value_names = 1 }
+
 -- --strict: bus errors fail the run
 abbrev pub strict_rule : Rule
 strict_rule = let rule = new_rule (codes "strict") in record rule
@@ -125,7 +130,9 @@ over_a_script = with_rule (with_rule (new_app (codes "run")) script_rule) plan_r
 
 -- with the other options of a run at a simulated target
 abbrev pub run_here_app : App
-run_here_app = with_rule (with_rule (with_rule (with_rule over_a_script tries_rule) resume_rule) trace_rule) strict_rule
+run_here_app =
+    with_rule (with_rule (with_rule (with_rule (with_rule over_a_script tries_rule) resume_rule) trace_rule)
+    accesses_file_rule) strict_rule
 
 -- with the options of a run at a remote target
 abbrev pub run_app : App
@@ -172,14 +179,15 @@ abbrev pub AreResumes : ℕ → Option Text → Type 0
 AreResumes resumes None = resumes ≡ 0
 AreResumes resumes (Some text) = (resumes ≤ 1000) × (pos resumes ≡ signed_digits_value 10 text)
 
--- the script, the plan, the two numbers, the trace and the report that the arguments name, and whether the run is
--- strict, and remote
+-- the script, the plan, the two numbers, the trace, the accesses and the report that the arguments name, and whether
+-- the run is strict, and remote
 pub record IsRunOf (run : RunLine) (rows : List Row) : Type 0 where
   pub script : Some (string_bytes run.script) ≡ first_of (codes "SCRIPT") rows
   pub plan : option_map string_bytes run.plan ≡ first_of (codes "plan") rows
   pub tries : AreTries run.tries (first_of (codes "tries") rows)
   pub resumes : AreResumes run.resumes (first_of (codes "resume") rows)
   pub trace : option_map string_bytes run.trace ≡ first_of (codes "trace") rows
+  pub accesses : option_map string_bytes run.accesses ≡ first_of (codes "accesses") rows
   pub strict : (run.strict ≡ true) ↔ (first_of (codes "strict") rows ≡ Some (codes "true"))
   pub remote : (run.remote ≡ true) ↔ (first_of (codes "remote") rows ≡ Some (codes "true"))
   pub report : option_map string_bytes run.report ≡ first_of (codes "report") rows

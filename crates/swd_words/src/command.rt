@@ -11,8 +11,8 @@ pub enum Line {
     Decode(DecodeLine),
     /// `swd encode [FILE]`. Without a file it reads standard input.
     Encode(Option<String>),
-    /// `swd run SCRIPT [--plan FILE] [--tries N] [--resume N] [--trace FILE] [--strict]`, or
-    /// `swd run SCRIPT --remote --report FILE [--tries N] [--resume N] [--trace FILE] [--strict]`.
+    /// `swd run SCRIPT [--plan FILE]` or `swd run SCRIPT --remote --report FILE`. Both take `[--tries N] [--resume N]
+    /// [--trace FILE] [--accesses FILE] [--strict]` too.
     Run(RunLine),
     /// `swd target SCRIPT [--plan FILE] [--log FILE] [--trace FILE]`.
     Target(TargetLine),
@@ -52,6 +52,8 @@ pub struct RunLine {
     pub resumes: u32,
     /// The file that the trace is written to, if one is named.
     pub trace: Option<String>,
+    /// The file that the accesses are written to which the trace shows, if one is named.
+    pub accesses: Option<String>,
     /// Whether a bus error fails the run.
     pub strict: bool,
     /// Whether the target is behind the standard streams.

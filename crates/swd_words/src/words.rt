@@ -6,7 +6,7 @@ ghost use Rattle.clap.specs.Words.{app_of, found_of, rows_of, subcommand_of, sub
 ghost use Rattle.clap.specs.Words.{fault_of, kind_of, with_rule, with_subcommand};
 ghost use Rattle.clap.specs.declared.builder.command.Command.TheViews.{out-Command};
 ghost use Rattle.swd_words.specs.Commands.{file_rule, plan_rule, resume_rule, script_rule, strict_rule, trace_rule};
-ghost use Rattle.swd_words.specs.Commands.{tries_rule};
+ghost use Rattle.swd_words.specs.Commands.{accesses_file_rule, tries_rule};
 ghost use Rattle.swd_words.specs.Commands.{remote_rule, report_rule, run_here_app};
 ghost use Rattle.swd_words.specs.Commands.{bare_app, over_a_script, over_file, run_app, swd_app, AreResumes, AreTries};
 ghost use Rattle.swd_words.specs.Commands.{IsLineOf, IsOfKind, IsRunOf, IsRefusal};
@@ -59,9 +59,10 @@ const ENCODE_ABOUT: &str = "Encode a listing to a trace, one line an item";
 const RUN_ABOUT: &str = "Run a script's accesses at a target, each once";
 
 const RUN_AFTER: &str = "\
-SCRIPT may be - for standard input. The plan and the trace must be files, not -.
-The plan must be another file than the script. The trace must be none of the
-script, the plan, the report and standard output.
+SCRIPT may be - for standard input. The plan, the trace and the accesses must be
+files, not -. The plan must be another file than the script. The trace and the
+accesses must be two files, and none of the script, the plan, the report and
+standard output.
 
 With --remote the standard streams connect to a server of OpenOCD's
 remote_bitbang protocol for SWD, such as swd target. The report goes to the file
@@ -113,7 +114,10 @@ accesses after these were in flight, and may have taken effect:
   end id WORD            the target's DPIDR is invalid: WORD
   end confused K begun B the target violated the protocol
 
-The trace has every bit on the line, one item per line: see swd decode.
+The trace has every bit on the line, one item per line: see swd decode. The
+accesses are those of the target's memory that the trace shows, one per line:
+what swd decode --accesses --made prints of the trace, with --remote without
+--made. Both are written after the last call.
 
 Status: 0 if each call ended all, 1 if one ended otherwise, 2 at an error. A bus
 error is an answer, and fails the run only with --strict: status 1. The status
@@ -183,6 +187,17 @@ pub(crate) fn trace_arg<'a>(alloc: Global) -> Arg<'a>
         .long("trace")
         .value_name("FILE")
         .help("Write the trace to FILE (overwrites it)")
+}
+
+// Returns the option for the file of the accesses.
+fn accesses_arg<'a>(alloc: Global) -> Arg<'a>
+    ensures rule { rule_of result ≡ accesses_file_rule }
+    ensures local { result.global ≡ false }
+{
+    Arg::new(alloc, "accesses")
+        .long("accesses")
+        .value_name("FILE")
+        .help("Write the accesses to FILE (overwrites it)")
 }
 
 // Returns the flag by which bus errors fail the run.
@@ -292,7 +307,8 @@ fn run_here<'a>(alloc: Global) -> Result<Command<'a>, AllocError>
     let tries = with_arg(bare, tries_arg(alloc))?;
     let resume = with_arg(tries, resume_arg(alloc))?;
     let trace = with_arg(resume, trace_arg(alloc))?;
-    with_arg(trace, strict_arg(alloc))
+    let accesses = with_arg(trace, accesses_arg(alloc))?;
+    with_arg(accesses, strict_arg(alloc))
 }
 
 // Adds the options of a run at a remote target: the whole command `run`.
@@ -421,6 +437,9 @@ fn run_line(alloc: Global, matches: &ArgMatches<'_>) -> Result<RunLine, LineFaul
     let Ok(trace) = owned(alloc, matches.get_str("trace")) else {
         return Err(LineFault::Memory);
     };
+    let Ok(accesses) = owned(alloc, matches.get_str("accesses")) else {
+        return Err(LineFault::Memory);
+    };
     let Ok(report) = owned(alloc, matches.get_str("report")) else {
         return Err(LineFault::Memory);
     };
@@ -436,6 +455,7 @@ fn run_line(alloc: Global, matches: &ArgMatches<'_>) -> Result<RunLine, LineFaul
         tries,
         resumes,
         trace,
+        accesses,
         strict: is_asked_for(matches.get_str("strict")),
         remote: is_asked_for(matches.get_str("remote")),
         report,

@@ -46,6 +46,62 @@ fn accesses_are_told_of_a_trace(rt: HostRuntime) {
     }
 }
 
+// The words, how many bytes are written to the file of the accesses, and the run's status and messages. The script has
+// three accesses of 25 bytes each and a bus error of 29.
+const RUNS: [(&[&str], usize, u8, &[u8]); 4] = [
+    (
+        &["swd", "run", "script", "--accesses", "traced"],
+        104,
+        0,
+        b"",
+    ),
+    // The end that is gone shows nothing.
+    (
+        &[
+            "swd",
+            "run",
+            "script",
+            "--plan",
+            "deaf",
+            "--accesses",
+            "traced",
+        ],
+        0,
+        1,
+        b"",
+    ),
+    (
+        &["swd", "run", "script", "--accesses", "full"],
+        0,
+        2,
+        b"swd: write of the accesses failed\n",
+    ),
+    (
+        &[
+            "swd",
+            "run",
+            "script",
+            "--trace",
+            "traced",
+            "--accesses",
+            "traced",
+        ],
+        0,
+        2,
+        b"swd: cannot open traced: it is another output\n",
+    ),
+];
+
+#[test]
+fn the_accesses_of_a_run_are_written(rt: HostRuntime) {
+    for (words, written, status, errors) in RUNS {
+        let ran = run_on(rt.alloc(), words, b"".as_slice());
+        expect_eq_at(&rt, &words, &ran.traced, &written);
+        expect_eq_at(&rt, &words, &ran.status, &status);
+        expect_eq_at(&rt, &words, &ran.errors.as_slice(), &errors);
+    }
+}
+
 #[test]
 fn options_that_do_not_go_together_are_refused(rt: HostRuntime) {
     for options in [

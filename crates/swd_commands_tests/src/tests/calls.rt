@@ -275,7 +275,7 @@ const RUNS: [Call; 16] = [
     ),
 ];
 
-const FAULTS: [Call; 10] = [
+const FAULTS: [Call; 11] = [
     (
         "the script is opened before the plan",
         &["swd", "run", "nope", "--plan", "none"],
@@ -295,6 +295,14 @@ const FAULTS: [Call; 10] = [
     (
         "a trace that can't be made",
         &["swd", "run", "script", "--trace", "locked"],
+        b"",
+        2,
+        b"",
+        b"swd: cannot open locked: permission denied\n",
+    ),
+    (
+        "a file of accesses that can't be made",
+        &["swd", "run", "script", "--accesses", "locked"],
         b"",
         2,
         b"",

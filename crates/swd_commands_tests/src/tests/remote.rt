@@ -54,16 +54,18 @@ fn its_trace_goes_to_a_file_of_its_own(rt: HostRuntime) {
     expect_eq(&rt, &ran.status, &1);
     expect_eq(&rt, &ran.cuts, &2);
     assert!(rt; ran.traced > b"resume 0 begun 0\n".len() + LOST.len());
-    // The report's file is none for the trace.
+    // The report's file is none for the trace or the accesses.
     for trace in ["traced", "script", "output", "-", "locked"] {
-        let words = [
-            "swd", "run", "script", "--remote", "--report", "traced", "--trace", trace,
-        ];
-        let ran = run_on(rt.alloc(), words.as_slice(), b"111".as_slice());
-        expect_eq(&rt, &ran.status, &2);
-        assert!(rt; ran.errors.starts_with(b"swd: cannot open "));
-        assert!(rt; ran.output.is_empty());
-        expect_eq(&rt, &ran.cuts, &1);
+        for record in ["--trace", "--accesses"] {
+            let words = [
+                "swd", "run", "script", "--remote", "--report", "traced", record, trace,
+            ];
+            let ran = run_on(rt.alloc(), words.as_slice(), b"111".as_slice());
+            expect_eq(&rt, &ran.status, &2);
+            assert!(rt; ran.errors.starts_with(b"swd: cannot open "));
+            assert!(rt; ran.output.is_empty());
+            expect_eq(&rt, &ran.cuts, &1);
+        }
     }
 }
 

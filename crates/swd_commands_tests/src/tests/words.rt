@@ -82,6 +82,7 @@ fn help_tells_each_word(rt: HostRuntime) -> Result<(), Fail> {
         "--tries ",
         "--resume ",
         "--trace ",
+        "--accesses ",
         "--strict ",
     ] {
         assert!(rt; has_line(said.as_str(), start));
@@ -138,8 +139,18 @@ fn words_of_a_run(rt: HostRuntime) -> Result<(), Fail> {
     expect_eq(&rt, &run.script.as_str(), &"s");
     expect_eq(&rt, &run.plan.ok_or("no plan")?.as_str(), &"p");
     expect_eq(&rt, &run.tries, &8);
-    assert!(rt; run.trace.is_none());
-    let words = ["swd", "run", "s", "--plan", "p", "--trace", "t"];
+    assert!(rt; run.trace.is_none() && run.accesses.is_none());
+    let words = [
+        "swd",
+        "run",
+        "s",
+        "--plan",
+        "p",
+        "--trace",
+        "t",
+        "--accesses",
+        "a",
+    ];
     let Ok(Line::Run(run)) = line(rt.alloc(), words.as_slice()) else {
         return Err(Fail::from("no run"));
     };
@@ -147,6 +158,7 @@ fn words_of_a_run(rt: HostRuntime) -> Result<(), Fail> {
     expect_eq(&rt, &run.plan.ok_or("no plan")?.as_str(), &"p");
     expect_eq(&rt, &run.tries, &8);
     expect_eq(&rt, &run.trace.ok_or("no trace")?.as_str(), &"t");
+    expect_eq(&rt, &run.accesses.ok_or("no accesses")?.as_str(), &"a");
     assert!(rt; !run.strict);
     let words = ["swd", "run", "--strict", "s"];
     let Ok(Line::Run(run)) = line(rt.alloc(), words.as_slice()) else {
@@ -189,6 +201,7 @@ fn words_that_are_no_command(rt: HostRuntime) {
         ["swd", "run", "a", "b"].as_slice(),
         ["swd", "run", "a", "--plan"].as_slice(),
         ["swd", "run", "a", "--trace"].as_slice(),
+        ["swd", "run", "a", "--accesses"].as_slice(),
         ["swd", "run", "a", "--strict=yes"].as_slice(),
     ] {
         let refused = matches!(line(rt.alloc(), words), Err(LineFault::Clap(_)));

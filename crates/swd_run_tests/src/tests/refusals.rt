@@ -1,13 +1,13 @@
 //! Runs on heaps of each size: where memory ended is told, and nothing has been written but the report of the calls
 //! before.
-use super::ended_with;
 use super::expect::{expect_at, expect_eq, expect_eq_at};
+use super::{ended_with, only_trace};
 use linked_list_allocator::LocalHeap;
 use std::alloc::Allocator;
 use std::process::Abort;
 use std::test::Fail;
 use swd_host::End;
-use swd_run::{EngineFault, Finished, RunFault, TextsFault, run_text};
+use swd_run::{EngineFault, Finished, Records, RunFault, TextsFault, run_text};
 use swd_script::ScriptFault;
 
 const TRIES: u32 = 8;
@@ -122,7 +122,7 @@ fn a_run_where_memory_ends(rt: HostRuntime) -> Result<(), Fail> {
             TRIES,
             0,
             &mut report,
-            &mut None::<Vec<u8>>,
+            &mut Records::<Vec<u8>>::none(),
         );
         let Some(stage) = stage_of(answer) else {
             panic!(rt; "{size}: {answer:?}");
@@ -159,7 +159,7 @@ fn a_second_call_where_memory_ends(rt: HostRuntime) -> Result<(), Fail> {
             TRIES,
             0,
             &mut report,
-            &mut None::<Vec<u8>>,
+            &mut Records::<Vec<u8>>::none(),
         );
         let report = report.as_slice();
         match answer {
@@ -190,7 +190,7 @@ fn traced_on<A: Allocator + Copy>(rt: &HostRuntime, alloc: A) -> Traced {
     let mut script = SCRIPT;
     let mut plan = PLAN;
     let mut report = Vec::new(rt.alloc());
-    let mut trace = Some(Vec::new(rt.alloc()));
+    let mut records = only_trace(Vec::new(rt.alloc()));
     let answer = run_text(
         alloc,
         &mut script,
@@ -198,9 +198,9 @@ fn traced_on<A: Allocator + Copy>(rt: &HostRuntime, alloc: A) -> Traced {
         TRIES,
         0,
         &mut report,
-        &mut trace,
+        &mut records,
     );
-    let trace = trace.unwrap_or(Vec::new(rt.alloc()));
+    let trace = records.trace.unwrap_or(Vec::new(rt.alloc()));
     Traced {
         answer,
         report,

@@ -4,10 +4,10 @@ ghost use Rattle.std.specs.Prelude.{[]};
 ghost use Rattle.std.specs.FinMap.{empty};
 ghost use Rattle.swd_port.specs.Port.{made};
 
-use super::ended;
 use super::expect::{expect_eq, expect_eq_at};
 use super::recorded::UNDISTURBED;
 use super::sessions::calls_of;
+use super::{ended, only_trace};
 use std::cell::Cell;
 use std::test::Fail;
 use swd_ends::{RemoteFault, run_remote};
@@ -15,7 +15,7 @@ use swd_fakes::{CountingWriter, ShortWriter, WatchingReader};
 use swd_host::End;
 use swd_port::{Answer, Story};
 use swd_remote::Fault;
-use swd_run::{Difference, EngineFault, Finished, run_text};
+use swd_run::{Difference, EngineFault, Finished, Records, run_text};
 
 // Any story.
 struct Untold;
@@ -41,7 +41,7 @@ fn a_script_sends_what_was_recorded(rt: HostRuntime) {
         8,
         0,
         &mut report,
-        &mut None::<Vec<u8>>,
+        &mut Records::<Vec<u8>>::none(),
     );
     let finished = Finished {
         ended: End::All,
@@ -55,12 +55,17 @@ fn a_script_sends_what_was_recorded(rt: HostRuntime) {
     expect_eq(&rt, &sent.as_slice(), &UNDISTURBED.characters);
 }
 
-// The trace is that of a run over the simulated target, which shows the same words.
+// The trace is that of a run over the simulated target, which shows the same words. The opening shows SELECT and CSW, so
+// that the accesses are known.
 #[test]
 fn a_remote_run_is_traced(rt: HostRuntime) {
     let mut sent = Vec::new(rt.alloc());
     let mut report = Vec::new(rt.alloc());
-    let mut trace = Some(Vec::new(rt.alloc()));
+    let mut records = Records {
+        trace: Some(Vec::new(rt.alloc())),
+        accesses: Some(Vec::new(rt.alloc())),
+        made: false,
+    };
     let mut script = SCRIPT;
     let (answer, line) = run_remote::<Untold, _, _, _, _, _, _>(
         rt.alloc(),
@@ -70,9 +75,15 @@ fn a_remote_run_is_traced(rt: HostRuntime) {
         8,
         0,
         &mut report,
-        &mut trace,
+        &mut records,
     );
-    let trace = trace.expect(&rt, "its writer");
+    let trace = records.trace.expect(&rt, "its writer");
+    let accesses = records.accesses.expect(&rt, "its writer");
+    expect_eq(
+        &rt,
+        &accesses.as_slice(),
+        &b"@590 w 20000000 deadbeef\n@728 r 20000000 deadbeef\n".as_slice(),
+    );
     let finished = Finished {
         ended: End::All,
         differs: None,
@@ -86,7 +97,7 @@ fn a_remote_run_is_traced(rt: HostRuntime) {
     let mut script = SCRIPT;
     let mut plan = b"".as_slice();
     let mut told = Vec::new(rt.alloc());
-    let mut simulated = Some(Vec::new(rt.alloc()));
+    let mut simulated = only_trace(Vec::new(rt.alloc()));
     let answer = run_text(
         rt.alloc(),
         &mut script,
@@ -96,7 +107,7 @@ fn a_remote_run_is_traced(rt: HostRuntime) {
         &mut told,
         &mut simulated,
     );
-    let simulated = simulated.expect(&rt, "its writer");
+    let simulated = simulated.trace.expect(&rt, "its writer");
     expect_eq(&rt, &answer, &ended(End::All));
     expect_eq(&rt, &trace.as_slice(), &simulated.as_slice());
 }
@@ -107,7 +118,7 @@ fn a_failed_write_ends_the_session(rt: HostRuntime) {
     for (report_room, trace_room) in [(3usize, 100usize), (REPORT.len(), 100), (REPORT.len(), 0)] {
         let mut sent = Vec::new(rt.alloc());
         let mut report = ShortWriter::new(rt.alloc(), report_room, true);
-        let mut trace = Some(ShortWriter::new(rt.alloc(), trace_room, false));
+        let mut records = only_trace(ShortWriter::new(rt.alloc(), trace_room, false));
         let mut script = SCRIPT;
         let (answer, _) = run_remote::<Untold, _, _, _, _, _, _>(
             rt.alloc(),
@@ -117,9 +128,9 @@ fn a_failed_write_ends_the_session(rt: HostRuntime) {
             8,
             0,
             &mut report,
-            &mut trace,
+            &mut records,
         );
-        let trace = trace.expect(&rt, "its writer");
+        let trace = records.trace.expect(&rt, "its writer");
         let whole = report_room == REPORT.len();
         let written = if whole { trace_room } else { report_room };
         expect_eq(
@@ -162,7 +173,7 @@ fn a_report_is_written_before_the_next_call(rt: HostRuntime) {
         8,
         0,
         &mut report,
-        &mut None::<Vec<u8>>,
+        &mut Records::<Vec<u8>>::none(),
     );
     expect_eq(&rt, &answer, &ended(End::Lost));
     let noted = reader.noted.as_slice();
@@ -191,7 +202,7 @@ fn no_call_is_made_after_a_failed_write(rt: HostRuntime) {
             8,
             0,
             &mut report,
-            &mut None::<Vec<u8>>,
+            &mut Records::<Vec<u8>>::none(),
         );
         let fault = EngineFault::Write {
             written: room as u64,
@@ -218,7 +229,7 @@ fn a_call_that_is_lost_is_the_last_one(rt: HostRuntime) {
         8,
         0,
         &mut report,
-        &mut None::<Vec<u8>>,
+        &mut Records::<Vec<u8>>::none(),
     );
     let differs = Difference {
         line: 3,
@@ -266,7 +277,7 @@ fn a_target_that_goes_away_is_told(rt: HostRuntime) {
             8,
             0,
             &mut report,
-            &mut None::<Vec<u8>>,
+            &mut Records::<Vec<u8>>::none(),
         );
         let finished = Finished {
             ended: End::Lost,
@@ -294,7 +305,7 @@ fn a_script_at_fault_sends_nothing(rt: HostRuntime) {
         8,
         0,
         &mut report,
-        &mut None::<Vec<u8>>,
+        &mut Records::<Vec<u8>>::none(),
     );
     assert!(rt; matches!(&answer, Err(RemoteFault::Script(_))));
     expect_eq(&rt, &line.fault, &None);
@@ -316,7 +327,7 @@ fn a_remote_script_of_a_thousand_calls_is_begun(rt: HostRuntime) -> Result<(), F
         8,
         0,
         &mut report,
-        &mut None::<Vec<u8>>,
+        &mut Records::<Vec<u8>>::none(),
     );
     expect_eq(&rt, &answer, &ended(End::Lost));
     expect_eq(&rt, &report.as_slice(), &b"end lost 0 begun 0\n".as_slice());

@@ -1,11 +1,11 @@
 //! Runs that are resumed at a lost acknowledgement.
 use super::expect::expect_eq;
-use super::{ONE_WRITE, Ran, TRIES, WORKED, ended, ended_with, resumed_on};
+use super::{ONE_WRITE, Ran, TRIES, WORKED, ended, ended_with, only_trace, resumed_on};
 use linked_list_allocator::LocalHeap;
 use std::process::Abort;
 use std::test::Fail;
 use swd_host::End;
-use swd_run::{EngineFault, Finished, RunFault, run_text};
+use swd_run::{EngineFault, Finished, Records, RunFault, run_text};
 use swd_text::decode_text;
 
 /// The DRW request of a first access is the eleventh: nine requests are the opening's, and one is TAR's.
@@ -51,7 +51,7 @@ fn a_resumed_run_is_traced_whole(rt: HostRuntime) {
     let mut script = ONE_WRITE;
     let mut plan = LOST_WRITE;
     let mut report = Vec::new(rt.alloc());
-    let mut trace = Some(Vec::new(rt.alloc()));
+    let mut records = only_trace(Vec::new(rt.alloc()));
     let answer = run_text(
         rt.alloc(),
         &mut script,
@@ -59,9 +59,9 @@ fn a_resumed_run_is_traced_whole(rt: HostRuntime) {
         TRIES,
         1,
         &mut report,
-        &mut trace,
+        &mut records,
     );
-    let trace = trace.expect(&rt, "its writer");
+    let trace = records.trace.expect(&rt, "its writer");
     expect_eq(&rt, &answer, &ended(End::All));
     expect_eq(
         &rt,
@@ -97,7 +97,7 @@ fn a_resumed_run_where_memory_ends(rt: HostRuntime) -> Result<(), Fail> {
             TRIES,
             1,
             &mut report,
-            &mut None::<Vec<u8>>,
+            &mut Records::<Vec<u8>>::none(),
         );
         match answer {
             Ok(

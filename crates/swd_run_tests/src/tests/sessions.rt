@@ -1,12 +1,12 @@
 //! Scripts of several calls, and reads whose words the script tells.
 use super::expect::expect_eq;
-use super::{Ran, TRIES, ended_with, has_bus_fault, run_on};
+use super::{Ran, TRIES, ended_with, has_bus_fault, only_trace, run_on};
 use std::process::Abort;
 use std::test::Fail;
 use swd_fakes::ShortWriter;
 use swd_host::End;
 use swd_port::Answer;
-use swd_run::{Difference, EngineFault, Finished, RunFault, run_text};
+use swd_run::{Difference, EngineFault, Finished, Records, RunFault, run_text};
 use swd_text::decode_text;
 
 /// A write, the same word read by a block, and the word told.
@@ -68,7 +68,7 @@ fn the_trace_is_that_of_all_calls(rt: HostRuntime) {
     let mut script = CALLS;
     let mut plan = b"".as_slice();
     let mut report = Vec::new(rt.alloc());
-    let mut trace = Some(Vec::new(rt.alloc()));
+    let mut records = only_trace(Vec::new(rt.alloc()));
     let answer = run_text(
         rt.alloc(),
         &mut script,
@@ -76,9 +76,9 @@ fn the_trace_is_that_of_all_calls(rt: HostRuntime) {
         TRIES,
         0,
         &mut report,
-        &mut trace,
+        &mut records,
     );
-    let trace = trace.expect(&rt, "its writer");
+    let trace = records.trace.expect(&rt, "its writer");
     expect_eq(&rt, &answer, &ended_with(End::All, REPORTS));
     expect_eq(&rt, &report.as_slice(), &REPORTS);
     let mut text = trace.as_slice();
@@ -107,7 +107,7 @@ fn a_writer_that_fails_has_the_first_bytes_of_all_reports(rt: HostRuntime) {
                 TRIES,
                 0,
                 &mut writer,
-                &mut None::<Vec<u8>>,
+                &mut Records::<Vec<u8>>::none(),
             );
             let written = room as u64;
             expect_eq(

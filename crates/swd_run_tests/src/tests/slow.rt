@@ -1,11 +1,11 @@
 //! Long texts, one byte at a read and one at a write: nothing gives up before the end. And long traces.
 use super::expect::expect_eq;
-use super::{TRIES, ended};
+use super::{TRIES, ended, only_trace};
 use std::alloc::Global;
 use std::test::Fail;
 use swd_fakes::{OneByteReader, OneByteWriter};
 use swd_host::End;
-use swd_run::run_text;
+use swd_run::{Records, run_text};
 use swd_text::decode_text;
 
 // A text so many times over, after another one.
@@ -46,7 +46,7 @@ fn long_texts_are_run_byte_by_byte(rt: HostRuntime) -> Result<(), Fail> {
         TRIES,
         0,
         &mut report,
-        &mut None::<Vec<u8>>,
+        &mut Records::<Vec<u8>>::none(),
     );
     expect_eq(&rt, &answer, &ended(End::All));
     assert!(rt; report.taken == report_of(rt.alloc(), 50_000)?);
@@ -80,7 +80,7 @@ fn a_long_run_is_traced_byte_by_byte(rt: HostRuntime) -> Result<(), Fail> {
     let mut script = OneByteReader::new(&text);
     let mut plan = OneByteReader::new(b"".as_slice());
     let mut report = OneByteWriter::new(rt.alloc());
-    let mut trace = Some(OneByteWriter::new(rt.alloc()));
+    let mut records = only_trace(OneByteWriter::new(rt.alloc()));
     let answer = run_text(
         rt.alloc(),
         &mut script,
@@ -88,9 +88,9 @@ fn a_long_run_is_traced_byte_by_byte(rt: HostRuntime) -> Result<(), Fail> {
         TRIES,
         0,
         &mut report,
-        &mut trace,
+        &mut records,
     );
-    let trace = trace.expect(&rt, "its writer");
+    let trace = records.trace.expect(&rt, "its writer");
     expect_eq(&rt, &answer, &ended(End::All));
     assert!(rt; report.taken == report_of(rt.alloc(), count)?);
     let mut trace = trace.taken.as_slice();

@@ -1,6 +1,6 @@
 //! Runs with their traces: worked ones, and writers and memory that fail.
-use super::ended;
 use super::expect::expect_eq;
+use super::{ended, only_trace};
 use std::test::Fail;
 use swd_fakes::ShortWriter;
 use swd_host::End;
@@ -36,7 +36,7 @@ fn run_on(rt: &HostRuntime, script: &[u8], plan: &[u8]) -> Traced {
     let mut script = script;
     let mut plan = plan;
     let mut report = Vec::new(rt.alloc());
-    let mut trace = Some(Vec::new(rt.alloc()));
+    let mut records = only_trace(Vec::new(rt.alloc()));
     let answer = run_text(
         rt.alloc(),
         &mut script,
@@ -44,9 +44,9 @@ fn run_on(rt: &HostRuntime, script: &[u8], plan: &[u8]) -> Traced {
         TRIES,
         0,
         &mut report,
-        &mut trace,
+        &mut records,
     );
-    let trace = trace.unwrap_or(Vec::new(rt.alloc()));
+    let trace = records.trace.unwrap_or(Vec::new(rt.alloc()));
     Traced {
         answer,
         report,
@@ -212,7 +212,7 @@ fn traces_at_each_write_that_fails(rt: HostRuntime) {
             let mut script = NO_ACCESS;
             let mut plan = b"".as_slice();
             let mut report = Vec::new(rt.alloc());
-            let mut trace = Some(ShortWriter::new(rt.alloc(), room, fails));
+            let mut records = only_trace(ShortWriter::new(rt.alloc(), room, fails));
             let answer = run_text(
                 rt.alloc(),
                 &mut script,
@@ -220,9 +220,9 @@ fn traces_at_each_write_that_fails(rt: HostRuntime) {
                 TRIES,
                 0,
                 &mut report,
-                &mut trace,
+                &mut records,
             );
-            let trace = trace.expect(&rt, "its writer");
+            let trace = records.trace.expect(&rt, "its writer");
             let written = room as u64;
             expect_eq(
                 &rt,
@@ -244,7 +244,7 @@ fn a_report_that_fails_leaves_no_trace(rt: HostRuntime) {
             let mut script = NO_ACCESS;
             let mut plan = b"".as_slice();
             let mut report = ShortWriter::new(rt.alloc(), room, fails);
-            let mut trace = Some(Vec::new(rt.alloc()));
+            let mut records = only_trace(Vec::new(rt.alloc()));
             let answer = run_text(
                 rt.alloc(),
                 &mut script,
@@ -252,9 +252,9 @@ fn a_report_that_fails_leaves_no_trace(rt: HostRuntime) {
                 TRIES,
                 0,
                 &mut report,
-                &mut trace,
+                &mut records,
             );
-            let trace = trace.expect(&rt, "its writer");
+            let trace = records.trace.expect(&rt, "its writer");
             let written = room as u64;
             expect_eq(
                 &rt,

@@ -6,7 +6,8 @@ use Rattle.swd_remote.specs.WholeRuns.{GoesOver}
 use Rattle.swd_script.specs.Laws.{IsBatch}
 use Rattle.swd_script.specs.Readers.{listed, meaning}
 use Rattle.swd_script.proofs.TextLaws.{is_runnable}
-use Rattle.swd_run.specs.Engine.{AnswersAt, held}
+use Rattle.swd_run.specs.Engine.{AnswersAt}
+use Rattle.swd_run.specs.Records.{files_of}
 use Rattle.swd_ends.specs.RemoteRuns.{RanRemote}
 use Rattle.swd_ends.proofs.RemoteLemmas.{ran_remote, went_over}
 use Rattle.swd_ends.proofs.remote.run_begun.Goals as goal
@@ -26,8 +27,8 @@ returns-in-Ok-answer g c =
     let text = g.S.Read.remaining c.args.script.now in
     let old = g.O.Write.contents c.args.report.now in
     let new = g.O.Write.contents ran.new.report in
-    let before = held g.T.Write.contents c.args.trace.now in
-    let after = held g.T.Write.contents ran.new.trace in
+    let before = files_of g.T.Write.contents c.args.records.now in
+    let after = files_of g.T.Write.contents ran.new.records in
     let Over : List Call → Type 0 = λ calls. ∥ GoesOver g.R.Read.remaining g.W.Write.contents g.B.Beginning.sent
     g.B.Beginning.left c.hang_up-line.result calls ∥₁ in
     subst (λ answer. RanRemote story c.args.tries c.args.resumes Over answer text old new before after) c.in-Ok-answer.is
@@ -49,8 +50,8 @@ returns g c =
     let text = g.S.Read.remaining c.args.script.now in
     let old = g.O.Write.contents c.args.report.now in
     let new = g.O.Write.contents ran.new.report in
-    let before = held g.T.Write.contents c.args.trace.now in
-    let after = held g.T.Write.contents ran.new.trace in
+    let before = files_of g.T.Write.contents c.args.records.now in
+    let after = files_of g.T.Write.contents ran.new.records in
     let Over : List Call → Type 0 = λ calls. ∥ GoesOver g.R.Read.remaining g.W.Write.contents g.B.Beginning.sent
     g.B.Beginning.left c.hang_up-line.result calls ∥₁ in
     subst (λ answer. RanRemote story c.args.tries c.args.resumes Over answer text old new before after) c.in-Err-answer.is

@@ -7,11 +7,12 @@ use Rattle.swd_target.specs.Benches.{plan_of, port_of}
 use Rattle.swd_script.specs.Laws.{IsBatch}
 use Rattle.swd_script.specs.Readers.{listed, meaning}
 use Rattle.std.specs.Io.KnownBytes.{Appends}
-use Rattle.swd_run.specs.Engine.{AnswersAt, held}
+use Rattle.swd_run.specs.Engine.{AnswersAt}
+use Rattle.swd_run.specs.Records.{files_of}
 use Rattle.swd_run.specs.Reports.{run_report}
 use Rattle.swd_run.specs.Running.{AnswersScript, full_room, memory_of, none, with_full}
 use Rattle.swd_run.proofs.ReportLemmas.{no_pairs}
-use Rattle.swd_run.proofs.EngineLemmas.{left_alone, script_answers}
+use Rattle.swd_run.proofs.EngineLemmas.{left_files, script_answers}
 use Rattle.swd_run.proofs.running.run_script.Goals as goal
 
 pub run_batches-answer-requires-clause-batches : goal.run_batches-answer-requires-clause-batches
@@ -30,7 +31,7 @@ returns-in_default g c =
       (
         record { runs = []; memory = memory_of script; are = none; all = refl },
         subst (Appends writer writer) (sym (no_pairs run_report script.batches)) (Appends-nil writer),
-        left_alone (held g.T.Write.contents c.args.trace.now),
+        left_files (files_of g.T.Write.contents c.args.records.now),
       ),
     )
 
@@ -40,8 +41,8 @@ returns g c =
     let script = meaning c.args.script.now in
     let old = g.W.Write.contents c.args.writer.now in
     let new = g.W.Write.contents ran.new.report in
-    let before = held g.T.Write.contents c.args.trace.now in
-    let after = held g.T.Write.contents ran.new.trace in
+    let before = files_of g.T.Write.contents c.args.records.now in
+    let after = files_of g.T.Write.contents ran.new.records in
     let memory = (port_of ran.result.1).target.memory in
     let full : c.full_room.result ≡ full_room script.room memory = c.full_room.ensures
     ∙ ap (full_room script.room) c.memory.ensures in

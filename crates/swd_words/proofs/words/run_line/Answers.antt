@@ -12,15 +12,17 @@ returns c = record {
       ∙ first_value-rows (found_of c.args.matches.now) (codes "SCRIPT");
   plan = c.in-Ok.ensures ∙ c.get_str-2.ensures ∙ first_value-rows (found_of c.args.matches.now) (codes "plan");
   tries = subst (λ (word : Option Text). AreTries c.in-Some.tries word)
-      (c.get_str-5.ensures ∙ first_value-rows (found_of c.args.matches.now) (codes "tries")) c.in-Some.ensures;
+      (c.get_str-6.ensures ∙ first_value-rows (found_of c.args.matches.now) (codes "tries")) c.in-Some.ensures;
   resumes = subst (λ (word : Option Text). AreResumes c.in-Some-resumes_in.resumes word)
-      (c.get_str-6.ensures ∙ first_value-rows (found_of c.args.matches.now) (codes "resume"))
+      (c.get_str-7.ensures ∙ first_value-rows (found_of c.args.matches.now) (codes "resume"))
       c.in-Some-resumes_in.ensures;
   trace = c.in-Ok-owned.ensures ∙ c.get_str-3.ensures ∙ first_value-rows (found_of c.args.matches.now) (codes "trace");
+  accesses = c.in-Ok-owned-2.ensures ∙ c.get_str-4.ensures
+      ∙ first_value-rows (found_of c.args.matches.now) (codes "accesses");
   strict = subst (λ (word : Option Text). (c.is_asked_for.result ≡ true) ↔ (word ≡ Some (codes "true")))
-      (c.get_str-7.ensures ∙ first_value-rows (found_of c.args.matches.now) (codes "strict")) c.is_asked_for.ensures;
+      (c.get_str-8.ensures ∙ first_value-rows (found_of c.args.matches.now) (codes "strict")) c.is_asked_for.ensures;
   remote = subst (λ (word : Option Text). (c.is_asked_for-2.result ≡ true) ↔ (word ≡ Some (codes "true")))
-      (c.get_str-8.ensures ∙ first_value-rows (found_of c.args.matches.now) (codes "remote")) c.is_asked_for-2.ensures;
-  report = c.in-Ok-owned-2.ensures ∙ c.get_str-4.ensures
+      (c.get_str-9.ensures ∙ first_value-rows (found_of c.args.matches.now) (codes "remote")) c.is_asked_for-2.ensures;
+  report = c.in-Ok-owned-3.ensures ∙ c.get_str-5.ensures
       ∙ first_value-rows (found_of c.args.matches.now) (codes "report");
 }

@@ -1,20 +1,17 @@
 use Rattle.std.proofs.Common.{◌≡◌, ◌++◌, sym, ap, ◌∙◌, subst, append_assoc, add-one, arith}
 use Rattle.swd_io.specs.Blocks.{Sends}
 use Rattle.swd_capture.specs.Printing.{end_row_text, end_rows_text, row_count, told}
-use Rattle.swd_capture.specs.Tellers.{IsAfter}
-use Rattle.swd_capture_text.proofs.lister.Lister.put_rows.Goals as goal
+use Rattle.swd_capture_text.proofs.queue.put_rows.Goals as goal
 
 pub loop-row-preserved : goal.loop-row-preserved
 loop-row-preserved g c = record {
-  teller = c.loop-row.invariant.teller;
   sends = λ start printed over parts after s.
       let row = c.loop-row.row in
-      let now = subst (IsAfter printed over parts) (sym c.loop-row.invariant.teller) after in
       subst (λ all. Sends g.W.Write.contents start c.put_row.new.block all)
       (append_assoc (told printed over parts) (end_rows_text printed over parts row)
       (end_row_text printed over parts row)
       ∙ ap (λ n. told printed over parts ++ end_rows_text printed over parts n) (sym (add-one row)))
-      (c.put_row.ensures.sends printed over parts now start
+      (c.put_row.ensures.sends printed over parts after start
       (told printed over parts ++ end_rows_text printed over parts row)
       (c.loop-row.invariant.sends start printed over parts after s));
   writer = c.put_row.ensures.writer ∙ c.loop-row.invariant.writer;

@@ -4,13 +4,12 @@ use Rattle.swd_resync.specs.declared.part.Part.{Part}
 use Rattle.swd_capture.specs.declared.printed.Printed.{Printed}
 use Rattle.swd_capture.specs.Printing.{end_rows_text, told}
 use Rattle.swd_capture.specs.Tellers.{IsAfter}
-use Rattle.swd_capture_text.proofs.lister.Lister.put_rows.Given as goal
+use Rattle.swd_capture_text.proofs.queue.put_rows.Given as goal
 
 abbrev pub invariant-loop-row : goal.invariant-loop-row
 invariant-loop-row g l = record {
-  teller : l.self.teller ≡ l.fn.self.teller;
   sends : (start : Option (List ℕ)) (printed : Printed) (over : Bool) (parts : List Part)
-      → IsAfter printed over parts l.fn.self.teller
+      → IsAfter printed over parts l.teller
       → Sends g.W.Write.contents start l.fn.block (told printed over parts)
       → Sends g.W.Write.contents start l.block
       (told printed over parts ++ end_rows_text printed over parts l.row);

@@ -1,0 +1,13 @@
+use Rattle.std.proofs.Common.{[], ◌∙◌, sym, subst}
+use Rattle.swd_recorder.specs.Recorders.{port_by}
+use Rattle.swd_run.specs.Recorded.{Stepped, at_start}
+use Rattle.swd_run.proofs.traced.Traced.new.Goals as goal
+
+pub invariant_of-result : goal.invariant_of-result
+invariant_of-result g c =
+    let start = g.B.Origin.start in
+    let made = c.new.result in
+    record {
+      steps = ∣ (λ law. subst (λ l. Stepped start l (port_by made)) (sym c.new.ensures.calls)
+          (subst (Stepped start []) (c.requires.start ∙ sym c.new.ensures.port) at_start)) ∣₁;
+    }

@@ -1,0 +1,11 @@
+//! A law of recorded runs. The function does nothing: its contract is the law.
+ghost use Rattle.swd_run.specs.Recorded.{AnyRecordedIsAccounted, RecordedIsAccounted};
+
+/// States the theorem of the observer for a recorder's items. Let its calls be steps of the port model, each of whose
+/// requests led to a whole transaction. Then the accesses that its items show are those that the memory logged, in
+/// order. An access reported as `May` was logged once or not at all. The calls start in the target's reset state, or
+/// for an observer that knows nothing, in any state in which nothing is due or pending and no write data is awaited.
+pub fn recorded_accesses()
+    ensures made { RecordedIsAccounted }
+    ensures any { AnyRecordedIsAccounted }
+{}

@@ -1,0 +1,123 @@
+//! Runs with their accesses: worked ones, and writers that fail.
+use super::expect::expect_eq_at;
+use super::{ONE_READ, ONE_WRITE, TRIES, WORKED, WORKED_REPORT};
+use swd_fakes::ShortWriter;
+use swd_run::{EngineFault, Finished, Records, RunFault, run_text};
+
+// More bytes than each output here.
+const ROOM: usize = 4096;
+
+// What a run answers, and its outputs.
+#[derive(Drop)]
+struct Seen {
+    answer: Result<Finished, RunFault>,
+    report: ShortWriter,
+    trace: ShortWriter,
+    accesses: ShortWriter,
+}
+
+// The writer that was passed, or one that took nothing.
+fn taken_by(rt: &HostRuntime, writer: Option<ShortWriter>) -> ShortWriter {
+    match writer {
+        Some(writer) => writer,
+        None => ShortWriter::new(rt.alloc(), 0, true),
+    }
+}
+
+// A run whose trace and accesses are written to files with so much room.
+fn run_on(rt: &HostRuntime, script: &[u8], plan: &[u8], trace: usize, accesses: usize) -> Seen {
+    let mut script = script;
+    let mut plan = plan;
+    let mut report = ShortWriter::new(rt.alloc(), ROOM, true);
+    let mut records = Records {
+        trace: Some(ShortWriter::new(rt.alloc(), trace, true)),
+        accesses: Some(ShortWriter::new(rt.alloc(), accesses, true)),
+        made: true,
+    };
+    let answer = run_text(
+        rt.alloc(),
+        &mut script,
+        &mut plan,
+        TRIES,
+        0,
+        &mut report,
+        &mut records,
+    );
+    Seen {
+        answer,
+        report,
+        trace: taken_by(rt, records.trace),
+        accesses: taken_by(rt, records.accesses),
+    }
+}
+
+// The opening has 544 bits and ten requests; a transaction with a data phase has 46, and one without 13. TAR is
+// written first, so that the first access is at 590.
+const ROWS: [(&str, &[u8], &[u8], &[u8]); 7] = [
+    ("none", b"memory 20000000 1\n", b"", b""),
+    ("a write", ONE_WRITE, b"", b"@590 w 20000000 deadbeef\n"),
+    (
+        "a write, two reads and a bus error, each behind a read of RDBUFF, and two of them behind a write of TAR",
+        WORKED,
+        b"",
+        b"@590 w 20000000 deadbeef\n@728 r 20000000 deadbeef\n@820 r 20000004 00000000\n\
+            @958 r 30000000 ???????? not\n",
+    ),
+    (
+        "a write whose data is damaged is written again, after FAULT, CTRL/STAT, ABORT and CTRL/STAT",
+        ONE_WRITE,
+        b".\n.\n.\n.\n.\n.\n.\n.\n.\n.\nflip 17\n",
+        b"@590 w 20000000 deadbeef not\n@787 w 20000000 deadbeef\n",
+    ),
+    (
+        "a read whose acknowledgement is lost",
+        ONE_READ,
+        b".\n.\n.\n.\n.\n.\n.\n.\n.\n.\nmute 0\n",
+        b"@590 r 20000000 ???????? may\n",
+    ),
+    (
+        "a write whose acknowledgement is lost gets no data",
+        ONE_WRITE,
+        b".\n.\n.\n.\n.\n.\n.\n.\n.\n.\nmute 0\n",
+        b"",
+    ),
+    (
+        "a second call opens anew, 8 idle cycles after the RDBUFF read of the first",
+        b"memory 20000000 16\nw 20000000 1\nnext\nr 20000000\n",
+        b"",
+        b"@590 w 20000000 00000001\n@1280 r 20000000 00000001\n",
+    ),
+];
+
+#[test]
+fn accesses_are_written(rt: HostRuntime) {
+    for (name, script, plan, accesses) in ROWS {
+        let seen = run_on(&rt, script, plan, ROOM, ROOM);
+        expect_eq_at(&rt, &name, &seen.answer.is_ok(), &true);
+        expect_eq_at(&rt, &name, &seen.accesses.taken(), &accesses);
+    }
+}
+
+// The writer fails at each place: the report and the trace stand whole. Where the trace's writer fails, nothing of the
+// accesses is written.
+#[test]
+fn accesses_at_each_write_that_fails(rt: HostRuntime) {
+    let whole = run_on(&rt, WORKED, b"".as_slice(), ROOM, ROOM);
+    let (_, _, _, text) = ROWS[2];
+    for room in 0..text.len() {
+        let seen = run_on(&rt, WORKED, b"".as_slice(), ROOM, room);
+        let fault = EngineFault::WriteAccesses {
+            written: room as u64,
+        };
+        expect_eq_at(&rt, &room, &seen.answer, &Err(RunFault::Engine(fault)));
+        expect_eq_at(&rt, &room, &seen.report.taken(), &WORKED_REPORT);
+        expect_eq_at(&rt, &room, &seen.trace.taken(), &whole.trace.taken());
+        expect_eq_at(&rt, &room, &seen.accesses.taken(), &&text[..room]);
+        let seen = run_on(&rt, WORKED, b"".as_slice(), room, ROOM);
+        let fault = EngineFault::Write {
+            written: room as u64,
+        };
+        expect_eq_at(&rt, &room, &seen.answer, &Err(RunFault::Engine(fault)));
+        expect_eq_at(&rt, &room, &seen.accesses.taken(), &b"".as_slice());
+    }
+}
