@@ -9,3 +9,4 @@ mod source;
 
 pub use printing::print_capture;
 pub use reading::Reading;
+pub use source::Source;
