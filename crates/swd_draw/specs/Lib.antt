@@ -2,3 +2,5 @@ pub mod Fields
 pub mod Marks
 pub mod Strips
 pub mod Rows
+pub mod Drawings
+pub mod Collecting

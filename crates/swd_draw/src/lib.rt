@@ -7,3 +7,5 @@ mod strip;
 mod tx_strip;
 mod run;
 mod row;
+mod head;
+mod kept;
