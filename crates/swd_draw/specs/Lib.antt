@@ -4,3 +4,4 @@ pub mod Strips
 pub mod Rows
 pub mod Drawings
 pub mod Collecting
+pub mod Draws

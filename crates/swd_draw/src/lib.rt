@@ -9,3 +9,7 @@ mod run;
 mod row;
 mod head;
 mod kept;
+mod collector;
+mod drawing;
+
+pub use drawing::draw_capture;
