@@ -1,11 +1,14 @@
 -- Laws of the parts that are drawn.
-use Rattle.std.proofs.Common.{◌≡◌, ℕ, zero, suc, ◌+◌, ◌-◌, ◌<◌, ◌⊎◌, inl, inr, Bool, true, false, List, [], ◌∷◌, ◌++◌}
+use Rattle.std.proofs.Common.{◌≡◌, ℕ, zero, suc, ◌+◌, ◌-◌, ◌<◌, ◌≤◌, ◌⊎◌, Bool, true, false, List, [], ◌∷◌, ◌++◌}
 use Rattle.std.proofs.Common.{length, take, refl, sym, ap, ◌∙◌, arith, append_assoc}
 use Rattle.std.proofs.lemmas.List.{append-nil, length-set, take_more_set}
 use Rattle.std.specs.Prelude.{slice_set}
 use Rattle.std.specs.Prelude.{◌||◌}
 use Rattle.swd_resync.specs.declared.part.Part.{Part}
-use Rattle.swd_draw.specs.Drawings.{drawn, first_parts, goes_past, is_longer, weight}
+use Rattle.swd_draw.specs.Drawings.{drawn, first_parts, goes_past, is_longer, item_weight, weight, weights}
+use Rattle.swd_trace.specs.declared.item.Item.{Item}
+use Rattle.swd_trace.specs.declared.item.Item.TheVariants.{Reset, Switch, Idle, Tx, Junk, Cut}
+use Rattle.swd_resync.specs.declared.part.Part.TheVariants.{Item as Told, Skip}
 use Rattle.swd_draw.specs.Collecting.{KeepsFirst}
 
 -- nothing more is drawn
@@ -112,3 +115,57 @@ pub kept_past : (parts kept : List Part) (count left : ℕ) (longer : Bool) → 
 kept_past parts kept count left longer h =
     ap (is_longer 200 80) (sym (append-nil parts)) ∙ h.past []
     ∙ ap (λ b. longer || b) (past_end (200 - count) left) ∙ or_false longer
+
+-- what is drawn is a front
+pub drawn_front : (room txs : ℕ) (parts : List Part)
+    → (rest : List Part) × (parts ≡ first_parts room txs parts ++ rest)
+unfolding first_parts
+drawn_front zero txs parts = (parts, refl)
+drawn_front (suc room) zero parts = (parts, refl)
+drawn_front (suc room) (suc txs) [] = ([], refl)
+drawn_front (suc room) (suc txs) (part ∷ parts) =
+    let h = drawn_front room (suc txs - weight part) parts in
+    (h.0, ap (λ x. part ∷ x) h.1)
+
+-- of so many parts at most
+pub drawn_few : (room txs : ℕ) (parts : List Part) → length (first_parts room txs parts) ≤ room
+unfolding first_parts
+drawn_few zero txs parts = omega arith
+drawn_few (suc room) zero parts = omega arith
+drawn_few (suc room) (suc txs) [] = omega arith
+drawn_few (suc room) (suc txs) (part ∷ parts) =
+    let h = drawn_few room (suc txs - weight part) parts in omega arith
+
+item_most : (item : Item) → item_weight item ≤ 1
+item_most (Reset n) = omega arith
+item_most Switch = omega arith
+item_most (Idle n) = omega arith
+item_most (Tx tx) = omega arith
+item_most (Junk b) = omega arith
+item_most (Cut bits) = omega arith
+
+weight_most : (part : Part) → weight part ≤ 1
+weight_most (Told item) = item_most item
+weight_most (Skip n) = omega arith
+
+-- and of so many transactions at most
+pub drawn_txs : (room txs : ℕ) (parts : List Part) → weights (first_parts room txs parts) ≤ txs
+unfolding first_parts
+drawn_txs zero txs parts = omega arith
+drawn_txs (suc room) zero parts = omega arith
+drawn_txs (suc room) (suc txs) [] = omega arith
+drawn_txs (suc room) (suc txs) (part ∷ parts) =
+    let h = drawn_txs room (suc txs - weight part) parts in
+    let most = weight_most part in omega arith
+
+-- and all, unless there are more
+pub drawn_all : (room txs : ℕ) (parts : List Part) → is_longer room txs parts ≡ false
+    → first_parts room txs parts ≡ parts
+unfolding first_parts is_longer
+drawn_all zero txs [] h = refl
+drawn_all zero txs (part ∷ parts) h = absurd cc
+drawn_all (suc room) zero [] h = refl
+drawn_all (suc room) zero (part ∷ parts) h = absurd cc
+drawn_all (suc room) (suc txs) [] h = refl
+drawn_all (suc room) (suc txs) (part ∷ parts) h =
+    ap (λ x. part ∷ x) (drawn_all room (suc txs - weight part) parts h)

@@ -3,3 +3,4 @@ pub mod StripLemmas
 pub mod KeptLemmas
 pub mod CollectorLemmas
 pub mod RowLemmas
+pub mod FieldLemmas

@@ -25,6 +25,11 @@ abbrev pub weight : Part → ℕ
 weight (Told item) = item_weight item
 weight (Skip n) = 0
 
+-- the number of transactions
+abbrev pub weights : List Part → ℕ
+weights [] = 0
+weights (part ∷ parts) = weight part + weights parts
+
 -- the first parts, up to the last of `room` parts or of `txs` transactions
 unfoldable pub first_parts : ℕ → ℕ → List Part → List Part
 first_parts zero txs parts = []
@@ -87,7 +92,7 @@ legend =
 
 -- the beginning of a drawing of `count` parts
 unfoldable pub head : ℕ → Bool → List ℕ
-head count longer = opening (72 + 136 * count) ++ style_text ++ caption count longer ++ legend
+head count longer = opening (72 + 140 * count) ++ style_text ++ caption count longer ++ legend
 
 unfoldable pub end_text : List ℕ
 end_text = codes "</svg>" ++ 10 ∷ []

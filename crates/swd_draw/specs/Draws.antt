@@ -1,5 +1,5 @@
 -- What is written for a trace text that is to be drawn.
-use Rattle.std.specs.Prelude.{ℕ, ◌≡◌, List, [], Option, Result, Ok, Err, IfSome}
+use Rattle.std.specs.Prelude.{ℕ, List, [], Option, Result, Ok, Err, IfSome}
 use Rattle.std.specs.Io.KnownBytes.{Appends, Consumes, IsAtEnd}
 use Rattle.swd_io.specs.Blocks.{Stopped}
 use Rattle.swd_resync.specs.declared.part.Part.{Part}

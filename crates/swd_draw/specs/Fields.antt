@@ -1,5 +1,5 @@
 -- The fields of transactions and of other parts.
-use Rattle.std.specs.Prelude.{ℕ, zero, suc, ◌^◌, ◌-◌, ◌%◌, min, Bool, true, false, not, List, [], ◌∷◌, ◌++◌, length}
+use Rattle.std.specs.Prelude.{ℕ, zero, suc, ◌^◌, ◌%◌, Bool, true, false, not, List, [], ◌∷◌, ◌++◌, length}
 use Rattle.std.specs.Prelude.{if◌then◌else◌}
 use Rattle.swd_bits.specs.Bits.{low_bits, number, odd}
 use Rattle.swd_bits.specs.BitLists.{bits_of}
@@ -10,7 +10,6 @@ use Rattle.swd_bits.specs.declared.tx.Tx.{Tx as Transaction}
 use Rattle.swd_bits.specs.declared.tx.TxEnd.{TxEnd}
 use Rattle.swd_bits.specs.declared.tx.TxEnd.TheVariants.{Moved, Wait, Fault, NoAck}
 use Rattle.swd_bits.specs.declared.tx_bits.TxBits.{TxBits}
-use Rattle.swd_resync.specs.Divisions.{phase_behind}
 use Rattle.swd_draw.specs.declared.field.Field.{Field}
 use Rattle.swd_draw.specs.declared.field.Name.{Name}
 use Rattle.swd_draw.specs.declared.field.Name.TheVariants.{Start, Port, Direction, Address, Parity, Stop, Park}

@@ -94,20 +94,20 @@ left at = 64 + 12 * at
 -- a box over `width` units from `x` on
 unfoldable pub rect_text : ℕ → ℕ → Shade → List ℕ
 rect_text x width shade =
-    codes "<rect x='" ++ decimal x ++ codes "' y='70' width='" ++ decimal width ++ codes "' height='50' class='"
+    codes "<rect x='" ++ decimal x ++ codes "' y='74' width='" ++ decimal width ++ codes "' height='50' class='"
     ++ shade_class shade ++ codes "'/>"
 
 -- a text that is centred at `x`, below the top of a box or above its bottom
 unfoldable pub top_text : ℕ → List ℕ → List ℕ
-top_text x text = codes "<text x='" ++ decimal x ++ codes "' y='84' class='m'>" ++ text ++ codes "</text>"
+top_text x text = codes "<text x='" ++ decimal x ++ codes "' y='88' class='m'>" ++ text ++ codes "</text>"
 
 unfoldable pub bottom_text : ℕ → List ℕ → List ℕ
-bottom_text x text = codes "<text x='" ++ decimal x ++ codes "' y='116' class='m'>" ++ text ++ codes "</text>"
+bottom_text x text = codes "<text x='" ++ decimal x ++ codes "' y='120' class='m'>" ++ text ++ codes "</text>"
 
 -- a text that is written upwards, for a narrow box
 unfoldable pub turned_text : ℕ → List ℕ → List ℕ
 turned_text x text =
-    codes "<text transform='translate(" ++ decimal x ++ codes ",106)rotate(-90)'>" ++ text ++ codes "</text>"
+    codes "<text transform='translate(" ++ decimal x ++ codes ",110)rotate(-90)'>" ++ text ++ codes "</text>"
 
 -- a name over `len` bits, centred at `x`
 abbrev pub title : ℕ → ℕ → List ℕ → List ℕ

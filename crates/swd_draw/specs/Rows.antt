@@ -10,11 +10,10 @@ use Rattle.swd_resync.specs.Divisions.{phase_behind}
 use Rattle.swd_resync.specs.declared.part.Part.{Part}
 use Rattle.swd_resync.specs.declared.part.Part.TheVariants.{Item as Told, Skip}
 use Rattle.swd_capture.specs.Printing.{entry}
-use Rattle.swd_capture.specs.declared.printed.LineForm.{LineForm}
 use Rattle.swd_capture.specs.declared.printed.Printed.{Printed}
 use Rattle.swd_capture.specs.declared.printed.Printed.TheVariants.{Lines}
 use Rattle.swd_draw.specs.Fields.{field, ignored_fields, tx_fields}
-use Rattle.swd_draw.specs.Marks.{between_piece, box_text, boxes, break_piece, clock_piece, end_of, level_piece}
+use Rattle.swd_draw.specs.Marks.{box_text, boxes, break_piece, clock_piece, end_of}
 use Rattle.swd_draw.specs.Marks.{name_text, times, waves}
 use Rattle.swd_draw.specs.declared.field.Field.{Field}
 use Rattle.swd_draw.specs.declared.field.Name.{Name}
@@ -47,7 +46,7 @@ shade_of other = Hidden
 -- the waves of SWCLK and SWDIO, and the box, which has the count
 unfoldable pub run_body : Name → ℕ → List ℕ
 run_body name n =
-    codes "<path d='M64,40" ++ run_wave clock_piece n ++ codes "'/><path d='M64,56" ++ run_wave (level_of name) n
+    codes "<path d='M58,40h6" ++ run_wave clock_piece n ++ codes "'/><path d='M58,56h6" ++ run_wave (level_of name) n
     ++ codes "'/>" ++ box_text 0 (drawn_bits n) (shade_of name) (name_text name) (decimal n)
 
 -- ---- fields
@@ -55,7 +54,7 @@ run_body name n =
 -- the waves of SWCLK and SWDIO, and the boxes
 unfoldable pub fields_body : List Field → List ℕ
 fields_body fields =
-    codes "<path d='M64,40" ++ times (end_of 0 fields) clock_piece ++ codes "'/><path d='M64,56" ++ waves fields
+    codes "<path d='M58,40h6" ++ times (end_of 0 fields) clock_piece ++ codes "'/><path d='M58,56h6" ++ waves fields
     ++ codes "'/>" ++ boxes 0 fields
 
 -- a cut end is a field of its bits, which are at most 49
@@ -83,7 +82,7 @@ placed = Lines (record { places = true; names = false })
 
 -- the top of a row
 abbrev pub row_top : ℕ → ℕ
-row_top n = 64 + 136 * n
+row_top n = 64 + 140 * n
 
 unfoldable pub row_head : ℕ → List ℕ
 row_head n = codes "<g transform='translate(0," ++ decimal (row_top n) ++ codes ")'><text x='10' y='14' class='l'>"

@@ -21,5 +21,5 @@ pub record Added (old new : Strip) (fields : List Field) : Type 0 where
 -- the waves of SWCLK and SWDIO, and the boxes
 unfoldable pub strip_text : Strip → List ℕ
 strip_text s =
-    codes "<path d='M64,40" ++ times s.at clock_piece ++ codes "'/><path d='M64,56" ++ s.wave.bytes
+    codes "<path d='M58,40h6" ++ times s.at clock_piece ++ codes "'/><path d='M58,56h6" ++ s.wave.bytes
     ++ codes "'/>" ++ s.boxes.bytes

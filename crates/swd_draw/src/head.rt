@@ -28,7 +28,9 @@ fn push_style(text: &mut RowText)
     ensures bytes { text.new.bytes ≡ text.old.bytes ++ style_text }
     ensures len { array_string_len text.new ≤ array_string_len text.old + 400 }
 {
-    text.push_str("<style type='text/css'>text{font-family:monospace;font-size:9px}.l{font-size:12px}");
+    text.push_str(
+        "<style type='text/css'>text{font-family:monospace;font-size:9px}.l{font-size:12px}",
+    );
     text.push_str(".m{text-anchor:middle}path{fill:none;stroke:#000}rect{stroke:#000}");
     text.push_str(".h{fill:#cfe2f3}.t{fill:#d9ead3}.u{fill:#ccc}.w{fill:#f4a6a0}.n{fill:#fff}");
     text.push_str(".p{fill:#fff;stroke:none}</style><rect width='672' height='100%' class='p'/>\n");
@@ -101,7 +103,7 @@ pub(crate) fn push_drawing_head(text: &mut RowText, count: usize, longer: bool)
     requires room { array_string_len text.old ≡ 0 }
     ensures { text.new.bytes ≡ text.old.bytes ++ head count longer }
 {
-    push_opening(text, 72 + 136 * count as u64);
+    push_opening(text, 72 + 140 * count as u64);
     push_style(text);
     push_caption(text, count as u64, longer);
     push_legend(text);

@@ -42,7 +42,7 @@ fn push_rect<const N: usize>(text: &mut ArrayString<N>, x: u64, width: u64, shad
 {
     text.push_str("<rect x='");
     push_number(text, x);
-    text.push_str("' y='70' width='");
+    text.push_str("' y='74' width='");
     push_number(text, width);
     text.push_str("' height='50' class='");
     text.push_str(shade.class());
@@ -59,7 +59,7 @@ fn push_top<const N: usize>(text: &mut ArrayString<N>, x: u64, name: &str)
 {
     text.push_str("<text x='");
     push_number(text, x);
-    text.push_str("' y='84' class='m'>");
+    text.push_str("' y='88' class='m'>");
     text.push_str(name);
     text.push_str("</text>");
 }
@@ -74,7 +74,7 @@ fn push_turned<const N: usize>(text: &mut ArrayString<N>, x: u64, name: &str)
 {
     text.push_str("<text transform='translate(");
     push_number(text, x);
-    text.push_str(",106)rotate(-90)'>");
+    text.push_str(",110)rotate(-90)'>");
     text.push_str(name);
     text.push_str("</text>");
 }
@@ -89,7 +89,7 @@ fn push_bottom<const N: usize>(text: &mut ArrayString<N>, x: u64, value: &str)
 {
     text.push_str("<text x='");
     push_number(text, x);
-    text.push_str("' y='116' class='m'>");
+    text.push_str("' y='120' class='m'>");
     text.push_str(value);
     text.push_str("</text>");
 }
@@ -168,11 +168,7 @@ fn push_wave<const N: usize>(text: &mut ArrayString<N>, bits: TxBits)
 
 /// Appends the wave of a field.
 #[tactic(auto, unfolding(crate::specs::Marks::between_piece))]
-pub(crate) fn push_field_wave<const N: usize>(
-    text: &mut ArrayString<N>,
-    shade: Shade,
-    bits: TxBits,
-)
+pub(crate) fn push_field_wave<const N: usize>(text: &mut ArrayString<N>, shade: Shade, bits: TxBits)
     requires { array_string_len text.old + LONGEST_PIECE * bits.len ≤ N }
     ensures bytes { text.new.bytes ≡ text.old.bytes ++ field_wave shade bits }
     ensures len { array_string_len text.new ≤ array_string_len text.old + LONGEST_PIECE * bits.len }

@@ -37,9 +37,9 @@ fn push_strip(text: &mut RowText, strip: &Strip)
     ensures bytes { text.new.bytes ≡ text.old.bytes ++ strip_text strip.now }
     ensures len { array_string_len text.new ≤ array_string_len text.old + LONGEST_BODY }
 {
-    text.push_str("<path d='M64,40");
+    text.push_str("<path d='M58,40h6");
     push_times(text, "h6v-16h6v16", strip.at);
-    text.push_str("'/><path d='M64,56");
+    text.push_str("'/><path d='M58,56h6");
     text.push_str(strip.wave.as_str());
     text.push_str("'/>");
     text.push_str(strip.boxes.as_str());
@@ -137,13 +137,19 @@ fn push_head(text: &mut RowText, index: usize)
     ensures len { array_string_len text.new ≤ array_string_len text.old + 200 }
 {
     text.push_str("<g transform='translate(0,");
-    push_number(text, 64 + 136 * index as u64);
+    push_number(text, 64 + 140 * index as u64);
     text.push_str(")'><text x='10' y='14' class='l'>");
 }
 
 /// Appends the row of the part at an index. `teller` was given the parts before it.
 #[tactic(auto, unfolding(crate::specs::Rows::row_names, crate::specs::Rows::row_end))]
-pub(crate) fn push_row(text: &mut RowText, teller: &mut Teller, over: bool, part: &Part, index: usize)
+pub(crate) fn push_row(
+    text: &mut RowText,
+    teller: &mut Teller,
+    over: bool,
+    part: &Part,
+    index: usize,
+)
     requires index { index ≤ 200 }
     requires room { array_string_len text.old ≡ 0 }
     ensures after { (before : List Part) → IsAfter placed over before teller.old

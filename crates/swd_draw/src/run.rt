@@ -71,9 +71,9 @@ pub(crate) fn push_run<const N: usize>(text: &mut ArrayString<N>, name: Name, co
 {
     let mut value = Value::new();
     push_number(&mut value, count);
-    text.push_str("<path d='M64,40");
+    text.push_str("<path d='M58,40h6");
     push_run_wave(text, "h6v-16h6v16", count);
-    text.push_str("'/><path d='M64,56");
+    text.push_str("'/><path d='M58,56h6");
     push_run_wave(text, level(name), count);
     text.push_str("'/>");
     push_box(

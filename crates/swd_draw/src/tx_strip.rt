@@ -42,7 +42,11 @@ fn address(addr: Reg4) -> Field
 fn parity(request: Request) -> bool
     ensures { result ≡ odd (request.ap ∷ request.read ∷ addr_bits request.addr) }
 {
-    let asked = if request.ap { !request.read } else { request.read };
+    let asked = if request.ap {
+        !request.read
+    } else {
+        request.read
+    };
     match request.addr {
         Reg4::R0 | Reg4::RC => asked,
         Reg4::R4 | Reg4::R8 => !asked,

@@ -20,9 +20,9 @@ The picture goes to standard output. A browser shows it:
 A row has the item's place and line, as swd decode --places prints them, the
 waves of SWCLK and SWDIO, and a box for each field of the packet request, the
 acknowledgement and the data phase, with its value. Turnarounds are grey, and
-their level lies between high and low. Data changes at the falling edge of
-SWCLK, in the middle of whose period it is sampled. Of more than 16 equal bits a
-row has a broken wave and the count.
+their level lies between high and low. Each bit is one period of SWCLK, and is
+sampled at its rising edge. Of a reset, idle cycles or a skip of more than 16
+bits the wave is broken, and the box has the count.
 
 At most 80 transactions and at most 200 items are drawn, the first ones. The
 picture says whether the trace continues. The whole trace is read first: where
