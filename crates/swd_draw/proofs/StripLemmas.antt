@@ -1,6 +1,6 @@
 -- Laws of strips of fields.
 use Rattle.std.proofs.Common.{◌≡◌, ℕ, ◌+◌, List, [], ◌∷◌, ◌++◌, length, refl, sym, ap, ◌∙◌, append_assoc, arith}
-use Rattle.std.proofs.lemmas.List.{append-nil, length-append}
+use Rattle.std.proofs.lemmas.List.{length-append}
 use Rattle.swd_draw.specs.Marks.{boxes, end_of, field_box, field_wave, waves}
 use Rattle.swd_draw.specs.declared.field.Field.{Field}
 use Rattle.swd_draw.specs.declared.strip.Strip.{Strip}
@@ -24,15 +24,6 @@ boxes_more at (f ∷ fields) more =
 end_more : (at : ℕ) (fields more : List Field) → end_of at (fields ++ more) ≡ end_of (end_of at fields) more
 end_more at [] more = refl
 end_more at (f ∷ fields) more = end_more (at + f.bits.len) fields more
-
--- nothing was appended
-pub added_none : (s : Strip) → Added s s []
-added_none s = record {
-  wave = sym (append-nil s.wave.bytes);
-  boxes = sym (append-nil s.boxes.bytes);
-  at = refl;
-  count = omega arith;
-}
 
 -- some fields were appended, and then others
 pub added_then : (a b c : Strip) (fields more : List Field) → Added a b fields → Added b c more

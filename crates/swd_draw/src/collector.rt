@@ -1,5 +1,5 @@
 //! Collects the parts of a trace text that are drawn.
-ghost use Rattle.std.specs.Prelude.{◌≡◌, ℕ, ◌+◌, ◌-◌, ◌^◌, ◌<◌, min, List, Bool, false, [], ◌∷◌, ◌++◌};
+ghost use Rattle.std.specs.Prelude.{◌≡◌, ℕ, ◌+◌, ◌-◌, ◌^◌, ◌<◌, min, List, Bool, [], ◌∷◌, ◌++◌};
 ghost use Rattle.std.specs.Prelude.{length, OnOk, OnErr, IfErr};
 ghost use Rattle.swd_io.specs.Pieces.{LeadsOn, LeadsToEnd};
 ghost use Rattle.swd_io.proofs.PieceLemmas.{leads_nowhere, leads_further, leads_to_later_end};

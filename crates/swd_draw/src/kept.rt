@@ -1,5 +1,5 @@
 //! Keeps the parts that are drawn.
-ghost use Rattle.std.specs.Prelude.{◌≡◌, ◌≤◌, ◌∷◌, [], ◌++◌, List, length, take};
+ghost use Rattle.std.specs.Prelude.{◌≡◌, ◌≤◌, ◌∷◌, [], ◌++◌, List, length};
 ghost use Rattle.swd_resync.specs.declared.part.Part.{Part};
 ghost use Rattle.swd_draw.specs.Drawings.{weight};
 

@@ -4,7 +4,8 @@ ghost use Rattle.std.specs.Fmt.{decimal};
 ghost use Rattle.arrayvec.specs.ArrayString.{array_string_len};
 ghost use Rattle.swd_bits.specs.BitLists.{bits_of};
 ghost use Rattle.swd_trace.specs.Texts.{digit};
-ghost use Rattle.swd_draw.specs.Marks.{ack_value, bottom_text, box_text, field_wave, level_piece, rect_text, times, title};
+ghost use Rattle.swd_draw.specs.Marks.{ack_value, bottom_text, box_text, field_wave, level_piece, rect_text, times};
+ghost use Rattle.swd_draw.specs.Marks.{title};
 ghost use Rattle.swd_draw.specs.Marks.{top_text, turned_text, value_text, wave};
 
 use crate::field::{Name, Shade};

@@ -2,7 +2,6 @@
 ghost use Rattle.std.specs.Prelude.{◌≡◌, ◌+◌, ◌<◌, ◌≤◌, ◌++◌, length};
 ghost use Rattle.arrayvec.specs.ArrayString.{array_string_len};
 ghost use Rattle.swd_draw.specs.Rows.{drawn_bits, level_of, run_body, run_wave, shade_of};
-ghost use Rattle.swd_draw.specs.Marks.{name_text};
 
 use crate::field::{Name, Shade};
 use crate::pieces::{LONGEST_BOX, LONGEST_PIECE, Value, push_box, push_number, push_times};

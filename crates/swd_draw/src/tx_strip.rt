@@ -1,9 +1,9 @@
 //! The fields of a transaction.
-ghost use Rattle.std.specs.Prelude.{◌≡◌, ◌+◌, ◌≤◌, ◌∷◌, [], length};
+ghost use Rattle.std.specs.Prelude.{◌≡◌, ◌+◌, ◌≤◌, ◌∷◌, []};
 ghost use Rattle.swd_bits.specs.Wire.{addr_bits};
 ghost use Rattle.swd_bits.specs.Bits.{odd};
 ghost use Rattle.swd_draw.specs.Fields.{ack_field, field, ignored_fields, moved_fields, parity_shade, request_fields};
-ghost use Rattle.swd_draw.specs.Fields.{spelled, tail_fields, turnaround, tx_fields, word_fields, word_parity};
+ghost use Rattle.swd_draw.specs.Fields.{tail_fields, turnaround, tx_fields, word_parity};
 ghost use Rattle.swd_draw.specs.Strips.{Added};
 
 use crate::field::{Field, Name, Shade};

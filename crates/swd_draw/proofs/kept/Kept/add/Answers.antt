@@ -1,7 +1,8 @@
 use Rattle.std.proofs.Common.{◌≡◌, ◌-◌, ◌⊎◌, inl, inr, arith}
 use Rattle.swd_draw.proofs.KeptLemmas.{keeps_full, keeps_more}
 use Rattle.swd_draw.proofs.kept.Kept.add.Goals as goal
-use Rattle.swd_draw.proofs.kept.Kept.add.Goals.{then-self-ge-MOST_PARTS-via-then-self-ge-MOST_PARTS, then-self-ge-MOST_PARTS-via-else-self-ge-MOST_PARTS+then-self-eq0}
+use Rattle.swd_draw.proofs.kept.Kept.add.Goals.{then-self-ge-MOST_PARTS-via-then-self-ge-MOST_PARTS}
+use Rattle.swd_draw.proofs.kept.Kept.add.Goals.{then-self-ge-MOST_PARTS-via-else-self-ge-MOST_PARTS+then-self-eq0}
 
 pub returns-then-self-ge-MOST_PARTS : goal.returns-then-self-ge-MOST_PARTS
 returns-then-self-ge-MOST_PARTS c = λ parts h.
