@@ -5,6 +5,7 @@ complete -c swd -n __fish_use_subcommand -a decode -d 'Decode a trace to a listi
 complete -c swd -n __fish_use_subcommand -a encode -d 'Encode a listing to a trace, one line an item'
 complete -c swd -n __fish_use_subcommand -a run -d 'Run a script\'s accesses at a target, each once'
 complete -c swd -n __fish_use_subcommand -a target -d 'Simulate a target for a debugger on the standard streams'
+complete -c swd -n __fish_use_subcommand -a draw -d 'Draw a trace\'s waves as an SVG picture, one row an item'
 complete -c swd -n __fish_use_subcommand -a help -d 'Print the help of a command'
 complete -c swd -n __fish_use_subcommand -s h -l help -d 'Print help'
 complete -c swd -n __fish_use_subcommand -s V -l version -d 'Print version'
@@ -36,4 +37,8 @@ complete -c swd -n '__fish_seen_subcommand_from target' -l plan -r -F -d 'Inject
 complete -c swd -n '__fish_seen_subcommand_from target' -l log -r -F -d 'Write the log to FILE (overwrites it)'
 complete -c swd -n '__fish_seen_subcommand_from target' -l trace -r -F -d 'Write the trace to FILE (overwrites it)'
 complete -c swd -n '__fish_seen_subcommand_from target' -s h -l help -d 'Print help'
-complete -c swd -n '__fish_seen_subcommand_from help' -a 'one decode encode run target help'
+complete -c swd -n '__fish_seen_subcommand_from draw' -F
+complete -c swd -n '__fish_seen_subcommand_from draw' -l resync -d 'Read a capture that begins in mid-session or lost bits'
+complete -c swd -n '__fish_seen_subcommand_from draw' -l overrun -d 'With --resync, WAIT and FAULT have a data phase'
+complete -c swd -n '__fish_seen_subcommand_from draw' -s h -l help -d 'Print help'
+complete -c swd -n '__fish_seen_subcommand_from help' -a 'one decode encode run target draw help'

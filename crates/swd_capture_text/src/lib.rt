@@ -12,3 +12,4 @@ mod source;
 pub use items::print_items;
 pub use printing::print_capture;
 pub use reading::Reading;
+pub use source::Source;

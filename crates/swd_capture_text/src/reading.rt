@@ -16,7 +16,7 @@ pub enum Reading {
 
 impl Reading {
     /// Returns whether a data phase follows WAIT and FAULT.
-    pub(crate) fn is_over(self) -> bool
+    pub fn is_over(self) -> bool
         ensures { result ≡ is_over self }
     {
         match self {

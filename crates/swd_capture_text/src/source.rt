@@ -5,8 +5,10 @@ use swd_trace::Decoder;
 
 /// A decoder for either reading. The parts of a trace are its items.
 #[derive(Drop)]
-pub(crate) enum Source {
+pub enum Source {
+    /// Of a trace.
     Trace(Decoder),
+    /// Of a capture.
     Capture(CaptureDecoder),
 }
 
@@ -18,7 +20,7 @@ impl Source {
     ghost use Rattle.swd_capture_text.specs.Sources.{EndsAt, Has, IsReady, fed_of, steps_left};
 
     /// Returns a decoder that was fed no bits.
-    pub(crate) fn new(reading: Reading) -> Source
+    pub fn new(reading: Reading) -> Source
         ensures has { Has reading result [] [] }
         ensures decides { Decides reading [] [] }
         ensures ready { IsReady result }
@@ -32,7 +34,7 @@ impl Source {
 
     /// Returns how many bits it was fed.
     #[inline(always)]
-    pub(crate) fn fed(&self) -> u64
+    pub fn fed(&self) -> u64
         ensures { result ≡ fed_of self.now }
     {
         match self {
@@ -43,7 +45,7 @@ impl Source {
 
     /// Takes a bit. Take every part that is due first: call `due` until it returns `None`.
     #[inline(always)]
-    pub(crate) fn take(&mut self, bit: bool)
+    pub fn take(&mut self, bit: bool)
         requires ready { IsReady self.old }
         requires count { fed_of self.old < 2 ^ 64 - 1 }
         ensures has { (reading : Reading) (bits : List Bool) (parts : List Part) → Has reading self.old bits parts
@@ -58,7 +60,7 @@ impl Source {
 
     /// Returns the next part, which no later bits can change. Returns `None` if it needs more bits.
     #[inline(always)]
-    pub(crate) fn due(&mut self) -> Option<Part>
+    pub fn due(&mut self) -> Option<Part>
         ensures part { IfSome result (λ part. (reading : Reading) (bits : List Bool) (parts : List Part)
             → Has reading self.old bits parts → Has reading self.new bits (parts ++ part ∷ [])) }
         ensures fewer { IfSome result (λ part. steps_left self.new < steps_left self.old) }
@@ -78,7 +80,7 @@ impl Source {
 
     /// Returns the next part of bits that end here. Returns `None` if all parts were returned: together they are the
     /// reading of all the bits.
-    pub(crate) fn last(&mut self) -> Option<Part>
+    pub fn last(&mut self) -> Option<Part>
         ensures part { IfSome result (λ part. (reading : Reading) (bits : List Bool) (parts : List Part)
             → EndsAt reading self.old bits parts → EndsAt reading self.new bits (parts ++ part ∷ [])) }
         ensures fewer { IfSome result (λ part. steps_left self.new < steps_left self.old) }

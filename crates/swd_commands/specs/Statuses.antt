@@ -11,8 +11,9 @@ use Rattle.swd_capture.specs.declared.printed.Printed.{Printed}
 use Rattle.swd_capture_text.specs.Captures.{Prints}
 use Rattle.swd_capture_text.specs.declared.reading.Reading.{Reading}
 use Rattle.swd_commands.specs.Decodings.{printed_for, reading_for}
+use Rattle.swd_commands.specs.Drawings.{PerformsDraw}
 use Rattle.swd_words.specs.declared.command.Line.{Line}
-use Rattle.swd_words.specs.declared.command.Line.TheVariants.{One, Decode, Encode, Run, Target}
+use Rattle.swd_words.specs.declared.command.Line.TheVariants.{One, Decode, Draw, Encode, Run, Target}
 use Rattle.swd_words.specs.declared.command.RunLine.{RunLine}
 use Rattle.swd_host.specs.declared.outcome.End.{End}
 use Rattle.swd_host.specs.declared.outcome.End.TheVariants.{All, Lost, TriesOut, WrongId, Confused}
@@ -95,6 +96,7 @@ Performs (One file) status text left old new =
     (answer : Result (Unit {0}) OneFault) × Answers answer text old new × (status ≡ status_of (is_ok answer))
 Performs (Decode decode) status text left old new =
     PerformsDecode (reading_for decode) (printed_for decode) status text left old new
+Performs (Draw draw) status text left old new = PerformsDraw draw status text left old new
 Performs (Encode file) status text left old new =
     (answer : Result (Unit {0}) EncodeFault) × Encodes answer text old new × (status ≡ status_of (is_ok answer))
 Performs (Run run) status text left old new = PerformsWhere run.remote run status text old new

@@ -4,6 +4,7 @@ ghost use Rattle.swd_commands.specs.Inputs.{IsStandard, named};
 ghost use Rattle.swd_commands.specs.Statuses.{Performs, PerformsRun, PerformsUnder};
 
 use crate::decode_command::perform_decode;
+use crate::draw_command::perform_draw;
 use crate::open_files::{Files, Identity};
 use crate::remote_command::{Untold, perform_remote};
 use crate::report::{DONE, FAULT, cannot_open, engine_status, one_status, run_status, tell};
@@ -15,7 +16,7 @@ use std::io::{Read, Write};
 use swd_bits::one_text;
 use swd_run::run_text;
 use swd_text::encode_text;
-use swd_words::{DecodeLine, Line, LineFault, RunLine, line};
+use swd_words::{DecodeLine, DrawLine, Line, LineFault, RunLine, line};
 
 /// Carries out the arguments, the program's name first, and returns the status. Standard output gets the requested
 /// text and nothing else.
@@ -68,7 +69,10 @@ fn file_of(line: &Line) -> Option<&str>
     ensures file { IfSome result (λ name. (named line.now ≡ Some name.now) × (name.now ≢ codes "-")) }
 {
     let name = match line {
-        Line::One(file) | Line::Encode(file) | Line::Decode(DecodeLine { file, .. }) => match file {
+        Line::One(file)
+        | Line::Encode(file)
+        | Line::Decode(DecodeLine { file, .. })
+        | Line::Draw(DrawLine { file, .. }) => match file {
             Some(name) => name.as_str(),
             None => return None,
         },
@@ -132,6 +136,7 @@ fn perform<R: Read, F: Files, O: Write, E: Write>(
     match line {
         Line::One(_) => one_status(errors, one_text(input, output)),
         Line::Decode(decode) => perform_decode(decode, input, output, errors),
+        Line::Draw(draw) => perform_draw(draw, input, output, errors),
         Line::Encode(_) => engine_status(errors, encode_text(alloc, input, output)),
         Line::Run(run) if run.remote => {
             tell(errors, "SCRIPT is a file: standard input is the target's")

@@ -17,6 +17,7 @@ use swd_trace::ListFault;
 mod accesses;
 mod calls;
 mod captures;
+mod drawings;
 mod expect;
 mod plan;
 mod remote;

@@ -6,8 +6,9 @@ use Rattle.std.specs.Str.Parse.{signed_digits_value}
 use Rattle.clap.specs.Words.{App, HasKind, Kinds, kind_of, Row, first_of, Rule, Text, new_app, new_rule, with_rule}
 use Rattle.clap.specs.Words.{with_subcommand}
 use Rattle.swd_words.specs.declared.command.Line.{Line}
-use Rattle.swd_words.specs.declared.command.Line.TheVariants.{One, Decode, Encode, Run, Target}
+use Rattle.swd_words.specs.declared.command.Line.TheVariants.{One, Decode, Draw, Encode, Run, Target}
 use Rattle.swd_words.specs.declared.command.DecodeLine.{DecodeLine}
+use Rattle.swd_words.specs.declared.command.DrawLine.{DrawLine}
 use Rattle.swd_words.specs.declared.command.RunLine.{RunLine}
 use Rattle.swd_words.specs.declared.command.TargetLine.{TargetLine}
 use Rattle.swd_words.specs.declared.command.LineFault.{LineFault}
@@ -64,6 +65,10 @@ telling_app = with_rule (with_rule listing_app accesses_rule) made_rule
 
 abbrev pub decode_app : App
 decode_app = with_rule (with_rule telling_app resync_rule) overrun_rule
+
+-- the command `draw`
+abbrev pub draw_app : App
+draw_app = with_rule (with_rule (over_file (codes "draw")) resync_rule) overrun_rule
 
 -- the program without its commands, one of which is required
 abbrev pub bare_app : App
@@ -150,9 +155,9 @@ target_app = with_rule (with_rule (with_rule (with_rule (new_app (codes "target"
 -- the whole command
 abbrev pub swd_app : App
 swd_app =
-    with_subcommand (with_subcommand
+    with_subcommand (with_subcommand (with_subcommand
     (with_subcommand (with_subcommand (with_subcommand bare_app (over_file (codes "one")).top)
-    decode_app.top) (over_file (codes "encode")).top) run_app.top) target_app.top
+    decode_app.top) (over_file (codes "encode")).top) run_app.top) target_app.top) draw_app.top
 
 -- the arguments have this command, and this file or no file
 abbrev pub HasFile : Text → Option Text → Option (Text × List Row) → Type 0
@@ -168,6 +173,12 @@ pub record IsDecodeOf (decode : DecodeLine) (rows : List Row) : Type 0 where
   pub made : (decode.made ≡ true) ↔ (first_of (codes "made") rows ≡ Some (codes "true"))
   pub resync : (decode.resync ≡ true) ↔ (first_of (codes "resync") rows ≡ Some (codes "true"))
   pub overrun : (decode.overrun ≡ true) ↔ (first_of (codes "overrun") rows ≡ Some (codes "true"))
+
+-- the file that the arguments of `draw` name, if any, and their flags
+pub record IsDrawOf (draw : DrawLine) (rows : List Row) : Type 0 where
+  pub file : option_map string_bytes draw.file ≡ first_of (codes "FILE") rows
+  pub resync : (draw.resync ≡ true) ↔ (first_of (codes "resync") rows ≡ Some (codes "true"))
+  pub overrun : (draw.overrun ≡ true) ↔ (first_of (codes "overrun") rows ≡ Some (codes "true"))
 
 -- the number of tries is that of the argument, at most 1,000; 8 without an argument
 abbrev pub AreTries : ℕ → Option Text → Type 0
@@ -213,6 +224,7 @@ IsRefusal kinds (Clap error) = HasKind kinds error ⊎ (kinds ≡ [])
 abbrev pub IsLineOf : Line → Option (Text × List Row) → Type 0
 IsLineOf (One file) rows = HasFile (codes "one") (option_map string_bytes file) rows
 IsLineOf (Decode decode) rows = IsSomeAnd rows (λ p. (p.0 ≡ codes "decode") × IsDecodeOf decode p.1)
+IsLineOf (Draw draw) rows = IsSomeAnd rows (λ p. (p.0 ≡ codes "draw") × IsDrawOf draw p.1)
 IsLineOf (Encode file) rows = HasFile (codes "encode") (option_map string_bytes file) rows
 IsLineOf (Run run) rows = IsSomeAnd rows (λ p. (p.0 ≡ codes "run") × IsRunOf run p.1)
 IsLineOf (Target target) rows = IsSomeAnd rows (λ p. (p.0 ≡ codes "target") × IsTargetOf target p.1)

@@ -9,6 +9,8 @@ pub enum Line {
     /// `swd decode [FILE] [--places] [--names]`, `swd decode [FILE] --count`, or
     /// `swd decode [FILE] --accesses [--made]`. Each takes `--resync [--overrun]` too.
     Decode(DecodeLine),
+    /// `swd draw [FILE] [--resync [--overrun]]`.
+    Draw(DrawLine),
     /// `swd encode [FILE]`. Without a file it reads standard input.
     Encode(Option<String>),
     /// `swd run SCRIPT [--plan FILE]` or `swd run SCRIPT --remote --report FILE`. Both take `[--tries N] [--resume N]
@@ -33,6 +35,17 @@ pub struct DecodeLine {
     pub accesses: bool,
     /// Whether the target then begins in its reset state.
     pub made: bool,
+    /// Whether the trace may begin in mid-session and lose bits.
+    pub resync: bool,
+    /// Whether a data phase then follows WAIT and FAULT.
+    pub overrun: bool,
+}
+
+/// The arguments of `swd draw`.
+#[derive(Drop)]
+pub struct DrawLine {
+    /// The file of the trace, or `None` for standard input.
+    pub file: Option<String>,
     /// Whether the trace may begin in mid-session and lose bits.
     pub resync: bool,
     /// Whether a data phase then follows WAIT and FAULT.

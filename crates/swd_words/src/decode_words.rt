@@ -56,7 +56,8 @@ const ACCESSES_ALONE: &str = "--accesses goes with none of --places, --names and
 
 const MADE_WITH_ACCESSES: &str = "--made goes with --accesses";
 
-const OVERRUN_WITH_RESYNC: &str = "--overrun goes with --resync";
+/// What is said where `--overrun` stands alone.
+pub(crate) const OVERRUN_WITH_RESYNC: &str = "--overrun goes with --resync";
 
 // Returns the flag for places at the beginning of lines.
 fn places_arg<'a>(alloc: Global) -> Arg<'a>
@@ -113,8 +114,8 @@ fn made_arg<'a>(alloc: Global) -> Arg<'a>
         .help("With --accesses: the target begins in its reset state")
 }
 
-// Returns the flag for a trace that may begin in mid-session and lose bits.
-fn resync_arg<'a>(alloc: Global) -> Arg<'a>
+/// Returns the flag for a trace that may begin in mid-session and lose bits.
+pub(crate) fn resync_arg<'a>(alloc: Global) -> Arg<'a>
     ensures rule { rule_of result ≡ resync_rule }
     ensures local { result.global ≡ false }
 {
@@ -124,8 +125,8 @@ fn resync_arg<'a>(alloc: Global) -> Arg<'a>
         .help("Read a capture that begins in mid-session or lost bits")
 }
 
-// Returns the flag for a data phase after WAIT and FAULT.
-fn overrun_arg<'a>(alloc: Global) -> Arg<'a>
+/// Returns the flag for a data phase after WAIT and FAULT.
+pub(crate) fn overrun_arg<'a>(alloc: Global) -> Arg<'a>
     ensures rule { rule_of result ≡ overrun_rule }
     ensures local { result.global ≡ false }
 {

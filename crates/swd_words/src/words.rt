@@ -13,6 +13,7 @@ ghost use Rattle.swd_words.specs.Commands.{IsLineOf, IsOfKind, IsRunOf, IsRefusa
 
 use crate::command::{Line, LineFault, RunLine};
 use crate::decode_words::{decode_command, decode_line};
+use crate::draw_words::{draw_command, draw_line};
 use crate::target_words::{target_command, target_line};
 use clap::error::ErrorKind;
 use clap::{Arg, ArgAction, ArgMatches, Command, Error, value_parser};
@@ -343,7 +344,8 @@ fn swd_command<'a>(alloc: Global) -> Result<Command<'a>, AllocError>
     let decode = with_sub(one, decode_command(alloc)?)?;
     let encode = with_sub(decode, over_a_file(alloc, "encode", ENCODE_ABOUT)?)?;
     let run = with_sub(encode, run_command(alloc)?)?;
-    with_sub(run, target_command(alloc)?)
+    let target = with_sub(run, target_command(alloc)?)?;
+    with_sub(target, draw_command(alloc)?)
 }
 
 // Returns the error of arguments that `clap` accepted and that aren't allowed.
@@ -501,6 +503,10 @@ fn line_of(alloc: Global, matches: &ArgMatches<'_>) -> Result<Line, LineFault>
         "one" => Ok(Line::One(file)),
         "decode" => match decode_line(alloc, rest) {
             Ok(decode) => Ok(Line::Decode(decode)),
+            Err(fault) => Err(fault),
+        },
+        "draw" => match draw_line(alloc, rest) {
+            Ok(draw) => Ok(Line::Draw(draw)),
             Err(fault) => Err(fault),
         },
         "encode" => Ok(Line::Encode(file)),

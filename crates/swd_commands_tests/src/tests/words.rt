@@ -45,6 +45,7 @@ fn help_tells_each_word(rt: HostRuntime) -> Result<(), Fail> {
         ["swd", "decode", "--help"].as_slice(),
         ["swd", "encode", "--help"].as_slice(),
         ["swd", "target", "--help"].as_slice(),
+        ["swd", "draw", "--help"].as_slice(),
     ] {
         let said = said_of(rt.alloc(), words)?;
         let is_narrow = said.split('\n').all(|line| line.len() <= 80);

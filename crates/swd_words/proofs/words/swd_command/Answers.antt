@@ -14,6 +14,7 @@ returns-clause-app c =
     let encode = c.in_ok-encode.ensures.app
     ∙ ap₂ with_subcommand decode (ap top_of c.in_ok-over_a_file-2.ensures.app) in
     let run = c.in_ok-run.ensures.app ∙ ap₂ with_subcommand encode (ap top_of c.in_ok-run_command.ensures.app) in
-    IfOk-weaker c.with_sub-5.result _ _
-    (λ command h. h ∙ ap₂ with_subcommand run (ap top_of c.in_ok-target_command.ensures.app))
-    c.with_sub-5.ensures.app
+    let target = c.in_ok-target.ensures.app ∙ ap₂ with_subcommand run (ap top_of c.in_ok-target_command.ensures.app) in
+    IfOk-weaker c.with_sub-6.result _ _
+    (λ command h. h ∙ ap₂ with_subcommand target (ap top_of c.in_ok-draw_command.ensures.app))
+    c.with_sub-6.ensures.app

@@ -1,0 +1,14 @@
+use Rattle.std.proofs.Common.{append_assoc, refl}
+use Rattle.swd_draw.specs.Marks.{top_text}
+use Rattle.swd_draw.proofs.pieces.push_top.Goals as goal
+
+pub returns-clause-bytes : goal.returns-clause-bytes
+unfolding top_text
+returns-clause-bytes g c =
+    rw (
+      c.push_str-4.ensures.bytes,
+      c.push_str-3.ensures.bytes,
+      c.push_str-2.ensures.bytes,
+      c.push_number.ensures.bytes,
+      c.push_str.ensures.bytes,
+    ) (simp append_assoc refl)

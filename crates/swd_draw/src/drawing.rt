@@ -1,0 +1,126 @@
+//! Draws a trace or a capture from its text.
+ghost use Rattle.std.specs.Prelude.{◌≡◌, ℕ, ◌≤◌, List, Option, [], ◌++◌, length};
+ghost use Rattle.swd_io.specs.Blocks.{Sends, Writes};
+ghost use Rattle.swd_draw.specs.Collecting.{Collects};
+ghost use Rattle.swd_draw.specs.Drawings.{drawing_of};
+ghost use Rattle.swd_draw.specs.Draws.{Draws};
+ghost use Rattle.swd_draw.specs.Rows.{rows};
+ghost use Rattle.swd_resync.specs.declared.part.Part.{Part};
+
+use crate::collector::Collector;
+use crate::head::push_drawing_head;
+use crate::row::{RowText, push_row};
+use std::io::{Read, Write};
+use swd_capture::{LineForm, Printed, Teller};
+use swd_capture_text::Reading;
+use swd_io::{Block, Unread, read_pieces};
+use swd_resync::Part;
+use swd_text::{DecodeFault, TextFault};
+
+// The most bytes that are put into a block at once.
+const CHUNK: usize = 1024;
+
+// Appends a text of any length to the output.
+fn put_text<W: Write>(block: &mut Block<'_, W>, text: &[u8])
+    ensures writer { block.new.writer.ghost_name ≡ block.old.writer.ghost_name }
+    ensures sends { (start : Option (List ℕ)) (all : List ℕ) → Sends W.contents start block.old all
+        → Sends W.contents start block.new (all ++ text.now) }
+{
+    let mut at = 0;
+    while at < text.len() {
+        let len = CHUNK.min(text.len() - at);
+        block.put(&text[at..at + len]);
+        at += len;
+    }
+}
+
+// Appends the rows of parts.
+fn put_rows<W: Write>(block: &mut Block<'_, W>, over: bool, parts: &[Part])
+    requires { length parts.now ≤ 200 }
+    ensures writer { block.new.writer.ghost_name ≡ block.old.writer.ghost_name }
+    ensures sends { (start : Option (List ℕ)) (all : List ℕ) → Sends W.contents start block.old all
+        → Sends W.contents start block.new (all ++ rows over [] parts.now) }
+{
+    let form = LineForm {
+        places: true,
+        names: false,
+    };
+    let mut teller = Teller::new(Printed::Lines(form), over);
+    let mut text = RowText::new();
+    let mut index = 0;
+    while index < parts.len() {
+        text.clear();
+        push_row(&mut text, &mut teller, over, &parts[index], index);
+        put_text(block, text.as_str().as_bytes());
+        index += 1;
+    }
+}
+
+// Writes the drawing of parts.
+//
+// # Errors
+//
+// If the writer fails: how many bytes of the drawing were written, at most 2^64 - 1. These are exactly its first ones.
+fn write_drawing<W: Write>(
+    writer: &mut W,
+    over: bool,
+    parts: &[Part],
+    longer: bool,
+) -> Result<(), u64>
+    requires { length parts.now ≤ 200 }
+    ensures { Writes result (W.contents writer.old) (W.contents writer.new) (drawing_of over parts.now longer) }
+{
+    let mut block = Block::new(writer, 0);
+    let mut text = RowText::new();
+    push_drawing_head(&mut text, parts.len(), longer);
+    put_text(&mut block, text.as_str().as_bytes());
+    put_rows(&mut block, over, parts);
+    put_text(&mut block, b"</svg>\n");
+    match block.flush() {
+        Ok(_) => Ok(()),
+        Err(written) => Err(written),
+    }
+}
+
+// Reads a text to its end, and keeps the parts that are drawn.
+fn collect<R: Read>(reading: Reading, reader: &mut R) -> Result<Collector, Unread<TextFault>>
+    ensures { Collects reading result (R.remaining reader.old) (R.remaining reader.new) }
+{
+    let mut collector = Collector::new(reading);
+    match read_pieces(reader, &mut (), &mut collector) {
+        Ok(()) => {}
+        Err(unread) => return Err(unread),
+    }
+    collector.take_last();
+    Ok(collector)
+}
+
+/// Reads a trace text as a trace or as a capture, and writes a drawing of its first parts as SVG: a row for each part,
+/// with the waves of SWCLK and SWDIO, and a box for each field of a transaction. At most 80 transactions, and at most
+/// 200 parts, are drawn. The whole text is read first. It allocates nothing, its time is linear in the text, and
+/// nothing is retried.
+///
+/// # Errors
+///
+/// Returns the first error.
+/// - `Text` and `Read`: nothing was written.
+/// - `Write`: exactly the first `written` bytes of the drawing were written.
+pub fn draw_capture<R: Read, W: Write>(
+    reading: Reading,
+    reader: &mut R,
+    writer: &mut W,
+) -> Result<(), DecodeFault>
+    ensures { Draws reading result (R.remaining reader.old) (R.remaining reader.new)
+        (W.contents writer.old) (W.contents writer.new) }
+{
+    let collector = match collect(reading, reader) {
+        Ok(collector) => collector,
+        Err(Unread::Reader) => return Err(DecodeFault::Read),
+        Err(Unread::Consumer(fault)) => return Err(DecodeFault::Text(fault)),
+    };
+    let kept = collector.kept();
+    match write_drawing(writer, reading.is_over(), kept.parts(), kept.is_longer()) {
+        Ok(()) => Ok(()),
+        Err(written) => Err(DecodeFault::Write { written }),
+    }
+}

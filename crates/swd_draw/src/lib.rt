@@ -1,0 +1,17 @@
+//! Draws a short stretch of a trace or a capture as SVG.
+#![tactic(auto)]
+
+mod collector;
+mod drawing;
+mod field;
+mod head;
+mod kept;
+mod laws;
+mod pieces;
+mod row;
+mod run;
+mod strip;
+mod tx_strip;
+
+pub use drawing::draw_capture;
+pub use laws::{fields_are_the_transaction, the_first_parts_are_drawn};

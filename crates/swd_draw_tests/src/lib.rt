@@ -1,0 +1,5 @@
+//! The tests of drawings.
+#![tactic(auto)]
+
+#[cfg(test)]
+mod tests;
