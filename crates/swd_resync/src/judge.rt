@@ -1,16 +1,24 @@
 //! Decides whether a stretch begins or continues at a place of a capture. `over` means overrun detection;
 //! `ended` means that no bits follow the held ones. The functions return `None` if more bits are needed.
-ghost use Rattle.std.specs.Prelude.{◌≡◌, ◌+◌, ◌-◌, ◌<◌, ◌≤◌, List, Bool, ◌++◌, length, false, IfSome, IfNone};
+ghost use Rattle.std.specs.Prelude.{◌≡◌, ◌+◌, ◌-◌, ◌<◌, ◌≤◌, List, Bool, ◌++◌, length, true, false, IfSome, IfNone};
+ghost use Rattle.swd_bits.specs.Bits.{low_bits};
+ghost use Rattle.swd_bits.specs.BitLists.{bits_of};
 ghost use Rattle.swd_trace.specs.Reading.{whole};
 ghost use Rattle.swd_resync.specs.Parts.{sound, sound_next, pair, begins, goes_on, ended_or_reset, followed_by};
-ghost use Rattle.swd_resync.specs.Parts.{before_pair, in_stretch};
+ghost use Rattle.swd_resync.specs.Parts.{before_pair, gap, in_stretch};
 ghost use Rattle.swd_resync.specs.Holding.{held_bits, IsNear};
 ghost use Rattle.swd_resync.specs.Sights.{IsTxSeen, May};
 ghost use Rattle.swd_resync.specs.Judged.{Judges, IsClear, IsMost, tx_step};
 
 use crate::held::Held;
 use crate::look::look;
-use swd_bits::{Tx, TxEnd};
+use swd_bits::{Request, Tx, TxBits, TxEnd};
+
+// The number of bits of a request.
+const REQUEST_BITS: u8 = 8;
+
+// Eight ones.
+const ONES: u8 = 255;
 
 // Returns the number of bits of the sound transaction at the front, or 0 if there is no such transaction. A
 // transaction is sound if it was acknowledged, and its word, if one was moved, has right parity.
@@ -31,6 +39,29 @@ fn sound_follows(over: bool, ended: bool, held: &Held) -> Option<bool>
         None => None,
         Some(len) => Some(len > 0),
     }
+}
+
+/// Returns a number of bits at the front that come before the next stretch, whatever follows. The last seven are never
+/// among them, since it judges a place by its eight bits: only a request or eight ones may begin a stretch.
+pub(crate) fn bits_before_start(window: TxBits) -> u8
+    ensures within { result ≤ window.len }
+    ensures before { (over : Bool) (back : List Bool) → result ≤ gap over (bits_of window ++ back) }
+{
+    let mut bits = window.bits;
+    let mut count = 0;
+    while window.len - count >= REQUEST_BITS && begins_nothing((bits % 256) as u8) {
+        bits /= 2;
+        count += 1;
+    }
+    count
+}
+
+// Returns whether these eight bits begin neither a transaction nor fifty ones.
+#[inline(always)]
+fn begins_nothing(byte: u8) -> bool
+    ensures { result ≡ true → (over : Bool) (back : List Bool) → begins over (low_bits 8 byte ++ back) ≡ false }
+{
+    byte != ONES && Request::of(byte).is_none()
 }
 
 // Returns whether two sound transactions are at the front, with at most zeros between them.
