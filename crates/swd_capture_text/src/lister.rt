@@ -1,9 +1,10 @@
 //! Prints a trace text piece by piece.
-ghost use Rattle.std.specs.Prelude.{◌≡◌, ℕ, ◌+◌, ◌-◌, ◌^◌, ◌<◌, min, List, Bool, false, [], ◌∷◌, ◌++◌};
-ghost use Rattle.std.specs.Prelude.{length, Option, OnOk, OnErr, IfErr};
+ghost use Rattle.std.specs.Prelude.{◌≡◌, ℕ, ◌+◌, ◌-◌, ◌^◌, ◌<◌, ◌≤◌, min, List, Bool, true, false, [], ◌∷◌, ◌++◌};
+ghost use Rattle.std.specs.Prelude.{length, take, Option, OnOk, OnErr, IfErr};
 ghost use Rattle.swd_io.specs.Blocks.{Sends};
 ghost use Rattle.swd_io.specs.Pieces.{LeadsOn, LeadsToEnd};
 ghost use Rattle.swd_io.proofs.PieceLemmas.{leads_nowhere, leads_further, leads_to_later_end};
+ghost use Rattle.swd_bits.specs.Bits.{low_bits};
 ghost use Rattle.swd_resync.specs.declared.part.Part.{Part};
 ghost use Rattle.swd_text.specs.Listers.{StopsAt};
 ghost use Rattle.swd_capture.specs.declared.printed.Printed.{Printed};
@@ -23,7 +24,10 @@ use swd_bits::{Scan, Sign};
 use swd_capture::{LONGEST_ENTRY, Printed, ROWS, Teller};
 use swd_io::{Block, Consumer};
 use swd_resync::Part;
-use swd_text::{TakeFault, TextFault};
+use swd_text::{TakeFault, TextFault, WIDTH, comment_len, digits_of};
+
+// The most bits fed before digits are taken 64 at once, so that the count can't overflow.
+const MOST_FED: u64 = u64::MAX - WIDTH as u64;
 
 /// A consumer of a trace text. It writes the output of each part as soon as the part is decided.
 #[derive(Drop)]
@@ -168,6 +172,79 @@ impl Lister {
         }
     }
 
+    // Returns whether digits at the front of a text may be taken at once. They may not in a comment, in a short text,
+    // before a blank, or where the count of bits might overflow. The bytes are then taken one by one.
+    #[inline]
+    fn may_take_digits(&self, text: &[u8]) -> bool
+        ensures long { result ≡ true → WIDTH ≤ length text.now }
+        ensures outside { result ≡ true → self.now.scan ≡ false }
+        ensures room { result ≡ true → fed_of self.now.source + WIDTH < 2 ^ 64 }
+    {
+        text.len() >= WIDTH
+            && text[0] >= b'0'
+            && !self.scan.in_comment()
+            && self.source.fed() <= MOST_FED
+    }
+
+    // Takes one or more of the lowest `count` bits, and returns how many.
+    fn bits_at_once<W: Write>(&mut self, block: &mut Block<'_, W>, bits: u64, count: u8) -> u8
+        requires ready { IsReady self.old.source }
+        requires some { 0 < count }
+        requires within { count ≤ 64 }
+        requires room { fed_of self.old.source + count < 2 ^ 64 }
+        ensures most { result ≤ count }
+        ensures lists { (start : Start) (before : List Bool) (parts : List Part)
+            → Lists W.contents start self.old.source self.old.teller block.old before parts
+            → (more : List Part)
+            × Lists W.contents start self.new.source self.new.teller block.new (before ++ low_bits result bits) more
+            × Decides start.reading (before ++ low_bits result bits) more }
+        ensures ready { IsReady self.new.source }
+        ensures scan { self.new.scan ≡ self.old.scan }
+        ensures place { self.new.place ≡ self.old.place }
+        ensures writer { block.new.writer.ghost_name ≡ block.old.writer.ghost_name }
+    {
+        let taken = self.source.take_bits(bits, count);
+        self.put_due(block);
+        taken
+    }
+
+    // Takes digits at the front of a text at once, and returns how many: 0 or more.
+    fn digits<W: Write>(&mut self, block: &mut Block<'_, W>, text: &[u8]) -> usize
+        requires { IsReady self.old.source }
+        ensures ready { IsReady self.new.source }
+        ensures place { self.new.place ≡ self.old.place }
+        ensures writer { block.new.writer.ghost_name ≡ block.old.writer.ghost_name }
+        ensures within { result ≤ length text.now }
+        ensures taken { (start : Start) (seen : List ℕ) → GoesOn W.contents start self.old block.old seen
+            → GoesOn W.contents start self.new block.new (seen ++ take result text.now) }
+    {
+        if !self.may_take_digits(text) {
+            return 0;
+        }
+        let digits = digits_of(text);
+        if digits.count == 0 {
+            return 0;
+        }
+        usize::from(self.bits_at_once(block, digits.bits, digits.count))
+    }
+
+    // Takes bytes at the front of a text at once, and returns how many: those of an open comment, or digits, or 0.
+    #[inline(always)]
+    fn bytes_at_once<W: Write>(&mut self, block: &mut Block<'_, W>, text: &[u8]) -> usize
+        requires { IsReady self.old.source }
+        ensures ready { IsReady self.new.source }
+        ensures place { self.new.place ≡ self.old.place }
+        ensures writer { block.new.writer.ghost_name ≡ block.old.writer.ghost_name }
+        ensures within { result ≤ length text.now }
+        ensures taken { (start : Start) (seen : List ℕ) → GoesOn W.contents start self.old block.old seen
+            → GoesOn W.contents start self.new block.new (seen ++ take result text.now) }
+    {
+        if self.scan.in_comment() {
+            return comment_len(text);
+        }
+        self.digits(block, text)
+    }
+
     // Takes the bytes of a piece, up to the first one that isn't allowed.
     fn bytes<W: Write>(&mut self, block: &mut Block<'_, W>, piece: &[u8]) -> Result<(), TextFault>
         requires { IsReady self.old.source }
@@ -184,6 +261,11 @@ impl Lister {
     {
         let mut index = 0;
         while index < piece.len() {
+            let taken = self.bytes_at_once(block, &piece[index..]);
+            if taken > 0 {
+                index += taken;
+                continue;
+            }
             if let Err(fault) = self.byte(block, piece[index], index) {
                 return Err(fault);
             }

@@ -11,7 +11,8 @@ pub(crate) enum Source {
 }
 
 impl Source {
-    ghost use Rattle.std.specs.Prelude.{◌≡◌, ◌+◌, ◌-◌, ◌^◌, ◌<◌, List, Bool, [], ◌∷◌, ◌++◌, IfSome, IfNone};
+    ghost use Rattle.std.specs.Prelude.{◌≡◌, ◌+◌, ◌-◌, ◌^◌, ◌<◌, ◌≤◌, List, Bool, [], ◌∷◌, ◌++◌, IfSome, IfNone};
+    ghost use Rattle.swd_bits.specs.Bits.{low_bits};
     ghost use Rattle.swd_resync.specs.declared.part.Part;
     ghost use Rattle.swd_capture_text.specs.declared.reading.Reading;
     ghost use Rattle.swd_capture_text.specs.Readings.{Decides, parts_by};
@@ -53,6 +54,26 @@ impl Source {
         match self {
             Source::Trace(decoder) => decoder.take(bit),
             Source::Capture(decoder) => decoder.take(bit),
+        }
+    }
+
+    /// Takes one or more of the lowest `count` bits, the least significant first, and returns how many. Take every part
+    /// that is due first.
+    #[inline(always)]
+    pub(crate) fn take_bits(&mut self, bits: u64, count: u8) -> u8
+        requires ready { IsReady self.old }
+        requires some { 0 < count }
+        requires within { count ≤ 64 }
+        requires room { fed_of self.old + count < 2 ^ 64 }
+        ensures has { (reading : Reading) (before : List Bool) (parts : List Part)
+            → Has reading self.old before parts → Has reading self.new (before ++ low_bits result bits) parts }
+        ensures some { 0 < result }
+        ensures most { result ≤ count }
+        ensures fed { fed_of self.new ≡ fed_of self.old + result }
+    {
+        match self {
+            Source::Trace(decoder) => decoder.take_bits(bits, count),
+            Source::Capture(decoder) => decoder.take_bits(bits, count),
         }
     }
 
