@@ -1,4 +1,4 @@
-use Rattle.std.proofs.Common.{◌≡◌, ℕ, suc, ◌+◌, ◌-◌, ◌^◌, ◌<◌, min, List, [], ◌∷◌, ◌++◌, length, take, drop, get_or}
+use Rattle.std.proofs.Common.{◌≡◌, ℕ, suc, ◌+◌, ◌-◌, ◌^◌, ◌<◌, min, List, ◌++◌, length, take, drop, get_or}
 use Rattle.std.proofs.Common.{Option, refl, ◌∙◌, subst, take_all, arith}
 use Rattle.swd_io.specs.declared.block.Block.{Block}
 use Rattle.std.proofs.lemmas.List.{length-append, length-drop, length-take-le}
