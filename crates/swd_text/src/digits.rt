@@ -1,5 +1,5 @@
 //! Finds the characters `0` and `1` at the front of a text, 64 bytes at once.
-ghost use Rattle.std.specs.Prelude.{◌≡◌, ℕ, ◌≤◌, ◌==◌, length, take, map};
+ghost use Rattle.std.specs.Prelude.{◌≡◌, ℕ, ◌<◌, ◌≤◌, ◌==◌, true, length, slice_index, take, map};
 ghost use Rattle.std.specs.Simd.Lanes.{mask_l};
 ghost use Rattle.swd_bits.specs.Bits.{low_bits};
 ghost use Rattle.swd_trace.specs.Texts.{digit};
@@ -19,11 +19,12 @@ pub struct Digits {
     pub bits: u64,
 }
 
-/// Returns the digits among the first 64 bytes of a text, up to the first other byte.
+/// Returns the digits among the first 64 bytes of a text, up to the first other byte. The text has at least as many.
 #[inline]
 pub fn digits_of(text: &[u8]) -> Digits
     requires { WIDTH ≤ length text.now }
     ensures most { result.count ≤ WIDTH }
+    ensures ends { result.count < WIDTH → is_other (slice_index text.now result.count) ≡ true }
     ensures bits { (n : ℕ) → n ≤ result.count → take n text.now ≡ map digit (low_bits n result.bits) }
 {
     let bytes = u8x64::from_slice(text);
