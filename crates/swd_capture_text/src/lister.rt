@@ -5,26 +5,28 @@ ghost use Rattle.swd_io.specs.Blocks.{Sends};
 ghost use Rattle.swd_io.specs.Pieces.{LeadsOn, LeadsToEnd};
 ghost use Rattle.swd_io.proofs.PieceLemmas.{leads_nowhere, leads_further, leads_to_later_end};
 ghost use Rattle.swd_bits.specs.Bits.{low_bits};
+ghost use Rattle.swd_bits.specs.BitLists.{bits_of};
 ghost use Rattle.swd_resync.specs.declared.part.Part.{Part};
 ghost use Rattle.swd_text.specs.Listers.{StopsAt};
 ghost use Rattle.swd_capture.specs.declared.printed.Printed.{Printed};
 ghost use Rattle.swd_capture.specs.Printing.{end_row_text, entry, printout, told};
 ghost use Rattle.swd_capture.specs.Tellers.{IsAfter};
 ghost use Rattle.swd_capture_text.specs.Captures.{Finishes};
-ghost use Rattle.swd_capture_text.specs.Listers.{Start, IsBehind, told_of, Lists, GoesOn, Listed, HasRead, StopsIn};
+ghost use Rattle.swd_capture_text.specs.Listers.{Start, IsBehind, told_of, Tells, Lists, GoesOn, Listed, HasRead, StopsIn};
 ghost use Rattle.swd_capture_text.specs.Listers.{Ends};
 ghost use Rattle.swd_capture_text.specs.Readings.{Decides, is_over, parts_by};
-ghost use Rattle.swd_capture_text.specs.Sources.{Has, IsReady, fed_of};
+ghost use Rattle.swd_capture_text.specs.Sources.{Has, IsReady, fed_of, junk_parts};
 
 use crate::reading::Reading;
 use crate::source::Source;
 use arrayvec::ArrayString;
 use std::io::Write;
-use swd_bits::{Scan, Sign};
+use swd_bits::{Scan, Sign, TxBits};
 use swd_capture::{LONGEST_ENTRY, Printed, ROWS, Teller};
 use swd_io::{Block, Consumer};
 use swd_resync::Part;
 use swd_text::{TakeFault, TextFault, WIDTH, comment_len, digits_of};
+use swd_trace::Item;
 
 // The most bits fed before digits are taken 64 at once, so that the count can't overflow.
 const MOST_FED: u64 = u64::MAX - WIDTH as u64;
@@ -61,6 +63,27 @@ fn put_part<W: Write>(
     line.clear();
     teller.tell(part, line);
     block.put(line.as_str().as_bytes());
+}
+
+// Also queues the output of junk bits, each of them a part.
+#[inline(never)]
+fn put_junk<W: Write>(
+    block: &mut Block<'_, W>,
+    line: &mut ArrayString<LONGEST_ENTRY>,
+    teller: &mut Teller,
+    junk: TxBits,
+)
+    ensures tells { (start : Start) (parts : List Part) → Tells W.contents start teller.old block.old parts
+        → Tells W.contents start teller.new block.new (parts ++ junk_parts (bits_of junk)) }
+    ensures writer { block.new.writer.ghost_name ≡ block.old.writer.ghost_name }
+{
+    let mut bits = junk.bits;
+    let mut left = junk.len;
+    while left > 0 {
+        put_part(block, line, teller, &Part::Item(Item::Junk(bits % 2 == 1)));
+        bits /= 2;
+        left -= 1;
+    }
 }
 
 // Also queues a row of the end.
@@ -102,6 +125,21 @@ impl Lister {
         }
     }
 
+    // Also queues the output of the junk bits that are due.
+    #[inline(always)]
+    fn put_lost<W: Write>(&mut self, block: &mut Block<'_, W>)
+        ensures lists { (start : Start) (bits : List Bool) (parts : List Part)
+            → Lists W.contents start self.old.source self.old.teller block.old bits parts
+            → (more : List Part) × Lists W.contents start self.new.source self.new.teller block.new bits more }
+        ensures scan { self.new.scan ≡ self.old.scan }
+        ensures place { self.new.place ≡ self.old.place }
+        ensures writer { block.new.writer.ghost_name ≡ block.old.writer.ghost_name }
+    {
+        if let Some(junk) = self.source.due_junk() {
+            put_junk(block, &mut self.line, &mut self.teller, junk);
+        }
+    }
+
     // Also queues the output of the parts that are due.
     fn put_due<W: Write>(&mut self, block: &mut Block<'_, W>)
         ensures lists { (start : Start) (bits : List Bool) (parts : List Part)
@@ -113,6 +151,7 @@ impl Lister {
         ensures place { self.new.place ≡ self.old.place }
         ensures writer { block.new.writer.ghost_name ≡ block.old.writer.ghost_name }
     {
+        self.put_lost(block);
         while let Some(part) = self.source.due() {
             put_part(block, &mut self.line, &mut self.teller, &part);
         }

@@ -1,5 +1,6 @@
 //! Decodes bits to parts, by either reading.
 use crate::reading::Reading;
+use swd_bits::TxBits;
 use swd_resync::{CaptureDecoder, Part};
 use swd_trace::Decoder;
 
@@ -13,10 +14,11 @@ pub(crate) enum Source {
 impl Source {
     ghost use Rattle.std.specs.Prelude.{◌≡◌, ◌+◌, ◌-◌, ◌^◌, ◌<◌, ◌≤◌, List, Bool, [], ◌∷◌, ◌++◌, IfSome, IfNone};
     ghost use Rattle.swd_bits.specs.Bits.{low_bits};
+    ghost use Rattle.swd_bits.specs.BitLists.{bits_of};
     ghost use Rattle.swd_resync.specs.declared.part.Part;
     ghost use Rattle.swd_capture_text.specs.declared.reading.Reading;
     ghost use Rattle.swd_capture_text.specs.Readings.{Decides, parts_by};
-    ghost use Rattle.swd_capture_text.specs.Sources.{EndsAt, Has, IsReady, fed_of, steps_left};
+    ghost use Rattle.swd_capture_text.specs.Sources.{EndsAt, Has, IsReady, fed_of, junk_parts, steps_left};
 
     /// Returns a decoder that was fed no bits.
     pub(crate) fn new(reading: Reading) -> Source
@@ -94,6 +96,21 @@ impl Source {
                 None => None,
             },
             Source::Capture(decoder) => decoder.due(),
+        }
+    }
+
+    /// Returns junk bits that are the next parts of a trace, each of them one. `None` says nothing about what is due, and
+    /// changes nothing. `due` returns the same parts one by one.
+    #[inline(always)]
+    pub(crate) fn due_junk(&mut self) -> Option<TxBits>
+        ensures junk { IfSome result (λ found. (reading : Reading) (bits : List Bool) (parts : List Part)
+            → Has reading self.old bits parts → Has reading self.new bits (parts ++ junk_parts (bits_of found))) }
+        ensures none { IfNone result (self.new ≡ self.old) }
+        ensures fed { fed_of self.new ≡ fed_of self.old }
+    {
+        match self {
+            Source::Trace(decoder) => decoder.due_junk(),
+            Source::Capture(_) => None,
         }
     }
 
