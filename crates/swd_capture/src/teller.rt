@@ -1,5 +1,5 @@
 //! Prints the parts of a capture one after another.
-ghost use Rattle.std.specs.Prelude.{◌≡◌, ◌+◌, ◌-◌, ◌^◌, ◌<◌, ◌≤◌, ◌++◌, ◌∷◌, [], List, Bool, length, min};
+ghost use Rattle.std.specs.Prelude.{◌≡◌, ℕ, ◌+◌, ◌-◌, ◌^◌, ◌<◌, ◌≤◌, ◌++◌, ◌∷◌, [], List, Bool, true, false, length, min};
 ghost use Rattle.arrayvec.specs.ArrayString.{array_string_len};
 ghost use Rattle.swd_resync.specs.declared.part.Part.{Part};
 ghost use Rattle.swd_resync.specs.AsItems.{items_of_part};
@@ -13,6 +13,7 @@ use crate::names::{LONGEST_NAMED, push_named, selected_after};
 use crate::printed::{LineForm, Printed};
 use crate::table::{ROWS, Table};
 use arrayvec::ArrayString;
+use swd_bits::TxBits;
 use swd_observer::TraceObserver;
 use swd_observer_text::{push_last, watch_part};
 use swd_port::Select;
@@ -123,7 +124,8 @@ fn observer_of_printed(printed: Printed) -> TraceObserver
 }
 
 impl Teller {
-    ghost use Rattle.swd_capture.specs.Printing.{end_row_text, entry, row_count};
+    ghost use Rattle.swd_bits.specs.BitLists.{bits_of};
+    ghost use Rattle.swd_capture.specs.Printing.{end_row_text, entry, junk_parts, row_count, told, tells_junk_at_once};
     ghost use Rattle.swd_capture.specs.Tellers.{IsAfter};
 
     /// Returns a teller that was given no parts. `over` says that the host uses overrun detection (IHI 0031, B4), so
@@ -155,6 +157,29 @@ impl Teller {
             Printed::Counts => self.table.add(part),
             Printed::Accesses { .. } => watch_part(&mut self.observer, self.over, part, text),
         }
+    }
+
+    /// Takes junk bits, each the next part of a trace, at once, and appends their output to `text`. Returns whether it
+    /// did: it does for accesses, where nothing is known behind the first bit. Otherwise call `tell` for each.
+    pub fn tell_junk<const N: usize>(&mut self, junk: TxBits, text: &mut ArrayString<N>) -> bool
+        requires { array_string_len text.old + LONGEST_ENTRY ≤ N }
+        ensures does { (printed : Printed) (over : Bool) (parts : List Part) → IsAfter printed over parts self.old
+            → result ≡ tells_junk_at_once printed }
+        ensures after { result ≡ true → (printed : Printed) (over : Bool) (parts : List Part)
+            → IsAfter printed over parts self.old
+            → IsAfter printed over (parts ++ junk_parts (bits_of junk)) self.new }
+        ensures bytes { result ≡ true → (printed : Printed) (over : Bool) (parts : List Part)
+            → IsAfter printed over parts self.old → (more : List ℕ) × (text.new.bytes ≡ text.old.bytes ++ more)
+            × (told printed over (parts ++ junk_parts (bits_of junk)) ≡ told printed over parts ++ more) }
+        ensures same { result ≡ false → (self.new ≡ self.old) × (text.new ≡ text.old) }
+        ensures len { array_string_len text.new ≤ array_string_len text.old + LONGEST_ENTRY }
+    {
+        let Printed::Accesses { .. } = self.printed else {
+            return false;
+        };
+        let bits = Part::Skip(u64::from(junk.len));
+        watch_part(&mut self.observer, self.over, &bits, text);
+        true
     }
 
     // Appends the part's line, and updates place and SELECT.

@@ -1,7 +1,6 @@
 -- What a decoder for either reading has read.
 use Rattle.std.specs.Prelude.{◌≡◌, ℕ, Bool, List, [], ◌++◌, map}
 use Rattle.swd_trace.specs.declared.item.Item.{Item}
-use Rattle.swd_trace.specs.declared.item.Item.TheVariants.{Junk}
 use Rattle.swd_trace.specs.Held as trace
 use Rattle.swd_resync.specs.declared.part.Part.{Part}
 use Rattle.swd_resync.specs.declared.part.Part.TheVariants.{Item as Told}
@@ -18,10 +17,6 @@ Has Trace (OfTrace d) bits parts = (items : List Item) × (parts ≡ map Told it
 Has Trace (OfCapture d) bits parts = ⊥
 Has (Capture over) (OfTrace d) bits parts = ⊥
 Has (Capture over) (OfCapture d) bits parts = capture.HasRead over d bits parts
-
--- junk bits as parts
-abbrev pub junk_parts : List Bool → List Part
-junk_parts bits = map Told (map Junk bits)
 
 -- how many bits it was fed
 abbrev pub fed_of : Source → ℕ

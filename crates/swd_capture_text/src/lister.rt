@@ -9,13 +9,13 @@ ghost use Rattle.swd_bits.specs.BitLists.{bits_of};
 ghost use Rattle.swd_resync.specs.declared.part.Part.{Part};
 ghost use Rattle.swd_text.specs.Listers.{StopsAt};
 ghost use Rattle.swd_capture.specs.declared.printed.Printed.{Printed};
-ghost use Rattle.swd_capture.specs.Printing.{end_row_text, entry, printout, told};
+ghost use Rattle.swd_capture.specs.Printing.{end_row_text, entry, junk_parts, printout, told};
 ghost use Rattle.swd_capture.specs.Tellers.{IsAfter};
 ghost use Rattle.swd_capture_text.specs.Captures.{Finishes};
 ghost use Rattle.swd_capture_text.specs.Listers.{Start, IsBehind, told_of, Tells, Lists, GoesOn, Listed, HasRead, StopsIn};
 ghost use Rattle.swd_capture_text.specs.Listers.{Ends};
 ghost use Rattle.swd_capture_text.specs.Readings.{Decides, is_over, parts_by};
-ghost use Rattle.swd_capture_text.specs.Sources.{Has, IsReady, fed_of, junk_parts};
+ghost use Rattle.swd_capture_text.specs.Sources.{Has, IsReady, fed_of};
 
 use crate::reading::Reading;
 use crate::source::Source;
@@ -77,6 +77,11 @@ fn put_junk<W: Write>(
         → Tells W.contents start teller.new block.new (parts ++ junk_parts (bits_of junk)) }
     ensures writer { block.new.writer.ghost_name ≡ block.old.writer.ghost_name }
 {
+    line.clear();
+    if teller.tell_junk(junk, line) {
+        block.put(line.as_str().as_bytes());
+        return;
+    }
     let mut bits = junk.bits;
     let mut left = junk.len;
     while left > 0 {

@@ -16,9 +16,10 @@ impl Source {
     ghost use Rattle.swd_bits.specs.Bits.{low_bits};
     ghost use Rattle.swd_bits.specs.BitLists.{bits_of};
     ghost use Rattle.swd_resync.specs.declared.part.Part;
+    ghost use Rattle.swd_capture.specs.Printing.{junk_parts};
     ghost use Rattle.swd_capture_text.specs.declared.reading.Reading;
     ghost use Rattle.swd_capture_text.specs.Readings.{Decides, parts_by};
-    ghost use Rattle.swd_capture_text.specs.Sources.{EndsAt, Has, IsReady, fed_of, junk_parts, steps_left};
+    ghost use Rattle.swd_capture_text.specs.Sources.{EndsAt, Has, IsReady, fed_of, steps_left};
 
     /// Returns a decoder that was fed no bits.
     pub(crate) fn new(reading: Reading) -> Source

@@ -9,7 +9,7 @@ use Rattle.swd_resync.specs.declared.part.Part.TheVariants.{Item as Told}
 use Rattle.swd_capture.proofs.TellerLemmas.{told_more}
 use Rattle.swd_capture_text.specs.Listers.{told_of, Tells}
 use Rattle.swd_capture_text.specs.Readings.{is_over}
-use Rattle.swd_capture_text.specs.Sources.{junk_parts}
+use Rattle.swd_capture.specs.Printing.{junk_parts}
 use Rattle.swd_capture_text.proofs.lister.put_junk.Goals as goal
 
 pub loop-left-preserved : goal.loop-left-preserved

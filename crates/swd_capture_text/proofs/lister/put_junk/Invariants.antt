@@ -3,7 +3,7 @@ use Rattle.swd_bits.specs.Bits.{low_bits}
 use Rattle.swd_bits.specs.BitLists.{bits_of}
 use Rattle.swd_resync.specs.declared.part.Part.{Part}
 use Rattle.swd_capture_text.specs.Listers.{Start, Tells}
-use Rattle.swd_capture_text.specs.Sources.{junk_parts}
+use Rattle.swd_capture.specs.Printing.{junk_parts}
 use Rattle.swd_capture_text.proofs.lister.put_junk.Given as goal
 
 abbrev pub invariant-loop-left : goal.invariant-loop-left

@@ -1,6 +1,6 @@
 use Rattle.std.proofs.Common.{◌++◌, ◌∙◌}
 use Rattle.swd_bits.specs.BitLists.{bits_of}
-use Rattle.swd_capture_text.specs.Sources.{junk_parts}
+use Rattle.swd_capture.specs.Printing.{junk_parts}
 use Rattle.swd_capture_text.proofs.lister.Lister.put_lost.Goals as goal
 
 pub returns-in-Some-clause-lists : goal.returns-in-Some-clause-lists
