@@ -1,6 +1,7 @@
 -- Laws of what is printed of parts, one after the other.
-use Rattle.std.proofs.Common.{◌≡◌, ℕ, zero, suc, ◌+◌, ◌-◌, ◌^◌, ◌<◌, min, Bool, false, List, [], ◌∷◌, ◌++◌, length, map}
+use Rattle.std.proofs.Common.{◌≡◌, ℕ, zero, suc, ◌+◌, ◌-◌, ◌^◌, ◌<◌, min, Bool, true, false, List, [], ◌∷◌, ◌++◌, length, map}
 use Rattle.std.proofs.Common.{Option, None, replicate, refl, sym, ap, ◌∙◌, append_assoc, arith}
+use Rattle.std.specs.Prelude.{◌==◌, if◌then◌else◌}
 use Rattle.std.proofs.lemmas.List.{append-nil, length-append}
 use Rattle.swd_trace.specs.declared.item.Item.{Item}
 use Rattle.swd_trace.specs.declared.item.Item.TheVariants.{Junk}
@@ -140,3 +141,33 @@ accesses_junk made over parts bits n e =
     ∙ accesses_join (items_of over parts) (map Junk bits) (observer_of made)
     ∙ ap (λ x. accesses (items_of over parts) (observer_of made) ++ x) (any_junk_shows bits before
     ∙ ap (λ n. accesses (replicate n (Junk false)) before) e)
+
+-- ---- the count of junk bits
+
+count_join : (row : ℕ) (parts others : List Part)
+    → count_in row (parts ++ others) ≡ count_in row parts + count_in row others
+count_join row [] others = omega arith
+count_join row (p ∷ parts) others = let h = count_join row parts others in omega arith
+
+abbrev one_if : Bool → ℕ → ℕ
+one_if t n = if t then n else 0
+
+none_or_none : (t : Bool) → one_if t 0 ≡ 0
+none_or_none true = refl
+none_or_none false = refl
+
+one_more_if : (t : Bool) (n : ℕ) → one_if t 1 + one_if t n ≡ one_if t (suc n)
+one_more_if true n = omega arith
+one_more_if false n = omega arith
+
+junk_count : (row : ℕ) (bits : List Bool) → count_in row (junk_parts bits) ≡ one_if (83 == row) (length bits)
+junk_count row [] = sym (none_or_none (83 == row))
+junk_count row (b ∷ bits) =
+    ap (λ n. one_if (83 == row) 1 + n) (junk_count row bits) ∙ one_more_if (83 == row) (length bits)
+
+-- junk bits more are counted in their row
+pub count_junk : (row : ℕ) (parts : List Part) (bits : List Bool) (n : ℕ) → length bits ≡ n
+    → count_in row (parts ++ junk_parts bits) ≡ count_in row parts + (if 83 == row then n else 0)
+count_junk row parts bits n e =
+    count_join row parts (junk_parts bits)
+    ∙ ap (λ m. count_in row parts + m) (junk_count row bits ∙ ap (one_if (83 == row)) e)

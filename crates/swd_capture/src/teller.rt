@@ -159,8 +159,9 @@ impl Teller {
         }
     }
 
-    /// Takes junk bits, each the next part of a trace, at once, and appends their output to `text`. Returns whether it
-    /// did: it does for accesses, where nothing is known behind the first bit. Otherwise call `tell` for each.
+    /// Takes junk bits, each of them the next part of a trace, at once, and appends their output to `text`. Returns
+    /// whether it did: it does for counts, and for accesses, where nothing is known behind the first bit. Otherwise call
+    /// `tell` for each.
     pub fn tell_junk<const N: usize>(&mut self, junk: TxBits, text: &mut ArrayString<N>) -> bool
         requires { array_string_len text.old + LONGEST_ENTRY ≤ N }
         ensures does { (printed : Printed) (over : Bool) (parts : List Part) → IsAfter printed over parts self.old
@@ -174,12 +175,18 @@ impl Teller {
         ensures same { result ≡ false → (self.new ≡ self.old) × (text.new ≡ text.old) }
         ensures len { array_string_len text.new ≤ array_string_len text.old + LONGEST_ENTRY }
     {
-        let Printed::Accesses { .. } = self.printed else {
-            return false;
-        };
-        let bits = Part::Skip(u64::from(junk.len));
-        watch_part(&mut self.observer, self.over, &bits, text);
-        true
+        match self.printed {
+            Printed::Lines(_) => false,
+            Printed::Counts => {
+                self.table.add_junk(junk.len);
+                true
+            }
+            Printed::Accesses { .. } => {
+                let bits = Part::Skip(u64::from(junk.len));
+                watch_part(&mut self.observer, self.over, &bits, text);
+                true
+            }
+        }
     }
 
     // Appends the part's line, and updates place and SELECT.
