@@ -91,12 +91,6 @@ told (Accesses made) over parts = accesses (items_of over parts) (observer_of ma
 abbrev pub junk_parts : List Bool → List Part
 junk_parts bits = map Told (map Junk bits)
 
--- junk bits are taken at once unless each has its line
-abbrev pub tells_junk_at_once : Printed → Bool
-tells_junk_at_once (Lines form) = false
-tells_junk_at_once Counts = true
-tells_junk_at_once (Accesses made) = true
-
 -- the number of rows at the end: those of a table, or one for the lines of the accesses that nothing confirms
 abbrev pub row_count : Printed → ℕ
 row_count (Lines form) = 0

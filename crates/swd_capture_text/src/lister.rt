@@ -22,11 +22,10 @@ use crate::source::Source;
 use arrayvec::ArrayString;
 use std::io::Write;
 use swd_bits::{Scan, Sign, TxBits};
-use swd_capture::{LONGEST_ENTRY, Printed, ROWS, Teller};
+use swd_capture::{LONGEST_ENTRY, MOST_JUNK, Printed, ROWS, Teller};
 use swd_io::{Block, Consumer};
 use swd_resync::Part;
 use swd_text::{TakeFault, TextFault, WIDTH, comment_len, digits_of};
-use swd_trace::Item;
 
 // The most bits fed before digits are taken 64 at once, so that the count can't overflow.
 const MOST_FED: u64 = u64::MAX - WIDTH as u64;
@@ -77,17 +76,15 @@ fn put_junk<W: Write>(
         → Tells W.contents start teller.new block.new (parts ++ junk_parts (bits_of junk)) }
     ensures writer { block.new.writer.ghost_name ≡ block.old.writer.ghost_name }
 {
-    line.clear();
-    if teller.tell_junk(junk, line) {
-        block.put(line.as_str().as_bytes());
-        return;
-    }
     let mut bits = junk.bits;
     let mut left = junk.len;
     while left > 0 {
-        put_part(block, line, teller, &Part::Item(Item::Junk(bits % 2 == 1)));
-        bits /= 2;
-        left -= 1;
+        let count = left.min(MOST_JUNK);
+        line.clear();
+        teller.tell_junk(TxBits { len: count, bits }, line);
+        block.put(line.as_str().as_bytes());
+        bits >>= count;
+        left -= count;
     }
 }
 

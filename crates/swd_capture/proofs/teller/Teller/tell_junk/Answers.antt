@@ -14,7 +14,7 @@ use Rattle.swd_capture.proofs.TellerLemmas.{accesses_junk, observer_junk}
 use Rattle.swd_capture.proofs.teller.Teller.tell_junk.Goals as goal
 
 pub returns-in-Accesses-clause-after : goal.returns-in-Accesses-clause-after
-returns-in-Accesses-clause-after g c = λ is printed over parts h.
+returns-in-Accesses-clause-after g c = λ printed over parts h.
     let old = c.args.self.now in
     let bits = bits_of c.args.junk in
     let made = c.in-Accesses.made in
@@ -31,7 +31,7 @@ returns-in-Accesses-clause-after g c = λ is printed over parts h.
     }
 
 pub returns-in-Accesses-clause-bytes : goal.returns-in-Accesses-clause-bytes
-returns-in-Accesses-clause-bytes g c = λ is printed over parts h.
+returns-in-Accesses-clause-bytes g c = λ printed over parts h.
     let old = c.args.self.now in
     let bits = bits_of c.args.junk in
     let made = c.in-Accesses.made in
@@ -48,7 +48,7 @@ returns-in-Accesses-clause-bytes g c = λ is printed over parts h.
     )
 
 pub returns-in-Counts-clause-after : goal.returns-in-Counts-clause-after
-returns-in-Counts-clause-after g c = λ is printed over parts h.
+returns-in-Counts-clause-after g c = λ printed over parts h.
     let old = c.args.self.now in
     let bits = bits_of c.args.junk in
     let e : printed ≡ Counts = sym h.prints ∙ c.in-Counts.is in
@@ -62,7 +62,7 @@ returns-in-Counts-clause-after g c = λ is printed over parts h.
     }
 
 pub returns-in-Counts-clause-bytes : goal.returns-in-Counts-clause-bytes
-returns-in-Counts-clause-bytes g c = λ is printed over parts h.
+returns-in-Counts-clause-bytes g c = λ printed over parts h.
     let e : printed ≡ Counts = sym h.prints ∙ c.in-Counts.is in (
       [],
       sym (append-nil c.args.text.now.bytes),
