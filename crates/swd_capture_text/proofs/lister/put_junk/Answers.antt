@@ -1,11 +1,11 @@
-use Rattle.std.proofs.Common.{◌≡◌, ℕ, ◌-◌, ◌/◌, ◌^◌, ◌≤◌, List, Bool, [], ◌++◌, map, sym, ap, subst, append_assoc, ◌∙◌, arith}
+use Rattle.std.proofs.Common.{◌≡◌, ℕ, ◌-◌, ◌/◌, ◌^◌, ◌≤◌, [], ◌++◌, map, sym, ap, subst, append_assoc, ◌∙◌, arith}
 use Rattle.std.proofs.lemmas.List.{append-nil, map-append}
 use Rattle.swd_io.specs.Blocks.{Sends}
 use Rattle.swd_bits.specs.Bits.{low_bits}
 use Rattle.swd_trace.proofs.NumberLemmas.{no_bits, parted}
 use Rattle.swd_trace.specs.declared.item.Item.TheVariants.{Junk}
 use Rattle.swd_resync.specs.declared.part.Part.TheVariants.{Item as Told}
-use Rattle.swd_capture.specs.Printing.{junk_parts, told}
+use Rattle.swd_capture.specs.Printing.{junk_parts}
 use Rattle.swd_capture_text.specs.Listers.{told_of, Tells}
 use Rattle.swd_capture_text.specs.Readings.{is_over}
 use Rattle.swd_capture_text.proofs.lister.put_junk.Goals as goal
