@@ -1,6 +1,6 @@
 -- The output for the parts of a capture. A trace is a capture whose parts are its items. The text is this project's
 -- choice.
-use Rattle.std.specs.Prelude.{ℕ, zero, suc, Bool, true, false, List, [], ◌∷◌, ◌++◌, Option}
+use Rattle.std.specs.Prelude.{ℕ, zero, suc, Bool, true, false, List, [], ◌∷◌, ◌++◌, map, Option}
 use Rattle.swd_bits.specs.Listing.{port, direction, outcome}
 use Rattle.swd_bits.specs.declared.tx.Tx.{Tx as Transaction}
 use Rattle.swd_trace.specs.declared.item.Item.{Item}
@@ -86,6 +86,10 @@ abbrev pub told : Printed → Bool → List Part → List ℕ
 told (Lines form) over parts = lines_behind form over [] parts
 told Counts over parts = []
 told (Accesses made) over parts = accesses (items_of over parts) (observer_of made)
+
+-- junk bits as parts
+abbrev pub junk_parts : List Bool → List Part
+junk_parts bits = map Told (map Junk bits)
 
 -- the number of rows at the end: those of a table, or one for the lines of the accesses that nothing confirms
 abbrev pub row_count : Printed → ℕ

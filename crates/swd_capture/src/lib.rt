@@ -13,4 +13,4 @@ mod teller;
 pub use laws::rows_are_named_by_kind;
 pub use printed::{LineForm, Printed};
 pub use table::ROWS;
-pub use teller::{LONGEST_ENTRY, Teller};
+pub use teller::{LONGEST_ENTRY, MOST_JUNK, Teller};

@@ -1,5 +1,5 @@
 //! Counts the parts of each kind.
-ghost use Rattle.std.specs.Prelude.{◌≡◌, ◌+◌, ◌-◌, ◌/◌, ◌%◌, ◌^◌, ◌<◌, ◌≤◌, ◌++◌, ◌∷◌, [], length, List};
+ghost use Rattle.std.specs.Prelude.{◌≡◌, ◌+◌, ◌-◌, ◌/◌, ◌%◌, ◌^◌, ◌<◌, ◌≤◌, ◌++◌, ◌∷◌, [], length, Bool, List};
 ghost use Rattle.arrayvec.specs.ArrayString.{array_string_len};
 ghost use Rattle.swd_resync.specs.declared.part.Part.{Part};
 ghost use Rattle.swd_trace.specs.declared.item.Item.TheVariants.{Tx as TxItem};
@@ -18,6 +18,9 @@ pub const ROWS: usize = 86;
 
 // The number of rows of transactions.
 const TRANSACTION_ROWS: usize = 80;
+
+// The row of junk bits.
+const JUNK_ROW: usize = 83;
 
 /// The most bytes of a row's line, with its line feed.
 pub(crate) const LONGEST_ROW: usize = 40;
@@ -86,7 +89,7 @@ fn row_of_item(item: &Item) -> usize
         Item::Reset(_) => 80,
         Item::Switch => 81,
         Item::Idle(_) => 82,
-        Item::Junk(_) => 83,
+        Item::Junk(_) => JUNK_ROW,
         Item::Cut(_) => 84,
     }
 }
@@ -195,6 +198,7 @@ fn push_row_line<const N: usize>(text: &mut ArrayString<N>, count: u64, row: usi
 }
 
 impl Table {
+    ghost use Rattle.swd_capture.specs.Printing.{junk_parts};
     ghost use Rattle.swd_capture.specs.Tables.{IsTableOf, row_text};
 
     /// Returns an empty table.
@@ -210,6 +214,14 @@ impl Table {
     {
         let row = row_of_part(part);
         self.counts[row] = self.counts[row].saturating_add(weight_of_part(part));
+    }
+
+    /// Counts junk bits, each of them a part.
+    pub(crate) fn add_junk(&mut self, count: u8)
+        ensures { (parts : List Part) (bits : List Bool) → length bits ≡ count → IsTableOf parts self.old
+            → IsTableOf (parts ++ junk_parts bits) self.new }
+    {
+        self.counts[JUNK_ROW] = self.counts[JUNK_ROW].saturating_add(u64::from(count));
     }
 
     /// Appends a row's line and its line feed. Appends nothing if the count is 0.

@@ -1,9 +1,10 @@
 //! Prints the parts of a capture one after another.
-ghost use Rattle.std.specs.Prelude.{◌≡◌, ◌+◌, ◌-◌, ◌^◌, ◌<◌, ◌≤◌, ◌++◌, ◌∷◌, [], List, Bool, length, min};
+ghost use Rattle.std.specs.Prelude.{◌≡◌, ℕ, ◌+◌, ◌-◌, ◌^◌, ◌<◌, ◌≤◌, ◌++◌, ◌∷◌, [], List, Bool, length, min};
 ghost use Rattle.arrayvec.specs.ArrayString.{array_string_len};
 ghost use Rattle.swd_resync.specs.declared.part.Part.{Part};
 ghost use Rattle.swd_resync.specs.AsItems.{items_of_part};
-ghost use Rattle.swd_trace.specs.Texts.{bits_of_items};
+ghost use Rattle.swd_trace.specs.Texts.{bits_of_items, item_line};
+ghost use Rattle.swd_trace.specs.declared.item.Item.TheVariants.{Junk};
 ghost use Rattle.swd_capture.specs.declared.printed.Printed.{Printed};
 ghost use Rattle.swd_capture.specs.Names.{select_from};
 ghost use Rattle.swd_capture.specs.Printing.{first_observer, line_if, part_text, place_if};
@@ -13,6 +14,7 @@ use crate::names::{LONGEST_NAMED, push_named, selected_after};
 use crate::printed::{LineForm, Printed};
 use crate::table::{ROWS, Table};
 use arrayvec::ArrayString;
+use swd_bits::TxBits;
 use swd_observer::TraceObserver;
 use swd_observer_text::{push_last, watch_part};
 use swd_port::Select;
@@ -24,6 +26,12 @@ const LONGEST_PLACE: usize = 22;
 
 /// The most bytes printed for one part, or for one row at the end.
 pub const LONGEST_ENTRY: usize = LONGEST_PLACE + LONGEST_LINE + 1;
+
+/// The most junk bits that one call takes.
+pub const MOST_JUNK: u8 = 8;
+
+// The most bytes of a junk bit's line, with its place and its line feed.
+const LONGEST_JUNK: usize = LONGEST_PLACE + 7;
 
 /// A printer of the parts of a capture. It takes one part after another, and appends the output of each to a text. It
 /// allocates nothing.
@@ -90,6 +98,15 @@ fn push_part_line<const N: usize>(
     }
 }
 
+// Returns the line of a junk bit, with its line feed.
+#[inline(always)]
+fn junk_line(bit: bool) -> &'static str
+    ensures bytes { result.now ≡ item_line (Junk bit) ++ 10 ∷ [] }
+    ensures len { length result.now ≡ 7 }
+{
+    if bit { "junk 1\n" } else { "junk 0\n" }
+}
+
 // Returns what is known of SELECT after a part.
 fn selected_behind(select: Option<Select>, over: bool, part: &Part) -> Option<Select>
     ensures { result ≡ select_from select (items_of_part over part.now) }
@@ -123,7 +140,10 @@ fn observer_of_printed(printed: Printed) -> TraceObserver
 }
 
 impl Teller {
-    ghost use Rattle.swd_capture.specs.Printing.{end_row_text, entry, row_count};
+    ghost use Rattle.swd_bits.specs.BitLists.{bits_of};
+    ghost use Rattle.swd_capture.specs.Printing.{end_row_text, entry, junk_parts, row_count, told};
+    ghost use Rattle.swd_capture.specs.declared.printed.Printed.TheVariants.{Lines};
+    ghost use Rattle.swd_resync.specs.declared.part.Part.TheVariants.{Item as Told};
     ghost use Rattle.swd_capture.specs.Tellers.{IsAfter};
 
     /// Returns a teller that was given no parts. `over` says that the host uses overrun detection (IHI 0031, B4), so
@@ -155,6 +175,76 @@ impl Teller {
             Printed::Counts => self.table.add(part),
             Printed::Accesses { .. } => watch_part(&mut self.observer, self.over, part, text),
         }
+    }
+
+    /// Takes junk bits, each of them the next part of a trace, and appends their output to `text`. `tell` does the same
+    /// for one of them; this call is faster.
+    pub fn tell_junk<const N: usize>(&mut self, junk: TxBits, text: &mut ArrayString<N>)
+        requires few { junk.len ≤ MOST_JUNK }
+        requires room { array_string_len text.old + LONGEST_ENTRY ≤ N }
+        ensures after { (printed : Printed) (over : Bool) (parts : List Part) → IsAfter printed over parts self.old
+            → IsAfter printed over (parts ++ junk_parts (bits_of junk)) self.new }
+        ensures bytes { (printed : Printed) (over : Bool) (parts : List Part) → IsAfter printed over parts self.old
+            → (more : List ℕ) × (text.new.bytes ≡ text.old.bytes ++ more)
+            × (told printed over (parts ++ junk_parts (bits_of junk)) ≡ told printed over parts ++ more) }
+        ensures len { array_string_len text.new ≤ array_string_len text.old + LONGEST_ENTRY }
+    {
+        match self.printed {
+            Printed::Lines(form) => self.tell_junk_lines(form, junk, text),
+            Printed::Counts => self.table.add_junk(junk.len),
+            Printed::Accesses { .. } => {
+                // After the first of them nothing is known of the target.
+                let bits = Part::Skip(u64::from(junk.len));
+                watch_part(&mut self.observer, self.over, &bits, text);
+            }
+        }
+    }
+
+    // Appends the lines of junk bits, and updates place and SELECT.
+    fn tell_junk_lines<const N: usize>(
+        &mut self,
+        form: LineForm,
+        junk: TxBits,
+        text: &mut ArrayString<N>,
+    )
+        requires few { junk.len ≤ MOST_JUNK }
+        requires room { array_string_len text.old + LONGEST_ENTRY ≤ N }
+        ensures after { (over : Bool) (parts : List Part) → IsAfter (Lines form) over parts self.old
+            → IsAfter (Lines form) over (parts ++ junk_parts (bits_of junk)) self.new }
+        ensures bytes { (over : Bool) (parts : List Part) → IsAfter (Lines form) over parts self.old
+            → (more : List ℕ) × (text.new.bytes ≡ text.old.bytes ++ more)
+            × (told (Lines form) over (parts ++ junk_parts (bits_of junk)) ≡ told (Lines form) over parts ++ more) }
+        ensures len { array_string_len text.new ≤ array_string_len text.old + LONGEST_ENTRY }
+    {
+        let mut bits = junk.bits;
+        let mut left = junk.len;
+        while left > 0 {
+            self.tell_junk_line(form, bits % 2 == 1, text);
+            bits /= 2;
+            left -= 1;
+        }
+    }
+
+    // Appends the line of a junk bit, and updates place and SELECT.
+    #[inline(always)]
+    fn tell_junk_line<const N: usize>(
+        &mut self,
+        form: LineForm,
+        bit: bool,
+        text: &mut ArrayString<N>,
+    )
+        requires { array_string_len text.old + LONGEST_JUNK ≤ N }
+        ensures after { (over : Bool) (parts : List Part) → IsAfter (Lines form) over parts self.old
+            → IsAfter (Lines form) over (parts ++ Told (Junk bit) ∷ []) self.new }
+        ensures bytes { (over : Bool) (parts : List Part) → IsAfter (Lines form) over parts self.old
+            → text.new.bytes ≡ text.old.bytes ++ entry (Lines form) over parts (Told (Junk bit)) }
+        ensures len { array_string_len text.new ≤ array_string_len text.old + LONGEST_JUNK }
+    {
+        let place = self.place;
+        push_place(text, form.places, place);
+        text.push_str(junk_line(bit));
+        self.place = place.saturating_add(1);
+        self.select = None;
     }
 
     // Appends the part's line, and updates place and SELECT.

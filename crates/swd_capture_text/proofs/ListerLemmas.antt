@@ -65,16 +65,16 @@ one_more contents start before after told_before told_after old new bits parts p
       (sym (told_more start.printed (is_over start.reading) parts part)) (sends h.after h.sends);
 }
 
--- one more bit is taken
+-- more bits are taken
 pub more_bits : {W : Type 0} (contents : W → Option (List ℕ)) (start : Start) (before after : Source) (teller : Teller)
-    (block : Block W) (bits : List Bool) (parts : List Part) (bit : Bool) →
-    (Has start.reading before bits parts → Has start.reading after (bits ++ bit ∷ []) parts) →
-    fed_of after ≡ fed_of before + 1 → fed_of before + 1 < 2 ^ 64 →
+    (block : Block W) (bits : List Bool) (parts : List Part) (next : List Bool) →
+    (Has start.reading before bits parts → Has start.reading after (bits ++ next) parts) →
+    fed_of after ≡ fed_of before + length next → fed_of before + length next < 2 ^ 64 →
     Lists contents start before teller block bits parts →
-    Lists contents start after teller block (bits ++ bit ∷ []) parts
-more_bits contents start before after teller block bits parts bit takes fed few h =
+    Lists contents start after teller block (bits ++ next) parts
+more_bits contents start before after teller block bits parts next takes fed few h =
     let count = h.count in
-    let len : length (bits ++ bit ∷ []) ≡ length bits + 1 = length-append bits (bit ∷ []) in
+    let len : length (bits ++ next) ≡ length bits + length next = length-append bits next in
     record {
       has = takes h.has;
       count = omega arith;

@@ -1,6 +1,6 @@
 -- Laws of a decoder of either reading.
 use Rattle.std.proofs.Common.{◌≡◌, ◌<◌, Bool, false, List, [], ◌∷◌, ◌++◌, map, refl, sym, ap, ◌∙◌}
-use Rattle.std.specs.Prelude.{Option, None, Some, IfNone}
+use Rattle.std.specs.Prelude.{Option, None, Some, IfSome, IfNone}
 use Rattle.std.proofs.lemmas.List.{append-nil, map-append}
 use Rattle.swd_trace.specs.declared.item.Item.{Item}
 use Rattle.swd_trace.specs.declared.item.Item.TheVariants.{Reset, Switch, Idle, Tx, Junk, Cut}
@@ -33,13 +33,18 @@ ends_at Trace (OfCapture d) bits parts h = absurd h
 ends_at (Capture over) (OfTrace d) bits parts h = absurd h
 ends_at (Capture over) (OfCapture d) bits parts h = h [] ∙ ap (parts_of over) (append-nil bits)
 
--- one more item is given
-pub gives_item : (reading : Reading) (old new : Decoder) (bits : List Bool) (parts : List Part) (item : Item)
-    → ((items : List Item) → trace.HasRead old bits items → trace.HasRead new bits (items ++ item ∷ []))
-    → Has reading (OfTrace old) bits parts → Has reading (OfTrace new) bits (parts ++ Told item ∷ [])
-gives_item Trace old new bits parts item f h =
-    (h.0 ++ item ∷ [], ap (λ p. p ++ Told item ∷ []) h.1 ∙ sym (map-append Told h.0 (item ∷ [])), f h.0 h.2)
-gives_item (Capture over) old new bits parts item f h = absurd h
+-- more items are given
+pub gives_items : (reading : Reading) (old new : Decoder) (bits : List Bool) (parts : List Part) (more : List Item)
+    → ((items : List Item) → trace.HasRead old bits items → trace.HasRead new bits (items ++ more))
+    → Has reading (OfTrace old) bits parts → Has reading (OfTrace new) bits (parts ++ map Told more)
+gives_items Trace old new bits parts more f h =
+    (h.0 ++ more, ap (λ p. p ++ map Told more) h.1 ∙ sym (map-append Told h.0 more), f h.0 h.2)
+gives_items (Capture over) old new bits parts more f h = absurd h
+
+-- what follows from a fact of a Some
+pub if_some : {A : Type 0} {P Q : A → Type 0} (r : Option A) → ((a : A) → P a → Q a) → IfSome r P → IfSome r Q
+if_some (Some x) f p = f x p
+if_some None f p = tt
 
 -- no part is due behind these bits: so these are the parts that they decide
 pub still_capture : (old new : CaptureDecoder)

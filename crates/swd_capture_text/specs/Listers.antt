@@ -32,6 +32,11 @@ told_of start parts = told start.printed (is_over start.reading) parts
 abbrev pub IsBehind : Start → List Part → Teller → Type 0
 IsBehind start parts teller = IsAfter start.printed (is_over start.reading) parts teller
 
+-- a teller was given these parts, and their output is queued or written
+abbrev pub Tells : {W : Type 0} → (W → Option (List ℕ)) → Start → Teller → Block W → List Part → Type 0
+Tells contents start teller block parts =
+    IsBehind start parts teller × Sends contents start.from block (told_of start parts)
+
 -- A source has these bits and parts, and a teller was given the parts. Their output is queued or written.
 pub record Lists {W : Type 0} (contents : W → Option (List ℕ)) (start : Start) (source : Source) (teller : Teller)
     (block : Block W) (bits : List Bool) (parts : List Part) : Type 0 where

@@ -1,14 +1,17 @@
 //! Prints a trace text piece by piece.
-ghost use Rattle.std.specs.Prelude.{◌≡◌, ℕ, ◌+◌, ◌-◌, ◌^◌, ◌<◌, min, List, Bool, false, [], ◌∷◌, ◌++◌};
-ghost use Rattle.std.specs.Prelude.{length, OnOk, OnErr, IfErr};
+ghost use Rattle.std.specs.Prelude.{◌≡◌, ℕ, ◌+◌, ◌-◌, ◌^◌, ◌<◌, ◌≤◌, min, List, Bool, true, false, [], ◌∷◌, ◌++◌};
+ghost use Rattle.std.specs.Prelude.{length, take, OnOk, OnErr, IfErr};
 ghost use Rattle.swd_io.specs.Blocks.{Sends};
 ghost use Rattle.swd_io.specs.Pieces.{LeadsOn, LeadsToEnd};
 ghost use Rattle.swd_io.proofs.PieceLemmas.{leads_nowhere, leads_further, leads_to_later_end};
+ghost use Rattle.swd_bits.specs.Bits.{low_bits};
+ghost use Rattle.swd_bits.specs.BitLists.{bits_of};
 ghost use Rattle.swd_resync.specs.declared.part.Part.{Part};
 ghost use Rattle.swd_text.specs.Listers.{StopsAt};
+ghost use Rattle.swd_capture.specs.Printing.{junk_parts};
 ghost use Rattle.swd_capture.specs.Tellers.{IsAfter};
 ghost use Rattle.swd_capture_text.specs.Captures.{Finishes};
-ghost use Rattle.swd_capture_text.specs.Listers.{Start, IsBehind, told_of, Lists, GoesOn, Listed, HasRead, StopsIn};
+ghost use Rattle.swd_capture_text.specs.Listers.{Start, IsBehind, told_of, Tells, Lists, GoesOn, Listed, HasRead, StopsIn};
 ghost use Rattle.swd_capture_text.specs.Listers.{Ends};
 ghost use Rattle.swd_capture_text.specs.Readings.{Decides, is_over, parts_by};
 ghost use Rattle.swd_capture_text.specs.Sources.{Has, IsReady, fed_of};
@@ -18,11 +21,14 @@ use crate::reading::Reading;
 use crate::source::Source;
 use arrayvec::ArrayString;
 use std::io::Write;
-use swd_bits::{Scan, Sign};
-use swd_capture::{LONGEST_ENTRY, Printed, Teller};
+use swd_bits::{Scan, Sign, TxBits};
+use swd_capture::{LONGEST_ENTRY, MOST_JUNK, Printed, Teller};
 use swd_io::{Block, Consumer};
 use swd_resync::Part;
-use swd_text::{TakeFault, TextFault};
+use swd_text::{TakeFault, TextFault, WIDTH, comment_len, digits_of};
+
+// The most bits fed before digits are taken 64 at once, so that the count can't overflow.
+const MOST_FED: u64 = u64::MAX - WIDTH as u64;
 
 /// A consumer of a trace text. It writes the output of each part as soon as the part is decided.
 #[derive(Drop)]
@@ -36,6 +42,30 @@ pub(crate) struct Lister {
     written: u64,
     // A buffer for one part's output. It is kept, since a new one for each part takes time.
     line: ArrayString<LONGEST_ENTRY>,
+}
+
+// Also queues the output of junk bits, each of them a part.
+#[inline(never)]
+fn put_junk<W: Write>(
+    block: &mut Block<'_, W>,
+    line: &mut ArrayString<LONGEST_ENTRY>,
+    teller: &mut Teller,
+    junk: TxBits,
+)
+    ensures tells { (start : Start) (parts : List Part) → Tells W.contents start teller.old block.old parts
+        → Tells W.contents start teller.new block.new (parts ++ junk_parts (bits_of junk)) }
+    ensures writer { block.new.writer.ghost_name ≡ block.old.writer.ghost_name }
+{
+    let mut bits = junk.bits;
+    let mut left = junk.len;
+    while left > 0 {
+        let count = left.min(MOST_JUNK);
+        line.clear();
+        teller.tell_junk(TxBits { len: count, bits }, line);
+        block.put(line.as_str().as_bytes());
+        bits >>= count;
+        left -= count;
+    }
 }
 
 impl Lister {
@@ -59,6 +89,21 @@ impl Lister {
         }
     }
 
+    // Also queues the output of the junk bits that are due.
+    #[inline(always)]
+    fn put_lost<W: Write>(&mut self, block: &mut Block<'_, W>)
+        ensures lists { (start : Start) (bits : List Bool) (parts : List Part)
+            → Lists W.contents start self.old.source self.old.teller block.old bits parts
+            → (more : List Part) × Lists W.contents start self.new.source self.new.teller block.new bits more }
+        ensures scan { self.new.scan ≡ self.old.scan }
+        ensures place { self.new.place ≡ self.old.place }
+        ensures writer { block.new.writer.ghost_name ≡ block.old.writer.ghost_name }
+    {
+        if let Some(junk) = self.source.due_junk() {
+            put_junk(block, &mut self.line, &mut self.teller, junk);
+        }
+    }
+
     // Also queues the output of the parts that are due.
     fn put_due<W: Write>(&mut self, block: &mut Block<'_, W>)
         ensures lists { (start : Start) (bits : List Bool) (parts : List Part)
@@ -70,6 +115,7 @@ impl Lister {
         ensures place { self.new.place ≡ self.old.place }
         ensures writer { block.new.writer.ghost_name ≡ block.old.writer.ghost_name }
     {
+        self.put_lost(block);
         while let Some(part) = self.source.due() {
             put_part(block, &mut self.line, &mut self.teller, &part);
         }
@@ -129,6 +175,79 @@ impl Lister {
         }
     }
 
+    // Returns whether digits at the front of a text may be taken at once. They may not in a comment, in a short text,
+    // before a blank, or where the count of bits might overflow. The bytes are then taken one by one.
+    #[inline]
+    fn may_take_digits(&self, text: &[u8]) -> bool
+        ensures long { result ≡ true → WIDTH ≤ length text.now }
+        ensures outside { result ≡ true → self.now.scan ≡ false }
+        ensures room { result ≡ true → fed_of self.now.source + WIDTH < 2 ^ 64 }
+    {
+        text.len() >= WIDTH
+            && text[0] >= b'0'
+            && !self.scan.in_comment()
+            && self.source.fed() <= MOST_FED
+    }
+
+    // Takes one or more of the lowest `count` bits, and returns how many.
+    fn bits_at_once<W: Write>(&mut self, block: &mut Block<'_, W>, bits: u64, count: u8) -> u8
+        requires ready { IsReady self.old.source }
+        requires some { 0 < count }
+        requires within { count ≤ 64 }
+        requires room { fed_of self.old.source + count < 2 ^ 64 }
+        ensures most { result ≤ count }
+        ensures lists { (start : Start) (before : List Bool) (parts : List Part)
+            → Lists W.contents start self.old.source self.old.teller block.old before parts
+            → (more : List Part)
+            × Lists W.contents start self.new.source self.new.teller block.new (before ++ low_bits result bits) more
+            × Decides start.reading (before ++ low_bits result bits) more }
+        ensures ready { IsReady self.new.source }
+        ensures scan { self.new.scan ≡ self.old.scan }
+        ensures place { self.new.place ≡ self.old.place }
+        ensures writer { block.new.writer.ghost_name ≡ block.old.writer.ghost_name }
+    {
+        let taken = self.source.take_bits(bits, count);
+        self.put_due(block);
+        taken
+    }
+
+    // Takes digits at the front of a text at once, and returns how many: 0 or more.
+    fn digits<W: Write>(&mut self, block: &mut Block<'_, W>, text: &[u8]) -> usize
+        requires { IsReady self.old.source }
+        ensures ready { IsReady self.new.source }
+        ensures place { self.new.place ≡ self.old.place }
+        ensures writer { block.new.writer.ghost_name ≡ block.old.writer.ghost_name }
+        ensures within { result ≤ length text.now }
+        ensures taken { (start : Start) (seen : List ℕ) → GoesOn W.contents start self.old block.old seen
+            → GoesOn W.contents start self.new block.new (seen ++ take result text.now) }
+    {
+        if !self.may_take_digits(text) {
+            return 0;
+        }
+        let digits = digits_of(text);
+        if digits.count == 0 {
+            return 0;
+        }
+        usize::from(self.bits_at_once(block, digits.bits, digits.count))
+    }
+
+    // Takes bytes at the front of a text at once, and returns how many: those of an open comment, or digits, or 0.
+    #[inline(always)]
+    fn bytes_at_once<W: Write>(&mut self, block: &mut Block<'_, W>, text: &[u8]) -> usize
+        requires { IsReady self.old.source }
+        ensures ready { IsReady self.new.source }
+        ensures place { self.new.place ≡ self.old.place }
+        ensures writer { block.new.writer.ghost_name ≡ block.old.writer.ghost_name }
+        ensures within { result ≤ length text.now }
+        ensures taken { (start : Start) (seen : List ℕ) → GoesOn W.contents start self.old block.old seen
+            → GoesOn W.contents start self.new block.new (seen ++ take result text.now) }
+    {
+        if self.scan.in_comment() {
+            return comment_len(text);
+        }
+        self.digits(block, text)
+    }
+
     // Takes the bytes of a piece, up to the first one that isn't allowed.
     fn bytes<W: Write>(&mut self, block: &mut Block<'_, W>, piece: &[u8]) -> Result<(), TextFault>
         requires { IsReady self.old.source }
@@ -145,6 +264,11 @@ impl Lister {
     {
         let mut index = 0;
         while index < piece.len() {
+            let taken = self.bytes_at_once(block, &piece[index..]);
+            if taken > 0 {
+                index += taken;
+                continue;
+            }
             if let Err(fault) = self.byte(block, piece[index], index) {
                 return Err(fault);
             }

@@ -1,5 +1,6 @@
 //! Decodes bits to parts, by either reading.
 use crate::reading::Reading;
+use swd_bits::TxBits;
 use swd_resync::{CaptureDecoder, Part};
 use swd_trace::Decoder;
 
@@ -13,8 +14,11 @@ pub enum Source {
 }
 
 impl Source {
-    ghost use Rattle.std.specs.Prelude.{◌≡◌, ◌+◌, ◌-◌, ◌^◌, ◌<◌, List, Bool, [], ◌∷◌, ◌++◌, IfSome, IfNone};
+    ghost use Rattle.std.specs.Prelude.{◌≡◌, ◌+◌, ◌-◌, ◌^◌, ◌<◌, ◌≤◌, List, Bool, [], ◌∷◌, ◌++◌, IfSome, IfNone};
+    ghost use Rattle.swd_bits.specs.Bits.{low_bits};
+    ghost use Rattle.swd_bits.specs.BitLists.{bits_of};
     ghost use Rattle.swd_resync.specs.declared.part.Part;
+    ghost use Rattle.swd_capture.specs.Printing.{junk_parts};
     ghost use Rattle.swd_capture_text.specs.declared.reading.Reading;
     ghost use Rattle.swd_capture_text.specs.Readings.{Decides, parts_by};
     ghost use Rattle.swd_capture_text.specs.Sources.{EndsAt, Has, IsReady, fed_of, steps_left};
@@ -58,6 +62,26 @@ impl Source {
         }
     }
 
+    /// Takes one or more of the lowest `count` bits, the least significant first, and returns how many. Take every part
+    /// that is due first.
+    #[inline(always)]
+    pub(crate) fn take_bits(&mut self, bits: u64, count: u8) -> u8
+        requires ready { IsReady self.old }
+        requires some { 0 < count }
+        requires within { count ≤ 64 }
+        requires room { fed_of self.old + count < 2 ^ 64 }
+        ensures has { (reading : Reading) (before : List Bool) (parts : List Part)
+            → Has reading self.old before parts → Has reading self.new (before ++ low_bits result bits) parts }
+        ensures some { 0 < result }
+        ensures most { result ≤ count }
+        ensures fed { fed_of self.new ≡ fed_of self.old + result }
+    {
+        match self {
+            Source::Trace(decoder) => decoder.take_bits(bits, count),
+            Source::Capture(decoder) => decoder.take_bits(bits, count),
+        }
+    }
+
     /// Returns the next part, which no later bits can change. Returns `None` if it needs more bits.
     #[inline(always)]
     pub fn due(&mut self) -> Option<Part>
@@ -75,6 +99,21 @@ impl Source {
                 None => None,
             },
             Source::Capture(decoder) => decoder.due(),
+        }
+    }
+
+    /// Returns junk bits that are the next parts of a trace, each of them one. `None` says nothing about what is due, and
+    /// changes nothing. `due` returns the same parts one by one.
+    #[inline(always)]
+    pub(crate) fn due_junk(&mut self) -> Option<TxBits>
+        ensures junk { IfSome result (λ found. (reading : Reading) (bits : List Bool) (parts : List Part)
+            → Has reading self.old bits parts → Has reading self.new bits (parts ++ junk_parts (bits_of found))) }
+        ensures none { IfNone result (self.new ≡ self.old) }
+        ensures fed { fed_of self.new ≡ fed_of self.old }
+    {
+        match self {
+            Source::Trace(decoder) => decoder.due_junk(),
+            Source::Capture(_) => None,
         }
     }
 

@@ -3,6 +3,7 @@ use Rattle.std.proofs.Common.{◌≡◌, ◌≢◌, ℕ, zero, suc, ◌+◌, ◌
 use Rattle.std.proofs.Common.{◌∷◌, ◌++◌, length, drop, replicate, arith, refl, sym, ap, ◌∙◌, subst}
 use Rattle.std.specs.Prelude.{if◌then◌else◌, Some, None}
 use Rattle.std.proofs.lemmas.List.{append_assoc, append-nil, length-append, drop_at, drop_all, drop-append-le}
+use Rattle.std.proofs.lemmas.List.{length-replicate}
 use Rattle.swd_bits.specs.Bits.{number}
 use Rattle.swd_bits.specs.BitLists.{bits_of, IsSpelled}
 use Rattle.swd_bits.specs.declared.tx_bits.TxBits.{TxBits}
@@ -19,7 +20,7 @@ use Rattle.swd_resync.specs.declared.stage.Stage.{Stage}
 use Rattle.swd_resync.specs.declared.stage.Stage.TheVariants.{Start, Stretch, Reset as InReset, AfterReset as BehindReset}
 use Rattle.swd_resync.specs.declared.stage.Stage.TheVariants.{AfterSwitch as BehindSwitch, Between as Skipping}
 use Rattle.swd_resync.specs.declared.stage.Move.{Move}
-use Rattle.swd_resync.specs.Parts.{first_at, with_phase, past_zeros, begins, begins_at_start, followed, in_stretch}
+use Rattle.swd_resync.specs.Parts.{first_at, with_phase, past_zeros, begins, gap, begins_at_start, followed, in_stretch}
 use Rattle.swd_resync.specs.Parts.{InStretch, Between, told, skipped, step, parts, place_after}
 use Rattle.swd_resync.specs.Judged.{tx_step}
 use Rattle.swd_resync.specs.Sights.{May, IsTxSeen}
@@ -27,8 +28,8 @@ use Rattle.swd_resync.specs.Stages.{idle_rest, reset_rest, skip_rest, rest_at, c
 use Rattle.swd_resync.proofs.PartLemmas.{parts_none, from_step}
 use Rattle.swd_resync.proofs.StepLemmas.{gap_here}
 use Rattle.swd_resync.proofs.JudgeLemmas.{near_of, near_more, nothing}
-use Rattle.swd_resync.proofs.StageLemmas.{idle_zero, fifty, skip_more, skip_end}
-use Rattle.swd_resync.proofs.StageLemmas.{stretch_from, lost_between, junk_skipped, cut_told, tx_moves, start_zero, start_at}
+use Rattle.swd_resync.proofs.StageLemmas.{idle_zeros, reset_ones, fifty, skip_more, skip_many, skip_end}
+use Rattle.swd_resync.proofs.StageLemmas.{stretch_from, lost_between, junk_skipped, cut_told, tx_moves, start_zeros, start_at}
 
 -- ---- no step
 
@@ -58,18 +59,30 @@ rank_skip : (n : ℕ) → rank (Skipping n) < 5
 rank_skip zero = omega arith
 rank_skip (suc n) = omega arith
 
-pub start_passes : (over ended : Bool) (n : ℕ) (bits back : List Bool) → bits ≡ false ∷ back
-    → IsMove over ended (Start n) bits (record { count = 1; stage = Start (n + 1); part = None })
-start_passes over ended n bits back e =
-    let l : length bits ≡ suc (length back) = ap length e in
+-- a run of equal bits, in stages that count them
+run_passes : (over ended : Bool) (old new : Stage) (k : ℕ) (bit : Bool) (bits back : List Bool)
+    → bits ≡ replicate k bit ++ back → 0 < k → k ≤ 50 → counted new ≤ counted old + k → rank new ≤ rank old + 5
+    → ((x : List Bool) → rest_at over old (replicate k bit ++ x) ≡ rest_at over new x)
+    → IsMove over ended old bits (record { count = k; stage = new; part = None })
+run_passes over ended old new k bit bits back e some short c r s =
+    let l : length bits ≡ length (replicate k bit) + length back = ap length e ∙ length-append (replicate k bit) back in
+    let n : length (replicate k bit) ≡ k = length-replicate k bit in
+    let behind : drop k bits ≡ back = ap (drop k) e ∙ drop_at (replicate k bit) back k n in
     record {
       fits = omega arith;
-      short = omega arith;
-      count = omega arith;
+      short = short;
+      count = c;
       fewer = omega arith;
-      law = λ more may. ap (λ x. rest_at over (Start n) (x ++ more)) e ∙ start_zero over n (back ++ more)
-          ∙ ap (λ x. rest_at over (Start (n + 1)) (drop 1 x ++ more)) (sym e);
+      law = λ more may. ap (λ x. rest_at over old (x ++ more)) e
+          ∙ ap (rest_at over old) (append_assoc (replicate k bit) back more) ∙ s (back ++ more)
+          ∙ ap (λ x. rest_at over new (x ++ more)) (sym behind);
     }
+
+pub start_passes : (over ended : Bool) (n k : ℕ) (bits back : List Bool) → bits ≡ replicate k false ++ back → 0 < k
+    → k ≤ 50 → IsMove over ended (Start n) bits (record { count = k; stage = Start (n + k); part = None })
+start_passes over ended n k bits back e some short =
+    run_passes over ended (Start n) (Start (n + k)) k false bits back e some short (omega arith) (omega arith)
+    (start_zeros over n k)
 
 pub start_stretches : (over ended : Bool) (n : ℕ) (bits : List Bool) (m : Move)
     → m ≡ record { count = 0; stage = Stretch n; part = None }
@@ -118,18 +131,19 @@ start_from over bits f e i = start_at over bits f (no_zero over bits (ap (λ g. 
 
 -- ---- in a stretch
 
-pub stretch_idles : (over ended : Bool) (bits back : List Bool) → bits ≡ false ∷ back
-    → IsMove over ended (Stretch 0) bits (record { count = 1; stage = Stretch 1; part = None })
-stretch_idles over ended bits back e =
-    let l : length bits ≡ suc (length back) = ap length e in
-    record {
-      fits = omega arith;
-      short = omega arith;
-      count = omega arith;
-      fewer = omega arith;
-      law = λ more may. ap (λ x. idle_rest over 0 (x ++ more)) e ∙ idle_zero over 0 (back ++ more)
-          ∙ ap (λ x. idle_rest over 1 (drop 1 x ++ more)) (sym e);
-    }
+pub stretch_idles : (over ended : Bool) (n k : ℕ) (bits back : List Bool) → bits ≡ replicate k false ++ back → 0 < k
+    → k ≤ 50 → IsMove over ended (Stretch n) bits (record { count = k; stage = Stretch (n + k); part = None })
+stretch_idles over ended n k bits back e some short =
+    let r = rank_stretch (n + k) in
+    run_passes over ended (Stretch n) (Stretch (n + k)) k false bits back e some short (omega arith) (omega arith)
+    (idle_zeros over n k)
+
+-- ones of a reset
+pub reset_grows : (over ended : Bool) (n k : ℕ) (bits back : List Bool) → bits ≡ replicate k true ++ back → 0 < k
+    → k ≤ 50 → IsMove over ended (InReset n) bits (record { count = k; stage = InReset (n + k); part = None })
+reset_grows over ended n k bits back e some short =
+    run_passes over ended (InReset n) (InReset (n + k)) k true bits back e some short (omega arith) (omega arith)
+    (reset_ones over n k)
 
 -- fifty ones, in the stages that a mode stands for
 pub ones_pass : (over ended : Bool) (stage : Stage) (mode : Mode) (bits back : List Bool) → bits ≡ replicate 50 true ++ back
@@ -339,6 +353,24 @@ stretch_begun over ended zero bits m e h t = subst (IsMove over ended (Skipping 
   fewer = omega arith;
   law = λ more may. stretch_from over (bits ++ more) (t more may);
 })
+
+-- bits before the next stretch, whatever follows
+pub skip_before : (over ended : Bool) (n k : ℕ) (front back bits : List Bool) → bits ≡ front ++ back → 0 < k
+    → k ≤ length front → k ≤ 50 → ((x : List Bool) → k ≤ gap over (front ++ x))
+    → IsMove over ended (Skipping n) bits (record { count = k; stage = Skipping (n + k); part = None })
+skip_before over ended n k front back bits e some fits short far =
+    let r = rank_skip (n + k) in
+    let l : length bits ≡ length front + length back = ap length e ∙ length-append front back in
+    record {
+      fits = omega arith;
+      short = short;
+      count = omega arith;
+      fewer = omega arith;
+      law = λ more may.
+          let joined : bits ++ more ≡ front ++ (back ++ more) = ap (λ x. x ++ more) e ∙ append_assoc front back more in
+          skip_many over n k (bits ++ more) (subst (λ x. k ≤ gap over x) (sym joined) (far (back ++ more)))
+          ∙ ap (skip_rest over (n + k)) (drop-append-le k bits more (omega arith));
+    }
 
 pub skip_passes : (over ended : Bool) (n : ℕ) (b : Bool) (back bits : List Bool) → bits ≡ b ∷ back
     → ((more : List Bool) → May ended more → begins over (bits ++ more) ≡ false)

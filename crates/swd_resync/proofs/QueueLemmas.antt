@@ -16,7 +16,7 @@ use Rattle.swd_resync.specs.Parts.{past_zeros}
 use Rattle.swd_resync.specs.declared.queue.Queue.{Queue}
 use Rattle.swd_resync.specs.Queues.{queued, IsFull, IsHeld}
 use Rattle.std.proofs.lemmas.Bool.{cases_lt, eqb-true}
-use Rattle.std.proofs.Common.{inl, inr}
+use Rattle.std.proofs.Common.{inl, inr, subst}
 
 -- a queue's bits, from its numbers
 abbrev pub three : ℕ → ℕ → ℕ → ℕ → ℕ → List Bool
@@ -240,6 +240,99 @@ back_odd back_len back b bit h k e odd one =
         → head_or (low_bits len back ++ bit ∷ []) ≡ true
     head zero odd one = ap (λ x. head_or (x ++ bit ∷ [])) (no_bits zero back refl) ∙ one refl
     head (suc len) odd one = ap (λ x. head_or (x ++ bit ∷ [])) (odd_first (suc len) back (omega arith) (odd (omega arith)))
+
+-- ---- many bits more
+
+-- at the end of the front
+pub front_joined : (len front run back_len back n v : ℕ) → front < 2 ^ len → len + n ≤ 92 → run + back_len ≡ 0
+    → three (len + n) (bit_or (bit_and v (1 * 2 ^ n % 2 ^ 128 - 1) * 2 ^ len % 2 ^ 128) front) run back_len back
+    ≡ three len front run back_len back ++ low_bits n v
+front_joined len front run back_len back n v h room none =
+    let low : bit_and v (1 * 2 ^ n % 2 ^ 128 - 1) ≡ v % 2 ^ n = mask 128 n v (omega arith) in
+    let few : v % 2 ^ n < 2 ^ n = mod-lt v (pow_pos n) in
+    ap (λ w. three (len + n) (bit_or (w * 2 ^ len % 2 ^ 128) front) run back_len back) low
+    ∙ alone (len + n) (bit_or (v % 2 ^ n * 2 ^ len % 2 ^ 128) front) run back_len back none
+    ∙ join 128 len n (v % 2 ^ n) front few h (omega arith) ∙ ap (λ x. low_bits len front ++ x) (low_mod n v)
+    ∙ sym (ap (λ x. x ++ low_bits n v) (alone len front run back_len back none))
+
+pub joined_lt : (w len front n v : ℕ) → front < 2 ^ len → len + n ≤ w → n < w
+    → bit_or (bit_and v (1 * 2 ^ n % 2 ^ w - 1) * 2 ^ len % 2 ^ w) front < 2 ^ (len + n)
+joined_lt w len front n v h room few =
+    subst (λ x. bit_or (x * 2 ^ len % 2 ^ w) front < 2 ^ (len + n)) (sym (mask w n v few))
+    (join_lt w len n (v % 2 ^ n) front (mod-lt v (pow_pos n)) h room)
+
+-- at the end of the run
+pub run_joined : (len front run n m back_len back : ℕ) → back_len ≡ 0 → m ≡ n
+    → three len front (run + m) back_len back ≡ three len front run back_len back ++ replicate n false
+run_joined len front run n m back_len back e same =
+    let none : low_bits back_len back ≡ [] = no_bits back_len back e in
+    ap (λ k. low_bits len front ++ (replicate (run + k) false ++ low_bits back_len back)) same
+    ∙ ap (λ x. low_bits len front ++ (replicate (run + n) false ++ x)) none
+    ∙ ap (λ x. low_bits len front ++ x) (append-nil (replicate (run + n) false)
+    ∙ sym (replicate-append-replicate run n false)
+    ∙ ap (λ x. x ++ replicate n false) (sym (append-nil (replicate run false))
+    ∙ ap (λ x. replicate run false ++ x) (sym none)))
+    ∙ sym (append_assoc (low_bits len front) (replicate run false ++ low_bits back_len back) (replicate n false))
+
+-- behind it
+pub back_joined : (len front run back_len back n v : ℕ) → back < 2 ^ back_len → back_len + n ≤ 63
+    → three len front run (back_len + n) (bit_or (bit_and v (1 * 2 ^ n % 2 ^ 64 - 1) * 2 ^ back_len % 2 ^ 64) back)
+    ≡ three len front run back_len back ++ low_bits n v
+back_joined len front run back_len back n v h room =
+    let few : v % 2 ^ n < 2 ^ n = mod-lt v (pow_pos n) in
+    ap (λ w. three len front run (back_len + n) (bit_or (w * 2 ^ back_len % 2 ^ 64) back)) (mask 64 n v (omega arith))
+    ∙ ap (λ x. low_bits len front ++ (replicate run false ++ x)) (join 64 back_len n (v % 2 ^ n) back few h (omega arith)
+    ∙ ap (λ x. low_bits back_len back ++ x) (low_mod n v))
+    ∙ ap (λ x. low_bits len front ++ x) (sym (append_assoc (replicate run false) (low_bits back_len back) (low_bits n v)))
+    ∙ sym (append_assoc (low_bits len front) (replicate run false ++ low_bits back_len back) (low_bits n v))
+
+-- the bits behind still begin with a one
+pub joined_odd : (back_len back n v : ℕ) → back < 2 ^ back_len → back_len + n ≤ 63 → 0 < back_len + n
+    → (0 < back_len → back % 2 ≡ 1) → (back_len ≡ 0 → v % 2 ≡ 1)
+    → bit_or (bit_and v (1 * 2 ^ n % 2 ^ 64 - 1) * 2 ^ back_len % 2 ^ 64) back % 2 ≡ 1
+joined_odd back_len back n v h room some odd one =
+    let few : v % 2 ^ n < 2 ^ n = mod-lt v (pow_pos n) in
+    let w : ℕ = bit_or (v % 2 ^ n * 2 ^ back_len % 2 ^ 64) back in
+    let all : low_bits (back_len + n) w ≡ low_bits back_len back ++ low_bits n v =
+    join 64 back_len n (v % 2 ^ n) back few h (omega arith) ∙ ap (λ x. low_bits back_len back ++ x) (low_mod n v) in
+    let front : (w % 2 == 1) ∷ low_bits (back_len + n - 1) (w / 2) ≡ low_bits back_len back ++ low_bits n v =
+    sym (next_bit (back_len + n) w some) ∙ all in
+    ap (λ x. bit_or (x * 2 ^ back_len % 2 ^ 64) back % 2) (mask 64 n v (omega arith))
+    ∙ eqb-true (w % 2) 1 (ap head_or front ∙ head back_len odd one some)
+  where
+    head : (len : ℕ) → (0 < len → back % 2 ≡ 1) → (len ≡ 0 → v % 2 ≡ 1) → 0 < len + n
+        → head_or (low_bits len back ++ low_bits n v) ≡ true
+    head zero odd one some =
+        ap (λ x. head_or (x ++ low_bits n v)) (no_bits zero back refl)
+        ∙ ap head_or (odd_first n v (omega arith) (one refl))
+    head (suc len) odd one some =
+        ap (λ x. head_or (x ++ low_bits n v)) (odd_first (suc len) back (omega arith) (odd (omega arith)))
+
+-- ---- a run at the front
+
+pub first_low : (v : ℕ) → low_bits 1 v ≡ (v % 2 == 1) ∷ []
+unfolding low_bits
+first_low v = refl
+
+pub window_run : (len v n : ℕ) (bit : Bool) (back all : List Bool) → all ≡ low_bits len v ++ back → n ≤ len
+    → low_bits n v ≡ replicate n bit → (rest : List Bool) × (all ≡ replicate n bit ++ rest)
+window_run len v n bit back all e h r =
+    let others : List Bool = low_bits (len - n) (v / 2 ^ n) in (
+      others ++ back,
+      e ∙ ap (λ x. x ++ back) (parted n len v h ∙ ap (λ x. x ++ others) r)
+          ∙ append_assoc (replicate n bit) others back,
+    )
+
+pub window_first : (len v : ℕ) (bit : Bool) (back all rest : List Bool) → all ≡ low_bits len v ++ back
+    → (len < 50 → back ≡ []) → all ≡ bit ∷ rest → (0 < len) × (low_bits 1 v ≡ replicate 1 bit)
+window_first zero v bit back all rest e none f =
+    let nothing : [] ≡ bit ∷ rest =
+    sym (none (omega arith)) ∙ ap (λ x. x ++ back) (sym (no_bits zero v refl)) ∙ sym e ∙ f in
+    absurd cc
+window_first (suc len) v bit back all rest e none f =
+    let first : (v % 2 == 1) ∷ (low_bits (suc len - 1) (v / 2) ++ back) ≡ bit ∷ rest =
+    sym (ap (λ x. x ++ back) (next_bit (suc len) v (omega arith))) ∙ sym e ∙ f in
+    (omega arith, first_low v ∙ ap (λ b. b ∷ []) (ap head_or first))
 
 -- ---- of a queue that is held
 

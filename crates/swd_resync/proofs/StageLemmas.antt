@@ -1,5 +1,5 @@
 -- Laws of what is read from a place on.
-use Rattle.std.proofs.Common.{◌≡◌, ◌≢◌, ℕ, zero, suc, ◌+◌, ◌<◌, Bool, true, false, not, List, [], ◌∷◌, ◌++◌}
+use Rattle.std.proofs.Common.{◌≡◌, ◌≢◌, ℕ, zero, suc, ◌+◌, ◌<◌, ◌≤◌, Bool, true, false, not, List, [], ◌∷◌, ◌++◌}
 use Rattle.std.proofs.Common.{length, drop, replicate, nat_le, arith, refl, sym, ap, ◌∙◌, inl, inr}
 use Rattle.std.specs.Prelude.{◌&&◌, ◌||◌, if◌then◌else◌}
 use Rattle.std.proofs.lemmas.List.{drop_all}
@@ -18,8 +18,10 @@ use Rattle.swd_resync.specs.declared.part.Part.TheVariants.{Item as Told, Skip}
 use Rattle.swd_resync.specs.Parts.{first_at, past_zeros, sound, sound_bits, sound_next, is_sound, pair}
 use Rattle.swd_resync.specs.Parts.{begins, gap, goes_on, followed, followed_by, begins_at_start, Place, InStretch, Between}
 use Rattle.swd_resync.specs.Parts.{Step, told, skipped, between, told_or_withdrawn, in_stretch, step, parts}
-use Rattle.swd_resync.specs.Stages.{idle_rest, reset_rest, skip_rest}
-use Rattle.swd_resync.proofs.StepLemmas.{sound_is_told, gap_none, reset_at, begins_told}
+use Rattle.swd_resync.specs.Stages.{idle_rest, reset_rest, skip_rest, rest_at}
+use Rattle.swd_resync.proofs.StepLemmas.{sound_is_told, gap_none, gap_here, reset_at, begins_told}
+use Rattle.swd_trace.proofs.ReadingLemmas.{bool_cases}
+use Rattle.swd_resync.specs.declared.stage.Stage.TheVariants.{Start}
 use Rattle.swd_resync.proofs.PartLemmas.{parts_none, from_step}
 use Rattle.swd_resync.proofs.JudgeLemmas.{not_fifty, is_reset_item}
 
@@ -46,6 +48,13 @@ idle_zero over (suc n) bits =
     let same : suc n + suc (zeros bits) ≡ suc (suc n) + zeros bits = omega arith in
     ap (λ m. Told (Idle m) ∷ parts over (InStretch Synced) (drop (zeros bits) bits)) same
     ∙ ap (λ m. idle_rest over m bits) (sym more)
+
+pub idle_zeros : (over : Bool) (n k : ℕ) (bits : List Bool)
+    → idle_rest over n (replicate k false ++ bits) ≡ idle_rest over (n + k) bits
+idle_zeros over n zero bits = ap (λ m. idle_rest over m bits) (omega arith)
+idle_zeros over n (suc k) bits =
+    let e : n + 1 + k ≡ n + suc k = omega arith in
+    idle_zero over n (replicate k false ++ bits) ∙ idle_zeros over (n + 1) k bits ∙ ap (λ m. idle_rest over m bits) e
 
 pub idle_end : (over : Bool) (n : ℕ) (bits : List Bool) → 0 < n → zeros bits ≡ 0
     → idle_rest over n bits ≡ Told (Idle n) ∷ idle_rest over 0 bits
@@ -75,6 +84,15 @@ drop_before (suc n) m bits =
     let e : suc n + m ≡ suc (n + m) = omega arith in
     ap (λ k. drop k (true ∷ (replicate n true ++ bits))) e ∙ drop_before n m bits
 
+pub reset_ones : (over : Bool) (n k : ℕ) (bits : List Bool)
+    → reset_rest over n (replicate k true ++ bits) ≡ reset_rest over (n + k) bits
+reset_ones over n k bits =
+    let all : ones (replicate k true ++ bits) ≡ k + ones bits = ones_before k bits in
+    let same : n + (k + ones bits) ≡ n + k + ones bits = omega arith in
+    ap (λ m. Told (Reset (n + m)) ∷ parts over (InStretch AfterReset) (drop m (replicate k true ++ bits))) all
+    ∙ ap (λ m. Told (Reset m) ∷ parts over (InStretch AfterReset) (drop (k + ones bits) (replicate k true ++ bits))) same
+    ∙ ap (λ x. Told (Reset (n + k + ones bits)) ∷ parts over (InStretch AfterReset) x) (drop_before k (ones bits) bits)
+
 -- fifty ones begin a reset, in any mode
 pub fifty : (over : Bool) (mode : Mode) (back : List Bool)
     → parts over (InStretch mode) (replicate 50 true ++ back) ≡ reset_rest over 50 back
@@ -103,6 +121,20 @@ skip_more over (suc n) b bits e =
     let same : suc n + suc (gap over bits) ≡ suc (suc n) + gap over bits = omega arith in
     ap (λ m. Skip (suc n + m) ∷ parts over Between (drop m (b ∷ bits))) (gap_none over b bits e)
     ∙ ap (λ m. Skip m ∷ parts over Between (drop (gap over bits) bits)) same ∙ ap (λ m. skip_rest over m bits) (sym more)
+
+-- bits before the next stretch
+pub skip_many : (over : Bool) (n k : ℕ) (bits : List Bool) → k ≤ gap over bits
+    → skip_rest over n bits ≡ skip_rest over (n + k) (drop k bits)
+skip_many over n zero bits h = ap (λ m. skip_rest over m bits) (omega arith)
+skip_many over n (suc k) [] h = absurd (omega arith)
+skip_many over n (suc k) (b ∷ bits) h = elim (bool_cases (begins over (b ∷ bits))) [
+  | inl here ↦ (let none = gap_here over (b ∷ bits) here in absurd (omega arith))
+  | inr other ↦
+      let more = gap_none over b bits other in
+      let e : n + 1 + k ≡ n + suc k = omega arith in
+      skip_more over n b bits other ∙ skip_many over (n + 1) k bits (omega arith)
+      ∙ ap (λ m. skip_rest over m (drop k bits)) e
+]
 
 pub skip_end : (over : Bool) (n : ℕ) (bits : List Bool) → 0 < n → gap over bits ≡ 0
     → skip_rest over n bits ≡ Skip n ∷ skip_rest over 0 bits
@@ -204,6 +236,14 @@ start_zero over n bits =
     ap (λ x. if begins_at_start over bits then x else skip_rest over n (false ∷ bits)) (idle_zero over n bits)
     ∙ ap (λ x. if begins_at_start over bits then idle_rest over (n + 1) bits else x)
     (skip_more over n false bits (zero_begins over bits))
+
+pub start_zeros : (over : Bool) (n k : ℕ) (bits : List Bool) →
+    rest_at over (Start n) (replicate k false ++ bits) ≡ rest_at over (Start (n + k)) bits
+start_zeros over n zero bits = ap (λ m. rest_at over (Start m) bits) (omega arith)
+start_zeros over n (suc k) bits =
+    let e : n + 1 + k ≡ n + suc k = omega arith in
+    start_zero over n (replicate k false ++ bits) ∙ start_zeros over (n + 1) k bits
+    ∙ ap (λ m. rest_at over (Start m) bits) e
 
 pub start_at : (over : Bool) (bits : List Bool) (f : First) → past_zeros bits ≡ bits → first_at over Synced bits ≡ f
     → begins_at_start over bits ≡ followed over f.item (drop f.taken bits)

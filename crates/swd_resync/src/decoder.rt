@@ -34,12 +34,13 @@ pub struct CaptureDecoder {
 }
 
 impl CaptureDecoder {
-    ghost use Rattle.std.specs.Prelude.{◌≡◌, ◌+◌, ◌-◌, ◌^◌, ◌<◌, ◌≤◌, List, Bool, [], ◌∷◌, ◌++◌, length, IfSome, IfNone};
+    ghost use Rattle.std.specs.Prelude.{◌≡◌, ◌+◌, ◌-◌, ◌*◌, ◌^◌, ◌<◌, ◌≤◌, List, Bool, [], ◌∷◌, ◌++◌, length, IfSome, IfNone};
     ghost use Rattle.swd_resync.specs.Parts.{parts_of};
     ghost use Rattle.swd_resync.specs.Sights.{May};
     ghost use Rattle.swd_resync.specs.Stages.{IsMove, with_part};
-    ghost use Rattle.swd_resync.specs.Holding.{held_bits};
+    ghost use Rattle.swd_resync.specs.Holding.{held_bits, TakesMany};
     ghost use Rattle.swd_resync.specs.Decoding.{rest, HasRead, fed_of, steps_left, IsSettled, held_len, IsStep, Ends};
+    ghost use Rattle.swd_bits.specs.Bits.{low_bits};
     ghost use Rattle.swd_resync.specs.declared.part.Part;
 
     /// Returns a decoder that was fed no bits. `over` says that the host uses overrun detection (IHI 0031,
@@ -78,6 +79,31 @@ impl CaptureDecoder {
     {
         self.held.push(bit);
         self.fed += 1;
+    }
+
+    /// Takes one or more of the lowest `count` bits of `bits`, from the least significant one, which is first in time.
+    /// Returns how many.
+    ///
+    /// With fewer than 92 bits held it takes all of them, or as many as make 92. With 92 held it takes at least the
+    /// zeros at their front, which it counts. In any other case it takes all of them, or as many as make 155 held
+    /// bits. Take every part that is due first.
+    pub fn take_bits(&mut self, bits: u64, count: u8) -> u8
+        requires settled { IsSettled self.old }
+        requires some { 0 < count }
+        requires within { count ≤ 64 }
+        requires room { fed_of self.old + count < 2 ^ 64 }
+        ensures law { (more : List Bool) → rest self.new more ≡ rest self.old (low_bits result bits ++ more) }
+        ensures read { (over : Bool) (before : List Bool) (parts : List Part) → HasRead over self.old before parts
+            → HasRead over self.new (before ++ low_bits result bits) parts }
+        ensures some { 0 < result }
+        ensures most { result ≤ count }
+        ensures many { TakesMany (held_len self.old) bits count result }
+        ensures left { steps_left self.new ≤ steps_left self.old + 8 * result }
+        ensures fed { fed_of self.new ≡ fed_of self.old + result }
+    {
+        let taken = self.held.push_many(bits, count);
+        self.fed += u64::from(taken);
+        taken
     }
 
     /// Returns the next part, which no later bits can change. Returns `None` if it needs more bits. Fewer

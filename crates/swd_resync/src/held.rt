@@ -1,7 +1,7 @@
 //! The bits that a decoder of captures holds.
 ghost use Rattle.swd_resync.specs.Queues.{IsHeld};
 
-use crate::queue::Queue;
+use crate::queue::{BACK_BITS, FRONT_BITS, Queue};
 use swd_bits::TxBits;
 
 /// How many bits are examined: fifty ones are a line reset, and no transaction has more.
@@ -15,11 +15,12 @@ pub(crate) struct Held {
 }
 
 impl Held {
-    ghost use Rattle.std.specs.Prelude.{◌≡◌, ◌⊎◌, ◌+◌, ◌-◌, ◌^◌, ◌<◌, ◌≤◌, List, Bool, [], ◌∷◌, ◌++◌, length, drop};
+    ghost use Rattle.std.specs.Prelude.{◌≡◌, ◌⊎◌, ◌+◌, ◌-◌, ◌^◌, ◌<◌, ◌≤◌, List, Bool, [], ◌∷◌, ◌++◌, length, drop, replicate};
     ghost use Rattle.std.specs.Prelude.{IfSome, IfNone};
+    ghost use Rattle.swd_bits.specs.Bits.{low_bits};
     ghost use Rattle.swd_bits.specs.BitLists.{bits_of, IsSpelled};
     ghost use Rattle.swd_resync.specs.Parts.{past_zeros};
-    ghost use Rattle.swd_resync.specs.Holding.{held_bits, behind_run};
+    ghost use Rattle.swd_resync.specs.Holding.{held_bits, behind_run, TakesMany};
 
     /// Returns an empty list.
     pub(crate) fn new() -> Held
@@ -39,6 +40,46 @@ impl Held {
         ensures room { behind_run self.new ≤ behind_run self.old + 1 }
     {
         self.queue = self.queue.with(bit);
+    }
+
+    /// Appends one or more of the lowest `count` bits, the least significant first, and returns how many: as many as
+    /// there is room for before the run of zeros, in it, or behind it.
+    pub(crate) fn push_many(&mut self, bits: u64, count: u8) -> u8
+        requires room { behind_run self.old ≤ 50 }
+        requires some { 0 < count }
+        requires within { count ≤ 64 }
+        requires counted { length (held_bits self.old) + count < 2 ^ 64 }
+        ensures bits { held_bits self.new ≡ held_bits self.old ++ low_bits result bits }
+        ensures some { 0 < result }
+        ensures most { result ≤ count }
+        ensures many { TakesMany (self.old.queue.front_len + self.old.queue.back_len) bits count result }
+        ensures room { behind_run self.new ≤ 63 }
+    {
+        let queue = self.queue;
+        if queue.front_len < FRONT_BITS {
+            let taken = count.min(FRONT_BITS - queue.front_len);
+            self.queue = queue.with_front(u128::from(bits), taken);
+            return taken;
+        }
+        if queue.back_len == 0 && bits % 2 == 0 {
+            let taken = (bits.trailing_zeros() as u8).min(count);
+            self.queue = queue.with_more_zeros(taken);
+            return taken;
+        }
+        let taken = count.min(BACK_BITS - queue.back_len);
+        self.queue = queue.with_back(bits, taken);
+        taken
+    }
+
+    /// Returns how many bits at the front equal `bit`, at most fifty.
+    pub(crate) fn run_of(&self, bit: bool) -> u8
+        ensures most { result ≤ 50 }
+        ensures run { (back : List Bool) × (held_bits self.now ≡ replicate result bit ++ back) }
+        ensures some { (back : List Bool) → held_bits self.now ≡ bit ∷ back → 0 < result }
+    {
+        let window = self.window();
+        let others = if bit { !window.bits } else { window.bits };
+        (others.trailing_zeros() as u8).min(window.len)
     }
 
     /// Returns the first bits, at most fifty.

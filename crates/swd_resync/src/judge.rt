@@ -1,16 +1,20 @@
 //! Decides whether a stretch begins or continues at a place of a capture. `over` means overrun detection;
 //! `ended` means that no bits follow the held ones. The functions return `None` if more bits are needed.
-ghost use Rattle.std.specs.Prelude.{◌≡◌, ◌+◌, ◌-◌, ◌<◌, ◌≤◌, List, Bool, ◌++◌, length, false, IfSome, IfNone};
+ghost use Rattle.std.specs.Prelude.{◌≡◌, ◌+◌, ◌-◌, ◌<◌, ◌≤◌, List, Bool, ◌++◌, length, true, false, IfSome, IfNone};
+ghost use Rattle.swd_bits.specs.BitLists.{bits_of, IsSpelled};
 ghost use Rattle.swd_trace.specs.Reading.{whole};
 ghost use Rattle.swd_resync.specs.Parts.{sound, sound_next, pair, begins, goes_on, ended_or_reset, followed_by};
-ghost use Rattle.swd_resync.specs.Parts.{before_pair, in_stretch};
+ghost use Rattle.swd_resync.specs.Parts.{before_pair, gap, in_stretch};
 ghost use Rattle.swd_resync.specs.Holding.{held_bits, IsNear};
 ghost use Rattle.swd_resync.specs.Sights.{IsTxSeen, May};
 ghost use Rattle.swd_resync.specs.Judged.{Judges, IsClear, IsMost, tx_step};
 
 use crate::held::Held;
-use crate::look::look;
-use swd_bits::{Tx, TxEnd};
+use crate::look::{is_ones, look};
+use swd_bits::{Request, Tx, TxBits, TxEnd};
+
+// The number of bits of a request.
+const REQUEST_BITS: u8 = 8;
 
 // Returns the number of bits of the sound transaction at the front, or 0 if there is no such transaction. A
 // transaction is sound if it was acknowledged, and its word, if one was moved, has right parity.
@@ -31,6 +35,35 @@ fn sound_follows(over: bool, ended: bool, held: &Held) -> Option<bool>
         None => None,
         Some(len) => Some(len > 0),
     }
+}
+
+/// Returns a number of bits at the front that come before the next stretch, whatever follows. The last seven are never
+/// among them, since a transaction can begin only with the eight bits of a request.
+pub(crate) fn bits_before_start(window: TxBits) -> u8
+    requires spelled { IsSpelled window }
+    requires most { window.len ≤ 50 }
+    ensures within { result ≤ window.len }
+    ensures before { (over : Bool) (back : List Bool) → result ≤ gap over (bits_of window ++ back) }
+{
+    let mut rest = window;
+    while rest.len >= REQUEST_BITS && begins_nothing(rest) {
+        rest = TxBits {
+            len: rest.len - 1,
+            bits: rest.bits / 2,
+        };
+    }
+    window.len - rest.len
+}
+
+// Returns whether neither a transaction nor fifty ones begin with these bits.
+#[inline(always)]
+fn begins_nothing(window: TxBits) -> bool
+    requires spelled { IsSpelled window }
+    requires some { 8 ≤ window.len }
+    requires most { window.len ≤ 50 }
+    ensures { result ≡ true → (over : Bool) (back : List Bool) → begins over (bits_of window ++ back) ≡ false }
+{
+    !is_ones(window) && Request::of((window.bits % 256) as u8).is_none()
 }
 
 // Returns whether two sound transactions are at the front, with at most zeros between them.

@@ -1,6 +1,6 @@
 //! The steps of a decoder of captures. `over` means overrun detection; `ended` means that no bits follow the
 //! held ones. The functions return `None` if more bits are needed, or if no bits are left.
-ghost use Rattle.std.specs.Prelude.{◌≡◌, ◌+◌, ◌^◌, ◌<◌, ◌≤◌, List, Bool, true, false, length};
+ghost use Rattle.std.specs.Prelude.{◌≡◌, ◌+◌, ◌^◌, ◌<◌, ◌≤◌, List, Bool, true, false, ◌∷◌, length};
 ghost use Rattle.swd_trace.specs.Reading.{switch, mode_after};
 ghost use Rattle.swd_resync.specs.Parts.{parts, place_after};
 ghost use Rattle.swd_resync.specs.Holding.{held_bits};
@@ -8,7 +8,7 @@ ghost use Rattle.swd_resync.specs.Sights.{IsTxSeen};
 ghost use Rattle.swd_resync.specs.Stages.{Moves, counted, rank, rest_at, SeesSwitch};
 
 use crate::held::{Held, WINDOW_BITS};
-use crate::judge::{bits_withdrawn, stretch_begins, stretch_goes_on};
+use crate::judge::{bits_before_start, bits_withdrawn, stretch_begins, stretch_goes_on};
 use crate::look::{is_ones, look};
 use crate::part::Part;
 use crate::sight::Sight;
@@ -47,11 +47,14 @@ fn at_start(over: bool, ended: bool, zeros: u64, held: &Held) -> Option<Move>
 {
     match look(over, ended, held) {
         Sight::Wait => None,
-        Sight::Zero => Some(Move {
-            count: 1,
-            stage: Stage::Start(zeros + 1),
-            part: None,
-        }),
+        Sight::Zero => {
+            let count = held.run_of(false);
+            Some(Move {
+                count,
+                stage: Stage::Start(zeros + u64::from(count)),
+                part: None,
+            })
+        }
         Sight::Tx(tx, len) => match stretch_goes_on(over, ended, &tx, &held.without(len)) {
             None => None,
             Some(true) => Some(stay(Stage::Stretch(zeros))),
@@ -83,11 +86,14 @@ fn in_stretch(over: bool, ended: bool, held: &Held) -> Option<Move>
     match look(over, ended, held) {
         Sight::Wait => None,
         Sight::End => None,
-        Sight::Zero => Some(Move {
-            count: 1,
-            stage: Stage::Stretch(1),
-            part: None,
-        }),
+        Sight::Zero => {
+            let count = held.run_of(false);
+            Some(Move {
+                count,
+                stage: Stage::Stretch(u64::from(count)),
+                part: None,
+            })
+        }
         Sight::Ones => Some(Move {
             count: WINDOW_BITS,
             stage: Stage::Reset(RESET_ONES),
@@ -159,11 +165,14 @@ fn behind_idle(over: bool, ended: bool, zeros: u64, held: &Held) -> Option<Move>
     match held.first() {
         None => { if ended { Some(told) } else { None } }
         Some(true) => Some(told),
-        Some(false) => Some(Move {
-            count: 1,
-            stage: Stage::Stretch(zeros + 1),
-            part: None,
-        }),
+        Some(false) => {
+            let count = held.run_of(false);
+            Some(Move {
+                count,
+                stage: Stage::Stretch(zeros + u64::from(count)),
+                part: None,
+            })
+        }
     }
 }
 
@@ -179,11 +188,14 @@ fn in_reset(over: bool, ended: bool, ones: u64, held: &Held) -> Option<Move>
     };
     match held.first() {
         None => { if ended { Some(told) } else { None } }
-        Some(true) => Some(Move {
-            count: 1,
-            stage: Stage::Reset(ones + 1),
-            part: None,
-        }),
+        Some(true) => {
+            let count = held.run_of(true);
+            Some(Move {
+                count,
+                stage: Stage::Reset(ones + u64::from(count)),
+                part: None,
+            })
+        }
         Some(false) => Some(told),
     }
 }
@@ -257,21 +269,40 @@ fn between(over: bool, ended: bool, count: u64, held: &Held) -> Option<Move>
                 None
             }
         }
-        Some(_) => match stretch_begins(over, ended, held) {
-            None => None,
-            Some(true) => {
-                if count > 0 {
-                    Some(skipped(count))
-                } else {
-                    Some(stay(Stage::Stretch(0)))
-                }
+        Some(_) => {
+            let before = bits_before_start(held.window());
+            if before > 0 {
+                return Some(Move {
+                    count: before,
+                    stage: Stage::Between(count + u64::from(before)),
+                    part: None,
+                });
             }
-            Some(false) => Some(Move {
-                count: 1,
-                stage: Stage::Between(count + 1),
-                part: None,
-            }),
-        },
+            between_at(over, ended, count, held)
+        }
+    }
+}
+
+// Steps between two stretches where the first held bit may begin one.
+fn between_at(over: bool, ended: bool, count: u64, held: &Held) -> Option<Move>
+    requires some { (bit : Bool) × (back : List Bool) × (held_bits held.now ≡ bit ∷ back) }
+    requires count { count + length (held_bits held.now) < 2 ^ 64 }
+    ensures { Moves over ended (Stage.Between count) (held_bits held.now) result }
+{
+    match stretch_begins(over, ended, held) {
+        None => None,
+        Some(true) => {
+            if count > 0 {
+                Some(skipped(count))
+            } else {
+                Some(stay(Stage::Stretch(0)))
+            }
+        }
+        Some(false) => Some(Move {
+            count: 1,
+            stage: Stage::Between(count + 1),
+            part: None,
+        }),
     }
 }
 

@@ -1,10 +1,14 @@
 //! A queue of bits that counts one run of zeros.
-ghost use Rattle.std.specs.Prelude.{◌≡◌, ◌+◌, ◌-◌, ◌^◌, ◌<◌, ◌≤◌, [], ◌∷◌, ◌++◌, drop};
+ghost use Rattle.std.specs.Prelude.{◌≡◌, ◌+◌, ◌-◌, ◌%◌, ◌^◌, ◌<◌, ◌≤◌, [], ◌∷◌, ◌++◌, drop, replicate, false};
+ghost use Rattle.swd_bits.specs.Bits.{low_bits};
 ghost use Rattle.swd_resync.specs.Queues.{queued, IsQueue, IsFull, EndsRun, IsHeld};
 
 /// How many bits are held one by one before a run of zeros is counted: those of a transaction, and of another
 /// one that begins inside it.
 pub(crate) const FRONT_BITS: u8 = 92;
+
+/// How many bits are held at most behind the run of zeros.
+pub(crate) const BACK_BITS: u8 = 63;
 
 /// Bits in time order: the front, then a run of zeros, then the bits after it. In numbers the first bit is
 /// least significant.
@@ -59,6 +63,57 @@ impl Queue {
                 back_len: self.back_len + 1,
                 ..self
             }
+        }
+    }
+
+    /// Returns the queue with the lowest `count` bits at the end of the front. Nothing may be behind the front.
+    pub(crate) fn with_front(self, bits: u128, count: u8) -> Queue
+        requires held { IsHeld self }
+        requires alone { self.zeros + self.back_len ≡ 0 }
+        requires room { self.front_len + count ≤ 92 }
+        ensures bits { queued result ≡ queued self ++ low_bits count bits }
+        ensures held { IsHeld result }
+        ensures room { result.back_len ≡ self.back_len }
+    {
+        let taken = bits & ((1 << count) - 1);
+        Queue {
+            front: taken << self.front_len | self.front,
+            front_len: self.front_len + count,
+            ..self
+        }
+    }
+
+    /// Returns the queue with `count` more zeros in the run. No bits may be behind the run.
+    pub(crate) fn with_more_zeros(self, count: u8) -> Queue
+        requires held { IsHeld self }
+        requires full { self.front_len ≡ 92 }
+        requires alone { self.back_len ≡ 0 }
+        requires count { self.zeros + count < 2 ^ 64 }
+        ensures bits { queued result ≡ queued self ++ replicate count false }
+        ensures held { IsHeld result }
+        ensures room { result.back_len ≡ self.back_len }
+    {
+        Queue {
+            zeros: self.zeros + u64::from(count),
+            ..self
+        }
+    }
+
+    /// Returns the queue with the lowest `count` bits behind the run. The first bit behind it is a one.
+    pub(crate) fn with_back(self, bits: u64, count: u8) -> Queue
+        requires held { IsHeld self }
+        requires full { self.front_len ≡ 92 }
+        requires room { self.back_len + count ≤ 63 }
+        requires one { self.back_len ≡ 0 → bits % 2 ≡ 1 }
+        ensures bits { queued result ≡ queued self ++ low_bits count bits }
+        ensures held { IsHeld result }
+        ensures room { result.back_len ≡ self.back_len + count }
+    {
+        let taken = bits & ((1 << count) - 1);
+        Queue {
+            back: taken << self.back_len | self.back,
+            back_len: self.back_len + count,
+            ..self
         }
     }
 

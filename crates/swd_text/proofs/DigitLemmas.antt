@@ -1,13 +1,14 @@
 -- Laws of the characters of bits.
-use Rattle.std.proofs.Common.{◌≡◌, ℕ, zero, suc, ◌+◌, ◌*◌, ◌/◌, ◌%◌, ◌≤◌, Bool, true, false, not, cond, List, [], ◌∷◌}
-use Rattle.std.proofs.Common.{◌++◌, length, take, map, refl, sym, ap, ◌∙◌, subst, append_assoc, arith, inl, inr}
+use Rattle.std.proofs.Common.{◌≡◌, ℕ, zero, suc, ◌+◌, ◌*◌, ◌/◌, ◌%◌, ◌<◌, ◌≤◌, Bool, true, false, not, cond, List, [], ◌∷◌}
+use Rattle.std.proofs.Common.{◌++◌, length, take, get_or, map, refl, sym, ap, ◌∙◌, subst, append_assoc, arith, inl, inr}
 use Rattle.std.specs.Prelude.{◌==◌}
 use Rattle.std.specs.List.{prefix_len}
 use Rattle.std.specs.Simd.Lanes.{mask_l}
 use Rattle.std.proofs.lemmas.List.{append-nil}
+use Rattle.std.proofs.lemmas.List.Sums.{prefix_len_stops}
 use Rattle.std.proofs.lemmas.Simd.{trailing_mask_l, leading_from_mask_l}
 use Rattle.std.proofs.lemmas.Bool.{cases_lt, cases_eq, ne_eqb}
-use lib.Count.{count_trailing_zeros, trailing_le}
+use lib.Count.{count_trailing_zeros, trailing_le, trailing_of_zero}
 use Rattle.swd_bits.specs.Bits.{low_bits}
 use Rattle.swd_bits.specs.One.{Reads}
 use Rattle.swd_bits.proofs.ScanLemmas.{reads_bit}
@@ -66,6 +67,28 @@ front_of bytes h = elim (cases_lt 0 (mask_l (map is_other bytes))) [
       let none : mask_l (map is_other bytes) ≡ 0 = omega arith in
       omega (arith, trailing_le 64 (mask_l (map is_other bytes)), leading_from_mask_l is_other bytes none)
 ]
+
+-- behind so many bytes comes another byte
+pub stops_at : (bytes : List ℕ) (k : ℕ) → length bytes ≡ 64 → k ≡ count_trailing_zeros 64 (mask_l (map is_other bytes))
+    → k < 64 → is_other (get_or bytes k 0) ≡ true
+stops_at bytes k h e less = elim (cases_lt 0 (mask_l (map is_other bytes))) [
+  | inl some ↦
+      let same : k ≡ prefix_len (λ x. not (is_other x)) bytes =
+      e ∙ trailing_mask_l is_other 64 bytes (omega arith) some in
+      let stop : not (is_other (get_or bytes k 0)) ≡ false =
+      ap (λ n. not (is_other (get_or bytes n 0))) same
+      ∙ prefix_len_stops (λ x. not (is_other x)) bytes 0 (omega arith) in
+      not_false (is_other (get_or bytes k 0)) stop
+  | inr none ↦
+      let zero_mask : mask_l (map is_other bytes) ≡ 0 = omega arith in
+      let all : count_trailing_zeros 64 (mask_l (map is_other bytes)) ≡ 64 =
+      ap (count_trailing_zeros 64) zero_mask ∙ trailing_of_zero 64 in
+      absurd (omega arith)
+]
+  where
+    not_false : (b : Bool) → not b ≡ false → b ≡ true
+    not_false true e = refl
+    not_false false e = absurd cc
 
 -- a text that is read goes on with digits
 pub reads_digits : (more : List Bool) (seen : List ℕ) (bits : List Bool) → Reads seen bits false

@@ -1,5 +1,6 @@
 pub mod ListerLemmas
 pub mod DecodingLemmas
-mod DigitLemmas
-mod CommentLemmas
+pub mod DigitLemmas
+pub mod CommentLemmas
+pub mod PieceLemmas
 mod TxLineLemmas

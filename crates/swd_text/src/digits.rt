@@ -1,5 +1,5 @@
 //! Finds the characters `0` and `1` at the front of a text, 64 bytes at once.
-ghost use Rattle.std.specs.Prelude.{◌≡◌, ℕ, ◌≤◌, ◌==◌, length, take, map};
+ghost use Rattle.std.specs.Prelude.{◌≡◌, ℕ, ◌<◌, ◌≤◌, ◌==◌, true, length, slice_index, take, map};
 ghost use Rattle.std.specs.Simd.Lanes.{mask_l};
 ghost use Rattle.swd_bits.specs.Bits.{low_bits};
 ghost use Rattle.swd_trace.specs.Texts.{digit};
@@ -8,20 +8,23 @@ ghost use Rattle.swd_text.specs.Digits.{is_other};
 use std::simd::prelude::*;
 
 /// The number of bytes that one call examines.
-pub(crate) const WIDTH: usize = 64;
+pub const WIDTH: usize = 64;
 
-/// The lowest `count` bits are valid, the first one least significant.
-#[derive(Clone, Copy)]
-pub(crate) struct Digits {
-    pub(crate) count: u8,
-    pub(crate) bits: u64,
+/// The bits of digits at the front of a text.
+#[derive(Clone, Copy, Debug, PartialEq, Eq)]
+pub struct Digits {
+    /// How many digits there are.
+    pub count: u8,
+    /// Their bits: the lowest `count`, the first one least significant. The others have no meaning.
+    pub bits: u64,
 }
 
-/// Returns the digits among the first 64 bytes of a text, up to the first other byte.
+/// Returns the digits among the first 64 bytes of a text, up to the first other byte. The text has at least as many.
 #[inline]
-pub(crate) fn digits_of(text: &[u8]) -> Digits
+pub fn digits_of(text: &[u8]) -> Digits
     requires { WIDTH ≤ length text.now }
     ensures most { result.count ≤ WIDTH }
+    ensures ends { result.count < WIDTH → is_other (slice_index text.now result.count) ≡ true }
     ensures bits { (n : ℕ) → n ≤ result.count → take n text.now ≡ map digit (low_bits n result.bits) }
 {
     let bytes = u8x64::from_slice(text);

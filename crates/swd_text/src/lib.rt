@@ -1,6 +1,7 @@
 //! Converts trace texts to listings, and back.
 #![tactic(auto)]
 
+mod comment;
 mod decoding;
 mod digits;
 mod encoding;
@@ -8,6 +9,8 @@ mod fault;
 mod lister;
 mod tx_line;
 
+pub use comment::comment_len;
 pub use decoding::decode_text;
+pub use digits::{Digits, WIDTH, digits_of};
 pub use encoding::{encode_text, write_items};
 pub use fault::{DecodeFault, EncodeFault, TakeFault, TextFault};

@@ -1,6 +1,6 @@
 //! Converts a trace text to its listing, piece by piece.
 ghost use Rattle.std.specs.Prelude.{◌≡◌, ℕ, ◌+◌, ◌-◌, ◌^◌, ◌<◌, ◌≤◌, min, List, Bool, false, true, ◌∷◌, ◌++◌};
-ghost use Rattle.std.specs.Prelude.{◌≢◌, slice_index, [], length, map, take, Option, OnOk, OnErr, IfErr};
+ghost use Rattle.std.specs.Prelude.{[], length, map, take, Option, OnOk, OnErr, IfErr};
 ghost use Rattle.swd_io.specs.Blocks.{Sends};
 ghost use Rattle.swd_io.specs.Pieces.{LeadsOn, LeadsToEnd};
 ghost use Rattle.swd_io.proofs.PieceLemmas.{leads_nowhere, leads_further, leads_to_later_end};
@@ -17,6 +17,7 @@ ghost use Rattle.swd_trace.specs.Decided.{IsUndecided};
 ghost use Rattle.swd_text.specs.Decoding.{Finishes};
 ghost use Rattle.swd_text.specs.Listers.{Lists, GoesOn, Listed, HasRead, StopsAt, StopsIn, Ends};
 
+use crate::comment::comment_len;
 use crate::digits::{WIDTH, digits_of};
 use crate::fault::{TakeFault, TextFault};
 use crate::tx_line::put_tx;
@@ -173,19 +174,6 @@ fn put_any_line<W: Write>(block: &mut Block<'_, W>, line: &mut ArrayString<ROOM>
     item.push_line(line);
     line.push_str("\n");
     block.put(line.as_str().as_bytes());
-}
-
-// Returns how many bytes of a comment come before its line feed, or before the end of the text.
-fn comment_len(text: &[u8]) -> usize
-    ensures within { result ≤ length text.now }
-    ensures before { (k : ℕ) → k < result → slice_index text.now k ≢ 10 }
-{
-    for (index, byte) in text.iter().enumerate() {
-        if *byte == b'\n' {
-            return index;
-        }
-    }
-    text.len()
 }
 
 impl Lister {

@@ -1,8 +1,10 @@
-use Rattle.std.proofs.Common.{◌++◌, ap, ◌∙◌, sym, refl}
+use Rattle.std.proofs.Common.{◌+◌, ◌++◌, ap, ◌∙◌, sym, subst, refl}
+use Rattle.std.specs.Prelude.{None}
 use Rattle.std.proofs.lemmas.List.{drop-append-le}
 use Rattle.swd_trace.specs.Reading.{whole}
 use Rattle.swd_resync.specs.Parts.{followed_by}
 use Rattle.swd_resync.specs.Holding.{held_bits}
+use Rattle.swd_resync.specs.Stages.{IsMove}
 use Rattle.swd_resync.specs.declared.sight.Sight.TheVariants.{Ones}
 use Rattle.swd_resync.specs.declared.stage.Stage.TheVariants.{Start}
 use Rattle.swd_resync.proofs.JudgeLemmas.{seen_first}
@@ -14,8 +16,12 @@ returns-in-Wait c = still_few c.args.over c.args.ended (Start c.args.zeros) (hel
     c.in-Wait.ensures.1
 
 pub returns-in-Zero : goal.returns-in-Zero
-returns-in-Zero c = start_passes c.args.over c.args.ended c.args.zeros (held_bits c.args.held.now) c.in-Zero.ensures.0
-    c.in-Zero.ensures.1
+returns-in-Zero c =
+    let run = c.run_of-count.ensures.run in
+    subst (λ n. IsMove c.args.over c.args.ended (Start c.args.zeros) (held_bits c.args.held.now)
+    (record { count = c.run_of-count.result; stage = Start (c.args.zeros + n); part = None })) (sym c.from.ensures)
+    (start_passes c.args.over c.args.ended c.args.zeros c.run_of-count.result (held_bits c.args.held.now) run.0 run.1
+    (c.run_of-count.ensures.some c.in-Zero.ensures.0 c.in-Zero.ensures.1) c.run_of-count.ensures.most)
 
 pub returns-in-Some-true : goal.returns-in-Some-true
 returns-in-Some-true c = start_stretches c.args.over c.args.ended c.args.zeros (held_bits c.args.held.now) c.stay.result

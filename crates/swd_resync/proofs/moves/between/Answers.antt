@@ -1,10 +1,14 @@
-use Rattle.std.proofs.Common.{◌≡◌, ap, ◌∙◌, arith, []}
+use Rattle.std.proofs.Common.{◌≡◌, ◌+◌, List, Bool, length, ap, ◌∙◌, sym, subst, arith, []}
+use Rattle.std.specs.Prelude.{None}
+use Rattle.std.proofs.lemmas.List.{length-append}
+use Rattle.swd_bits.specs.BitLists.{bits_of}
+use Rattle.swd_bits.proofs.BitsLemmas.{length-low_bits}
 use Rattle.swd_resync.specs.Parts.{Between}
 use Rattle.swd_resync.specs.Holding.{held_bits}
-use Rattle.swd_resync.specs.Stages.{skip_rest}
+use Rattle.swd_resync.specs.Stages.{skip_rest, IsMove}
 use Rattle.swd_resync.specs.declared.stage.Stage.TheVariants.{Between as Skipping}
 use Rattle.swd_resync.proofs.PartLemmas.{parts_none}
-use Rattle.swd_resync.proofs.MoveLemmas.{still_none, skip_told, stretch_begun, skip_passes, still_end}
+use Rattle.swd_resync.proofs.MoveLemmas.{still_none, skip_before, still_end}
 use Rattle.swd_resync.proofs.moves.between.Goals as goal
 use Rattle.swd_resync.proofs.moves.between.Goals.{else-ended-via-then-ended+else-count-gt0, else-ended-via-else-ended}
 
@@ -19,20 +23,31 @@ returns-else-ended c = elim c.else-ended.branch [
       w.if-ended.false
 ]
 
-pub returns-then-count-gt0-2 : goal.returns-then-count-gt0-2
-returns-then-count-gt0-2 c =
-    skip_told c.args.over c.args.ended c.args.count (held_bits c.args.held.now) c.skipped-then-count-gt0-2.result
-    c.skipped-then-count-gt0-2.ensures c.if-count-gt0-2.true
-    (λ more may. c.in-Some-true.ensures more may ∙ c.in-Some-true.field-0-test)
+pub returns-then-before-gt0 : goal.returns-then-before-gt0
+returns-then-before-gt0 c =
+    let w = c.window.ensures.first in
+    let len : length (bits_of c.window.result) ≡ c.window.result.len = length-low_bits c.window.result.len c.window.result.bits in
+    let within = c.bits_before_start-before.ensures.within in
+    let most = c.window.ensures.most in
+    subst (λ n. IsMove c.args.over c.args.ended (Skipping c.args.count) (held_bits c.args.held.now)
+    (record { count = c.bits_before_start-before.result; stage = Skipping (c.args.count + n); part = None }))
+    (sym c.from.ensures)
+    (skip_before c.args.over c.args.ended c.args.count c.bits_before_start-before.result (bits_of c.window.result) w.0
+    (held_bits c.args.held.now) w.1 c.if-before-gt0.true (omega arith) (omega arith)
+    (c.bits_before_start-before.ensures.before c.args.over))
 
-pub returns-else-count-gt0-2 : goal.returns-else-count-gt0-2
-returns-else-count-gt0-2 c =
-    stretch_begun c.args.over c.args.ended c.args.count (held_bits c.args.held.now) c.stay.result c.stay.ensures
-    (omega (arith, c.if-count-gt0-2.false))
-    (λ more may. c.in-Some-true.ensures more may ∙ c.in-Some-true.field-0-test)
-
-pub returns-in-Some-false : goal.returns-in-Some-false
-returns-in-Some-false c =
+pub between_at-requires-clause-some : goal.between_at-requires-clause-some
+between_at-requires-clause-some c =
     let f = c.in-Some.ensures.some in
-    skip_passes c.args.over c.args.ended c.args.count c.in-Some.field-0 f.0 (held_bits c.args.held.now) f.1
-    (λ more may. c.in-Some-false.ensures more may ∙ c.in-Some-false.field-0-test)
+    (c.in-Some.field-0, f.0, f.1)
+
+pub overflow_add-result : goal.overflow_add-result
+overflow_add-result c =
+    let w = c.window.ensures.first in
+    let front : List Bool = bits_of c.window.result in
+    let len : length front ≡ c.window.result.len = length-low_bits c.window.result.len c.window.result.bits in
+    let all : length (held_bits c.args.held.now) ≡ length front + length w.0 = ap length w.1 ∙ length-append front w.0 in
+    let within = c.bits_before_start-before.ensures.within in
+    let few = c.requires in
+    let same = c.from.ensures in
+    omega arith

@@ -1,7 +1,9 @@
-use Rattle.std.proofs.Common.{refl}
+use Rattle.std.proofs.Common.{◌≡◌, ◌+◌, subst, refl, arith}
+use Rattle.std.specs.Prelude.{None}
 use Rattle.swd_trace.specs.declared.mode.Mode.TheVariants.{Synced}
 use Rattle.swd_resync.specs.Parts.{InStretch}
 use Rattle.swd_resync.proofs.PartLemmas.{parts_none}
+use Rattle.swd_resync.specs.Stages.{IsMove}
 use Rattle.swd_resync.specs.Holding.{held_bits}
 use Rattle.swd_resync.specs.declared.stage.Stage.TheVariants.{Stretch}
 use Rattle.swd_resync.proofs.MoveLemmas.{still_few, still_none, stretch_idles, ones_pass, junk_passes, cut_passes}
@@ -12,7 +14,13 @@ returns-in-Wait c = still_few c.args.over c.args.ended (Stretch 0) (held_bits c.
     c.in-Wait.ensures.1
 
 pub returns-in-Zero : goal.returns-in-Zero
-returns-in-Zero c = stretch_idles c.args.over c.args.ended (held_bits c.args.held.now) c.in-Zero.ensures.0 c.in-Zero.ensures.1
+returns-in-Zero c =
+    let run = c.run_of-count.ensures.run in
+    let same : 0 + c.run_of-count.result ≡ c.from.result = omega (arith, c.from.ensures) in
+    subst (λ n. IsMove c.args.over c.args.ended (Stretch 0) (held_bits c.args.held.now)
+    (record { count = c.run_of-count.result; stage = Stretch n; part = None })) same
+    (stretch_idles c.args.over c.args.ended 0 c.run_of-count.result (held_bits c.args.held.now) run.0 run.1
+    (c.run_of-count.ensures.some c.in-Zero.ensures.0 c.in-Zero.ensures.1) c.run_of-count.ensures.most)
 
 pub returns-in-Ones : goal.returns-in-Ones
 returns-in-Ones c = ones_pass c.args.over c.args.ended (Stretch 0) Synced (held_bits c.args.held.now) c.in-Ones.ensures.0

@@ -1,13 +1,13 @@
-use Rattle.std.proofs.Common.{◌≡◌, ℕ, ◌≤◌, List, take, length, map, sym, ap, ◌∙◌, subst, arith}
+use Rattle.std.proofs.Common.{◌≡◌, ℕ, ◌<◌, ◌≤◌, true, get_or, List, take, length, map, refl, sym, ap, ◌∙◌, subst, arith}
 use Rattle.std.specs.Prelude.{◌==◌}
 use Rattle.std.specs.Simd.Lanes.{mask_l, chunk}
-use Rattle.std.proofs.lemmas.List.{take-take}
+use Rattle.std.proofs.lemmas.List.{get_or-take, take-take}
 use Rattle.std.proofs.lemmas.Simd.{length-chunk}
 use lib.Count.{count_trailing_zeros, trailing_le}
 use Rattle.swd_bits.specs.Bits.{low_bits}
 use Rattle.swd_trace.specs.Texts.{digit}
 use Rattle.swd_text.specs.Digits.{is_other}
-use Rattle.swd_text.proofs.DigitLemmas.{front, front_of}
+use Rattle.swd_text.proofs.DigitLemmas.{front, front_of, stops_at}
 use Rattle.swd_text.proofs.digits.digits_of.Goals as goal
 
 -- of the first 64 bytes, so of the text
@@ -24,3 +24,16 @@ found text ones others n long e f h =
 pub returns-clause-bits : goal.returns-clause-bits
 returns-clause-bits c = λ n h. found c.args.text.now c.ones.result c.others.result n c.requires c.ones.ensures
     c.others.ensures h
+
+-- the byte behind them
+ended : (text : List ℕ) (others k : ℕ) → 64 ≤ length text → others ≡ mask_l (map is_other (chunk 0 64 text))
+    → k ≡ count_trailing_zeros 64 others → k < 64 → is_other (get_or text k 0) ≡ true
+ended text others k long f e less =
+    let all : length (chunk 0 64 text) ≡ 64 = length-chunk 0 64 text long in
+    let same : k ≡ count_trailing_zeros 64 (mask_l (map is_other (chunk 0 64 text))) =
+    e ∙ ap (count_trailing_zeros 64) f in
+    ap is_other (sym (get_or-take 64 text k 0 less)) ∙ stops_at (chunk 0 64 text) k all same less
+
+pub returns-clause-ends : goal.returns-clause-ends
+returns-clause-ends c = λ less.
+    ended c.args.text.now c.others.result _ c.requires c.others.ensures refl less

@@ -1,17 +1,24 @@
-use Rattle.std.proofs.Common.{◌≡◌, ℕ, suc, ◌+◌, ◌-◌, ◌^◌, ◌<◌, min, List, [], ◌∷◌, ◌++◌, length, take, drop, get_or}
-use Rattle.std.proofs.Common.{sym, ap, ◌∙◌, subst, append_assoc, add-one, take_all, arith}
-use Rattle.std.proofs.Math.Seq.{take-suc}
-use Rattle.std.proofs.lemmas.List.{length-append, length-take-le}
+use Rattle.std.proofs.Common.{◌≡◌, ℕ, suc, ◌+◌, ◌-◌, ◌^◌, ◌<◌, min, List, ◌++◌, length, take, drop, get_or}
+use Rattle.std.proofs.Common.{Option, refl, ◌∙◌, subst, take_all, arith}
+use Rattle.swd_io.specs.declared.block.Block.{Block}
+use Rattle.std.proofs.lemmas.List.{length-append, length-drop, length-take-le}
 use Rattle.swd_bits.proofs.ScanLemmas.{parted}
 use Rattle.swd_text.specs.Listers.{StopsAt}
+use Rattle.swd_text.proofs.PieceLemmas.{least, next_byte, piece_front}
 use Rattle.swd_capture_text.specs.Captures.{StopsWith}
 use Rattle.swd_capture_text.proofs.CaptureLemmas.{decided_by, stops_with}
-use Rattle.swd_capture_text.specs.Listers.{GoesOn}
+use Rattle.swd_capture_text.specs.Listers.{Start, GoesOn}
+use Rattle.swd_capture_text.specs.declared.lister.Lister.{Lister}
 use Rattle.swd_capture_text.proofs.lister.Lister.bytes.Goals as goal
 
-least : (place index before seen : ℕ) → place ≡ min before (2 ^ 64 - 1) → seen ≡ before + index
-    → min (place + index) (2 ^ 64 - 1) ≡ min seen (2 ^ 64 - 1)
-least place index before seen p q = omega arith
+-- bytes at a place of a piece are taken
+more : {W : Type 0} (contents : W → Option (List ℕ)) (start : Start) (lister : Lister) (block : Block W)
+    (seen piece : List ℕ) (index n m : ℕ) → m ≡ index + n →
+    GoesOn contents start lister block
+    ((seen ++ take index piece) ++ take n (take (length piece - index) (drop index piece)))
+    → GoesOn contents start lister block (seen ++ take m piece)
+more contents start lister block seen piece index n m e =
+    subst (GoesOn contents start lister block) (piece_front seen piece index n m e)
 
 pub returns-in-Err-clause-err : goal.returns-in-Err-clause-err
 returns-in-Err-clause-err g c = λ start seen h place.
@@ -24,10 +31,16 @@ returns-in-Err-clause-err g c = λ start seen h place.
     let front : length (take index piece) ≡ index = length-take-le index piece (omega arith) in
     let len : length so_far ≡ length seen + length (take index piece) = length-append seen (take index piece) in
     let far : length so_far ≡ length seen + index = omega arith in
-    let here : c.loop-index.self.place ≡ c.args.self.now.place = c.loop-index.invariant.place in
-    let at : min (c.loop-index.self.place + index) (2 ^ 64 - 1) ≡ min (length so_far) (2 ^ 64 - 1) =
-    least c.loop-index.self.place index (length seen) (length so_far) (here ∙ place) far in
-    let s = c.in-Err.ensures.err start so_far (c.loop-index.invariant.goes start seen h) in
+    let here : c.bytes_at_once-taken.new.self.place ≡ c.args.self.now.place = c.bytes_at_once-taken.ensures.place
+    ∙ c.loop-index.invariant.place in
+    let at : min (c.bytes_at_once-taken.new.self.place + index) (2 ^ 64 - 1) ≡ min (length so_far) (2 ^ 64 - 1) =
+    least c.bytes_at_once-taken.new.self.place index (length seen) (length so_far) (here ∙ place) far in
+    let none : index ≡ index + c.bytes_at_once-taken.result = omega arith in
+    let unmoved =
+    more g.W.Write.contents start c.bytes_at_once-taken.new.self c.bytes_at_once-taken.new.block seen piece index
+    c.bytes_at_once-taken.result index none
+    (c.bytes_at_once-taken.ensures.taken start so_far (c.loop-index.invariant.goes start seen h)) in
+    let s = c.in-Err.ensures.err start so_far unmoved in
     let listed = s.1.1 in
     let due = decided_by start.reading c.byte.new.self.source s.1.0 so_far listed.read in
     record {
@@ -39,23 +52,35 @@ returns-in-Err-clause-err g c = λ start seen h place.
       sends = listed.sends;
     }
 
--- one byte more of the piece
-next_byte : (seen piece : List ℕ) (index : ℕ) → index < length piece
-    → (seen ++ take index piece) ++ get_or piece index 0 ∷ [] ≡ seen ++ take (index + 1) piece
-next_byte seen piece index h = append_assoc seen (take index piece) (get_or piece index 0 ∷ [])
-    ∙ ap (λ x. seen ++ x) (sym (ap (λ n. take n piece) (add-one index) ∙ take-suc piece index 0 h))
+pub loop-index-preserved-then-taken-gt0 : goal.loop-index-preserved-then-taken-gt0
+loop-index-preserved-then-taken-gt0 g c = record {
+  within = omega (arith, c.bytes_at_once-taken.ensures.within, length-drop c.loop-index.index c.args.piece.now);
+  ready = c.bytes_at_once-taken.ensures.ready;
+  place = c.bytes_at_once-taken.ensures.place ∙ c.loop-index.invariant.place;
+  writer = c.bytes_at_once-taken.ensures.writer ∙ c.loop-index.invariant.writer;
+  goes = λ start seen h.
+      more g.W.Write.contents start c.bytes_at_once-taken.new.self c.bytes_at_once-taken.new.block seen c.args.piece.now
+      c.loop-index.index c.bytes_at_once-taken.result _ refl
+      (c.bytes_at_once-taken.ensures.taken start (seen ++ take c.loop-index.index c.args.piece.now)
+      (c.loop-index.invariant.goes start seen h));
+}
 
 pub loop-index-preserved : goal.loop-index-preserved
 loop-index-preserved g c = record {
   within = omega arith;
   ready = c.byte.ensures.ready;
-  place = c.byte.ensures.place ∙ c.loop-index.invariant.place;
-  writer = c.byte.ensures.writer ∙ c.loop-index.invariant.writer;
+  place = c.byte.ensures.place ∙ c.bytes_at_once-taken.ensures.place ∙ c.loop-index.invariant.place;
+  writer = c.byte.ensures.writer ∙ c.bytes_at_once-taken.ensures.writer ∙ c.loop-index.invariant.writer;
   goes = λ start seen h.
+      let none : c.loop-index.index ≡ c.loop-index.index + c.bytes_at_once-taken.result = omega arith in
+      let unmoved =
+      more g.W.Write.contents start c.bytes_at_once-taken.new.self c.bytes_at_once-taken.new.block seen c.args.piece.now
+      c.loop-index.index c.bytes_at_once-taken.result c.loop-index.index none
+      (c.bytes_at_once-taken.ensures.taken start (seen ++ take c.loop-index.index c.args.piece.now)
+      (c.loop-index.invariant.goes start seen h)) in
       subst (GoesOn g.W.Write.contents start c.byte.new.self c.byte.new.block)
       (next_byte seen c.args.piece.now c.loop-index.index c.loop-index-test.true)
-      (c.in_default.ensures.ok start (seen ++ take c.loop-index.index c.args.piece.now)
-      (c.loop-index.invariant.goes start seen h));
+      (c.in_default.ensures.ok start (seen ++ take c.loop-index.index c.args.piece.now) unmoved);
 }
 
 pub returns-clause-ok : goal.returns-clause-ok

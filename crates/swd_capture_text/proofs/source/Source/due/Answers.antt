@@ -1,11 +1,11 @@
-use Rattle.std.proofs.Common.{subst}
+use Rattle.std.proofs.Common.{[], ◌∷◌, subst}
 use Rattle.swd_capture_text.specs.Sources.{Has}
-use Rattle.swd_capture_text.proofs.SourceLemmas.{gives_item, on_none, still_capture}
+use Rattle.swd_capture_text.proofs.SourceLemmas.{gives_items, on_none, still_capture}
 use Rattle.swd_capture_text.proofs.source.Source.due.Goals as goal
 
 pub returns-in-Some-clause-part : goal.returns-in-Some-clause-part
 returns-in-Some-clause-part c = λ reading bits parts h.
-    gives_item reading c.in-Trace.decoder c.due.new.self bits parts c.in-Some.item
+    gives_items reading c.in-Trace.decoder c.due.new.self bits parts (c.in-Some.item ∷ [])
     (λ items has. c.in-Some.ensures.read bits items has) (subst (λ s. Has reading s bits parts) c.in-Trace.is h)
 
 pub returns-in-Capture-clause-none : goal.returns-in-Capture-clause-none

@@ -1,31 +1,23 @@
-use Rattle.std.proofs.Common.{◌≡◌, ℕ, suc, ◌+◌, ◌-◌, ◌^◌, ◌<◌, min, List, [], ◌∷◌, ◌++◌, length, take, drop, get_or}
-use Rattle.std.proofs.Common.{Option, refl, sym, ap, ◌∙◌, subst, append_assoc, add-one, take_all, arith}
-use Rattle.std.proofs.Math.Seq.{take-add, take-suc}
+use Rattle.std.proofs.Common.{◌≡◌, ℕ, suc, ◌+◌, ◌-◌, ◌^◌, ◌<◌, min, List, ◌++◌, length, take, drop, get_or}
+use Rattle.std.proofs.Common.{Option, refl, ◌∙◌, subst, take_all, arith}
 use Rattle.std.proofs.lemmas.List.{length-append, length-drop, length-take-le}
 use Rattle.swd_io.specs.declared.block.Block.{Block}
 use Rattle.swd_bits.proofs.ScanLemmas.{parted}
 use Rattle.swd_text.specs.Decoding.{StopsWith}
 use Rattle.swd_text.specs.Listers.{GoesOn, StopsAt}
 use Rattle.swd_text.specs.declared.lister.Lister.{Lister}
+use Rattle.swd_text.proofs.PieceLemmas.{least, next_byte, piece_front}
 use Rattle.swd_text.proofs.DecodingLemmas.{decided_by, stops_with}
 use Rattle.swd_text.proofs.lister.Lister.bytes.Goals as goal
 
-least : (place index before seen : ℕ) → place ≡ min before (2 ^ 64 - 1) → seen ≡ before + index
-    → min (place + index) (2 ^ 64 - 1) ≡ min seen (2 ^ 64 - 1)
-least place index before seen p q = omega arith
-
--- bytes at a place of a piece, as bytes of its front
+-- bytes at a place of a piece are taken
 more : {W : Type 0} (contents : W → Option (List ℕ)) (start : Option (List ℕ)) (lister : Lister) (block : Block W)
     (seen piece : List ℕ) (index n m : ℕ) → m ≡ index + n →
     GoesOn contents start lister block
     ((seen ++ take index piece) ++ take n (take (length piece - index) (drop index piece)))
     → GoesOn contents start lister block (seen ++ take m piece)
 more contents start lister block seen piece index n m e =
-    subst (GoesOn contents start lister block)
-    (ap (λ x. (seen ++ take index piece) ++ take n x)
-    (take_all _ (drop index piece) (omega (arith, length-drop index piece)))
-    ∙ append_assoc seen (take index piece) (take n (drop index piece))
-    ∙ ap (λ x. seen ++ x) (sym (take-add index n piece) ∙ ap (λ k. take k piece) (sym e)))
+    subst (GoesOn contents start lister block) (piece_front seen piece index n m e)
 
 pub returns-in-Err-clause-err : goal.returns-in-Err-clause-err
 returns-in-Err-clause-err g c = λ start seen h place.
@@ -60,12 +52,6 @@ returns-in-Err-clause-err g c = λ start seen h place.
           (subst (λ p. StopsAt fault p so_far byte) at s.0) due);
       sends = listed.sends;
     }
-
--- one byte more of the piece
-next_byte : (seen piece : List ℕ) (index : ℕ) → index < length piece
-    → (seen ++ take index piece) ++ get_or piece index 0 ∷ [] ≡ seen ++ take (index + 1) piece
-next_byte seen piece index h = append_assoc seen (take index piece) (get_or piece index 0 ∷ [])
-    ∙ ap (λ x. seen ++ x) (sym (ap (λ n. take n piece) (add-one index) ∙ take-suc piece index 0 h))
 
 pub loop-index-preserved-then-taken-gt0 : goal.loop-index-preserved-then-taken-gt0
 loop-index-preserved-then-taken-gt0 g c = record {

@@ -1,0 +1,21 @@
+use Rattle.std.proofs.Common.{◌≡◌, ℕ, ◌+◌, ◌*◌, ◌≤◌, List, Bool, ◌++◌}
+use Rattle.arrayvec.specs.ArrayString.{array_string_len}
+use Rattle.swd_bits.specs.Bits.{low_bits}
+use Rattle.swd_bits.specs.BitLists.{bits_of}
+use Rattle.swd_resync.specs.declared.part.Part.{Part}
+use Rattle.swd_capture.specs.declared.printed.Printed.TheVariants.{Lines}
+use Rattle.swd_capture.specs.Printing.{junk_parts, told}
+use Rattle.swd_capture.specs.Tellers.{IsAfter}
+use Rattle.swd_capture.proofs.teller.Teller.tell_junk_lines.Given as goal
+
+abbrev pub invariant-loop-left : goal.invariant-loop-left
+invariant-loop-left g l = record {
+  tells : (over : Bool) (parts : List Part) → IsAfter (Lines l.form) over parts l.fn.self
+      → (done : List Part) × (more : List ℕ) × IsAfter (Lines l.form) over done l.self
+      × (l.text.bytes ≡ l.fn.text.bytes ++ more) × (told (Lines l.form) over done ≡ told (Lines l.form) over parts ++ more)
+      × (done ++ junk_parts (low_bits l.left l.bits) ≡ parts ++ junk_parts (bits_of l.fn.junk));
+  room : array_string_len l.text + 29 * l.left ≤ array_string_len l.fn.text + 232;
+}
+
+abbrev pub decreases-loop-left : goal.decreases-loop-left
+decreases-loop-left g l = l.left
