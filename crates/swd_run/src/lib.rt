@@ -6,6 +6,8 @@
 mod engine;
 mod fault;
 mod going_on;
+pub mod laws;
+mod performing;
 mod report;
 mod running;
 mod texts;

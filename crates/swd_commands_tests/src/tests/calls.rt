@@ -358,7 +358,7 @@ const FAULTS: [Call; 10] = [
     ),
 ];
 
-const TARGETS: [Call; 11] = [
+const TARGETS: [Call; 12] = [
     (
         "a host is served",
         &["swd", "target", "memory"],
@@ -378,6 +378,14 @@ const TARGETS: [Call; 11] = [
     (
         "a target's script has accesses",
         &["swd", "target", "script"],
+        b"",
+        2,
+        b"",
+        b"swd: a target's script has no accesses and no next\n",
+    ),
+    (
+        "a target's script waits for a word",
+        &["swd", "target", "awaiting"],
         b"",
         2,
         b"",
