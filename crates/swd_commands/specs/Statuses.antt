@@ -35,9 +35,10 @@ status_of_end failed TriesOut = 1
 status_of_end failed (WrongId word) = 1
 status_of_end failed Confused = 1
 
--- a run fails its script if a word differs from the script's; a strict run also if an access met a bus error
+-- a run fails its script if a word differs from the script's, or the word of an `until` never came; a strict run also
+-- if an access met a bus error
 abbrev pub has_failed : Bool → Finished → Bool
-has_failed strict finished = (strict && finished.bus_fault) || is_some finished.differs
+has_failed strict finished = ((strict && finished.bus_fault) || is_some finished.differs) || finished.never_came
 
 -- the status of a run, strict or not; 2 at an error
 abbrev pub status_of_run : {F : Type 0} → Bool → Result Finished F → ℕ

@@ -24,7 +24,7 @@ use swd_words::{DecodeLine, DrawLine, Line, LineFault, RunLine, line};
 /// | Status | Meaning |
 /// |---|---|
 /// | 0 | all was done |
-/// | 1 | a call ended early, a word or byte differs, or a strict run or an image command met a bus error |
+/// | 1 | a call ended early, a word differs or never came, a byte differs, a strict run or an image met a bus error |
 /// | 2 | a usage, input, I/O or out-of-memory error: one line on standard error, or the lines of `clap` |
 pub fn run_words<I: Read, F: Files, O: Write, E: Write>(
     alloc: Global,

@@ -13,8 +13,9 @@ use swd_run::{Difference, Finished};
 /// The status if all was done.
 pub const DONE: u8 = 0;
 
-/// The status of a run that ended early, read a word that differs from the script's, or met a bus error although it is
-/// strict. Also of a command over an image that ended early, met a bus error, or found a byte that differs.
+/// The status of a run that ended early, read a word that differs from the script's, never read the word of an
+/// `until`, or met a bus error although it is strict. Also of a command over an image that ended early, met a bus
+/// error, or found a byte that differs.
 pub const STOPPED: u8 = 1;
 
 /// The status at a usage, input, I/O or out-of-memory error.
@@ -97,9 +98,9 @@ pub fn run_status<E: Write, F: Display + Drop>(
     }
 }
 
-/// Returns the status of a run that has a report: 0, or 1 if it ended early, a word differs from the script's, or a
-/// strict run met a bus error. Prints a line for the word that differs. If an access met a bus error and the simulated
-/// target's room is used up, prints a line for that first.
+/// Returns the status of a run that has a report: 0, or 1 if it ended early, a word differs from the script's, the word
+/// of an `until` never came, or a strict run met a bus error. Prints a line for the word that differs. If an access met
+/// a bus error and the simulated target's room is used up, prints a line for that first.
 pub fn finished_status<E: Write>(errors: &mut E, finished: Finished, strict: bool) -> u8
     ensures { result ≡ status_of_end (has_failed strict finished) finished.ended }
 {
@@ -108,7 +109,7 @@ pub fn finished_status<E: Write>(errors: &mut E, finished: Finished, strict: boo
         tell_difference(errors, difference);
         return STOPPED;
     }
-    let failed = strict && finished.bus_fault;
+    let failed = strict && finished.bus_fault || finished.never_came;
     match finished.ended {
         End::All if !failed => DONE,
         _ => STOPPED,

@@ -107,6 +107,7 @@ impl<'a> Files for Shelf<'a> {
             "list" | "./-" => Ok(file(name, DPIDR_LINE)),
             "script" => Ok(file(name, SCRIPT)),
             "memory" => Ok(file(name, b"memory 20000000 16\n")),
+            "awaiting" => Ok(file(name, b"memory 20000000 16\nuntil 20000000 1 1 3\n")),
             "quiet" => Ok(file(name, b"# nothing\n.\n")),
             "deaf" => Ok(file(name, b"deaf\n")),
             "cut" => Ok(file(name, CUT)),

@@ -66,11 +66,12 @@ is_block at count end = record {
 
 -- the call that reads them is one that a host takes
 pub block_batch : (at count : ℕ) → at % 4 ≡ 0 → count ≤ 65536 → at + 4 * count ≤ 2 ^ 32
-    → IsBatch (record { accesses = reads at count; block = Some at; expected = [] })
+    → IsBatch (record { accesses = reads at count; block = Some at; expected = []; until = None })
 block_batch at count aligned few end = record {
   few = let l = length_reads at count in omega (arith, few, l);
   accesses = aligned_reads at count aligned;
   block = is_block at count end;
+  waits = tt;
 }
 
 -- the words from the first that aren't read yet: those of the next call, and the others
@@ -84,11 +85,12 @@ reads_left at done many count l =
 
 -- the call that writes them is one that a host takes
 pub writes_batch : (word : ℕ → ℕ) (at count : ℕ) → at % 4 ≡ 0 → count ≤ 65536
-    → IsBatch (record { accesses = writes word at count; block = None; expected = [] })
+    → IsBatch (record { accesses = writes word at count; block = None; expected = []; until = None })
 writes_batch word at count aligned few = record {
   few = let l = length_writes word at count in omega (arith, few, l);
   accesses = aligned_writes word at count aligned;
   block = tt;
+  waits = tt;
 }
 
 -- the words from the first that aren't written yet: those of the next call, and the others

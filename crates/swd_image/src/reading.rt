@@ -19,6 +19,7 @@ fn block_at<A: Allocator + Copy>(alloc: A, at: u32, count: u32) -> Result<Batch<
       accesses = reads at count;
       block = Some at;
       expected = [];
+      until = None;
     }) }
     ensures fault { IfErr result (λ fault. fault ≡ Memory) }
 {
@@ -32,6 +33,7 @@ fn block_at<A: Allocator + Copy>(alloc: A, at: u32, count: u32) -> Result<Batch<
         accesses,
         block: Some(at),
         expected: Vec::new(alloc),
+        until: None,
     })
 }
 

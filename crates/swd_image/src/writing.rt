@@ -69,6 +69,7 @@ fn writes_at<A: Allocator + Copy>(
       accesses = writes (loaded_word addr bytes.now edges.head edges.tail) at count;
       block = None;
       expected = [];
+      until = None;
     }) }
     ensures fault { IfErr result (λ fault. fault ≡ Memory) }
 {
@@ -86,6 +87,7 @@ fn writes_at<A: Allocator + Copy>(
         accesses,
         block: None,
         expected: Vec::new(alloc),
+        until: None,
     })
 }
 

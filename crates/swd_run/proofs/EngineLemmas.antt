@@ -31,8 +31,9 @@ use Rattle.swd_run.specs.Records.{AreLeft, Files, ForFile, IfRecorded, IsLeft, f
 use Rattle.swd_observer.specs.Explained.{Explains}
 use Rattle.swd_observer.specs.Traces.{from_made, told_in}
 use Rattle.swd_run.specs.Running.{AnswersScript, IsTraceIn, RunsScript, full_room, memory_of, with_full}
-use Rattle.swd_run.specs.Sessions.{AreDone, Done, IsRefused, Runs, most_begun, none, requests_of, then}
+use Rattle.swd_run.specs.Sessions.{Done, IsRefused, Runs, ended_of, most_begun, none, requests_of, then}
 use Rattle.swd_run.specs.Sessions.{unresumed, unsent}
+use Rattle.swd_run.specs.Unfoldings.{AreDone, BatchRuns, IsCutShort, Unfolds, again, calls_of, runs_of}
 use Rattle.swd_run.proofs.RunLemmas.{made_rests}
 use Rattle.swd_run.proofs.SessionLemmas.{script_runs}
 use Rattle.swd_run.proofs.WentLemmas.{law_before}
@@ -76,8 +77,9 @@ pub left_files : (files : Files) → AreLeft files files
 left_files files = record { trace = left_alone files.trace; accesses = left_alone files.accesses }
 
 -- each account of what ran is one of another kind, with the same runs and the same traces
-pub answers_as : {X U Y V : Type 0} (batches : List Listed) (used : Option ℕ) (runs : Y → List Done) (before : V → List Done)
-    (IsWhole IsPart : X → List Item → Type 0) (IsWholeToo IsPartToo : Y → List Item → Type 0) (f : X → Y) (e : U → V)
+pub answers_as : {X U Y V : Type 0} (batches : List Listed) (used : Option ℕ) (runs : Y → List BatchRuns)
+    (before : V → List BatchRuns) (IsWhole IsPart : X → List Item → Type 0)
+    (IsWholeToo IsPartToo : Y → List Item → Type 0) (f : X → Y) (e : U → V)
     → ((x : X) (items : List Item) → IsWhole x items → IsWholeToo (f x) items)
     → ((x : X) (items : List Item) → IsPart x items → IsPartToo (f x) items)
     → (answer : Result Finished EngineFault) (old new : Option (List ℕ)) (held now : Files)
@@ -134,8 +136,20 @@ module _ {W V : Type 0} (by : W → V) (port : V → Port) (plan : V → List Ma
         → Ran (λ w. port (by w)) (λ w. plan (by w)) (λ w. lawful (by w)) tries resumes batches s t
         → Ran port plan lawful tries resumes batches (by s) (by t)
     ran_by batches s t over = record {
+      made = over.made;
+      unfolds = over.unfolds;
+      are = runs_by s (calls_of batches over.made) (runs_of over.made) t over.are;
+    }
+
+    cut_by : (batch : Listed) (s t : W)
+        → IsCutShort (λ w. port (by w)) (λ w. plan (by w)) (λ w. lawful (by w)) tries resumes batch s t
+        → IsCutShort port plan lawful tries resumes batch (by s) (by t)
+    cut_by batch s t over = record {
       runs = over.runs;
-      are = runs_by s (take (length over.runs) batches) over.runs t over.are;
+      are = over.are;
+      between = by over.between;
+      earlier = runs_by s (again batch over.runs) over.runs over.between over.earlier;
+      refused = refused_by (most_begun batch) batch over.between t over.refused;
     }
 
     abbrev short_by : (batches : List Listed) (s t : W)
@@ -145,10 +159,11 @@ module _ {W V : Type 0} (by : W → V) (port : V → Port) (plan : V → List Ma
       between = by over.between;
       before = ran_by batches s over.between over.before;
       all = over.all;
+      came = over.came;
       batch = over.batch;
       later = over.later;
       next = over.next;
-      refused = refused_by (most_begun over.batch) over.batch over.between t over.refused;
+      refused = cut_by over.batch over.between t over.refused;
     }
 
     -- and so are the answers
@@ -159,7 +174,7 @@ module _ {W V : Type 0} (by : W → V) (port : V → Port) (plan : V → List Ma
     answers_by batches s t start end begins ends answer old new before after h =
         subst (λ x. AnswersOver port plan lawful tries resumes batches x end answer old new before after) begins
         (subst (λ x. AnswersOver port plan lawful tries resumes batches (by s) x answer old new before after) ends
-        (answers_as batches None (λ over. over.runs) (λ over. over.before.runs) IsTraceOver IsOfTraceOver IsTraceOver
+        (answers_as batches None (λ over. over.made) (λ over. over.before.made) IsTraceOver IsOfTraceOver IsTraceOver
         IsOfTraceOver (ran_by batches s t) (short_by batches s t)
         (λ over items is. record {
           read = is.read;
@@ -203,8 +218,8 @@ module _ {W : Type 0} (port : W → Port) (plan : W → List Mark) (lawful : W �
     (batches : List Listed) (start end : W) (old new : Option (List ℕ)) where
   -- they were written
   pub recorded_in : (finished : Finished) (cut : Bool) (items : List Item) (over : Ran port plan lawful tries resumes
-      batches start end) → AreDone batches over.runs → IsFinished batches over.runs None finished
-      → Appends old new (session_text batches over.runs) → (cut ≡ false → IsTraceOver over items) → IsOfTraceOver over items
+      batches start end) → AreDone batches over.made → IsFinished batches over.made None finished
+      → Appends old new (session_text batches over.made) → (cut ≡ false → IsTraceOver over items) → IsOfTraceOver over items
       → (before after : Files) → is_recorded before ≡ true → (answer : Result Finished EngineFault)
       → TellsRecords finished cut items before after answer
       → AnswersOver port plan lawful tries resumes batches start end answer old new before after
@@ -259,6 +274,21 @@ law_refused port plan lawful tries resumes batch s t (unsent same) law = subst l
 law_refused port plan lawful tries resumes batch s t (unresumed {stops = stops} {told = told} went lost few) law =
     law_before port plan lawful (most_begun batch) batch.accesses tries s stops told t went law
 
+law_runs : {W : Type 0} (port : W → Port) (plan : W → List Mark) (lawful : W → Type 0) (tries resumes : ℕ)
+    (s t : W) (batches : List Listed) (runs : List Done)
+    → Runs port plan lawful most_begun tries resumes s batches runs t → lawful t → lawful s
+law_runs port plan lawful tries resumes s t batches runs none law = law
+law_runs port plan lawful tries resumes s t batches runs
+    (then {batches = before} {runs = earlier} {t = u} {u = v} {batch = batch} {run = run} prior all goes) law =
+    law_runs port plan lawful tries resumes s u before earlier prior
+    (law_before port plan lawful (most_begun batch) batch.accesses tries u run.stops run.told v goes.went law)
+
+law_cut : {W : Type 0} (port : W → Port) (plan : W → List Mark) (lawful : W → Type 0) (tries resumes : ℕ)
+    (batch : Listed) (s t : W) → IsCutShort port plan lawful tries resumes batch s t → lawful t → lawful s
+law_cut port plan lawful tries resumes batch s t over law =
+    law_runs port plan lawful tries resumes s over.between (again batch over.runs) over.runs over.earlier
+    (law_refused port plan lawful tries resumes batch over.between t over.refused law)
+
 made_seen : {W : Type 0} (traced : Bool) (port : W → Port) (m : PlainMemory) (w : W) → port w ≡ made 731911287 m
     → port_seen traced port (0, w) ≡ made 731911287 m
 made_seen false port m w is_made = is_made
@@ -276,16 +306,22 @@ marks_seen false port disturbed lost n w h = h
 marks_seen true port disturbed lost n w h = h
 
 -- what an answer says with the room that is used up
-full_answers : {Came Short : Type 0} (batches : List Listed) (used : Option ℕ) (runs : Came → List Done)
-    (before : Short → List Done) (IsWhole IsPart : Came → List Item → Type 0) (answer : Result Finished EngineFault)
-    (old new : Option (List ℕ)) (held now : Files)
+full_answers : {Came Short : Type 0} (batches : List Listed) (used : Option ℕ) (runs : Came → List BatchRuns)
+    (before : Short → List BatchRuns) (IsWhole IsPart : Came → List Item → Type 0)
+    (answer : Result Finished EngineFault) (old new : Option (List ℕ)) (held now : Files)
     → Answers {Came = Came} {Short = Short} batches None runs before IsWhole IsPart answer old new held now
     → Answers {Came = Came} {Short = Short} batches used runs before IsWhole IsPart (with_full used answer) old new held
     now
 full_answers batches used runs before IsWhole IsPart (Ok finished) old new held now h = (
   h.0,
   h.1,
-  record { ended = h.2.ended; differs = h.2.differs; bus_fault = h.2.bus_fault; full = refl },
+  record {
+    ended = h.2.ended;
+    never_came = h.2.never_came;
+    differs = h.2.differs;
+    bus_fault = h.2.bus_fault;
+    full = refl;
+  },
   h.3,
   h.4,
 )
@@ -308,31 +344,34 @@ script_answers port plan lawful tries resumes script marks s t is_made planned m
     let seen = port_seen traced port in
     let begins : seen (0, s) ≡ made 731911287 (memory_of script) = made_seen traced port (memory_of script) s is_made in
     let rest : IsAtRest (seen (0, s)) = made_rests (memory_of script) (seen (0, s)) begins in
-    let runs_at = λ (runs : List Done) (end : ℕ × _) (law : lawful end.1)
+    let runs_at = λ (runs : List BatchRuns) (end : ℕ × _) (law : lawful end.1)
+    (unfolds : Unfolds (take (length runs) script.batches) runs)
     (are : Runs seen (λ x. plan x.1) (λ x. lawful x.1) most_begun tries resumes (0, s)
-    (take (length runs) script.batches) runs end).
+    (calls_of script.batches runs) (runs_of runs) end).
     script_runs seen (λ x. plan x.1) (λ x. lawful x.1) tries resumes script marks runs (0, s) end begins planned
-    (λ x same. marks_seen traced port (disturbed_among marks) (lost_among marks) x.0 x.1 (marked x.1 same)) law are in
+    (λ x same. marks_seen traced port (disturbed_among marks) (lost_among marks) x.0 x.1 (marked x.1 same)) law unfolds
+    are in
     let left_seen : (seen (h.0, t)).target.memory ≡ memory = memory_seen traced port h.0 t ∙ sym left in (
       memory,
-      full_answers script.batches (full_room script.room memory) (λ over. over.runs) (λ over. over.runs)
-          (λ ran items. IsTraceIn memory ran.runs items)
-          (λ ran items. IsOfTrace (requests_of ran.runs) items) answer old new before after
-          (answers_as script.batches None (λ over. over.runs) (λ over. over.runs) IsTraceOver IsOfTraceOver
-          (λ ran items. IsTraceIn memory ran.runs items)
-          (λ ran items. IsOfTrace (requests_of ran.runs) items)
+      full_answers script.batches (full_room script.room memory) (λ over. over.made) (λ over. over.made)
+          (λ ran items. IsTraceIn memory (runs_of ran.made) items)
+          (λ ran items. IsOfTrace (requests_of (runs_of ran.made)) items) answer old new before after
+          (answers_as script.batches None (λ over. over.made) (λ over. over.made) IsTraceOver IsOfTraceOver
+          (λ ran items. IsTraceIn memory (runs_of ran.made) items)
+          (λ ran items. IsOfTrace (requests_of (runs_of ran.made)) items)
           (λ over. record {
-            runs = over.runs;
-            are = subst (RunsScript tries resumes script marks over.runs) left_seen
-                (runs_at over.runs (h.0, t) law over.are);
+            made = over.made;
+            are = subst (RunsScript tries resumes script marks over.made) left_seen
+                (runs_at over.made (h.0, t) law over.unfolds over.are);
           })
           (λ over. record {
-            runs = over.before.runs;
+            made = over.before.made;
             memory = (seen over.between).target.memory;
-            are = runs_at over.before.runs over.between
-                (law_refused seen (λ x. plan x.1) (λ x. lawful x.1) tries resumes over.batch over.between (h.0, t)
-                over.refused law) over.before.are;
+            are = runs_at over.before.made over.between
+                (law_cut seen (λ x. plan x.1) (λ x. lawful x.1) tries resumes over.batch over.between (h.0, t)
+                over.refused law) over.before.unfolds over.before.are;
             all = over.all;
+            came = over.came;
           })
           (λ over items is. record {
             is = is.whole law rest;

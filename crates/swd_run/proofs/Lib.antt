@@ -3,6 +3,8 @@ pub mod ReportLemmas
 pub mod RunLemmas
 pub mod WentLemmas
 pub mod SessionLemmas
+pub mod UnfoldingLemmas
+pub mod LawLemmas
 pub mod Reported
 pub mod VerifiedLemmas
 pub mod WorkedReports

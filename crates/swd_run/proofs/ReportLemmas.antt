@@ -2,7 +2,7 @@
 use Rattle.std.proofs.lemmas.List.{append-nil, drop_all, drop_min, drop-take, length-take, take_all, take_min}
 use Rattle.std.proofs.Math.Seq.{drop-cons}
 use Rattle.std.proofs.Common.{◌≡◌, ℕ, zero, suc, ◌+◌, ◌-◌, ◌<◌, ◌≤◌, List, [], ◌∷◌, ◌++◌, length, take, drop}
-use Rattle.std.proofs.Common.{get_or, min, refl, sym, ap, ap₂, ◌∙◌, append_assoc, arith, add-one}
+use Rattle.std.proofs.Common.{Option, get_or, min, refl, sym, ap, ap₂, ◌∙◌, append_assoc, arith, add-one}
 use Rattle.swd_port.specs.declared.access.Access.{Access}
 use Rattle.swd_port.specs.declared.access.Answer.{Answer}
 use Rattle.swd_run.specs.declared.going_on.Stop.{Stop}
@@ -81,25 +81,26 @@ pub text_next : (all text part line : List ℕ) → ((all ++ text) ++ part) ++ l
 text_next all text part line =
     append_assoc (all ++ text) part line ∙ append_assoc all text (part ++ line)
 
-pub lines_next : (accesses : List Access) (answers : List Answer) (stops : List Stop) (i from : ℕ) (d : Stop)
-    (text whole part line : List ℕ) → i < length stops →
-    part ≡ lines_between from (get_or stops i d).answered accesses answers → line ≡ resume_line (get_or stops i d) →
-    text ++ lines_from from (drop i stops) accesses answers ≡ whole →
-    (text ++ (part ++ (line ++ 10 ∷ []))) ++ lines_from (get_or stops i d).answered (drop (i + 1) stops) accesses
+pub lines_next : (reads : Option ℕ) (accesses : List Access) (answers : List Answer) (stops : List Stop) (i from : ℕ)
+    (d : Stop) (text whole part line : List ℕ) → i < length stops →
+    part ≡ lines_between reads from (get_or stops i d).answered accesses answers
+    → line ≡ resume_line (get_or stops i d) →
+    text ++ lines_from reads from (drop i stops) accesses answers ≡ whole →
+    (text ++ (part ++ (line ++ 10 ∷ []))) ++ lines_from reads (get_or stops i d).answered (drop (i + 1) stops) accesses
     answers ≡ whole
-lines_next accesses answers stops i from d text whole part line low part_is line_is e =
+lines_next reads accesses answers stops i from d text whole part line low part_is line_is e =
     let stop = get_or stops i d in
-    let rest = lines_from stop.answered (drop (i + 1) stops) accesses answers in
+    let rest = lines_from reads stop.answered (drop (i + 1) stops) accesses answers in
     let split : drop i stops ≡ stop ∷ drop (i + 1) stops = drop-cons stops i d low
     ∙ ap (λ n. stop ∷ drop n stops) (sym (add-one i)) in
     append_assoc text (part ++ (line ++ 10 ∷ [])) rest ∙ ap (λ l. text ++ l) (append_assoc part (line ++ 10 ∷ []) rest)
     ∙ ap₂ (λ x y. text ++ (x ++ ((y ++ 10 ∷ []) ++ rest))) part_is line_is
-    ∙ ap (λ l. text ++ lines_from from l accesses answers) (sym split) ∙ e
+    ∙ ap (λ l. text ++ lines_from reads from l accesses answers) (sym split) ∙ e
 
 -- and no line more
-pub lines_end : (accesses : List Access) (answers : List Answer) (stops : List Stop) (i from : ℕ) (text whole : List ℕ)
-    → length stops ≤ i →
-    text ++ lines_from from (drop i stops) accesses answers ≡ whole
-    → text ++ answer_lines (drop from accesses) (drop from answers) ≡ whole
-lines_end accesses answers stops i from text whole high e =
-    ap (λ l. text ++ lines_from from l accesses answers) (sym (drop_all i stops high)) ∙ e
+pub lines_end : (reads : Option ℕ) (accesses : List Access) (answers : List Answer) (stops : List Stop) (i from : ℕ)
+    (text whole : List ℕ) → length stops ≤ i →
+    text ++ lines_from reads from (drop i stops) accesses answers ≡ whole
+    → text ++ answer_lines reads (drop from accesses) (drop from answers) ≡ whole
+lines_end reads accesses answers stops i from text whole high e =
+    ap (λ l. text ++ lines_from reads from l accesses answers) (sym (drop_all i stops high)) ∙ e

@@ -1,6 +1,6 @@
 -- The runs of a script so far, and the report of them that was written.
 use Rattle.std.proofs.Common.{◌≡◌, ℕ, ◌+◌, ◌-◌, ◌<◌, ◌≤◌, ◌^◌, ◌∙◌, List, [], ◌∷◌, ◌++◌, length, take, drop, Option, None}
-use Rattle.std.proofs.Common.{Ok, Err, inl, min, refl, sym, ap, subst, arith}
+use Rattle.std.proofs.Common.{Ok, Err, inl, min, false, refl, sym, ap, ap₂, subst, arith}
 use Rattle.std.proofs.KnownBytes.{Appends-nil, Appends-trans}
 use Rattle.std.proofs.Math.Seq.{take-append-add}
 use Rattle.std.proofs.lemmas.List.{length-append, length-take}
@@ -10,31 +10,41 @@ use Rattle.swd_io.specs.Blocks.{Stopped}
 use Rattle.swd_port.specs.declared.mark.Mark.{Mark}
 use Rattle.swd_port.specs.Port.{Port}
 use Rattle.swd_host.specs.declared.outcome.End.TheVariants.{All}
+use Rattle.swd_script.specs.Laws.{IsBatch}
 use Rattle.swd_script.specs.Scripts.{Listed}
 use Rattle.swd_run.specs.declared.engine.Finished.{Finished}
 use Rattle.swd_run.specs.declared.fault.EngineFault.TheVariants.{Memory, Write}
 use Rattle.swd_run.specs.Engine.{AnswersOver, IsFinished, Ran}
 use Rattle.swd_run.specs.Records.{AreLeft, no_files}
-use Rattle.swd_run.specs.Reports.{HasWritten, run_report, session_text}
-use Rattle.swd_run.specs.Sessions.{Done, GoesOn, IsRefused, Runs, most_begun, none, then}
+use Rattle.swd_run.specs.Reports.{HasWritten, batch_report, run_report, session_text}
+use Rattle.swd_run.specs.Sessions.{Done, Runs, most_begun, none, then}
+use Rattle.swd_run.specs.Unfoldings.{AreOf, BatchRuns, IsCutShort, Performs, Unfolds, again, calls_of, ends_until}
+use Rattle.swd_run.specs.Unfoldings.{never_came, no_batch, reads_of, runs_of}
+use Rattle.swd_run.specs.Unfoldings.{one_more as batch_more}
 use Rattle.swd_run.specs.Verified.{difference_in, first_difference, has_bus_fault, or_else}
 use Rattle.swd_run.proofs.ReportLemmas.{pairs_front, pairs_last}
-use Rattle.swd_run.proofs.SessionLemmas.{as_many, ended_last}
-use Rattle.swd_run.proofs.VerifiedLemmas.{difference_front, difference_last, fault_last}
+use Rattle.swd_run.proofs.UnfoldingLemmas.{calls_front, calls_last, ended_earlier, made_differs, made_ended}
+use Rattle.swd_run.proofs.UnfoldingLemmas.{made_faults, made_many, runs_append, runs_last, until_front, until_last}
 
--- how runs came out, and one more
-pub finished_and : (finished next : Finished) (batch : Listed) (run : Done) → next.ended ≡ run.told.ended
-    → next.differs ≡ or_else finished.differs (difference_in batch.expected run.told.answers)
-    → next.bus_fault ≡ (finished.bus_fault || has_bus_fault run.told.answers) → next.full ≡ finished.full → (batches : List Listed)
-    (runs : List Done) → length runs ≡ length batches → IsFinished batches runs None finished
-    → IsFinished (batches ++ batch ∷ []) (runs ++ run ∷ []) None next
-finished_and finished next batch run ended differs bus_fault full batches runs same is = record {
-  ended = ended ∙ sym (ended_last runs run);
-  differs = differs ∙ ap (λ d. or_else d (difference_in batch.expected run.told.answers)) is.differs
-      ∙ sym (difference_last batches runs batch run same);
-  bus_fault = bus_fault ∙ ap (λ b. b || has_bus_fault run.told.answers) is.bus_fault ∙ sym (fault_last runs run);
-  full = full ∙ is.full;
-}
+-- how runs came out, and those of one batch more
+pub finished_and : (finished next : Finished) (batch : Listed) (runs : BatchRuns) → IsBatch batch → AreOf batch runs
+    → next.ended ≡ runs.last.told.ended → next.never_came ≡ never_came batch.until runs.last.told
+    → next.differs ≡ or_else finished.differs (difference_in batch.expected runs.last.told.answers)
+    → next.bus_fault ≡ (finished.bus_fault || has_bus_fault runs.last.told.answers) → next.full ≡ finished.full
+    → (batches : List Listed) (made : List BatchRuns) → Unfolds batches made → IsFinished batches made None finished
+    → IsFinished (batches ++ batch ∷ []) (made ++ runs ∷ []) None next
+finished_and finished next batch runs fits are ended came differs bus_fault full batches made unfolds is =
+    let same = made_many batches made unfolds in
+    let reads = runs.last.told.answers in
+    record {
+      ended = ended ∙ sym (made_ended made runs);
+      never_came = came ∙ sym (until_last batches made batch runs same);
+      differs = differs ∙ ap (λ d. or_else d (difference_in batch.expected reads)) is.differs
+          ∙ sym (made_differs batches made batch runs same fits are);
+      bus_fault = bus_fault ∙ ap (λ b. b || has_bus_fault reads) is.bus_fault
+          ∙ sym (made_faults made batch.until runs are.earlier);
+      full = full ∙ is.full;
+    }
 
 -- without files nothing is written to one
 untouched : AreLeft no_files no_files
@@ -68,14 +78,16 @@ module _ {W : Type 0} (port : W → Port) (plan : W → List Mark) (lawful : W �
   -- The runs of the first i batches, to this state of the wire, with what they come to. The report's writer has their
   -- report, and so many bytes are counted.
   pub record SoFar (i : ℕ) (t : W) (now : Option (List ℕ)) (finished : Finished) (written : ℕ) : Type 0 where
-    pub runs : List Done
-    pub are : Runs port plan lawful most_begun tries resumes s (take i batches) runs t
-    pub is : IsFinished (take i batches) runs None finished
-    pub gone : HasWritten old now (session_text (take i batches) runs) written
+    pub made : List BatchRuns
+    pub unfolds : Unfolds (take i batches) made
+    pub are : Runs port plan lawful most_begun tries resumes s (calls_of (take i batches) made) (runs_of made) t
+    pub is : IsFinished (take i batches) made None finished
+    pub gone : HasWritten old now (session_text (take i batches) made) written
 
   pub none_yet : (finished : Finished) → IsFinished [] [] None finished → SoFar 0 s old finished 0
   none_yet finished is = record {
-    runs = [];
+    made = [];
+    unfolds = no_batch;
     are = none;
     is = is;
     gone = record { gone = Appends-nil old; count = refl };
@@ -83,39 +95,46 @@ module _ {W : Type 0} (port : W → Port) (plan : W → List Mark) (lawful : W �
 
   module _ (i : ℕ) (t : W) (now : Option (List ℕ)) (finished : Finished) (written : ℕ)
       (so_far : SoFar i t now finished written) where
-    as_batches : length so_far.runs ≡ length (take i batches)
-    as_batches = as_many port plan lawful most_begun tries resumes s (take i batches) so_far.runs t so_far.are
+    as_batches : length so_far.made ≡ length (take i batches)
+    as_batches = made_many (take i batches) so_far.made so_far.unfolds
 
-    counted : i ≤ length batches → length so_far.runs ≡ i
+    counted : i ≤ length batches → length so_far.made ≡ i
     counted low =
         let few = length-take i batches in
         let same = as_batches in
         omega (arith, few, same, low)
 
+    -- what is said of the batches that were run is said of all batches
+    front : {X : Type 0} (f : List Listed → List BatchRuns → X)
+        → ((batches : List Listed) (made : List BatchRuns) → f (take (length made) batches) made ≡ f batches made)
+        → i ≤ length batches → f (take i batches) so_far.made ≡ f batches so_far.made
+    front f same low =
+        ap (λ n. f (take n batches) so_far.made) (sym (counted low)) ∙ same batches so_far.made
+
     front_text : i ≤ length batches
-        → session_text (take i batches) so_far.runs ≡ session_text batches so_far.runs
-    front_text low =
-        ap (λ n. session_text (take n batches) so_far.runs) (sym (counted low))
-        ∙ pairs_front run_report batches so_far.runs
+        → session_text (take i batches) so_far.made ≡ session_text batches so_far.made
+    front_text low = front session_text (pairs_front batch_report) low
 
     abbrev ran : i ≤ length batches → Ran port plan lawful tries resumes batches s t
     ran low = record {
-      runs = so_far.runs;
-      are = subst (λ n. Runs port plan lawful most_begun tries resumes s (take n batches) so_far.runs t)
-          (sym (counted low)) so_far.are;
+      made = so_far.made;
+      unfolds = subst (λ n. Unfolds (take n batches) so_far.made) (sym (counted low)) so_far.unfolds;
+      are = subst (λ calls. Runs port plan lawful most_begun tries resumes s calls (runs_of so_far.made) t)
+          (front calls_of calls_front low) so_far.are;
     }
 
-    -- no run is left, or the last one did not end all
-    pub all_told : i ≤ length batches → (finished.ended ≡ All → i ≡ length batches)
+    -- no run is left, or the last one did not end all, or its word never came
+    pub all_told : i ≤ length batches → (finished.ended ≡ All → finished.never_came ≡ false → i ≡ length batches)
         → AnswersOver port plan lawful tries resumes batches s t (Ok finished) old now no_files no_files
     all_told low whole = (
       ran low,
-      λ all. counted low ∙ whole (so_far.is.ended ∙ all),
+      λ all came. counted low
+          ∙ whole (so_far.is.ended ∙ all) (so_far.is.never_came ∙ front ends_until until_front low ∙ came),
       record {
         ended = so_far.is.ended;
+        never_came = so_far.is.never_came ∙ front ends_until until_front low;
         differs = so_far.is.differs
-            ∙ ap (λ n. first_difference (take n batches) so_far.runs) (sym (counted low))
-            ∙ difference_front batches so_far.runs;
+            ∙ ap (λ calls. first_difference calls (runs_of so_far.made)) (front calls_of calls_front low);
         bus_fault = so_far.is.bus_fault;
         full = so_far.is.full;
       },
@@ -124,15 +143,16 @@ module _ {W : Type 0} (port : W → Port) (plan : W → List Mark) (lawful : W �
     )
 
     -- memory was refused for the next one
-    pub refused_next : finished.ended ≡ All → i ≤ length batches → (batch : Listed) (later : List Listed)
-        → drop i batches ≡ batch ∷ later → (u : W)
-        → IsRefused port plan lawful (most_begun batch) tries resumes batch t u
+    pub refused_next : finished.ended ≡ All → finished.never_came ≡ false → i ≤ length batches → (batch : Listed)
+        (later : List Listed) → drop i batches ≡ batch ∷ later → (u : W)
+        → IsCutShort port plan lawful tries resumes batch t u
         → AnswersOver port plan lawful tries resumes batches s u (Err Memory) old now no_files no_files
-    refused_next all low batch later next u refused = (
+    refused_next all came low batch later next u refused = (
       record {
         between = t;
         before = ran low;
         all = sym so_far.is.ended ∙ all;
+        came = sym (so_far.is.never_came ∙ front ends_until until_front low) ∙ came;
         batch = batch;
         later = later;
         next = ap (λ n. drop n batches) (counted low) ∙ next;
@@ -142,65 +162,93 @@ module _ {W : Type 0} (port : W → Port) (plan : W → List Mark) (lawful : W �
       untouched,
     )
 
-    -- the run of the next batch
-    module _ (all : finished.ended ≡ All) (batch : Listed) (split : take (i + 1) batches ≡ take i batches ++ batch ∷ [])
-        (run : Done) (u : W) (goes : GoesOn port plan lawful (most_begun batch) tries resumes batch t run u)
-        (new : Option (List ℕ)) where
-      runs_next : Runs port plan lawful most_begun tries resumes s (take (i + 1) batches) (so_far.runs ++ run ∷ []) u
-      runs_next = subst (λ z. Runs port plan lawful most_begun tries resumes s z (so_far.runs ++ run ∷ []) u) (sym split)
-          (then so_far.are (sym so_far.is.ended ∙ all) goes)
+    -- the runs of the next batch
+    module _ (all : finished.ended ≡ All) (came : finished.never_came ≡ false) (batch : Listed)
+        (split : take (i + 1) batches ≡ take i batches ++ batch ∷ []) (runs : BatchRuns) (u : W)
+        (performs : Performs port plan lawful tries resumes batch t runs u) (reads : ℕ) (last : Done)
+        (last_is : runs.last ≡ last) (reads_are : reads_of runs ≡ reads) (new : Option (List ℕ)) where
+      -- the report of a batch is that of its last run
+      last_report : run_report batch reads last ≡ batch_report batch runs
+      last_report = sym (ap₂ (run_report batch) reads_are last_is)
 
-      text_next : session_text (take i batches) so_far.runs ++ run_report batch run
-          ≡ session_text (take (i + 1) batches) (so_far.runs ++ run ∷ [])
+      unfolds_next : Unfolds (take (i + 1) batches) (so_far.made ++ runs ∷ [])
+      unfolds_next = subst (λ z. Unfolds z (so_far.made ++ runs ∷ [])) (sym split)
+          (batch_more so_far.unfolds (sym so_far.is.never_came ∙ came) performs.are)
+
+      runs_next : Runs port plan lawful most_begun tries resumes s (calls_of (take (i + 1) batches)
+          (so_far.made ++ runs ∷ [])) (runs_of (so_far.made ++ runs ∷ [])) u
+      runs_next =
+          let before = calls_of (take i batches) so_far.made in
+          let next : List Listed = again batch runs.earlier ++ batch ∷ [] in
+          let ended : List Done = runs.earlier ++ runs.last ∷ [] in
+          let calls : before ++ next ≡ calls_of (take (i + 1) batches) (so_far.made ++ runs ∷ []) =
+          sym (calls_last (take i batches) so_far.made batch runs as_batches)
+          ∙ ap (λ z. calls_of z (so_far.made ++ runs ∷ [])) (sym split) in
+          subst (λ z. Runs port plan lawful most_begun tries resumes s z (runs_of (so_far.made ++ runs ∷ [])) u) calls
+          (subst (λ z. Runs port plan lawful most_begun tries resumes s (before ++ next) z u)
+          (sym (runs_last so_far.made runs))
+          (runs_append port plan lawful most_begun tries resumes s t u before next (runs_of so_far.made) ended
+          so_far.are (sym so_far.is.ended ∙ all)
+          (then performs.earlier (ended_earlier batch.until runs.earlier performs.are.earlier) performs.last)))
+
+      text_next : session_text (take i batches) so_far.made ++ batch_report batch runs
+          ≡ session_text (take (i + 1) batches) (so_far.made ++ runs ∷ [])
       text_next =
-          sym (pairs_last run_report (take i batches) so_far.runs batch run as_batches)
-          ∙ ap (λ z. session_text z (so_far.runs ++ run ∷ [])) (sym split)
+          sym (pairs_last batch_report (take i batches) so_far.made batch runs as_batches)
+          ∙ ap (λ z. session_text z (so_far.made ++ runs ∷ [])) (sym split)
 
-      pub one_more : (more total : ℕ) → HasWritten now new (run_report batch run) more → Sums total written more
-          → (finished_next : Finished)
-          → ((batches : List Listed) (runs : List Done) → length runs ≡ length batches → IsFinished batches runs None finished
-          → IsFinished (batches ++ batch ∷ []) (runs ++ run ∷ []) None finished_next)
+      pub one_more : (written_next total : ℕ) → HasWritten now new (run_report batch reads last) written_next
+          → Sums total written written_next → IsBatch batch → (finished_next : Finished)
+          → ((batches : List Listed) (made : List BatchRuns) (runs : BatchRuns) → Unfolds batches made → IsBatch batch
+          → AreOf batch runs → runs.last ≡ last → IsFinished batches made None finished
+          → IsFinished (batches ++ batch ∷ []) (made ++ runs ∷ []) None finished_next)
           → SoFar (i + 1) u new finished_next total
-      one_more more total wrote sum finished_next and =
-          let front = session_text (take i batches) so_far.runs in
-          let len = length-append front (run_report batch run) in
+      one_more written_next total wrote_last sum fits finished_next and =
+          let wrote = subst (λ text. HasWritten now new text written_next) last_report wrote_last in
+          let front = session_text (take i batches) so_far.made in
+          let len = length-append front (batch_report batch runs) in
           let same = ap length text_next in
           record {
-            runs = so_far.runs ++ run ∷ [];
+            made = so_far.made ++ runs ∷ [];
+            unfolds = unfolds_next;
             are = runs_next;
-            is = subst (λ z. IsFinished z (so_far.runs ++ run ∷ []) None finished_next) (sym split)
-                (and (take i batches) so_far.runs as_batches so_far.is);
+            is = subst (λ z. IsFinished z (so_far.made ++ runs ∷ []) None finished_next) (sym split)
+                (and (take i batches) so_far.made runs so_far.unfolds fits performs.are last_is so_far.is);
             gone = record {
               gone = subst (Appends old new) text_next
-                  (Appends-trans old now new front (run_report batch run) so_far.gone.gone wrote.gone);
-              count = counts total written more (length front) (length (run_report batch run)) sum so_far.gone.count
-                  wrote.count ∙ ap (λ n. min n (2 ^ 64 - 1)) (sym len ∙ same);
+                  (Appends-trans old now new front (batch_report batch runs) so_far.gone.gone wrote.gone);
+              count = counts total written written_next (length front) (length (batch_report batch runs)) sum
+                  so_far.gone.count wrote.count ∙ ap (λ n. min n (2 ^ 64 - 1)) (sym len ∙ same);
             };
           }
 
-      pub stopped_in : (more total : ℕ) → i < length batches → Stopped more now new (run_report batch run)
-          → Sums total written more
+      pub stopped_in : (written_next total : ℕ) → i < length batches
+          → Stopped written_next now new (run_report batch reads last) → Sums total written written_next
           → AnswersOver port plan lawful tries resumes batches s u (Err (Write total)) old new no_files no_files
-      stopped_in more total low stop sum =
-          let front = session_text (take i batches) so_far.runs in
-          let runs : List Done = so_far.runs ++ run ∷ [] in
+      stopped_in written_next total low stop_last sum =
+          let stop = subst (Stopped written_next now new) last_report stop_last in
+          let front = session_text (take i batches) so_far.made in
+          let made : List BatchRuns = so_far.made ++ runs ∷ [] in
           let same = counted (omega (arith, low)) in
-          let longer = length-append so_far.runs (run ∷ []) in
-          let many : i + 1 ≡ length runs = omega (arith, same, longer) in
-          let whole : front ++ run_report batch run ≡ session_text batches runs =
-          text_next ∙ ap (λ n. session_text (take n batches) runs) many ∙ pairs_front run_report batches runs in
+          let longer = length-append so_far.made (runs ∷ []) in
+          let many : i + 1 ≡ length made = omega (arith, same, longer) in
+          let whole : front ++ batch_report batch runs ≡ session_text batches made =
+          text_next ∙ ap (λ n. session_text (take n batches) made) many ∙ pairs_front batch_report batches made in
+          let calls : calls_of (take (i + 1) batches) made ≡ calls_of batches made =
+          ap (λ n. calls_of (take n batches) made) many ∙ calls_front batches made in
           let before = ap length (front_text (omega (arith, low))) in (
             record {
-              runs = runs;
-              are = subst (λ n. Runs port plan lawful most_begun tries resumes s (take n batches) runs u) many runs_next;
+              made = made;
+              unfolds = subst (λ n. Unfolds (take n batches) made) many unfolds_next;
+              are = subst (λ z. Runs port plan lawful most_begun tries resumes s z (runs_of made) u) calls runs_next;
             },
             inl (
               record {
-                earlier = so_far.runs;
-                last = run;
+                earlier = so_far.made;
+                last = runs;
                 are = refl;
-                stopped = stopped_after total written more old now new front (run_report batch run)
-                    (session_text batches runs) sum so_far.gone stop whole;
+                stopped = stopped_after total written written_next old now new front (batch_report batch runs)
+                    (session_text batches made) sum so_far.gone stop whole;
                 past = omega (arith, before);
               },
               untouched,

@@ -3,13 +3,12 @@ use Rattle.std.proofs.Common.{◌≡◌, ℕ, zero, suc, ◌+◌, ◌<◌, ◌�
 use Rattle.std.proofs.Common.{refl, sym, ap, subst}
 use Rattle.std.proofs.Common.{arith, add-one}
 use Rattle.std.specs.Prelude.{◌↔◌, All as Each}
-use Rattle.std.proofs.lemmas.List.{length-append}
 use Rattle.std.proofs.Math.Seq.{drop-cons, take-suc}
 use Rattle.swd_port.specs.declared.mark.Mark.{Mark}
 use Rattle.swd_port.specs.declared.wire.Due.{Due}
 use Rattle.swd_port.specs.declared.wire.Due.TheVariants.{Nothing, Lost as DueLost}
 use Rattle.swd_port.specs.Choices.{disturbed_among, lost_among}
-use Rattle.swd_port.specs.Port.{Port, made}
+use Rattle.swd_port.specs.Port.{Port, made as made_port}
 use Rattle.swd_recorder.specs.Steps.{pending}
 use Rattle.swd_host.specs.declared.outcome.End.TheVariants.{All, Lost}
 use Rattle.swd_host.specs.Reports.{IsAtRest, due_at}
@@ -19,6 +18,7 @@ use Rattle.swd_run.specs.Running.{RunsScript, Session, memory_of}
 use Rattle.swd_run.specs.Sessions.{most_begun}
 use Rattle.swd_run.specs.Running.{none as no_run, then as then_run}
 use Rattle.swd_run.specs.Sessions.{Done, GoesOn, Runs, ended_of, none, then, requests_of}
+use Rattle.swd_run.specs.Unfoldings.{BatchRuns, Unfolds, calls_of, runs_of}
 use Rattle.swd_run.proofs.RunLemmas.{IsRecorded, made_rests}
 use Rattle.swd_run.proofs.WentLemmas.{asked, due_after, ending, law_before, plan_kept, rests, runs_on}
 
@@ -60,18 +60,6 @@ left_of f xs i d low =
     ∙ ap (λ y. y ∷ drop (suc i) (map f xs)) (map_at f xs i d)
 
 -- ---- runs over a wire
-
--- there are as many as batches
-pub as_many : {W : Type 0} (port : W → Port) (plan : W → List Mark) (lawful : W → Type 0) (most : Listed → ℕ)
-    (tries resumes : ℕ) (s : W) (batches : List Listed) (runs : List Done) (t : W)
-    → Runs port plan lawful most tries resumes s batches runs t → length runs ≡ length batches
-as_many port plan lawful most tries resumes s batches runs t none = refl
-as_many port plan lawful most tries resumes s batches runs t
-    (then {batches = before} {runs = earlier} {t = u} {batch = batch} {run = run} all_before all goes) =
-    let many = as_many port plan lawful most tries resumes s before earlier u all_before in
-    let runs_are = length-append earlier (run ∷ []) in
-    let batches_are = length-append before (batch ∷ []) in
-    omega (arith, many, runs_are, batches_are)
 
 module _ {W : Type 0} (port : W → Port) (plan : W → List Mark) (lawful : W → Type 0) (tries resumes : ℕ) (s : W) where
   pub due_then : (batch : Listed) (run : Done) (t u : W) → run.told.ended ≡ All
@@ -157,17 +145,20 @@ batch_at P f xs i x each is low =
 -- ---- a script over a target that was just made
 
 module _ {W : Type 0} (port : W → Port) (plan : W → List Mark) (lawful : W → Type 0) (tries resumes : ℕ)
-    (script : Meaning)
-    (marks : List Mark) (runs : List Done) (s t : W) (is_made : port s ≡ made 731911287 (memory_of script))
-    (planned : plan s ≡ marks)
+    (script : Meaning) (marks : List Mark) (made : List BatchRuns) (s t : W)
+    (is_made : port s ≡ made_port 731911287 (memory_of script)) (planned : plan s ≡ marks)
     (marked : (w : W) → plan w ≡ marks
     → ((port w).tally.disturbed ≤ disturbed_among marks) × ((port w).tally.lost ≤ lost_among marks)) (law : lawful t)
-    (all : Runs port plan lawful most_begun tries resumes s (take (length runs) script.batches) runs t) where
-  pub script_runs : RunsScript tries resumes script marks runs (port t).target.memory
+    (unfolds : Unfolds (take (length made) script.batches) made)
+    (all : Runs port plan lawful most_begun tries resumes s (calls_of script.batches made) (runs_of made) t) where
+  pub script_runs : RunsScript tries resumes script marks made (port t).target.memory
   script_runs =
       let rest : IsAtRest (port s) = made_rests (memory_of script) (port s) is_made in
-      let batches : List Listed = take (length runs) script.batches in
-      let (same, session) = sessions port plan lawful tries resumes s rest marks planned marked batches runs t all
-      law in
-      subst (λ m. Session tries resumes marks m batches runs (port t).target.memory)
-      (ap (λ x. x.target.memory) is_made) session
+      let calls : List Listed = calls_of script.batches made in
+      let (same, session) = sessions port plan lawful tries resumes s rest marks planned marked calls (runs_of made) t
+      all law in
+      record {
+        unfolds = unfolds;
+        session = subst (λ m. Session tries resumes marks m calls (runs_of made) (port t).target.memory)
+            (ap (λ x. x.target.memory) is_made) session;
+      }

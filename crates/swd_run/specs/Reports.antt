@@ -1,7 +1,7 @@
 -- The report of a run: a line for each answer, for each time that the run was resumed, and for the end. The format is
 -- this project's choice.
-use Rattle.std.specs.Prelude.{ℕ, ◌≡◌, ◌-◌, ◌^◌, min, List, [], ◌∷◌, ◌++◌, length, take, drop, codes, Option, Result, Ok}
-use Rattle.std.specs.Prelude.{Err}
+use Rattle.std.specs.Prelude.{ℕ, ◌≡◌, ◌-◌, ◌^◌, min, Bool, true, false, List, [], ◌∷◌, ◌++◌, length, take, drop, codes}
+use Rattle.std.specs.Prelude.{Option, None, Some, Result, Ok, Err}
 use Rattle.std.specs.Io.KnownBytes.{Appends}
 use Rattle.swd_io.specs.Blocks.{Stopped}
 use Rattle.std.specs.Fmt.{decimal}
@@ -13,9 +13,11 @@ use Rattle.swd_port.specs.declared.access.Answer.TheVariants.{Value, Written, Bu
 use Rattle.swd_host.specs.declared.outcome.End.{End}
 use Rattle.swd_host.specs.declared.outcome.End.TheVariants.{All, Lost, TriesOut, WrongId, Confused}
 use Rattle.swd_host.specs.Reports.{Told}
+use Rattle.swd_script.specs.declared.batch.Until.{Until}
 use Rattle.swd_script.specs.Scripts.{Listed}
 use Rattle.swd_run.specs.declared.going_on.Stop.{Stop}
 use Rattle.swd_run.specs.Sessions.{Done}
+use Rattle.swd_run.specs.Unfoldings.{BatchRuns, never_came, reads_of}
 
 abbrev pub access_text : Access → List ℕ
 access_text (Read addr) = codes "r " ++ hex8 addr
@@ -42,47 +44,68 @@ last_line TriesOut answered begun = codes "end tries " ++ stop_text answered beg
 last_line (WrongId word) answered begun = codes "end id " ++ hex8 word
 last_line Confused answered begun = codes "end confused " ++ stop_text answered begun
 
+-- the line for the end of a run, or of the read of an `until` whose word never came, without its line feed
+abbrev pub end_line : Bool → Told → List ℕ
+end_line true told = codes "end until " ++ decimal (length told.answers)
+end_line false told = last_line told.ended (length told.answers) told.begun
+
+-- an answer's line of an `until`: how many reads there were
+abbrev pub with_reads : Option ℕ → List ℕ → List ℕ
+with_reads None line = line
+with_reads (Some reads) line = line ++ (codes " reads " ++ decimal reads)
+
 -- the texts of the pairs of items, up to the end of the shorter list
 abbrev pub pair_texts : {X Y : Type 0} → (X → Y → List ℕ) → List X → List Y → List ℕ
 pair_texts text [] ys = []
 pair_texts text (x ∷ xs) [] = []
 pair_texts text (x ∷ xs) (y ∷ ys) = text x y ++ pair_texts text xs ys
 
--- the line of an answered access, with its line feed
-abbrev pub answer_fed : Access → Answer → List ℕ
-answer_fed access answer = answer_line access answer ++ 10 ∷ []
+-- the line of an answered access, with its line feed; of an `until` with the number of reads
+abbrev pub answer_fed : Option ℕ → Access → Answer → List ℕ
+answer_fed reads access answer = with_reads reads (answer_line access answer) ++ 10 ∷ []
 
 -- the lines of the accesses that have answers
-abbrev pub answer_lines : List Access → List Answer → List ℕ
-answer_lines accesses answers = pair_texts answer_fed accesses answers
+abbrev pub answer_lines : Option ℕ → List Access → List Answer → List ℕ
+answer_lines reads accesses answers = pair_texts (answer_fed reads) accesses answers
 
 -- the line of a place where the run was resumed, without its line feed
 abbrev pub resume_line : Stop → List ℕ
 resume_line stop = codes "resume " ++ stop_text stop.answered stop.begun
 
 -- the lines of the answers from one index to another
-abbrev pub lines_between : ℕ → ℕ → List Access → List Answer → List ℕ
-lines_between i j accesses answers = answer_lines (drop i (take j accesses)) (drop i (take j answers))
+abbrev pub lines_between : Option ℕ → ℕ → ℕ → List Access → List Answer → List ℕ
+lines_between reads i j accesses answers = answer_lines reads (drop i (take j accesses)) (drop i (take j answers))
 
 -- the lines of the answers from an index on, with a line wherever the run was resumed
-abbrev pub lines_from : ℕ → List Stop → List Access → List Answer → List ℕ
-lines_from i [] accesses answers = answer_lines (drop i accesses) (drop i answers)
-lines_from i (stop ∷ stops) accesses answers =
-    lines_between i stop.answered accesses answers
-    ++ ((resume_line stop ++ 10 ∷ []) ++ lines_from stop.answered stops accesses answers)
+abbrev pub lines_from : Option ℕ → ℕ → List Stop → List Access → List Answer → List ℕ
+lines_from reads i [] accesses answers = answer_lines reads (drop i accesses) (drop i answers)
+lines_from reads i (stop ∷ stops) accesses answers =
+    lines_between reads i stop.answered accesses answers
+    ++ ((resume_line stop ++ 10 ∷ []) ++ lines_from reads stop.answered stops accesses answers)
 
--- the text of a report of these accesses
-abbrev pub report_text : List Access → List Stop → Told → List ℕ
-report_text accesses stops told =
-    lines_from 0 stops accesses told.answers ++ (last_line told.ended (length told.answers) told.begun ++ 10 ∷ [])
+-- The text of a report of these accesses. For an `until` it has the number of its reads, and whether its word never
+-- came.
+abbrev pub report_text : Option ℕ → Bool → List Access → List Stop → Told → List ℕ
+report_text reads never accesses stops told =
+    lines_from reads 0 stops accesses told.answers ++ (end_line never told ++ 10 ∷ [])
 
--- the report of one run of a script
-abbrev pub run_report : Listed → Done → List ℕ
-run_report batch run = report_text batch.accesses run.stops run.told
+-- the number that the lines of a call show: that of the reads of an `until`
+abbrev pub shown_reads : Option Until → ℕ → Option ℕ
+shown_reads None reads = None
+shown_reads (Some until) reads = Some reads
 
--- the reports of a script's runs, one after the other
-abbrev pub session_text : List Listed → List Done → List ℕ
-session_text batches runs = pair_texts run_report batches runs
+-- the report of one run of a script, which is the last of this many reads
+abbrev pub run_report : Listed → ℕ → Done → List ℕ
+run_report batch reads run =
+    report_text (shown_reads batch.until reads) (never_came batch.until run.told) batch.accesses run.stops run.told
+
+-- the report of a batch: that of its last run
+abbrev pub batch_report : Listed → BatchRuns → List ℕ
+batch_report batch runs = run_report batch (reads_of runs) runs.last
+
+-- the reports of a script's batches, one after the other
+abbrev pub session_text : List Listed → List BatchRuns → List ℕ
+session_text batches made = pair_texts batch_report batches made
 
 -- The writer began with `start`, and all of the output was written. `told` is its number of bytes, at most 2^64 - 1.
 pub record HasWritten (start now : Option (List ℕ)) (all : List ℕ) (told : ℕ) : Type 0 where

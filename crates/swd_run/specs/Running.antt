@@ -1,7 +1,7 @@
 -- What the result for a script and a plan states: the theorem of the host, for files.
 use Rattle.std.specs.Prelude.{◌≡◌, ℕ, ◌+◌, ◌*◌, ◌<◌, ◌≤◌, List, [], ◌∷◌, ◌++◌, length, take, Option, Result, Ok, Err}
 use Rattle.std.specs.Prelude.{IfSome}
-use Rattle.std.specs.Prelude.{◌==◌, IsOk, None, Some, if◌then◌else◌, min}
+use Rattle.std.specs.Prelude.{◌==◌, IsOk, None, Some, false, if◌then◌else◌, min}
 use Rattle.swd_io.specs.Pieces.{IsText}
 use Rattle.swd_io.specs.declared.pieces.Unread.{Unread}
 use Rattle.swd_io.specs.declared.pieces.Unread.TheVariants.{Reader, Consumer}
@@ -30,6 +30,7 @@ use Rattle.swd_run.specs.Engine.{Answers, IsOfTrace, IsTraceOf}
 use Rattle.swd_run.specs.GoingOn.{TellOf, in_all}
 use Rattle.swd_run.specs.Records.{AreLeft, Files, IsLeft}
 use Rattle.swd_run.specs.Sessions.{Done, ended_of, most_begun, requests_of}
+use Rattle.swd_run.specs.Unfoldings.{BatchRuns, Unfolds, calls_of, ends_until, runs_of}
 
 -- the memory of a script before its run
 abbrev pub memory_of : Meaning → PlainMemory
@@ -81,10 +82,12 @@ pub data Session (tries resumes : ℕ) (marks : List Mark) (m : PlainMemory) : L
       → RunsOn tries resumes batch before marks run.stops run.told after
       → Session tries resumes marks m (batches ++ batch ∷ []) (runs ++ run ∷ []) after
 
--- The runs of a script's first calls from its initial memory, and the memory that they left.
-abbrev pub RunsScript : (tries resumes : ℕ) → Meaning → List Mark → List Done → PlainMemory → Type 0
-RunsScript tries resumes script marks runs memory =
-    Session tries resumes marks (memory_of script) (take (length runs) script.batches) runs memory
+-- The runs of a script's first batches from its initial memory, and the memory that they left: the session of the calls
+-- that these batches unfold to.
+pub record RunsScript (tries resumes : ℕ) (script : Meaning) (marks : List Mark) (made : List BatchRuns)
+    (memory : PlainMemory) : Type 0 where
+  pub unfolds : Unfolds (take (length made) script.batches) made
+  pub session : Session tries resumes marks (memory_of script) (calls_of script.batches made) (runs_of made) memory
 
 -- the capacity of a memory's log, if the log is full: each later transfer is a bus error
 abbrev pub full_room : ℕ → PlainMemory → Option ℕ
@@ -106,15 +109,16 @@ pub record AreRead (script plan : Option (List ℕ)) (meaning : Meaning) (marks 
 
 -- the runs of a script from its initial memory
 pub record RanScript (tries resumes : ℕ) (script : Meaning) (marks : List Mark) (memory : PlainMemory) : Type 0 where
-  pub runs : List Done
-  pub are : RunsScript tries resumes script marks runs memory
+  pub made : List BatchRuns
+  pub are : RunsScript tries resumes script marks made memory
 
 -- such runs, each of which ended `All`, before one that ran out of memory
 pub record RanScriptShort (tries resumes : ℕ) (script : Meaning) (marks : List Mark) : Type 0 where
-  pub runs : List Done
+  pub made : List BatchRuns
   pub memory : PlainMemory
-  pub are : RunsScript tries resumes script marks runs memory
-  pub all : ended_of runs ≡ All
+  pub are : RunsScript tries resumes script marks made memory
+  pub all : ended_of (runs_of made) ≡ All
+  pub came : ends_until script.batches made ≡ false
 
 -- The complete trace of a script's runs. The accesses that it shows explain the log of the target's memory.
 pub record IsTraceIn (memory : PlainMemory) (runs : List Done) (items : List Item) : Type 0 where
@@ -127,8 +131,9 @@ abbrev pub AnswersScript : ℕ → ℕ → Meaning → List Mark → Result Fini
 AnswersScript tries resumes script marks answer old new before after =
     (memory : PlainMemory)
     × Answers {Came = RanScript tries resumes script marks memory} {Short = RanScriptShort tries resumes script marks}
-    script.batches (full_room script.room memory) (λ ran. ran.runs) (λ short. short.runs)
-    (λ ran items. IsTraceIn memory ran.runs items) (λ ran items. IsOfTrace (requests_of ran.runs) items) answer old new
+    script.batches (full_room script.room memory) (λ ran. ran.made) (λ short. short.made)
+    (λ ran items. IsTraceIn memory (runs_of ran.made) items)
+    (λ ran items. IsOfTrace (requests_of (runs_of ran.made)) items) answer old new
     before after
 
 -- the inputs were read, and the engine gave this result

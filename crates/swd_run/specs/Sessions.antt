@@ -49,10 +49,6 @@ pub data Runs {W : Type 0} (port : W → Port) (plan : W → List Mark) (lawful 
       → GoesOn port plan lawful (most batch) tries resumes batch t run u
       → Runs port plan lawful most tries resumes s (batches ++ batch ∷ []) (runs ++ run ∷ []) u
 
--- a run of each batch, or of the batches up to a run that didn't end `All`
-abbrev pub AreDone : List Listed → List Done → Type 0
-AreDone batches runs = ended_of runs ≡ All → length runs ≡ length batches
-
 -- A run from the wire s to the wire t that ran out of memory: before its first bit, or when it was to be resumed after
 -- a lost acknowledgement.
 pub data IsRefused {W : Type 0} (port : W → Port) (plan : W → List Mark) (lawful : W → Type 0)

@@ -7,12 +7,13 @@ ghost use Rattle.swd_recorder.specs.Recorders.{lawful_by, plan_by, port_by};
 ghost use Rattle.swd_script.specs.Readers.{listed};
 ghost use Rattle.swd_script.specs.Laws.{IsBatch};
 ghost use Rattle.swd_script.specs.Scripts.{Listed};
-ghost use Rattle.swd_run.specs.Sessions.{Done, done_of};
+ghost use Rattle.swd_run.specs.Sessions.{done_of};
+ghost use Rattle.swd_run.specs.Unfoldings.{AreOf, BatchRuns, Unfolds, never_came};
 ghost use Rattle.swd_run.specs.Engine.{AnswersAt, AnswersOver, IsFinished, TellsRecords, port_seen};
 ghost use Rattle.swd_run.specs.Records.{files_of, is_recorded, no_files};
 
 use crate::fault::EngineFault;
-use crate::going_on::{Resumed, run_on};
+use crate::performing::{Performed, never_came, perform};
 use crate::records::{Records, write_accesses, write_trace};
 use crate::report::write_run;
 use crate::traced::{Origin, Traced};
@@ -30,6 +31,9 @@ use swd_trace::Item;
 pub struct Finished {
     /// The end of its last call.
     pub ended: End,
+    /// Whether its last call was the read of an `until` whose word never came: the read ended `All`, and the answer was
+    /// another word after the most reads, or a bus error.
+    pub never_came: bool,
     /// The first `verify` read whose answer wasn't the expected word.
     pub differs: Option<Difference>,
     /// Whether an access was a bus error.
@@ -43,22 +47,27 @@ impl Finished {
     // The result before any run.
     const NONE: Finished = Finished {
         ended: End::All,
+        never_came: false,
         differs: None,
         bus_fault: false,
         full: None,
     };
 
-    // Returns the result with this run as the last one.
-    fn and<A: Allocator>(self, batch: &Batch<A>, run: &Resumed<A>) -> Finished
-        ensures ended { result.ended ≡ (done_of run.now).told.ended }
-        ensures finished { (batches : List Listed) (runs : List Done) → length runs ≡ length batches
-            → IsFinished batches runs None self
-            → IsFinished (batches ++ listed batch.now ∷ []) (runs ++ done_of run.now ∷ []) None result }
+    // Returns the result with the runs of this batch as the last ones.
+    fn and<A: Allocator>(self, batch: &Batch<A>, performed: &Performed<A>) -> Finished
+        ensures ended { result.ended ≡ (done_of performed.now.last).told.ended }
+        ensures never_came { result.never_came ≡ never_came batch.now.until (done_of performed.now.last).told }
+        ensures finished { (batches : List Listed) (made : List BatchRuns) (runs : BatchRuns) → Unfolds batches made
+            → IsBatch (listed batch.now) → AreOf (listed batch.now) runs → runs.last ≡ done_of performed.now.last
+            → IsFinished batches made None self
+            → IsFinished (batches ++ listed batch.now ∷ []) (made ++ runs ∷ []) None result }
     {
+        let report = &performed.last.report;
         let reads = batch.expected.as_slice();
-        let answers = run.report.answers.as_slice();
+        let answers = report.answers.as_slice();
         Finished {
-            ended: run.report.ended,
+            ended: report.ended,
+            never_came: never_came(batch.until, report),
             differs: or_difference_in(self.differs, reads, answers),
             bus_fault: or_bus_fault(self.bus_fault, answers),
             full: self.full,
@@ -66,7 +75,8 @@ impl Finished {
     }
 }
 
-// Runs the batches over a wire, up to the first that doesn't end `All`. Writes the report of each when it ends.
+// Runs the batches over a wire, up to the first that doesn't end `All`, or whose word never comes. Writes the report of
+// each when it ends.
 fn run_reported<W: Wire, O: Write, A: Allocator + Copy>(
     alloc: A,
     wire: &mut W,
@@ -84,20 +94,23 @@ fn run_reported<W: Wire, O: Write, A: Allocator + Copy>(
     let mut finished = Finished::NONE;
     let mut written = 0u64;
     for batch in batches {
-        let Some(run) = run_on(alloc, wire, batch, tries, resumes) else {
+        let Some(performed) = perform(alloc, wire, batch, tries, resumes) else {
             return Err(EngineFault::Memory);
         };
-        match write_run(report, batch, &run) {
+        match write_run(report, batch, &performed) {
             Ok(more) => written = written.saturating_add(more),
             Err(more) => {
                 let written = written.saturating_add(more);
                 return Err(EngineFault::Write { written });
             }
         }
-        finished = finished.and(batch, &run);
+        finished = finished.and(batch, &performed);
         let End::All = finished.ended else {
             return Ok(finished);
         };
+        if finished.never_came {
+            return Ok(finished);
+        }
     }
     Ok(finished)
 }
@@ -184,6 +197,9 @@ fn run_recorded<B: Origin, W: Wire, O: Write, T: Write, A: Allocator + Copy>(
 /// Runs the calls of a script in order over a wire on which nothing is due, up to the first that doesn't end `All`.
 /// Writes the report of each call before the next one starts. Then writes the trace and the accesses that it shows,
 /// each if there is a writer for it. Returns the wire too.
+///
+/// The read of an `until` is made again, as a call of its own, until its word comes. If it never comes, no further call
+/// is made. Only the last of these calls has a report.
 ///
 /// `tries` is the number of events that the opening, and each access, may meet. After a lost acknowledgement a call
 /// continues by `swd_host::resume`, at most `resumes` times. The report has a line for each time. The answers of a call

@@ -8,6 +8,7 @@ mod engine;
 mod fault;
 mod going_on;
 pub mod laws;
+mod performing;
 mod records;
 mod report;
 mod running;

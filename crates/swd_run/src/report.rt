@@ -1,15 +1,16 @@
 //! The text of a run's report.
-ghost use Rattle.std.specs.Prelude.{◌≡◌, ℕ, ◌+◌, ◌≤◌, List, ◌++◌, Option, take, drop};
+ghost use Rattle.std.specs.Prelude.{◌≡◌, ℕ, ◌+◌, ◌≤◌, List, ◌++◌, Option, None, take, drop};
 ghost use Rattle.std.specs.Fmt.{decimal};
 ghost use Rattle.arrayvec.specs.ArrayString.{array_string_len};
 ghost use Rattle.swd_host.specs.Reports.{told_of};
 ghost use Rattle.swd_io.specs.Blocks.{Sends};
 ghost use Rattle.swd_script.specs.Readers.{listed};
-ghost use Rattle.swd_run.specs.Reports.{answer_line, answer_lines, last_line, lines_from, report_text, resume_line};
-ghost use Rattle.swd_run.specs.Reports.{run_report, stop_text, WritesOn};
+ghost use Rattle.swd_run.specs.Reports.{answer_line, answer_lines, end_line, last_line, lines_from, report_text};
+ghost use Rattle.swd_run.specs.Reports.{resume_line, run_report, shown_reads, stop_text, with_reads, WritesOn};
 ghost use Rattle.swd_run.specs.Sessions.{done_of};
 
 use crate::going_on::{Resumed, Stop};
+use crate::performing::{Performed, never_came};
 use arrayvec::ArrayString;
 use std::alloc::Allocator;
 use std::io::Write;
@@ -17,7 +18,7 @@ use swd_bits::push_word;
 use swd_host::{End, Report};
 use swd_io::Block;
 use swd_port::{Access, Answer};
-use swd_script::Batch;
+use swd_script::{Batch, Until};
 
 /// A line of a report.
 pub type ReportLine = ArrayString<48>;
@@ -26,7 +27,7 @@ pub type ReportLine = ArrayString<48>;
 /// `r 30000000 busfault`.
 pub fn answer_line(access: &Access, answer: &Answer) -> ReportLine
     ensures bytes { result.bytes ≡ answer_line access.now answer.now }
-    ensures len { array_string_len result ≤ 32 }
+    ensures len { array_string_len result ≤ 19 }
 {
     let mut text = ReportLine::new();
     match access {
@@ -81,6 +82,34 @@ pub fn last_line(ended: End, answered: usize, begun: u8) -> ReportLine
     text
 }
 
+// Returns the line for the end of a run. `never` says that it is the read of an `until` whose word never came.
+fn end_line<A: Allocator>(never: bool, report: &Report<A>) -> ReportLine
+    ensures { result.bytes ≡ end_line never (told_of report.now) }
+{
+    let answered = report.answers.len();
+    if !never {
+        return last_line(report.ended, answered, report.begun);
+    }
+    let mut text = ReportLine::new();
+    text.push_str("end until ");
+    push_count(&mut text, answered);
+    text
+}
+
+// Returns an answer's line with the number of reads, if it is that of an `until`.
+fn with_reads(line: ReportLine, reads: Option<u32>) -> ReportLine
+    requires { array_string_len line ≤ 19 }
+    ensures { result.bytes ≡ with_reads reads line.bytes }
+{
+    let Some(reads) = reads else {
+        return line;
+    };
+    let mut text = line;
+    text.push_str(" reads ");
+    push_count(&mut text, reads as usize);
+    text
+}
+
 /// Returns the line of a place where a run was resumed, without its line feed, such as `resume 3 begun 1`.
 pub fn resume_line(stop: &Stop) -> ReportLine
     ensures bytes { result.bytes ≡ resume_line stop.now }
@@ -122,14 +151,20 @@ fn between<T>(items: &[T], from: usize, to: usize) -> &[T]
     &items[start..end]
 }
 
-// Also queues the lines of the accesses that have answers.
-fn put_answers<W: Write>(block: &mut Block<'_, W>, accesses: &[Access], answers: &[Answer])
+// Also queues the lines of the accesses that have answers. `reads` is the number of reads of an `until`.
+fn put_answers<W: Write>(
+    block: &mut Block<'_, W>,
+    accesses: &[Access],
+    answers: &[Answer],
+    reads: Option<u32>,
+)
     ensures sends { (start : Option (List ℕ)) (all : List ℕ) → Sends W.contents start block.old all
-        → Sends W.contents start block.new (all ++ answer_lines accesses.now answers.now) }
+        → Sends W.contents start block.new (all ++ answer_lines reads accesses.now answers.now) }
     ensures writer { block.new.writer.ghost_name ≡ block.old.writer.ghost_name }
 {
     for (access, answer) in accesses.iter().zip(answers.iter()) {
-        block.put_line(answer_line(access, answer).as_str().as_bytes());
+        let line = with_reads(answer_line(access, answer), reads);
+        block.put_line(line.as_str().as_bytes());
     }
 }
 
@@ -139,41 +174,63 @@ fn put_lines<W: Write>(
     accesses: &[Access],
     stops: &[Stop],
     answers: &[Answer],
+    reads: Option<u32>,
 )
     ensures sends { (start : Option (List ℕ)) (all : List ℕ) → Sends W.contents start block.old all
-        → Sends W.contents start block.new (all ++ lines_from 0 stops.now accesses.now answers.now) }
+        → Sends W.contents start block.new (all ++ lines_from reads 0 stops.now accesses.now answers.now) }
     ensures writer { block.new.writer.ghost_name ≡ block.old.writer.ghost_name }
 {
     let mut from = 0;
     for stop in stops {
         let done = between(accesses, from, stop.answered);
         let told = between(answers, from, stop.answered);
-        put_answers(block, done, told);
+        put_answers(block, done, told, reads);
         block.put_line(resume_line(stop).as_str().as_bytes());
         from = stop.answered;
     }
     let rest = between(accesses, from, accesses.len());
     let last = between(answers, from, answers.len());
-    put_answers(block, rest, last);
+    put_answers(block, rest, last, reads);
 }
 
-// Also queues the report of a run of these accesses.
+// Also queues the report of a run of these accesses. For an `until` it has the number of its reads, and `never` says
+// that its word never came.
 fn put_report<W: Write, A: Allocator>(
     block: &mut Block<'_, W>,
     accesses: &[Access],
-    stops: &[Stop],
-    report: &Report<A>,
+    run: &Resumed<A>,
+    reads: Option<u32>,
+    never: bool,
 )
     ensures sends { (start : Option (List ℕ)) (all : List ℕ) → Sends W.contents start block.old all
-        → Sends W.contents start block.new (all ++ report_text accesses.now stops.now (told_of report.now)) }
+        → Sends W.contents start block.new
+        (all ++ report_text reads never accesses.now run.now.stops.items (told_of run.now.report)) }
     ensures writer { block.new.writer.ghost_name ≡ block.old.writer.ghost_name }
 {
-    put_lines(block, accesses, stops, report.answers.as_slice());
-    let last = last_line(report.ended, report.answers.len(), report.begun);
+    let report = &run.report;
+    put_lines(
+        block,
+        accesses,
+        run.stops.as_slice(),
+        report.answers.as_slice(),
+        reads,
+    );
+    let last = end_line(never, report);
     block.put_line(last.as_str().as_bytes());
 }
 
-/// Writes the report of one run of a batch. Returns the number of its bytes, at most 2^64 - 1. Allocates no memory.
+// Returns the number of reads that the report shows: that of an `until`.
+fn shown_reads(until: Option<Until>, reads: u32) -> Option<u32>
+    ensures { result ≡ shown_reads until reads }
+{
+    match until {
+        Some(_) => Some(reads),
+        None => None,
+    }
+}
+
+/// Writes the report of a batch, which is that of its last run. Returns the number of its bytes, at most 2^64 - 1.
+/// Allocates no memory.
 ///
 /// # Errors
 ///
@@ -182,13 +239,16 @@ fn put_report<W: Write, A: Allocator>(
 pub(crate) fn write_run<W: Write, A: Allocator>(
     writer: &mut W,
     batch: &Batch<A>,
-    run: &Resumed<A>,
+    performed: &Performed<A>,
 ) -> Result<u64, u64>
     ensures { WritesOn result (W.contents writer.old) (W.contents writer.new)
-        (run_report (listed batch.now) (done_of run.now)) }
+        (run_report (listed batch.now) performed.now.runs (done_of performed.now.last)) }
 {
     let mut block = Block::new(writer, 0);
     let accesses = batch.accesses.as_slice();
-    put_report(&mut block, accesses, run.stops.as_slice(), &run.report);
+    let last = &performed.last;
+    let reads = shown_reads(batch.until, performed.runs);
+    let never = never_came(batch.until, &last.report);
+    put_report(&mut block, accesses, last, reads, never);
     block.flush()
 }

@@ -24,6 +24,7 @@ mod serving;
 mod sessions;
 mod slow;
 mod tracing;
+mod untils;
 
 // What a run answers, and what it writes.
 #[derive(Drop)]
@@ -36,6 +37,7 @@ struct Ran {
 fn ended<F>(ended: End) -> Result<Finished, F> {
     Ok(Finished {
         ended,
+        never_came: false,
         differs: None,
         bus_fault: false,
         full: None,
@@ -53,6 +55,7 @@ fn has_bus_fault(report: &[u8]) -> bool {
 fn ended_with<F>(ended: End, report: &[u8]) -> Result<Finished, F> {
     Ok(Finished {
         ended,
+        never_came: false,
         differs: None,
         bus_fault: has_bus_fault(report),
         full: None,
@@ -274,6 +277,7 @@ fn a_run_has_at_most_65536_accesses(rt: HostRuntime) {
     // They use up the room that there is without a line of the script.
     let finished = Finished {
         ended: End::All,
+        never_came: false,
         differs: None,
         bus_fault: false,
         full: Some(65_536),

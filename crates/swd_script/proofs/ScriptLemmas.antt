@@ -9,13 +9,15 @@ use Rattle.std.proofs.lemmas.List.{take_all, length-take-le}
 use Rattle.swd_script.specs.declared.command.Command.{Command}
 use Rattle.swd_script.specs.declared.command.Command.TheVariants.{Memory, Room, Read as ReadCommand}
 use Rattle.swd_script.specs.declared.command.Command.TheVariants.{Write as WriteCommand, ReadMany, Block, Verify, Next}
-use Rattle.swd_script.specs.Numerals.{decimal_of, hex_of, number_from, numeral, word_sized}
+use Rattle.swd_script.specs.declared.command.Command.TheVariants.{Until as UntilLine}
+use Rattle.swd_script.specs.Numerals.{decimal_of, hex_of, is_prefix, number_from, numeral, word_sized}
 use Rattle.swd_script.specs.Plans.{bare_mark, mark_of, marked, place_below, placed_mark, plan_line, with_mark}
-use Rattle.swd_script.specs.Scripts.{after_command, command_of, long_command, script_line, short_command, Sayings}
+use Rattle.swd_script.specs.Scripts.{after_command, command_of, long_command, script_line, short_command}
+use Rattle.swd_script.specs.Scripts.{until_command, Sayings}
 use Rattle.arrayvec.specs.ArrayVec.{ArrayVec}
 use Rattle.swd_script.specs.Lines.{line_words}
 use Rattle.swd_script.specs.Scans.{IsScanned}
-use Rattle.swd_script.specs.Words.{texts_of, first_words}
+use Rattle.swd_script.specs.Words.{texts, texts_of, first_words}
 use Rattle.swd_port.specs.declared.mark.Mark.{Mark}
 use Rattle.swd_port.specs.declared.mark.Mark.TheVariants.{Clean, Wait, Flip, Deaf, Mute}
 use Rattle.swd_script.specs.declared.fault.LineFault.{LineFault}
@@ -34,21 +36,31 @@ no_numeral base longest word h =
     let e : (nat_le 1 (length word) && nat_le (length word) longest) ≡ false = grind (arith, nat_tests) in
     ap (λ t. if t then option_and_then word_sized (number_from base 0 word) else None) e
 
-numeral_cut : (base longest : ℕ) (word : List ℕ) (t : Bool) → nat_le (length word) 11 ≡ t → longest ≤ 10
-    → numeral base longest (take 11 word) ≡ numeral base longest word
-numeral_cut base longest word true e h =
-    let n : length word ≤ 11 = grind (arith, nat_tests) in
-    ap (numeral base longest) (take_all 11 word n)
-numeral_cut base longest word false e h =
-    let n : 11 < length word = grind (arith, nat_tests) in
-    let m : length (take 11 word) ≡ 11 = length-take-le 11 word (omega arith) in
-    no_numeral base longest (take 11 word) (omega arith) ∙ sym (no_numeral base longest word (omega arith))
+numeral_cut : (base longest kept : ℕ) (word : List ℕ) (t : Bool) → nat_le (length word) kept ≡ t → longest < kept
+    → numeral base longest (take kept word) ≡ numeral base longest word
+numeral_cut base longest kept word true e h =
+    let n : length word ≤ kept = grind (arith, nat_tests) in
+    ap (numeral base longest) (take_all kept word n)
+numeral_cut base longest kept word false e h =
+    let n : kept < length word = grind (arith, nat_tests) in
+    let m : length (take kept word) ≡ kept = length-take-le kept word (omega arith) in
+    no_numeral base longest (take kept word) (omega arith) ∙ sym (no_numeral base longest word (omega arith))
 
 hex_cut : (word : List ℕ) → hex_of (take 11 word) ≡ hex_of word
-hex_cut word = numeral_cut 16 8 word (nat_le (length word) 11) refl (omega arith)
+hex_cut [] = refl
+hex_cut (first ∷ []) = refl
+hex_cut (first ∷ second ∷ word) = behind (is_prefix first second)
+  where
+    behind : (prefix : Bool)
+        → numeral 16 8 (if prefix then take 9 word else take 11 (first ∷ second ∷ word))
+        ≡ numeral 16 8 (if prefix then word else first ∷ second ∷ word)
+    behind true = numeral_cut 16 8 9 word (nat_le (length word) 9) refl (omega arith)
+    behind false =
+        let whole : List ℕ = first ∷ second ∷ word in
+        numeral_cut 16 8 11 whole (nat_le (length whole) 11) refl (omega arith)
 
 decimal_cut : (word : List ℕ) → decimal_of (take 11 word) ≡ decimal_of word
-decimal_cut word = numeral_cut 10 10 word (nat_le (length word) 11) refl (omega arith)
+decimal_cut word = numeral_cut 10 10 11 word (nat_le (length word) 11) refl (omega arith)
 
 name_cut : (word name : List ℕ) → length name < 11 → bytes_eq (take 11 word) name ≡ bytes_eq word name
 name_cut word name h = same_name 11 word name h
@@ -99,12 +111,51 @@ long_cut name first second =
     ∙ ap (λ n. long_shape memory write many block verify (hex_of first) n d) (hex_cut second)
     ∙ ap (λ n. long_shape memory write many block verify (hex_of first) (hex_of second) n) (decimal_cut second)
 
+abbrev until_shape : Bool → Option ℕ → Option ℕ → Option ℕ → Option ℕ → Option Command
+until_shape until addr mask value most = if until then Some (UntilLine addr mask value most) else None
+
+until_cut : (name addr mask value most : List ℕ)
+    → until_command (take 11 name) (take 11 addr) (take 11 mask) (take 11 value) (take 11 most)
+    ≡ until_command name addr mask value most
+until_cut name addr mask value most =
+    let a = hex_of (take 11 addr) in
+    let m = hex_of (take 11 mask) in
+    let v = hex_of (take 11 value) in
+    let n = decimal_of (take 11 most) in
+    let until = bytes_eq name (codes "until") in
+    ap (λ t. until_shape t a m v n) (name_cut name (codes "until") (omega arith))
+    ∙ ap (λ x. until_shape until x m v n) (hex_cut addr)
+    ∙ ap (λ x. until_shape until (hex_of addr) x v n) (hex_cut mask)
+    ∙ ap (λ x. until_shape until (hex_of addr) (hex_of mask) x n) (hex_cut value)
+    ∙ ap (λ x. until_shape until (hex_of addr) (hex_of mask) (hex_of value) x) (decimal_cut most)
+
 command_cut : (all : List (List ℕ)) → command_of (first_words all) ≡ command_of all
 command_cut [] = refl
 command_cut (name ∷ []) = ap (λ t. if t then Some Next else None) (name_cut name (codes "next") (omega arith))
 command_cut (name ∷ first ∷ []) = short_cut name first
 command_cut (name ∷ first ∷ second ∷ []) = long_cut name first second
-command_cut (name ∷ first ∷ second ∷ third ∷ more) = refl
+command_cut (name ∷ first ∷ second ∷ third ∷ []) = refl
+command_cut (name ∷ first ∷ second ∷ third ∷ fourth ∷ []) = until_cut name first second third fourth
+command_cut (name ∷ first ∷ second ∷ third ∷ fourth ∷ fifth ∷ more) = refl
+
+-- no command has four words
+pub no_four : (words : List (ArrayVec ℕ)) → 4 ≤ length words → length words < 5 → command_of (texts words) ≡ None
+no_four [] low high = absurd (omega arith)
+no_four (a ∷ []) low high = absurd (omega arith)
+no_four (a ∷ b ∷ []) low high = absurd (omega arith)
+no_four (a ∷ b ∷ c ∷ []) low high = absurd (omega arith)
+no_four (a ∷ b ∷ c ∷ d ∷ []) low high = refl
+no_four (a ∷ b ∷ c ∷ d ∷ e ∷ more) low high = absurd (omega arith)
+
+-- nor more than five
+pub no_more : (words : List (ArrayVec ℕ)) → 6 ≤ length words → command_of (texts words) ≡ None
+no_more [] low = absurd (omega arith)
+no_more (a ∷ []) low = absurd (omega arith)
+no_more (a ∷ b ∷ []) low = absurd (omega arith)
+no_more (a ∷ b ∷ c ∷ []) low = absurd (omega arith)
+no_more (a ∷ b ∷ c ∷ d ∷ []) low = absurd (omega arith)
+no_more (a ∷ b ∷ c ∷ d ∷ e ∷ []) low = absurd (omega arith)
+no_more (a ∷ b ∷ c ∷ d ∷ e ∷ f ∷ more) low = refl
 
 -- the first words of a line say what all of them say
 pub script_cut : (number : ℕ) (said : Sayings) (all : List (List ℕ))
@@ -145,7 +196,9 @@ mark_cut [] = refl
 mark_cut (name ∷ []) = bare_cut name
 mark_cut (name ∷ place ∷ []) = placed_cut name place
 mark_cut (name ∷ place ∷ third ∷ []) = refl
-mark_cut (name ∷ place ∷ third ∷ fourth ∷ more) = refl
+mark_cut (name ∷ place ∷ third ∷ fourth ∷ []) = refl
+mark_cut (name ∷ place ∷ third ∷ fourth ∷ fifth ∷ []) = refl
+mark_cut (name ∷ place ∷ third ∷ fourth ∷ fifth ∷ sixth ∷ more) = refl
 
 pub plan_cut : (marks : List Mark) (all : List (List ℕ))
     → plan_line marks (Some (first_words all)) ≡ plan_line marks (Some all)

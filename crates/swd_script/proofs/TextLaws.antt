@@ -3,7 +3,8 @@ use Rattle.std.proofs.Common.{◌≡◌, ◌≢◌, ℕ, suc, zero, ◌+◌, ◌
 use Rattle.std.proofs.Common.{[], ◌∷◌}
 use Rattle.std.proofs.Common.{◌++◌, length, refl, sym, ap, ◌∙◌, subst, arith, Option, Some, None, IfSome, Result, Ok}
 use Rattle.std.proofs.Common.{Err}
-use Rattle.std.specs.Prelude.{if◌then◌else◌, ◌&&◌, ◌==◌, nat_le, nat_lt, All, codes, is_some, unwrap_or, get_or}
+use Rattle.std.specs.Prelude.{if◌then◌else◌, ◌&&◌, ◌==◌, nat_le, nat_lt, All, bit_and, codes, is_some, unwrap_or}
+use Rattle.std.specs.Prelude.{get_or}
 use Rattle.std.specs.List.{list_all}
 use Rattle.std.specs.Str.{bytes_eq}
 use Rattle.std.proofs.lemmas.Bool.Decides.{nat_tests}
@@ -17,7 +18,7 @@ use Rattle.swd_port.specs.declared.mark.Mark.TheVariants.{Clean, Wait, Flip, Dea
 use Rattle.swd_port.specs.Choices.{IsMark}
 use Rattle.swd_script.specs.declared.command.Command.{Command}
 use Rattle.swd_script.specs.declared.command.Command.TheVariants.{Memory, Room, Read, Write, ReadMany, Block, Verify}
-use Rattle.swd_script.specs.declared.command.Command.TheVariants.{Next}
+use Rattle.swd_script.specs.declared.command.Command.TheVariants.{Next, Until as UntilLine}
 use Rattle.swd_script.specs.declared.draft.Extent.{Extent}
 use Rattle.swd_script.specs.declared.fault.LineFault.{LineFault}
 use Rattle.swd_script.specs.declared.fault.LineFault.TheVariants.{Word, Range}
@@ -29,13 +30,14 @@ use Rattle.swd_script.specs.Plans.{mark_of, marked, place_below, plan_line, plan
 use Rattle.swd_port.specs.PlainMemory.{reads}
 use Rattle.swd_port.proofs.ReadLists.{length_reads}
 use Rattle.swd_script.specs.declared.batch.Expected.{Expected}
+use Rattle.swd_script.specs.declared.batch.Until.{Until}
 use Rattle.swd_script.specs.Faults.{line_number}
 use Rattle.swd_script.specs.Scripts.{Listed, Meaning, Sayings, after_command, are_words, as_block, as_expected}
-use Rattle.swd_script.specs.Scripts.{beside_block}
+use Rattle.swd_script.specs.Scripts.{beside_block, call_ended, can_come, further, until_listed, with_until}
 use Rattle.swd_script.specs.Scripts.{carried_out, command_of, fault_before, is_some_list, misplaced, nothing_listed}
 use Rattle.swd_script.specs.Scripts.{nothing_said, script_line, script_meaning, script_of, whole_script, with_accesses}
 use Rattle.swd_script.specs.Scripts.{with_memory, with_next, with_number, with_room, with_verified, without_memory}
-use Rattle.swd_script.specs.Laws.{IsBatch, IsBlock, IsRunnable, is_at_word}
+use Rattle.swd_script.specs.Laws.{IsBatch, IsBlock, IsRunnable, IsWait, is_at_word}
 
 and_left : (a b : Bool) → (a && b) ≡ true → a ≡ true
 and_left true b e = refl
@@ -139,13 +141,56 @@ one_batch batch h = at
     at (suc k) d l = absurd (omega arith)
 
 nothing_sound : IsBatch nothing_listed
-nothing_sound = record { few = omega arith; accesses = refl; block = tt }
+nothing_sound = record { few = omega arith; accesses = refl; block = tt; waits = tt }
+
+-- a call that ends is one of those before
+sound_next : (said : Sayings) → IsSound said → IsSound (with_next said)
+sound_next said s = record {
+  memory = s.memory;
+  earlier = All-append IsBatch said.earlier (said.batch ∷ []) s.earlier (one_batch said.batch s.batch);
+  batch = nothing_sound;
+}
+
+-- the call of an access isn't that of an `until`
+no_until : (said : Sayings) → (further said).batch.until ≡ None
+no_until said = free said.batch.until refl
+  where
+    free : (until : Option Until) → said.batch.until ≡ until
+        → (if is_some until then with_next said else said).batch.until ≡ None
+    free None e = e
+    free (Some until) e = refl
+
+-- a call that waits for nothing
+no_wait : (until : Option Until) (listed : Listed) → until ≡ None → IfSome until (λ until. IsWait until listed)
+no_wait None listed e = tt
+no_wait (Some until) listed e = absurd cc
+
+-- an `until` before it leaves what a run takes, and no block
+sound_further : (said : Sayings) → IsSound said → IsSound (further said)
+sound_further said s = free (is_some said.batch.until)
+  where
+    free : (ended : Bool) → IsSound (if ended then with_next said else said)
+    free true = sound_next said s
+    free false = s
+
+free_further : (said : Sayings) → beside_block said ≡ None → beside_block (further said) ≡ None
+free_further said e = free (is_some said.batch.until)
+  where
+    none_there : (block : Option ℕ) (rest : Option LineFault) → (if is_some block then Some Word else rest) ≡ None
+        → rest ≡ None
+    none_there (Some at) rest e = absurd cc
+    none_there None rest e = e
+
+    free : (ended : Bool) → beside_block (if ended then with_next said else said) ≡ None
+    free true = none_there said.batch.block (without_memory said) e
+    free false = e
 
 -- accesses are added where no block is
 sound_accesses : (said next : Sayings) (addr count : ℕ) (more : List Access)
     → with_accesses said addr count more ≡ Ok next → length more ≡ count
-    → (addr % 4 ≡ 0 → list_all is_at_word more ≡ true) → beside_block said ≡ None → IsSound said → IsSound next
-sound_accesses said next addr count more e n a free s =
+    → (addr % 4 ≡ 0 → list_all is_at_word more ≡ true) → beside_block said ≡ None → said.batch.until ≡ None
+    → IsSound said → IsSound next
+sound_accesses said next addr count more e n a free plain s =
     let old : List Access = said.batch.accesses in
     let room = nat_le (length old + count) 65536 in
     let ok = if_ok (are_words addr count && room) (record said { batch = record said.batch { accesses = old ++ more } })
@@ -162,14 +207,16 @@ sound_accesses said next addr count more e n a free s =
         accesses = list_all-append is_at_word old more
             ∙ both (list_all is_at_word old) (list_all is_at_word more) s.batch.accesses (a words.aligned);
         block = no_block said free (old ++ more);
+        waits = no_wait said.batch.until (record said.batch { accesses = old ++ more }) plain;
       };
     })
 
 -- a block is the first that is added
 sound_block : (said next : Sayings) (addr count : ℕ)
     → as_block addr (with_accesses said addr count (reads addr count)) ≡ Ok next
-    → (if is_some_list said.batch.accesses then Some Word else without_memory said) ≡ None → IsSound said → IsSound next
-sound_block said next addr count e free s =
+    → (if is_some_list said.batch.accesses then Some Word else without_memory said) ≡ None → said.batch.until ≡ None
+    → IsSound said → IsSound next
+sound_block said next addr count e free plain s =
     let more : List Access = reads addr count in
     let old : List Access = said.batch.accesses in
     let room = nat_le (length old + count) 65536 in
@@ -192,6 +239,7 @@ sound_block said next addr count e free s =
           same = whole ∙ ap (reads addr) (sym same);
           end = omega (arith, words.end, same);
         };
+        waits = no_wait said.batch.until (record said.batch { accesses = old ++ more; block = Some addr }) plain;
       };
     })
 
@@ -201,29 +249,69 @@ if_expected : (read : Expected) (r : Result Sayings LineFault) (next : Sayings) 
 if_expected read (Ok said) next e = (said, refl, cc)
 if_expected read (Err fault) next e = absurd cc
 
--- a call that ends is one of those before
-sound_next : (said : Sayings) → IsSound said → IsSound (with_next said)
-sound_next said s = record {
-  memory = s.memory;
-  earlier = All-append IsBatch said.earlier (said.batch ∷ []) s.earlier (one_batch said.batch s.batch);
-  batch = nothing_sound;
-}
-
 one_aligned : (addr : ℕ) → addr % 4 ≡ 0 → ((addr % 4 == 0) && true) ≡ true
 one_aligned addr h = let a : (addr % 4 == 0) ≡ true = grind (arith, nat_tests) in both (addr % 4 == 0) true a refl
 
+-- added accesses leave what the call waits for
+if_accesses : (said next : Sayings) (addr count : ℕ) (more : List Access) → with_accesses said addr count more ≡ Ok next
+    → next.batch.until ≡ said.batch.until
+if_accesses said next addr count more e =
+    let added = record said { batch = record said.batch { accesses = said.batch.accesses ++ more } } in
+    let ok = if_ok (are_words addr count && nat_le (length said.batch.accesses + count) 65536) added Range next e in
+    ap (λ (x : Sayings). x.batch.until) (sym ok.1)
+
+-- the call of an `until`
+sound_until : (said next : Sayings) (until : Until) → with_until said until ≡ Ok next → IsSound said → IsSound next
+sound_until said next until e s =
+    let called : Sayings = record (call_ended said) { batch = until_listed until } in
+    let ok = if_ok (are_words until.addr 1 && can_come until) called Range next e in
+    let words = are_words_so until.addr 1 (and_left (are_words until.addr 1) (can_come until) ok.0) in
+    let can : can_come until ≡ true = and_right (are_words until.addr 1) (can_come until) ok.0 in
+    let inside = bit_and until.value until.mask == until.value in
+    let front = and_left (inside && nat_le 1 until.most) (nat_le until.most 1000000) can in
+    let some : nat_le 1 until.most ≡ true = and_right inside (nat_le 1 until.most) front in
+    let most : nat_le until.most 1000000 ≡ true =
+    and_right (inside && nat_le 1 until.most) (nat_le until.most 1000000) can in
+    let before : IsSound (call_ended said) = ended (is_some_list said.batch.accesses) in
+    subst IsSound ok.1 (record {
+      memory = before.memory;
+      earlier = before.earlier;
+      batch = record {
+        few = omega arith;
+        accesses = one_aligned until.addr words.aligned;
+        block = tt;
+        waits = record {
+          only = refl;
+          single = refl;
+          nothing_expected = refl;
+          some = grind (arith, nat_tests);
+          most = grind (arith, nat_tests);
+        };
+      };
+    })
+  where
+    ended : (has : Bool) → IsSound (if has then with_next said else said)
+    ended true = sound_next said s
+    ended false = s
+
 -- a read whose word is told is an access
 sound_verified : (line : ℕ) (said next : Sayings) (addr word : ℕ) → with_verified line said addr word ≡ Ok next
-    → beside_block said ≡ None → IsSound said → IsSound next
-sound_verified line said next addr word e free s =
+    → beside_block said ≡ None → said.batch.until ≡ None → IsSound said → IsSound next
+sound_verified line said next addr word e free plain s =
     let read : Expected = record { line = line; place = length said.batch.accesses; addr = addr; word = word } in
     let more : List Access = ReadAccess addr ∷ [] in
     let x = if_expected read (with_accesses said addr 1 more) next e in
-    let mid : IsSound x.0 = sound_accesses said x.0 addr 1 more x.1 refl (one_aligned addr) free s in
+    let mid : IsSound x.0 = sound_accesses said x.0 addr 1 more x.1 refl (one_aligned addr) free plain s in
     subst IsSound x.2 (record {
       memory = mid.memory;
       earlier = mid.earlier;
-      batch = record { few = mid.batch.few; accesses = mid.batch.accesses; block = mid.batch.block };
+      batch = record {
+        few = mid.batch.few;
+        accesses = mid.batch.accesses;
+        block = mid.batch.block;
+        waits = no_wait x.0.batch.until (record x.0.batch { expected = x.0.batch.expected ++ read ∷ [] })
+            (if_accesses said x.0 addr 1 more x.1 ∙ plain);
+      };
     })
 
 same_value : {S E : Type 0} (a b : S) → (let left : Result S E = Ok a in left ≡ Ok b) → a ≡ b
@@ -239,27 +327,50 @@ sound_command line said next (Room count) e free s =
     let c = if_number count (λ count. with_room said count) next e in
     sound_room said next c.0 c.1 s
 sound_command line said next (Read addr) e free s =
-    let a = if_number addr (λ addr. with_accesses said addr 1 (ReadAccess addr ∷ [])) next e in
-    sound_accesses said next a.0 1 (ReadAccess a.0 ∷ []) a.1 refl (one_aligned a.0) free s
+    let now = further said in
+    let a = if_number addr (λ addr. with_accesses now addr 1 (ReadAccess addr ∷ [])) next e in
+    sound_accesses now next a.0 1 (ReadAccess a.0 ∷ []) a.1 refl (one_aligned a.0) (free_further said free)
+    (no_until said) (sound_further said s)
 sound_command line said next (Write addr value) e free s =
+    let now = further said in
     let a = if_number addr (λ addr. with_number value
-    (λ value. with_accesses said addr 1 (WriteAccess addr value ∷ []))) next e in
-    let v = if_number value (λ value. with_accesses said a.0 1 (WriteAccess a.0 value ∷ [])) next a.1 in
-    sound_accesses said next a.0 1 (WriteAccess a.0 v.0 ∷ []) v.1 refl (one_aligned a.0) free s
+    (λ value. with_accesses now addr 1 (WriteAccess addr value ∷ []))) next e in
+    let v = if_number value (λ value. with_accesses now a.0 1 (WriteAccess a.0 value ∷ [])) next a.1 in
+    sound_accesses now next a.0 1 (WriteAccess a.0 v.0 ∷ []) v.1 refl (one_aligned a.0) (free_further said free)
+    (no_until said) (sound_further said s)
 sound_command line said next (ReadMany addr count) e free s =
-    let a = if_number addr (λ addr. with_number count (λ count. with_accesses said addr count (reads addr count))) next
+    let now = further said in
+    let a = if_number addr (λ addr. with_number count (λ count. with_accesses now addr count (reads addr count))) next
     e in
-    let c = if_number count (λ count. with_accesses said a.0 count (reads a.0 count)) next a.1 in
-    sound_accesses said next a.0 c.0 (reads a.0 c.0) c.1 (length_reads a.0 c.0) (aligned_reads a.0 c.0) free s
+    let c = if_number count (λ count. with_accesses now a.0 count (reads a.0 count)) next a.1 in
+    sound_accesses now next a.0 c.0 (reads a.0 c.0) c.1 (length_reads a.0 c.0) (aligned_reads a.0 c.0)
+    (free_further said free) (no_until said) (sound_further said s)
 sound_command line said next (Block addr count) e free s =
+    let now = further said in
     let a = if_number addr (λ addr. with_number count (λ count.
-    as_block addr (with_accesses said addr count (reads addr count)))) next e in
-    let c = if_number count (λ count. as_block a.0 (with_accesses said a.0 count (reads a.0 count))) next a.1 in
-    sound_block said next a.0 c.0 c.1 free s
+    as_block addr (with_accesses now addr count (reads addr count)))) next e in
+    let c = if_number count (λ count. as_block a.0 (with_accesses now a.0 count (reads a.0 count))) next a.1 in
+    sound_block now next a.0 c.0 c.1 (kept (is_some said.batch.until) free) (no_until said) (sound_further said s)
+  where
+    kept : (ended : Bool) → (if is_some_list (if ended then with_next said else said).batch.accesses
+        then Some Word else without_memory said) ≡ None
+        → (if is_some_list (if ended then with_next said else said).batch.accesses then Some Word else
+        without_memory (if ended then with_next said else said)) ≡ None
+    kept true h = h
+    kept false h = h
 sound_command line said next (Verify addr value) e free s =
-    let a = if_number addr (λ addr. with_number value (λ value. with_verified line said addr value)) next e in
-    let v = if_number value (λ value. with_verified line said a.0 value) next a.1 in
-    sound_verified line said next a.0 v.0 v.1 free s
+    let now = further said in
+    let a = if_number addr (λ addr. with_number value (λ value. with_verified line now addr value)) next e in
+    let v = if_number value (λ value. with_verified line now a.0 value) next a.1 in
+    sound_verified line now next a.0 v.0 v.1 (free_further said free) (no_until said) (sound_further said s)
+sound_command line said next (UntilLine addr mask value most) e free s =
+    let until = λ (a m v n : ℕ). with_until said (record { addr = a; mask = m; value = v; most = n }) in
+    let a = if_number addr (λ a. with_number mask (λ m. with_number value (λ v. with_number most (λ n.
+    until a m v n)))) next e in
+    let m = if_number mask (λ m. with_number value (λ v. with_number most (λ n. until a.0 m v n))) next a.1 in
+    let v = if_number value (λ v. with_number most (λ n. until a.0 m.0 v n)) next m.1 in
+    let n = if_number most (λ n. until a.0 m.0 v.0 n) next v.1 in
+    sound_until said next (record { addr = a.0; mask = m.0; value = v.0; most = n.0 }) n.1 s
 sound_command line said next Next e free s = subst IsSound (same_value (with_next said) next e) (sound_next said s)
 
 none_before : (fault : Option LineFault) (result : Result Sayings LineFault) (next : Sayings)

@@ -90,14 +90,14 @@ gathers_push line old new byte h e f g = record {
 
 -- the words and the one that has begun
 pub kept_words : (line : List ℕ) (old : Words) (kept : List (ArrayVec ℕ)) (g : Gathers line old)
-    → texts kept ≡ take 4 (texts old.ended.items ++ begun old.last.items)
+    → texts kept ≡ take 6 (texts old.ended.items ++ begun old.last.items)
     → texts kept ≡ first_words (g.ended ++ begun g.last)
 kept_words line old kept g e =
     let cut : begun (take 11 g.last) ≡ map (λ word. take 11 word) (begun g.last) = cut_begun g.last in
-    e ∙ ap (λ x. take 4 (x ++ begun old.last.items)) g.kept_ended
-    ∙ take_more 4 (map (λ word. take 11 word) g.ended) (begun old.last.items)
-    ∙ ap (λ x. take 4 (map (λ word. take 11 word) g.ended ++ x)) (ap begun g.kept_last ∙ cut)
-    ∙ ap (take 4) (sym (map-append (λ word. take 11 word) g.ended (begun g.last)))
+    e ∙ ap (λ x. take 6 (x ++ begun old.last.items)) g.kept_ended
+    ∙ take_more 6 (map (λ word. take 11 word) g.ended) (begun old.last.items)
+    ∙ ap (λ x. take 6 (map (λ word. take 11 word) g.ended ++ x)) (ap begun g.kept_last ∙ cut)
+    ∙ ap (take 6) (sym (map-append (λ word. take 11 word) g.ended (begun g.last)))
   where
     cut_begun : (word : List ℕ) → begun (take 11 word) ≡ map (λ word. take 11 word) (begun word)
     cut_begun [] = refl
@@ -105,7 +105,7 @@ kept_words line old kept g e =
 
 -- a blank more
 pub gathers_blank : (line : List ℕ) (old new : Words) (byte : ℕ) → is_blank byte ≡ true
-    → texts new.ended.items ≡ take 4 (texts old.ended.items ++ begun old.last.items) → new.last.items ≡ []
+    → texts new.ended.items ≡ take 6 (texts old.ended.items ++ begun old.last.items) → new.last.items ≡ []
     → Gathers line old → Gathers (line ++ byte ∷ []) new
 gathers_blank line old new byte h e f g = record {
   ended = g.ended ++ begun g.last;
@@ -120,21 +120,21 @@ gathers_blank line old new byte h e f g = record {
 
 -- the end of a line
 pub first_of : (line : List ℕ) (old : Words) (kept : List (ArrayVec ℕ))
-    → texts kept ≡ take 4 (texts old.ended.items ++ begun old.last.items) → Gathers line old → AreFirst kept line
+    → texts kept ≡ take 6 (texts old.ended.items ++ begun old.last.items) → Gathers line old → AreFirst kept line
 first_of line old kept e g =
     kept_words line old kept g e
     ∙ ap first_words (sym (ap words (sym (append-nil line)) ∙ g.split []
     ∙ ap (λ x. g.ended ++ x) (words_end g.last [] g.unblank refl ∙ append-nil (begun g.last))))
 
-pub texts_cut : (kept : List (ArrayVec ℕ)) (more : List (List ℕ)) → 4 ≤ length kept → length kept ≤ 4
-    → texts kept ≡ take 4 (texts kept ++ more)
+pub texts_cut : (kept : List (ArrayVec ℕ)) (more : List (List ℕ)) → 6 ≤ length kept → length kept ≤ 6
+    → texts kept ≡ take 6 (texts kept ++ more)
 texts_cut kept more h k =
     let n : length (texts kept) ≡ length kept = length-map kept (λ word. word.items) in
-    sym (take-append-le 4 (texts kept) more (omega arith) ∙ take_all 4 (texts kept) (omega arith))
+    sym (take-append-le 6 (texts kept) more (omega arith) ∙ take_all 6 (texts kept) (omega arith))
 
-pub texts_same : (kept : List (ArrayVec ℕ)) (word : List ℕ) → length kept ≤ 4 → length word ≡ 0
-    → texts kept ≡ take 4 (texts kept ++ begun word)
+pub texts_same : (kept : List (ArrayVec ℕ)) (word : List ℕ) → length kept ≤ 6 → length word ≡ 0
+    → texts kept ≡ take 6 (texts kept ++ begun word)
 texts_same kept [] k e =
     let n : length (texts kept) ≡ length kept = length-map kept (λ word. word.items) in
-    sym (ap (take 4) (append-nil (texts kept)) ∙ take_all 4 (texts kept) (omega arith))
+    sym (ap (take 6) (append-nil (texts kept)) ∙ take_all 6 (texts kept) (omega arith))
 texts_same kept (byte ∷ word) k e = absurd (omega arith)

@@ -14,7 +14,7 @@ fed line = line ++ 10 ∷ []
 
 -- single accesses
 single : List Access → Listed
-single accesses = record { accesses = accesses; block = None; expected = [] }
+single accesses = record { accesses = accesses; block = None; expected = []; until = None }
 
 -- three reads as a block
 of_block : Listed
@@ -22,6 +22,7 @@ of_block = record {
   accesses = Read 536870912 ∷ Read 536870916 ∷ Read 536870920 ∷ [];
   block = Some 536870912;
   expected = [];
+  until = None;
 }
 
 script : script_of (fed (codes "memory 20000000 16") ++ fed (codes "w 20000000 deadbeef") ++ fed (codes "rn 20000000 2")
@@ -120,10 +121,48 @@ calls : script_of (fed (codes "memory 20000000 4") ++ fed (codes "w 20000000 5")
         accesses = Read 536870916 ∷ Read 536870912 ∷ [];
         block = None;
         expected = record { line = 7; place = 1; addr = 536870912; word = 5 } ∷ [];
+        until = None;
       } ∷ [];
     })
 unfolding fed single of_block
 calls = refl
+
+-- the call of an `until`
+waits : ℕ → ℕ → ℕ → ℕ → Listed
+waits addr mask value most = record {
+  accesses = Read addr ∷ [];
+  block = None;
+  expected = [];
+  until = Some (record { addr = addr; mask = mask; value = value; most = most });
+}
+
+-- an `until` after accesses, one directly after it, and accesses after that
+untils : script_of (fed (codes "memory 20000000 4") ++ fed (codes "w 20000000 5")
+    ++ fed (codes "until 0x20000004 0X0000000F 7 1000000") ++ fed (codes "until 20000008 0 0 1")
+    ++ codes "r 20000000") ≡
+    Ok (record {
+      base = 536870912;
+      words = 4;
+      room = 65536;
+      batches = single (Write 536870912 5 ∷ []) ∷ waits 536870916 15 7 1000000 ∷ waits 536870920 0 0 1
+          ∷ single (Read 536870912 ∷ []) ∷ [];
+    })
+unfolding fed single waits
+untils = refl
+
+-- first and last: no call is added
+until_alone : script_of (fed (codes "memory 20000000 4") ++ codes "until 20000004 1 1 2") ≡
+    Ok (record { base = 536870912; words = 4; room = 65536; batches = waits 536870916 1 1 2 ∷ [] })
+unfolding fed waits
+until_alone = refl
+
+value_outside_the_mask : script_of (fed (codes "memory 20000000 1") ++ codes "until 20000000 1 3 1") ≡ Err (Range 2)
+unfolding fed
+value_outside_the_mask = refl
+
+no_read : script_of (fed (codes "memory 20000000 1") ++ codes "until 20000000 1 1 0") ≡ Err (Range 2)
+unfolding fed
+no_read = refl
 
 next_before_the_memory : script_of (codes "next") ≡ Err (NoMemoryLine 1)
 next_before_the_memory = refl

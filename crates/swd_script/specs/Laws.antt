@@ -1,8 +1,11 @@
 -- What holds for every script and every plan.
-use Rattle.std.specs.Prelude.{ℕ, ◌≡◌, ◌≢◌, ◌+◌, ◌*◌, ◌%◌, ◌^◌, ◌≤◌, ◌==◌, Bool, true, List, length, All, IfSome}
+use Rattle.std.specs.Prelude.{ℕ, ◌≡◌, ◌≢◌, ◌+◌, ◌*◌, ◌%◌, ◌^◌, ◌≤◌, ◌==◌, Bool, true, List, [], ◌∷◌, length, None}
+use Rattle.std.specs.Prelude.{All, IfSome}
 use Rattle.std.specs.List.{list_all}
 use Rattle.swd_port.specs.declared.access.Access.{Access}
+use Rattle.swd_port.specs.declared.access.Access.TheVariants.{Read}
 use Rattle.swd_port.specs.PlainMemory.{address, reads}
+use Rattle.swd_script.specs.declared.batch.Until.{Until}
 use Rattle.swd_script.specs.Scripts.{Listed, Meaning}
 
 -- its address is a multiple of 4
@@ -14,11 +17,20 @@ pub record IsBlock (at : ℕ) (accesses : List Access) : Type 0 where
   pub same : accesses ≡ reads at (length accesses)
   pub end : at + 4 * length accesses ≤ 2 ^ 32
 
+-- the call of an `until` is its read, which is made 1 to 1,000,000 times
+pub record IsWait (until : Until) (listed : Listed) : Type 0 where
+  pub only : listed.accesses ≡ Read until.addr ∷ []
+  pub single : listed.block ≡ None
+  pub nothing_expected : listed.expected ≡ []
+  pub some : 1 ≤ until.most
+  pub most : until.most ≤ 1000000
+
 -- a host takes the accesses of a call, and if they are a block, as a block
 pub record IsBatch (listed : Listed) : Type 0 where
   pub few : length listed.accesses ≤ 65536
   pub accesses : list_all is_at_word listed.accesses ≡ true
   pub block : IfSome listed.block (λ at. IsBlock at listed.accesses)
+  pub waits : IfSome listed.until (λ until. IsWait until listed)
 
 -- a memory can be made as the script says, and a host takes its calls
 pub record IsRunnable (script : Meaning) : Type 0 where

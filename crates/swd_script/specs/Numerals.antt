@@ -1,5 +1,6 @@
 -- The numbers of a script or plan.
-use Rattle.std.specs.Prelude.{ℕ, ◌+◌, ◌-◌, ◌*◌, ◌^◌, nat_lt, nat_le, ◌&&◌, List, [], ◌∷◌, length, Option, Some, None}
+use Rattle.std.specs.Prelude.{ℕ, ◌+◌, ◌-◌, ◌*◌, ◌^◌, nat_lt, nat_le, ◌==◌, ◌&&◌, ◌||◌, Bool, List, [], ◌∷◌, length}
+use Rattle.std.specs.Prelude.{Option, Some, None}
 use Rattle.std.specs.Prelude.{if◌then◌else◌}
 use Rattle.std.specs.Option.{option_and_then}
 
@@ -30,9 +31,19 @@ numeral base longest word =
     if nat_le 1 (length word) && nat_le (length word) longest
     then option_and_then word_sized (number_from base 0 word) else None
 
--- 1 to 8 hexadecimal digits of either case
+-- `0x` or `0X`
+abbrev pub is_prefix : ℕ → ℕ → Bool
+is_prefix first second = (first == 48) && ((second == 120) || (second == 88))
+
+-- the digits of a hexadecimal number, without the prefix that it may have
+abbrev pub hex_digits : List ℕ → List ℕ
+hex_digits [] = []
+hex_digits (first ∷ []) = first ∷ []
+hex_digits (first ∷ second ∷ word) = if is_prefix first second then word else first ∷ second ∷ word
+
+-- 1 to 8 hexadecimal digits of either case, which may follow `0x` or `0X`
 abbrev pub hex_of : List ℕ → Option ℕ
-hex_of word = numeral 16 8 word
+hex_of word = numeral 16 8 (hex_digits word)
 
 -- 1 to 10 decimal digits
 abbrev pub decimal_of : List ℕ → Option ℕ

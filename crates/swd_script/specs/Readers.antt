@@ -94,7 +94,12 @@ RefusesLines refuses u state fault text = (more : List ℕ) → refuses fault (t
 -- the accesses of a call
 abbrev pub listed : {A : Type 0} → Batch A → Listed
 listed batch =
-    record { accesses = batch.accesses.items; block = batch.block; expected = batch.expected.items }
+    record {
+      accesses = batch.accesses.items;
+      block = batch.block;
+      expected = batch.expected.items;
+      until = batch.until;
+    }
 
 -- what the lines so far say
 abbrev pub said : {A : Type 0} → Draft A → Sayings

@@ -1,5 +1,5 @@
 -- What a script means, or its first error.
-use Rattle.std.specs.Prelude.{ℕ, Bool, true, false, ◌+◌, ◌*◌, ◌%◌, ◌^◌, ◌==◌, nat_le, ◌&&◌, ◌||◌, is_some}
+use Rattle.std.specs.Prelude.{ℕ, Bool, true, false, ◌+◌, ◌*◌, ◌%◌, ◌^◌, ◌==◌, nat_le, ◌&&◌, ◌||◌, bit_and, is_some}
 use Rattle.std.specs.Prelude.{is_none, unwrap_or, List, [], ◌∷◌, ◌++◌, length, codes, Option, Some, None, Result, Ok}
 use Rattle.std.specs.Prelude.{Err, if◌then◌else◌}
 use Rattle.std.specs.Str.{bytes_eq}
@@ -8,8 +8,9 @@ use Rattle.swd_port.specs.declared.access.Access.TheVariants.{Read as ReadAccess
 use Rattle.swd_port.specs.PlainMemory.{reads}
 use Rattle.swd_script.specs.declared.command.Command.{Command}
 use Rattle.swd_script.specs.declared.batch.Expected.{Expected}
+use Rattle.swd_script.specs.declared.batch.Until.{Until}
 use Rattle.swd_script.specs.declared.command.Command.TheVariants.{Memory, Room, Read, Write, ReadMany, Block, Verify}
-use Rattle.swd_script.specs.declared.command.Command.TheVariants.{Next}
+use Rattle.swd_script.specs.declared.command.Command.TheVariants.{Next, Until as UntilLine}
 use Rattle.swd_script.specs.declared.draft.Extent.{Extent}
 use Rattle.swd_script.specs.declared.fault.LineFault.{LineFault}
 use Rattle.swd_script.specs.declared.fault.LineFault.TheVariants.{Word, Number, Range, NoMemoryLine}
@@ -19,11 +20,13 @@ use Rattle.swd_script.specs.Faults.{after_lines}
 use Rattle.swd_script.specs.Lines.{lines}
 use Rattle.swd_script.specs.Numerals.{hex_of, decimal_of}
 
--- the accesses of a call; if they are one block, its address; and the reads to verify
+-- the accesses of a call; if they are one block, its address; the reads to verify; and if the call is that of an
+-- `until`, what it waits for
 pub record Listed : Type 0 where
   pub accesses : List Access
   pub block : Option ℕ
   pub expected : List Expected
+  pub until : Option Until
 
 -- the memory, the room of its log, and the calls
 pub record Meaning : Type 0 where
@@ -32,7 +35,7 @@ pub record Meaning : Type 0 where
   pub room : ℕ
   pub batches : List Listed
 
--- what the lines so far say: the complete calls, each ended by a line `next`, and the current call
+-- what the lines so far say: the complete calls, and the current one
 pub record Sayings : Type 0 where
   pub memory : Option Extent
   pub room : Option ℕ
@@ -40,7 +43,7 @@ pub record Sayings : Type 0 where
   pub batch : Listed
 
 abbrev pub nothing_listed : Listed
-nothing_listed = record { accesses = []; block = None; expected = [] }
+nothing_listed = record { accesses = []; block = None; expected = []; until = None }
 
 abbrev pub nothing_said : Sayings
 nothing_said = record { memory = None; room = None; earlier = []; batch = nothing_listed }
@@ -64,17 +67,33 @@ long_command name first second =
     (if bytes_eq name (codes "block") then Some (Block (hex_of first) (decimal_of second)) else
     (if bytes_eq name (codes "verify") then Some (Verify (hex_of first) (hex_of second)) else None))))
 
+-- the command with four arguments
+abbrev pub until_command : (name addr mask value most : List ℕ) → Option Command
+until_command name addr mask value most =
+    if bytes_eq name (codes "until")
+    then Some (UntilLine (hex_of addr) (hex_of mask) (hex_of value) (decimal_of most)) else None
+
 -- the command of a line's words, if it is known and has the right number of arguments
 abbrev pub command_of : List (List ℕ) → Option Command
 command_of [] = None
 command_of (name ∷ []) = bare_command name
 command_of (name ∷ first ∷ []) = short_command name first
 command_of (name ∷ first ∷ second ∷ []) = long_command name first second
-command_of (name ∷ first ∷ second ∷ third ∷ more) = None
+command_of (name ∷ first ∷ second ∷ third ∷ []) = None
+command_of (name ∷ first ∷ second ∷ third ∷ fourth ∷ []) = until_command name first second third fourth
+command_of (name ∷ first ∷ second ∷ third ∷ fourth ∷ fifth ∷ more) = None
 
 abbrev pub is_some_list : {X : Type 0} → List X → Bool
 is_some_list [] = false
 is_some_list (x ∷ xs) = true
+
+-- the start of a further call
+abbrev pub with_next : Sayings → Sayings
+with_next said = record said { earlier = said.earlier ++ said.batch ∷ []; batch = nothing_listed }
+
+-- the call of an `until` is that one read: a later access is in a further call
+abbrev pub further : Sayings → Sayings
+further said = if is_some said.batch.until then with_next said else said
 
 -- there was an access, or a further call
 abbrev pub has_begun : Sayings → Bool
@@ -96,8 +115,10 @@ misplaced said (Room count) = if is_some said.room || has_begun said then Some W
 misplaced said (Read addr) = beside_block said
 misplaced said (Write addr value) = beside_block said
 misplaced said (ReadMany addr count) = beside_block said
-misplaced said (Block addr count) = if is_some_list said.batch.accesses then Some Word else without_memory said
+misplaced said (Block addr count) =
+    if is_some_list (further said).batch.accesses then Some Word else without_memory said
 misplaced said (Verify addr value) = beside_block said
+misplaced said (UntilLine addr mask value most) = without_memory said
 misplaced said Next = without_memory said
 
 -- what follows from an argument, which has to be a number
@@ -140,9 +161,24 @@ with_verified line said addr word =
     as_expected (record { line = line; place = length said.batch.accesses; addr = addr; word = word })
     (with_accesses said addr 1 (ReadAccess addr ∷ []))
 
--- the start of a further call
-abbrev pub with_next : Sayings → Sayings
-with_next said = record said { earlier = said.earlier ++ said.batch ∷ []; batch = nothing_listed }
+-- the word can come: the value has no bit outside the mask. There are 1 to 1,000,000 reads.
+abbrev pub can_come : Until → Bool
+can_come until =
+    (bit_and until.value until.mask == until.value) && nat_le 1 until.most && nat_le until.most 1000000
+
+-- the call of an `until`
+abbrev pub until_listed : Until → Listed
+until_listed until =
+    record { accesses = ReadAccess until.addr ∷ []; block = None; expected = []; until = Some until }
+
+-- an `until` ends the call before it, if that has accesses
+abbrev pub call_ended : Sayings → Sayings
+call_ended said = if is_some_list said.batch.accesses then with_next said else said
+
+abbrev pub with_until : Sayings → Until → Result Sayings LineFault
+with_until said until =
+    if are_words until.addr 1 && can_come until
+    then Ok (record (call_ended said) { batch = until_listed until }) else Err Range
 
 -- what a command that is allowed here adds, on the line with this number
 abbrev pub carried_out : ℕ → Sayings → Command → Result Sayings LineFault
@@ -150,16 +186,20 @@ carried_out line said (Memory base words) =
     with_number base (λ base. with_number words (λ words. with_memory said base words))
 carried_out line said (Room count) = with_number count (λ count. with_room said count)
 carried_out line said (Read addr) =
-    with_number addr (λ addr. with_accesses said addr 1 (ReadAccess addr ∷ []))
+    with_number addr (λ addr. with_accesses (further said) addr 1 (ReadAccess addr ∷ []))
 carried_out line said (Write addr value) =
-    with_number addr (λ addr. with_number value (λ value. with_accesses said addr 1 (WriteAccess addr value ∷ [])))
+    with_number addr (λ addr. with_number value (λ value.
+    with_accesses (further said) addr 1 (WriteAccess addr value ∷ [])))
 carried_out line said (ReadMany addr count) =
-    with_number addr (λ addr. with_number count (λ count. with_accesses said addr count (reads addr count)))
+    with_number addr (λ addr. with_number count (λ count. with_accesses (further said) addr count (reads addr count)))
 carried_out line said (Block addr count) =
     with_number addr (λ addr. with_number count (λ count.
-    as_block addr (with_accesses said addr count (reads addr count))))
+    as_block addr (with_accesses (further said) addr count (reads addr count))))
 carried_out line said (Verify addr value) =
-    with_number addr (λ addr. with_number value (λ value. with_verified line said addr value))
+    with_number addr (λ addr. with_number value (λ value. with_verified line (further said) addr value))
+carried_out line said (UntilLine addr mask value most) =
+    with_number addr (λ addr. with_number mask (λ mask. with_number value (λ value. with_number most (λ most.
+    with_until said (record { addr = addr; mask = mask; value = value; most = most })))))
 carried_out line said Next = Ok (with_next said)
 
 abbrev pub fault_before : Option LineFault → Result Sayings LineFault → Result Sayings LineFault

@@ -13,9 +13,9 @@ abbrev pub texts_of : Option (ArrayVec (ArrayVec ℕ)) → Option (List (List �
 texts_of None = None
 texts_of (Some kept) = Some (texts kept.items)
 
--- what is kept of some words: the first 11 bytes of the first four
+-- what is kept of some words: the first 11 bytes of the first six
 abbrev pub first_words : List (List ℕ) → List (List ℕ)
-first_words all = take 4 (map (λ word. take 11 word) all)
+first_words all = take 6 (map (λ word. take 11 word) all)
 
 -- the current word, if there is one
 abbrev pub begun : List ℕ → List (List ℕ)

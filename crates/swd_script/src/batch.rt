@@ -1,7 +1,7 @@
 //! The accesses of one call.
-ghost use Rattle.std.specs.Prelude.{◌≡◌};
+ghost use Rattle.std.specs.Prelude.{◌≡◌, IfSome};
 ghost use Rattle.swd_script.specs.Readers.{listed};
-ghost use Rattle.swd_script.specs.Scripts.{nothing_listed};
+ghost use Rattle.swd_script.specs.Scripts.{nothing_listed, until_listed};
 
 use std::alloc::Allocator;
 use swd_port::Access;
@@ -15,6 +15,21 @@ pub struct Batch<A: Allocator> {
     pub block: Option<u32>,
     /// The reads to verify, in order.
     pub expected: Vec<Expected, A>,
+    /// What the call waits for, if it is that of an `until`. Its only access is then the read of that address.
+    pub until: Option<Until>,
+}
+
+/// A read that is made again, as a call of its own, until its word comes.
+#[derive(Clone, Copy, Debug, PartialEq, Eq)]
+pub struct Until {
+    /// The address to read.
+    pub addr: u32,
+    /// The bits of the word that are compared.
+    pub mask: u32,
+    /// The expected bits. It has no bit outside the mask.
+    pub value: u32,
+    /// The most reads, 1 to 1,000,000.
+    pub most: u32,
 }
 
 /// A read whose word is to be verified.
@@ -39,6 +54,23 @@ impl<A: Allocator + Copy> Batch<A> {
             accesses: Vec::new(alloc),
             block: None,
             expected: Vec::new(alloc),
+            until: None,
         }
+    }
+
+    /// Returns the call of an `until`. Returns `None` if an allocation fails.
+    pub(crate) fn waiting(alloc: A, until: Until) -> Option<Batch<A>>
+        ensures { IfSome result (λ batch. listed batch ≡ until_listed until) }
+    {
+        let mut accesses = Vec::new(alloc);
+        let Ok(()) = accesses.push(Access::Read(until.addr)) else {
+            return None;
+        };
+        Some(Batch {
+            accesses,
+            block: None,
+            expected: Vec::new(alloc),
+            until: Some(until),
+        })
     }
 }

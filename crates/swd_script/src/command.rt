@@ -1,6 +1,6 @@
 //! The commands of a script.
 ghost use Rattle.std.specs.Prelude.{◌≡◌};
-ghost use Rattle.swd_script.specs.Scripts.{bare_command, command_of, long_command, short_command};
+ghost use Rattle.swd_script.specs.Scripts.{bare_command, command_of, long_command, short_command, until_command};
 ghost use Rattle.swd_script.specs.Words.{texts};
 
 use crate::numeral::{decimal_of, hex_of};
@@ -42,6 +42,13 @@ pub(crate) enum Command {
         addr: Option<u32>,
         value: Option<u32>,
     },
+    /// A read that is made again until its word under a mask is a value, at most `most` times.
+    Until {
+        addr: Option<u32>,
+        mask: Option<u32>,
+        value: Option<u32>,
+        most: Option<u32>,
+    },
     /// The start of a further call.
     Next,
 }
@@ -57,6 +64,13 @@ pub(crate) fn command_of(words: &[Word]) -> Option<Command>
         [name, first, second] => {
             long_command(name.as_slice(), first.as_slice(), second.as_slice())
         }
+        [name, addr, mask, value, most] => until_command(
+            name.as_slice(),
+            addr.as_slice(),
+            mask.as_slice(),
+            value.as_slice(),
+            most.as_slice(),
+        ),
         _ => None,
     }
 }
@@ -121,6 +135,27 @@ fn long_command(name: &[u8], first: &[u8], second: &[u8]) -> Option<Command>
         return Some(Command::Verify {
             addr: hex_of(first),
             value: hex_of(second),
+        });
+    }
+    None
+}
+
+// Returns the command with four arguments that has this name.
+fn until_command(
+    name: &[u8],
+    addr: &[u8],
+    mask: &[u8],
+    value: &[u8],
+    most: &[u8],
+) -> Option<Command>
+    ensures { result ≡ until_command name.now addr.now mask.now value.now most.now }
+{
+    if name == b"until".as_slice() {
+        return Some(Command::Until {
+            addr: hex_of(addr),
+            mask: hex_of(mask),
+            value: hex_of(value),
+            most: decimal_of(most),
         });
     }
     None

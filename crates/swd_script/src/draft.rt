@@ -1,9 +1,9 @@
 //! What the lines of a script have said so far.
 ghost use Rattle.std.specs.Prelude.{◌≡◌, ◌+◌, ◌∷◌, [], length, nat_le, ok_or};
 ghost use Rattle.std.specs.Prelude.{Ok, Err, OnOk, IfErr, IfOk};
-ghost use Rattle.swd_script.specs.Scripts.{are_words};
+ghost use Rattle.swd_script.specs.Scripts.{are_words, can_come};
 
-use crate::batch::{Batch, Expected};
+use crate::batch::{Batch, Expected, Until};
 use crate::command::{Command, command_of};
 use crate::fault::{LineFault, ScriptFault};
 use crate::script::Script;
@@ -14,6 +14,9 @@ use swd_port::{Access, MOST_ACCESSES, push_reads};
 
 // The most words of a memory, and the most transfers in its log.
 const MOST: u32 = 65536;
+
+// The most reads of an `until`.
+const MOST_READS: u32 = 1_000_000;
 
 /// The extent of a memory: the address of the first word, and the number of words.
 #[derive(Clone, Copy, Debug, PartialEq, Eq)]
@@ -28,7 +31,7 @@ pub struct Draft<A: Allocator> {
     alloc: A,
     pub(crate) memory: Option<Extent>,
     pub(crate) room: Option<u32>,
-    // the complete calls, each ended by a line `next`, and the current call
+    // the complete calls, and the current one
     pub(crate) earlier: Vec<Batch<A>, A>,
     pub(crate) batch: Batch<A>,
 }
@@ -39,8 +42,7 @@ impl<A: Allocator + Copy> Draft<A> {
     ghost use Rattle.swd_script.specs.declared.batch.Expected.{Expected as TheExpected};
     ghost use Rattle.swd_script.specs.Scripts.{as_block, as_expected, carried_out, has_begun, misplaced, nothing_said};
     ghost use Rattle.swd_script.specs.Scripts.{script_line, script_meaning, with_accesses, with_memory, with_next};
-    ghost use Rattle.swd_script.specs.Scripts.{with_room};
-    ghost use Rattle.swd_script.specs.Scripts.{with_verified};
+    ghost use Rattle.swd_script.specs.Scripts.{further, with_room, with_until, with_verified};
     ghost use Rattle.swd_script.specs.Readers.{IsEndFault, IsFaultOf, meaning, said};
     ghost use Rattle.swd_script.specs.Words.{texts_of};
 
@@ -88,7 +90,7 @@ impl<A: Allocator + Copy> Draft<A> {
             Command::Room { .. } if self.room.is_some() || self.has_begun() => {
                 Some(LineFault::Word)
             }
-            Command::Block { .. } if !self.batch.accesses.is_empty() => Some(LineFault::Word),
+            Command::Block { .. } if self.place() != 0 => Some(LineFault::Word),
             Command::Read { .. }
             | Command::Write { .. }
             | Command::ReadMany { .. }
@@ -128,6 +130,17 @@ impl<A: Allocator + Copy> Draft<A> {
                 let addr = number(addr)?;
                 self.add_verified(line, addr, number(value)?)
             }
+            Command::Until {
+                addr,
+                mask,
+                value,
+                most,
+            } => self.add_until(Until {
+                addr: number(addr)?,
+                mask: number(mask)?,
+                value: number(value)?,
+                most: number(most)?,
+            }),
             Command::Next => self.end_batch(),
         }
     }
@@ -156,12 +169,14 @@ impl<A: Allocator + Copy> Draft<A> {
 
     // Adds an access at an address.
     fn add(&mut self, addr: u32, access: Access) -> Result<(), LineFault>
-        ensures ok { OnOk result (with_accesses (said self.old) addr 1 (access ∷ []) ≡ Ok (said self.new)) }
-        ensures err { IfErr result (λ fault. IsFaultOf fault (with_accesses (said self.old) addr 1 (access ∷ []))) }
+        ensures ok { OnOk result (with_accesses (further (said self.old)) addr 1 (access ∷ []) ≡ Ok (said self.new)) }
+        ensures err { IfErr result (λ fault.
+            IsFaultOf fault (with_accesses (further (said self.old)) addr 1 (access ∷ []))) }
     {
         if !are_words(addr, 1) || !self.has_room_for(1) {
             return Err(LineFault::Range);
         }
+        self.leave_until()?;
         match self.batch.accesses.push(access) {
             Ok(()) => Ok(()),
             Err(_) => Err(LineFault::Memory),
@@ -170,13 +185,15 @@ impl<A: Allocator + Copy> Draft<A> {
 
     // Adds `count` reads from an address on.
     fn add_reads(&mut self, addr: u32, count: u32) -> Result<(), LineFault>
-        ensures ok { OnOk result (with_accesses (said self.old) addr count (reads addr count) ≡ Ok (said self.new)) }
+        ensures ok { OnOk result (with_accesses (further (said self.old)) addr count (reads addr count)
+            ≡ Ok (said self.new)) }
         ensures err { IfErr result (λ fault.
-            IsFaultOf fault (with_accesses (said self.old) addr count (reads addr count))) }
+            IsFaultOf fault (with_accesses (further (said self.old)) addr count (reads addr count))) }
     {
         if !are_words(addr, count) || !self.has_room_for(count) {
             return Err(LineFault::Range);
         }
+        self.leave_until()?;
         match push_reads(&mut self.batch.accesses, addr, count) {
             Ok(()) => Ok(()),
             Err(_) => Err(LineFault::Memory),
@@ -185,10 +202,10 @@ impl<A: Allocator + Copy> Draft<A> {
 
     // Adds a read with the word that the line with this number expects.
     fn add_verified(&mut self, line: u64, addr: u32, word: u32) -> Result<(), LineFault>
-        ensures ok { OnOk result (with_verified line (said self.old) addr word ≡ Ok (said self.new)) }
-        ensures err { IfErr result (λ fault. IsFaultOf fault (with_verified line (said self.old) addr word)) }
+        ensures ok { OnOk result (with_verified line (further (said self.old)) addr word ≡ Ok (said self.new)) }
+        ensures err { IfErr result (λ fault. IsFaultOf fault (with_verified line (further (said self.old)) addr word)) }
     {
-        let place = self.batch.accesses.len();
+        let place = self.place();
         self.add(addr, Access::Read(addr))?;
         let expected = Expected {
             line,
@@ -200,6 +217,35 @@ impl<A: Allocator + Copy> Draft<A> {
             Ok(()) => Ok(()),
             Err(_) => Err(LineFault::Memory),
         }
+    }
+
+    // Adds the call of an `until`, and ends the call before it if that has accesses.
+    fn add_until(&mut self, until: Until) -> Result<(), LineFault>
+        ensures ok { OnOk result (with_until (said self.old) until ≡ Ok (said self.new)) }
+        ensures err { IfErr result (λ fault. IsFaultOf fault (with_until (said self.old) until)) }
+    {
+        if !are_words(until.addr, 1) || !can_come(until) {
+            return Err(LineFault::Range);
+        }
+        let Some(batch) = Batch::waiting(self.alloc, until) else {
+            return Err(LineFault::Memory);
+        };
+        if !self.batch.accesses.is_empty() {
+            self.end_batch()?;
+        }
+        self.batch = batch;
+        Ok(())
+    }
+
+    // Starts a further call, if the current one is that of an `until`.
+    fn leave_until(&mut self) -> Result<(), LineFault>
+        ensures ok { OnOk result (further (said self.old) ≡ said self.new) }
+        ensures err { IfErr result (λ fault. fault ≡ LineFault.Memory) }
+    {
+        if self.batch.until.is_none() {
+            return Ok(());
+        }
+        self.end_batch()
     }
 
     // Ends the current call, and starts a further one.
@@ -216,21 +262,32 @@ impl<A: Allocator + Copy> Draft<A> {
 
     // Adds the reads of a block, which are the only accesses of their call.
     fn add_block(&mut self, addr: u32, count: u32) -> Result<(), LineFault>
-        ensures ok { OnOk result (as_block addr (with_accesses (said self.old) addr count (reads addr count))
+        ensures ok { OnOk result (as_block addr (with_accesses (further (said self.old)) addr count (reads addr count))
             ≡ Ok (said self.new)) }
         ensures err { IfErr result (λ fault.
-            IsFaultOf fault (as_block addr (with_accesses (said self.old) addr count (reads addr count)))) }
+            IsFaultOf fault (as_block addr (with_accesses (further (said self.old)) addr count (reads addr count)))) }
     {
         self.add_reads(addr, count)?;
         self.batch.block = Some(addr);
         Ok(())
     }
 
-    // Returns whether the current call may have `count` more accesses.
-    fn has_room_for(&self, count: u32) -> bool
-        ensures { result ≡ nat_le (length self.now.batch.accesses.items + count) 65536 }
+    // Returns the index that the next access gets in its call. After an `until` that is a further call.
+    fn place(&self) -> usize
+        ensures { result ≡ length (further (said self.now)).batch.accesses }
     {
-        self.batch.accesses.len() as u64 + u64::from(count) <= u64::from(MOST_ACCESSES)
+        if self.batch.until.is_some() {
+            0
+        } else {
+            self.batch.accesses.len()
+        }
+    }
+
+    // Returns whether the call of the next access may have `count` more accesses.
+    fn has_room_for(&self, count: u32) -> bool
+        ensures { result ≡ nat_le (length (further (said self.now)).batch.accesses + count) 65536 }
+    {
+        self.place() as u64 + u64::from(count) <= u64::from(MOST_ACCESSES)
     }
 
     /// Returns the whole script, whose last line has this number.
@@ -272,4 +329,11 @@ fn are_words(addr: u32, count: u32) -> bool
     ensures { result ≡ are_words addr count }
 {
     addr % 4 == 0 && count >= 1 && u64::from(addr) + 4 * u64::from(count) <= 1 << 32
+}
+
+// Returns whether the word of an `until` can come, and the number of its reads is in range.
+fn can_come(until: Until) -> bool
+    ensures { result ≡ can_come until }
+{
+    until.value & until.mask == until.value && until.most >= 1 && until.most <= MOST_READS
 }

@@ -14,7 +14,7 @@ mod plan;
 mod script;
 mod words;
 
-pub use batch::{Batch, Expected};
+pub use batch::{Batch, Expected, Until};
 pub use fault::ScriptFault;
 pub use line_reader::LineReader;
 pub use plan::{PlanReader, read_plan};

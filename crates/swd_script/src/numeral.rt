@@ -1,13 +1,23 @@
 //! Parses the numbers of a script or a plan.
 ghost use Rattle.std.specs.Prelude.{◌≡◌, ◌≤◌, ◌<◌, length, IfSome};
-ghost use Rattle.swd_script.specs.Numerals.{decimal_of, digit_of, digit_value, hex_of, number_from};
+ghost use Rattle.swd_script.specs.Numerals.{decimal_of, digit_of, digit_value, hex_digits, hex_of, number_from};
 ghost use Rattle.swd_script.specs.Numerals.{numeral as numeral_of};
 
-/// Parses 1 to 8 hexadecimal digits of either case.
+/// Parses 1 to 8 hexadecimal digits of either case, which may follow `0x` or `0X`.
 pub(crate) fn hex_of(word: &[u8]) -> Option<u32>
     ensures { result ≡ hex_of word.now }
 {
-    numeral(16, 8, word)
+    numeral(16, 8, hex_digits(word))
+}
+
+// Returns the digits of a hexadecimal number, without its prefix if it has one.
+fn hex_digits(word: &[u8]) -> &[u8]
+    ensures { result.now ≡ hex_digits word.now }
+{
+    match word {
+        [b'0', b'x' | b'X', digits @ ..] => digits,
+        _ => word,
+    }
 }
 
 /// Parses 1 to 10 decimal digits. The number has to be below 2^32.

@@ -9,7 +9,7 @@ use std::mem;
 const LONGEST: usize = 11;
 
 // One word more than the longest valid line has.
-const MOST: usize = 4;
+const MOST: usize = 6;
 
 /// The first bytes of a word. A truncated word is invalid, as is the whole one.
 pub(crate) type Word = ArrayVec<u8, LONGEST>;
@@ -58,7 +58,7 @@ impl Words {
     // Ends the current word, if there is one.
     fn end_word(&mut self)
         ensures ended { texts self.new.ended.items
-            ≡ take 4 (texts self.old.ended.items ++ begun self.old.last.items) }
+            ≡ take 6 (texts self.old.ended.items ++ begun self.old.last.items) }
         ensures last { self.new.last.items ≡ [] }
     {
         let word = mem::take(&mut self.last);

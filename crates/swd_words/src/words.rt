@@ -71,9 +71,9 @@ that --report names, which is overwritten; with - it is appended to standard
 error. SCRIPT must be a file. There is no plan, and the script's memory and room
 are ignored.
 
-A script has one command per line; # begins a comment. BASE, ADDR and VALUE are
-1 to 8 hexadecimal digits, addresses multiples of 4. WORDS, N and COUNT are 1 to
-10 decimal digits.
+A script has one command per line; # begins a comment. BASE, ADDR, VALUE and
+MASK are 1 to 8 hexadecimal digits, which may follow 0x, and addresses multiples
+of 4. WORDS, N and COUNT are 1 to 10 decimal digits.
   memory BASE WORDS  the first command: the target's memory, 1 to 65536 words
                      from BASE on, all zero, none past ffffffff
   room N             once, before the first access or next: the target does N
@@ -85,6 +85,10 @@ A script has one command per line; # begins a comment. BASE, ADDR and VALUE are
   block ADDR COUNT   reads COUNT words as a block, with one request per word. It
                      must be the only access of its call
   verify ADDR VALUE  reads a word and compares it with VALUE
+  until ADDR MASK VALUE N
+                     reads a word, at most N times, 1 to 1000000, until its
+                     bits under MASK are VALUE. Each read is a call of its own,
+                     and so are the accesses after it
   next               begins another call at the same target, with at most 65536
                      accesses. It connects anew, and only runs if the call
                      before it ended all
@@ -99,7 +103,8 @@ Requests after its last line are undisturbed.
 
 The report of a call is written when the call ends, before the next one starts.
 It has one line per answer, in the script's order:
-  r ADDR WORD        the word that was read
+  r ADDR WORD        the word that was read. Of until only the last read has a
+                     line, with the number of reads: r ADDR WORD reads N
   w ADDR written     the word was written, once
   r ADDR busfault    bus error: no memory at ADDR, or no room left, which a line
                      on standard error says. There was no access
@@ -110,6 +115,8 @@ It has one line per answer, in the script's order:
 and then one line for the end of the call, after K answers. At most B of the
 accesses after these were in flight, and may have taken effect:
   end all K              every access was answered
+  end until K            the word of until did not come in N reads, or a read
+                         met a bus error. No further call is made
   end lost K begun B     no acknowledgement was seen
   end tries K begun B    the retries of an access ran out: see --tries
   end id WORD            the target's DPIDR is invalid: WORD
@@ -122,8 +129,9 @@ what swd decode --accesses --made prints of the trace, with --remote without
 
 Status: 0 if each call ended all, 1 if one ended otherwise, 2 at an error. A bus
 error is an answer, and fails the run only with --strict: status 1. The status
-is also 1 if a word to verify differed or met a bus error. A line on standard
-error then names the first, with its line in the script, and both words.
+is also 1 if the word of until never came, and if a word to verify differed or
+met a bus error. A line on standard error then names the first word to verify,
+with its line in the script, and both words.
 An error in a script or plan is printed with its line, counted from 1:
   word            an unknown command or mark, or one in the wrong place
   number          not a number of 32 bits

@@ -366,7 +366,7 @@ const FAULTS: [Call; 11] = [
     ),
 ];
 
-const TARGETS: [Call; 11] = [
+const TARGETS: [Call; 12] = [
     (
         "a host is served",
         &["swd", "target", "memory"],
@@ -386,6 +386,14 @@ const TARGETS: [Call; 11] = [
     (
         "a target's script has accesses",
         &["swd", "target", "script"],
+        b"",
+        2,
+        b"",
+        b"swd: a target's script has no accesses and no next\n",
+    ),
+    (
+        "a target's script waits for a word",
+        &["swd", "target", "awaiting"],
         b"",
         2,
         b"",

@@ -24,6 +24,18 @@ fn a_word_that_differs_takes_one_line(rt: HostRuntime) {
             b"swd: script line 2: 30000000 gave a bus fault, not deadbeef\n",
             1,
         ),
+        (b"memory 20000000 1\nuntil 20000000 1 0 3\n", b"", 0),
+        (
+            b"memory 20000000 1\nuntil 20000000 1 1 3\nr 20000000\n",
+            b"",
+            1,
+        ),
+        (b"memory 20000000 1\nuntil 30000000 0 0 3\n", b"", 1),
+        (
+            b"memory 20000000 1\nverify 20000000 6\nuntil 20000000 1 1 3\n",
+            b"swd: script line 2: 20000000 has 00000000, not 00000006\n",
+            1,
+        ),
     ] {
         let ran = run_on(rt.alloc(), ["swd", "run", "-"].as_slice(), script);
         expect_eq(&rt, &ran.errors.as_slice(), &errors);

@@ -45,6 +45,7 @@ fn a_script_sends_what_was_recorded(rt: HostRuntime) {
     );
     let finished = Finished {
         ended: End::All,
+        never_came: false,
         differs: None,
         bus_fault: false,
         full: None,
@@ -86,6 +87,7 @@ fn a_remote_run_is_traced(rt: HostRuntime) {
     );
     let finished = Finished {
         ended: End::All,
+        never_came: false,
         differs: None,
         bus_fault: false,
         full: None,
@@ -239,6 +241,7 @@ fn a_call_that_is_lost_is_the_last_one(rt: HostRuntime) {
     };
     let finished = Finished {
         ended: End::Lost,
+        never_came: false,
         differs: Some(differs),
         bus_fault: false,
         full: None,
@@ -281,6 +284,7 @@ fn a_target_that_goes_away_is_told(rt: HostRuntime) {
         );
         let finished = Finished {
             ended: End::Lost,
+            never_came: false,
             differs: None,
             bus_fault: false,
             full: None,

@@ -406,6 +406,7 @@ const ROOMS: [(&str, &[u8], Option<u32>, &[u8]); 4] = [
 fn all_with(full: Option<u32>, report: &[u8]) -> Result<Finished, RunFault> {
     Ok(Finished {
         ended: End::All,
+        never_came: false,
         differs: None,
         bus_fault: has_bus_fault(report),
         full,

@@ -22,6 +22,7 @@ pub(super) const REPORTS: &[u8] =
 fn differs<R: Abort>(rt: &R, run: &Ran, end: End, difference: Difference, report: &[u8]) {
     let finished = Finished {
         ended: end,
+        never_came: false,
         differs: Some(difference),
         bus_fault: has_bus_fault(report),
         full: None,

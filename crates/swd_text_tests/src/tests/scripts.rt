@@ -6,7 +6,7 @@ use std::process::Abort;
 use std::test::Fail;
 use swd_io::Consumer;
 use swd_port::{Access, Mark};
-use swd_script::{Expected, PlanReader, Script, ScriptFault, ScriptReader};
+use swd_script::{Expected, PlanReader, Script, ScriptFault, ScriptReader, Until};
 
 /// The script that a text in two pieces says.
 pub(super) fn script_in<A: Allocator + Copy>(
@@ -34,11 +34,13 @@ pub(super) fn plan_in<A: Allocator>(
     reader.finish()
 }
 
-// A call of a script: its accesses, the address of its block, and the words that its reads have to give.
+// A call of a script: its accesses, the address of its block, what it waits for, and the words that its reads have to
+// give.
 #[derive(Clone, Copy)]
 struct Call {
     accesses: &'static [Access],
     block: Option<u32>,
+    until: Option<Until>,
     expected: &'static [Expected],
 }
 
@@ -53,7 +55,57 @@ struct Said {
     calls: &'static [Call],
 }
 
-const SCRIPTS: [Said; 9] = [
+// The call of an `until`.
+const WAITS: Call = Call {
+    accesses: &[Access::Read(0x4002_200c)],
+    block: None,
+    until: Some(Until {
+        addr: 0x4002_200c,
+        mask: 1,
+        value: 0,
+        most: 1000,
+    }),
+    expected: &[],
+};
+
+// The same with the greatest numbers.
+const WAITS_LONG: Call = Call {
+    accesses: &[Access::Read(0xffff_fffc)],
+    until: Some(Until {
+        addr: 0xffff_fffc,
+        mask: 0xffff_ffff,
+        value: 0xffff_ffff,
+        most: 1_000_000,
+    }),
+    ..WAITS
+};
+
+// And with the smallest.
+const WAITS_ONCE: Call = Call {
+    accesses: &[Access::Read(0)],
+    until: Some(Until {
+        addr: 0,
+        mask: 0,
+        value: 0,
+        most: 1,
+    }),
+    ..WAITS
+};
+
+// A call of one read.
+const READS: Call = Call {
+    accesses: &[Access::Read(0)],
+    until: None,
+    ..WAITS
+};
+
+// A call without accesses.
+const NOTHING: Call = Call {
+    accesses: &[],
+    ..READS
+};
+
+const SCRIPTS: [Said; 15] = [
     Said {
         name: "a write and reads",
         text: b"memory 20000000 16\nw 20000000 deadbeef\nrn 20000000 2\nr 30000000\n",
@@ -68,6 +120,7 @@ const SCRIPTS: [Said; 9] = [
                 Access::Read(0x3000_0000),
             ],
             block: None,
+            until: None,
             expected: &[],
         }],
     },
@@ -81,6 +134,7 @@ const SCRIPTS: [Said; 9] = [
         calls: &[Call {
             accesses: &[Access::Write(0x2000_000c, 0xdead_beef), Access::Read(0)],
             block: None,
+            until: None,
             expected: &[],
         }],
     },
@@ -102,6 +156,7 @@ const SCRIPTS: [Said; 9] = [
                 Access::Read(0x14),
             ],
             block: None,
+            until: None,
             expected: &[],
         }],
     },
@@ -114,6 +169,7 @@ const SCRIPTS: [Said; 9] = [
         calls: &[Call {
             accesses: &[Access::Read(0xffff_fffc)],
             block: None,
+            until: None,
             expected: &[],
         }],
     },
@@ -126,6 +182,7 @@ const SCRIPTS: [Said; 9] = [
         calls: &[Call {
             accesses: &[Access::Read(0xffff_fff8), Access::Read(0xffff_fffc)],
             block: None,
+            until: None,
             expected: &[],
         }],
     },
@@ -142,6 +199,7 @@ const SCRIPTS: [Said; 9] = [
                 Access::Read(0x2000_0008),
             ],
             block: Some(0x2000_0000),
+            until: None,
             expected: &[],
         }],
     },
@@ -158,6 +216,7 @@ const SCRIPTS: [Said; 9] = [
                 Access::Read(0x2000_0008),
             ],
             block: None,
+            until: None,
             expected: &[],
         }],
     },
@@ -172,21 +231,25 @@ const SCRIPTS: [Said; 9] = [
             Call {
                 accesses: &[Access::Write(0x2000_0000, 5)],
                 block: None,
+                until: None,
                 expected: &[],
             },
             Call {
                 accesses: &[Access::Read(0x2000_0000), Access::Read(0x2000_0004)],
                 block: Some(0x2000_0000),
+                until: None,
                 expected: &[],
             },
             Call {
                 accesses: &[],
                 block: None,
+                until: None,
                 expected: &[],
             },
             Call {
                 accesses: &[Access::Read(0x2000_0004)],
                 block: None,
+                until: None,
                 expected: &[],
             },
         ],
@@ -207,6 +270,7 @@ const SCRIPTS: [Said; 9] = [
                     Access::Read(0x2000_000c),
                 ],
                 block: None,
+                until: None,
                 expected: &[
                     Expected {
                         line: 3,
@@ -225,12 +289,95 @@ const SCRIPTS: [Said; 9] = [
             Call {
                 accesses: &[Access::Read(0x2000_0008)],
                 block: None,
+                until: None,
                 expected: &[Expected {
                     line: 8,
                     place: 0,
                     addr: 0x2000_0008,
                     word: 0,
                 }],
+            },
+        ],
+    },
+    Said {
+        name: "hexadecimal numbers may have a prefix",
+        text: b"memory 0x20000000 1\nw 0X2000000C 0xdeadBEEF\nw 0x0 0X00000001\nrn 0x10 2\nr 0x0\n",
+        base: 0x2000_0000,
+        words: 1,
+        room: 65536,
+        calls: &[Call {
+            accesses: &[
+                Access::Write(0x2000_000c, 0xdead_beef),
+                Access::Write(0, 1),
+                Access::Read(0x10),
+                Access::Read(0x14),
+                Access::Read(0),
+            ],
+            block: None,
+            until: None,
+            expected: &[],
+        }],
+    },
+    Said {
+        name: "until is a call of its own",
+        text: b"memory 0 1\nr 0\nuntil 4002200c 1 0 1000\nr 0\n",
+        base: 0,
+        words: 1,
+        room: 65536,
+        calls: &[READS, WAITS, READS],
+    },
+    Said {
+        name: "until first, one after another, and last",
+        text: b"memory 0 1\nuntil 0x4002200c 0x1 0x0 1000\nuntil fffffffc FFFFFFFF ffffffff 1000000\n\
+            until 0 0 0 1",
+        base: 0,
+        words: 1,
+        room: 65536,
+        calls: &[WAITS, WAITS_LONG, WAITS_ONCE],
+    },
+    Said {
+        name: "next after until begins one call, and next before it none",
+        text: b"memory 0 1\nr 0\nnext\nuntil 4002200c 1 0 1000\nnext\nr 0\n",
+        base: 0,
+        words: 1,
+        room: 65536,
+        calls: &[READS, WAITS, READS],
+    },
+    Said {
+        name: "next at the end, after until",
+        text: b"memory 0 1\nuntil 4002200c 1 0 1000\nnext\n",
+        base: 0,
+        words: 1,
+        room: 65536,
+        calls: &[WAITS, NOTHING],
+    },
+    Said {
+        name: "until between a block, a block, and a verify",
+        text: b"memory 0 1\nblock 20000000 1\nuntil 0 0 0 1\nblock 20000000 1\nuntil 0 0 0 1\nverify 0 5\n",
+        base: 0,
+        words: 1,
+        room: 65536,
+        calls: &[
+            Call {
+                accesses: &[Access::Read(0x2000_0000)],
+                block: Some(0x2000_0000),
+                ..READS
+            },
+            WAITS_ONCE,
+            Call {
+                accesses: &[Access::Read(0x2000_0000)],
+                block: Some(0x2000_0000),
+                ..READS
+            },
+            WAITS_ONCE,
+            Call {
+                expected: &[Expected {
+                    line: 6,
+                    place: 0,
+                    addr: 0,
+                    word: 5,
+                }],
+                ..READS
             },
         ],
     },
@@ -245,6 +392,7 @@ fn is_said<R: Abort>(rt: &R, row: &Said, cut: usize, script: &Script<Global>) {
     for (batch, call) in script.batches.as_slice().iter().zip(row.calls.iter()) {
         expect_eq_at(rt, &place, &batch.accesses.as_slice(), &call.accesses);
         expect_eq_at(rt, &place, &batch.block, &call.block);
+        expect_eq_at(rt, &place, &batch.until, &call.until);
         expect_eq_at(rt, &place, &batch.expected.as_slice(), &call.expected);
     }
 }
@@ -390,12 +538,12 @@ fn each_growth_of_a_script_is_refused(rt: HostRuntime) -> Result<(), Fail> {
         let heap = LocalHeap::new(rt.alloc(), size * 64)?;
         match script_in(
             &heap,
-            b"memory 0 1\n\nw 0 1\nrn 0 200\nr 4\nnext\nverify 0 1\n".as_slice(),
+            b"memory 0 1\n\nw 0 1\nrn 0 200\nr 4\nuntil 0 1 1 9\nverify 0 1\n".as_slice(),
             3,
         ) {
             Ok(script) => {
                 expect_eq(&rt, &accesses(&script).len(), &202);
-                expect_eq(&rt, &script.batches.len(), &2);
+                expect_eq(&rt, &script.batches.len(), &3);
             }
             Err(ScriptFault::Memory { line: 3..=8 }) => refused = refused.saturating_add(1),
             Err(_) => assert!(rt; false),

@@ -1,4 +1,4 @@
-use Rattle.std.proofs.Common.{◌≡◌, ◌≤◌, length, map}
+use Rattle.std.proofs.Common.{◌≡◌, ◌≤◌, false, length, map}
 use Rattle.swd_port.specs.declared.wire.Due.TheVariants.{Nothing}
 use Rattle.swd_host.specs.declared.outcome.End.TheVariants.{All}
 use Rattle.swd_script.specs.Readers.{listed}
@@ -10,6 +10,7 @@ invariant-loop-batch g l = record {
   so_far : SoFar g.W.Wire.port g.W.Wire.plan g.W.Wire.lawful l.tries l.resumes (map listed l.batches) l.fn.wire
       (g.O.Write.contents l.fn.report) l.batch-index l.wire (g.O.Write.contents l.report) l.finished l.written;
   all : l.finished.ended ≡ All;
+  came : l.finished.never_came ≡ false;
   low : l.batch-index ≤ length l.batches;
   due : (g.W.Wire.port l.wire).link.due ≡ Nothing;
   plan : g.W.Wire.plan l.wire ≡ g.W.Wire.plan l.fn.wire;

@@ -11,6 +11,7 @@ use Rattle.swd_script.specs.Readers.{listed}
 use Rattle.swd_run.specs.Records.{files_of, no_files}
 use Rattle.swd_run.specs.Recorded.{Stepped}
 use Rattle.swd_run.specs.Sessions.{ended_of, requests_of}
+use Rattle.swd_run.specs.Unfoldings.{calls_of, runs_of}
 use Rattle.swd_run.proofs.EngineLemmas.{answers_by, ran_by, recorded_in, untold}
 use Rattle.swd_run.proofs.RecordedLemmas.{any_recorded_accounted, recorded_accounted}
 use Rattle.swd_run.proofs.RunLemmas.{IsRecorded, of_trace, trace_of}
@@ -31,10 +32,10 @@ returns-in-Ok-clause-answer g c =
     let over = ran_by (λ traced. traced.recorder) port_by plan_by lawful_by c.args.tries c.args.resumes batches
     c.args.traced.now c.run_reported.new.wire c.in-Ok.ensures.answer.0 in
     let kept : lawful_by end → IsAtRest (port_by start)
-    → IsRecorded (requests_of over.runs) (ended_of over.runs) (port_by end) =
+    → IsRecorded (requests_of (runs_of over.made)) (ended_of (runs_of over.made)) (port_by end) =
     λ law rest.
-    recorded port_by plan_by lawful_by c.args.tries c.args.resumes start rest (take (length over.runs) batches) over.runs
-    end c.requires.asked over.are law in
+    recorded port_by plan_by lawful_by c.args.tries c.args.resumes start rest (calls_of batches over.made)
+    (runs_of over.made) end c.requires.asked over.are law in
     recorded_in port_by plan_by lawful_by c.args.tries c.args.resumes batches start end
     (g.O.Write.contents c.args.report.now) (g.O.Write.contents c.run_reported.new.report) c.in-Ok.finished
     c.is_cut.result items over c.in-Ok.ensures.answer.1 c.in-Ok.ensures.answer.2 c.in-Ok.ensures.answer.3
@@ -42,8 +43,8 @@ returns-in-Ok-clause-answer g c =
     let uncut = sym c.is_cut.ensures ∙ whole in
     record {
       read = c.items.ensures.read;
-      whole = λ law rest. trace_of (requests_of over.runs) (ended_of over.runs) (port_by end) items (kept law rest)
-          c.items.ensures.read (c.items.ensures.counted uncut) (c.items.ensures.lost uncut);
+      whole = λ law rest. trace_of (requests_of (runs_of over.made)) (ended_of (runs_of over.made)) (port_by end)
+          items (kept law rest) c.items.ensures.read (c.items.ensures.counted uncut) (c.items.ensures.lost uncut);
       explained = λ law rest identification m is_made.
           let same = c.items.ensures.whole uncut in
           let count = c.items.ensures.counted uncut in
@@ -63,8 +64,8 @@ returns-in-Ok-clause-answer g c =
     })
     (record {
       read = c.items.ensures.read;
-      part = λ law rest. of_trace (requests_of over.runs) (ended_of over.runs) (port_by end) items (kept law rest)
-          c.items.ensures.read c.items.ensures.most;
+      part = λ law rest. of_trace (requests_of (runs_of over.made)) (ended_of (runs_of over.made)) (port_by end)
+          items (kept law rest) c.items.ensures.read c.items.ensures.most;
     })
     (files_of g.T.Write.contents c.args.records.now) (files_of g.T.Write.contents c.write_records.new.records)
     c.requires.wanted c.write_records.result c.write_records.ensures

@@ -5,7 +5,7 @@ use Rattle.swd_run.proofs.report.put_answers.Given as goal
 
 abbrev pub invariant-loop-access : goal.invariant-loop-access
 invariant-loop-access g l =
-    let so_far = answer_lines (take (length l.yielded) l.accesses) (take (length l.yielded) l.answers) in
+    let so_far = answer_lines l.reads (take (length l.yielded) l.accesses) (take (length l.yielded) l.answers) in
     record {
       sends : (start : Option (List ℕ)) (all : List ℕ) → Sends g.W.Write.contents start l.fn.block all
           → Sends g.W.Write.contents start l.block (all ++ so_far);

@@ -18,14 +18,15 @@ loop-stop-preserved g c =
     let stops = c.args.stops.now in
     let i = c.loop-stop.stop-index in
     let (text, whole, sends) = c.loop-stop.invariant.lines in
-    let lines = ap₂ answer_lines c.between-done.ensures c.between-told.ensures in
+    let lines = ap₂ (answer_lines c.args.reads) c.between-done.ensures c.between-told.ensures in
     let line = c.as_bytes.ensures.value ∙ c.as_str.ensures.value ∙ c.resume_line.ensures.bytes in
-    let part = answer_lines c.between-done.result.now c.between-told.result.now in
+    let part = answer_lines c.args.reads c.between-done.result.now c.between-told.result.now in
     let fed = c.as_bytes.result.now ++ 10 ∷ [] in
     record {
       lines = (
         text ++ (part ++ fed),
-        lines_next accesses answers stops i c.loop-stop.from _ text (lines_from 0 stops accesses answers) part
+        lines_next c.args.reads accesses answers stops i c.loop-stop.from _ text
+            (lines_from c.args.reads 0 stops accesses answers) part
             c.as_bytes.result.now c.loop-stop-test.true lines line whole,
         λ start all h.
             subst (Sends g.W.Write.contents start c.put_line.new.self) (text_next all text part fed)
@@ -40,10 +41,10 @@ returns-clause-sends g c = λ start all h.
     let accesses = c.args.accesses.now in
     let answers = c.args.answers.now in
     let (text, whole, sends) = c.loop-stop.invariant.lines in
-    let lines = ap₂ answer_lines (c.between-rest.ensures ∙ to_end c.loop-stop.from accesses)
+    let lines = ap₂ (answer_lines c.args.reads) (c.between-rest.ensures ∙ to_end c.loop-stop.from accesses)
     (c.between-last.ensures ∙ to_end c.loop-stop.from answers) in
     subst (λ x. Sends g.W.Write.contents start c.put_answers-2.new.block x)
     (append_assoc all text _ ∙ ap (λ x. all ++ (text ++ x)) lines
-    ∙ ap (λ x. all ++ x) (lines_end accesses answers c.args.stops.now c.loop-stop.stop-index c.loop-stop.from text _
-    c.loop-stop-test.false whole))
+    ∙ ap (λ x. all ++ x) (lines_end c.args.reads accesses answers c.args.stops.now c.loop-stop.stop-index
+    c.loop-stop.from text _ c.loop-stop-test.false whole))
     (c.put_answers-2.ensures.sends start (all ++ text) (sends start all h))

@@ -6,8 +6,8 @@ use Rattle.swd_run.proofs.report.put_lines.Given as goal
 abbrev pub invariant-loop-stop : goal.invariant-loop-stop
 invariant-loop-stop g l = record {
   lines : (text : List ℕ) ×
-      (text ++ lines_from l.from (drop l.stop-index l.stops) l.accesses l.answers ≡ lines_from 0 l.stops l.accesses
-      l.answers)
+      (text ++ lines_from l.reads l.from (drop l.stop-index l.stops) l.accesses l.answers
+      ≡ lines_from l.reads 0 l.stops l.accesses l.answers)
       × ((start : Option (List ℕ)) (all : List ℕ) → Sends g.W.Write.contents start l.fn.block all
       → Sends g.W.Write.contents start l.block (all ++ text));
   writer : l.block.writer.ghost_name ≡ l.fn.block.writer.ghost_name;

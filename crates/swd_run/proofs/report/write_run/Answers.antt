@@ -1,4 +1,5 @@
-use Rattle.std.proofs.Common.{rules, ◌≡◌, ◌∙◌, ℕ, ◌-◌, ◌^◌, List, [], length, Option, Result, Ok, Err, ap, refl, subst}
+use Rattle.std.proofs.Common.{rules, ◌≡◌, ◌∙◌, ℕ, ◌-◌, ◌^◌, List, [], length, Option, Result, Ok, Err, ap, ap₂}
+use Rattle.std.proofs.Common.{refl, subst}
 use Rattle.std.proofs.KnownBytes.{Appends-nil}
 use Rattle.std.specs.Prelude.{min, IfOk, IfErr}
 use Rattle.std.specs.Io.KnownBytes.{Appends}
@@ -22,18 +23,21 @@ written_on P (Err told) start now text h ok err = err start text h
 pub returns : goal.returns
 returns g c =
     let start = g.W.Write.contents c.args.writer.now in
-    let run = c.args.run.now in
-    let text : report_text c.as_slice-accesses.result.now c.as_slice.result.now (told_of run.report) ≡ run_report
-    (listed c.args.batch.now) (done_of run) =
-    ap (λ list. report_text list c.as_slice.result.now (told_of run.report)) c.as_slice-accesses.ensures.value
-    ∙ ap (λ stops. report_text c.args.batch.now.accesses.items stops (told_of run.report)) c.as_slice.ensures.value in
+    let performed = c.args.performed.now in
+    let run = performed.last in
+    let batch = listed c.args.batch.now in
+    let wanted = run_report batch performed.runs (done_of run) in
+    let text : report_text c.shown_reads-reads.result c.never_came-never.result c.as_slice-accesses.result.now
+    run.stops.items (told_of run.report) ≡ wanted =
+    ap (λ list. report_text c.shown_reads-reads.result c.never_came-never.result list run.stops.items
+    (told_of run.report)) c.as_slice-accesses.ensures.value
+    ∙ ap₂ (λ reads never. report_text reads never batch.accesses run.stops.items (told_of run.report))
+    c.shown_reads-reads.ensures c.never_came-never.ensures in
     let begun : Sends g.W.Write.contents start c.new-block.result [] = c.new-block.ensures.sends start []
     (Appends-nil start) refl in
     let put = subst (Sends g.W.Write.contents start c.put_report.new.block) text
     (c.put_report.ensures.sends start [] begun) in
-    let on : WritesOn c.flush.result start (g.W.Write.contents c.flush.new.self.writer.now) (run_report
-    (listed c.args.batch.now) (done_of run)) =
+    let on : WritesOn c.flush.result start (g.W.Write.contents c.flush.new.self.writer.now) wanted =
     written_on (λ s a. Sends g.W.Write.contents s c.put_report.new.block a) c.flush.result start
-    (g.W.Write.contents c.flush.new.self.writer.now) (run_report (listed c.args.batch.now) (done_of run)) put
-    c.flush.ensures.ok c.flush.ensures.err in
+    (g.W.Write.contents c.flush.new.self.writer.now) wanted put c.flush.ensures.ok c.flush.ensures.err in
     search rules

@@ -9,10 +9,12 @@ use Rattle.swd_script.specs.Readers.{listed, meaning}
 use Rattle.std.specs.Io.KnownBytes.{Appends}
 use Rattle.swd_run.specs.Engine.{AnswersAt}
 use Rattle.swd_run.specs.Records.{files_of}
-use Rattle.swd_run.specs.Reports.{run_report}
-use Rattle.swd_run.specs.Running.{AnswersScript, full_room, memory_of, none, with_full}
+use Rattle.swd_run.specs.Reports.{batch_report}
+use Rattle.swd_run.specs.Running.{AnswersScript, Session, full_room, memory_of, none, with_full}
+use Rattle.swd_run.specs.Unfoldings.{no_batch}
 use Rattle.swd_run.proofs.ReportLemmas.{no_pairs}
 use Rattle.swd_run.proofs.EngineLemmas.{left_files, script_answers}
+use Rattle.swd_run.proofs.UnfoldingLemmas.{no_calls, no_until}
 use Rattle.swd_run.proofs.running.run_script.Goals as goal
 
 pub run_batches-answer-requires-clause-batches : goal.run_batches-answer-requires-clause-batches
@@ -29,8 +31,18 @@ returns-in_default g c =
     let script = meaning c.args.script.now in (
       memory_of script,
       (
-        record { runs = []; memory = memory_of script; are = none; all = refl },
-        subst (Appends writer writer) (sym (no_pairs run_report script.batches)) (Appends-nil writer),
+        record {
+          made = [];
+          memory = memory_of script;
+          are = record {
+            unfolds = no_batch;
+            session = subst (λ calls. Session c.args.tries c.args.resumes c.args.plan.items (memory_of script) calls []
+                (memory_of script)) (sym (no_calls script.batches)) none;
+          };
+          all = refl;
+          came = no_until script.batches;
+        },
+        subst (Appends writer writer) (sym (no_pairs batch_report script.batches)) (Appends-nil writer),
         left_files (files_of g.T.Write.contents c.args.records.now),
       ),
     )

@@ -9,7 +9,7 @@ use Rattle.swd_script.proofs.words.Words.end_word.Goals.{else-not-is_full-via-el
 pub returns-else-not-is_full-clause-ended : goal.returns-else-not-is_full-clause-ended
 returns-else-not-is_full-clause-ended c =
     let old = c.args.self.now in
-    let fits : length old.ended.items ≤ 4 = c.is_full.ensures.fits in
+    let fits : length old.ended.items ≤ 6 = c.is_full.ensures.fits in
     elim c.else-not-is_full.branch [
       | else-not-is_full-via-then-not-is_full+else-not-is_empty w ↦
           let empty : length c.take-word.result.items ≡ 0 = exact_unsigned_eq _ _
@@ -17,7 +17,7 @@ returns-else-not-is_full-clause-ended c =
           texts_same old.ended.items old.last.items fits
           (ap (λ v. length v.items) (sym c.take-word.ensures.value) ∙ empty)
       | else-not-is_full-via-else-not-is_full w ↦
-          let full : length old.ended.items ≡ 4 = exact_unsigned_eq _ _
+          let full : length old.ended.items ≡ 6 = exact_unsigned_eq _ _
           (sym c.is_full.ensures.value ∙ w.if-not-is_full.false) in
           texts_cut old.ended.items (begun old.last.items) (omega arith) fits
     ]

@@ -1,0 +1,109 @@
+//! The runs of one batch: one, or those of an `until`.
+ghost use Rattle.std.specs.Prelude.{◌≡◌, IfNone, IfSome};
+ghost use Rattle.swd_port.specs.declared.wire.Due.TheVariants.{Nothing};
+ghost use Rattle.swd_host.specs.Reports.{told_of};
+ghost use Rattle.swd_script.specs.Readers.{listed};
+ghost use Rattle.swd_script.specs.Laws.{IsBatch};
+ghost use Rattle.swd_run.specs.Sessions.{done_of};
+ghost use Rattle.swd_run.specs.Unfoldings.{BatchRuns, IsCutShort, Performs};
+ghost use Rattle.swd_run.specs.Unfoldings.{asks_again, has_come, is_awaited, is_other, never_came, reads_of};
+
+use crate::going_on::{Resumed, run_on};
+use std::alloc::Allocator;
+use swd_host::{End, Report};
+use swd_port::{Answer, Wire};
+use swd_script::{Batch, Until};
+
+/// The runs of a batch.
+#[derive(Debug, Drop)]
+pub(crate) struct Performed<A: Allocator> {
+    /// How many there were: of an `until` at most its most reads, else 1.
+    pub(crate) runs: u32,
+    /// The last one.
+    pub(crate) last: Resumed<A>,
+}
+
+// Returns whether a word under the mask is the value.
+fn is_awaited(until: Until, word: u32) -> bool
+    ensures { result ≡ is_awaited until word }
+{
+    word & until.mask == until.value
+}
+
+// Returns whether a read was answered with the awaited word.
+fn has_come(until: Until, answers: &[Answer]) -> bool
+    ensures { result ≡ has_come until answers.now }
+{
+    match answers {
+        [Answer::Value(word)] => is_awaited(until, *word),
+        _ => false,
+    }
+}
+
+// Returns whether a read was answered with another word.
+fn is_other(until: Until, answers: &[Answer]) -> bool
+    ensures { result ≡ is_other until answers.now }
+{
+    match answers {
+        [Answer::Value(word)] => !is_awaited(until, *word),
+        _ => false,
+    }
+}
+
+// Returns whether the read has to be made again: it ended `All`, and was answered with another word.
+fn asks_again<A: Allocator>(until: Until, run: &Resumed<A>) -> bool
+    ensures { result ≡ asks_again until (done_of run.now) }
+{
+    match run.report.ended {
+        End::All => is_other(until, run.report.answers.as_slice()),
+        _ => false,
+    }
+}
+
+/// Returns whether this is the last read of an `until`, and it ended `All` without the awaited word.
+pub(crate) fn never_came<A: Allocator>(until: Option<Until>, report: &Report<A>) -> bool
+    ensures { result ≡ never_came until (told_of report.now) }
+{
+    let Some(until) = until else {
+        return false;
+    };
+    match report.ended {
+        End::All => !has_come(until, report.answers.as_slice()),
+        _ => false,
+    }
+}
+
+/// Performs a batch over a wire: one run, or the reads of an `until`, each a run of its own, until its word comes. A
+/// read that doesn't end `All`, and a bus error, are the last. Each run is resumed at most `resumes` times. Returns
+/// `None` if an allocation fails.
+pub(crate) fn perform<W: Wire, A: Allocator + Copy>(
+    alloc: A,
+    wire: &mut W,
+    batch: &Batch<A>,
+    tries: u32,
+    resumes: u32,
+) -> Option<Performed<A>>
+    requires batch { IsBatch (listed batch.now) }
+    requires due { (W.port wire.old).link.due ≡ Nothing }
+    ensures performs { IfSome result (λ performed. (runs : BatchRuns) × (runs.last ≡ done_of performed.last)
+        × (reads_of runs ≡ performed.runs)
+        × Performs W.port W.plan W.lawful tries resumes (listed batch.now) wire.old runs wire.new) }
+    ensures cut { IfNone result
+        (IsCutShort W.port W.plan W.lawful tries resumes (listed batch.now) wire.old wire.new) }
+    ensures plan { W.plan wire.new ≡ W.plan wire.old }
+{
+    let mut last = run_on(alloc, wire, batch, tries, resumes)?;
+    let Some(until) = batch.until else {
+        return Some(Performed { runs: 1, last });
+    };
+    for runs in 1..until.most {
+        if !asks_again(until, &last) {
+            return Some(Performed { runs, last });
+        }
+        last = run_on(alloc, wire, batch, tries, resumes)?;
+    }
+    Some(Performed {
+        runs: until.most,
+        last,
+    })
+}
