@@ -1,9 +1,10 @@
 -- Ranges that join.
 use Rattle.std.proofs.Common.{◌≡◌, ◌≢◌, ℕ, ◌+◌, ◌<◌, ◌≤◌, ◌^◌, List, [], ◌∷◌, ◌++◌, length, cond, true, false, ap, refl}
-use Rattle.std.proofs.Common.{arith, All, eqb, sym, subst, inl, inr, ◌⊎◌}
+use Rattle.std.proofs.Common.{arith, All, eqb, sym, subst, inl, inr, ◌⊎◌, ◌∙◌, ap₂, append_assoc}
+use Rattle.std.proofs.lemmas.List.{append-nil, length-append}
 use Rattle.std.proofs.lemmas.Bool.{eq-eqb, ne_eqb, cases_eq, cases_lt, eqb-true, leb-true, or_cases}
 use Rattle.std.proofs.lemmas.List.Elements.{All-cons, All-head, All-tail, All-nil}
-use Rattle.std.specs.Prelude.{if◌then◌else◌, ◌==◌, nat_le}
+use Rattle.std.specs.Prelude.{◌==◌, nat_le}
 use Rattle.swd_image_files.specs.Places.{fits}
 use Rattle.swd_image_files.specs.declared.image.Range.{Range}
 use Rattle.swd_image_files.specs.Images.{Contents, add_data, joined, range}
@@ -83,3 +84,52 @@ add_sound old addr bytes all fine = elim (cases_lt 0 (length bytes)) [
   | inr none ↦ subst (λ (o : Contents). All IsSound o.ranges)
       (sym (add_none old addr bytes (let e : length bytes ≡ 0 = omega arith in e))) all
 ]
+
+joined_skip : (first : Range) (ranges : List Range) (addr len : ℕ) → 0 < length ranges
+    → joined (first ∷ ranges) addr len ≡ first ∷ joined ranges addr len
+joined_skip first [] addr len some = absurd (omega arith)
+joined_skip first (next ∷ ranges) addr len some = refl
+
+joined_some : (ranges : List Range) (addr len : ℕ) → 0 < length (joined ranges addr len)
+joined_some [] addr len = omega arith
+joined_some (last ∷ []) addr len =
+    elim (last.addr + last.len == addr) as (λ b. 0 < length (cond b (range last.addr (last.len + len) ∷ []) (last ∷ range addr len ∷ [])))
+    [ true ↦ omega arith | false ↦ omega arith ]
+joined_some (first ∷ next ∷ ranges) addr len = omega arith
+
+-- two ranges, of which the second continues the first, join as one does
+pub joined_twice : (ranges : List Range) (addr first second : ℕ)
+    → joined (joined ranges addr first) (addr + first) second ≡ joined ranges addr (first + second)
+joined_twice [] addr first second = joined_longer [] (range addr first) (addr + first) second refl
+joined_twice (last ∷ []) addr first second = elim (cases_eq (last.addr + last.len) addr) [
+  | inl e ↦
+      (let longer : last.addr + (last.len + first) ≡ addr + first = omega arith in
+      ap (λ l. joined l (addr + first) second) (joined_longer [] last addr first e)
+      ∙ joined_longer [] (range last.addr (last.len + first)) (addr + first) second longer
+      ∙ ap (λ n. range last.addr n ∷ []) (let sum : last.len + first + second ≡ last.len + (first + second) = omega arith in sum)
+      ∙ sym (joined_longer [] last addr (first + second) e))
+  | inr n ↦
+      (ap (λ l. joined l (addr + first) second) (joined_more [] last addr first n)
+      ∙ ap (λ l. last ∷ l) (joined_longer [] (range addr first) (addr + first) second refl)
+      ∙ sym (joined_more [] last addr (first + second) n))
+]
+joined_twice (front ∷ next ∷ ranges) addr first second =
+    joined_skip front (joined (next ∷ ranges) addr first) (addr + first) second (joined_some (next ∷ ranges) addr first)
+    ∙ ap (λ l. front ∷ l) (joined_twice (next ∷ ranges) addr first second)
+
+-- bytes that follow each other are added as one piece
+pub add_again : (old : Contents) (addr : ℕ) (first second : List ℕ) → 0 < length first
+    → add_data (add_data old addr first) (addr + length first) second ≡ add_data old addr (first ++ second)
+add_again old addr first [] some =
+    ap (λ l. add_data old addr l) (sym (append-nil first))
+add_again old addr first (byte ∷ second) some =
+    let rest : List ℕ = byte ∷ second in
+    let both = length-append first rest in
+    let one : Contents = record { ranges = joined old.ranges addr (length first); bytes = old.bytes ++ first } in
+    ap (λ (o : Contents). add_data o (addr + length first) rest) (add_some old addr first some)
+    ∙ add_some one (addr + length first) rest (omega arith)
+    ∙ ap₂ (λ r b. let image : Contents = record { ranges = r; bytes = b } in image)
+    (joined_twice old.ranges addr (length first) (length rest)
+    ∙ ap (joined old.ranges addr) (sym both))
+    (append_assoc old.bytes first rest)
+    ∙ sym (add_some old addr (first ++ rest) (omega (arith, both)))

@@ -1,12 +1,11 @@
 -- The lowest address that two ranges have.
-use Rattle.std.proofs.Common.{◌≡◌, ℕ, ◌+◌, ◌<◌, ◌≤◌, ◌^◌, List, [], ◌∷◌, ◌⊎◌, cond, true, false, ap, refl, sym, ◌∙◌}
-use Rattle.std.proofs.Common.{arith, suc, All, Some, None, inl, inr, ltb, length, get_or, subst, ap₂}
+use Rattle.std.proofs.Common.{◌≡◌, ℕ, ◌+◌, ◌<◌, ◌≤◌, List, [], ◌∷◌, ◌⊎◌, cond, ap, refl, sym, ◌∙◌}
+use Rattle.std.proofs.Common.{arith, suc, All, Some, None, inl, inr, length, get_or, subst, ap₂}
 use Rattle.std.proofs.lemmas.Bool.{cases_lt, lt-ltb, le-ltb, le-leb, lt-leb}
-use Rattle.std.proofs.lemmas.Bool.Decides.{nat_tests}
 use Rattle.std.proofs.lemmas.List.Elements.{All-head, All-tail}
 use Rattle.std.proofs.lemmas.List.Sums.{sum_by-cons}
 use Rattle.std.proofs.lemmas.List.Sorted.{sum_by-IsPermutation}
-use Rattle.std.specs.Prelude.{if◌then◌else◌, nat_le, nat_lt, ◌&&◌, MatchOption}
+use Rattle.std.specs.Prelude.{nat_lt, ◌&&◌, MatchOption}
 use Rattle.std.specs.Prelude.{Option}
 use Rattle.std.specs.List.Sorted.{IsNonDecreasingBy, IsPermutation}
 use Rattle.swd_image_files.specs.declared.image.Range.{Range}

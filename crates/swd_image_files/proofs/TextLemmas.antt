@@ -1,6 +1,6 @@
 -- The digits of bytes.
 use Rattle.std.proofs.Common.{◌≡◌, ℕ, zero, suc, ◌+◌, ◌-◌, ◌/◌, ◌%◌, ◌<◌, ◌≤◌, List, [], ◌∷◌, ◌++◌, ap, refl, ◌∙◌, append_assoc, cond, arith, length}
-use Rattle.std.proofs.Common.{take, drop, min}
+use Rattle.std.proofs.Common.{take, drop}
 use Rattle.std.proofs.lemmas.Bool.{eq-eqb, ne_eqb}
 use Rattle.swd_image_files.specs.declared.kind.RecordFormat.{RecordFormat}
 use Rattle.swd_image_files.specs.Texts.{base_lines, count, data_line, data_lines, digits_of, hex_digit}

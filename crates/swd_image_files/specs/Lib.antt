@@ -8,3 +8,4 @@ pub mod Overlaps
 pub mod Files
 pub mod Readings
 pub mod Texts
+pub mod Laws

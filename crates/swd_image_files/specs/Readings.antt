@@ -1,5 +1,5 @@
 -- What the reader of a file keeps.
-use Rattle.std.specs.Prelude.{◌≡◌, false, All, List}
+use Rattle.std.specs.Prelude.{◌≡◌, false, All}
 use Rattle.swd_image_files.specs.declared.reading.Held.{Held}
 use Rattle.swd_image_files.specs.Images.{Contents, contents}
 use Rattle.swd_image_files.specs.Overlaps.{IsSound}

@@ -6,6 +6,7 @@ mod fault;
 mod format;
 mod image;
 mod kind;
+pub mod laws;
 mod line;
 mod overlap;
 mod parts;

@@ -278,7 +278,7 @@ fn expect_row<R: Abort>(rt: &R, alloc: Global, row: &Row) {
     let (name, format, base, file, wanted) = *row;
     match read_image(alloc, format, file, base) {
         Ok(image) => {
-            expect_eq_at(rt, &name, &image.pieces().count(), &wanted.len());
+            expect_eq_at(rt, &name, &image.ranges.len(), &wanted.len());
             for (piece, wanted) in image.pieces().zip(wanted) {
                 expect_eq_at(rt, &name, &piece.addr, &wanted.0);
                 expect_eq_at(rt, &name, &piece.bytes, &wanted.1);

@@ -9,7 +9,7 @@ const FILE: &[u8] = b":01000000AA55\n:02000400CCDD51\n:01000100BB43\n:00000001FF
 #[test]
 fn memory_ends_while_a_file_is_read(rt: HostRuntime) -> Result<(), Fail> {
     let files = [
-        ("bin", Format::Binary, FILE, 58),
+        ("bin", Format::Binary, FILE, 56),
         ("hex", Format::IntelHex, FILE, 4),
         (
             "srec",

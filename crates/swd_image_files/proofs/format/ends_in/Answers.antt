@@ -1,5 +1,4 @@
-use Rattle.std.proofs.Common.{◌≡◌, ℕ, List, Bool, true, false, map, drop, length, ap, ◌∙◌, sym}
-use Rattle.std.specs.Prelude.{◌↔◌, ◌-◌}
+use Rattle.std.proofs.Common.{ℕ, List, map, drop, ap, ◌∙◌}
 use Rattle.std.specs.Str.{bytes_eq}
 use Rattle.std.specs.Char.{to_ascii_lowercase}
 use Rattle.std.proofs.lemmas.Bool.Decides.{same_from_decides}

@@ -1,4 +1,4 @@
-use Rattle.std.proofs.Common.{◌≡◌, All, subst, sym, rules, ◌∙◌, ap}
+use Rattle.std.proofs.Common.{All, subst, sym, rules, ◌∙◌, ap}
 use Rattle.std.proofs.lemmas.List.Sorted.{IsNonDecreasingBy-from_sort_by_key, All-permutation}
 use Rattle.std.specs.List.Sorted.{IsPermutation}
 use Rattle.swd_image_files.specs.declared.image.Range.{Range}

@@ -1,4 +1,4 @@
-use Rattle.std.proofs.Common.{◌≡◌, ◌+◌, ◌^◌, length, All, Ok, Err, cond, ap, sym, ◌∙◌, arith, subst}
+use Rattle.std.proofs.Common.{◌+◌, ◌^◌, length, All, Ok, Err, cond, ap, sym, ◌∙◌, arith, subst}
 use Rattle.std.proofs.lemmas.Bool.{le-leb}
 use Rattle.swd_image_files.specs.declared.fault.ImageFileFault.{ImageFileFault}
 use Rattle.swd_image_files.specs.declared.fault.ImageFileFault.TheVariants.{Range}

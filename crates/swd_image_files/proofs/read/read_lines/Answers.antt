@@ -1,9 +1,9 @@
-use Rattle.std.proofs.Common.{◌≡◌, ℕ, ◌+◌, ◌∷◌, Ok, Err, ap, ap₂, sym, ◌∙◌, length, take, drop, subst}
+use Rattle.std.proofs.Common.{◌+◌, ◌∷◌, ap, ap₂, sym, ◌∙◌, length, drop}
 use Rattle.std.specs.Prelude.{nat_lt}
 use Rattle.std.proofs.lemmas.Bool.{le-ltb}
 use Rattle.swd_image_files.specs.Files.{after_lines}
 use Rattle.swd_image_files.specs.Lines.{without_return}
-use Rattle.swd_image_files.specs.Places.{after_line, with_line}
+use Rattle.swd_image_files.specs.Places.{with_line}
 use Rattle.swd_image_files.proofs.LineLemmas.{lines_left}
 use Rattle.swd_image_files.proofs.FileLemmas.{fault_step, line_step, lines_step, none_left}
 use Rattle.swd_image_files.proofs.read.read_lines.Goals as goal

@@ -1,4 +1,4 @@
-use Rattle.std.proofs.Common.{◌≡◌, ◌+◌, length, cond}
+use Rattle.std.proofs.Common.{◌≡◌, ◌+◌, length}
 use Rattle.std.specs.Prelude.{if◌then◌else◌}
 use Rattle.swd_image_files.specs.Files.{after_lines, lines_contents}
 use Rattle.swd_image_files.specs.Images.{Contents}

@@ -1,9 +1,9 @@
-use Rattle.std.proofs.Common.{◌≡◌, ℕ, ◌+◌, ◌-◌, ◌/◌, ◌<◌, ◌≤◌, List, [], ◌∷◌, ◌++◌, length, take, drop, ap, ap₂, sym, ◌∙◌}
+use Rattle.std.proofs.Common.{◌≡◌, ◌+◌, ◌-◌, ◌/◌, ◌<◌, [], ◌∷◌, ◌++◌, length, take, drop, ap, ap₂, sym, ◌∙◌}
 use Rattle.std.proofs.Common.{append_assoc, arith, min, subst}
 use Rattle.std.proofs.lemmas.Bool.{eqb-false, eqb-true}
 use Rattle.std.proofs.lemmas.List.{length-drop, append-nil}
 use Rattle.swd_io.specs.Blocks.{Sends}
-use Rattle.swd_image_files.specs.Texts.{base_lines, count, data_line, data_lines, end_line}
+use Rattle.swd_image_files.specs.Texts.{base_lines, count, data_line, data_lines}
 use Rattle.swd_image_files.proofs.TextLemmas.{data_none, data_next_of, text_next}
 use Rattle.swd_image_files.proofs.write.put_records.Goals as goal
 

@@ -1,9 +1,8 @@
-use Rattle.std.proofs.Common.{◌≡◌, ◌<◌, ◌+◌, ◌∷◌, [], ◌++◌, length, sym, ap, ap₂, ◌∙◌, arith, subst, All, true, false}
+use Rattle.std.proofs.Common.{◌<◌, ◌++◌, length, sym, ap, ◌∙◌, arith, subst}
 use Rattle.std.proofs.lemmas.Bool.{eqb-true, eqb-false}
-use Rattle.swd_image_files.specs.Images.{Contents, add_data, contents, joined}
-use Rattle.swd_image_files.specs.Overlaps.{IsSound}
+use Rattle.swd_image_files.specs.Images.{Contents, joined}
 use Rattle.swd_image_files.specs.Readings.{Holds}
-use Rattle.swd_image_files.proofs.ImageLemmas.{add_none, add_some, add_sound, fits_some}
+use Rattle.swd_image_files.proofs.ImageLemmas.{add_none, add_some, add_sound}
 use Rattle.swd_image_files.proofs.reading.Held.add.Goals as goal
 use Rattle.swd_image_files.proofs.reading.Held.add.Goals.{then-is_empty-via-then-is_empty}
 use Rattle.swd_image_files.proofs.reading.Held.add.Goals.{then-is_empty-via-else-is_empty+then-self}
