@@ -1,6 +1,7 @@
 -- Files that are written are read back.
-use Rattle.std.proofs.Common.{◌≡◌, ℕ, zero, suc, ◌+◌, ◌-◌, ◌*◌, ◌/◌, ◌%◌, ◌^◌, ◌<◌, ◌≤◌, List, [], ◌∷◌, ◌++◌, length, All}
-use Rattle.std.proofs.Common.{ap, ap₂, refl, sym, ◌∙◌, true, false, arith, cond, Ok, Err, take, drop, min, eqb, inl, inr}
+use Rattle.std.proofs.Common.{◌≡◌, ℕ, zero, suc, ◌+◌, ◌-◌, ◌*◌, ◌/◌, ◌%◌, ◌^◌, ◌<◌, ◌≤◌, List, [], ◌∷◌, ◌++◌}
+use Rattle.std.proofs.Common.{length, All, ap, ap₂, refl, sym, ◌∙◌, true, false, arith, cond, Ok, Err}
+use Rattle.std.proofs.Common.{take, drop, min, eqb, inl, inr}
 use Rattle.std.proofs.Common.{append_assoc}
 use Rattle.std.specs.Prelude.{Result, ◌&&◌}
 use Rattle.std.proofs.lemmas.Bool.{cases_eq, cases_lt, eq-eqb, ne_eqb, le-leb, or_left, or_right}
@@ -26,7 +27,8 @@ use Rattle.swd_image_files.proofs.FileLemmas.{line_step}
 use Rattle.swd_image_files.proofs.ImageLemmas.{add_again, add_none}
 use Rattle.swd_image_files.proofs.KindLemmas.{hex_base_kind, hex_data_kind, hex_field, srec_data_kind, srec_field}
 use Rattle.swd_image_files.proofs.TextLemmas.{data_next, data_none}
-use Rattle.swd_image_files.proofs.WrittenLemmas.{first_line, hex_all, hex_high, hex_read, srec_all, srec_high, srec_read}
+use Rattle.swd_image_files.proofs.WrittenLemmas.{first_line, hex_all, hex_high, hex_read}
+use Rattle.swd_image_files.proofs.WrittenLemmas.{srec_all, srec_high, srec_read}
 
 -- addresses count from this base, and there was no end record
 pub record IsAt (place : Place) (base : ℕ) : Type 0 where
@@ -63,7 +65,8 @@ after_plain place base addr len at below =
     let whole : place.offset + place.base ≡ base = omega arith in
     let first : fits (base + addr) len ≡ true = or_right (eqb len 0) _ (le-leb (base + addr + len) (2 ^ 32) below) in
     let second : fits base (len - len) ≡ true = or_left (eqb (len - len) 0) _ (eq-eqb (len - len) 0 (omega arith)) in
-    ap₂ (λ b w. cond (fits (b + addr) (cond w (min (65536 - addr) len) len) && fits b (len - cond w (min (65536 - addr) len) len)) good bad) whole at.wraps
+    ap₂ (λ b w. cond (fits (b + addr) (cond w (min (65536 - addr) len) len)
+    && fits b (len - cond w (min (65536 - addr) len) len)) good bad) whole at.wraps
     ∙ ap₂ (λ x y. cond (x && y) good bad) first second
 
 with_plain : (place : Place) (base addr : ℕ) (bytes : List ℕ) (old : Contents) → IsAt place base
@@ -75,7 +78,8 @@ with_plain place base addr bytes old at =
     let whole : place.offset + place.base ≡ base = omega arith in
     let left = length-drop len bytes in
     let none : length (drop len bytes) ≡ 0 = omega (arith, left) in
-    ap₂ (λ b w. add_data (add_data old (b + addr) (take (cond w (min (65536 - addr) len) len) bytes)) b (drop (cond w (min (65536 - addr) len) len) bytes)) whole at.wraps
+    ap₂ (λ b w. add_data (add_data old (b + addr) (take (cond w (min (65536 - addr) len) len) bytes)) b
+    (drop (cond w (min (65536 - addr) len) len) bytes)) whole at.wraps
     ∙ add_none (add_data old (base + addr) (take len bytes)) base (drop len bytes) none
     ∙ ap (add_data old (base + addr)) (take_all len bytes (omega arith))
 
@@ -236,7 +240,8 @@ counts Motorola addr bytes some = record { some = omega arith; few = omega arith
 
 no_lines : (records : RecordFormat) (most upper addr : ℕ) (bytes : List ℕ) (place : Place) (old : Contents) (number : ℕ)
     → length bytes ≡ 0 → IsAt place (base_up records upper)
-    → after_lines records place old number (lines (data_lines records most upper addr bytes ++ (end_line records ++ 10 ∷ [])))
+    → after_lines records place old number
+    (lines (data_lines records most upper addr bytes ++ (end_line records ++ 10 ∷ [])))
     ≡ Ok (add_data old addr bytes)
 no_lines records most upper addr bytes place old number none at =
     let image : Contents → Result Contents ImageFileFault = λ i. Ok i in
@@ -249,7 +254,8 @@ no_lines records most upper addr bytes place old number none at =
 pub all_back : (records : RecordFormat) (most upper addr : ℕ) (bytes : List ℕ) (place : Place) (old : Contents)
     (number : ℕ) → length bytes ≤ most → All IsByte bytes → addr + length bytes ≤ 2 ^ 32
     → IsAt place (base_up records upper)
-    → after_lines records place old number (lines (data_lines records most upper addr bytes ++ (end_line records ++ 10 ∷ [])))
+    → after_lines records place old number
+    (lines (data_lines records most upper addr bytes ++ (end_line records ++ 10 ∷ [])))
     ≡ Ok (add_data old addr bytes)
 all_back records zero upper addr bytes place old number enough all below at =
     no_lines records zero upper addr bytes place old number (omega arith) at

@@ -18,7 +18,8 @@ pub fault_step : (records : RecordFormat) (place : Place) (image : Contents) (nu
     (rest : List (List ℕ)) (flaw : LineFlaw) → after_line records place line ≡ Err flaw
     → after_lines records place image number (line ∷ rest) ≡ Err (Line number flaw)
 fault_step records place image number line rest flaw e =
-    ap (then_lines number (λ after. after_lines records after (with_line records place line image) (next number) rest)) e
+    ap (then_lines number
+    (λ after. after_lines records after (with_line records place line image) (next number) rest)) e
 
 -- a valid one
 pub line_step : (records : RecordFormat) (place after : Place) (image : Contents) (number : ℕ) (line : List ℕ)
@@ -26,7 +27,8 @@ pub line_step : (records : RecordFormat) (place after : Place) (image : Contents
     → after_lines records place image number (line ∷ rest)
     ≡ after_lines records after (with_line records place line image) (next number) rest
 line_step records place after image number line rest e =
-    ap (then_lines number (λ after. after_lines records after (with_line records place line image) (next number) rest)) e
+    ap (then_lines number
+    (λ after. after_lines records after (with_line records place line image) (next number) rest)) e
 
 more_left : (more : Bool) (rest text : List ℕ) (len : ℕ) → more ≡ nat_lt len (length text) → len ≡ line_len text
     → lines text ≡ without_return (take len text) ∷ lines_left more (drop (len + 1) text)

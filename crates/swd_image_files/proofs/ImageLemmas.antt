@@ -93,7 +93,8 @@ joined_skip first (next ∷ ranges) addr len some = refl
 joined_some : (ranges : List Range) (addr len : ℕ) → 0 < length (joined ranges addr len)
 joined_some [] addr len = omega arith
 joined_some (last ∷ []) addr len =
-    elim (last.addr + last.len == addr) as (λ b. 0 < length (cond b (range last.addr (last.len + len) ∷ []) (last ∷ range addr len ∷ [])))
+    elim (last.addr + last.len == addr) as
+    (λ b. 0 < length (cond b (range last.addr (last.len + len) ∷ []) (last ∷ range addr len ∷ [])))
     [ true ↦ omega arith | false ↦ omega arith ]
 joined_some (first ∷ next ∷ ranges) addr len = omega arith
 
@@ -103,10 +104,11 @@ pub joined_twice : (ranges : List Range) (addr first second : ℕ)
 joined_twice [] addr first second = joined_longer [] (range addr first) (addr + first) second refl
 joined_twice (last ∷ []) addr first second = elim (cases_eq (last.addr + last.len) addr) [
   | inl e ↦
-      (let longer : last.addr + (last.len + first) ≡ addr + first = omega arith in
+      (let total : last.len + first + second ≡ last.len + (first + second) = omega arith in
+      let longer : last.addr + (last.len + first) ≡ addr + first = omega arith in
       ap (λ l. joined l (addr + first) second) (joined_longer [] last addr first e)
       ∙ joined_longer [] (range last.addr (last.len + first)) (addr + first) second longer
-      ∙ ap (λ n. range last.addr n ∷ []) (let sum : last.len + first + second ≡ last.len + (first + second) = omega arith in sum)
+      ∙ ap (λ n. range last.addr n ∷ []) total
       ∙ sym (joined_longer [] last addr (first + second) e))
   | inr n ↦
       (ap (λ l. joined l (addr + first) second) (joined_more [] last addr first n)

@@ -43,8 +43,10 @@ srec_data_kind addr bytes =
     let all : List ℕ = 3 ∷ srec_all addr bytes in
     let tail = length-append bytes ((255 - (sum (srec_head addr bytes) + sum bytes) % 256) ∷ []) in
     let wrong : Result Kind LineFlaw = Err BadLength in
-    let joined : 65536 * (256 * (addr / 16777216) + addr / 65536 % 256) + (256 * (addr / 256 % 256) + addr % 256) ≡ addr = omega arith in
-    let made : Result Kind LineFlaw = Ok (Data (65536 * (256 * (addr / 16777216) + addr / 65536 % 256) + (256 * (addr / 256 % 256) + addr % 256)) 6) in
+    let high = 256 * (addr / 16777216) + addr / 65536 % 256 in
+    let low = 256 * (addr / 256 % 256) + addr % 256 in
+    let joined : 65536 * high + low ≡ addr = omega arith in
+    let made : Result Kind LineFlaw = Ok (Data (65536 * high + low) 6) in
     ap (λ b. cond b made wrong) (le-leb 7 (length all) (omega (arith, tail)))
     ∙ ap (λ a. let kind : Result Kind LineFlaw = Ok (Data a 6) in kind) joined
 

@@ -18,7 +18,8 @@ use Rattle.swd_image_files.proofs.ImageLemmas.{add_none, add_some}
 
 one_apart : (r : Addresses) → AreApart (r ∷ [])
 one_apart r = λ at.
-    elim (nat_le r.addr at && nat_lt at (r.addr + r.len)) as (λ b. 0 + cond b 1 0 ≤ 1) [ true ↦ omega arith | false ↦ omega arith ]
+    elim (nat_le r.addr at && nat_lt at (r.addr + r.len)) as (λ b. 0 + cond b 1 0 ≤ 1)
+    [ true ↦ omega arith | false ↦ omega arith ]
 
 -- one piece overlaps nothing
 piece_apart : (addr : ℕ) (bytes : List ℕ) → AreApart (add_data nothing addr bytes).ranges

@@ -141,8 +141,10 @@ pub rise_sorted : (low : ℕ) (rs : List Range) → IsNonDecreasingBy (λ r. r.a
 rise_sorted low [] sorted first = tt
 rise_sorted low (r ∷ rs) sorted first =
     let l = first r (omega arith) in
-    let tail : IsNonDecreasingBy (λ q. q.addr) rs = λ i j d below within. sorted (suc i) (suc j) d (omega arith) (omega arith) in
-    let next : (d : Range) → 0 < length rs → r.addr ≤ (get_or rs 0 d).addr = λ d some. sorted 0 1 d (omega arith) (omega arith) in
+    let tail : IsNonDecreasingBy (λ q. q.addr) rs =
+    λ i j d below within. sorted (suc i) (suc j) d (omega arith) (omega arith) in
+    let next : (d : Range) → 0 < length rs → r.addr ≤ (get_or rs 0 d).addr =
+    λ d some. sorted 0 1 d (omega arith) (omega arith) in
     (l, rise_sorted r.addr rs tail next)
 
 Matches : List Range → Option ℕ → Type 0

@@ -1,5 +1,6 @@
 -- The digits of bytes.
-use Rattle.std.proofs.Common.{◌≡◌, ℕ, zero, suc, ◌+◌, ◌-◌, ◌/◌, ◌%◌, ◌<◌, ◌≤◌, List, [], ◌∷◌, ◌++◌, ap, refl, ◌∙◌, append_assoc, cond, arith, length}
+use Rattle.std.proofs.Common.{◌≡◌, ℕ, zero, suc, ◌+◌, ◌-◌, ◌/◌, ◌%◌, ◌<◌, ◌≤◌, List, [], ◌∷◌, ◌++◌, ap}
+use Rattle.std.proofs.Common.{refl, ◌∙◌, append_assoc, cond, arith, length}
 use Rattle.std.proofs.Common.{take, drop}
 use Rattle.std.proofs.lemmas.Bool.{eq-eqb, ne_eqb}
 use Rattle.swd_image_files.specs.declared.kind.RecordFormat.{RecordFormat}
@@ -28,7 +29,8 @@ data_next records most upper addr bytes some =
     ap (λ b. cond b []
     (base_lines records upper (addr / 65536)
     ++ (data_line records addr (take (count records addr bytes) bytes) ++ 10 ∷ [])
-    ++ data_lines records most (addr / 65536) (addr + count records addr bytes) (drop (count records addr bytes) bytes)))
+    ++ data_lines records most (addr / 65536) (addr + count records addr bytes)
+    (drop (count records addr bytes) bytes)))
     (ne_eqb (length bytes) 0 (λ e. omega arith))
 
 -- the same for a positive number of records
@@ -56,7 +58,8 @@ data_none records (suc most) upper addr bytes none =
     ap (λ b. cond b []
     (base_lines records upper (addr / 65536)
     ++ (data_line records addr (take (count records addr bytes) bytes) ++ 10 ∷ [])
-    ++ data_lines records most (addr / 65536) (addr + count records addr bytes) (drop (count records addr bytes) bytes)))
+    ++ data_lines records most (addr / 65536) (addr + count records addr bytes)
+    (drop (count records addr bytes) bytes)))
     (eq-eqb (length bytes) 0 none)
 
 -- two parts that follow a text

@@ -37,7 +37,8 @@ hex_all offset kind bytes =
     length bytes ∷ offset / 256 ∷ offset % 256 ∷ kind
     ∷ (bytes ++ (256 - (sum (hex_head offset kind bytes) + sum bytes) % 256) % 256 ∷ [])
 
-hex_line_is : (offset kind : ℕ) (bytes : List ℕ) → hex_line offset kind bytes ≡ 58 ∷ digits_of (hex_all offset kind bytes)
+hex_line_is : (offset kind : ℕ) (bytes : List ℕ)
+    → hex_line offset kind bytes ≡ 58 ∷ digits_of (hex_all offset kind bytes)
 hex_line_is offset kind bytes =
     ap (λ l. 58 ∷ (digits_of (hex_head offset kind bytes) ++ l))
     (sym (digits_of-append bytes ((256 - (sum (hex_head offset kind bytes) + sum bytes) % 256) % 256 ∷ [])))
@@ -51,7 +52,8 @@ hex_all_bytes offset kind bytes within small short all =
     (All-cons IsByte (offset / 256) (offset % 256 ∷ kind ∷ []) (omega arith)
     (All-cons IsByte (offset % 256) (kind ∷ []) (omega arith) (All-cons IsByte kind [] small (All-nil IsByte)))))
     (All-append IsByte bytes ((256 - (sum (hex_head offset kind bytes) + sum bytes) % 256) % 256 ∷ []) all
-    (All-cons IsByte ((256 - (sum (hex_head offset kind bytes) + sum bytes) % 256) % 256) [] (omega arith) (All-nil IsByte)))
+    (All-cons IsByte ((256 - (sum (hex_head offset kind bytes) + sum bytes) % 256) % 256) [] (omega arith)
+    (All-nil IsByte)))
 
 complete : (total : ℕ) → (total + (256 - total % 256) % 256) % 256 ≡ 0
 complete total = omega arith
@@ -79,7 +81,8 @@ hex_read offset kind bytes within small short all =
     let size = length-digits_of bytes_all in
     let tail = length-append bytes ((256 - (sum (hex_head offset kind bytes) + sum bytes) % 256) % 256 ∷ []) in
     ap hex_bytes (hex_line_is offset kind bytes)
-    ∙ ap (λ b. cond b (hex_checked (digits_of bytes_all) (bytes_of (digits_of bytes_all))) bad) (digits_are bytes_all are)
+    ∙ ap (λ b. cond b (hex_checked (digits_of bytes_all) (bytes_of (digits_of bytes_all))) bad)
+    (digits_are bytes_all are)
     ∙ ap (hex_checked (digits_of bytes_all)) (bytes_back bytes_all are)
     ∙ ap (λ b. cond b (cond (eqb (sum bytes_all % 256) 0) good unsummed) wrong)
     (eq-eqb (length (digits_of bytes_all)) (2 * (length bytes + 5)) (omega (arith, size, tail)))
@@ -108,7 +111,8 @@ srec_all_bytes : (addr : ℕ) (bytes : List ℕ) → addr < 2 ^ 32 → length by
     → All IsByte (srec_all addr bytes)
 srec_all_bytes addr bytes within short all =
     All-append IsByte (srec_head addr bytes) (bytes ++ (255 - (sum (srec_head addr bytes) + sum bytes) % 256) ∷ [])
-    (All-cons IsByte (length bytes + 5) (addr / 16777216 ∷ addr / 65536 % 256 ∷ addr / 256 % 256 ∷ addr % 256 ∷ []) (omega arith)
+    (All-cons IsByte (length bytes + 5)
+    (addr / 16777216 ∷ addr / 65536 % 256 ∷ addr / 256 % 256 ∷ addr % 256 ∷ []) (omega arith)
     (All-cons IsByte (addr / 16777216) (addr / 65536 % 256 ∷ addr / 256 % 256 ∷ addr % 256 ∷ []) (omega arith)
     (All-cons IsByte (addr / 65536 % 256) (addr / 256 % 256 ∷ addr % 256 ∷ []) (omega arith)
     (All-cons IsByte (addr / 256 % 256) (addr % 256 ∷ []) (omega arith)
@@ -142,7 +146,8 @@ srec_read addr bytes within short all =
     let size = length-digits_of bytes_all in
     let tail = length-append bytes ((255 - (sum (srec_head addr bytes) + sum bytes) % 256) ∷ []) in
     ap srec_bytes (srec_line_is addr bytes)
-    ∙ ap (λ b. cond b (srec_checked 3 (digits_of bytes_all) (bytes_of (digits_of bytes_all))) bad) (digits_are bytes_all are)
+    ∙ ap (λ b. cond b (srec_checked 3 (digits_of bytes_all) (bytes_of (digits_of bytes_all))) bad)
+    (digits_are bytes_all are)
     ∙ ap (srec_checked 3 (digits_of bytes_all)) (bytes_back bytes_all are)
     ∙ ap (λ b. cond b (cond (eqb (sum bytes_all % 256) 255) good unsummed) wrong)
     (eq-eqb (length (digits_of bytes_all)) (2 * (length bytes + 5 + 1)) (omega (arith, size, tail)))

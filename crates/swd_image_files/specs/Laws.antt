@@ -12,8 +12,8 @@ base_for Binary addr = addr
 base_for IntelHex addr = 0
 base_for SRecord addr = 0
 
--- the file of an image below 2^32 is read back as one piece of the same bytes at the same address, or as no piece if there
--- are no bytes
+-- the file of an image below 2^32 is read back as one piece of the same bytes at the same address, or as no piece if
+-- there are no bytes
 abbrev pub ReadsBack : Format → Type 0
 ReadsBack format =
     (addr : ℕ) (bytes : List ℕ) → All (λ byte. byte < 256) bytes → addr + length bytes ≤ 2 ^ 32

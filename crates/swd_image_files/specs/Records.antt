@@ -4,7 +4,8 @@ use Rattle.std.specs.Prelude.{ℕ, ◌+◌, ◌-◌, ◌*◌, ◌%◌, ◌<◌, 
 use Rattle.std.specs.Prelude.{length, slice_index, slice_range, sum, Result, Ok, Err, if◌then◌else◌}
 use Rattle.std.specs.List.{list_all}
 use Rattle.swd_image_files.specs.declared.fault.LineFlaw.{LineFlaw}
-use Rattle.swd_image_files.specs.declared.fault.LineFlaw.TheVariants.{BadStart, BadDigit, BadLength, BadChecksum, BadType}
+use Rattle.swd_image_files.specs.declared.fault.LineFlaw.TheVariants.{BadStart, BadDigit, BadLength}
+use Rattle.swd_image_files.specs.declared.fault.LineFlaw.TheVariants.{BadChecksum, BadType}
 use Rattle.swd_image_files.specs.declared.kind.Kind.{Kind}
 use Rattle.swd_image_files.specs.declared.kind.Kind.TheVariants.{Data, Base, Count, End, Other}
 use Rattle.swd_image_files.specs.declared.kind.RecordFormat.{RecordFormat}

@@ -2,7 +2,8 @@
 ghost use Rattle.std.specs.Prelude.{◌≡◌, ◌+◌, ◌*◌, ◌^◌, ◌≤◌, ◌<◌, length, slice_index, IfOk, IfErr, Ok, Err};
 ghost use Rattle.swd_image_files.specs.Records.{record_bytes as bytes_in, hex_bytes as hex_bytes_in};
 ghost use Rattle.swd_image_files.specs.Records.{srec_bytes as srec_bytes_in, record_kind as kind_in};
-ghost use Rattle.swd_image_files.specs.Records.{hex_kind as hex_kind_in, srec_kind as srec_kind_in, srec_typed, IsWithin};
+ghost use Rattle.swd_image_files.specs.Records.{hex_kind as hex_kind_in, srec_kind as srec_kind_in, IsWithin};
+ghost use Rattle.swd_image_files.specs.Records.{srec_typed};
 ghost use Rattle.swd_image_files.specs.Records.{two as two_in, number as number_in, sized as sized_in, base as base_in};
 
 use crate::digits::{RecordBytes, are_digits, decode, digit_value, first_byte, low_sum};

@@ -2,8 +2,9 @@
 ghost use Rattle.std.specs.Prelude.{◌≡◌, ℕ, ◌+◌, ◌*◌, ◌≤◌, ◌<◌, ◌^◌, List, Option, ◌++◌, length};
 ghost use Rattle.arrayvec.specs.ArrayVec.{array_vec_len};
 ghost use Rattle.swd_io.specs.Blocks.{Sends, Writes};
-ghost use Rattle.swd_image_files.specs.Texts.{base_lines, data_line as data_line_in, digits_of, end_line as end_line_in};
-ghost use Rattle.swd_image_files.specs.Texts.{file_of, hex_digit as hex_digit_in, hex_line as hex_line_in, records_file};
+ghost use Rattle.swd_image_files.specs.Texts.{base_lines, data_line as data_line_in, digits_of, file_of};
+ghost use Rattle.swd_image_files.specs.Texts.{end_line as end_line_in, hex_digit as hex_digit_in};
+ghost use Rattle.swd_image_files.specs.Texts.{hex_line as hex_line_in, records_file};
 ghost use Rattle.swd_image_files.specs.Texts.{span as span_in, srec_line as srec_line_in};
 
 use crate::digits::low_sum;

@@ -16,7 +16,8 @@ loop-byte-preserved c =
     ≡ digits_of (take i bytes) ++ (hex_digit (byte / 16) ∷ hex_digit (byte % 16) ∷ []) =
     ap digits_of taken ∙ digits_of-append (take i bytes) (byte ∷ []) in (
       two_more start (digits_of (take i bytes)) c.loop-byte.line.items c.push.new.self.items
-          c.push-in-loop-byte.new.self.items c.hex_digit.result c.hex_digit-in-loop-byte.result before c.push.ensures.items
+          c.push-in-loop-byte.new.self.items c.hex_digit.result c.hex_digit-in-loop-byte.result before
+          c.push.ensures.items
           c.push-in-loop-byte.ensures.items
           ∙ ap (λ l. start ++ l)
           (ap₂ (λ a b. digits_of (take i bytes) ++ a ∷ b ∷ []) c.hex_digit.ensures c.hex_digit-in-loop-byte.ensures

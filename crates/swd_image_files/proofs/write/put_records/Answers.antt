@@ -39,8 +39,10 @@ loop-rest-preserved g c =
       whole =
           append_assoc text (part ++ fed) (data_lines records (most - 1) (at / 65536) (at + k) c.behind-rest.result.now)
           ∙ ap (λ l. text ++ ((part ++ fed) ++ data_lines records (most - 1) (at / 65536) (at + k) l)) behind
-          ∙ ap (λ l. text ++ ((part ++ (l ++ 10 ∷ [])) ++ data_lines records (most - 1) (at / 65536) (at + k) (drop k rest))) line
-          ∙ ap (λ n. text ++ ((part ++ (data_line records at (take n rest) ++ 10 ∷ [])) ++ data_lines records (most - 1) (at / 65536) (at + n) (drop n rest))) counted
+          ∙ ap (λ l. text ++ ((part ++ (l ++ 10 ∷ []))
+          ++ data_lines records (most - 1) (at / 65536) (at + k) (drop k rest))) line
+          ∙ ap (λ n. text ++ ((part ++ (data_line records at (take n rest) ++ 10 ∷ []))
+          ++ data_lines records (most - 1) (at / 65536) (at + n) (drop n rest))) counted
           ∙ ap (λ l. text ++ l) (sym (data_next_of records most upper at rest some enough))
           ∙ c.loop-rest.invariant.whole;
       sends = λ start all h.

@@ -33,7 +33,8 @@ returns g c = λ old h.
     let same = h.stored c.if-self.false in
     record {
       stored = λ fine. c.in-Ok.ensures
-          ∙ ap (λ (o : Contents). let with : Contents = record { ranges = joined o.ranges at (length bytes); bytes = o.bytes ++ bytes } in with) same
+          ∙ ap (λ (o : Contents). let with : Contents =
+          record { ranges = joined o.ranges at (length bytes); bytes = o.bytes ++ bytes } in with) same
           ∙ sym (add_some old at bytes some);
       sound = add_sound old at bytes h.sound c.requires;
     }
