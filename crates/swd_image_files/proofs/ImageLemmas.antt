@@ -1,10 +1,10 @@
 -- Ranges that join.
 use Rattle.std.proofs.Common.{◌≡◌, ◌≢◌, ℕ, ◌+◌, ◌<◌, ◌≤◌, ◌^◌, List, [], ◌∷◌, ◌++◌, length, cond, true, false, ap, refl}
-use Rattle.std.proofs.Common.{arith, All, eqb, sym, subst, inl, inr, ◌⊎◌, ◌∙◌, ap₂, append_assoc}
+use Rattle.std.proofs.Common.{arith, All, eqb, sym, subst, inl, inr, ◌⊎◌, ◌∙◌, ap₂, append_assoc, Ok, Err}
 use Rattle.std.proofs.lemmas.List.{append-nil, length-append}
 use Rattle.std.proofs.lemmas.Bool.{eq-eqb, ne_eqb, cases_eq, cases_lt, eqb-true, leb-true, or_cases}
 use Rattle.std.proofs.lemmas.List.Elements.{All-cons, All-head, All-tail, All-nil}
-use Rattle.std.specs.Prelude.{◌==◌, nat_le}
+use Rattle.std.specs.Prelude.{◌==◌, nat_le, Result, OnOk, is_err}
 use Rattle.swd_image_files.specs.Places.{fits}
 use Rattle.swd_image_files.specs.declared.image.Range.{Range}
 use Rattle.swd_image_files.specs.Images.{Contents, add_data, joined, range}
@@ -135,3 +135,8 @@ add_again old addr first (byte ∷ second) some =
     ∙ ap (joined old.ranges addr) (sym both))
     (append_assoc old.bytes first rest)
     ∙ sym (add_some old addr (first ++ rest) (omega (arith, both)))
+
+-- what holds of a result that is no error
+pub when_ok : {T E : Type 0} (r : Result T E) (P : Type 0) → OnOk r P → is_err r ≡ false → P
+when_ok (Ok value) P holds fine = holds
+when_ok (Err fault) P holds fine = absurd cc

@@ -1,8 +1,8 @@
 //! Errors of image files.
 use thiserror::Error;
 
-/// What is wrong with a line. If a line has several errors, the first of this list is reported, but a record of a
-/// fixed length that has another one is `BadLength` after `BadChecksum`.
+/// What is wrong with a line. If a line has several errors, the first of this list is reported, but a length that the
+/// record's type doesn't have is reported after `BadType`.
 #[derive(Clone, Copy, Debug, PartialEq, Eq, Error)]
 pub enum LineFlaw {
     /// The line isn't blank and follows the end record.
@@ -15,7 +15,7 @@ pub enum LineFlaw {
     /// Behind the record mark is a byte that isn't a hexadecimal digit.
     #[error("not a hexadecimal digit")]
     BadDigit,
-    /// The number of bytes isn't the one that the record says, or that its type fixes.
+    /// The record has another number of bytes than it says, or a length that its type doesn't have.
     #[error("wrong length")]
     BadLength,
     /// The checksum is wrong.

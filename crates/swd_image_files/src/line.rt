@@ -1,5 +1,5 @@
 //! Decodes the record of a line.
-ghost use Rattle.std.specs.Prelude.{◌≡◌, ◌+◌, ◌*◌, ◌^◌, ◌≤◌, ◌<◌, length, slice_index, IfOk, IfErr, Ok, Err};
+ghost use Rattle.std.specs.Prelude.{◌≡◌, ◌+◌, ◌*◌, ◌^◌, ◌≤◌, ◌<◌, length, IfOk, IfErr, Ok, Err};
 ghost use Rattle.swd_image_files.specs.Records.{record_bytes as bytes_in, hex_bytes as hex_bytes_in};
 ghost use Rattle.swd_image_files.specs.Records.{srec_bytes as srec_bytes_in, record_kind as kind_in};
 ghost use Rattle.swd_image_files.specs.Records.{hex_kind as hex_kind_in, srec_kind as srec_kind_in, IsWithin};

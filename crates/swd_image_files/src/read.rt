@@ -16,11 +16,13 @@ use crate::parts::{behind, front};
 use crate::reading::{Held, Reading};
 use std::alloc::Allocator;
 
-/// Reads an image file. A binary is one piece at `base`. In the other formats `base` is added to each address.
+/// Reads an image file. A binary is one piece at `base`. In the other formats `base` is added to each address. Its work
+/// is linear in the length of the file, but for a sort of the pieces' ranges, and its memory is linear.
 ///
 /// # Errors
 ///
-/// The first error of the file, or `Memory` if memory ran out for the image.
+/// The first error of the file: its first invalid line, that it has no end record, or the lowest address for which two
+/// pieces have a byte. `Memory` if memory ran out for the image; then each line is valid.
 pub fn read_image<A: Allocator + Copy>(
     alloc: A,
     format: Format,

@@ -47,10 +47,9 @@ impl<A: Allocator> Held<A> {
         if bytes.is_empty() || self.failed {
             return;
         }
-        let Ok(()) = append(&mut self.image, at as u32, bytes) else {
+        if append(&mut self.image, at as u32, bytes).is_err() {
             self.failed = true;
-            return;
-        };
+        }
     }
 }
 
