@@ -3,6 +3,7 @@
 #![tactic(auto)]
 
 mod decode_command;
+mod image_command;
 mod open_files;
 mod program;
 mod remote_command;

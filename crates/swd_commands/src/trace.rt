@@ -1,5 +1,5 @@
-//! Opens the files of plans and traces, and refuses a file that is already in use.
-ghost use Rattle.std.specs.Prelude.{◌≡◌, ◌≢◌, IfOk, Some, is_some};
+//! Opens the files of plans, traces and dumps, and refuses a file that is already in use.
+ghost use Rattle.std.specs.Prelude.{◌≡◌, ◌≢◌, IfOk, OnOk, Some, codes, is_some};
 ghost use Rattle.swd_commands.specs.Traces.{IsBeside};
 
 use crate::open_files::{Files, Identity, Opened};
@@ -91,6 +91,29 @@ pub fn cannot_open_record<E: Write>(errors: &mut E, name: &Option<String>, why: 
         Some(name) => cannot_open(errors, name.as_str(), why),
         None => FAULT,
     }
+}
+
+/// Opens the file of a dump, and doesn't truncate it. It has to be neither standard input nor standard output, which are
+/// the target's. The contract leaves that out.
+///
+/// # Errors
+///
+/// Returns an error if it is one of these under any name, or may be. Also for `-`, and if the file can't be opened or
+/// created.
+pub fn open_image<F: Files>(files: &F, name: &str) -> io::Result<Opened<F::Made>>
+    ensures { OnOk result (name.now ≢ codes "-") }
+{
+    if name == "-" {
+        return Err(refusal("it has to be a file"));
+    }
+    let input = known(files.standard_input(), "standard input is unknown")?;
+    let output = known(files.standard_output(), "standard output is unknown")?;
+    let image = files.open_to_write(name)?;
+    let identity = Some(image.identity);
+    if identity == input || identity == output {
+        return Err(refusal("it is the target's"));
+    }
+    Ok(image)
 }
 
 /// Opens the file of a plan. It has to differ from `other`, the other file that is read, or from standard input if that

@@ -3,8 +3,9 @@
 
 mod command;
 mod decode_words;
+mod image_words;
 mod target_words;
 mod words;
 
-pub use command::{DecodeLine, Line, LineFault, RunLine, TargetLine};
+pub use command::{DecodeLine, ImageAction, ImageLine, Line, LineFault, RunLine, TargetLine};
 pub use words::line;
