@@ -13,7 +13,7 @@ use Rattle.swd_capture_text.specs.declared.reading.Reading.{Reading}
 use Rattle.swd_commands.specs.Decodings.{printed_for, reading_for}
 use Rattle.swd_commands.specs.Drawings.{PerformsDraw}
 use Rattle.swd_words.specs.declared.command.Line.{Line}
-use Rattle.swd_words.specs.declared.command.Line.TheVariants.{One, Decode, Draw, Encode, Run, Target}
+use Rattle.swd_words.specs.declared.command.Line.TheVariants.{One, Decode, Draw, Encode, Run, Target, Image}
 use Rattle.swd_words.specs.declared.command.RunLine.{RunLine}
 use Rattle.swd_host.specs.declared.outcome.End.{End}
 use Rattle.swd_host.specs.declared.outcome.End.TheVariants.{All, Lost, TriesOut, WrongId, Confused}
@@ -103,3 +103,5 @@ Performs (Encode file) status text left old new =
 Performs (Run run) status text left old new = PerformsWhere run.remote run status text old new
 -- the script of a target can't be standard input, which comes from the debugger
 Performs (Target target) status text left old new = NotOpened status old new
+-- nor can the file of an image, since standard input is the target's
+Performs (Image image) status text left old new = NotOpened status old new

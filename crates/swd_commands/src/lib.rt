@@ -4,6 +4,7 @@
 
 mod decode_command;
 mod draw_command;
+mod image_command;
 mod open_files;
 mod program;
 mod remote_command;

@@ -5,6 +5,7 @@ ghost use Rattle.swd_commands.specs.Statuses.{Performs, PerformsRun, PerformsUnd
 
 use crate::decode_command::perform_decode;
 use crate::draw_command::perform_draw;
+use crate::image_command::perform_image;
 use crate::open_files::{Files, Identity};
 use crate::remote_command::{Untold, perform_remote};
 use crate::report::{DONE, FAULT, cannot_open, engine_status, one_status, run_status, tell};
@@ -62,8 +63,8 @@ fn answer_by_clap<O: Write, E: Write>(error: &Error, output: &mut O, errors: &mu
     }
 }
 
-// Returns the file that a command reads, such as the script of a run. Returns `None` for standard input: without a
-// name, and for `-`.
+// Returns the file that a command reads, such as the script of a run, or the file of a dump. Returns `None` for standard
+// input: without a name, and for `-`.
 fn file_of(line: &Line) -> Option<&str>
     ensures standard { IfNone result (IsStandard line.now) }
     ensures file { IfSome result (λ name. (named line.now ≡ Some name.now) × (name.now ≢ codes "-")) }
@@ -78,6 +79,7 @@ fn file_of(line: &Line) -> Option<&str>
         },
         Line::Run(run) => run.script.as_str(),
         Line::Target(target) => target.script.as_str(),
+        Line::Image(image) => image.file.as_str(),
     };
     if name == "-" { None } else { Some(name) }
 }
@@ -98,6 +100,12 @@ fn carry_out<I: Read, F: Files, O: Write, E: Write>(
     let Some(name) = file_of(line) else {
         return perform(alloc, line, input, None, files, output, errors);
     };
+    if let Line::Image(image) = line {
+        let (status, _) = perform_image::<Untold, _, _, _, _>(
+            alloc, image, input, files, output, errors,
+        );
+        return status;
+    }
     match files.open(name) {
         Ok(mut opened) => {
             let source = Some(opened.identity);
@@ -143,6 +151,7 @@ fn perform<R: Read, F: Files, O: Write, E: Write>(
         }
         Line::Run(run) => perform_run(alloc, run, input, source, files, output, errors),
         Line::Target(_) => tell(errors, "SCRIPT is a file: standard input is the debugger's"),
+        Line::Image(_) => tell(errors, "FILE is a file: standard input is the target's"),
     }
 }
 

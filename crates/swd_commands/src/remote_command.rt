@@ -119,8 +119,8 @@ fn reached_status<E: Write>(
     }
 }
 
-// Prints a line with the reason why the other end is gone.
-fn gone_status<E: Write>(errors: &mut E, fault: Fault) -> u8
+/// Prints a line with the reason why the other end is gone. Returns the status 1.
+pub(crate) fn gone_status<E: Write>(errors: &mut E, fault: Fault) -> u8
     ensures { result ≡ 1 }
 {
     let _ = match fault {

@@ -1,5 +1,5 @@
-//! Opens the files of plans, traces and accesses, and refuses a file that is already in use.
-ghost use Rattle.std.specs.Prelude.{◌≡◌, ◌≢◌, IfErr, IfOk, OnErr, Some, is_some, true};
+//! Opens the files of plans, traces, accesses and dumps, and refuses a file that is already in use.
+ghost use Rattle.std.specs.Prelude.{◌≡◌, ◌≢◌, IfErr, IfOk, OnErr, OnOk, Some, codes, is_some, true};
 ghost use Rattle.swd_commands.specs.Statuses.{names_record};
 ghost use Rattle.swd_commands.specs.Traces.{IsBeside};
 
@@ -143,6 +143,29 @@ pub fn open_records<F: Files, E: Write>(
         accesses: file_alone(accesses),
         made,
     })
+}
+
+/// Opens the file of a dump, and doesn't truncate it. It has to be neither standard input nor standard output, which are
+/// the target's. The contract leaves that out.
+///
+/// # Errors
+///
+/// Returns an error if it is one of these under any name, or may be. Also for `-`, and if the file can't be opened or
+/// created.
+pub fn open_image<F: Files>(files: &F, name: &str) -> io::Result<Opened<F::Made>>
+    ensures { OnOk result (name.now ≢ codes "-") }
+{
+    if name == "-" {
+        return Err(refusal("it has to be a file"));
+    }
+    let input = known(files.standard_input(), "standard input is unknown")?;
+    let output = known(files.standard_output(), "standard output is unknown")?;
+    let image = files.open_to_write(name)?;
+    let identity = Some(image.identity);
+    if identity == input || identity == output {
+        return Err(refusal("it is the target's"));
+    }
+    Ok(image)
 }
 
 /// Opens the file of a plan. It has to differ from `other`, the other file that is read, or from standard input if that

@@ -31,7 +31,7 @@ use Rattle.swd_run.specs.Records.{AreLeft, Files, ForFile, IfRecorded, IsLeft, f
 use Rattle.swd_observer.specs.Explained.{Explains}
 use Rattle.swd_observer.specs.Traces.{from_made, told_in}
 use Rattle.swd_run.specs.Running.{AnswersScript, IsTraceIn, RunsScript, full_room, memory_of, with_full}
-use Rattle.swd_run.specs.Sessions.{Done, IsRefused, Runs, ended_of, most_begun, none, requests_of, then}
+use Rattle.swd_run.specs.Sessions.{Done, GoesOn, IsRefused, Runs, ended_of, most_begun, none, requests_of, then}
 use Rattle.swd_run.specs.Sessions.{unresumed, unsent}
 use Rattle.swd_run.specs.Unfoldings.{AreDone, BatchRuns, IsCutShort, Unfolds, again, calls_of, runs_of}
 use Rattle.swd_run.proofs.RunLemmas.{made_rests}
@@ -113,17 +113,23 @@ module _ {W V : Type 0} (by : W → V) (port : V → Port) (plan : V → List Ma
     went_by limit list s stops told t (resumed {stops = before} {earlier = e} {t = u} went lost same goes over) =
         resumed (went_by limit list s before e u went) lost same goes over
 
+    -- one run is
+    pub goes_by : (batch : Listed) (s : W) (run : Done) (t : W)
+        → GoesOn (λ w. port (by w)) (λ w. plan (by w)) (λ w. lawful (by w)) (most_begun batch) tries resumes batch s run t
+        → GoesOn port plan lawful (most_begun batch) tries resumes batch (by s) run (by t)
+    goes_by batch s run t goes = record {
+      went = went_by (most_begun batch) batch.accesses s run.stops run.told t goes.went;
+      few = goes.few;
+      lost = goes.lost;
+    }
+
     pub runs_by : (s : W) (batches : List Listed) (runs : List Done) (t : W)
         → Runs (λ w. port (by w)) (λ w. plan (by w)) (λ w. lawful (by w)) most_begun tries resumes s batches runs t
         → Runs port plan lawful most_begun tries resumes (by s) batches runs (by t)
     runs_by s batches runs t none = none
     runs_by s batches runs t
         (then {batches = before} {runs = earlier} {t = u} {u = v} {batch = batch} {run = run} prior all goes) =
-        then (runs_by s before earlier u prior) all (record {
-          went = went_by (most_begun batch) batch.accesses u run.stops run.told v goes.went;
-          few = goes.few;
-          lost = goes.lost;
-        })
+        then (runs_by s before earlier u prior) all (goes_by batch u run v goes)
 
     refused_by : (limit : ℕ) (batch : Listed) (s t : W)
         → IsRefused (λ w. port (by w)) (λ w. plan (by w)) (λ w. lawful (by w)) limit tries resumes batch s t

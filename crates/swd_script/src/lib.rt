@@ -17,5 +17,6 @@ mod words;
 pub use batch::{Batch, Expected, Until};
 pub use fault::ScriptFault;
 pub use line_reader::LineReader;
+pub use numeral::{decimal_of, hex_of};
 pub use plan::{PlanReader, read_plan};
 pub use script::{Script, ScriptReader, read_script};

@@ -4,7 +4,7 @@ ghost use Rattle.swd_script.specs.Numerals.{decimal_of, digit_of, digit_value, h
 ghost use Rattle.swd_script.specs.Numerals.{numeral as numeral_of};
 
 /// Parses 1 to 8 hexadecimal digits of either case, which may follow `0x` or `0X`.
-pub(crate) fn hex_of(word: &[u8]) -> Option<u32>
+pub fn hex_of(word: &[u8]) -> Option<u32>
     ensures { result ≡ hex_of word.now }
 {
     numeral(16, 8, hex_digits(word))
@@ -21,7 +21,7 @@ fn hex_digits(word: &[u8]) -> &[u8]
 }
 
 /// Parses 1 to 10 decimal digits. The number has to be below 2^32.
-pub(crate) fn decimal_of(word: &[u8]) -> Option<u32>
+pub fn decimal_of(word: &[u8]) -> Option<u32>
     ensures { result ≡ decimal_of word.now }
 {
     numeral(10, 10, word)

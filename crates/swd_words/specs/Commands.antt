@@ -1,18 +1,24 @@
 -- The program's command line, as the parser reads it, and the meaning of its arguments.
 use Rattle.std.specs.Prelude.{ℕ, ◌≡◌, ◌≤◌, ◌↔◌, ◌⊎◌, List, [], ◌∷◌, Option, Some, None, IsSomeAnd, true, codes, pos}
-use Rattle.std.specs.Option.{option_map}
+use Rattle.std.specs.Prelude.{drop, take, if◌then◌else◌}
+use Rattle.std.specs.Option.{option_and_then, option_map}
+use Rattle.std.specs.Str.{bytes_eq}
 use Rattle.std.specs.String.{string_bytes}
 use Rattle.std.specs.Str.Parse.{signed_digits_value}
 use Rattle.clap.specs.Words.{App, HasKind, Kinds, kind_of, Row, first_of, Rule, Text, new_app, new_rule, with_rule}
 use Rattle.clap.specs.Words.{with_subcommand}
 use Rattle.swd_words.specs.declared.command.Line.{Line}
-use Rattle.swd_words.specs.declared.command.Line.TheVariants.{One, Decode, Draw, Encode, Run, Target}
+use Rattle.swd_words.specs.declared.command.Line.TheVariants.{One, Decode, Draw, Encode, Run, Target, Image}
 use Rattle.swd_words.specs.declared.command.DecodeLine.{DecodeLine}
 use Rattle.swd_words.specs.declared.command.DrawLine.{DrawLine}
+use Rattle.swd_words.specs.declared.command.ImageAction.{ImageAction}
+use Rattle.swd_words.specs.declared.command.ImageAction.TheVariants.{Load, Verify, Dump}
+use Rattle.swd_words.specs.declared.command.ImageLine.{ImageLine}
 use Rattle.swd_words.specs.declared.command.RunLine.{RunLine}
 use Rattle.swd_words.specs.declared.command.TargetLine.{TargetLine}
 use Rattle.swd_words.specs.declared.command.LineFault.{LineFault}
 use Rattle.swd_words.specs.declared.command.LineFault.TheVariants.{Clap, Memory}
+use Rattle.swd_script.specs.Numerals.{decimal_of, hex_of}
 use Rattle.clap.specs.declared.error.kind.ErrorKind.{ErrorKind}
 use Rattle.clap.specs.declared.builder.action.ArgAction.TheVariants.{SetTrue}
 use Rattle.clap.specs.declared.builder.value_parser.ValueParser.TheVariants.{Signed}
@@ -152,12 +158,40 @@ abbrev pub target_app : App
 target_app = with_rule (with_rule (with_rule (with_rule (new_app (codes "target")) script_rule) plan_rule) log_rule)
     trace_rule
 
+-- the address of an image, the number of its bytes, and its file: each is required
+abbrev pub addr_rule : Rule
+addr_rule = let rule = new_rule (codes "ADDR") in record rule { required = true }
+
+abbrev pub bytes_rule : Rule
+bytes_rule = let rule = new_rule (codes "BYTES") in record rule { required = true }
+
+abbrev pub image_rule : Rule
+image_rule = let rule = new_rule (codes "FILE") in record rule { required = true }
+
+-- the options of each command over an image
+abbrev pub with_image_options : App → App
+with_image_options app = with_rule (with_rule (with_rule app tries_rule) resume_rule) remote_rule
+
+-- the commands `load` and `verify`
+abbrev pub over_image : Text → App
+over_image name = with_image_options (with_rule (with_rule (new_app name) addr_rule) image_rule)
+
+-- the command `dump`
+abbrev pub dump_app : App
+dump_app = with_image_options
+    (with_rule (with_rule (with_rule (new_app (codes "dump")) addr_rule) bytes_rule) image_rule)
+
+-- a command with the commands over an image
+abbrev pub with_images : App → App
+with_images app = with_subcommand (with_subcommand (with_subcommand app (over_image (codes "load")).top)
+    (over_image (codes "verify")).top) dump_app.top
+
 -- the whole command
 abbrev pub swd_app : App
 swd_app =
-    with_subcommand (with_subcommand (with_subcommand
+    with_images (with_subcommand (with_subcommand (with_subcommand
     (with_subcommand (with_subcommand (with_subcommand bare_app (over_file (codes "one")).top)
-    decode_app.top) (over_file (codes "encode")).top) run_app.top) target_app.top) draw_app.top
+    decode_app.top) (over_file (codes "encode")).top) run_app.top) target_app.top) draw_app.top)
 
 -- the arguments have this command, and this file or no file
 abbrev pub HasFile : Text → Option Text → Option (Text × List Row) → Type 0
@@ -210,6 +244,23 @@ pub record IsTargetOf (target : TargetLine) (rows : List Row) : Type 0 where
   pub log : option_map string_bytes target.log ≡ first_of (codes "log") rows
   pub trace : option_map string_bytes target.trace ≡ first_of (codes "trace") rows
 
+-- what is done with an image, by the command's name; a dump's number of bytes is 1 to 10 decimal digits
+abbrev pub IsActionOf : ImageAction → Text → List Row → Type 0
+IsActionOf Load name rows = name ≡ codes "load"
+IsActionOf Verify name rows = name ≡ codes "verify"
+IsActionOf (Dump count) name rows =
+    (name ≡ codes "dump") × (Some count ≡ option_and_then decimal_of (first_of (codes "BYTES") rows))
+
+-- the action, the address of 1 to 8 hexadecimal digits after an optional 0x, the file and the two numbers that the
+-- arguments name; --remote is among them
+pub record IsImageOf (image : ImageLine) (name : Text) (rows : List Row) : Type 0 where
+  pub action : IsActionOf image.action name rows
+  pub addr : Some image.addr ≡ option_and_then (λ text. hex_of text) (first_of (codes "ADDR") rows)
+  pub file : Some (string_bytes image.file) ≡ first_of (codes "FILE") rows
+  pub tries : AreTries image.tries (first_of (codes "tries") rows)
+  pub resumes : AreResumes image.resumes (first_of (codes "resume") rows)
+  pub remote : first_of (codes "remote") rows ≡ Some (codes "true")
+
 -- an error of this kind, or out of memory
 abbrev pub IsOfKind : ErrorKind → LineFault → Type 0
 IsOfKind kind Memory = Unit {0}
@@ -228,3 +279,4 @@ IsLineOf (Draw draw) rows = IsSomeAnd rows (λ p. (p.0 ≡ codes "draw") × IsDr
 IsLineOf (Encode file) rows = HasFile (codes "encode") (option_map string_bytes file) rows
 IsLineOf (Run run) rows = IsSomeAnd rows (λ p. (p.0 ≡ codes "run") × IsRunOf run p.1)
 IsLineOf (Target target) rows = IsSomeAnd rows (λ p. (p.0 ≡ codes "target") × IsTargetOf target p.1)
+IsLineOf (Image image) rows = IsSomeAnd rows (λ p. IsImageOf image p.0 p.1)

@@ -18,6 +18,9 @@ pub enum Line {
     Run(RunLine),
     /// `swd target SCRIPT [--plan FILE] [--log FILE] [--trace FILE]`.
     Target(TargetLine),
+    /// `swd load ADDR FILE --remote [--tries N] [--resume N]`, the same with `verify`, or
+    /// `swd dump ADDR BYTES FILE --remote [--tries N] [--resume N]`.
+    Image(ImageLine),
 }
 
 /// The arguments of `swd decode`.
@@ -86,6 +89,31 @@ pub struct TargetLine {
     pub log: Option<String>,
     /// The file that the trace is written to, if one is named.
     pub trace: Option<String>,
+}
+
+/// What is done with an image.
+#[derive(Clone, Copy, Debug, PartialEq, Eq)]
+pub enum ImageAction {
+    /// The file's bytes are written to the memory.
+    Load,
+    /// The memory is compared with the file's bytes.
+    Verify,
+    /// This many bytes of the memory are written to the file.
+    Dump(u32),
+}
+
+/// The arguments of `swd load`, `swd verify` and `swd dump`.
+#[derive(Drop)]
+pub struct ImageLine {
+    pub action: ImageAction,
+    /// The address of the first byte.
+    pub addr: u32,
+    /// The file of the bytes. For a dump it is overwritten.
+    pub file: String,
+    /// The number of events that an access may meet, at most 1,000.
+    pub tries: u32,
+    /// How often a call is resumed after a lost acknowledgement, at most 1,000 times.
+    pub resumes: u32,
 }
 
 /// The reason why the arguments are not a command.

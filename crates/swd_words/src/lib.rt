@@ -4,8 +4,9 @@
 mod command;
 mod decode_words;
 mod draw_words;
+mod image_words;
 mod target_words;
 mod words;
 
-pub use command::{DecodeLine, DrawLine, Line, LineFault, RunLine, TargetLine};
+pub use command::{DecodeLine, DrawLine, ImageAction, ImageLine, Line, LineFault, RunLine, TargetLine};
 pub use words::line;

@@ -14,6 +14,7 @@ ghost use Rattle.swd_words.specs.Commands.{IsLineOf, IsOfKind, IsRunOf, IsRefusa
 use crate::command::{Line, LineFault, RunLine};
 use crate::decode_words::{decode_command, decode_line};
 use crate::draw_words::{draw_command, draw_line};
+use crate::image_words::{image_line, with_images};
 use crate::target_words::{target_command, target_line};
 use clap::error::ErrorKind;
 use clap::{Arg, ArgAction, ArgMatches, Command, Error, value_parser};
@@ -144,9 +145,9 @@ const TRIES: u32 = 8;
 
 const MOST_TRIES: i64 = 1000;
 
-const TRIES_RANGE: &str = "the value of '--tries <N>' is not in 0..=1000";
+pub(crate) const TRIES_RANGE: &str = "the value of '--tries <N>' is not in 0..=1000";
 
-const RESUMES_RANGE: &str = "the value of '--resume <N>' is not in 0..=1000";
+pub(crate) const RESUMES_RANGE: &str = "the value of '--resume <N>' is not in 0..=1000";
 
 // Returns a value as an owned string.
 pub(crate) fn owned(alloc: Global, text: Option<&str>) -> Result<Option<String>, AllocError>
@@ -220,8 +221,8 @@ fn strict_arg<'a>(alloc: Global) -> Arg<'a>
         .help("Exit with status 1 if an access met a bus error")
 }
 
-// Returns the flag for a target behind the standard streams.
-fn remote_arg<'a>(alloc: Global) -> Arg<'a>
+/// Returns the flag for a target behind the standard streams.
+pub(crate) fn remote_arg<'a>(alloc: Global) -> Arg<'a>
     ensures rule { rule_of result ≡ remote_rule }
     ensures local { result.global ≡ false }
 {
@@ -242,8 +243,8 @@ fn report_arg<'a>(alloc: Global) -> Arg<'a>
         .help("With --remote: write the report to FILE, - is stderr")
 }
 
-// Returns the option for the number of events that an access may meet.
-fn tries_arg<'a>(alloc: Global) -> Arg<'a>
+/// Returns the option for the number of events that an access may meet.
+pub(crate) fn tries_arg<'a>(alloc: Global) -> Arg<'a>
     ensures rule { rule_of result ≡ tries_rule }
     ensures local { result.global ≡ false }
 {
@@ -255,8 +256,8 @@ fn tries_arg<'a>(alloc: Global) -> Arg<'a>
         .help("Retries per access, from 0 to 1000")
 }
 
-// Returns the option for how often a run is resumed.
-fn resume_arg<'a>(alloc: Global) -> Arg<'a>
+/// Returns the option for how often a call is resumed.
+pub(crate) fn resume_arg<'a>(alloc: Global) -> Arg<'a>
     ensures rule { rule_of result ≡ resume_rule }
     ensures local { result.global ≡ false }
 {
@@ -277,7 +278,10 @@ pub(crate) fn with_arg<'a>(command: Command<'a>, arg: Arg<'a>) -> Result<Command
     command.arg(arg)
 }
 
-fn with_sub<'a>(command: Command<'a>, sub: Command<'a>) -> Result<Command<'a>, AllocError>
+pub(crate) fn with_sub<'a>(
+    command: Command<'a>,
+    sub: Command<'a>,
+) -> Result<Command<'a>, AllocError>
     requires sub { (out-Command sub).has_globals ≡ false }
     requires local { (out-Command command).has_globals ≡ false }
     ensures app { IfOk result (λ c. app_of c ≡ with_subcommand (app_of command.entry) (shape_of sub.entry)) }
@@ -353,7 +357,8 @@ fn swd_command<'a>(alloc: Global) -> Result<Command<'a>, AllocError>
     let encode = with_sub(decode, over_a_file(alloc, "encode", ENCODE_ABOUT)?)?;
     let run = with_sub(encode, run_command(alloc)?)?;
     let target = with_sub(run, target_command(alloc)?)?;
-    with_sub(target, draw_command(alloc)?)
+    let draw = with_sub(target, draw_command(alloc)?)?;
+    with_images(alloc, draw)
 }
 
 // Returns the error of arguments that `clap` accepted and that aren't allowed.
@@ -367,17 +372,25 @@ pub(crate) fn refused(alloc: Global, kind: ErrorKind, why: &str) -> LineFault
     }
 }
 
-fn unknown(alloc: Global) -> LineFault {
+pub(crate) fn unknown(alloc: Global) -> LineFault {
     refused(alloc, ErrorKind::InvalidSubcommand, "unknown command")
 }
 
-// Returns whether the option of a run is followed by a negative number. `clap` reports that number as an unknown
+// Returns whether an option with a number is followed by a negative one. `clap` reports that number as an unknown
 // option.
 fn asks_for_negative(words: &[&str], option: &str) -> bool {
-    words.get(1) == Some(&"run")
+    has_tries(words)
         && words.windows(2).any(|pair| {
             pair[0] == option && pair[1].parse::<i64>().is_ok_and(|number| number < 0)
         })
+}
+
+// Returns whether the command has the options for tries.
+fn has_tries(words: &[&str]) -> bool {
+    match words.get(1) {
+        Some(name) => matches!(*name, "run" | "load" | "verify" | "dump"),
+        None => false,
+    }
 }
 
 // Returns the error for a mistake that `clap` found. For a negative number it names the range.
@@ -407,8 +420,8 @@ fn number_in(word: &str) -> Option<u32>
     }
 }
 
-// Returns the number of tries, 8 without an argument. Returns `None` if it isn't one of 0 to 1,000.
-fn tries_in(word: Option<&str>) -> Option<u32>
+/// Returns the number of tries, 8 without an argument. Returns `None` if it isn't one of 0 to 1,000.
+pub(crate) fn tries_in(word: Option<&str>) -> Option<u32>
     ensures { IfSome result (λ tries. AreTries tries (option_map (λ s. s.now) word.entry)) }
 {
     match word {
@@ -417,8 +430,8 @@ fn tries_in(word: Option<&str>) -> Option<u32>
     }
 }
 
-// Returns how often a run is resumed, 0 without an argument. Returns `None` if it isn't one of 0 to 1,000.
-fn resumes_in(word: Option<&str>) -> Option<u32>
+/// Returns how often a call is resumed, 0 without an argument. Returns `None` if it isn't one of 0 to 1,000.
+pub(crate) fn resumes_in(word: Option<&str>) -> Option<u32>
     ensures { IfSome result (λ resumes. AreResumes resumes (option_map (λ s. s.now) word.entry)) }
 {
     match word {
@@ -526,7 +539,10 @@ fn line_of(alloc: Global, matches: &ArgMatches<'_>) -> Result<Line, LineFault>
             Ok(target) => Ok(Line::Target(target)),
             Err(fault) => Err(fault),
         },
-        _ => Err(unknown(alloc)),
+        _ => match image_line(alloc, name, rest) {
+            Ok(image) => Ok(Line::Image(image)),
+            Err(fault) => Err(fault),
+        },
     }
 }
 

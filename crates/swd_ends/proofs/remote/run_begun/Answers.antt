@@ -3,13 +3,14 @@ use Rattle.std.specs.Prelude.{All as Each}
 use Rattle.swd_port.specs.declared.call.Call.{Call}
 use Rattle.swd_port.specs.Stories.{port_at, FitsStory}
 use Rattle.swd_remote.specs.WholeRuns.{GoesOver}
+use Rattle.swd_remote.proofs.WholeLemmas.{went_over}
 use Rattle.swd_script.specs.Laws.{IsBatch}
 use Rattle.swd_script.specs.Readers.{listed, meaning}
 use Rattle.swd_script.proofs.TextLaws.{is_runnable}
 use Rattle.swd_run.specs.Engine.{AnswersAt}
 use Rattle.swd_run.specs.Records.{files_of}
 use Rattle.swd_ends.specs.RemoteRuns.{RanRemote}
-use Rattle.swd_ends.proofs.RemoteLemmas.{ran_remote, went_over}
+use Rattle.swd_ends.proofs.RemoteLemmas.{ran_remote}
 use Rattle.swd_ends.proofs.remote.run_begun.Goals as goal
 
 pub run_batches-answer-requires-clause-batches : goal.run_batches-answer-requires-clause-batches

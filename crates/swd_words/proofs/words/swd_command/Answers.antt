@@ -1,6 +1,7 @@
 use Rattle.std.proofs.Common.{◌∙◌, ap, ap₂}
 use Rattle.std.proofs.lemmas.Result.{IfOk-weaker}
 use Rattle.clap.specs.Words.{App, Shape, with_subcommand}
+use Rattle.swd_words.specs.Commands.{with_images}
 use Rattle.swd_words.proofs.words.swd_command.Goals as goal
 
 abbrev top_of : App → Shape
@@ -15,6 +16,5 @@ returns-clause-app c =
     ∙ ap₂ with_subcommand decode (ap top_of c.in_ok-over_a_file-2.ensures.app) in
     let run = c.in_ok-run.ensures.app ∙ ap₂ with_subcommand encode (ap top_of c.in_ok-run_command.ensures.app) in
     let target = c.in_ok-target.ensures.app ∙ ap₂ with_subcommand run (ap top_of c.in_ok-target_command.ensures.app) in
-    IfOk-weaker c.with_sub-6.result _ _
-    (λ command h. h ∙ ap₂ with_subcommand target (ap top_of c.in_ok-draw_command.ensures.app))
-    c.with_sub-6.ensures.app
+    let draw = c.in_ok-draw.ensures.app ∙ ap₂ with_subcommand target (ap top_of c.in_ok-draw_command.ensures.app) in
+    IfOk-weaker c.with_images.result _ _ (λ command h. h ∙ ap with_images draw) c.with_images.ensures.app

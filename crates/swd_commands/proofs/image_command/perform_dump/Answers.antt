@@ -1,0 +1,35 @@
+use Rattle.std.proofs.Common.{inr, subst}
+use Rattle.swd_commands.specs.Images.{IsWritten}
+use Rattle.swd_commands.specs.Remotes.{WentOver}
+use Rattle.swd_commands.proofs.ImageLemmas.{dump_done, dump_stopped, dumps_list, with_list}
+use Rattle.swd_commands.proofs.image_command.perform_dump.Goals as goal
+
+pub returns-in-Ok-reached : goal.returns-in-Ok-reached
+returns-in-Ok-reached g c =
+    let answer = c.dump_remote-answer.result.0 in
+    let line = c.dump_remote-answer.result.1 in
+    let Over = WentOver g.I.Read.remaining g.O.Write.contents (g.O.Write.contents c.args.output)
+    (g.I.Read.remaining c.args.input) line in
+    let image = c.args.image.now in
+    inr (
+      with_list (λ v. v.items) answer,
+      dumps_list (λ v. v.items) g.P.Story.at image.tries image.resumes image.addr Over c.args.count answer
+          c.dump_remote-answer.ensures,
+      dump_done (λ v. v.items) line.fault answer c.in-Ok-reached.bytes c.write_image-status.result
+          c.in-Ok-reached.ensures
+          (subst (IsWritten c.write_image-status.result) c.as_slice.ensures.value c.write_image-status.ensures),
+    )
+
+pub returns : goal.returns
+returns g c =
+    let answer = c.dump_remote-answer.result.0 in
+    let line = c.dump_remote-answer.result.1 in
+    let Over = WentOver g.I.Read.remaining g.O.Write.contents (g.O.Write.contents c.args.output)
+    (g.I.Read.remaining c.args.input) line in
+    let image = c.args.image.now in
+    inr (
+      with_list (λ v. v.items) answer,
+      dumps_list (λ v. v.items) g.P.Story.at image.tries image.resumes image.addr Over c.args.count answer
+          c.dump_remote-answer.ensures,
+      dump_stopped (λ v. v.items) line.fault answer c.in-Err-reached.status c.in-Err-reached.ensures,
+    )

@@ -1,0 +1,100 @@
+-- The status of a load, a verification or a dump at a remote target.
+use Rattle.std.specs.Prelude.{◌≡◌, ◌<◌, ◌⊎◌, ℕ, List, length, take, Option, Some, None, Result, Ok, Err, is_some}
+use Rattle.std.specs.Prelude.{if◌then◌else◌}
+use Rattle.std.specs.Io.KnownBytes.{Appends}
+use Rattle.swd_port.specs.Port.{Port}
+use Rattle.swd_remote.specs.declared.kept.Line.{Line}
+use Rattle.swd_remote.specs.declared.remote.Fault.{Fault}
+use Rattle.swd_remote.specs.WholeRuns.{IsUnused}
+use Rattle.swd_image.specs.declared.fault.ImageFault.{ImageFault}
+use Rattle.swd_image.specs.declared.fault.ImageFault.TheVariants.{Range, Memory, Stopped, BusFault as FaultAt}
+use Rattle.swd_image.specs.declared.verifying.ByteDifference.{ByteDifference}
+use Rattle.swd_image_ends.specs.RemoteImages.{DumpsRemote, LoadsRemote, VerifiesRemote}
+use Rattle.swd_words.specs.declared.command.ImageAction.{ImageAction}
+use Rattle.swd_words.specs.declared.command.ImageAction.TheVariants.{Load, Verify, Dump}
+use Rattle.swd_words.specs.declared.command.ImageLine.{ImageLine}
+use Rattle.swd_commands.specs.Remotes.{WentOver}
+
+-- 1 if a call ended early or met a bus error, 2 if the image doesn't fit the addresses or memory ran out
+abbrev pub status_of_fault : ImageFault → ℕ
+status_of_fault Range = 2
+status_of_fault Memory = 2
+status_of_fault (Stopped end) = 1
+status_of_fault (FaultAt at) = 1
+
+-- a result, or the status at an error; the status is 1 if the call succeeded but the other end is gone
+abbrev pub reached : {V : Type 0} → Option Fault → Result V ImageFault → Result V ℕ
+reached (Some gone) (Ok value) = Err 1
+reached None (Ok value) = Ok value
+reached _ (Err fault) = Err (status_of_fault fault)
+
+-- the status of a call by its value, or by its error
+abbrev pub status_in : {V : Type 0} → (V → ℕ) → Result V ℕ → ℕ
+status_in of (Ok value) = of value
+status_in of (Err status) = status
+
+abbrev pub status_of_image : {V : Type 0} → (V → ℕ) → Option Fault → Result V ImageFault → ℕ
+status_of_image of gone answer = status_in of (reached gone answer)
+
+-- 0 if all was loaded; 0 if no byte differs, and otherwise 1
+abbrev pub status_of_loaded : Unit {0} → ℕ
+status_of_loaded done = 0
+
+abbrev pub status_of_verified : Option ByteDifference → ℕ
+status_of_verified difference = if is_some difference then 1 else 0
+
+-- the bytes were written with the status 0, or not all of them with the status 2
+abbrev pub WritesBytes : ℕ → Option (List ℕ) → Option (List ℕ) → List ℕ → Type 0
+WritesBytes status old new bytes =
+    ((status ≡ 0) × Appends old new bytes)
+    ⊎ ((status ≡ 2) × (sent : ℕ) × (sent < length bytes) × Appends old new (take sent bytes))
+
+-- They were written to a file so, or the file couldn't be truncated. Nothing else is known of it.
+abbrev pub IsWritten : ℕ → List ℕ → Type 0
+IsWritten status bytes =
+    (status ≡ 2) ⊎ ((old : Option (List ℕ)) × (new : Option (List ℕ)) × WritesBytes status old new bytes)
+
+-- what was read is written to a file; at an error no file is changed
+abbrev pub IsDumped : Result (List ℕ) ℕ → ℕ → Type 0
+IsDumped (Ok bytes) status = IsWritten status bytes
+IsDumped (Err error) status = status ≡ error
+
+module _ {R W : Type 0} (story : ℕ → Port) (image : ImageLine) (status : ℕ) (remaining : R → Option (List ℕ))
+    (contents : W → Option (List ℕ)) (sent left : Option (List ℕ)) (line : Line R W) where
+  -- a file can't be read or opened: nothing was sent or read
+  abbrev pub IsLeft : Type 0
+  IsLeft = (status ≡ 2) × IsUnused remaining contents sent left line
+
+  -- The bytes of a file are loaded over a line. No contract knows the contents of a file. Only tests show that the line
+  -- is over the standard streams.
+  abbrev pub PerformsLoad : Type 0
+  PerformsLoad =
+      IsLeft
+      ⊎ ((bytes : List ℕ) × (answer : Result (Unit {0}) ImageFault)
+      × LoadsRemote story image.tries image.resumes image.addr (WentOver remaining contents sent left line) bytes answer
+      × (status ≡ status_of_image status_of_loaded line.fault answer))
+
+  -- the memory is compared with the bytes of a file
+  abbrev pub PerformsVerify : Type 0
+  PerformsVerify =
+      IsLeft
+      ⊎ ((bytes : List ℕ) × (answer : Result (Option ByteDifference) ImageFault)
+      × VerifiesRemote story image.tries image.resumes image.addr (WentOver remaining contents sent left line) bytes
+      answer × (status ≡ status_of_image status_of_verified line.fault answer))
+
+  -- `count` bytes of the memory are written to a file
+  abbrev pub PerformsDump : ℕ → Type 0
+  PerformsDump count =
+      IsLeft
+      ⊎ ((answer : Result (List ℕ) ImageFault)
+      × DumpsRemote story image.tries image.resumes image.addr (WentOver remaining contents sent left line) count answer
+      (λ bytes. bytes) × IsDumped (reached line.fault answer) status)
+
+  -- what the arguments ask for
+  abbrev pub PerformsAction : ImageAction → Type 0
+  PerformsAction Load = PerformsLoad
+  PerformsAction Verify = PerformsVerify
+  PerformsAction (Dump count) = PerformsDump count
+
+  abbrev pub PerformsImage : Type 0
+  PerformsImage = PerformsAction image.action

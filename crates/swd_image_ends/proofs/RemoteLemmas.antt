@@ -1,0 +1,74 @@
+-- What came of an image over a wire to the outside that had no call before, by the calls that are noted there.
+use Rattle.std.proofs.Common.{◌≡◌, ℕ, List, [], Option, Result, Ok, Err, length, subst}
+use Rattle.std.specs.Prelude.{OnOk, IfOk, IfErr}
+use Rattle.swd_port.specs.declared.call.Call.{Call}
+use Rattle.swd_port.specs.Port.{Port}
+use Rattle.swd_port.specs.Stories.{port_at, FitsStory}
+use Rattle.swd_image.specs.declared.fault.ImageFault.{ImageFault}
+use Rattle.swd_image.specs.declared.verifying.ByteDifference.{ByteDifference}
+use Rattle.swd_image.specs.Dumps.{DumpFails, Dumps, Verifies}
+use Rattle.swd_image.specs.Loads.{LoadFails, Loads}
+use Rattle.swd_image_ends.specs.RemoteImages.{DumpsRemote, LoadsRemote, VerifiesRemote}
+use Rattle.swd_image_ends.proofs.WireLemmas.{dump_fails_by, dumps_by, load_fails_by, loads_by, verifies_by}
+
+module _ {W : Type 0} (calls_in : W → List Call) (story : ℕ → Port) (tries resumes addr : ℕ) (Over : List Call → Type 0)
+    (s t : W) (begins : calls_in s ≡ []) (over : Over (calls_in t)) where
+  pub load_came : (bytes : List ℕ) (result : Result (Unit {0}) ImageFault)
+      → OnOk result (Loads (λ w. port_at story (calls_in w)) (λ w. []) (λ w. FitsStory story (calls_in w)) tries resumes
+      addr bytes s t)
+      → IfErr result (LoadFails (λ w. port_at story (calls_in w)) (λ w. []) (λ w. FitsStory story (calls_in w)) tries
+      resumes addr bytes s t)
+      → LoadsRemote story tries resumes addr Over bytes result
+  load_came bytes (Ok done) loads fails = (
+    calls_in t,
+    subst (λ calls. Loads (port_at story) (λ calls. []) (FitsStory story) tries resumes addr bytes calls (calls_in t))
+        begins (loads_by calls_in (port_at story) (λ calls. []) (FitsStory story) tries resumes addr bytes s t loads),
+    over,
+  )
+  load_came bytes (Err fault) loads fails = (
+    calls_in t,
+    subst (λ calls. LoadFails (port_at story) (λ calls. []) (FitsStory story) tries resumes addr bytes calls (calls_in t)
+        fault) begins
+        (load_fails_by calls_in (port_at story) (λ calls. []) (FitsStory story) tries resumes addr bytes s t fault fails),
+    over,
+  )
+
+  dump_failed : (count : ℕ) (fault : ImageFault)
+      → DumpFails (λ w. port_at story (calls_in w)) (λ w. []) (λ w. FitsStory story (calls_in w)) tries resumes addr
+      count s t fault
+      → DumpFails (port_at story) (λ calls. []) (FitsStory story) tries resumes addr count [] (calls_in t) fault
+  dump_failed count fault fails =
+      subst (λ calls. DumpFails (port_at story) (λ calls. []) (FitsStory story) tries resumes addr count calls
+      (calls_in t) fault) begins
+      (dump_fails_by calls_in (port_at story) (λ calls. []) (FitsStory story) tries resumes addr count s t fault fails)
+
+  pub dump_came : {B : Type 0} (count : ℕ) (result : Result B ImageFault) (list : B → List ℕ)
+      → IfOk result (λ bytes. Dumps (λ w. port_at story (calls_in w)) (λ w. []) (λ w. FitsStory story (calls_in w))
+      tries resumes addr count (list bytes) s t)
+      → IfErr result (DumpFails (λ w. port_at story (calls_in w)) (λ w. []) (λ w. FitsStory story (calls_in w)) tries
+      resumes addr count s t)
+      → DumpsRemote story tries resumes addr Over count result list
+  dump_came count (Ok bytes) list dumps fails = (
+    calls_in t,
+    subst (λ calls. Dumps (port_at story) (λ calls. []) (FitsStory story) tries resumes addr count (list bytes) calls
+        (calls_in t)) begins
+        (dumps_by calls_in (port_at story) (λ calls. []) (FitsStory story) tries resumes addr count (list bytes) s t dumps),
+    over,
+  )
+  dump_came count (Err fault) list dumps fails = (calls_in t, dump_failed count fault fails, over)
+
+  pub verify_came : (bytes : List ℕ) (result : Result (Option ByteDifference) ImageFault)
+      → IfOk result (λ difference. Verifies (λ w. port_at story (calls_in w)) (λ w. [])
+      (λ w. FitsStory story (calls_in w)) tries resumes addr bytes difference s t)
+      → IfErr result (DumpFails (λ w. port_at story (calls_in w)) (λ w. []) (λ w. FitsStory story (calls_in w)) tries
+      resumes addr (length bytes) s t)
+      → VerifiesRemote story tries resumes addr Over bytes result
+  verify_came bytes (Ok difference) verifies fails = (
+    calls_in t,
+    subst (λ calls. Verifies (port_at story) (λ calls. []) (FitsStory story) tries resumes addr bytes difference calls
+        (calls_in t)) begins
+        (verifies_by calls_in (port_at story) (λ calls. []) (FitsStory story) tries resumes addr bytes difference s t
+        verifies),
+    over,
+  )
+  verify_came bytes (Err fault) verifies fails = (calls_in t, dump_failed (length bytes) fault fails, over)

@@ -1,0 +1,3 @@
+pub mod RemoteImages
+pub mod Files
+pub mod Gathered

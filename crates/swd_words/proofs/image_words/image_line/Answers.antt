@@ -1,0 +1,27 @@
+use Rattle.std.proofs.Common.{◌∙◌, ◌≡◌, ◌↔◌, Option, Some, true, sym, ap, subst, codes}
+use Rattle.std.specs.Option.{option_and_then, option_map}
+use Rattle.std.specs.String.{string_bytes}
+use Rattle.clap.specs.Words.{Text, found_of}
+use Rattle.clap.proofs.WalkLemmas.{first_value-rows}
+use Rattle.swd_script.specs.Numerals.{hex_of}
+use Rattle.swd_words.specs.Commands.{AreResumes, AreTries}
+use Rattle.swd_words.proofs.image_words.image_line.Goals as goal
+
+pub returns : goal.returns
+returns c = record {
+  action = c.in_ok-action.ensures;
+  addr = c.in-Some.ensures
+      ∙ ap (option_and_then (λ text. hex_of text))
+      (c.get_str.ensures ∙ first_value-rows (found_of c.args.matches.now) (codes "ADDR"));
+  file = ap (option_map string_bytes) (sym c.in-Ok-Some.field-0-is) ∙ c.in-Ok-Some.ensures ∙ c.get_str-2.ensures
+      ∙ first_value-rows (found_of c.args.matches.now) (codes "FILE");
+  tries = subst (λ (word : Option Text). AreTries c.in-Some-tries_in.tries word)
+      (c.get_str-3.ensures ∙ first_value-rows (found_of c.args.matches.now) (codes "tries"))
+      c.in-Some-tries_in.ensures;
+  resumes = subst (λ (word : Option Text). AreResumes c.in-Some-resumes_in.resumes word)
+      (c.get_str-4.ensures ∙ first_value-rows (found_of c.args.matches.now) (codes "resume"))
+      c.in-Some-resumes_in.ensures;
+  remote = ((subst (λ (word : Option Text). (c.is_asked_for.result ≡ true) ↔ (word ≡ Some (codes "true")))
+      (c.get_str-5.ensures ∙ first_value-rows (found_of c.args.matches.now) (codes "remote")) c.is_asked_for.ensures).0)
+      (search);
+}

@@ -1,0 +1,227 @@
+//! The arguments of `swd load`, `swd verify` and `swd dump`.
+ghost use Rattle.std.specs.Prelude.{◌≡◌, IfOk, IfSome, Some, false};
+ghost use Rattle.std.specs.Option.{option_and_then, option_map};
+ghost use Rattle.clap.specs.Words.{app_of, found_of, rows_of, rule_of};
+ghost use Rattle.clap.specs.declared.builder.command.Command.TheViews.{out-Command};
+ghost use Rattle.swd_script.specs.Numerals.{decimal_of, hex_of};
+ghost use Rattle.swd_words.specs.Commands.{addr_rule, bytes_rule, dump_app, image_rule, over_image};
+ghost use Rattle.swd_words.specs.Commands.{with_image_options, with_images as images_of, IsActionOf, IsImageOf};
+
+use crate::command::{ImageAction, ImageLine, LineFault};
+use crate::words::{
+    RESUMES_RANGE, TRIES_RANGE, is_asked_for, owned, refused, remote_arg, resume_arg, resumes_in,
+    tries_arg, tries_in, unknown, with_arg, with_sub,
+};
+use clap::error::ErrorKind;
+use clap::{Arg, ArgMatches, Command};
+use std::alloc::{AllocError, Global};
+use swd_script::{decimal_of, hex_of};
+
+const LOAD_ABOUT: &str = "Load a file into a target's memory";
+
+const LOAD_AFTER: &str = "\
+FILE is the bytes themselves. ADDR is 1 to 8 hexadecimal digits, after an
+optional 0x, and need not be a multiple of 4. The bytes of a word are the least
+significant first. Words of which FILE has only some bytes are read first, so
+that their other bytes keep their values.
+
+With --remote the standard streams connect to a server of OpenOCD's
+remote_bitbang protocol for SWD, such as swd target.
+
+A line on standard error has the result:
+  swd: loaded 65536 bytes at 20000000
+
+Status: 0 if all was loaded, 1 if the run ended early, an access met a bus error
+or the other end went away, 2 at an error.";
+
+const VERIFY_ABOUT: &str = "Compare a target's memory with a file";
+
+const VERIFY_AFTER: &str = "\
+FILE is the bytes themselves, and ADDR as for swd load. With --remote the target
+is on the standard streams, as for swd load.
+
+A line on standard error has the result, or the first byte that differs:
+  swd: verified 65536 bytes at 20000000
+  swd: 20000010 has 3f, not 00
+
+Status: 0 if all bytes are equal, 1 if a byte differs, the run ended early, an
+access met a bus error or the other end went away, 2 at an error.";
+
+const DUMP_ABOUT: &str = "Dump a target's memory to a file";
+
+const DUMP_AFTER: &str = "\
+BYTES is 1 to 10 decimal digits, and ADDR as for swd load. With --remote the
+target is on the standard streams, as for swd load.
+
+FILE is overwritten once all bytes are read; otherwise it is unchanged. A line
+on standard error has the result:
+  swd: dumped 65536 bytes at 20000000
+
+Status: 0 if all was dumped, 1 if the run ended early, an access met a bus error
+or the other end went away, 2 at an error.";
+
+const ADDR_FORM: &str = "ADDR is not 1 to 8 hexadecimal digits";
+
+const BYTES_FORM: &str = "BYTES is not a number of 32 bits";
+
+const NO_TARGET: &str = "the target is missing: give --remote";
+
+// Returns the required argument for the address.
+fn addr_arg<'a>(alloc: Global) -> Arg<'a>
+    ensures rule { rule_of result ≡ addr_rule }
+    ensures local { result.global ≡ false }
+{
+    Arg::new(alloc, "ADDR")
+        .required(true)
+        .help("The address of the first byte, hexadecimal")
+}
+
+// Returns the required argument for the number of bytes.
+fn bytes_arg<'a>(alloc: Global) -> Arg<'a>
+    ensures rule { rule_of result ≡ bytes_rule }
+    ensures local { result.global ≡ false }
+{
+    Arg::new(alloc, "BYTES")
+        .required(true)
+        .help("The number of bytes, decimal")
+}
+
+// Returns the required argument for the file of the bytes.
+fn image_arg<'a>(alloc: Global, help: &'a str) -> Arg<'a>
+    ensures rule { rule_of result ≡ image_rule }
+    ensures local { result.global ≡ false }
+{
+    Arg::new(alloc, "FILE").required(true).help(help)
+}
+
+// Adds the options of each command over an image.
+fn with_options<'a>(alloc: Global, command: Command<'a>) -> Result<Command<'a>, AllocError>
+    requires local { (out-Command command).has_globals ≡ false }
+    ensures app { IfOk result (λ c. app_of c ≡ with_image_options (app_of command.entry)) }
+    ensures local { IfOk result (λ c. (out-Command c).has_globals ≡ false) }
+{
+    let tries = with_arg(command, tries_arg(alloc))?;
+    let resume = with_arg(tries, resume_arg(alloc))?;
+    with_arg(resume, remote_arg(alloc))
+}
+
+// Returns the command `load` or `verify`.
+fn over_an_image<'a>(
+    alloc: Global,
+    name: &'a str,
+    about: &'a str,
+    after: &'a str,
+) -> Result<Command<'a>, AllocError>
+    ensures app { IfOk result (λ c. app_of c ≡ over_image name.entry.now) }
+    ensures local { IfOk result (λ c. (out-Command c).has_globals ≡ false) }
+{
+    let bare = Command::new(alloc, name).about(about).after_help(after);
+    let addr = with_arg(bare, addr_arg(alloc))?;
+    let file = with_arg(addr, image_arg(alloc, "The file of the bytes"))?;
+    with_options(alloc, file)
+}
+
+// Returns the command `dump`.
+fn dump_command<'a>(alloc: Global) -> Result<Command<'a>, AllocError>
+    ensures app { IfOk result (λ c. app_of c ≡ dump_app) }
+    ensures local { IfOk result (λ c. (out-Command c).has_globals ≡ false) }
+{
+    let bare = Command::new(alloc, "dump")
+        .about(DUMP_ABOUT)
+        .after_help(DUMP_AFTER);
+    let addr = with_arg(bare, addr_arg(alloc))?;
+    let bytes = with_arg(addr, bytes_arg(alloc))?;
+    let file = with_arg(bytes, image_arg(alloc, "The file to write (overwrites it)"))?;
+    with_options(alloc, file)
+}
+
+/// Adds the commands over an image.
+pub(crate) fn with_images<'a>(
+    alloc: Global,
+    command: Command<'a>,
+) -> Result<Command<'a>, AllocError>
+    requires local { (out-Command command).has_globals ≡ false }
+    ensures app { IfOk result (λ c. app_of c ≡ images_of (app_of command.entry)) }
+    ensures local { IfOk result (λ c. (out-Command c).has_globals ≡ false) }
+{
+    let load = with_sub(
+        command,
+        over_an_image(alloc, "load", LOAD_ABOUT, LOAD_AFTER)?,
+    )?;
+    let verify = with_sub(
+        load,
+        over_an_image(alloc, "verify", VERIFY_ABOUT, VERIFY_AFTER)?,
+    )?;
+    with_sub(verify, dump_command(alloc)?)
+}
+
+// Returns the address of an argument, or `None` if it isn't one.
+fn addr_in(word: Option<&str>) -> Option<u32>
+    ensures { IfSome result (λ addr. Some addr
+        ≡ option_and_then (λ text. hex_of text) (option_map (λ s. s.now) word.entry)) }
+{
+    match word {
+        Some(word) => hex_of(word.as_bytes()),
+        None => None,
+    }
+}
+
+// Returns the number of an argument, or `None` if it isn't one of 32 bits.
+fn count_in(word: Option<&str>) -> Option<u32>
+    ensures { IfSome result (λ count. Some count
+        ≡ option_and_then decimal_of (option_map (λ s. s.now) word.entry)) }
+{
+    match word {
+        Some(word) => decimal_of(word.as_bytes()),
+        None => None,
+    }
+}
+
+// Returns what the command of this name does with an image.
+fn action_of(alloc: Global, name: &str, matches: &ArgMatches<'_>) -> Result<ImageAction, LineFault>
+    ensures { IfOk result (λ action. IsActionOf action name.now (rows_of (found_of matches.now))) }
+{
+    match name {
+        "load" => Ok(ImageAction::Load),
+        "verify" => Ok(ImageAction::Verify),
+        "dump" => match count_in(matches.get_str("BYTES")) {
+            Some(count) => Ok(ImageAction::Dump(count)),
+            None => Err(refused(alloc, ErrorKind::InvalidValue, BYTES_FORM)),
+        },
+        _ => Err(unknown(alloc)),
+    }
+}
+
+/// Returns the arguments of the command of this name, which is `load`, `verify` or `dump`.
+pub(crate) fn image_line(
+    alloc: Global,
+    name: &str,
+    matches: &ArgMatches<'_>,
+) -> Result<ImageLine, LineFault>
+    ensures { IfOk result (λ image. IsImageOf image name.now (rows_of (found_of matches.now))) }
+{
+    let action = action_of(alloc, name, matches)?;
+    let Some(addr) = addr_in(matches.get_str("ADDR")) else {
+        return Err(refused(alloc, ErrorKind::InvalidValue, ADDR_FORM));
+    };
+    let Ok(Some(file)) = owned(alloc, matches.get_str("FILE")) else {
+        return Err(LineFault::Memory);
+    };
+    let Some(tries) = tries_in(matches.get_str("tries")) else {
+        return Err(refused(alloc, ErrorKind::InvalidValue, TRIES_RANGE));
+    };
+    let Some(resumes) = resumes_in(matches.get_str("resume")) else {
+        return Err(refused(alloc, ErrorKind::InvalidValue, RESUMES_RANGE));
+    };
+    if !is_asked_for(matches.get_str("remote")) {
+        let kind = ErrorKind::MissingRequiredArgument;
+        return Err(refused(alloc, kind, NO_TARGET));
+    }
+    Ok(ImageLine {
+        action,
+        addr,
+        file,
+        tries,
+        resumes,
+    })
+}
