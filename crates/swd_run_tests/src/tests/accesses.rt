@@ -70,10 +70,10 @@ const ROWS: [(&str, &[u8], &[u8], &[u8]); 7] = [
         b"@590 w 20000000 deadbeef not\n@787 w 20000000 deadbeef\n",
     ),
     (
-        "a read whose acknowledgement is lost",
+        "a read whose acknowledgement is lost: it doesn't confirm the write of TAR either",
         ONE_READ,
         b".\n.\n.\n.\n.\n.\n.\n.\n.\n.\nmute 0\n",
-        b"@590 r 20000000 ???????? may\n",
+        b"@590 r ???????? ???????? may\n",
     ),
     (
         "a write whose acknowledgement is lost gets no data",
