@@ -6,14 +6,14 @@ _swd() {
     if ((COMP_CWORD == 1)); then
         case $word in
         -*) words='--help --version -h -V' ;;
-        *) words='one decode encode run target help' ;;
+        *) words='one decode encode run target load verify dump help' ;;
         esac
         COMPREPLY=($(compgen -W "$words" -- "$word"))
         return
     fi
     case ${COMP_WORDS[1]} in
     help)
-        ((COMP_CWORD > 2)) || COMPREPLY=($(compgen -W 'one decode encode run target help' -- "$word"))
+        ((COMP_CWORD > 2)) || COMPREPLY=($(compgen -W 'one decode encode run target load verify dump help' -- "$word"))
         return
         ;;
     one)
@@ -30,6 +30,15 @@ _swd() {
         ;;
     target)
         words='--plan --log --trace --help -h'
+        ;;
+    load)
+        words='--tries --resume --remote --help -h'
+        ;;
+    verify)
+        words='--tries --resume --remote --help -h'
+        ;;
+    dump)
+        words='--tries --resume --remote --help -h'
         ;;
     esac
     case $before in
