@@ -18,6 +18,7 @@ mod accesses;
 mod calls;
 mod captures;
 mod expect;
+mod images;
 mod plan;
 mod remote;
 mod target;
@@ -105,6 +106,8 @@ impl<'a> Files for Shelf<'a> {
             "trace" => Ok(file(name, DPIDR_READ)),
             "list" | "./-" => Ok(file(name, DPIDR_LINE)),
             "script" => Ok(file(name, SCRIPT)),
+            "image" => Ok(file(name, b"12345")),
+            "empty" => Ok(file(name, b"")),
             "memory" => Ok(file(name, b"memory 20000000 16\n")),
             "quiet" => Ok(file(name, b"# nothing\n.\n")),
             "deaf" => Ok(file(name, b"deaf\n")),
