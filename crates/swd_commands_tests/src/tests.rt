@@ -19,6 +19,7 @@ mod calls;
 mod captures;
 mod drawings;
 mod expect;
+mod images;
 mod plan;
 mod remote;
 mod target;
@@ -106,6 +107,8 @@ impl<'a> Files for Shelf<'a> {
             "trace" => Ok(file(name, DPIDR_READ)),
             "list" | "./-" => Ok(file(name, DPIDR_LINE)),
             "script" => Ok(file(name, SCRIPT)),
+            "image" => Ok(file(name, b"12345")),
+            "empty" => Ok(file(name, b"")),
             "memory" => Ok(file(name, b"memory 20000000 16\n")),
             "awaiting" => Ok(file(name, b"memory 20000000 16\nuntil 20000000 1 1 3\n")),
             "quiet" => Ok(file(name, b"# nothing\n.\n")),

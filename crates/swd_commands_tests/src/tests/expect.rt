@@ -18,3 +18,8 @@ pub(super) fn expect_eq_at<R: Abort, P: Debug, T: PartialEq + Debug>(
 ) {
     assert_eq!(rt; found, wanted, "at {place:?}");
 }
+
+/// Ends the test where this doesn't hold at one of several places, which is told.
+pub(super) fn expect_at<R: Abort, P: Debug>(rt: &R, place: &P, holds: bool) {
+    assert!(rt; holds, "at {place:?}");
+}

@@ -22,6 +22,9 @@ fn negative_numbers_are_refused_for_their_range(rt: HostRuntime) -> Result<(), F
         ["swd", "run", "script", "--resume", "-1"].as_slice(),
         ["swd", "run", "script", "--resume=-1"].as_slice(),
         ["swd", "run", "script", "--resume=1001"].as_slice(),
+        ["swd", "load", "0", "image", "--remote", "--tries", "-1"].as_slice(),
+        ["swd", "verify", "0", "image", "--remote", "--tries=1001"].as_slice(),
+        ["swd", "dump", "0", "1", "image", "--remote", "--resume=-1"].as_slice(),
     ] {
         let said = said_of(rt.alloc(), words)?;
         assert!(rt; said.contains("is not in 0..=1000\n"));
@@ -46,6 +49,9 @@ fn help_tells_each_word(rt: HostRuntime) -> Result<(), Fail> {
         ["swd", "encode", "--help"].as_slice(),
         ["swd", "target", "--help"].as_slice(),
         ["swd", "draw", "--help"].as_slice(),
+        ["swd", "load", "--help"].as_slice(),
+        ["swd", "verify", "--help"].as_slice(),
+        ["swd", "dump", "--help"].as_slice(),
     ] {
         let said = said_of(rt.alloc(), words)?;
         let is_narrow = said.split('\n').all(|line| line.len() <= 80);
