@@ -8,5 +8,7 @@ mod image_words;
 mod target_words;
 mod words;
 
-pub use command::{DecodeLine, DrawLine, ImageAction, ImageLine, Line, LineFault, RunLine, TargetLine};
+pub use command::{
+    DecodeLine, DrawLine, ImageAction, ImageLine, Line, LineFault, RunLine, TargetLine,
+};
 pub use words::line;
