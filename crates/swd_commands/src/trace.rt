@@ -36,6 +36,16 @@ fn known(stream: io::Result<Option<Identity>>, why: &str) -> io::Result<Option<I
     }
 }
 
+// Refuses `-`, which isn't the name of a file.
+fn named_file(name: &str) -> io::Result<()>
+    ensures { OnOk result (name.now ≢ codes "-") }
+{
+    if name == "-" {
+        return Err(refusal("it has to be a file"));
+    }
+    Ok(())
+}
+
 /// Opens the file that a trace or the accesses are written to, and truncates it. Before it truncates, it checks that
 /// the file is neither the script, nor the plan, nor another file that is written, nor standard output. The contract
 /// leaves out the standard streams.
@@ -47,9 +57,7 @@ fn known(stream: io::Result<Option<Identity>>, why: &str) -> io::Result<Option<I
 pub fn open_trace<F: Files>(files: &F, name: &str, read: Sources) -> io::Result<Opened<F::Made>>
     ensures { IfOk result (λ trace. IsBeside trace.identity name.now read) }
 {
-    if name == "-" {
-        return Err(refusal("it has to be a file"));
-    }
+    named_file(name)?;
     let script = match read.script {
         Some(script) => Some(script),
         None => known(files.standard_input(), "standard input is unknown")?,
@@ -155,9 +163,7 @@ pub fn open_records<F: Files, E: Write>(
 pub fn open_image<F: Files>(files: &F, name: &str) -> io::Result<Opened<F::Made>>
     ensures { OnOk result (name.now ≢ codes "-") }
 {
-    if name == "-" {
-        return Err(refusal("it has to be a file"));
-    }
+    named_file(name)?;
     let input = known(files.standard_input(), "standard input is unknown")?;
     let output = known(files.standard_output(), "standard output is unknown")?;
     let image = files.open_to_write(name)?;
