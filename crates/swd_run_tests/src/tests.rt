@@ -12,6 +12,7 @@ use swd_script::ScriptFault;
 
 mod expect;
 mod faults;
+mod images;
 mod line;
 mod pair;
 mod recorded;
