@@ -13,6 +13,7 @@ use swd_script::ScriptFault;
 mod accesses;
 mod expect;
 mod faults;
+mod images;
 mod line;
 mod pair;
 mod recorded;

@@ -1,0 +1,210 @@
+//! Images over a served line, and the files that they come from.
+use super::expect::{expect_at, expect_eq, expect_eq_at};
+use super::line::{BASE, Cut, End, Task, Untold, plain, server_of, transfers};
+use linked_list_allocator::LocalHeap;
+use std::test::Fail;
+use swd_fakes::FailingReader;
+use swd_host::End as RunEnd;
+use swd_image::{ByteDifference, ImageFault};
+use swd_image_ends::{FileFault, dump_remote, load_remote, read_file, verify_remote};
+use swd_io::Unread;
+use swd_port::{Mark, Transfer};
+use swd_remote::Fault;
+
+// Two bytes of the first word, and three of the second.
+const IMAGE: &[u8] = b"\x11\x22\x33\x44\x55";
+
+const AT: u32 = BASE + 2;
+
+// Both words after a load over zeros.
+const WORDS: [u32; 2] = [0x2211_0000, 0x0055_4433];
+
+// The same bytes, and another one.
+const OTHER: &[u8] = b"\x11\x22\x33\xc4\x55";
+
+#[test]
+fn an_image_goes_over_a_line_and_back(rt: HostRuntime) -> Result<(), Fail> {
+    for piece in [usize::MAX, 7, 1] {
+        let server = server_of(rt.alloc(), &plain(&[]), Cut::Never, piece)?;
+        let end = End { server: &server };
+        let (answer, line) = load_remote::<Untold, _, _, _>(rt.alloc(), end, end, AT, IMAGE, 8, 0);
+        expect_eq_at(&rt, &piece, &answer, &Ok(()));
+        expect_eq_at(&rt, &piece, &line.fault, &None);
+        let (answer, line) = dump_remote::<Untold, _, _, _>(rt.alloc(), end, end, BASE, 8, 8, 0);
+        expect_eq_at(
+            &rt,
+            &piece,
+            &answer?.as_slice(),
+            &b"\0\0\x11\x22\x33\x44\x55\0".as_slice(),
+        );
+        expect_eq_at(&rt, &piece, &line.fault, &None);
+        let different = ByteDifference {
+            addr: BASE + 5,
+            found: 0x44,
+            expected: 0xc4,
+        };
+        for (bytes, difference) in [(IMAGE, None), (OTHER, Some(different))] {
+            let (answer, line) = verify_remote::<Untold, _, _, _>(
+                rt.alloc(),
+                end,
+                end,
+                AT,
+                bytes,
+                8,
+                0,
+            );
+            expect_eq_at(&rt, &piece, &answer, &Ok(difference));
+            expect_eq_at(&rt, &piece, &line.fault, &None);
+        }
+    }
+    Ok(())
+}
+
+// A load reads both of its partial words, and writes each word once.
+#[test]
+fn a_load_over_a_line_is_logged(rt: HostRuntime) -> Result<(), Fail> {
+    let server = server_of(rt.alloc(), &plain(&[]), Cut::Never, usize::MAX)?;
+    let end = End { server: &server };
+    let (answer, _) = load_remote::<Untold, _, _, _>(rt.alloc(), end, end, AT, IMAGE, 8, 0);
+    expect_eq(&rt, &answer, &Ok(()));
+    let wanted = [
+        (true, BASE, 0),
+        (true, BASE + 4, 0),
+        (false, BASE, WORDS[0]),
+        (false, BASE + 4, WORDS[1]),
+    ];
+    let log = transfers(rt.alloc(), server)?;
+    expect_eq(&rt, &log.len(), &4);
+    for (transfer, (read, addr, word)) in log.iter().zip(wanted) {
+        expect_eq(&rt, transfer, &Transfer { read, addr, word });
+    }
+    Ok(())
+}
+
+#[test]
+fn an_image_ends_at_what_it_meets(rt: HostRuntime) -> Result<(), Fail> {
+    let none: &[(usize, Mark)] = &[];
+    let lost: &[(usize, Mark)] = &[(11, Mark::Mute(0))];
+    let stopped = Err(ImageFault::Stopped(RunEnd::Lost));
+    let rows = [
+        ("nothing", none, Cut::Never, AT, 0, Ok(()), None),
+        (
+            "a lost acknowledgement",
+            lost,
+            Cut::Never,
+            AT,
+            0,
+            stopped,
+            None,
+        ),
+        ("the same, resumed", lost, Cut::Never, AT, 1, Ok(()), None),
+        (
+            "no memory there",
+            none,
+            Cut::Never,
+            BASE + 0x40,
+            0,
+            // The last word is partial, and read first.
+            Err(ImageFault::BusFault(BASE + 0x44)),
+            None,
+        ),
+        (
+            "no such address",
+            none,
+            Cut::Never,
+            0xffff_fffc,
+            0,
+            Err(ImageFault::Range),
+            None,
+        ),
+        (
+            "the end",
+            none,
+            Cut::Ends(10),
+            AT,
+            0,
+            stopped,
+            Some(Fault::Ended),
+        ),
+        (
+            "no level",
+            none,
+            Cut::Says(0, b'x'),
+            AT,
+            0,
+            stopped,
+            Some(Fault::NoLevel(b'x')),
+        ),
+        (
+            "no read",
+            none,
+            Cut::Unread(40),
+            AT,
+            0,
+            stopped,
+            Some(Fault::Read),
+        ),
+        (
+            "no write",
+            none,
+            Cut::Unsent(9),
+            AT,
+            0,
+            stopped,
+            Some(Fault::Write),
+        ),
+    ];
+    for (name, marks, cut, addr, resumes, wanted, fault) in rows {
+        let task = Task {
+            accesses: &[],
+            block: None,
+            marks,
+        };
+        let server = server_of(rt.alloc(), &task, cut, usize::MAX)?;
+        let end = End { server: &server };
+        let (answer, line) = load_remote::<Untold, _, _, _>(
+            rt.alloc(),
+            end,
+            end,
+            addr,
+            IMAGE,
+            8,
+            resumes,
+        );
+        expect_eq_at(&rt, &name, &answer, &wanted);
+        expect_eq_at(&rt, &name, &line.fault, &fault);
+        let server = server.into_inner();
+        expect_eq_at(&rt, &name, &server.calls_after, &0);
+        // Where no call was made, Q alone is sent.
+        let is_range = wanted == Err(ImageFault::Range);
+        expect_eq_at(&rt, &name, &(server.taken == 1), &is_range);
+    }
+    Ok(())
+}
+
+#[test]
+fn a_file_is_read_whole(rt: HostRuntime) -> Result<(), Fail> {
+    for (most, taken) in [(5, true), (6, true), (4, false), (0, false)] {
+        let mut file = IMAGE;
+        match read_file(rt.alloc(), &mut file, most) {
+            Ok(bytes) => {
+                expect_eq_at(&rt, &most, &bytes.as_slice(), &IMAGE);
+                expect_at(&rt, &most, taken);
+            }
+            Err(unread) => {
+                expect_eq_at(&rt, &most, &unread, &Unread::Consumer(FileFault::TooLong));
+                expect_at(&rt, &most, !taken);
+            }
+        }
+    }
+    for fails_at in 0..=IMAGE.len() {
+        let mut file = FailingReader::new(IMAGE, fails_at);
+        let read = read_file(rt.alloc(), &mut file, 5);
+        expect_eq_at(&rt, &fails_at, &read.err(), &Some(Unread::Reader));
+    }
+    let heap = LocalHeap::new(rt.alloc(), 16)?;
+    let mut file = [7u8; 64].as_slice();
+    let read = read_file(&heap, &mut file, 64);
+    expect_eq(&rt, &read.err(), &Some(Unread::Consumer(FileFault::Memory)));
+    Ok(())
+}
