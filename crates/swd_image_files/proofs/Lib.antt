@@ -1,0 +1,10 @@
+pub mod DigitLemmas
+pub mod FileLemmas
+pub mod ImageLemmas
+pub mod LineLemmas
+pub mod OverlapLemmas
+pub mod TextLemmas
+pub mod WrittenLemmas
+pub mod BackLemmas
+pub mod LawLemmas
+pub mod KindLemmas

@@ -1,0 +1,5 @@
+use Rattle.swd_image_files.proofs.LawLemmas.{reads_back}
+use Rattle.swd_image_files.proofs.laws.written_files_are_read.Goals as goal
+
+pub returns : goal.returns
+returns c = reads_back

@@ -1,0 +1,11 @@
+pub mod Formats
+pub mod Lines
+pub mod Digits
+pub mod Records
+pub mod Images
+pub mod Places
+pub mod Overlaps
+pub mod Files
+pub mod Readings
+pub mod Texts
+pub mod Laws

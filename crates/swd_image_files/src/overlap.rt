@@ -1,0 +1,34 @@
+//! Finds addresses that two pieces have.
+ghost use Rattle.std.specs.Prelude.{◌≡◌, ◌<◌, All, IfOk, MatchOption};
+ghost use Rattle.swd_image_files.specs.Overlaps.{AreApart, IsFirstTwice, IsSound, first_from};
+
+use crate::image::Range;
+use std::alloc::{AllocError, Allocator};
+
+/// Returns the lowest address that two ranges have, if there is one. Each range has at least one address.
+pub(crate) fn first_overlap<A: Allocator>(
+    alloc: A,
+    ranges: &[Range],
+) -> Result<Option<u32>, AllocError>
+    requires { All IsSound ranges.now }
+    ensures { IfOk result (λ found. MatchOption found (AreApart ranges.now) (IsFirstTwice ranges.now)) }
+{
+    let mut sorted = Vec::from_slice(alloc, ranges)?;
+    sorted.sort_unstable_by_key(|range| range.addr);
+    Ok(first_adjacent(&sorted))
+}
+
+// Returns the first address of a range that begins before the end of the range before it.
+fn first_adjacent(sorted: &[Range]) -> Option<u32>
+    requires { All IsSound sorted.now }
+    ensures { result ≡ first_from 0 sorted.now }
+{
+    let mut end = 0u64;
+    for range in sorted {
+        if (range.addr as u64) < end {
+            return Some(range.addr);
+        }
+        end = range.addr as u64 + range.len as u64;
+    }
+    None
+}

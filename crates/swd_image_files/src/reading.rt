@@ -1,0 +1,178 @@
+//! Collects the data of a file of records.
+ghost use Rattle.std.specs.Prelude.{◌≡◌, ◌+◌, ◌≤◌, ◌<◌, ◌^◌, ◌++◌, length, true, OnOk, IfErr, Ok, Err};
+ghost use Rattle.swd_image_files.specs.Images.{Contents, add_data, contents, joined, nothing};
+ghost use Rattle.swd_image_files.specs.Places.{fits as fits_in, start as start_in};
+ghost use Rattle.swd_image_files.specs.Places.{after_kind, after_data, after_line, with_kind, with_data, with_line};
+ghost use Rattle.swd_image_files.specs.Lines.{is_blank_line as is_blank_in};
+ghost use Rattle.swd_image_files.specs.Records.{IsWithin};
+
+use crate::fault::LineFlaw;
+use crate::image::{Image, Range};
+use crate::kind::{Kind, RecordFormat};
+use crate::line::{record_bytes, record_kind};
+use crate::place::{Place, field, fits, room, start};
+use std::alloc::{AllocError, Allocator};
+
+/// The data so far, unless memory ran out.
+#[derive(Drop)]
+pub(crate) struct Held<A: Allocator> {
+    pub(crate) image: Image<A>,
+    pub(crate) failed: bool,
+}
+
+impl<A: Allocator> Held<A> {
+    ghost use Rattle.swd_image_files.specs.Readings.{Holds};
+
+    /// Returns no data.
+    pub(crate) fn new(alloc: A) -> Held<A>
+    where
+        A: Copy,
+        ensures { Holds nothing result }
+    {
+        let image = Image {
+            ranges: Vec::new(alloc),
+            bytes: Vec::new(alloc),
+        };
+        Held {
+            image,
+            failed: false,
+        }
+    }
+
+    /// Appends bytes at an address. They join the last piece if they continue it.
+    pub(crate) fn add(&mut self, at: u64, bytes: &[u8])
+        requires { fits_in at (length bytes.now) ≡ true }
+        ensures { (old : Contents) → Holds old self.old → Holds (add_data old at bytes.now) self.new }
+    {
+        if bytes.is_empty() || self.failed {
+            return;
+        }
+        let Ok(()) = append(&mut self.image, at as u32, bytes) else {
+            self.failed = true;
+            return;
+        };
+    }
+}
+
+// Appends bytes at an address. After an error the image is unspecified.
+fn append<A: Allocator>(image: &mut Image<A>, addr: u32, bytes: &[u8]) -> Result<(), AllocError>
+    requires { addr + length bytes.now ≤ 2 ^ 32 }
+    ensures { OnOk result (contents image.new ≡ record {
+      ranges = joined image.old.ranges.items addr (length bytes.now);
+      bytes = image.old.bytes.items ++ bytes.now;
+    }) }
+{
+    image.bytes.extend_from_slice(bytes)?;
+    join(&mut image.ranges, addr, bytes.len())
+}
+
+// Appends a range, or extends the last one if the range continues it.
+fn join<A: Allocator>(ranges: &mut Vec<Range, A>, addr: u32, len: usize) -> Result<(), AllocError>
+    requires { addr + len ≤ 2 ^ 32 }
+    ensures { OnOk result (ranges.new.items ≡ joined ranges.old.items addr len) }
+{
+    let Some(last) = ranges.pop() else {
+        ranges.push(Range { addr, len })?;
+        return Ok(());
+    };
+    if last.addr <= addr && (addr - last.addr) as usize == last.len {
+        let len = last.len + len;
+        ranges.push(Range { len, ..last })?;
+        return Ok(());
+    }
+    ranges.push(last)?;
+    ranges.push(Range { addr, len })?;
+    Ok(())
+}
+
+/// The lines so far of a file of records.
+#[derive(Drop)]
+pub(crate) struct Reading<A: Allocator> {
+    pub(crate) place: Place,
+    pub(crate) held: Held<A>,
+}
+
+impl<A: Allocator> Reading<A> {
+    ghost use Rattle.swd_image_files.specs.Readings.{Holds};
+
+    /// Returns the state before the first line.
+    pub(crate) fn new(alloc: A, offset: u32) -> Reading<A>
+    where
+        A: Copy,
+        ensures place { result.place ≡ start_in offset }
+        ensures held { Holds nothing result.held }
+    {
+        Reading {
+            place: start(offset),
+            held: Held::new(alloc),
+        }
+    }
+
+    /// Takes a line without its line end. After an error the state is unspecified.
+    pub(crate) fn take_line(&mut self, records: RecordFormat, line: &[u8]) -> Result<(), LineFlaw>
+        ensures ok { OnOk result (after_line records self.old.place line.now ≡ Ok self.new.place) }
+        ensures held { OnOk result ((old : Contents) → Holds old self.old.held
+            → Holds (with_line records self.old.place line.now old) self.new.held) }
+        ensures err { IfErr result (λ flaw. after_line records self.old.place line.now ≡ Err flaw) }
+    {
+        if is_blank_line(line) {
+            return Ok(());
+        }
+        if self.place.ended {
+            return Err(LineFlaw::AfterEnd);
+        }
+        let bytes = record_bytes(records, line)?;
+        let kind = record_kind(records, &bytes)?;
+        self.take_kind(kind, &bytes)
+    }
+
+    // Takes a record with these bytes. After an error the state is unspecified.
+    fn take_kind(&mut self, kind: Kind, bytes: &[u8]) -> Result<(), LineFlaw>
+        requires { IsWithin (length bytes.now) kind }
+        ensures ok { OnOk result (after_kind self.old.place kind bytes.now ≡ Ok self.new.place) }
+        ensures held { OnOk result ((old : Contents) → Holds old self.old.held
+            → Holds (with_kind self.old.place kind bytes.now old) self.new.held) }
+        ensures err { IfErr result (λ flaw. after_kind self.old.place kind bytes.now ≡ Err flaw) }
+    {
+        match kind {
+            Kind::Data { addr, from } => return self.take_data(addr, field(bytes, from)),
+            Kind::Base { at, wraps } => {
+                self.place.base = at;
+                self.place.wraps = wraps;
+            }
+            Kind::Count(count) => {
+                if count as u64 != self.place.records {
+                    return Err(LineFlaw::BadCount);
+                }
+            }
+            Kind::End => self.place.ended = true,
+            Kind::Other => {}
+        }
+        Ok(())
+    }
+
+    // Takes the data of a record at an address, relative to the base.
+    fn take_data(&mut self, addr: u32, bytes: &[u8]) -> Result<(), LineFlaw>
+        ensures ok { OnOk result (after_data self.old.place addr (length bytes.now) ≡ Ok self.new.place) }
+        ensures held { OnOk result ((old : Contents) → Holds old self.old.held
+            → Holds (with_data self.old.place addr bytes.now old) self.new.held) }
+        ensures err { IfErr result (λ flaw. after_data self.old.place addr (length bytes.now) ≡ Err flaw) }
+    {
+        let base = self.place.offset as u64 + self.place.base as u64;
+        let (first, second) = bytes.split_at(room(self.place, addr, bytes.len()));
+        if !fits(base + addr as u64, first.len()) || !fits(base, second.len()) {
+            return Err(LineFlaw::Range);
+        }
+        self.held.add(base + addr as u64, first);
+        self.held.add(base, second);
+        self.place.records = self.place.records.saturating_add(1);
+        Ok(())
+    }
+}
+
+// Returns whether a line has only spaces and tabs.
+fn is_blank_line(line: &[u8]) -> bool
+    ensures { result ≡ is_blank_in line.now }
+{
+    line.iter().all(|byte| *byte == b' ' || *byte == b'\t')
+}

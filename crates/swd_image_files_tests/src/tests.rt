@@ -1,0 +1,7 @@
+//! Image files, read and written.
+
+mod expect;
+mod files;
+mod invalid;
+mod memory;
+mod writing;
