@@ -1,2 +1,4 @@
 pub mod WireLemmas
 pub mod RemoteLemmas
+pub mod PieceLemmas
+pub mod RemotePieceLemmas
