@@ -2,3 +2,4 @@ pub mod WireLemmas
 pub mod RemoteLemmas
 pub mod PieceLemmas
 pub mod RemotePieceLemmas
+pub mod ApartLemmas

@@ -3,3 +3,4 @@ pub mod Files
 pub mod Gathered
 pub mod Pieces
 pub mod RemotePieces
+pub mod Laws

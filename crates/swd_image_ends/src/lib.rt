@@ -3,6 +3,7 @@
 #![tactic(auto)]
 
 mod file;
+pub mod laws;
 mod pieces;
 mod remote;
 mod remote_pieces;
