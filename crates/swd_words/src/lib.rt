@@ -3,6 +3,7 @@
 
 mod command;
 mod decode_words;
+mod format_words;
 mod image_words;
 mod target_words;
 mod words;
