@@ -6,14 +6,14 @@ _swd() {
     if ((COMP_CWORD == 1)); then
         case $word in
         -*) words='--help --version -h -V' ;;
-        *) words='one decode encode run target help' ;;
+        *) words='one decode encode run target load verify dump help' ;;
         esac
         COMPREPLY=($(compgen -W "$words" -- "$word"))
         return
     fi
     case ${COMP_WORDS[1]} in
     help)
-        ((COMP_CWORD > 2)) || COMPREPLY=($(compgen -W 'one decode encode run target help' -- "$word"))
+        ((COMP_CWORD > 2)) || COMPREPLY=($(compgen -W 'one decode encode run target load verify dump help' -- "$word"))
         return
         ;;
     one)
@@ -31,6 +31,15 @@ _swd() {
     target)
         words='--plan --log --trace --help -h'
         ;;
+    load)
+        words='--format --tries --resume --remote --help -h'
+        ;;
+    verify)
+        words='--format --tries --resume --remote --help -h'
+        ;;
+    dump)
+        words='--format --tries --resume --remote --help -h'
+        ;;
     esac
     case $before in
     --log | --plan | --report | --trace)
@@ -38,6 +47,10 @@ _swd() {
         return
         ;;
     --resume | --tries)
+        return
+        ;;
+    --format)
+        COMPREPLY=($(compgen -W 'bin hex srec' -- "$word"))
         return
         ;;
     esac
