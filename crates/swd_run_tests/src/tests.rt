@@ -14,6 +14,7 @@ mod expect;
 mod faults;
 mod line;
 mod pair;
+mod pieces;
 mod recorded;
 mod refusals;
 mod remote;
