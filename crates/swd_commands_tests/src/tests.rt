@@ -18,6 +18,7 @@ mod accesses;
 mod calls;
 mod captures;
 mod expect;
+mod image_files;
 mod plan;
 mod remote;
 mod target;
@@ -62,6 +63,15 @@ impl<'a> Write for Page<'a> {
     }
 }
 
+// Five bytes from 20000002 on, and two from 20000011 on.
+const TWO_PIECES: &[u8] = b":020000042000DA\n:050002001122334455FA\n:02001100AABB88\n:00000001FF\n";
+
+// The same, with another checksum in line 3.
+const BAD_HEX: &[u8] = b":020000042000DA\n:050002001122334455FA\n:02001100AABB89\n:00000001FF\n";
+
+// Two bytes from 0 on, and one at 1.
+const TWICE_HEX: &[u8] = b":020000001122CB\n:0100010033CB\n:00000001FF\n";
+
 // Files, by their names.
 #[derive(Drop)]
 struct Shelf<'a> {
@@ -105,6 +115,11 @@ impl<'a> Files for Shelf<'a> {
             "trace" => Ok(file(name, DPIDR_READ)),
             "list" | "./-" => Ok(file(name, DPIDR_LINE)),
             "script" => Ok(file(name, SCRIPT)),
+            "two.hex" => Ok(file(name, TWO_PIECES)),
+            "bad.hex" => Ok(file(name, BAD_HEX)),
+            "twice.hex" => Ok(file(name, TWICE_HEX)),
+            "open.hex" => Ok(file(name, b"\n")),
+            "end" | "end.hex" | "end.IHX" => Ok(file(name, b":00000001FF\n")),
             "memory" => Ok(file(name, b"memory 20000000 16\n")),
             "quiet" => Ok(file(name, b"# nothing\n.\n")),
             "deaf" => Ok(file(name, b"deaf\n")),
