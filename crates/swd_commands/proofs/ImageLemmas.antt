@@ -1,9 +1,14 @@
 -- The bytes of a dump, as a list.
-use Rattle.std.proofs.Common.{◌≡◌, ℕ, List, Option, None, Some, Result, Ok, Err, subst}
+use Rattle.std.proofs.Common.{◌≡◌, ◌+◌, ◌≤◌, ◌%◌, ◌∙◌, ℕ, List, Option, None, Some, Result, Ok, Err, ap, length, subst}
+use Rattle.std.proofs.Common.{sym}
+use Rattle.std.specs.Prelude.{◌^◌}
 use Rattle.swd_port.specs.declared.call.Call.{Call}
 use Rattle.swd_port.specs.Port.{Port}
 use Rattle.swd_remote.specs.declared.remote.Fault.{Fault}
 use Rattle.swd_image.specs.declared.fault.ImageFault.{ImageFault}
+use Rattle.swd_image.proofs.DumpLemmas.{length_bytes}
+use Rattle.swd_image_files.specs.declared.format.Format.{Format}
+use Rattle.swd_image_files.specs.Texts.{file_of}
 use Rattle.swd_image_ends.specs.RemoteImages.{DumpsRemote}
 use Rattle.swd_commands.specs.Images.{IsDumped, IsWritten, reached}
 
@@ -19,18 +24,32 @@ dumps_list list story tries resumes addr Over count (Ok value) dumps = dumps
 dumps_list list story tries resumes addr Over count (Err fault) dumps = dumps
 
 -- the bytes were read, and then written
-pub dump_done : {V : Type 0} (list : V → List ℕ) (gone : Option Fault) (answer : Result V ImageFault) (value : V)
-    (status : ℕ) → Ok value ≡ reached gone answer → IsWritten status (list value)
-    → IsDumped (reached gone (with_list list answer)) status
-dump_done list (Some gone) (Ok v) value status is written = absurd cc
-dump_done list None (Ok v) value status is written =
+pub dump_done : {V : Type 0} (list : V → List ℕ) (format : Format) (addr : ℕ) (gone : Option Fault)
+    (answer : Result V ImageFault) (value : V) (status : ℕ) → Ok value ≡ reached gone answer
+    → IsWritten status (file_of format addr (list value))
+    → IsDumped format addr (reached gone (with_list list answer)) status
+dump_done list format addr (Some gone) (Ok v) value status is written = absurd cc
+dump_done list format addr None (Ok v) value status is written =
     let same : value ≡ v = cc in
-    subst (λ x. IsWritten status (list x)) same written
-dump_done list _ (Err fault) value status is written = absurd cc
+    subst (λ x. IsWritten status (file_of format addr (list x))) same written
+dump_done list format addr _ (Err fault) value status is written = absurd cc
+
+-- they lie below 2^32
+pub dump_fits : {V : Type 0} (list : V → List ℕ) (story : ℕ → Port) (tries resumes addr : ℕ) (Over : List Call → Type 0)
+    (count : ℕ) (gone : Option Fault) (answer : Result V ImageFault) (value : V) → Ok value ≡ reached gone answer
+    → DumpsRemote story tries resumes addr Over count answer list → addr + length (list value) ≤ 2 ^ 32
+dump_fits list story tries resumes addr Over count (Some gone) (Ok v) value is dumps = absurd cc
+dump_fits list story tries resumes addr Over count None (Ok v) value is dumps =
+    let same : value ≡ v = cc in
+    let d = dumps.1 in
+    let len : length (list v) ≡ count = ap length d.are ∙ length_bytes d.words (addr % 4) count in
+    subst (λ n. addr + n ≤ 2 ^ 32) (sym (ap (λ x. length (list x)) same ∙ len)) d.fits
+dump_fits list story tries resumes addr Over count _ (Err fault) value is dumps = absurd cc
 
 -- they weren't read
-pub dump_stopped : {V : Type 0} (list : V → List ℕ) (gone : Option Fault) (answer : Result V ImageFault) (error : ℕ)
-    → Err error ≡ reached gone answer → IsDumped (reached gone (with_list list answer)) error
-dump_stopped list (Some gone) (Ok v) error is = cc
-dump_stopped list None (Ok v) error is = absurd cc
-dump_stopped list _ (Err fault) error is = cc
+pub dump_stopped : {V : Type 0} (list : V → List ℕ) (format : Format) (addr : ℕ) (gone : Option Fault)
+    (answer : Result V ImageFault) (error : ℕ) → Err error ≡ reached gone answer
+    → IsDumped format addr (reached gone (with_list list answer)) error
+dump_stopped list format addr (Some gone) (Ok v) error is = cc
+dump_stopped list format addr None (Ok v) error is = absurd cc
+dump_stopped list format addr _ (Err fault) error is = cc

@@ -9,7 +9,12 @@ use Rattle.swd_remote.specs.WholeRuns.{IsUnused}
 use Rattle.swd_image.specs.declared.fault.ImageFault.{ImageFault}
 use Rattle.swd_image.specs.declared.fault.ImageFault.TheVariants.{Range, Memory, Stopped, BusFault as FaultAt}
 use Rattle.swd_image.specs.declared.verifying.ByteDifference.{ByteDifference}
-use Rattle.swd_image_ends.specs.RemoteImages.{DumpsRemote, LoadsRemote, VerifiesRemote}
+use Rattle.swd_image_files.specs.declared.format.Format.{Format}
+use Rattle.swd_image_files.specs.Files.{IsImage}
+use Rattle.swd_image_files.specs.Images.{Bytes, Contents, pieces_of}
+use Rattle.swd_image_files.specs.Texts.{file_of}
+use Rattle.swd_image_ends.specs.RemoteImages.{DumpsRemote}
+use Rattle.swd_image_ends.specs.RemotePieces.{LoadsPiecesRemote, VerifiesPiecesRemote}
 use Rattle.swd_words.specs.declared.command.ImageAction.{ImageAction}
 use Rattle.swd_words.specs.declared.command.ImageAction.TheVariants.{Load, Verify, Dump}
 use Rattle.swd_words.specs.declared.command.ImageLine.{ImageLine}
@@ -54,33 +59,39 @@ abbrev pub IsWritten : ℕ → List ℕ → Type 0
 IsWritten status bytes =
     (status ≡ 2) ⊎ ((old : Option (List ℕ)) × (new : Option (List ℕ)) × WritesBytes status old new bytes)
 
--- what was read is written to a file; at an error no file is changed
-abbrev pub IsDumped : Result (List ℕ) ℕ → ℕ → Type 0
-IsDumped (Ok bytes) status = IsWritten status bytes
-IsDumped (Err error) status = status ≡ error
+-- what was read is written to a file in its format; at an error no file is changed
+abbrev pub IsDumped : Format → ℕ → Result (List ℕ) ℕ → ℕ → Type 0
+IsDumped format addr (Ok bytes) status = IsWritten status (file_of format addr bytes)
+IsDumped format addr (Err error) status = status ≡ error
+
+-- The pieces of the image of a file, in its format. No contract knows the contents of a file.
+pub record ArePiecesOf (image : ImageLine) (pieces : List Bytes) : Type 0 where
+  pub file : List ℕ
+  pub whole : Contents
+  pub is : IsImage image.format image.addr file whole
+  pub are : pieces ≡ pieces_of whole.ranges whole.bytes
 
 module _ {R W : Type 0} (story : ℕ → Port) (image : ImageLine) (status : ℕ) (remaining : R → Option (List ℕ))
     (contents : W → Option (List ℕ)) (sent left : Option (List ℕ)) (line : Line R W) where
-  -- a file can't be read or opened: nothing was sent or read
+  -- a file can't be read or opened, or is no image: nothing was sent or read
   abbrev pub IsLeft : Type 0
   IsLeft = (status ≡ 2) × IsUnused remaining contents sent left line
 
-  -- The bytes of a file are loaded over a line. No contract knows the contents of a file. Only tests show that the line
-  -- is over the standard streams.
+  -- The pieces of a file are loaded over a line. Only tests show that the line is over the standard streams.
   abbrev pub PerformsLoad : Type 0
   PerformsLoad =
       IsLeft
-      ⊎ ((bytes : List ℕ) × (answer : Result (Unit {0}) ImageFault)
-      × LoadsRemote story image.tries image.resumes image.addr (WentOver remaining contents sent left line) bytes answer
+      ⊎ ((pieces : List Bytes) × (answer : Result (Unit {0}) ImageFault) × ArePiecesOf image pieces
+      × LoadsPiecesRemote story image.tries image.resumes (WentOver remaining contents sent left line) pieces answer
       × (status ≡ status_of_image status_of_loaded line.fault answer))
 
-  -- the memory is compared with the bytes of a file
+  -- the memory is compared with the pieces of a file
   abbrev pub PerformsVerify : Type 0
   PerformsVerify =
       IsLeft
-      ⊎ ((bytes : List ℕ) × (answer : Result (Option ByteDifference) ImageFault)
-      × VerifiesRemote story image.tries image.resumes image.addr (WentOver remaining contents sent left line) bytes
-      answer × (status ≡ status_of_image status_of_verified line.fault answer))
+      ⊎ ((pieces : List Bytes) × (answer : Result (Option ByteDifference) ImageFault) × ArePiecesOf image pieces
+      × VerifiesPiecesRemote story image.tries image.resumes (WentOver remaining contents sent left line) pieces answer
+      × (status ≡ status_of_image status_of_verified line.fault answer))
 
   -- `count` bytes of the memory are written to a file
   abbrev pub PerformsDump : ℕ → Type 0
@@ -88,7 +99,7 @@ module _ {R W : Type 0} (story : ℕ → Port) (image : ImageLine) (status : ℕ
       IsLeft
       ⊎ ((answer : Result (List ℕ) ImageFault)
       × DumpsRemote story image.tries image.resumes image.addr (WentOver remaining contents sent left line) count answer
-      (λ bytes. bytes) × IsDumped (reached line.fault answer) status)
+      (λ bytes. bytes) × IsDumped image.format image.addr (reached line.fault answer) status)
 
   -- what the arguments ask for
   abbrev pub PerformsAction : ImageAction → Type 0

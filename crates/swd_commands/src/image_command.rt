@@ -1,25 +1,26 @@
 //! Performs `swd load`, `swd verify` and `swd dump` at a remote target on the standard streams.
-ghost use Rattle.std.specs.Prelude.{◌≡◌, IfErr};
-ghost use Rattle.swd_commands.specs.Images.{IsWritten, PerformsDump, PerformsImage, PerformsLoad, PerformsVerify};
-ghost use Rattle.swd_commands.specs.Images.{WritesBytes, reached as reached_by, status_of_fault, status_of_image};
+ghost use Rattle.std.specs.Prelude.{◌≡◌};
+ghost use Rattle.swd_commands.specs.Images.{PerformsDump, PerformsImage, PerformsLoad, PerformsVerify};
+ghost use Rattle.swd_commands.specs.Images.{reached as reached_by, status_of_fault, status_of_image};
 ghost use Rattle.swd_commands.specs.Images.{status_of_loaded, status_of_verified};
 
+use crate::image_file::{read_image_file, write_image_file};
 use crate::open_files::Files;
 use crate::remote_command::gone_status;
-use crate::report::{DONE, STOPPED, cannot_open, engine_status, tell};
-use crate::trace::{open_image, open_plan};
+use crate::report::{DONE, STOPPED, cannot_open, engine_status};
+use crate::trace::open_image;
 use std::alloc::Global;
 use std::io::{Read, Write};
 use swd_image::{ByteDifference, ImageFault};
-use swd_image_ends::{dump_remote, load_remote, read_file, verify_remote};
-use swd_io::send;
+use swd_image_ends::{dump_remote, load_pieces_remote, verify_pieces_remote};
+use swd_image_files::Image;
 use swd_port::Story;
 use swd_remote::{Fault, Line};
 use swd_words::{ImageAction, ImageLine};
 
 /// Makes the one call of an image at the target behind the streams. Prints a line with the result on standard error.
-/// Returns the status and the connection. If the image's file can't be read, or a dump's can't be opened, the
-/// connection wasn't used.
+/// Returns the status and the connection. If the image's file can't be read or is no image, or a dump's can't
+/// be opened, the connection wasn't used.
 pub fn perform_image<P: Story, I: Read + Drop, F: Files, O: Write + Drop, E: Write>(
     alloc: Global,
     image: &ImageLine,
@@ -44,29 +45,7 @@ pub fn perform_image<P: Story, I: Read + Drop, F: Files, O: Write + Drop, E: Wri
     }
 }
 
-// Reads the file of an image. At an error it prints a line and returns the status 2.
-fn read_image<F: Files, E: Write>(
-    alloc: Global,
-    image: &ImageLine,
-    files: &F,
-    errors: &mut E,
-) -> Result<Vec<u8>, u8>
-    ensures { IfErr result (λ status. status ≡ 2) }
-{
-    let name = image.file.as_str();
-    // Standard input is the target's.
-    let mut opened = match open_plan(files, name, None) {
-        Ok(opened) => opened,
-        Err(why) => return Err(cannot_open(errors, name, &why)),
-    };
-    let most = (1 << 32) - image.addr as u64;
-    match read_file(alloc, &mut opened.file, most) {
-        Ok(bytes) => Ok(bytes),
-        Err(unread) => Err(engine_status(errors, Err(unread))),
-    }
-}
-
-// Loads the file's bytes.
+// Loads the file's pieces.
 fn perform_load<P: Story, I: Read + Drop, F: Files, O: Write + Drop, E: Write>(
     alloc: Global,
     image: &ImageLine,
@@ -78,25 +57,19 @@ fn perform_load<P: Story, I: Read + Drop, F: Files, O: Write + Drop, E: Write>(
     ensures { PerformsLoad P.at image.now result.0 I.remaining O.contents (O.contents output) (I.remaining input)
         result.1 }
 {
-    let bytes = match read_image(alloc, image, files, errors) {
-        Ok(bytes) => bytes,
+    let whole = match read_image_file(alloc, image, files, errors) {
+        Ok(whole) => whole,
         Err(status) => return (status, Line::unused(input, output)),
     };
     let (tries, resumes) = (image.tries, image.resumes);
-    let (answer, line) = load_remote::<P, _, _, _>(
-        alloc,
-        input,
-        output,
-        image.addr,
-        bytes.as_slice(),
-        tries,
-        resumes,
+    let (answer, line) = load_pieces_remote::<P, _, _, _>(
+        alloc, input, output, &whole, tries, resumes,
     );
-    let status = loaded_status(errors, answer, line.fault, image.addr, bytes.len());
+    let status = loaded_status(errors, answer, line.fault, image.addr, &whole);
     (status, line)
 }
 
-// Compares the memory with the file's bytes.
+// Compares the memory with the file's pieces.
 fn perform_verify<P: Story, I: Read + Drop, F: Files, O: Write + Drop, E: Write>(
     alloc: Global,
     image: &ImageLine,
@@ -108,21 +81,15 @@ fn perform_verify<P: Story, I: Read + Drop, F: Files, O: Write + Drop, E: Write>
     ensures { PerformsVerify P.at image.now result.0 I.remaining O.contents (O.contents output) (I.remaining input)
         result.1 }
 {
-    let bytes = match read_image(alloc, image, files, errors) {
-        Ok(bytes) => bytes,
+    let whole = match read_image_file(alloc, image, files, errors) {
+        Ok(whole) => whole,
         Err(status) => return (status, Line::unused(input, output)),
     };
     let (tries, resumes) = (image.tries, image.resumes);
-    let (answer, line) = verify_remote::<P, _, _, _>(
-        alloc,
-        input,
-        output,
-        image.addr,
-        bytes.as_slice(),
-        tries,
-        resumes,
+    let (answer, line) = verify_pieces_remote::<P, _, _, _>(
+        alloc, input, output, &whole, tries, resumes,
     );
-    let status = verified_status(errors, answer, line.fault, image.addr, bytes.len());
+    let status = verified_status(errors, answer, line.fault, image.addr, &whole);
     (status, line)
 }
 
@@ -156,40 +123,26 @@ fn perform_dump<P: Story, I: Read + Drop, F: Files, O: Write + Drop, E: Write>(
     );
     match reached(errors, answer, line.fault) {
         Ok(bytes) => {
-            let status = write_image(errors, files, &mut file, image, bytes.as_slice());
+            let status = write_image_file(errors, files, &mut file, image, bytes.as_slice());
             (status, line)
         }
         Err(status) => (status, line),
     }
 }
 
-// Truncates the file of a dump, and writes the bytes. Returns the status: 0 or 2.
-fn write_image<F: Files, E: Write>(
-    errors: &mut E,
-    files: &F,
-    file: &mut F::Made,
-    image: &ImageLine,
-    bytes: &[u8],
-) -> u8
-    ensures { IsWritten result bytes.now }
-{
-    if let Err(why) = files.cut_off(file) {
-        return cannot_open(errors, image.file.as_str(), &why);
-    }
-    write_bytes(errors, file, image.addr, bytes)
-}
-
-// Writes the bytes of a dump, and prints a line with the result. Returns the status: 0 or 2.
-fn write_bytes<M: Write, E: Write>(errors: &mut E, file: &mut M, addr: u32, bytes: &[u8]) -> u8
-    ensures { WritesBytes result (M.contents file.old) (M.contents file.new) bytes.now }
-{
-    match send(file, bytes) {
-        Ok(()) => {
-            let _ = writeln!(errors, "swd: dumped {} bytes at {addr:08x}", bytes.len());
-            DONE
-        }
-        Err(_) => tell(errors, "write failed"),
-    }
+// Prints how many bytes were loaded or verified, and where. `offset` stands for the address of an image without bytes.
+fn tell_done<E: Write>(errors: &mut E, done: &str, offset: u32, whole: &Image<Global>) {
+    let count = whole.bytes.len();
+    let pieces = whole.ranges.len();
+    let addr = match whole.ranges.first() {
+        Some(range) => range.addr,
+        None => offset,
+    };
+    let _ = if pieces > 1 {
+        writeln!(errors, "swd: {done} {count} bytes in {pieces} pieces")
+    } else {
+        writeln!(errors, "swd: {done} {count} bytes at {addr:08x}")
+    };
 }
 
 // Returns the status of a load, and prints a line with its result.
@@ -197,14 +150,14 @@ fn loaded_status<E: Write>(
     errors: &mut E,
     answer: Result<(), ImageFault>,
     gone: Option<Fault>,
-    addr: u32,
-    count: usize,
+    offset: u32,
+    whole: &Image<Global>,
 ) -> u8
     ensures { result ≡ status_of_image status_of_loaded gone answer }
 {
     match reached(errors, answer, gone) {
         Ok(()) => {
-            let _ = writeln!(errors, "swd: loaded {count} bytes at {addr:08x}");
+            tell_done(errors, "loaded", offset, whole);
             DONE
         }
         Err(status) => status,
@@ -216,14 +169,14 @@ fn verified_status<E: Write>(
     errors: &mut E,
     answer: Result<Option<ByteDifference>, ImageFault>,
     gone: Option<Fault>,
-    addr: u32,
-    count: usize,
+    offset: u32,
+    whole: &Image<Global>,
 ) -> u8
     ensures { result ≡ status_of_image status_of_verified gone answer }
 {
     match reached(errors, answer, gone) {
         Ok(None) => {
-            let _ = writeln!(errors, "swd: verified {count} bytes at {addr:08x}");
+            tell_done(errors, "verified", offset, whole);
             DONE
         }
         Ok(Some(difference)) => {

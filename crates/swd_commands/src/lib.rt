@@ -5,6 +5,7 @@
 mod decode_command;
 mod draw_command;
 mod image_command;
+mod image_file;
 mod open_files;
 mod program;
 mod remote_command;

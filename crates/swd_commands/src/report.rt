@@ -55,6 +55,14 @@ pub fn cannot_open<E: Write>(errors: &mut E, name: &str, why: &io::Error) -> u8
     FAULT
 }
 
+/// Prints what is wrong with the contents of a file, and returns the status 2.
+pub fn cannot_use<E: Write, F: Display>(errors: &mut E, name: &str, why: &F) -> u8
+    ensures { result ≡ 2 }
+{
+    let _ = writeln!(errors, "swd: {}: {why}", Shown(name));
+    FAULT
+}
+
 /// Prints the error of `swd one`, if there is one, and returns the status: 0 or 2.
 pub fn one_status<E: Write>(errors: &mut E, answer: Result<(), OneFault>) -> u8
     ensures { result ≡ status_of (is_ok answer) }

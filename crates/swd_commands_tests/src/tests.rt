@@ -19,6 +19,7 @@ mod calls;
 mod captures;
 mod drawings;
 mod expect;
+mod image_files;
 mod images;
 mod plan;
 mod remote;
@@ -63,6 +64,15 @@ impl<'a> Write for Page<'a> {
         Ok(())
     }
 }
+
+// Five bytes from 20000002 on, and two from 20000011 on.
+const TWO_PIECES: &[u8] = b":020000042000DA\n:050002001122334455FA\n:02001100AABB88\n:00000001FF\n";
+
+// The same, with another checksum in line 3.
+const BAD_HEX: &[u8] = b":020000042000DA\n:050002001122334455FA\n:02001100AABB89\n:00000001FF\n";
+
+// Two bytes from 0 on, and one at 1.
+const TWICE_HEX: &[u8] = b":020000001122CB\n:0100010033CB\n:00000001FF\n";
 
 // Files, by their names.
 #[derive(Drop)]
@@ -109,6 +119,11 @@ impl<'a> Files for Shelf<'a> {
             "script" => Ok(file(name, SCRIPT)),
             "image" => Ok(file(name, b"12345")),
             "empty" => Ok(file(name, b"")),
+            "two.hex" => Ok(file(name, TWO_PIECES)),
+            "bad.hex" => Ok(file(name, BAD_HEX)),
+            "twice.hex" => Ok(file(name, TWICE_HEX)),
+            "open.hex" => Ok(file(name, b"\n")),
+            "end" | "end.hex" | "end.IHX" => Ok(file(name, b":00000001FF\n")),
             "memory" => Ok(file(name, b"memory 20000000 16\n")),
             "awaiting" => Ok(file(name, b"memory 20000000 16\nuntil 20000000 1 1 3\n")),
             "quiet" => Ok(file(name, b"# nothing\n.\n")),

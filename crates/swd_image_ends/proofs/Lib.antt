@@ -1,2 +1,5 @@
 pub mod WireLemmas
 pub mod RemoteLemmas
+pub mod PieceLemmas
+pub mod RemotePieceLemmas
+pub mod ApartLemmas

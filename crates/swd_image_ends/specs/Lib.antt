@@ -1,3 +1,6 @@
 pub mod RemoteImages
 pub mod Files
 pub mod Gathered
+pub mod Pieces
+pub mod RemotePieces
+pub mod Laws

@@ -3,7 +3,12 @@
 #![tactic(auto)]
 
 mod file;
+pub mod laws;
+mod pieces;
 mod remote;
+mod remote_pieces;
 
 pub use file::{FileFault, read_file};
+pub use pieces::{load_pieces, verify_pieces};
 pub use remote::{dump_remote, load_remote, verify_remote};
+pub use remote_pieces::{load_pieces_remote, verify_pieces_remote};

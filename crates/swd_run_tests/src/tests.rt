@@ -16,6 +16,7 @@ mod faults;
 mod images;
 mod line;
 mod pair;
+mod pieces;
 mod recorded;
 mod refusals;
 mod remote;

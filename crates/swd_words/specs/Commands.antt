@@ -18,6 +18,8 @@ use Rattle.swd_words.specs.declared.command.RunLine.{RunLine}
 use Rattle.swd_words.specs.declared.command.TargetLine.{TargetLine}
 use Rattle.swd_words.specs.declared.command.LineFault.{LineFault}
 use Rattle.swd_words.specs.declared.command.LineFault.TheVariants.{Clap, Memory}
+use Rattle.swd_image_files.specs.declared.format.Format.{Format}
+use Rattle.swd_image_files.specs.Formats.{format_of_name, format_of_word}
 use Rattle.swd_script.specs.Numerals.{decimal_of, hex_of}
 use Rattle.clap.specs.declared.error.kind.ErrorKind.{ErrorKind}
 use Rattle.clap.specs.declared.builder.action.ArgAction.TheVariants.{SetTrue}
@@ -168,9 +170,14 @@ bytes_rule = let rule = new_rule (codes "BYTES") in record rule { required = tru
 abbrev pub image_rule : Rule
 image_rule = let rule = new_rule (codes "FILE") in record rule { required = true }
 
+-- the format of an image's file, after --format
+abbrev pub format_rule : Rule
+format_rule = let rule = new_rule (codes "format") in record rule { long = Some (codes "format"); value_names = 1 }
+
 -- the options of each command over an image
 abbrev pub with_image_options : App → App
-with_image_options app = with_rule (with_rule (with_rule app tries_rule) resume_rule) remote_rule
+with_image_options app =
+    with_rule (with_rule (with_rule (with_rule app format_rule) tries_rule) resume_rule) remote_rule
 
 -- the commands `load` and `verify`
 abbrev pub over_image : Text → App
@@ -251,8 +258,13 @@ IsActionOf Verify name rows = name ≡ codes "verify"
 IsActionOf (Dump count) name rows =
     (name ≡ codes "dump") × (Some count ≡ option_and_then decimal_of (first_of (codes "BYTES") rows))
 
--- the action, the address of 1 to 8 hexadecimal digits after an optional 0x, the file and the two numbers that the
--- arguments name; --remote is among them
+-- the format of an image's file is that of the word after --format, and without it that of the file's name
+abbrev pub IsFormatOf : Format → Text → Option Text → Type 0
+IsFormatOf format file None = format ≡ format_of_name file
+IsFormatOf format file (Some word) = Some format ≡ format_of_word word
+
+-- the action, the address of 1 to 8 hexadecimal digits after an optional 0x, the file with its format and the two
+-- numbers that the arguments name; --remote is among them
 pub record IsImageOf (image : ImageLine) (name : Text) (rows : List Row) : Type 0 where
   pub action : IsActionOf image.action name rows
   pub addr : Some image.addr ≡ option_and_then (λ text. hex_of text) (first_of (codes "ADDR") rows)
@@ -260,6 +272,7 @@ pub record IsImageOf (image : ImageLine) (name : Text) (rows : List Row) : Type 
   pub tries : AreTries image.tries (first_of (codes "tries") rows)
   pub resumes : AreResumes image.resumes (first_of (codes "resume") rows)
   pub remote : first_of (codes "remote") rows ≡ Some (codes "true")
+  pub format : IsFormatOf image.format (string_bytes image.file) (first_of (codes "format") rows)
 
 -- an error of this kind, or out of memory
 abbrev pub IsOfKind : ErrorKind → LineFault → Type 0

@@ -1,5 +1,6 @@
 //! The commands of the command line.
 use clap::Error;
+use swd_image_files::Format;
 
 /// A command of the program, with its arguments.
 #[derive(Drop)]
@@ -18,8 +19,8 @@ pub enum Line {
     Run(RunLine),
     /// `swd target SCRIPT [--plan FILE] [--log FILE] [--trace FILE]`.
     Target(TargetLine),
-    /// `swd load ADDR FILE --remote [--tries N] [--resume N]`, the same with `verify`, or
-    /// `swd dump ADDR BYTES FILE --remote [--tries N] [--resume N]`.
+    /// `swd load ADDR FILE --remote [--format FORMAT] [--tries N] [--resume N]`, the same with `verify`, or
+    /// `swd dump ADDR BYTES FILE --remote [--format FORMAT] [--tries N] [--resume N]`.
     Image(ImageLine),
 }
 
@@ -106,10 +107,13 @@ pub enum ImageAction {
 #[derive(Drop)]
 pub struct ImageLine {
     pub action: ImageAction,
-    /// The address of the first byte.
+    /// The address of the first byte. For a load or a verification of a file that has addresses, the number that is
+    /// added to each of them.
     pub addr: u32,
     /// The file of the bytes. For a dump it is overwritten.
     pub file: String,
+    /// The format of the file: that of `--format`, or of its name.
+    pub format: Format,
     /// The number of events that an access may meet, at most 1,000.
     pub tries: u32,
     /// How often a call is resumed after a lost acknowledgement, at most 1,000 times.

@@ -8,6 +8,7 @@ ghost use Rattle.swd_words.specs.Commands.{addr_rule, bytes_rule, dump_app, imag
 ghost use Rattle.swd_words.specs.Commands.{with_image_options, with_images as images_of, IsActionOf, IsImageOf};
 
 use crate::command::{ImageAction, ImageLine, LineFault};
+use crate::format_words::{FORMAT_FORM, format_arg, format_in};
 use crate::words::{
     RESUMES_RANGE, TRIES_RANGE, is_asked_for, owned, refused, remote_arg, resume_arg, resumes_in,
     tries_arg, tries_in, unknown, with_arg, with_sub,
@@ -20,16 +21,25 @@ use swd_script::{decimal_of, hex_of};
 const LOAD_ABOUT: &str = "Load a file into a target's memory";
 
 const LOAD_AFTER: &str = "\
-FILE is the bytes themselves. ADDR is 1 to 8 hexadecimal digits, after an
-optional 0x, and need not be a multiple of 4. The bytes of a word are the least
-significant first. Words of which FILE has only some bytes are read first, so
-that their other bytes keep their values.
+FILE is Intel HEX (hex) if its name ends in .hex, .ihex or .ihx, S-records
+(srec) if it ends in .srec, .s19, .s28, .s37 or .mot, and otherwise the bytes
+themselves (bin). --format overrides its name.
+
+ADDR is 1 to 8 hexadecimal digits, after an optional 0x, and need not be a
+multiple of 4. It is the address of a bin file. To each address of a hex or srec
+file it is added, so 0 leaves these as they are.
+
+The pieces of FILE are loaded in its order, over one connection. The bytes of a
+word are the least significant first. Words of which FILE has only some bytes
+are read first, so that their other bytes keep their values.
 
 With --remote the standard streams connect to a server of OpenOCD's
 remote_bitbang protocol for SWD, such as swd target.
 
-A line on standard error has the result:
+A line on standard error has the result, or the first error of FILE:
   swd: loaded 65536 bytes at 20000000
+  swd: loaded 1234 bytes in 3 pieces
+  swd: image.hex: line 3: wrong checksum
 
 Status: 0 if all was loaded, 1 if the run ended early, an access met a bus error
 or the other end went away, 2 at an error.";
@@ -37,11 +47,13 @@ or the other end went away, 2 at an error.";
 const VERIFY_ABOUT: &str = "Compare a target's memory with a file";
 
 const VERIFY_AFTER: &str = "\
-FILE is the bytes themselves, and ADDR as for swd load. With --remote the target
-is on the standard streams, as for swd load.
+FILE and ADDR are as for swd load. With --remote the target is on the standard
+streams, as for swd load. The pieces of FILE are read and compared in its order,
+up to the first one that differs.
 
 A line on standard error has the result, or the first byte that differs:
   swd: verified 65536 bytes at 20000000
+  swd: verified 1234 bytes in 3 pieces
   swd: 20000010 has 3f, not 00
 
 Status: 0 if all bytes are equal, 1 if a byte differs, the run ended early, an
@@ -50,8 +62,10 @@ access met a bus error or the other end went away, 2 at an error.";
 const DUMP_ABOUT: &str = "Dump a target's memory to a file";
 
 const DUMP_AFTER: &str = "\
-BYTES is 1 to 10 decimal digits, and ADDR as for swd load. With --remote the
-target is on the standard streams, as for swd load.
+BYTES is 1 to 10 decimal digits, and ADDR 1 to 8 hexadecimal digits, after an
+optional 0x. With --remote the target is on the standard streams, as for swd
+load. FILE has the format of its name or of --format, as for swd load. In a hex
+or srec file the addresses are the target's.
 
 FILE is overwritten once all bytes are read; otherwise it is unchanged. A line
 on standard error has the result:
@@ -73,7 +87,7 @@ fn addr_arg<'a>(alloc: Global) -> Arg<'a>
 {
     Arg::new(alloc, "ADDR")
         .required(true)
-        .help("The address of the first byte, hexadecimal")
+        .help("The address of the first byte, or an offset; hexadecimal")
 }
 
 // Returns the required argument for the number of bytes.
@@ -100,7 +114,8 @@ fn with_options<'a>(alloc: Global, command: Command<'a>) -> Result<Command<'a>, 
     ensures app { IfOk result (λ c. app_of c ≡ with_image_options (app_of command.entry)) }
     ensures local { IfOk result (λ c. (out-Command c).has_globals ≡ false) }
 {
-    let tries = with_arg(command, tries_arg(alloc))?;
+    let format = with_arg(command, format_arg(alloc))?;
+    let tries = with_arg(format, tries_arg(alloc))?;
     let resume = with_arg(tries, resume_arg(alloc))?;
     with_arg(resume, remote_arg(alloc))
 }
@@ -217,10 +232,14 @@ pub(crate) fn image_line(
         let kind = ErrorKind::MissingRequiredArgument;
         return Err(refused(alloc, kind, NO_TARGET));
     }
+    let Some(format) = format_in(matches.get_str("format"), file.as_str()) else {
+        return Err(refused(alloc, ErrorKind::InvalidValue, FORMAT_FORM));
+    };
     Ok(ImageLine {
         action,
         addr,
         file,
+        format,
         tries,
         resumes,
     })

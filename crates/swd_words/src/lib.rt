@@ -4,6 +4,7 @@
 mod command;
 mod decode_words;
 mod draw_words;
+mod format_words;
 mod image_words;
 mod target_words;
 mod words;

@@ -1,8 +1,21 @@
-use Rattle.std.proofs.Common.{inr, subst}
+use Rattle.std.proofs.Common.{◌+◌, ◌≤◌, inr, length, subst, sym}
+use Rattle.std.specs.Prelude.{◌^◌}
+use Rattle.swd_image_files.specs.Texts.{file_of}
 use Rattle.swd_commands.specs.Images.{IsWritten}
 use Rattle.swd_commands.specs.Remotes.{WentOver}
-use Rattle.swd_commands.proofs.ImageLemmas.{dump_done, dump_stopped, dumps_list, with_list}
+use Rattle.swd_commands.proofs.ImageLemmas.{dump_done, dump_fits, dump_stopped, dumps_list, with_list}
 use Rattle.swd_commands.proofs.image_command.perform_dump.Goals as goal
+
+pub write_image_file-status-requires : goal.write_image_file-status-requires
+write_image_file-status-requires g c =
+    let answer = c.dump_remote-answer.result.0 in
+    let line = c.dump_remote-answer.result.1 in
+    let Over = WentOver g.I.Read.remaining g.O.Write.contents (g.O.Write.contents c.args.output)
+    (g.I.Read.remaining c.args.input) line in
+    let image = c.args.image.now in
+    subst (λ l. image.addr + length l ≤ 2 ^ 32) (sym c.as_slice.ensures.value)
+    (dump_fits (λ v. v.items) g.P.Story.at image.tries image.resumes image.addr Over c.args.count line.fault answer
+    c.in-Ok-reached.bytes c.in-Ok-reached.ensures c.dump_remote-answer.ensures)
 
 pub returns-in-Ok-reached : goal.returns-in-Ok-reached
 returns-in-Ok-reached g c =
@@ -15,9 +28,10 @@ returns-in-Ok-reached g c =
       with_list (λ v. v.items) answer,
       dumps_list (λ v. v.items) g.P.Story.at image.tries image.resumes image.addr Over c.args.count answer
           c.dump_remote-answer.ensures,
-      dump_done (λ v. v.items) line.fault answer c.in-Ok-reached.bytes c.write_image-status.result
-          c.in-Ok-reached.ensures
-          (subst (IsWritten c.write_image-status.result) c.as_slice.ensures.value c.write_image-status.ensures),
+      dump_done (λ v. v.items) image.format image.addr line.fault answer c.in-Ok-reached.bytes
+          c.write_image_file-status.result c.in-Ok-reached.ensures
+          (subst (λ l. IsWritten c.write_image_file-status.result (file_of image.format image.addr l))
+          c.as_slice.ensures.value c.write_image_file-status.ensures),
     )
 
 pub returns : goal.returns
@@ -31,5 +45,5 @@ returns g c =
       with_list (λ v. v.items) answer,
       dumps_list (λ v. v.items) g.P.Story.at image.tries image.resumes image.addr Over c.args.count answer
           c.dump_remote-answer.ensures,
-      dump_stopped (λ v. v.items) line.fault answer c.in-Err-reached.status c.in-Err-reached.ensures,
+      dump_stopped (λ v. v.items) image.format image.addr line.fault answer c.in-Err-reached.status c.in-Err-reached.ensures,
     )

@@ -1,10 +1,12 @@
 use Rattle.std.proofs.Common.{inr}
+use Rattle.swd_image_ends.specs.Pieces.{pieces_in}
 use Rattle.swd_commands.proofs.image_command.perform_load.Goals as goal
 
 pub returns : goal.returns
 returns g c = inr (
-  c.as_slice.result.now,
-  c.load_remote-answer.result.0,
-  c.load_remote-answer.ensures,
+  pieces_in c.in-Ok.whole,
+  c.load_pieces_remote-answer.result.0,
+  c.in-Ok.ensures.pieces,
+  c.load_pieces_remote-answer.ensures,
   c.loaded_status-status.ensures,
 )

@@ -1,10 +1,10 @@
 use Rattle.std.proofs.Common.{◌∙◌, ◌≡◌, ◌↔◌, Option, Some, true, sym, ap, subst, codes}
 use Rattle.std.specs.Option.{option_and_then, option_map}
 use Rattle.std.specs.String.{string_bytes}
-use Rattle.clap.specs.Words.{Text, found_of}
+use Rattle.clap.specs.Words.{Text, first_of, found_of, rows_of}
 use Rattle.clap.proofs.WalkLemmas.{first_value-rows}
 use Rattle.swd_script.specs.Numerals.{hex_of}
-use Rattle.swd_words.specs.Commands.{AreResumes, AreTries}
+use Rattle.swd_words.specs.Commands.{AreResumes, AreTries, IsFormatOf}
 use Rattle.swd_words.proofs.image_words.image_line.Goals as goal
 
 pub returns : goal.returns
@@ -24,4 +24,9 @@ returns c = record {
   remote = ((subst (λ (word : Option Text). (c.is_asked_for.result ≡ true) ↔ (word ≡ Some (codes "true")))
       (c.get_str-5.ensures ∙ first_value-rows (found_of c.args.matches.now) (codes "remote")) c.is_asked_for.ensures).0)
       (search);
+  format = subst (λ (file : Text). IsFormatOf c.in-Some-format_in.format file
+      (first_of (codes "format") (rows_of (found_of c.args.matches.now)))) c.as_str.ensures.value
+      (subst (λ (word : Option Text). IsFormatOf c.in-Some-format_in.format c.as_str.result.now word)
+      (c.get_str-6.ensures ∙ first_value-rows (found_of c.args.matches.now) (codes "format"))
+      c.in-Some-format_in.ensures);
 }

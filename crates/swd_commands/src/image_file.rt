@@ -1,0 +1,85 @@
+//! Reads and writes the files of images.
+ghost use Rattle.std.specs.Prelude.{◌≡◌, ◌+◌, ◌≤◌, ◌^◌, IfErr, IfOk, length};
+ghost use Rattle.swd_image_ends.specs.Pieces.{pieces_in};
+ghost use Rattle.swd_image_files.specs.Texts.{file_of};
+ghost use Rattle.swd_commands.specs.Images.{ArePiecesOf, IsWritten, WritesBytes};
+
+use crate::open_files::Files;
+use crate::report::{DONE, cannot_open, cannot_use, engine_status, tell};
+use crate::trace::open_plan;
+use std::alloc::Global;
+use std::io::Write;
+use swd_image_ends::read_file;
+use swd_image_files::{Format, Image, read_image, write_image};
+use swd_words::ImageLine;
+
+// Returns the most bytes that the file of an image may have: a binary ends at ffffffff.
+fn most_bytes(image: &ImageLine) -> u64 {
+    match image.format {
+        Format::Binary => (1 << 32) - image.addr as u64,
+        Format::IntelHex | Format::SRecord => u64::MAX,
+    }
+}
+
+/// Reads the file of an image, in its format. At an error it prints a line and returns the status 2.
+pub fn read_image_file<F: Files, E: Write>(
+    alloc: Global,
+    image: &ImageLine,
+    files: &F,
+    errors: &mut E,
+) -> Result<Image<Global>, u8>
+    ensures pieces { IfOk result (λ whole. ArePiecesOf image.now (pieces_in whole)) }
+    ensures status { IfErr result (λ status. status ≡ 2) }
+{
+    let name = image.file.as_str();
+    // Standard input is the target's.
+    let mut opened = match open_plan(files, name, None) {
+        Ok(opened) => opened,
+        Err(why) => return Err(cannot_open(errors, name, &why)),
+    };
+    let bytes = match read_file(alloc, &mut opened.file, most_bytes(image)) {
+        Ok(bytes) => bytes,
+        Err(unread) => return Err(engine_status(errors, Err(unread))),
+    };
+    match read_image(alloc, image.format, bytes.as_slice(), image.addr) {
+        Ok(whole) => Ok(whole),
+        Err(fault) => Err(cannot_use(errors, name, &fault)),
+    }
+}
+
+/// Truncates the file of a dump, and writes the bytes in its format. Returns the status: 0 or 2.
+pub fn write_image_file<F: Files, E: Write>(
+    errors: &mut E,
+    files: &F,
+    file: &mut F::Made,
+    image: &ImageLine,
+    bytes: &[u8],
+) -> u8
+    requires { image.now.addr + length bytes.now ≤ 2 ^ 32 }
+    ensures { IsWritten result (file_of image.now.format image.now.addr bytes.now) }
+{
+    if let Err(why) = files.cut_off(file) {
+        return cannot_open(errors, image.file.as_str(), &why);
+    }
+    write_bytes(errors, file, image.format, image.addr, bytes)
+}
+
+// Writes the bytes of a dump in a format, and prints a line with the result. Returns the status: 0 or 2.
+fn write_bytes<M: Write, E: Write>(
+    errors: &mut E,
+    file: &mut M,
+    format: Format,
+    addr: u32,
+    bytes: &[u8],
+) -> u8
+    requires { addr + length bytes.now ≤ 2 ^ 32 }
+    ensures { WritesBytes result (M.contents file.old) (M.contents file.new) (file_of format addr bytes.now) }
+{
+    match write_image(format, addr, bytes, file) {
+        Ok(()) => {
+            let _ = writeln!(errors, "swd: dumped {} bytes at {addr:08x}", bytes.len());
+            DONE
+        }
+        Err(_) => tell(errors, "write failed"),
+    }
+}

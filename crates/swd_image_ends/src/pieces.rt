@@ -1,0 +1,70 @@
+//! Loads and verifies images of several pieces over any wire.
+ghost use Rattle.std.specs.Prelude.{◌≡◌, IfErr, IfOk, OnOk};
+ghost use Rattle.swd_port.specs.declared.wire.Due.TheVariants.{Nothing};
+ghost use Rattle.swd_image_ends.specs.Pieces.{LoadFailsAt, LoadsAll, VerifiesAll, VerifyFailsAt, pieces_in};
+
+use std::alloc::Allocator;
+use swd_image::{ByteDifference, ImageFault, load, verify};
+use swd_image_files::Image;
+use swd_port::Wire;
+
+/// Loads the pieces of an image in their order, each by `swd_image::load`, over a wire on which nothing is due.
+///
+/// Over a target that conforms to the model and was at rest, the memory contains each piece after a load that succeeds.
+/// If two pieces have an address, it contains the later one's byte. All other memory is unchanged then.
+///
+/// # Errors
+///
+/// Returns the error of the first piece that fails. The pieces before it were loaded, and for those after it no call was
+/// made.
+pub fn load_pieces<W: Wire, A: Allocator + Copy>(
+    alloc: A,
+    wire: &mut W,
+    image: &Image<A>,
+    tries: u32,
+    resumes: u32,
+) -> Result<(), ImageFault>
+    requires { (W.port wire.old).link.due ≡ Nothing }
+    ensures loads { OnOk result (LoadsAll W.port W.plan W.lawful tries resumes (pieces_in image.now) wire.old wire.new) }
+    ensures due { OnOk result ((W.port wire.new).link.due ≡ Nothing) }
+    ensures fault { IfErr result (LoadFailsAt W.port W.plan W.lawful tries resumes (pieces_in image.now) wire.old
+        wire.new) }
+    ensures plan { W.plan wire.new ≡ W.plan wire.old }
+{
+    for piece in image.pieces() {
+        load(alloc, wire, piece.addr, piece.bytes, tries, resumes)?;
+    }
+    Ok(())
+}
+
+/// Compares the memory with the pieces of an image in their order, each by `swd_image::verify`, up to the first one that
+/// differs. Returns the first byte of it that differs, or `None` if all are equal.
+///
+/// Over a target that conforms to the model and was at rest, the result holds for the bytes of its memory.
+///
+/// # Errors
+///
+/// Returns the error of the first piece that fails. The pieces before it are equal, and for those after it no call was
+/// made.
+pub fn verify_pieces<W: Wire, A: Allocator + Copy>(
+    alloc: A,
+    wire: &mut W,
+    image: &Image<A>,
+    tries: u32,
+    resumes: u32,
+) -> Result<Option<ByteDifference>, ImageFault>
+    requires { (W.port wire.old).link.due ≡ Nothing }
+    ensures verifies { IfOk result (λ difference. VerifiesAll W.port W.plan W.lawful tries resumes (pieces_in image.now)
+        difference wire.old wire.new) }
+    ensures due { IfOk result (λ difference. (W.port wire.new).link.due ≡ Nothing) }
+    ensures fault { IfErr result (VerifyFailsAt W.port W.plan W.lawful tries resumes (pieces_in image.now) wire.old
+        wire.new) }
+    ensures plan { W.plan wire.new ≡ W.plan wire.old }
+{
+    for piece in image.pieces() {
+        if let Some(difference) = verify(alloc, wire, piece.addr, piece.bytes, tries, resumes)? {
+            return Ok(Some(difference));
+        }
+    }
+    Ok(None)
+}

@@ -1,0 +1,119 @@
+//! Images of several pieces over a served line. The checksums of the files were added up by hand.
+use super::expect::{expect_eq, expect_eq_at};
+use super::line::{BASE, Cut, End, Untold, plain, server_of, transfers};
+use std::alloc::Global;
+use std::test::Fail;
+use swd_host::End as RunEnd;
+use swd_image::{ByteDifference, ImageFault};
+use swd_image_ends::{load_pieces_remote, verify_pieces_remote};
+use swd_image_files::{Format, Image, read_image};
+use swd_port::{Mark, Transfer};
+
+// Five bytes from 20000002 on, and two from 20000011 on.
+const HEX: &[u8] = b":020000042000DA\n:050002001122334455FA\n:02001100AABB88\n:00000001FF\n";
+
+// The same with another last byte.
+const SREC: &[u8] = b"S30A200000021122334455D4\nS30720000011AACB52\nS70500000000FA\n";
+
+fn image_of(
+    alloc: Global,
+    format: Format,
+    file: &[u8],
+    offset: u32,
+) -> Result<Image<Global>, Fail> {
+    Ok(read_image(alloc, format, file, offset)?)
+}
+
+// Each partial word is read, and each word is written once: those of the first piece, and then that of the second.
+#[test]
+fn pieces_are_loaded_in_the_order_of_the_file(rt: HostRuntime) -> Result<(), Fail> {
+    let image = image_of(rt.alloc(), Format::IntelHex, HEX, 0)?;
+    let server = server_of(rt.alloc(), &plain(&[]), Cut::Never, usize::MAX)?;
+    let end = End { server: &server };
+    let (answer, line) = load_pieces_remote::<Untold, _, _, _>(rt.alloc(), end, end, &image, 8, 0);
+    expect_eq(&rt, &answer, &Ok(()));
+    expect_eq(&rt, &line.fault, &None);
+    let wanted = [
+        (true, BASE, 0),
+        (true, BASE + 4, 0),
+        (false, BASE, 0x2211_0000),
+        (false, BASE + 4, 0x0055_4433),
+        (true, BASE + 0x10, 0),
+        (false, BASE + 0x10, 0x00bb_aa00),
+    ];
+    let log = transfers(rt.alloc(), server)?;
+    expect_eq(&rt, &log.len(), &wanted.len());
+    for (transfer, (read, addr, word)) in log.iter().zip(wanted) {
+        expect_eq(&rt, transfer, &Transfer { read, addr, word });
+    }
+    Ok(())
+}
+
+#[test]
+fn pieces_are_verified_up_to_the_first_that_differs(rt: HostRuntime) -> Result<(), Fail> {
+    let image = image_of(rt.alloc(), Format::IntelHex, HEX, 0)?;
+    let server = server_of(rt.alloc(), &plain(&[]), Cut::Never, 7)?;
+    let end = End { server: &server };
+    let (loaded, _) = load_pieces_remote::<Untold, _, _, _>(rt.alloc(), end, end, &image, 8, 0);
+    expect_eq(&rt, &loaded, &Ok(()));
+    let last = ByteDifference {
+        addr: BASE + 0x12,
+        found: 0xbb,
+        expected: 0xcb,
+    };
+    let first = ByteDifference {
+        addr: BASE + 0x22,
+        found: 0,
+        expected: 0x11,
+    };
+    let nowhere = Err(ImageFault::BusFault(BASE + 0x40));
+    for (format, file, offset, wanted) in [
+        (Format::IntelHex, HEX, 0, Ok(None)),
+        (Format::SRecord, SREC, 0, Ok(Some(last))),
+        (Format::SRecord, SREC, 0x20, Ok(Some(first))),
+        (Format::IntelHex, b":00000001FF\n", 0, Ok(None)),
+        (Format::Binary, b"a", BASE + 0x43, nowhere),
+    ] {
+        let image = image_of(rt.alloc(), format, file, offset)?;
+        let (answer, line) = verify_pieces_remote::<Untold, _, _, _>(
+            rt.alloc(),
+            end,
+            end,
+            &image,
+            8,
+            0,
+        );
+        expect_eq_at(&rt, &(file, offset), &answer, &wanted);
+        expect_eq_at(&rt, &(file, offset), &line.fault, &None);
+    }
+    Ok(())
+}
+
+// The first piece is loaded, and the second one has no memory. Or the first request gets no acknowledgement.
+#[test]
+fn a_load_of_pieces_ends_at_the_first_that_fails(rt: HostRuntime) -> Result<(), Fail> {
+    let image = image_of(rt.alloc(), Format::IntelHex, HEX, 0x30)?;
+    let none: &[(usize, Mark)] = &[];
+    let lost: &[(usize, Mark)] = &[(1, Mark::Mute(0))];
+    for (marks, wanted, count) in [
+        (none, Err(ImageFault::BusFault(BASE + 0x40)), 4),
+        (lost, Err(ImageFault::Stopped(RunEnd::Lost)), 0),
+    ] {
+        let mut task = plain(&[]);
+        task.marks = marks;
+        let server = server_of(rt.alloc(), &task, Cut::Never, usize::MAX)?;
+        let end = End { server: &server };
+        let (answer, line) = load_pieces_remote::<Untold, _, _, _>(
+            rt.alloc(),
+            end,
+            end,
+            &image,
+            8,
+            0,
+        );
+        expect_eq_at(&rt, &count, &answer, &wanted);
+        expect_eq_at(&rt, &count, &line.fault, &None);
+        expect_eq_at(&rt, &count, &transfers(rt.alloc(), server)?.len(), &count);
+    }
+    Ok(())
+}
