@@ -6,14 +6,14 @@ _swd() {
     if ((COMP_CWORD == 1)); then
         case $word in
         -*) words='--help --version -h -V' ;;
-        *) words='one decode encode run target load verify dump help' ;;
+        *) words='one decode encode run target draw load verify dump help' ;;
         esac
         COMPREPLY=($(compgen -W "$words" -- "$word"))
         return
     fi
     case ${COMP_WORDS[1]} in
     help)
-        ((COMP_CWORD > 2)) || COMPREPLY=($(compgen -W 'one decode encode run target load verify dump help' -- "$word"))
+        ((COMP_CWORD > 2)) || COMPREPLY=($(compgen -W 'one decode encode run target draw load verify dump help' -- "$word"))
         return
         ;;
     one)
@@ -26,10 +26,13 @@ _swd() {
         words='--help -h'
         ;;
     run)
-        words='--plan --tries --resume --trace --strict --remote --report --help -h'
+        words='--plan --tries --resume --trace --accesses --strict --remote --report --help -h'
         ;;
     target)
         words='--plan --log --trace --help -h'
+        ;;
+    draw)
+        words='--resync --overrun --help -h'
         ;;
     load)
         words='--format --tries --resume --remote --help -h'
@@ -42,7 +45,7 @@ _swd() {
         ;;
     esac
     case $before in
-    --log | --plan | --report | --trace)
+    --accesses | --log | --plan | --report | --trace)
         mapfile -t COMPREPLY < <(compgen -f -- "$word")
         return
         ;;

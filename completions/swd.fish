@@ -5,6 +5,7 @@ complete -c swd -n __fish_use_subcommand -a decode -d 'Decode a trace to a listi
 complete -c swd -n __fish_use_subcommand -a encode -d 'Encode a listing to a trace, one line an item'
 complete -c swd -n __fish_use_subcommand -a run -d 'Run a script\'s accesses at a target, each once'
 complete -c swd -n __fish_use_subcommand -a target -d 'Simulate a target for a debugger on the standard streams'
+complete -c swd -n __fish_use_subcommand -a draw -d 'Draw a trace\'s waves as an SVG picture, one row an item'
 complete -c swd -n __fish_use_subcommand -a load -d 'Load a file into a target\'s memory'
 complete -c swd -n __fish_use_subcommand -a verify -d 'Compare a target\'s memory with a file'
 complete -c swd -n __fish_use_subcommand -a dump -d 'Dump a target\'s memory to a file'
@@ -29,6 +30,7 @@ complete -c swd -n '__fish_seen_subcommand_from run' -l plan -r -F -d 'Inject fa
 complete -c swd -n '__fish_seen_subcommand_from run' -l tries -x -d 'Retries per access, from 0 to 1000 [default: 8]'
 complete -c swd -n '__fish_seen_subcommand_from run' -l resume -x -d 'Resumptions per call, from 0 to 1000 [default: 0]'
 complete -c swd -n '__fish_seen_subcommand_from run' -l trace -r -F -d 'Write the trace to FILE (overwrites it)'
+complete -c swd -n '__fish_seen_subcommand_from run' -l accesses -r -F -d 'Write the accesses to FILE (overwrites it)'
 complete -c swd -n '__fish_seen_subcommand_from run' -l strict -d 'Exit with status 1 if an access met a bus error'
 complete -c swd -n '__fish_seen_subcommand_from run' -l remote -d 'The target is a remote_bitbang server on the streams'
 complete -c swd -n '__fish_seen_subcommand_from run' -l report -r -F -d 'With --remote: write the report to FILE, - is stderr'
@@ -38,6 +40,10 @@ complete -c swd -n '__fish_seen_subcommand_from target' -l plan -r -F -d 'Inject
 complete -c swd -n '__fish_seen_subcommand_from target' -l log -r -F -d 'Write the log to FILE (overwrites it)'
 complete -c swd -n '__fish_seen_subcommand_from target' -l trace -r -F -d 'Write the trace to FILE (overwrites it)'
 complete -c swd -n '__fish_seen_subcommand_from target' -s h -l help -d 'Print help'
+complete -c swd -n '__fish_seen_subcommand_from draw' -F
+complete -c swd -n '__fish_seen_subcommand_from draw' -l resync -d 'Read a capture that begins in mid-session or lost bits'
+complete -c swd -n '__fish_seen_subcommand_from draw' -l overrun -d 'With --resync, WAIT and FAULT have a data phase'
+complete -c swd -n '__fish_seen_subcommand_from draw' -s h -l help -d 'Print help'
 complete -c swd -n '__fish_seen_subcommand_from load' -F
 complete -c swd -n '__fish_seen_subcommand_from load' -l format -x -a 'bin hex srec' -d 'bin, hex or srec; by FILE\'s name without it'
 complete -c swd -n '__fish_seen_subcommand_from load' -l tries -x -d 'Retries per access, from 0 to 1000 [default: 8]'
@@ -56,4 +62,4 @@ complete -c swd -n '__fish_seen_subcommand_from dump' -l tries -x -d 'Retries pe
 complete -c swd -n '__fish_seen_subcommand_from dump' -l resume -x -d 'Resumptions per call, from 0 to 1000 [default: 0]'
 complete -c swd -n '__fish_seen_subcommand_from dump' -l remote -d 'The target is a remote_bitbang server on the streams'
 complete -c swd -n '__fish_seen_subcommand_from dump' -s h -l help -d 'Print help'
-complete -c swd -n '__fish_seen_subcommand_from help' -a 'one decode encode run target load verify dump help'
+complete -c swd -n '__fish_seen_subcommand_from help' -a 'one decode encode run target draw load verify dump help'
