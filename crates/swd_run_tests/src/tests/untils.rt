@@ -4,14 +4,14 @@ ghost use Rattle.std.specs.Prelude.{[]};
 ghost use Rattle.swd_port.specs.Port.{made};
 
 use super::expect::{expect_eq, expect_eq_at};
-use super::{Ran, TRIES, resumed_on};
+use super::{Ran, TRIES, only_trace, resumed_on};
 use linked_list_allocator::LocalHeap;
 use std::alloc::Global;
 use std::test::Fail;
 use swd_fakes::ShortWriter;
 use swd_host::End;
 use swd_port::{Cue, Disconnected, Due, Outside, Register, Story, Transport, Wire};
-use swd_run::{EngineFault, Finished, QUIRKS, RunFault, run_batches, run_text};
+use swd_run::{EngineFault, Finished, QUIRKS, Records, RunFault, run_batches, run_text};
 use swd_script::read_script;
 use swd_target::{Bench, Memory};
 use swd_text::decode_text;
@@ -284,7 +284,7 @@ fn run_at(
         TRIES,
         0,
         &mut report,
-        &mut None::<Vec<u8>>,
+        &mut Records::<Vec<u8>>::none(),
     );
     Ok((answer, report))
 }
@@ -371,7 +371,7 @@ fn the_trace_has_every_read(rt: HostRuntime) {
     let mut script = AWAITED;
     let mut plan = b"".as_slice();
     let mut report = Vec::new(rt.alloc());
-    let mut trace = Some(Vec::new(rt.alloc()));
+    let mut records = only_trace(Vec::new(rt.alloc()));
     let answer = run_text(
         rt.alloc(),
         &mut script,
@@ -379,7 +379,7 @@ fn the_trace_has_every_read(rt: HostRuntime) {
         TRIES,
         0,
         &mut report,
-        &mut trace,
+        &mut records,
     );
     assert!(rt;
         matches!(
@@ -391,7 +391,7 @@ fn the_trace_has_every_read(rt: HostRuntime) {
         )
     );
     expect_eq(&rt, &report.as_slice(), &AWAITED_REPORT);
-    let trace = trace.expect(&rt, "its writer");
+    let trace = records.trace.expect(&rt, "its writer");
     let mut text = trace.as_slice();
     let mut listing = Vec::new(rt.alloc());
     expect_eq(&rt, &decode_text(&mut text, &mut listing), &Ok(()));
@@ -419,7 +419,7 @@ fn a_writer_that_fails_has_the_first_bytes(rt: HostRuntime) {
             TRIES,
             0,
             &mut writer,
-            &mut None::<Vec<u8>>,
+            &mut Records::<Vec<u8>>::none(),
         );
         let fault = EngineFault::Write {
             written: room as u64,
@@ -446,7 +446,7 @@ fn an_until_where_memory_ends(rt: HostRuntime) -> Result<(), Fail> {
             TRIES,
             0,
             &mut report,
-            &mut None::<Vec<u8>>,
+            &mut Records::<Vec<u8>>::none(),
         );
         match answer {
             Ok(finished) => {
