@@ -168,7 +168,7 @@ fn numbers_of_images_have_their_forms(rt: HostRuntime) -> Result<(), Fail> {
         ("0x123456789", None),
         ("", None),
         ("+1", None),
-        ("0X1", None),
+        ("0X1", Some(1)),
         ("1g", None),
     ] {
         let words = ["swd", "verify", text, "image", "--remote"];
