@@ -400,7 +400,7 @@ fn is_said<R: Abort>(rt: &R, row: &Said, cut: usize, script: &Script<Global>) {
 #[test]
 fn a_script_is_read_however_it_is_cut(rt: HostRuntime) {
     for row in SCRIPTS {
-        for cut in 0..=row.text.len() {
+        for cut in 0..row.text.len().saturating_add(1) {
             match script_in(rt.alloc(), row.text, cut) {
                 Ok(script) => is_said(&rt, &row, cut, &script),
                 Err(fault) => panic!(rt; "{}, cut at {cut}: {fault:?}", row.name),
