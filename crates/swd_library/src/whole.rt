@@ -100,7 +100,7 @@ pub fn load(alloc: Global) -> Result<(), Failure> {
     {
         return Err(Failure::BusFault(index));
     }
-    // The next call requires that nothing is due on the wire, which holds after a whole run.
+    // The next call requires that nothing is due on the wire (no data phase, no turnaround): so it is after `All`.
     let read = run_block(alloc, &mut wire, BASE, 4, TRIES)?;
     if read.ended != End::All {
         return Err(Failure::Stopped(read.ended));
