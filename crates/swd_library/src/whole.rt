@@ -10,7 +10,7 @@ use thiserror::Error;
 pub enum Failure {
     #[error("no memory")]
     Memory,
-    /// The list was refused: an address, or too many accesses. Nothing was sent.
+    /// The list was refused: an address isn't a multiple of 4, or there are too many accesses. Nothing was sent.
     #[error("the accesses were refused")]
     Refused,
     /// The host stopped early.
@@ -100,7 +100,7 @@ pub fn load(alloc: Global) -> Result<(), Failure> {
     {
         return Err(Failure::BusFault(index));
     }
-    // The next call requires that nothing is due on the wire (no data phase, no turnaround): so it is after `All`.
+    // The next call requires that nothing is due on the wire (no data phase, no turnaround). That is so after `All`.
     let read = run_block(alloc, &mut wire, BASE, 4, TRIES)?;
     if read.ended != End::All {
         return Err(Failure::Stopped(read.ended));
