@@ -67,8 +67,8 @@ impl Pins {
         self.clock(None);
     }
 
-    // Drives `ones` high, the switch sequence if `switch` and the ones again, then `zeros` low. The first `undriven`
-    // ones are released, since the target may be driving the line.
+    // Sends `ones` cycles of 1, of which the first `undriven` are released, since the target may be driving the line.
+    // If `switch`, then the switch sequence and the ones again. Last, `zeros` cycles of 0.
     fn lead(&mut self, ones: u32, undriven: u32, switch: bool, zeros: u32) {
         self.release(undriven);
         self.hold(true, ones.saturating_sub(undriven));
