@@ -115,7 +115,7 @@ impl Pins {
         }
     }
 
-    // Drives the engine to its next outcome, which takes some hundred cues at most.
+    // Drives the engine to its next outcome, which takes about a hundred cues at most.
     fn come_to(&mut self, engine: &mut Engine) -> Outcome {
         for _ in 0..u32::MAX {
             let Some(cue) = engine.cue() else {
