@@ -51,6 +51,7 @@ unfolding low_bits
 low_bits-number [] = refl
 low_bits-number (b ∷ bits) = rw (lowest_of b (number bits), half_of b (number bits), low_bits-number bits) refl
 
+-- a list of n bits, as a number, is below 2 ^ n
 pub number_lt : (bits : List Bool) → number bits < 2 ^ length bits
 number_lt [] = omega arith
 number_lt (true ∷ bits) = omega (arith, number_lt bits, pow-suc 2 (length bits))
@@ -108,6 +109,7 @@ pub low_bits-join : (m n a b : ℕ) → a < 2 ^ n → b < 2 ^ m → m + n ≤ 63
     → low_bits (m + n) (bit_or (a * 2 ^ m % 2 ^ 64) b) ≡ low_bits m b ++ low_bits n a
 low_bits-join m n a b k h room = rw (no_loss m n a k room, or_shifted a m b h, low_bits-cat m n a b h) refl
 
+-- m bits with n bits joined above them are a number below 2 ^ (m + n), for at most 63 bits in all
 pub join_lt : (m n a b : ℕ) → a < 2 ^ n → b < 2 ^ m → m + n ≤ 63 → bit_or (a * 2 ^ m % 2 ^ 64) b < 2 ^ (m + n)
 join_lt m n a b k h room =
     let e : m + n ≡ n + m = omega arith in

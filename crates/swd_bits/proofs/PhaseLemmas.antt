@@ -1,4 +1,4 @@
--- Laws of data phases.
+-- A data phase as a number gives its word, and no other 33 bits give one: for `data_phase.rt` and the port model.
 use Rattle.std.proofs.Common.{◌≡◌, ℕ, zero, suc, ◌+◌, ◌-◌, ◌*◌, ◌/◌, ◌%◌, ◌^◌, ◌<◌, Bool, true, false, [], ◌∷◌, refl}
 use Rattle.std.proofs.Common.{sym, ◌∙◌, ap, arith}
 use Rattle.std.specs.Prelude.{◌==◌, Some, None, if◌then◌else◌}
@@ -118,5 +118,6 @@ none_found true v h none e =
     absurd (none (v % 2 ^ 32) small
     (sym (ap (low_bits 33) (phase_told v (v % 2 ^ 32) h (rw e refl)) ∙ bits_phase (v % 2 ^ 32) small)))
 
+-- 33 bits that aren't the data phase of any word give no word
 pub word_missing : (v : ℕ) → v < 2 ^ 33 → IsNoPhase v → word_in v ≡ None
 word_missing v h none = none_found (count_ones v % 2 == 0) v h none refl

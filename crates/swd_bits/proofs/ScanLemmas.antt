@@ -1,4 +1,4 @@
--- Laws of the reading of a trace text.
+-- A trace file's bits, byte by byte, up to its first bad byte: for each consumer of a trace file.
 use Rattle.std.proofs.Common.{◌≡◌, ℕ, suc, ◌+◌, ◌<◌, drop, get_or, drop-cons, take-append-drop, Bool, false, List, []}
 use Rattle.std.proofs.Common.{◌∷◌, ◌++◌, length, take, Option, None, Some, refl, sym, ap, ◌∙◌, append_assoc, is_some}
 use Rattle.std.specs.Option.{option_map}
@@ -11,10 +11,12 @@ map_id : (o : Option (List Bool)) → o ≡ option_map (λ rest. [] ++ rest) o
 map_id None = refl
 map_id (Some x) = refl
 
+-- before its first byte a trace file has no bits so far and no comment is open
 pub reads_none : (comment : Bool) → comment ≡ false → Reads [] [] comment
 unfolding Reads
 reads_none comment e = λ more. ap (λ c. bits_from c more) (sym e) ∙ map_id (bits_from comment more)
 
+-- a byte that is neither a bit nor bad adds no bit to those of the input so far
 pub reads_passed : (seen : List ℕ) (bits : List Bool) (c d : Bool) (b : ℕ) → Passed ≡ sign_of c b
     → d ≡ comment_after c b → Reads seen bits c → Reads (seen ++ b ∷ []) bits d
 unfolding Reads
@@ -29,6 +31,7 @@ map_more : (bits : List Bool) (bit : Bool) (o : Option (List Bool)) →
 map_more bits bit None = refl
 map_more bits bit (Some x) = ap Some (sym (append_assoc bits (bit ∷ []) x))
 
+-- a digit adds its bit after those of the input so far
 pub reads_bit : (seen : List ℕ) (bits : List Bool) (c d bit : Bool) (b : ℕ) → Bit bit ≡ sign_of c b
     → d ≡ comment_after c b → Reads seen bits c → Reads (seen ++ b ∷ []) (bits ++ bit ∷ []) d
 unfolding Reads
@@ -43,6 +46,7 @@ pub reads_all : (seen : List ℕ) (bits : List Bool) (c : Bool) → Reads seen b
 unfolding Reads
 reads_all seen bits c h = ap bits_of_text (sym (append-nil seen)) ∙ h [] ∙ ap Some (append-nil bits)
 
+-- a bad byte after an input without one is the first bad byte, at the place that is that input's length
 pub first_bad : (seen more : List ℕ) (bits : List Bool) (c : Bool) (b : ℕ) → Bad ≡ sign_of c b → Reads seen bits c
     → IsFirstBad (seen ++ b ∷ more) (length seen)
 unfolding Reads

@@ -1,4 +1,4 @@
--- Laws of the spelling of transactions.
+-- The bits of a transaction by their parts, and that they are of one transaction alone: for `Tx::of`, and for traces.
 use Rattle.std.proofs.Common.{◌≡◌, ◌≢◌, ℕ, zero, suc, ◌+◌, ◌^◌, ◌<◌, ◌≤◌, Bool, true, false, not, drop, ap₂, List, []}
 use Rattle.std.proofs.Common.{◌∷◌, ◌++◌, length, append_assoc, refl, sym, ap, ◌∙◌, arith, inl, inr}
 use Rattle.std.specs.Prelude.{if◌then◌else◌}
@@ -35,9 +35,11 @@ length_asked ap read R4 = refl
 length_asked ap read R8 = refl
 length_asked ap read RC = refl
 
+-- a request has eight bits
 pub length_request : (q : Request) → length (request q) ≡ 8
 length_request q = length_asked q.ap q.read q.addr
 
+-- a data phase has 33 bits, whether or not its parity is right
 pub length_phase_with : (word : ℕ) (ok : Bool) → length (phase_with word ok) ≡ 33
 unfolding phase_with
 length_phase_with word ok = length-append (low_bits 32 word) _ ∙ ap (λ n. n + 1) (length-low_bits 32 word)
@@ -118,6 +120,7 @@ after AckOk = 34
 after AckWait = 1
 after AckFault = 1
 
+-- 34 bits follow OK in a transaction, and one follows WAIT or FAULT
 pub length_after : (a : Ack) (read u : Bool) (end : TxEnd) → IsEnd end → head end ≡ ack a
     → length (tail read end u) ≡ after a
 length_after AckOk read u (Moved word ok) h e = length_moved read u (phase_with word ok) (length_phase_with word ok)
@@ -145,6 +148,7 @@ one_bit [] h = absurd (omega arith)
 one_bit (b ∷ []) h = (b, refl)
 one_bit (b ∷ c ∷ bits) h = absurd (omega arith)
 
+-- a list of length 0 has no bits
 pub no_bit : (bits : List Bool) → length bits ≡ 0 → bits ≡ []
 no_bit [] h = refl
 no_bit (b ∷ bits) h = absurd (omega arith)
@@ -172,6 +176,8 @@ pub record Parts (tx : Tx) (a r2 s r3 : List Bool) : Type 0 where
   pub last : Bool
   pub rest : r3 ≡ tail tx.request.read tx.result last
 
+-- a transaction's bits, cut after 8, 9 and 12 bits, are its request, a turnaround, what was seen as its ACK, and
+-- the bits after that
 pub parts : (tx : Tx) (bits a r1 t r2 s r3 : List Bool) → length a ≡ 8 → length t ≡ 1 → length s ≡ 3 →
     bits ≡ a ++ r1 → r1 ≡ t ++ r2 → r2 ≡ s ++ r3 → Spells tx bits → Parts tx a r2 s r3
 parts tx bits a r1 t r2 s r3 na nt ns g h i p =

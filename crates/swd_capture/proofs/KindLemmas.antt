@@ -95,6 +95,7 @@ named_tx false RC false Wait = refl
 named_tx false RC false Fault = refl
 named_tx false RC false (NoAck seen) = refl
 
+-- the name of the row in which a part is counted is the text of its kind
 pub named_by_kind : (part : Part) → row_name (row_of part) ≡ kind_text part
 named_by_kind (Told (Tx tx)) = named_tx tx.request.ap tx.request.addr tx.request.read tx.result
 named_by_kind (Told (Reset n)) = refl

@@ -110,6 +110,7 @@ kept_drawn parts kept count left longer h =
     ap (first_parts 200 80) (sym (append-nil parts)) ∙ h.drawn []
     ∙ ap (λ x. take count kept ++ x) (drawn_end (200 - count) left) ∙ append-nil (take count kept)
 
+-- at the end, the flag that was kept says whether there are more parts than are drawn
 pub kept_past : (parts kept : List Part) (count left : ℕ) (longer : Bool) → KeepsFirst parts kept count left longer
     → goes_past parts ≡ longer
 kept_past parts kept count left longer h =

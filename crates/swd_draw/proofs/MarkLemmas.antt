@@ -48,6 +48,7 @@ wave_more old new all len at v h e k =
     ∙ append_assoc old (level_piece (v % 2 == 1)) (wave (low_bits (len - (at + 1)) (v / 2)))
     ∙ ap (λ x. old ++ wave x) (sym front) ∙ k
 
+-- where no bit is left, the whole wave is written
 pub wave_done : (text all : List ℕ) (len at v : ℕ) → len ≤ at → text ++ wave (low_bits (len - at) v) ≡ all
     → text ≡ all
 unfolding wave

@@ -1,4 +1,4 @@
--- Files that are written are read back.
+-- The records of a written file, one after the other, are read back: for `LawLemmas`.
 use Rattle.std.proofs.Common.{◌≡◌, ℕ, zero, suc, ◌+◌, ◌-◌, ◌*◌, ◌/◌, ◌%◌, ◌^◌, ◌<◌, ◌≤◌, List, [], ◌∷◌, ◌++◌}
 use Rattle.std.proofs.Common.{length, All, ap, ap₂, refl, sym, ◌∙◌, true, false, arith, cond, Ok, Err}
 use Rattle.std.proofs.Common.{take, drop, min, eqb, inl, inr}

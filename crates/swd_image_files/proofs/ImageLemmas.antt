@@ -1,4 +1,4 @@
--- Ranges that join.
+-- Data that is added to an image joins its last range or begins another: for `reading.rt`, and reading files back.
 use Rattle.std.proofs.Common.{◌≡◌, ◌≢◌, ℕ, ◌+◌, ◌<◌, ◌≤◌, ◌^◌, List, [], ◌∷◌, ◌++◌, length, cond, true, false, ap, refl}
 use Rattle.std.proofs.Common.{arith, All, eqb, sym, subst, inl, inr, ◌⊎◌, ◌∙◌, ap₂, append_assoc, Ok, Err}
 use Rattle.std.proofs.lemmas.List.{append-nil, length-append}

@@ -23,6 +23,7 @@ hex_data_kind offset bytes =
     ap (λ b. cond b (hex_typed all 0) wrong) (le-leb 5 (length all) (omega (arith, tail)))
     ∙ ap (λ a. let kind : Result Kind LineFlaw = Ok (Data a 4) in kind) joined
 
+-- the data field of an Intel HEX data record that was written for some bytes is these bytes
 pub hex_field : (offset : ℕ) (bytes : List ℕ) → field (hex_all offset 0 bytes) 4 ≡ bytes
 hex_field offset bytes =
     let check = (256 - (sum (hex_head offset 0 bytes) + sum bytes) % 256) % 256 in
@@ -50,6 +51,7 @@ srec_data_kind addr bytes =
     ap (λ b. cond b made wrong) (le-leb 7 (length all) (omega (arith, tail)))
     ∙ ap (λ a. let kind : Result Kind LineFlaw = Ok (Data a 6) in kind) joined
 
+-- the data field of an S3 record that was written for some bytes is these bytes
 pub srec_field : (addr : ℕ) (bytes : List ℕ) → field (3 ∷ srec_all addr bytes) 6 ≡ bytes
 srec_field addr bytes =
     let check = 255 - (sum (srec_head addr bytes) + sum bytes) % 256 in

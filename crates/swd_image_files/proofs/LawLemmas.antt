@@ -1,4 +1,4 @@
--- Files that are written are read back.
+-- Files that are written are read back, in each format: for `laws::written_files_are_read`.
 use Rattle.std.proofs.Common.{◌≡◌, ℕ, ◌+◌, ◌^◌, ◌≤◌, List, [], ◌∷◌, length, ap, refl, sym, cond, Ok, Err}
 use Rattle.std.proofs.Common.{arith, inl, inr, subst, true, false}
 use Rattle.std.specs.Prelude.{Result, nat_le, nat_lt, ◌&&◌}

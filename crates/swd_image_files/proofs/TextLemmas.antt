@@ -1,4 +1,4 @@
--- The digits of bytes.
+-- The digits of written bytes, and the lines of written records: for `write.rt`, and for reading files back.
 use Rattle.std.proofs.Common.{◌≡◌, ℕ, zero, suc, ◌+◌, ◌-◌, ◌/◌, ◌%◌, ◌<◌, ◌≤◌, List, [], ◌∷◌, ◌++◌, ap}
 use Rattle.std.proofs.Common.{refl, ◌∙◌, append_assoc, cond, arith, length}
 use Rattle.std.proofs.Common.{take, drop}

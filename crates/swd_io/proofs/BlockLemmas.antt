@@ -1,4 +1,4 @@
--- Laws of a text that goes out in blocks.
+-- How much of the output a writer has after a block wrote what it buffered, or failed: for `Block`, and its callers.
 use Rattle.std.proofs.Common.{◌≡◌, ℕ, ◌+◌, ◌-◌, ◌^◌, ◌<◌, min, Bool, false, List, [], ◌++◌, length, take, Option, sym}
 use Rattle.std.proofs.Common.{ap, ◌∙◌, subst, arith}
 use Rattle.std.specs.Io.KnownBytes.{Appends}
@@ -66,6 +66,7 @@ pub to_carries : {W : Type 0} (contents : W → Option (List ℕ)) (flag : Bool)
     flag ≡ false → SendsBy flag contents start block all → Carries contents start block all
 to_carries contents flag start block all e h = rw e at h
 
+-- where the flag says that the writer didn't fail, it has to hold the output except for the buffered bytes
 pub of_carries : {W : Type 0} (contents : W → Option (List ℕ)) (flag : Bool) (start : Option (List ℕ)) (block : Block W)
     (all : List ℕ) →
     flag ≡ false → Carries contents start block all → SendsBy flag contents start block all

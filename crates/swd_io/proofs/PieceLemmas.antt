@@ -1,4 +1,4 @@
--- Laws of what a consumer has read.
+-- Pieces that were read in turn are one input: for each `Consumer`, and for the callers of `read_pieces`.
 use Rattle.std.proofs.Common.{◌≡◌, refl, ℕ, List, [], ◌++◌, Option, None, Some, IfSome, Ok, Err, sym, subst}
 use Rattle.std.proofs.Common.{append_assoc, append-nil}
 use Rattle.std.specs.Io.KnownBytes.{Consumes}
@@ -7,14 +7,18 @@ use Rattle.swd_io.specs.Pieces.{Reads, LeadsOn, LeadsToEnd, IsText, IsUnread}
 use Rattle.swd_io.specs.declared.pieces.Unread.{Unread}
 use Rattle.swd_io.specs.declared.pieces.Unread.TheVariants.{Reader, Consumer}
 
+-- without a byte a consumer stays in its state
 pub leads_nowhere : {I C : Type 0} (HasRead : I → C → List ℕ → Type 0) (a : C) → LeadsOn HasRead a [] a
 leads_nowhere HasRead a = λ i seen h. subst (HasRead i a) (sym (append-nil seen)) h
 
+-- if some bytes lead a consumer to a second state and more lead it on to a third, all of them lead it to the third
 pub leads_further : {I C : Type 0} (HasRead : I → C → List ℕ → Type 0) (a b c : C) (first next : List ℕ) →
     LeadsOn HasRead a first b → LeadsOn HasRead b next c → LeadsOn HasRead a (first ++ next) c
 leads_further HasRead a b c first next f g = λ i seen h.
     subst (HasRead i c) (append_assoc seen first next) (g i (seen ++ first) (f i seen h))
 
+-- if some bytes lead a consumer to a second state and more end it there with a fault, all of them end it
+-- with that fault
 pub leads_to_later_end : {I C F : Type 0} (HasRead : I → C → List ℕ → Type 0) (Ends : I → C → F → List ℕ → Type 0)
     (a b c : C) (first next : List ℕ) (fault : F) →
     LeadsOn HasRead a first b → LeadsToEnd HasRead Ends b next fault c

@@ -186,6 +186,7 @@ starts bits h = by (past_zeros bits) (past_idle bits h)
     by [] h = refl
     by (b ∷ bits) h = follows Synced b bits h
 
+-- where a trace's reading is never lost, the items of that reading are its parts, without overrun detection
 pub never_lost_is_told : (bits : List Bool) → IsNeverLost (reading_of bits)
     → parts_of false bits ≡ map Told (reading_of bits)
 never_lost_is_told bits h =

@@ -57,6 +57,7 @@ whole_len bits tx n e =
     let l : length (take n bits) ≡ n = length-take-le n bits (whole_fits bits tx n e) in
     sym l ∙ ap length s.3 ∙ length_spelling tx s.1 s.2
 
+-- a transaction has at least twelve bits
 pub len_some : (end : TxEnd) → 12 ≤ length_of end
 len_some (Moved word ok) = omega arith
 len_some Wait = omega arith
@@ -115,6 +116,8 @@ takes_short AfterReset b bits =
 takes_short AfterSwitch b bits = takes_by_ones b bits
 takes_short Lost b bits = takes_junk false b bits
 
+-- without overrun detection, what is read first takes at least one bit of those there are, and unless it is
+-- junk, the bits taken are its bits
 pub takes_first : (mode : Mode) (b : Bool) (bits : List Bool) → Takes false (b ∷ bits) (first mode b bits)
 takes_first mode b bits =
     chosen (nat_le 50 (ones (b ∷ bits))) _ (first_short mode b bits) (λ f. Takes false (b ∷ bits) f)
@@ -144,6 +147,7 @@ not_junk (Tx tx) e = refl
 not_junk (Junk b) e = absurd cc
 not_junk (Cut off) e = refl
 
+-- a transaction that ended by WAIT or FAULT has thirteen bits, not counting a data phase after it
 pub len_refused : (tx : Transaction) (front : List Bool) → is_refusal tx.result ≡ true → Spells tx front → length front ≡ 13
 len_refused tx front r s = ap length s.3 ∙ length_spelling tx s.1 s.2 ∙ by tx.result r
   where
@@ -208,6 +212,8 @@ takes_with_phase f bits some t =
     all [] h = absurd (omega arith)
     all (b ∷ bits) h = takes_cut true b bits
 
+-- with overrun detection or without, what is read first takes at least one bit of those there are, and unless it
+-- is junk, the bits taken are its bits
 pub takes_at : (over : Bool) (mode : Mode) (b : Bool) (bits : List Bool)
     → Takes over (b ∷ bits) (first_at over mode (b ∷ bits))
 takes_at false mode b bits = takes_first mode b bits

@@ -12,6 +12,7 @@ use Rattle.swd_resync.specs.Queues.{queued, IsHeld}
 use Rattle.swd_resync.specs.Holding.{IsNear}
 use Rattle.swd_resync.proofs.QueueLemmas.{past_run, past_alone}
 
+-- a fact that holds where a result is None may be replaced by one that follows from it
 pub none_more : {A : Type 0} (r : Option A) (P Q : Type 0) → (P → Q) → IfNone r P → IfNone r Q
 none_more (Some a) P Q f h = h
 none_more None P Q f h = f h
@@ -29,6 +30,7 @@ past_longer (true ∷ x) y =
     shorter (false ∷ y) = let h = shorter y in omega arith
     shorter (true ∷ y) = omega arith
 
+-- where fewer than fifty bits come after at most 92 bits and zeros, fewer than fifty are held behind the run
 pub near_room : (q : Queue) → IsHeld q → IsNear 92 (queued q) → q.back_len < 50
 near_room q held near = elim (cases_lt 0 q.back_len) [
   | inr none ↦ omega arith

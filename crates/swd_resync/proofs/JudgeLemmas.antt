@@ -30,9 +30,11 @@ past_le [] = omega arith
 past_le (false ∷ bits) = let h = past_le bits in omega arith
 past_le (true ∷ bits) = omega arith
 
+-- of fewer than fifty bits, fewer than fifty come after the zeros at the front
 pub near_of : (bits : List Bool) → length bits < 50 → IsNear 0 bits
 near_of bits h = let l = past_le bits in record { place = 0; within = omega arith; few = omega arith }
 
+-- where fewer than fifty bits come after at most m bits and zeros, m may be replaced by any greater number
 pub near_more : (m n : ℕ) (bits : List Bool) → m ≤ n → IsNear m bits → IsNear n bits
 near_more m n bits h i = let w : i.place ≤ m = i.within in record { place = i.place; within = omega arith; few = i.few }
 
@@ -75,6 +77,7 @@ fifty_first : (over : Bool) (bits : List Bool) → nat_le 50 (ones bits) ≡ tru
 fifty_first over [] e = absurd cc
 fifty_first over (b ∷ bits) e = (_, reset_at over Synced b bits (leb-true 50 (ones (b ∷ bits)) e))
 
+-- what is seen at the front of held bits is what is read first in mode synced, whatever may follow
 pub seen_first : (over ended : Bool) (s : Sight) (bits : List Bool) → IsSeen over ended s bits → (more : List Bool)
     → May ended more → Shown s (first_at over Synced (bits ++ more))
 seen_first over ended Wait bits h more may = tt
@@ -91,6 +94,7 @@ seen_first over ended (Cut seen) bits h more may =
 
 -- ---- what a sight says
 
+-- what is seen decides how many bits a sound transaction at the front has (0 without one), or asks for more
 pub seen_sound : (over ended : Bool) (s : Sight) (bits : List Bool) → IsSeen over ended s bits
     → Judges ended 0 (λ bits. sound over bits) bits (sound_seen s)
 seen_sound over ended Wait bits h = (h.0, near_of bits h.1)
@@ -119,6 +123,7 @@ seen_junk over ended Junk bits h = λ more may. ap (λ f. is_junk f.item) (seen_
 seen_junk over ended (Cut seen) bits h = λ more may.
     ap (λ f. is_junk f.item) (seen_first over ended (Cut seen) bits h more may).1
 
+-- whether an item is a line reset
 abbrev pub is_reset_item : Item → Bool
 is_reset_item (Reset n) = true
 is_reset_item Switch = false
@@ -127,6 +132,7 @@ is_reset_item (TxItem tx) = false
 is_reset_item (JunkItem b) = false
 is_reset_item (CutItem bits) = false
 
+-- where what is read first in mode synced isn't a line reset, fewer than fifty ones are at the front
 pub not_fifty : (over : Bool) (bits : List Bool) → is_reset_item (first_at over Synced bits).item ≡ false
     → nat_le 50 (ones bits) ≡ false
 not_fifty over bits e = elim (bool_cases (nat_le 50 (ones bits))) [
@@ -160,6 +166,7 @@ some_cut : (bits : List Bool) → 0 < length bits → bits ≢ []
 some_cut [] h = absurd (omega arith)
 some_cut (b ∷ bits) h = λ e. cc
 
+-- what is seen decides whether there are no bits or fifty ones, or asks for more bits
 pub seen_end : (over ended : Bool) (s : Sight) (bits : List Bool) → IsSeen over ended s bits
     → Judges ended 0 (λ bits. ended_or_reset bits) bits (end_seen s)
 seen_end over ended Wait bits h = (h.0, near_of bits h.1)
@@ -226,10 +233,12 @@ judges_past ended value bits None j clear = (j.0, near_past bits j.1)
 
 -- ---- a pair, and a stretch
 
+-- the tests for more than 0 and for at least 1 agree
 pub one_or_more : (n : ℕ) → nat_lt 0 n ≡ nat_le 1 n
 one_or_more zero = refl
 one_or_more (suc n) = refl
 
+-- behind a sound transaction, whether another one comes after any zeros decides whether there is a pair
 pub pair_judged : (over ended : Bool) (bits : List Bool) (n : ℕ) (r : Option Bool)
     → ((more : List Bool) → May ended more → sound over (bits ++ more) ≡ n) → 0 < n → n ≤ length bits → n ≤ 46
     → Judges ended 0 (λ bits. sound_next over bits) (drop n bits) r → Judges ended 46 (λ bits. pair over bits) bits r
@@ -239,6 +248,7 @@ pair_judged over ended bits n (Some t) here some fits short j = λ more may.
     ∙ ap (sound_next over) (drop-append-le n bits more fits) ∙ j more may
 pair_judged over ended bits n None here some fits short j = (j.0, near_behind n 0 46 bits (omega arith) j.1)
 
+-- where fifty ones aren't at the front, whether there is a pair decides whether a stretch begins
 pub begins_judged : (over ended : Bool) (bits : List Bool) (r : Option Bool)
     → ((more : List Bool) → May ended more → nat_le 50 (ones (bits ++ more)) ≡ false)
     → Judges ended 46 (λ bits. pair over bits) bits r → Judges ended 46 (λ bits. begins over bits) bits r
@@ -248,6 +258,8 @@ begins_judged over ended bits None none j = j
 
 -- ---- the bits before a pair
 
+-- how many of n bits, at least one, come before a pair: 0 where it is at the front, else one more than of the
+-- n - 1 after the first
 pub before_some : (over : Bool) (n : ℕ) (bits : List Bool) (t : Bool) → 0 < n → pair over bits ≡ t
     → before_pair over n bits ≡ (if t then 0 else suc (before_pair over (n - 1) (drop 1 bits)))
 before_some over zero bits t h e = absurd (omega arith)
@@ -258,11 +270,13 @@ before_some over (suc n) bits t h e =
 
 -- ---- as the functions ask
 
+-- what is seen decides whether fifty ones are at the front, or asks for more bits
 pub ones_judged : (over ended : Bool) (bits : List Bool) (s : Sight) (r : Option Bool) → IsSeen over ended s bits
     → r ≡ ones_seen s → Judges ended 0 (λ bits. nat_le 50 (ones bits)) bits r
 ones_judged over ended bits s r h e = subst (Judges ended 0 (λ bits. nat_le 50 (ones bits)) bits) (sym e)
     (seen_ones over ended s bits h)
 
+-- what is seen behind the zeros at the front decides whether a junk bit is there, or asks for more bits
 pub junk_behind : (over ended : Bool) (bits behind : List Bool) (s : Sight) (r : Option Bool) → behind ≡ past_zeros bits
     → IsSeen over ended s behind → r ≡ junk_seen s
     → Judges ended 0 (λ bits. is_junk (first_at over Synced (past_zeros bits)).item) bits r
@@ -272,6 +286,7 @@ junk_behind over ended bits behind s r b h e =
     (judges_past ended (λ bits. is_junk (first_at over Synced bits).item) bits (junk_seen s)
     (seen_junk over ended s (past_zeros bits) seen) (seen_clear over ended s (past_zeros bits) seen))
 
+-- what is decided of a sound transaction by the bits behind the zeros at the front is decided by all the bits
 pub sound_behind : (over ended : Bool) (bits behind : List Bool) (r : Option ℕ) → behind ≡ past_zeros bits
     → Judges ended 0 (λ bits. sound over bits) behind r → IsClear ended behind r
     → Judges ended 0 (λ bits. sound over (past_zeros bits)) bits r
@@ -281,11 +296,14 @@ sound_behind over ended bits behind r b j clear =
 
 -- ---- a transaction in a stretch
 
+-- in a stretch, a transaction after which it continues is reported
 pub followed_told : (over : Bool) (tx : Transaction) (len : ℕ) (bits : List Bool)
     → followed_by over tx.result (drop len bits) ≡ true → in_stretch over (whole tx len) bits ≡ told (whole tx len)
 followed_told over tx len bits e =
     ap (λ t. if t then told (whole tx len) else told_or_withdrawn over (whole tx len) bits) e
 
+-- in a stretch, a transaction after which it doesn't continue, and in which a pair begins, is withdrawn: the
+-- bits before that pair are skipped
 pub pair_skipped : (over : Bool) (tx : Transaction) (len before : ℕ) (bits : List Bool)
     → followed_by over tx.result (drop len bits) ≡ false → before_pair over (len - 1) (drop 1 bits) ≡ before
     → (before ≡ len - 1 → ⊥) → in_stretch over (whole tx len) bits ≡ tx_step tx len (before + 1)

@@ -33,6 +33,7 @@ use Rattle.swd_resync.proofs.StageLemmas.{stretch_from, lost_between, junk_skipp
 
 -- ---- no step
 
+-- a decoder of captures may wait where it holds fewer than fifty bits and more may follow
 pub still_few : (over ended : Bool) (stage : Stage) (bits : List Bool) → ended ≡ false → length bits < 50
     → IsStill over ended stage bits
 still_few over ended stage bits e h = record {
@@ -40,6 +41,7 @@ still_few over ended stage bits e h = record {
   none = λ f. absurd cc;
 }
 
+-- a decoder of captures that holds no bits has no step to make at a stage whose reading of no bits is empty
 pub still_none : (over ended : Bool) (stage : Stage) (bits : List Bool) → bits ≡ [] → rest_at over stage [] ≡ []
     → IsStill over ended stage bits
 still_none over ended stage bits e h =
@@ -78,12 +80,14 @@ run_passes over ended old new k bit bits back e some short c r s =
           ∙ ap (λ x. rest_at over new (x ++ more)) (sym behind);
     }
 
+-- at the front of a capture, a step may remove up to fifty zeros and count them
 pub start_passes : (over ended : Bool) (n k : ℕ) (bits back : List Bool) → bits ≡ replicate k false ++ back → 0 < k
     → k ≤ 50 → IsMove over ended (Start n) bits (record { count = k; stage = Start (n + k); part = None })
 start_passes over ended n k bits back e some short =
     run_passes over ended (Start n) (Start (n + k)) k false bits back e some short (omega arith) (omega arith)
     (start_zeros over n k)
 
+-- at the front of a capture, where a stretch begins with it, the zeros so far become idle cycles
 pub start_stretches : (over ended : Bool) (n : ℕ) (bits : List Bool) (m : Move)
     → m ≡ record { count = 0; stage = Stretch n; part = None }
     → ((more : List Bool) → May ended more → begins_at_start over (bits ++ more) ≡ true) → IsMove over ended (Start n) bits m
@@ -97,6 +101,7 @@ start_stretches over ended n bits m e t =
       law = λ more may. ap (λ t. if t then idle_rest over n (bits ++ more) else skip_rest over n (bits ++ more)) (t more may);
     })
 
+-- at the front of a capture, where no stretch begins with it, the zeros so far become skipped bits
 pub start_skips : (over ended : Bool) (n : ℕ) (bits : List Bool) (m : Move)
     → m ≡ record { count = 0; stage = Skipping n; part = None }
     → ((more : List Bool) → May ended more → begins_at_start over (bits ++ more) ≡ false) → IsMove over ended (Start n) bits m
@@ -110,6 +115,7 @@ start_skips over ended n bits m e t =
       law = λ more may. ap (λ t. if t then idle_rest over n (bits ++ more) else skip_rest over n (bits ++ more)) (t more may);
     })
 
+-- whether an item is idle cycles
 abbrev pub is_idle : Item → Bool
 is_idle (Idle n) = true
 is_idle (Reset n) = false
@@ -118,6 +124,7 @@ is_idle (Tx tx) = false
 is_idle (Junk b) = false
 is_idle (Cut bits) = false
 
+-- where what is read first in mode synced isn't idle cycles, no zero is at the front
 pub no_zero : (over : Bool) (bits : List Bool) → is_idle (first_at over Synced bits).item ≡ false → past_zeros bits ≡ bits
 no_zero over [] e = refl
 no_zero over (true ∷ bits) e = refl
@@ -131,6 +138,7 @@ start_from over bits f e i = start_at over bits f (no_zero over bits (ap (λ g. 
 
 -- ---- in a stretch
 
+-- in a stretch, a step may remove up to fifty zeros and count them as idle cycles
 pub stretch_idles : (over ended : Bool) (n k : ℕ) (bits back : List Bool) → bits ≡ replicate k false ++ back → 0 < k
     → k ≤ 50 → IsMove over ended (Stretch n) bits (record { count = k; stage = Stretch (n + k); part = None })
 stretch_idles over ended n k bits back e some short =
@@ -162,6 +170,7 @@ ones_pass over ended stage mode bits back e s =
           ∙ fifty over mode (back ++ more) ∙ ap (λ x. reset_rest over 50 (x ++ more)) (sym behind);
     }
 
+-- in a stretch, without idle cycles to report, a junk bit ends it and is the first skipped bit
 pub junk_passes : (over ended : Bool) (bits : List Bool) → bits ≢ []
     → ((more : List Bool) → first_at over Synced (bits ++ more) ≡ junk true)
     → IsMove over ended (Stretch 0) bits (record { count = 1; stage = Skipping 1; part = None })
@@ -210,6 +219,8 @@ cut_passes over stage mode off bits ended at_end e spelled some few f s =
 
 -- ---- a transaction
 
+-- in a stretch, without idle cycles to report, a transaction that is reported is removed whole, and the next stage
+-- is that of its result
 pub tx_told : (over ended : Bool) (tx : Transaction) (len : ℕ) (stage : Stage) (bits : List Bool) → IsTxSeen over tx len bits
     → ((more : List Bool) → May ended more → in_stretch over (whole tx len) (bits ++ more) ≡ told (whole tx len))
     → ((x : List Bool) → rest_at over stage x ≡ parts over (place_after (mode_after tx.result)) x) → counted stage ≡ 0
@@ -232,6 +243,8 @@ tx_told over ended tx len stage bits seen t s c r =
           ) ∙ ap (rest_at over stage) (drop-append-le len bits more fits));
     }
 
+-- in a stretch, without idle cycles to report, the bits that are skipped of a transaction that is withdrawn are
+-- removed as one part
 pub tx_skipped : (over ended : Bool) (tx : Transaction) (len count : ℕ) (bits : List Bool) → IsTxSeen over tx len bits
     → 0 < count → count ≤ len
     → ((more : List Bool) → May ended more → in_stretch over (whole tx len) (bits ++ more) ≡ skipped count)
@@ -259,6 +272,7 @@ switch_step : (over : Bool) (bits : List Bool) → step over (InStretch AfterRes
 switch_step false bits = refl
 switch_step true bits = refl
 
+-- directly after a reset, a switch is removed and reported
 pub switch_told : (over ended : Bool) (bits back : List Bool) → bits ≡ switch ++ back
     → IsMove over ended BehindReset bits (record { count = 16; stage = BehindSwitch; part = Some (Told Switch) })
 switch_told over ended bits back e =
@@ -282,6 +296,7 @@ no_switch_parts over (b ∷ bits) e =
     (ap (λ g. in_stretch over (with_phase over g (b ∷ bits)) (b ∷ bits)) f)
     ∙ sym (from_step over (InStretch Synced) b bits _ refl)
 
+-- directly after a reset, where no switch comes, the stretch continues in mode synced with no bit removed
 pub no_switch_stays : (over ended : Bool) (bits : List Bool) (m : Move)
     → m ≡ record { count = 0; stage = Stretch 0; part = None }
     → ((more : List Bool) → May ended more → begins_with switch (bits ++ more) ≡ false) → IsMove over ended BehindReset bits m
@@ -305,6 +320,7 @@ lost_behind over (b ∷ bits) a h = by over (junk_after_switch b bits a h)
     by false f = lost_between false AfterSwitch b b bits f
     by true f = lost_between true AfterSwitch b b bits (ap (λ g. with_phase true g (b ∷ bits)) f)
 
+-- directly after a switch, where a zero is among the first fifty bits, the stretch ends with no bit removed
 pub lost_stays : (over ended : Bool) (front back bits : List Bool) (m : Move)
     → m ≡ record { count = 0; stage = Skipping 0; part = None } → bits ≡ front ++ back → all_ones front ≡ false
     → length front ≤ 50 → IsMove over ended BehindSwitch bits m
@@ -322,6 +338,7 @@ lost_stays over ended front back bits m e f a h = subst (IsMove over ended Behin
       lost_behind over (bits ++ more) (ap all_ones joined ∙ o.1.0) (omega arith);
 })
 
+-- directly after a switch, ones alone, fewer than fifty, are cut, with overrun detection or without
 pub ones_cut_behind : (over : Bool) (n : ℕ) → 0 < n → n < 50
     → first_at over AfterSwitch (replicate n true) ≡ cut (replicate n true)
 ones_cut_behind over zero h k = absurd (omega arith)
@@ -330,6 +347,7 @@ ones_cut_behind true (suc n) h k = ap (λ g. with_phase true g (true ∷ replica
 
 -- ---- between two stretches
 
+-- between stretches, where the next one begins, the bits counted so far are reported as skipped
 pub skip_told : (over ended : Bool) (n : ℕ) (bits : List Bool) (m : Move)
     → m ≡ record { count = 0; stage = Skipping 0; part = Some (Skip n) } → 0 < n
     → ((more : List Bool) → May ended more → begins over (bits ++ more) ≡ true) → IsMove over ended (Skipping n) bits m
@@ -342,6 +360,7 @@ skip_told over ended (suc n) bits m e h t = subst (IsMove over ended (Skipping (
   law = λ more may. skip_end over (suc n) (bits ++ more) h (gap_here over (bits ++ more) (t more may));
 })
 
+-- between stretches, where the next one begins and no bits are counted, the stretch is entered with no bit removed
 pub stretch_begun : (over ended : Bool) (n : ℕ) (bits : List Bool) (m : Move)
     → m ≡ record { count = 0; stage = Stretch 0; part = None } → n ≡ 0
     → ((more : List Bool) → May ended more → begins over (bits ++ more) ≡ true) → IsMove over ended (Skipping n) bits m
@@ -372,6 +391,7 @@ skip_before over ended n k front back bits e some fits short far =
           ∙ ap (skip_rest over (n + k)) (drop-append-le k bits more (omega arith));
     }
 
+-- between stretches, a bit at which no stretch begins is removed and counted
 pub skip_passes : (over ended : Bool) (n : ℕ) (b : Bool) (back bits : List Bool) → bits ≡ b ∷ back
     → ((more : List Bool) → May ended more → begins over (bits ++ more) ≡ false)
     → IsMove over ended (Skipping n) bits (record { count = 1; stage = Skipping (n + 1); part = None })
@@ -392,16 +412,19 @@ skip_passes over ended n b back bits e t =
 
 -- ---- as the functions ask
 
+-- bits that are a window with nothing behind it are as many as the window has
 pub window_length : (bits : List Bool) (w : TxBits) (back : List Bool) → bits ≡ bits_of w ++ back → back ≡ []
     → length bits ≡ w.len
 window_length bits w back e n =
     ap length (e ∙ ap (λ x. bits_of w ++ x) n ∙ append-nil (bits_of w)) ∙ length-low_bits w.len w.bits
 
+-- a decoder of captures that holds no bits may wait where more may follow
 pub still_end : (over ended : Bool) (stage : Stage) (bits : List Bool) → bits ≡ [] → ended ≡ false
     → IsStill over ended stage bits
 still_end over ended stage bits e f = let l : length bits ≡ 0 = ap length e in
     still_few over ended stage bits f (omega arith)
 
+-- the step of a transaction of which n bits are withdrawn, at least one, is a skip of n bits
 pub skip_step : (tx : Transaction) (len n : ℕ) → 0 < n → tx_step tx len n ≡ skipped n
 skip_step tx len zero h = absurd (omega arith)
 skip_step tx len (suc n) h = refl

@@ -53,6 +53,7 @@ split_zeros [] = refl
 split_zeros (true ∷ bits) = refl
 split_zeros (false ∷ bits) = ap (λ x. false ∷ x) (split_zeros bits)
 
+-- where the test finds a pair, the bits begin with two sound transactions and at most zeros between them
 pub pair_found : (over : Bool) (bits : List Bool) → pair over bits ≡ true → IsPair over bits
 pair_found over bits e =
     let n : ℕ = sound over bits in
@@ -130,6 +131,7 @@ shown_sound over tx front more s r =
     ap (λ f. sound_bits f.item f.taken) (shown_first over tx front more s)
     ∙ ap (λ t. if t then length front else 0) r
 
+-- where the bits begin with two sound transactions and at most zeros between them, the test finds a pair
 pub pair_stands : (over : Bool) (bits : List Bool) → IsPair over bits → pair over bits ≡ true
 pair_stands over bits h =
     let one : Transaction = h.0 in

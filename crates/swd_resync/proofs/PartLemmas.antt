@@ -20,10 +20,12 @@ passed over zero place bits = refl
 passed over (suc n) place [] = refl
 passed over (suc n) place (b ∷ bits) = passed over n place bits
 
+-- no bits have no parts, from any place on
 pub parts_none : (over : Bool) (place : Place) → parts over place [] ≡ []
 unfolding parts_after
 parts_none over place = refl
 
+-- a list without its first n elements, at least one, is its tail without n - 1
 pub one_less : (n : ℕ) (b : Bool) (bits : List Bool) → 0 < n → drop (n - 1) bits ≡ drop n (b ∷ bits)
 one_less zero b bits h = absurd (omega arith)
 one_less (suc n) b bits h = ap (λ m. drop m bits) (omega arith)
@@ -51,6 +53,7 @@ from_step over place b bits s e = parts_first over place b bits
 
 -- ---- every bit is in one part
 
+-- of at most n + 1 bits, at most n are left where at least one is removed
 pub fewer_left : (n m : ℕ) (b : Bool) (bits : List Bool) → length (b ∷ bits) ≤ suc n → 0 < m
     → length (drop m (b ∷ bits)) ≤ n
 fewer_left n m b bits h k = let l : length (drop m (b ∷ bits)) ≡ length (b ∷ bits) - m = length-drop m (b ∷ bits) in
@@ -71,6 +74,7 @@ divided (suc n) over place (b ∷ bits) h =
       divided n over s.after (drop s.taken (b ∷ bits)) (fewer_left n s.taken b bits h r.some),
     )
 
+-- from any place on, the parts of some bits divide them: each bit is in one part, and the parts are in order
 pub parts_divide : (over : Bool) (place : Place) (bits : List Bool) → Divides over (parts over place bits) bits
 parts_divide over place bits = divided (length bits) over place bits (omega arith)
 
@@ -113,5 +117,6 @@ apart (suc n) over place (b ∷ bits) h =
     (part_before over s.part s.after (drop s.taken (b ∷ bits)) r.goes
     (apart n over s.after (drop s.taken (b ∷ bits)) (fewer_left n s.taken b bits h r.some)))
 
+-- from any place on, no two skips among the parts follow one another
 pub parts_apart : (over : Bool) (place : Place) (bits : List Bool) → AreApart (parts over place bits)
 parts_apart over place bits = apart (length bits) over place bits (omega arith)

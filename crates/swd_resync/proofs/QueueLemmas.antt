@@ -35,15 +35,18 @@ pub join : (w m n a b : ℕ) → a < 2 ^ n → b < 2 ^ m → m + n ≤ w
     → low_bits (m + n) (bit_or (a * 2 ^ m % 2 ^ w) b) ≡ low_bits m b ++ low_bits n a
 join w m n a b k h room = rw (no_loss w m n a k room, or_shifted a m b h, low_bits-cat m n a b h) refl
 
+-- m bits with n bits joined above them are a number below 2 ^ (m + n), where w bits have room for them
 pub join_lt : (w m n a b : ℕ) → a < 2 ^ n → b < 2 ^ m → m + n ≤ w → bit_or (a * 2 ^ m % 2 ^ w) b < 2 ^ (m + n)
 join_lt w m n a b k h room =
     let e : m + n ≡ n + m = omega arith in
     rw (no_loss w m n a k room, or_shifted a m b h, e, pow-add 2 n m, mul_comm (2 ^ n) (2 ^ m))
     (mul-add-lt a (2 ^ m) b (2 ^ n) k h)
 
+-- a number masked by 2 ^ n - 1, as the code computes it in w bits, is its low n bits
 pub mask : (w n v : ℕ) → n < w → bit_and v (1 * 2 ^ n % 2 ^ w - 1) ≡ v % 2 ^ n
 mask w n v h = rw (one_shl n w h) (and_mask v n)
 
+-- a number of m bits is one of n bits, where n is at least m
 pub wider : (m n v : ℕ) → v < 2 ^ m → m ≤ n → v < 2 ^ n
 wider m n v h k = let most : 2 ^ m ≤ 2 ^ n = pow-le-pow_right (lit< tt) k in omega arith
 
@@ -59,6 +62,7 @@ more_zeros len front m h =
     let e : 0 * 2 ^ len + front ≡ front = omega arith in
     ap (low_bits (len + m)) (sym e) ∙ low_bits-cat len m 0 front h ∙ ap (λ x. low_bits len front ++ x) (low_zeros m)
 
+-- zeros that move from the run to the end of the front leave the queue's bits unchanged
 pub zeros_taken : (len front run m back_len back : ℕ) → front < 2 ^ len → m ≤ run →
     three (len + m) front (run - m) back_len back ≡ three len front run back_len back
 zeros_taken len front run m back_len back h k =
@@ -70,6 +74,7 @@ zeros_taken len front run m back_len back h k =
 
 -- ---- bits from behind
 
+-- where the run is empty, bits that move from behind it to the end of the front leave the queue's bits unchanged
 pub bits_taken : (len front run m back_len back : ℕ) → front < 2 ^ len → run ≡ 0 → m ≤ back_len → len + m ≤ 128 →
     three (len + m) (bit_or (back % 2 ^ m * 2 ^ len % 2 ^ 128) front) 0 (back_len - m) (back / 2 ^ m)
     ≡ three len front run back_len back
@@ -101,6 +106,7 @@ run_ends back_len (suc back) c h k e some =
 
 -- ---- bits at the front
 
+-- a queue whose front is shifted by c bits has its bits without the first c
 pub dropped : (len front c run back_len back : ℕ) → c ≤ len →
     three (len - c) (front / 2 ^ c) run back_len back ≡ drop c (three len front run back_len back)
 dropped len front c run back_len back h =
@@ -109,6 +115,7 @@ dropped len front c run back_len back h =
     ∙ ap (drop c) (append_assoc (low_bits c front) (low_bits (len - c) (front / 2 ^ c)) others)
     ∙ drop_at (low_bits c front) (low_bits (len - c) (front / 2 ^ c) ++ others) c (length-low_bits c front))
 
+-- a queue with nothing in its front, its run and behind it has no bits
 pub empty : (len front run back_len back : ℕ) → len ≡ 0 → run + back_len ≡ 0 → three len front run back_len back ≡ []
 empty len front run back_len back e f =
     let none : run ≡ 0 = omega arith in
@@ -122,6 +129,7 @@ alone len front run back_len back f =
     ap (λ n. low_bits len front ++ (replicate n false ++ low_bits back_len back)) none
     ∙ ap (λ x. low_bits len front ++ x) (no_bits back_len back (omega arith)) ∙ append-nil (low_bits len front)
 
+-- where the front isn't empty, its first bit is the queue's first bit, and the others follow it
 pub first_of : (len front run back_len back : ℕ) → 0 < len → three len front run back_len back
     ≡ (front % 2 == 1) ∷ three (len - 1) (front / 2) run back_len back
 first_of len front run back_len back h =
@@ -129,6 +137,7 @@ first_of len front run back_len back h =
 
 -- ---- behind zeros
 
+-- a run of zeros in front doesn't change which bits come after the zeros at the front
 pub past_run : (n : ℕ) (x : List Bool) → past_zeros (replicate n false ++ x) ≡ past_zeros x
 past_run zero x = refl
 past_run (suc n) x = past_run n x
@@ -157,6 +166,7 @@ past_none len front run back_len back e h =
     behind zero v h = ap past_zeros (no_bits zero v refl) ∙ sym (no_bits zero v refl)
     behind (suc len) v h = past_alone (suc len) v h (omega arith)
 
+-- where the front has a one, the bits after the zeros at the front are those after its trailing zeros
 pub past_some : (len front run back_len back : ℕ) → len ≤ 128 → 0 < front → front < 2 ^ len →
     (count_trailing_zeros 128 front ≤ len) × (drop (count_trailing_zeros 128 front) (three len front run back_len back)
     ≡ past_zeros (three len front run back_len back))
@@ -190,6 +200,7 @@ pub pushed : (w len v b : ℕ) (bit : Bool) → v < 2 ^ len → len + 1 ≤ w �
 pushed w len v b bit h k e =
     join w len 1 b v (byte_lt b bit e) h k ∙ ap (λ x. low_bits len v ++ x) (bit_of b bit e)
 
+-- a number of len bits with a bit pushed above them is below 2 ^ (len + 1), where w bits have room for it
 pub pushed_lt : (w len v b : ℕ) (bit : Bool) → v < 2 ^ len → len + 1 ≤ w → b ≡ bool_byte bit →
     bit_or (b * 2 ^ len % 2 ^ w) v < 2 ^ (len + 1)
 pushed_lt w len v b bit h k e = join_lt w len 1 b v (byte_lt b bit e) h k
@@ -255,6 +266,7 @@ front_joined len front run back_len back n v h room none =
     ∙ join 128 len n (v % 2 ^ n) front few h (omega arith) ∙ ap (λ x. low_bits len front ++ x) (low_mod n v)
     ∙ sym (ap (λ x. x ++ low_bits n v) (alone len front run back_len back none))
 
+-- a number of len bits with the low n bits of another joined above is below 2 ^ (len + n), with room in w bits
 pub joined_lt : (w len front n v : ℕ) → front < 2 ^ len → len + n ≤ w → n < w
     → bit_or (bit_and v (1 * 2 ^ n % 2 ^ w - 1) * 2 ^ len % 2 ^ w) front < 2 ^ (len + n)
 joined_lt w len front n v h room few =
@@ -310,10 +322,12 @@ joined_odd back_len back n v h room some odd one =
 
 -- ---- a run at the front
 
+-- the first bit of a number is a one exactly where the number is odd
 pub first_low : (v : ℕ) → low_bits 1 v ≡ (v % 2 == 1) ∷ []
 unfolding low_bits
 first_low v = refl
 
+-- a run at the front of a window is at the front of all the bits
 pub window_run : (len v n : ℕ) (bit : Bool) (back all : List Bool) → all ≡ low_bits len v ++ back → n ≤ len
     → low_bits n v ≡ replicate n bit → (rest : List Bool) × (all ≡ replicate n bit ++ rest)
 window_run len v n bit back all e h r =
@@ -323,6 +337,7 @@ window_run len v n bit back all e h r =
           ∙ append_assoc (replicate n bit) others back,
     )
 
+-- where all the bits begin with a bit, the window isn't empty, and begins with it
 pub window_first : (len v : ℕ) (bit : Bool) (back all rest : List Bool) → all ≡ low_bits len v ++ back
     → (len < 50 → back ≡ []) → all ≡ bit ∷ rest → (0 < len) × (low_bits 1 v ≡ replicate 1 bit)
 window_first zero v bit back all rest e none f =
@@ -336,12 +351,14 @@ window_first (suc len) v bit back all rest e none f =
 
 -- ---- of a queue that is held
 
+-- where the front isn't full, the run is empty and nothing is behind it
 pub none_behind : (q : Queue) → IsFull q → q.front_len < 92 → q.zeros + q.back_len ≡ 0
 none_behind q full h = elim (cases_lt 0 (q.zeros + q.back_len)) [
   | inl some ↦ (let n : q.front_len ≡ 92 = full some in absurd (omega arith))
   | inr none ↦ omega arith
 ]
 
+-- up to 92 bits, where the queue has as many, are in its front
 pub front_holds : (q : Queue) → IsFull q → (c : ℕ) → c ≤ 92 → c ≤ length (queued q) → c ≤ q.front_len
 front_holds q full c h k = elim (cases_lt q.front_len 92) [
   | inl less ↦
@@ -352,6 +369,7 @@ front_holds q full c h k = elim (cases_lt q.front_len 92) [
   | inr most ↦ omega arith
 ]
 
+-- the window, up to fifty bits of the front, is at the front of the queue, and is all of it where it has fewer
 pub window_front : (q : Queue) → IsHeld q → (n : ℕ) → n ≡ min q.front_len 50 →
     (back : List Bool) × (queued q ≡ low_bits n (bit_and q.front (1 * 2 ^ n % 2 ^ 128 - 1)) ++ back) × (n < 50 → back ≡ [])
 window_front q held n e =

@@ -27,6 +27,7 @@ use Rattle.swd_resync.proofs.FirstLemmas.{whole_len}
 
 -- ---- a transaction
 
+-- without overrun detection, a whole transaction at the front is what is read first in mode synced
 pub first_whole : (bits : List Bool) (tx : Transaction) (n : ℕ) → stands bits ≡ Whole tx n
     → first_at false Synced bits ≡ whole tx n
 first_whole [] tx n e = absurd cc
@@ -41,6 +42,7 @@ pub over_first : (bits : List Bool) (f : First) → bits ≢ [] → first_at fal
 over_first [] f n e = absurd (n refl)
 over_first (b ∷ bits) f n e = ap (λ g. with_phase true g (b ∷ bits)) e
 
+-- where a whole transaction is at the front, the list of bits isn't empty
 pub some_bits : (bits : List Bool) (tx : Transaction) (n : ℕ) → stands bits ≡ Whole tx n → bits ≢ []
 some_bits [] tx n e = absurd cc
 some_bits (b ∷ bits) tx n e = λ f. cc
@@ -122,12 +124,15 @@ cut_at_end : (over : Bool) (b : Bool) (bits : List Bool) → first Synced b bits
 cut_at_end false b bits e = e
 cut_at_end true b bits e = ap (λ f. with_phase true f (b ∷ bits)) e
 
+-- in mode synced, ones alone, fewer than fifty, are cut, with overrun detection or without
 pub ones_cut : (over : Bool) (n : ℕ) → 0 < n → n < 50 → IsCutSeen over (replicate n true)
 ones_cut over zero some few = absurd (omega arith)
 ones_cut over (suc n) some few =
     let l : length (replicate (suc n) true) ≡ suc n = length-replicate (suc n) true in
     record { some = omega arith; few = omega arith; first = cut_at_end over true (replicate n true) (cut_ones n few) }
 
+-- in mode synced, fewer than 46 bits that are no more than the beginning of a transaction are cut, with overrun
+-- detection or without
 pub begun_cut : (over : Bool) (bits : List Bool) → stands bits ≡ Begun → 0 < length bits → length bits < 46
     → IsCutSeen over bits
 begun_cut over [] e some few = absurd (omega arith)
@@ -155,6 +160,7 @@ broken_junk over bits e z most more =
 
 -- ---- the beginning of a transaction or of fifty ones
 
+-- bits that are cut if they end here are seen as cut where no more follow, and otherwise ask for more
 pub begun_seen : (over ended : Bool) (w : TxBits) (s : Sight) (bits : List Bool) → (ended ≡ true → s ≡ Cut w)
     → (ended ≡ false → s ≡ Wait_) → bits ≡ bits_of w → IsSpelled w → IsCutSeen over bits → IsSeen over ended s bits
 begun_seen over true w s bits at_end on e spelled seen =
@@ -166,6 +172,7 @@ begun_seen over false w s bits at_end on e spelled seen =
 pub alone : (bits back : List Bool) → back ≡ [] → bits ++ back ≡ bits
 alone bits back e = ap (λ x. bits ++ x) e ∙ append-nil bits
 
+-- a one that begins no transaction, where a zero is among up to fifty bits, is junk in mode synced whatever follows
 pub junk_seen : (over : Bool) (len v : ℕ) (back : List Bool) → 0 < len → len ≤ 50 → v % 2 ≡ 1
     → stands (low_bits len v) ≡ Broken → all_ones (low_bits len v) ≡ false →
     (low_bits len v ++ back ≢ []) × ((more : List Bool)
@@ -184,9 +191,11 @@ junk_seen over len v back some most one e z =
 
 -- ---- nothing, and a zero
 
+-- where a window is empty and nothing is behind it, there are no bits
 pub is_empty : (all bits back : List Bool) → all ≡ bits ++ back → back ≡ [] → bits ≡ [] → all ≡ []
 is_empty all bits back e f g = e ∙ ap (λ x. x ++ back) g ∙ f
 
+-- where a window begins with a zero, all the bits do
 pub zero_seen : (len v : ℕ) (back all : List Bool) → all ≡ low_bits len v ++ back → 0 < len → v % 2 ≡ 0
     → (rest : List Bool) × (all ≡ false ∷ rest)
 zero_seen len v back all e some z = (

@@ -49,6 +49,7 @@ idle_zero over (suc n) bits =
     ap (λ m. Told (Idle m) ∷ parts over (InStretch Synced) (drop (zeros bits) bits)) same
     ∙ ap (λ m. idle_rest over m bits) (sym more)
 
+-- in a stretch, after n idle cycles, k zeros are k more of them
 pub idle_zeros : (over : Bool) (n k : ℕ) (bits : List Bool)
     → idle_rest over n (replicate k false ++ bits) ≡ idle_rest over (n + k) bits
 idle_zeros over n zero bits = ap (λ m. idle_rest over m bits) (omega arith)
@@ -84,6 +85,7 @@ drop_before (suc n) m bits =
     let e : suc n + m ≡ suc (n + m) = omega arith in
     ap (λ k. drop k (true ∷ (replicate n true ++ bits))) e ∙ drop_before n m bits
 
+-- after n ones of a line reset, k ones are k more of them
 pub reset_ones : (over : Bool) (n k : ℕ) (bits : List Bool)
     → reset_rest over n (replicate k true ++ bits) ≡ reset_rest over (n + k) bits
 reset_ones over n k bits =
@@ -107,6 +109,7 @@ fifty over mode back =
 
 -- ---- bits that are skipped
 
+-- after n skipped bits, a bit at which no stretch begins is one more of them
 pub skip_more : (over : Bool) (n : ℕ) (b : Bool) (bits : List Bool) → begins over (b ∷ bits) ≡ false
     → skip_rest over n (b ∷ bits) ≡ skip_rest over (n + 1) bits
 skip_more over zero b bits e =
@@ -136,6 +139,7 @@ skip_many over n (suc k) (b ∷ bits) h = elim (bool_cases (begins over (b ∷ b
       ∙ ap (λ m. skip_rest over m (drop k bits)) e
 ]
 
+-- after some skipped bits, where the next stretch begins here or no bits are left, those bits are one part
 pub skip_end : (over : Bool) (n : ℕ) (bits : List Bool) → 0 < n → gap over bits ≡ 0
     → skip_rest over n bits ≡ Skip n ∷ skip_rest over 0 bits
 skip_end over zero bits h e = absurd (omega arith)
@@ -179,6 +183,7 @@ follows_begin over (b ∷ bits) e = elim (or_cases (nat_le 50 (ones (b ∷ bits)
       sound_followed over (first_at over Synced (b ∷ bits)).item (first_at over Synced (b ∷ bits)).taken (b ∷ bits) p.0 p.1
 ]
 
+-- where a stretch begins, the parts between stretches are those in a stretch in mode synced
 pub stretch_from : (over : Bool) (bits : List Bool) → begins over bits ≡ true
     → parts over Between bits ≡ parts over (InStretch Synced) bits
 stretch_from over [] e = parts_none over Between ∙ sym (parts_none over (InStretch Synced))
@@ -193,6 +198,7 @@ stretch_from over (b ∷ bits) e =
 
 -- ---- a stretch ends
 
+-- where a stretch comes to a junk bit, its parts from there on are those between stretches
 pub lost_between : (over : Bool) (mode : Mode) (b c : Bool) (bits : List Bool) → first_at over mode (b ∷ bits) ≡ junk c
     → parts over (InStretch mode) (b ∷ bits) ≡ parts over Between (b ∷ bits)
 lost_between over mode b c bits e =
@@ -204,10 +210,12 @@ junk_begins over bits e =
     ap (λ t. t || pair over bits) (not_fifty over bits (ap (λ f. is_reset_item f.item) e))
     ∙ ap (λ n. nat_le 1 n && sound_next over (drop n bits)) (ap (λ f. sound_bits f.item f.taken) e)
 
+-- in a stretch, a one that is junk is the first skipped bit
 pub junk_skipped : (over : Bool) (b : Bool) (bits : List Bool) → first_at over Synced (b ∷ bits) ≡ junk true
     → idle_rest over 0 (b ∷ bits) ≡ skip_rest over 1 bits
 junk_skipped over b bits e = lost_between over Synced b true bits e ∙ skip_more over 0 b bits (junk_begins over (b ∷ bits) e)
 
+-- in a stretch, where all the bits are cut, that item is the only part
 pub cut_told : (over : Bool) (mode : Mode) (bits : List Bool) → bits ≢ [] → first_at over mode bits ≡ cut bits
     → parts over (InStretch mode) bits ≡ Told (Cut (record { len = length bits; bits = number bits })) ∷ []
 cut_told over mode bits n e =
@@ -217,6 +225,7 @@ cut_told over mode bits n e =
 
 -- ---- a transaction in a stretch
 
+-- in a stretch, where a transaction is read first, the parts are that of its step and those after it
 pub tx_moves : (over : Bool) (tx : Transaction) (len : ℕ) (s : Step) (bits : List Bool) → bits ≢ []
     → first_at over Synced bits ≡ whole tx len → in_stretch over (whole tx len) bits ≡ s
     → idle_rest over 0 bits ≡ s.part ∷ parts over s.after (drop s.taken bits)
@@ -237,6 +246,7 @@ start_zero over n bits =
     ∙ ap (λ x. if begins_at_start over bits then idle_rest over (n + 1) bits else x)
     (skip_more over n false bits (zero_begins over bits))
 
+-- at the front of a capture, after n zeros, k zeros are counted with them
 pub start_zeros : (over : Bool) (n k : ℕ) (bits : List Bool) →
     rest_at over (Start n) (replicate k false ++ bits) ≡ rest_at over (Start (n + k)) bits
 start_zeros over n zero bits = ap (λ m. rest_at over (Start m) bits) (omega arith)
@@ -245,6 +255,7 @@ start_zeros over n (suc k) bits =
     start_zero over n (replicate k false ++ bits) ∙ start_zeros over (n + 1) k bits
     ∙ ap (λ m. rest_at over (Start m) bits) e
 
+-- where no zero is at its front, a capture begins with a stretch where the stretch continues after what is read first
 pub start_at : (over : Bool) (bits : List Bool) (f : First) → past_zeros bits ≡ bits → first_at over Synced bits ≡ f
     → begins_at_start over bits ≡ followed over f.item (drop f.taken bits)
 start_at over bits f p e =

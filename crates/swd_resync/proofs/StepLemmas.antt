@@ -35,6 +35,7 @@ pub reset_at : (over : Bool) (mode : Mode) (b : Bool) (bits : List Bool) → 50 
 reset_at false mode b bits h = first_reset mode b bits h
 reset_at true mode b bits h = ap (λ f. with_phase true f (b ∷ bits)) (first_reset mode b bits h)
 
+-- a sound transaction isn't a junk bit
 pub sound_is_told : (item : Item) (n : ℕ) → nat_le 1 (sound_bits item n) ≡ true → is_junk item ≡ false
 sound_is_told (Tx tx) n e = refl
 sound_is_told (Reset m) n e = refl
@@ -43,6 +44,7 @@ sound_is_told (Idle m) n e = refl
 sound_is_told (Junk b) n e = absurd cc
 sound_is_told (Cut off) n e = refl
 
+-- where a stretch begins, what is read first in mode synced isn't a junk bit
 pub begins_told : (over : Bool) (bits : List Bool) → begins over bits ≡ true
     → is_junk (first_at over Synced bits).item ≡ false
 begins_told over [] e = refl
@@ -60,10 +62,12 @@ gap_le over (b ∷ bits) =
     chosen (begins over (b ∷ bits)) 0 (suc (gap over bits)) (λ n. n ≤ length (b ∷ bits)) (λ e. omega arith)
     (λ e. let h = gap_le over bits in omega arith)
 
+-- where no stretch begins at a bit, the bits before the next stretch are that bit and those counted behind it
 pub gap_none : (over : Bool) (b : Bool) (bits : List Bool) → begins over (b ∷ bits) ≡ false
     → gap over (b ∷ bits) ≡ suc (gap over bits)
 gap_none over b bits e = ap (λ t. if t then 0 else suc (gap over bits)) e
 
+-- where a stretch begins, no bits come before it
 pub gap_here : (over : Bool) (bits : List Bool) → begins over bits ≡ true → gap over bits ≡ 0
 gap_here over [] e = refl
 gap_here over (b ∷ bits) e = ap (λ t. if t then 0 else suc (gap over bits)) e
@@ -84,6 +88,7 @@ gap_least over (b ∷ bits) (suc n) e =
     chosen (begins over (b ∷ bits)) 0 (suc (gap over bits)) (λ m. m ≤ suc n) (λ t. omega arith)
     (λ t. let h = gap_least over bits n e in omega arith)
 
+-- where there is a pair, a stretch begins
 pub pair_begins : (over : Bool) (bits : List Bool) → pair over bits ≡ true → begins over bits ≡ true
 pair_begins over bits e = or_right (nat_le 50 (ones bits)) (pair over bits) e
 
@@ -173,6 +178,8 @@ steps_stretch over b bits f t =
     (λ s. Steps over (b ∷ bits) s) (λ e. steps_told over (b ∷ bits) f t j)
     (λ e. steps_withdrawn over b bits f t j))
 
+-- each step takes at least one bit of those there are, the bits taken are its part's, and after a skip a stretch
+-- begins or no bits are left
 pub steps : (over : Bool) (place : Place) (b : Bool) (bits : List Bool)
     → Steps over (b ∷ bits) (step over place (b ∷ bits))
 steps over (InStretch mode) b bits = steps_stretch over b bits (first_at over mode (b ∷ bits))

@@ -1,4 +1,4 @@
--- Laws of what is answered to a trace text.
+-- From what a lister has read to its answer: for `decode_text` and the methods of `Lister`.
 use Rattle.std.proofs.Common.{◌≡◌, ℕ, ◌+◌, ◌-◌, ◌^◌, min, List, Bool, [], ◌∷◌, ◌++◌, length, take, refl, sym, ap, ◌∙◌}
 use Rattle.std.proofs.Common.{append_assoc}
 use Rattle.std.proofs.lemmas.List.{take_at, length-append}

@@ -125,6 +125,7 @@ pub idle_listed : (all : List ℕ) (n : ℕ) → 0 < n
 idle_listed all zero h = absurd (omega arith)
 idle_listed all (suc n) h = ap (λ x. all ++ x) (sym (append-nil (item_line (Idle (suc n)) ++ 10 ∷ [])))
 
+-- 0 idle cycles add no line
 pub no_idle_listed : (all : List ℕ) (n : ℕ) → n ≡ 0 → all ≡ all ++ listing (idle_items n)
 no_idle_listed all n e = sym (ap (λ k. all ++ listing (idle_items k)) e ∙ append-nil all)
 

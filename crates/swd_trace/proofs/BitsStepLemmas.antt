@@ -33,6 +33,7 @@ pub bits_law : (mode after : Mode) (one : Bool) (run : ℕ) (item : Item) (x y :
 bits_law mode after one run item x y e h =
     ap (λ r. reading mode (replicate r one ++ x)) e ∙ h ∙ ap (λ r. item ∷ reading after (replicate r one ++ y)) (sym e)
 
+-- two equal readings stay equal with an empty run put before the bits of each
 pub same_law : (mode after : Mode) (one : Bool) (run : ℕ) (x y : List Bool) → run ≡ 0 → reading mode x ≡ reading after y
     →
     reading mode (replicate run one ++ x) ≡ reading after (replicate run one ++ y)
@@ -66,6 +67,7 @@ junk_by : (mode : Mode) (len bits : ℕ) (more : List Bool) → 0 < len
 junk_by mode len bits more h e = ap (reading mode) (bits_first len bits more h)
     ∙ junk_law mode (bits % 2 == 1) (low_bits (len - 1) (bits / 2) ++ more) e
 
+-- in mode lost, the first of up to fifty held bits is junk whatever follows, unless all of them are ones
 pub lost_junk : (mode : Mode) (len bits : ℕ) → mode ≡ Lost → 0 < len → len ≤ 50 → all_ones (low_bits len bits) ≡ false
     → IsJunkFirst mode len bits
 lost_junk mode len bits m h k z more =
@@ -105,6 +107,7 @@ lost_junks (suc i) (suc len) v k h more =
     ∙ ap (λ n. map Junk (low_bits (suc i) (v / 2)) ++ reading Lost (low_bits n (v / 2 ^ suc (suc i)) ++ more))
     (sym left))
 
+-- in mode lost, the first n of up to fifty held bits are junk, where the n-th of them or a later bit is a zero
 pub junks_law : (mode : Mode) (one : Bool) (run len v n : ℕ) → mode ≡ Lost → run ≡ 0 → len ≤ 50 → 0 < n
     → v + 2 ^ (n - 1) < 2 ^ len → (more : List Bool)
     → reading mode (replicate run one ++ (low_bits len v ++ more))
@@ -121,6 +124,7 @@ junks_law mode one run len v (suc i) lost none k some z more =
     ∙ ap (λ d. junk ++ reading d y) (sym lost)
     ∙ ap (λ r. junk ++ reading mode (replicate r one ++ y)) (sym none)
 
+-- directly after the switch, the first of up to fifty held bits is junk whatever follows, unless all are ones
 pub switched_junk : (mode : Mode) (len bits : ℕ) → mode ≡ AfterSwitch → 0 < len → len ≤ 50
     → all_ones (low_bits len bits) ≡ false → IsJunkFirst mode len bits
 switched_junk mode len bits m h k z more =
@@ -133,6 +137,8 @@ switched_junk mode len bits m h k z more =
     ∙ junk_by AfterSwitch len bits more h
     (junk_after_switch (bits % 2 == 1) (low_bits (len - 1) (bits / 2) ++ more) zero few)
 
+-- in mode synced, a held one that begins no transaction is junk whatever follows, where up to fifty bits are
+-- held and not all of them are ones
 pub synced_junk : (mode : Mode) (len bits : ℕ) → mode ≡ Synced → 0 < len → len ≤ 50
     → all_ones (low_bits len bits) ≡ false → bits % 2 ≡ 1 → stands (low_bits len bits) ≡ Broken →
     IsJunkFirst mode len bits
@@ -153,6 +159,7 @@ synced_junk mode len bits m h k z o s more =
 
 -- ---- idle cycles
 
+-- in mode synced, held zeros before a one are one item of idle cycles, as many as the number's trailing zeros
 pub idle_bits : (mode : Mode) (len bits : ℕ) → mode ≡ Synced → bits % 2 ≡ 0 → len ≤ 64 → 0 < bits → bits < 2 ^ len
     → (more : List Bool) →
     reading mode (low_bits len bits ++ more) ≡ Idle (count_trailing_zeros 64 bits) ∷ reading mode
@@ -177,6 +184,7 @@ idle_bits mode len bits m e h p k more =
     positive zero o = let f : bits / 2 ^ 0 ≡ bits = omega arith in absurd (omega arith)
     positive (suc z) o = omega arith
 
+-- an even number other than 0 has at least one trailing zero, and fewer of them than it has bits
 pub some_zeros : (bits : ℕ) (len : ℕ) → bits % 2 ≡ 0 → len ≤ 64 → 0 < bits → bits < 2 ^ len
     → (0 < count_trailing_zeros 64 bits) × (count_trailing_zeros 64 bits < len)
 some_zeros bits len e h p k =
@@ -189,6 +197,8 @@ some_zeros bits len e h p k =
 
 -- ---- a transaction
 
+-- in mode synced, a whole transaction at the front of the held bits is the next item, and its result gives the
+-- mode in which the bits after it are read
 pub tx_bits : (mode : Mode) (len bits n : ℕ) (tx : Transaction) → mode ≡ Synced
     → stands (low_bits len bits) ≡ Whole tx n → 12 ≤ n → (more : List Bool) →
     reading mode (low_bits len bits ++ more) ≡ Tx tx ∷ reading (mode_after tx.result)
@@ -204,6 +214,7 @@ tx_bits mode len bits n tx m s h more =
     ∙ tx_law (low_bits len bits ++ more) tx n (whole_stays (low_bits len bits) more tx n s) (omega arith)
     ∙ ap (λ x. Tx tx ∷ reading (mode_after tx.result) x) others
 
+-- a whole transaction at the front of the held bits has at most as many bits as are held
 pub tx_fits : (len bits n : ℕ) (tx : Transaction) → stands (low_bits len bits) ≡ Whole tx n → n ≤ len
 tx_fits len bits n tx s = subst (λ l. n ≤ l) (length-low_bits len bits) (whole_fits (low_bits len bits) tx n s)
 
@@ -229,6 +240,8 @@ abbrev pub StaysBegun : ℕ → ℕ → ℕ → Type 0
 StaysBegun len bits next = (more : List Bool) → length (low_bits len bits) + length more < next
     → stands (low_bits len bits ++ more) ≡ Begun
 
+-- in mode synced, nothing is decided below a number of bits if below it the bits stay the beginning of a
+-- transaction
 pub holds_begun : (mode : Mode) (one : Bool) (run len bits next new fed : ℕ) → Holds mode one run len bits next fed
     → run ≡ 0 → mode ≡ Synced → 0 < len → bits % 2 ≡ 1 →
     new ≤ 46 → StaysBegun len bits new → Holds mode one run len bits new fed
@@ -249,6 +262,7 @@ holds_begun mode one run len bits next new fed h e m p o n s = record {
       (is_cut_undecided Synced (low_bits len bits ++ more) (begun_cut len bits more p o (s more (omega arith))));
 }
 
+-- in mode synced, held bits that are the beginning of a transaction are cut if the trace ends with them
 pub begun_open : (mode : Mode) (len bits next : ℕ) → mode ≡ Synced → 0 < len → bits % 2 ≡ 1
     → length (low_bits len bits) < next → StaysBegun len bits next → IsOpenAt mode (low_bits len bits)
 begun_open mode len bits next m p o n s =

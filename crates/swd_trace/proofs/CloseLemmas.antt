@@ -86,6 +86,7 @@ cut_bits : (n v : ℕ) → v < 2 ^ n → cut_of (length (low_bits n v)) (number 
 cut_bits n v h = ap (λ l. cut_of l (number (low_bits n v))) (length-low_bits n v)
     ∙ ap (cut_of n) (number-low_bits n v h)
 
+-- at the end of a trace, a held run of fewer than fifty ones is cut, in any mode but lost
 pub cut_run : (mode : Mode) (one : Bool) (run len bits : ℕ) → (mode ≡ Lost → ⊥) → one ≡ true → 0 < run → run < 50
     → len ≡ 0 →
     reading mode (replicate run one ++ (low_bits len bits ++ [])) ≡ cut_of run (1 * 2 ^ run % 2 ^ 64 - 1) ∷ reading mode
@@ -123,6 +124,7 @@ append_none : (bits : List Bool) → bits ++ [] ≡ bits
 append_none [] = refl
 append_none (b ∷ bits) = ap (λ x. b ∷ x) (append_none bits)
 
+-- at the end of a trace, the held beginning of a switch is one idle cycle, and the rest of it is read in mode synced
 pub begun_switch : (mode : Mode) (one : Bool) (run len bits : ℕ) → mode ≡ AfterReset → run ≡ 0 → 0 < len
     → IsOpenAt mode (low_bits len bits) →
     reading mode (replicate run one ++ (low_bits len bits ++ [])) ≡ Idle 1 ∷ reading Synced
@@ -146,6 +148,7 @@ open_cut AfterReset bits n h = absurd (n refl)
 open_cut AfterSwitch bits n h = absurd h
 open_cut Lost bits n h = absurd h
 
+-- at the end of a trace, held bits that later bits might have completed are cut, in any mode but after a reset
 pub cut_held : (mode : Mode) (one : Bool) (run len bits : ℕ) → (mode ≡ AfterReset → ⊥) → run ≡ 0 → bits < 2 ^ len
     → IsOpenAt mode (low_bits len bits) →
     reading mode (replicate run one ++ (low_bits len bits ++ [])) ≡ cut_of len bits ∷ reading mode

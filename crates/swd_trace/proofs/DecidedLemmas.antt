@@ -58,6 +58,7 @@ first_of_ones mode (suc n) h = elim (cases_lt (suc n) 50) [
         (_, [], cut_law AfterSwitch true (replicate n true) (cut_ones_after_switch n few), λ same. cc)
     few_ones Lost few = (_, _, junk_law Lost true (replicate n true) (junk_ones n few), λ same. cc)
 
+-- ones alone decide no item, in any mode: they may become a line reset, or a longer one
 pub ones_undecided : (mode : Mode) (n : ℕ) → 0 < n → IsUndecided (λ more. reading mode (replicate n true ++ more))
 ones_undecided mode n h =
     let now = first_of_ones mode n h in

@@ -71,6 +71,7 @@ same_bits a b e =
     let g = both (a.len == b.len) (a.bits == b.bits) e in
     bits_by a.len a.bits b (eqb-true a.len b.len g.0) (eqb-true a.bits b.bits g.1)
 
+-- items that the test of equality finds equal are the same item
 pub same_item : (a b : Item) → (item_eq.ghosts).eq a b ≡ true → a ≡ b
 same_item (Reset m) (Reset n) e = let f : (m == n) ≡ true = e in ap Reset (eqb-true m n f)
 same_item Switch Switch e = refl

@@ -23,10 +23,12 @@ use Rattle.swd_trace.proofs.HeldLemmas.{settled_undecided}
 alone : (one : Bool) (run len bits : ℕ) → len ≡ 0 → replicate run one ++ low_bits len bits ≡ replicate run one
 alone one run len bits e = ap (λ x. replicate run one ++ x) (no_bits len bits e) ∙ append-nil (replicate run one)
 
+-- a held run with nothing after it is a run of its bit
 pub run_of : (one bit : Bool) (run len bits : ℕ) → 0 < run → len ≡ 0 → one ≡ bit
     → (n : ℕ) × (0 < n) × (replicate run one ++ low_bits len bits ≡ replicate n bit)
 run_of one bit run len bits p e o = (run, p, alone one run len bits e ∙ ap (replicate run) o)
 
+-- held bits without a run before them, all of one value, are a run of that value
 pub bits_of_run : (one bit : Bool) (run len bits : ℕ) → run ≡ 0 → 0 < len → low_bits len bits ≡ replicate len bit
     → (n : ℕ) × (0 < n) × (replicate run one ++ low_bits len bits ≡ replicate n bit)
 bits_of_run one bit run len bits r p e = (len, p, ap (λ m. replicate m one ++ low_bits len bits) r ∙ e)
@@ -37,6 +39,7 @@ same_number len v w bit n h k e f =
     let l : n ≡ len = sym (length-replicate n bit) ∙ ap length (sym f) ∙ length-low_bits len v in
     same_bits len v w h k (f ∙ ap (λ m. replicate m bit) l ∙ sym e)
 
+-- held bits whose number isn't that of ones alone aren't a run of ones
 pub other_ones : (one : Bool) (run len bits : ℕ) → run ≡ 0 → len < 64 → bits < 2 ^ len
     → (bits ≡ 1 * 2 ^ len % 2 ^ 64 - 1 → ⊥) → (n : ℕ) → 0 < n →
     replicate run one ++ low_bits len bits ≡ replicate n true → ⊥
@@ -46,12 +49,14 @@ other_ones one run len bits r k h d n p e =
     d (same_number len bits (2 ^ len - 1) true n h (omega arith) (low_ones len)
     (ap (λ m. replicate m one ++ low_bits len bits) (sym r) ∙ e) ∙ ap (λ x. x - 1) (sym shl))
 
+-- held bits whose number isn't 0 aren't a run of zeros
 pub other_zeros : (one : Bool) (run len bits : ℕ) → run ≡ 0 → bits < 2 ^ len → (bits ≡ 0 → ⊥) → (n : ℕ) → 0 < n
     → replicate run one ++ low_bits len bits ≡ replicate n false → ⊥
 other_zeros one run len bits r h d n p e =
     d (same_number len bits 0 false n h (pow_pos len) (low_zeros len)
     (ap (λ m. replicate m one ++ low_bits len bits) (sym r) ∙ e))
 
+-- where nothing is held, the held bits aren't a run of either value
 pub no_run : (one bit : Bool) (run len bits : ℕ) → run ≡ 0 → len ≡ 0 → (n : ℕ) → 0 < n
     → replicate run one ++ low_bits len bits ≡ replicate n bit → ⊥
 no_run one bit run len bits r e n p f =
@@ -82,6 +87,7 @@ new_run : (mode : Mode) (bit : Bool) (m : ℕ) (more : List Bool)
     → reading mode (replicate m bit ++ more) ≡ reading mode (replicate m bit ++ (low_bits 0 0 ++ more))
 new_run mode bit m more = ap (λ x. reading mode (replicate m bit ++ (x ++ more))) (sym (no_bits 0 0 refl))
 
+-- held bits that are a run, and more bits of the same value, are read as one longer run in the same mode
 pub ones_go_on : (mode : Mode) (one bit : Bool) (run len bits n count : ℕ)
     → replicate run one ++ low_bits len bits ≡ replicate n bit → (more : List Bool) →
     reading mode (replicate (run + (len + count)) bit ++ (low_bits 0 0 ++ more)) ≡ reading mode
@@ -113,6 +119,7 @@ more_zeros Lost (suc n) m h u p more =
     absurd (u (Junk false) (λ more c.
     (reading Lost (replicate n false ++ more), junk_law Lost false (replicate n false ++ more) refl)))
 
+-- zeros that a settled decoder holds, and at least one more, are read as one longer run in mode synced
 pub zeros_go_on : (d : Decoder) (n count : ℕ) → IsSettled d → 0 < n → 0 < count → held d ≡ replicate n false
     → (more : List Bool) →
     reading Synced (replicate (d.run + (d.len + count)) false ++ (low_bits 0 0 ++ more)) ≡ rest d

@@ -42,6 +42,7 @@ pub record Front (v len : ℕ) : Type 0 where
   pub short : len ≤ 46
   pub some : 12 ≤ len
 
+-- 64 bits that begin with a request begin with a whole transaction, whose length its three ACK bits give
 pub whole_front : (q : Request) (v byte len : ℕ) → byte ≡ v % 2 ^ 8 → request q ≡ low_bits 8 byte
     → len ≡ len_of (ack_of v) → Front v len
 whole_front q v byte len e r w =
@@ -62,6 +63,7 @@ is_acknowledged Wait h = tt
 is_acknowledged Fault h = tt
 is_acknowledged (NoAck seen) h = h refl
 
+-- a transaction that doesn't have exactly twelve bits was acknowledged
 pub front_acknowledged : (n v : ℕ) (tx : Transaction) → Spells tx (low_bits n v) → (n ≡ 12 → ⊥)
     → IsAcknowledged tx.result
 front_acknowledged n v tx s h = is_acknowledged tx.result

@@ -43,6 +43,7 @@ parity_wrong (a ∷ b ∷ c ∷ []) rest h o = absurd (omega arith)
 parity_wrong (a ∷ b ∷ c ∷ d ∷ []) rest h o = absurd (omega arith)
 parity_wrong (a ∷ b ∷ c ∷ d ∷ e ∷ f ∷ g) rest h o = absurd (omega arith)
 
+-- after a one, five bits with right parity are a request's, and the bits from the stop bit on decide what is found
 pub parity_right : (five rest : List Bool) → length five ≡ 5 → odd five ≡ false
     → stands (true ∷ (five ++ rest)) ≡ after_parity (asked_of five) rest
 parity_right (a ∷ b ∷ c ∷ d ∷ e ∷ []) rest h o =
@@ -54,14 +55,17 @@ parity_right (a ∷ b ∷ c ∷ []) rest h o = absurd (omega arith)
 parity_right (a ∷ b ∷ c ∷ d ∷ []) rest h o = absurd (omega arith)
 parity_right (a ∷ b ∷ c ∷ d ∷ e ∷ f ∷ g) rest h o = absurd (omega arith)
 
+-- a request up to its parity bit is the beginning of a transaction
 pub parity_none : (q : Request) (bits : List Bool) → length bits < 1 → after_parity q bits ≡ Begun
 parity_none q [] h = refl
 parity_none q (b ∷ bits) h = absurd (omega arith)
 
+-- a request up to its stop bit is the beginning of a transaction
 pub stop_none : (q : Request) (bits : List Bool) → length bits < 1 → after_stop q bits ≡ Begun
 stop_none q [] h = refl
 stop_none q (b ∷ bits) h = absurd (omega arith)
 
+-- a request and fewer than four bits after it are the beginning of a transaction
 pub request_few : (q : Request) (bits : List Bool) → length bits < 4 → after_request q bits ≡ Begun
 request_few q [] h = refl
 request_few q (a ∷ []) h = refl
@@ -115,6 +119,7 @@ join_six len v more h e =
     ap (λ x. x ++ more) (first_six len v h e)
     ∙ ap (λ x. true ∷ x) (append_assoc (low_bits 5 (v / 2)) (low_bits (len - 6) (v / 2 ^ 6)) more)
 
+-- a one and then five bits with wrong parity, at the front of the held bits, begin no transaction
 pub broken_parity : (len v : ℕ) → 6 ≤ len → v % 2 ≡ 1 → count_ones (bit_and (v / 2) (2 ^ 5 - 1)) % 2 ≡ 1
     → stands (low_bits len v) ≡ Broken
 broken_parity len v h e p =
@@ -122,6 +127,7 @@ broken_parity len v h e p =
     ∙ parity_wrong (low_bits 5 (v / 2)) (low_bits (len - 6) (v / 2 ^ 6)) (length-low_bits 5 (v / 2))
     (parity_of v ∙ ap (λ n. n == 1) p)
 
+-- a one and then five bits with right parity at the front: the bits from the seventh on decide what is found
 pub after_six : (len v : ℕ) → 6 ≤ len → v % 2 ≡ 1 → count_ones (bit_and (v / 2) (2 ^ 5 - 1)) % 2 ≢ 1
     → (more : List Bool) →
     stands (low_bits len v ++ more) ≡ after_parity (asked_in v) (low_bits (len - 6) (v / 2 ^ 6) ++ more)
@@ -151,6 +157,7 @@ append_none : (bits : List Bool) → bits ++ [] ≡ bits
 append_none [] = refl
 append_none (b ∷ bits) = ap (λ x. b ∷ x) (append_none bits)
 
+-- no transaction has a seventh bit, the stop bit, that is 1
 pub broken_stop : (len v : ℕ) → 7 ≤ len
     → ((more : List Bool) → stands (low_bits len v ++ more) ≡ after_parity (asked_in v)
     (low_bits (len - 6) (v / 2 ^ 6) ++ more)) →
@@ -159,6 +166,7 @@ broken_stop len v h law e =
     ap stands (sym (append_none (low_bits len v))) ∙ law []
     ∙ ap (λ x. after_parity (asked_in v) (x ++ [])) (seventh len v true h (ap (λ n. n == 1) e))
 
+-- where the seventh bit, the stop bit, is 0, the bits from the eighth on decide what is found
 pub after_seven : (len v : ℕ) → 7 ≤ len
     → ((more : List Bool) → stands (low_bits len v ++ more) ≡ after_parity (asked_in v)
     (low_bits (len - 6) (v / 2 ^ 6) ++ more)) →
@@ -167,6 +175,7 @@ pub after_seven : (len v : ℕ) → 7 ≤ len
 after_seven len v h law e more = law more
     ∙ ap (λ x. after_parity (asked_in v) (x ++ more)) (seventh len v false h (not_one _ e))
 
+-- no transaction has an eighth bit, the park bit, that is 0
 pub broken_park : (len v : ℕ) → 8 ≤ len
     → ((more : List Bool) → stands (low_bits len v ++ more) ≡ after_stop (asked_in v)
     (low_bits (len - 7) (v / 2 ^ 7) ++ more)) →
@@ -175,6 +184,7 @@ broken_park len v h law e =
     ap stands (sym (append_none (low_bits len v))) ∙ law []
     ∙ ap (λ x. after_stop (asked_in v) (x ++ [])) (eighth len v false h (ap (λ n. n == 1) e))
 
+-- where the eighth bit, the park bit, is 1, the request is whole, and the bits after it decide what is found
 pub after_eight : (len v : ℕ) → 8 ≤ len
     → ((more : List Bool) → stands (low_bits len v ++ more) ≡ after_stop (asked_in v)
     (low_bits (len - 7) (v / 2 ^ 7) ++ more)) →
@@ -190,12 +200,14 @@ after_eight len v h law e more =
     not_zero (suc zero) h k = refl
     not_zero (suc (suc n)) h k = absurd (omega arith)
 
+-- len - k bits of a number, followed by other bits, are as many as both together
 pub length_after : (k len v : ℕ) (more : List Bool) → length (low_bits (len - k) v ++ more) ≡ len - k + length more
 length_after k len v more = length-append (low_bits (len - k) v) more
     ∙ ap (λ n. n + length more) (length-low_bits (len - k) v)
 
 -- ---- the acknowledgement
 
+-- a transaction has at least twelve bits, whatever its ACK
 pub len_of_least : (n : ℕ) → 12 ≤ len_of n
 len_of_least zero = omega arith
 len_of_least (suc zero) = omega arith
@@ -204,6 +216,7 @@ len_of_least (suc (suc (suc zero))) = omega arith
 len_of_least (suc (suc (suc (suc zero)))) = omega arith
 len_of_least (suc (suc (suc (suc (suc n))))) = omega arith
 
+-- a transaction has at most 46 bits, whatever its ACK
 pub len_of_most : (n : ℕ) → len_of n ≤ 46
 len_of_most zero = omega arith
 len_of_most (suc zero) = omega arith
@@ -264,6 +277,7 @@ ack_in len v more h =
     ∙ ap (λ x. (v / 2 ^ 8 % 2 == 1) ∷ (x ++ (low_bits (len - (8 + 1) - 3) (v / 2 ^ 8 / 2 / 2 ^ 3) ++ more))) three
     ∙ ap (λ x. (v / 2 ^ 8 % 2 == 1) ∷ (low_bits 3 (bit_and (v / 2 ^ 9) (2 ^ 3 - 1)) ++ (x ++ more))) others
 
+-- the three ACK bits of a transaction at the front of these bits, as a number
 abbrev pub ack_of : ℕ → ℕ
 ack_of v = bit_and (v / 2 ^ 9) (2 ^ 3 - 1)
 
@@ -275,6 +289,7 @@ abbrev pub AfterRequest : Request → ℕ → ℕ → Type 0
 AfterRequest q len v = (more : List Bool)
     → stands (low_bits len v ++ more) ≡ after_request q (low_bits (len - 8) (v / 2 ^ 8) ++ more)
 
+-- after a request and its ACK, fewer bits than that ACK calls for are the beginning of a transaction
 pub begun_by_len : (q : Request) (len v : ℕ) → AfterRequest q len v → 12 ≤ len → (more : List Bool)
     → len + length more < len_of (ack_of v) →
     stands (low_bits len v ++ more) ≡ Begun
@@ -284,6 +299,7 @@ begun_by_len q len v law h more k =
     law more ∙ ap (after_request q) (ack_in len v more h)
     ∙ below_whole q (v / 2 ^ 8 % 2 == 1) (ack_of v) (low_bits (len - 12) (v / 2 ^ 12) ++ more) (ack_lt v) (omega arith)
 
+-- after a request and its ACK, as many bits as that ACK calls for, or more, begin with a whole transaction
 pub whole_by_len : (q : Request) (len v : ℕ) → AfterRequest q len v → 12 ≤ len → len_of (ack_of v) ≤ len →
     (tx : Tx) × (stands (low_bits len v) ≡ Whole tx (len_of (ack_of v)))
 whole_by_len q len v law h k =
@@ -303,6 +319,7 @@ spelled_front len v n tx h k p =
     ap stands (parted n len v h) ∙ spelled_stands tx (low_bits n v) (low_bits (len - n) (v / 2 ^ n)) q
     ∙ ap (Whole tx) (length-low_bits n v)
 
+-- where a whole transaction is at the front of a number's bits, the bits masked to its length spell it
 pub front_spelled : (len v n : ℕ) (tx : Tx) → n ≤ len → n < 64 → stands (low_bits len v) ≡ Whole tx n
     → Spells tx (low_bits n (bit_and v (1 * 2 ^ n % 2 ^ 64 - 1)))
 front_spelled len v n tx h k e =

@@ -58,6 +58,7 @@ bits_after : (len bits : ℕ) (b : Bool) (more : List Bool) → 0 < len → (bit
 bits_after len bits b more h e = ap (λ x. x ++ more) (next_bit len bits h)
     ∙ ap (λ x. x ∷ (low_bits (len - 1) (bits / 2) ++ more)) e
 
+-- a held run of fifty ones or more, ended by a zero, is a line reset of its length
 pub reset_ended : (mode : Mode) (one : Bool) (run len bits : ℕ) → one ≡ true → 50 ≤ run → 0 < len
     → one ≢ (bits % 2 == 1) → (more : List Bool) →
     reading mode (replicate run one ++ (low_bits len bits ++ more)) ≡ Reset run ∷ reading AfterReset
@@ -68,6 +69,7 @@ reset_ended mode true run len bits o h k n more =
     ap (λ x. reading mode (replicate run true ++ x)) e ∙ reset_law mode run _ h
     ∙ ap (λ x. Reset run ∷ reading AfterReset x) (sym e)
 
+-- a held run of fifty ones or more, at the end of a trace, is a line reset of its length
 pub reset_last : (mode : Mode) (one : Bool) (run len bits : ℕ) → one ≡ true → 50 ≤ run → len ≡ 0 →
     reading mode (replicate run one ++ (low_bits len bits ++ [])) ≡ Reset run ∷ reading AfterReset
     (low_bits len bits ++ [])
@@ -78,6 +80,7 @@ reset_last mode one run len bits o h k =
     ∙ reset_end mode run h ∙ ap (λ x. Reset run ∷ x) (sym (reading_none AfterReset))
     ∙ ap (λ x. Reset run ∷ reading AfterReset x) (sym e)
 
+-- in mode synced, a held run of zeros, ended by a one, is an item of that many idle cycles
 pub idle_ended : (mode : Mode) (one : Bool) (run len bits : ℕ) → mode ≡ Synced → one ≡ false → 0 < run → 0 < len
     → one ≢ (bits % 2 == 1) → (more : List Bool) →
     reading mode (replicate run one ++ (low_bits len bits ++ more)) ≡ Idle run ∷ reading mode
@@ -90,6 +93,7 @@ idle_ended mode false run len bits m o h k n more =
     ∙ ap (λ x. Idle run ∷ reading Synced x) (sym e)
     ∙ ap (λ d. Idle run ∷ reading d (low_bits len bits ++ more)) (sym m)
 
+-- in mode synced, a held run of zeros, at the end of a trace, is an item of that many idle cycles
 pub idle_last : (mode : Mode) (one : Bool) (run len bits : ℕ) → mode ≡ Synced → one ≡ false → 0 < run → len ≡ 0 →
     reading mode (replicate run one ++ (low_bits len bits ++ [])) ≡ Idle run ∷ reading mode (low_bits len bits ++ [])
 idle_last mode one run len bits m o h k =
@@ -122,6 +126,7 @@ unpacked_bits run len bits h k =
     ∙ low_bits-join run len bits (1 * 2 ^ run % 2 ^ 64 - 1) h (ones_lt run (omega arith)) (omega arith)
     ∙ ap (λ x. x ++ low_bits len bits) (ap (λ x. low_bits run (x - 1)) (one_shl run 64 (omega arith)) ∙ low_ones run)
 
+-- the invariant of a decoder holds after a run of fewer than fifty ones is held as bits
 pub holds_unpacked : (mode : Mode) (one : Bool) (run len bits next fed : ℕ) → Holds mode one run len bits next fed
     → 0 < run → run < 50 →
     Holds mode one 0 (len + run) (unpacked run bits) next fed
@@ -132,6 +137,7 @@ holds_unpacked mode one run len bits next fed h p k =
     (holds_bits mode one (len + run) (unpacked run bits) fed (unpacked_lt run len bits h.whole (omega arith))
     (omega arith) (omega arith))
 
+-- a run of fewer than fifty ones, held as bits, is read as before
 pub unpacked_law : (mode : Mode) (one : Bool) (run len bits next fed : ℕ) → Holds mode one run len bits next fed
     → 0 < run → run < 50 → one ≡ true → (more : List Bool) →
     reading mode (replicate run one ++ (low_bits len bits ++ more)) ≡ reading mode
@@ -154,6 +160,8 @@ packed_law mode one bit run len bits count e f g more =
 
 -- ---- steps one after the other
 
+-- what a decoder decides after a step that changed neither its reading, its places nor its fed bits, it
+-- decides from before that step, too
 pub decides_after : (old mid new : Decoder) (result : Option Item) → Decides mid new result
     → ((more : List Bool) → rest old more ≡ rest mid more) → places mid ≡ places old →
     fed_of mid ≡ fed_of old → Decides old new result
@@ -169,6 +177,7 @@ decides_after old mid new None g l p f = record {
 
 -- ---- what nothing more comes from
 
+-- a decoder at which no item is due holds nothing that decides an item
 pub settled_undecided : (d : Decoder) → IsSettled d → IsUndecided (rest d)
 settled_undecided d s = elim (cases_lt 0 d.run) [
   | inl p ↦

@@ -66,6 +66,7 @@ pushed_lt len bits b bit h k e =
     let room : len + 1 ≤ 63 = omega arith in
     subst (λ x. x < 2 ^ (len + 1)) (or_comm (b * 2 ^ len % 2 ^ 64) bits) (join_lt len 1 b bits small h room)
 
+-- a bit that is pushed to the held bits comes after them and before any later bits
 pub pushed_more : (len bits b : ℕ) (bit : Bool) (more : List Bool) → bits < 2 ^ len → len < 50 → b ≡ bool_byte bit →
     low_bits (len + 1) (bit_or bits (b * 2 ^ len % 2 ^ 64)) ++ more ≡ low_bits len bits ++ (bit ∷ more)
 pushed_more len bits b bit more h k e =
@@ -86,6 +87,7 @@ first_pushed : (bits b : ℕ) (bit : Bool) → bits < 2 ^ 0 → b ≡ bool_byte 
 unfolding low_bits
 first_pushed bits b bit h e = ap head_or (pushed 0 bits b bit h (lit< tt) e)
 
+-- the invariant of a decoder holds after a bit is pushed, where no item is due and the bit ends the run, if any
 pub holds_pushed : (mode : Mode) (one : Bool) (run len bits next fed b : ℕ) (bit : Bool)
     → Holds mode one run len bits next fed → len < next → (0 < run → one ≢ bit) →
     b ≡ bool_byte bit → Holds mode one run (len + 1) (bit_or bits (b * 2 ^ len % 2 ^ 64)) next (fed + 1)
@@ -125,12 +127,14 @@ longer mode one bit run len bits more h e =
     ∙ append_assoc (replicate run one) (one ∷ []) more ∙ ap (λ b. replicate run one ++ (b ∷ more)) e
     ∙ ap (λ x. replicate run one ++ (x ++ (bit ∷ more))) (sym (no_bits len bits h)))
 
+-- bits that the test of equality finds equal are the same bit
 pub same_bit : (a b : Bool) → beq a b ≡ true → a ≡ b
 same_bit true true e = refl
 same_bit true false e = absurd cc
 same_bit false true e = absurd cc
 same_bit false false e = refl
 
+-- bits that the test of equality finds different are different bits
 pub other_bit : (a b : Bool) → beq a b ≡ false → a ≢ b
 other_bit true true e = λ f. cc
 other_bit true false e = λ f. cc
@@ -139,6 +143,7 @@ other_bit false false e = λ f. cc
 
 -- ---- bits are joined
 
+-- the invariant of a decoder without a run holds after bits are joined to those held, up to fifty in all
 pub holds_joined : (mode : Mode) (one : Bool) (run len bits count more fed n : ℕ) → run ≡ 0 → bits < 2 ^ len
     → more < 2 ^ count → len + count ≤ 50 → len ≤ fed → n ≡ count →
     Holds mode one run (len + count) (bit_or (more * 2 ^ len % 2 ^ 64) bits) 1 (fed + n)

@@ -25,10 +25,12 @@ use Rattle.swd_trace.proofs.ReadingLemmas.{all_ones_is}
 
 -- ---- a whole transaction
 
+-- where a whole transaction of n bits is found at the front, there are n bits, and the first n spell it
 pub whole_spells : (bits : List Bool) (tx : Tx) (n : ℕ) → stands bits ≡ Whole tx n
     → (n ≤ length bits) × Spells tx (take n bits)
 whole_spells bits tx n e = (whole_fits bits tx n e, stands_spelled bits tx n e)
 
+-- where there are n bits and the first n spell a transaction, it is found whole at the front, with length n
 pub spells_whole : (bits : List Bool) (tx : Tx) (n : ℕ) → (n ≤ length bits) × Spells tx (take n bits)
     → stands bits ≡ Whole tx n
 spells_whole bits tx n h =
@@ -211,6 +213,7 @@ completed (true ∷ a ∷ b ∷ c ∷ d ∷ p ∷ bits) e =
           refl h.0 ∙ r.stands ∙ ap (Whole r.tx) (omega arith);
     }
 
+-- where the beginning of a transaction is found, more bits, at least one, make the bits spell one
 pub begun_spells : (bits : List Bool) → stands bits ≡ Begun → (tx : Tx) × (more : List Bool) × (more ≢ [])
     × Spells tx (bits ++ more)
 begun_spells bits e =
@@ -225,6 +228,7 @@ nothing_more : (bits : List Bool) → length bits ≡ 0 → bits ≡ []
 nothing_more [] h = refl
 nothing_more (b ∷ bits) h = absurd (omega arith)
 
+-- where more bits, at least one, make the bits spell a transaction, the beginning of one is found
 pub spells_begun : (bits : List Bool) → (tx : Tx) × (more : List Bool) × (more ≢ []) × Spells tx (bits ++ more)
     → stands bits ≡ Begun
 spells_begun bits h =
@@ -252,10 +256,12 @@ front_ones : (n : ℕ) (more : List Bool) → n ≤ ones (replicate n true ++ mo
 front_ones zero more = omega arith
 front_ones (suc n) more = let h = front_ones n more in omega arith
 
+-- where fifty ones or more are counted at the front, the bits begin with fifty ones
 pub fifty_stand : (bits : List Bool) → nat_le 50 (ones bits) ≡ true → (more : List Bool)
     × (bits ≡ replicate 50 true ++ more)
 fifty_stand bits e = ones_front 50 bits (leb-true 50 (ones bits) e)
 
+-- where the bits begin with fifty ones, fifty or more are counted at the front
 pub stand_fifty : (bits : List Bool) → (more : List Bool) × (bits ≡ replicate 50 true ++ more)
     → nat_le 50 (ones bits) ≡ true
 stand_fifty bits h = le-leb 50 (ones bits) (subst (λ x. 50 ≤ ones x) (sym h.1) (front_ones 50 h.0))
@@ -265,6 +271,7 @@ ones_of_all [] e = refl
 ones_of_all (true ∷ bits) e = ap suc (ones_of_all bits e)
 ones_of_all (false ∷ bits) e = absurd cc
 
+-- ones alone, fewer than fifty, are a proper prefix of fifty ones
 pub fewer_begin : (bits : List Bool) → (nat_le 50 (ones bits) ≡ false) × (all_ones bits ≡ true) → (more : List Bool)
     × (more ≢ []) × (replicate 50 true ≡ bits ++ more)
 fewer_begin bits h =
@@ -289,6 +296,7 @@ all_front zero (b ∷ bits) more e = absurd cc
 all_front (suc n) (true ∷ bits) more e = let f : replicate n true ≡ bits ++ more = cc in all_front n bits more f
 all_front (suc n) (false ∷ bits) more e = absurd cc
 
+-- a proper prefix of fifty ones is ones alone, fewer than fifty
 pub begin_fewer : (bits : List Bool) → (more : List Bool) × (more ≢ []) × (replicate 50 true ≡ bits ++ more)
     → (nat_le 50 (ones bits) ≡ false) × (all_ones bits ≡ true)
 begin_fewer bits h =
@@ -306,6 +314,7 @@ begin_fewer bits h =
 
 -- ---- the switch
 
+-- where the test finds some bits at the front of others, the others are these bits and what follows them
 pub with_front : (a b : List Bool) → begins_with a b ≡ true → (more : List Bool) × (b ≡ a ++ more)
 with_front [] b e = (b, refl)
 with_front (x ∷ a) [] e = absurd cc
@@ -319,6 +328,7 @@ front_with [] more = refl
 front_with (true ∷ a) more = front_with a more
 front_with (false ∷ a) more = front_with a more
 
+-- where bits are some others and what follows them, the test finds these others at the front
 pub front_of : (a b : List Bool) → (more : List Bool) × (b ≡ a ++ more) → begins_with a b ≡ true
 front_of a b h = ap (begins_with a) h.1 ∙ front_with a h.0
 
@@ -336,5 +346,6 @@ each_other a b p q =
     first_empty [] y e = refl
     first_empty (i ∷ x) y e = absurd cc
 
+-- the same bits decide only one list of items
 pub one_decided : (bits : List Bool) (a b : List Item) → IsDecided bits a → IsDecided bits b → a ≡ b
 one_decided bits a b p q = each_other a b (q.longest a p.common) (p.longest b q.common)

@@ -216,6 +216,7 @@ last_line [] h k = absurd (h refl)
 last_line (byte ∷ line) h k = ap lines (append-nil (byte ∷ line)) ∙ lines_unfed byte line k
     ∙ sym (lines_fed (byte ∷ line) [] k)
 
+-- a line feed after a last line that isn't empty, and lacks its own, adds no line
 pub last_same : (seen : List ℕ) (items : List Item) (line : List ℕ) (total : ℕ) → line ≢ []
     → Takes seen items line total → lines (seen ++ 10 ∷ []) ≡ lines seen
 last_same seen items line total h t =

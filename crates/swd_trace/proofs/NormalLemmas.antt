@@ -59,6 +59,7 @@ common : (items : List Item) (same : ℕ) (d : Decoder) → rest d [] ≡ [] →
     → take same items ≡ reading_of (bits_of_items items)
 common items same d none h = sym (append-nil (take same items)) ∙ ap (λ x. take same items ++ x) (sym none) ∙ h.law
 
+-- where a reading is the first items of its list and no more, the two differ first at the item after these
 pub short_at_end : (items : List Item) (same : ℕ) (d : Decoder) → rest d [] ≡ [] → same ≢ length items
     → Agrees items same d [] →
     DiffersFirst items (reading_of (bits_of_items items)) (suc same)
@@ -84,6 +85,7 @@ short_at_end items same d none other h =
 
 -- ---- the items one by one
 
+-- in a list of legal items, the item at each place is legal
 pub legal_at : (items : List Item) (at : ℕ) (d : Item) → at < length items → AreLegal items
     → IsLegal (get_or items at d)
 legal_at [] at d h l = absurd (omega arith)
@@ -98,6 +100,7 @@ bits_from_item items at d h =
     ap bits_of_items (drop-cons items at d h)
     ∙ ap (λ k. item_bits (get_or items at d) ++ bits_of_items (drop k items)) n
 
+-- the items from a place on have as many bits as the item there and the items after it together
 pub count_from_item : (items : List Item) (at : ℕ) (d : Item) → at < length items →
     length (bits_of_items (drop at items)) ≡ length (item_bits (get_or items at d)) + length
     (bits_of_items (drop (at + 1) items))

@@ -19,6 +19,7 @@ unfolding low_bits
 next_bit zero v h = absurd (omega arith)
 next_bit (suc len) v h = let e : suc len - 1 ≡ len = omega arith in rw e refl
 
+-- the low 0 bits of a number are the empty list
 pub no_bits : (len v : ℕ) → len ≡ 0 → low_bits len v ≡ []
 unfolding low_bits
 no_bits zero v h = refl
@@ -71,6 +72,7 @@ zero_among n v h k d =
       | inr e ↦ e
     ]
 
+-- the number 2 ^ n - 1, as the code computes it in 64 bits, is n ones
 pub ones_alone : (n v : ℕ) → n < 64 → v ≡ 1 * 2 ^ n % 2 ^ 64 - 1 → low_bits n v ≡ replicate n true
 ones_alone n v k e =
     ap (low_bits n) (e ∙ ap (λ x. x - 1) (one_shl n 64 k)) ∙ low_ones n
@@ -78,6 +80,7 @@ ones_alone n v k e =
 pub half_lt : (len v : ℕ) → v < 2 ^ len → 0 < len → v / 2 < 2 ^ (len - 1)
 half_lt len v h k = shifted_lt 1 len v k h
 
+-- the number 0 has zeros alone as its bits
 pub low_zeros : (n : ℕ) → low_bits n 0 ≡ replicate n false
 unfolding low_bits
 low_zeros zero = refl
@@ -122,6 +125,7 @@ trailing_step len v z (suc zero) e h p k next =
     }
 trailing_step len v z (suc (suc d)) e h p k next = absurd (omega arith)
 
+-- the trailing zeros that are counted in a number other than 0 are the zeros at the front, and a one follows
 pub trailing : (k len v : ℕ) → len ≤ k → 0 < v → v < 2 ^ len → Trailing len v (count_trailing_zeros k v)
 unfolding count_trailing_zeros
 trailing k zero v h p q = absurd (omega arith)
@@ -185,6 +189,7 @@ zeros_most (suc k) (suc n) v h e =
         let one : v % 2 ≡ 1 = omega arith in
         let odd : (1 == 1) ≡ false = ap (λ x. x == 1) (sym one) ∙ f in absurd cc
 
+-- ones at the front are at most as many as the trailing zeros that are counted in the complement
 pub ones_most : (k n v : ℕ) → v < 2 ^ k → n ≤ k → low_bits n v ≡ replicate n true
     → n ≤ count_trailing_zeros k (2 ^ k - 1 - v)
 unfolding low_bits count_trailing_zeros
@@ -218,6 +223,8 @@ below (suc i) (suc len) h =
     let less : i < len = below i len (omega arith) in
     omega arith
 
+-- 64 less the leading zeros of the complement is at most len, and unless it is 0, the last of that many bits or
+-- a later bit is a zero
 pub last_zero : (len v : ℕ) → len < 64 → v < 2 ^ len
     → (64 - count_leading_zeros 64 (2 ^ len - 1 - v) ≤ len)
     × (0 < 64 - count_leading_zeros 64 (2 ^ len - 1 - v)

@@ -17,6 +17,7 @@ use Rattle.swd_trace.specs.Reading.{cut_or_lost, first_by, first_synced, first_s
 use Rattle.swd_trace.specs.Decided.{Continues, IsUndecided}
 use Rattle.swd_trace.proofs.StandLemmas.{chosen, lt_leb, few_ones}
 
+-- a bit is a one or a zero
 pub bool_cases : (b : Bool) → (b ≡ true) ⊎ (b ≡ false)
 bool_cases true = inl refl
 bool_cases false = inr refl
@@ -29,6 +30,7 @@ passed zero mode bits = refl
 passed (suc n) mode [] = refl
 passed (suc n) mode (b ∷ bits) = passed n mode bits
 
+-- a reading is its first item, and then the reading of the bits after that item, in the mode after it
 pub reading_first : (mode : Mode) (b : Bool) (bits : List Bool) →
     reading mode (b ∷ bits) ≡ (first mode b bits).item ∷ reading (first mode b bits).after
     (drop ((first mode b bits).taken - 1) bits)
@@ -36,6 +38,7 @@ unfolding items_after
 reading_first mode b bits = ap (λ items. (first mode b bits).item ∷ items)
     (passed ((first mode b bits).taken - 1) (first mode b bits).after bits)
 
+-- no bits are read as no items, in any mode
 pub reading_none : (mode : Mode) → reading mode [] ≡ []
 unfolding items_after
 reading_none mode = refl
@@ -83,6 +86,7 @@ ones_end (false ∷ bits) more e = (refl, (refl, omega arith))
 ones_end (true ∷ bits) more e = let r = ones_end bits more e in
     (ap suc r.0, (r.1.0, (let h : ones bits < length bits = r.1.1 in omega arith)))
 
+-- bits without a zero are a run of ones
 pub all_ones_is : (bits : List Bool) → all_ones bits ≡ true → bits ≡ replicate (length bits) true
 all_ones_is [] e = refl
 all_ones_is (true ∷ bits) e = ap (λ x. true ∷ x) (all_ones_is bits e)
@@ -90,10 +94,12 @@ all_ones_is (false ∷ bits) e = absurd cc
 
 -- ---- what is first, in each mode
 
+-- fifty ones or more at the front are a line reset of all of these, in any mode
 pub first_reset : (mode : Mode) (b : Bool) (bits : List Bool) → 50 ≤ ones (b ∷ bits) →
     first mode b bits ≡ record { item = Reset (ones (b ∷ bits)); after = AfterReset; taken = ones (b ∷ bits) }
 first_reset mode b bits h = let t : nat_le 50 (ones (b ∷ bits)) ≡ true = le-leb 50 (ones (b ∷ bits)) h in rw t refl
 
+-- with fewer than fifty ones at the front, the cases of the mode say what is read first
 pub first_few : (mode : Mode) (b : Bool) (bits : List Bool) → ones (b ∷ bits) < 50
     → first mode b bits ≡ first_short mode b bits
 first_few mode b bits h = let t : nat_le 50 (ones (b ∷ bits)) ≡ false = lt_leb 50 (ones (b ∷ bits)) h in rw t refl
@@ -139,6 +145,7 @@ idle_law (suc n) more h =
     ∙ ap (λ k. Idle (suc n) ∷ reading Synced (drop k (replicate n false ++ true ∷ more))) d
     ∙ ap (λ x. Idle (suc n) ∷ reading Synced x) (drop_run n false (true ∷ more))
 
+-- in mode synced, zeros up to the end are one item of idle cycles
 pub idle_end : (n : ℕ) → 0 < n → reading Synced (replicate n false) ≡ Idle n ∷ []
 idle_end zero h = absurd (omega arith)
 idle_end (suc n) h =
@@ -194,18 +201,24 @@ cut_law mode b bits e =
 
 -- ---- when these come
 
+-- in mode synced, a one that begins no transaction is junk, where fewer than fifty ones are at the front and a
+-- zero is among the bits
 pub junk_synced : (bits : List Bool) → stands (true ∷ bits) ≡ Broken → all_ones (true ∷ bits) ≡ false
     → ones (true ∷ bits) < 50 → first Synced true bits ≡ junk true
 junk_synced bits e a h = first_few Synced true bits h ∙ ap (λ s. first_by s true bits) e
     ∙ ap (λ t. if t then cut (true ∷ bits) else junk true) a
 
+-- in mode lost, a bit is junk where fewer than fifty ones are at the front
 pub junk_lost : (b : Bool) (bits : List Bool) → ones (b ∷ bits) < 50 → first Lost b bits ≡ junk b
 junk_lost b bits h = first_few Lost b bits h
 
+-- directly after the switch, a bit is junk where fewer than fifty ones are at the front and a zero is among
+-- the bits
 pub junk_after_switch : (b : Bool) (bits : List Bool) → all_ones (b ∷ bits) ≡ false → ones (b ∷ bits) < 50
     → first AfterSwitch b bits ≡ junk b
 junk_after_switch b bits a h = first_few AfterSwitch b bits h ∙ ap (λ t. if t then cut (b ∷ bits) else junk b) a
 
+-- in mode synced, bits that are no more than the beginning of a transaction are cut
 pub cut_begun : (bits : List Bool) → stands (true ∷ bits) ≡ Begun → first Synced true bits ≡ cut (true ∷ bits)
 cut_begun bits e =
     let few : ones (true ∷ bits) < 50 = elim (few_ones (true ∷ bits)) [ inl b ↦ absurd cc | inr l ↦ omega arith ] in
@@ -223,6 +236,7 @@ stands_ones (suc (suc (suc (suc (suc n))))) = inr refl
 few_all : (n : ℕ) → suc n < 50 → ones (true ∷ replicate n true) < 50
 few_all n h = let e = ones_all (suc n) in omega arith
 
+-- in mode synced, ones alone, fewer than fifty, are cut
 pub cut_ones : (n : ℕ) → suc n < 50 → first Synced true (replicate n true) ≡ cut (true ∷ replicate n true)
 cut_ones n h =
     let bits : List Bool = replicate n true in
@@ -234,18 +248,21 @@ cut_ones n h =
           ∙ ap (λ t. if t then cut (true ∷ bits) else junk true) (all_ones_replicate (suc n))
     ]
 
+-- directly after the switch, ones alone, fewer than fifty, are cut
 pub cut_ones_after_switch : (n : ℕ) → suc n < 50
     → first AfterSwitch true (replicate n true) ≡ cut (true ∷ replicate n true)
 cut_ones_after_switch n h =
     first_few AfterSwitch true (replicate n true) (few_all n h)
     ∙ ap (λ t. if t then cut (true ∷ replicate n true) else junk true) (all_ones_replicate (suc n))
 
+-- directly after a reset, ones alone, fewer than fifty, are cut
 pub cut_ones_after_reset : (n : ℕ) → suc n < 50
     → first AfterReset true (replicate n true) ≡ cut (true ∷ replicate n true)
 cut_ones_after_reset n h =
     first_few AfterReset true (replicate n true) (few_all n h)
     ∙ sym (first_few Synced true (replicate n true) (few_all n h)) ∙ cut_ones n h
 
+-- in mode lost, the first of ones alone, fewer than fifty, is junk
 pub junk_ones : (n : ℕ) → suc n < 50 → first Lost true (replicate n true) ≡ junk true
 junk_ones n h = junk_lost true (replicate n true) (few_all n h)
 
@@ -260,6 +277,7 @@ two_differ readings x y a b r s cx cy e f n = λ item all.
     let q : readings y ≡ item ∷ (all y cy).0 = (all y cy).1 in
     n cc
 
+-- without a bit no item is decided, in any mode
 pub none_undecided : (mode : Mode) → IsUndecided (λ more. reading mode more)
 none_undecided mode = λ item all.
     let p : reading mode [] ≡ item ∷ (all [] (inl refl)).0 = (all [] (inl refl)).1 in

@@ -62,6 +62,7 @@ zeros_split [] = ([], refl, tt)
 zeros_split (true ∷ l) = (true ∷ l, refl, refl)
 zeros_split (false ∷ l) = let r = zeros_split l in (r.0, ap (λ x. false ∷ x) r.1, r.2)
 
+-- fifty ones or more, and then a zero or the end, are a line reset of that length, in any mode
 pub reset_any : (mode : Mode) (n : ℕ) (tail : List Bool) → 50 ≤ n → StartsWith false tail
     → reading mode (replicate n true ++ tail) ≡ Reset n ∷ reading AfterReset tail
 reset_any mode n [] h s = ap (reading mode) (append-nil (replicate n true)) ∙ reset_end mode n h
@@ -69,6 +70,7 @@ reset_any mode n [] h s = ap (reading mode) (append-nil (replicate n true)) ∙ 
 reset_any mode n (true ∷ tail) h s = absurd cc
 reset_any mode n (false ∷ tail) h s = reset_law mode n tail h
 
+-- in mode synced, zeros, and then a one or the end, are one item of idle cycles
 pub idle_any : (n : ℕ) (tail : List Bool) → 0 < n → StartsWith true tail
     → reading Synced (replicate n false ++ tail) ≡ Idle n ∷ reading Synced tail
 idle_any n [] h s = ap (reading Synced) (append-nil (replicate n false)) ∙ idle_end n h
@@ -527,5 +529,6 @@ unfolding Rereads
 rereads_to zero mode bits h = absurd (omega arith)
 rereads_to (suc n) mode bits h = one_more mode bits (λ m l k. rereads_to n m l (omega arith))
 
+-- the bits of the items of a reading have that same reading, in any mode
 pub rereads : (mode : Mode) (bits : List Bool) → reading mode (bits_again mode bits) ≡ reading mode bits
 rereads mode bits = one_more mode bits (rereads_to (length bits))

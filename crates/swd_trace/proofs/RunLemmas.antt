@@ -24,6 +24,7 @@ read_more old new bits next items given law h = λ more.
     append_assoc items given (rest new more) ∙ ap (λ x. items ++ x) (law more) ∙ h (next ++ more)
     ∙ ap reading_of (sym (append_assoc bits next more))
 
+-- where bits are taken and no item is returned, the items so far and what is now held are the reading with them
 pub read_bits : (old new : List Bool → List Item) (bits next : List Bool) (items : List Item)
     → ((more : List Bool) → new more ≡ old (next ++ more)) →
     ((more : List Bool) → items ++ old more ≡ reading_of (bits ++ more)) → (more : List Bool)
@@ -39,6 +40,7 @@ read_whole d last bits items given law none h =
     ap (λ x. items ++ x) (sym (append-nil given) ∙ ap (λ x. given ++ x) (sym none) ∙ law) ∙ h []
     ∙ ap reading_of (append-nil bits)
 
+-- items that are the reading of some bits are the reading of their own bits
 pub reads_again : (bits : List Bool) (items : List Item) → items ≡ reading_of bits
     → reading_of (bits_of_items items) ≡ items
 reads_again bits items e = ap (λ x. reading_of (bits_of_items x)) e ∙ rereads Synced bits ∙ sym e

@@ -100,6 +100,7 @@ bits_more (item ∷ items) others =
     ap (λ x. item_bits item ++ x) (bits_more items others)
     ∙ sym (append_assoc (item_bits item) (bits_of_items items) (bits_of_items others))
 
+-- one more item adds its bits to the number of the bits of the items
 pub length_more : (items : List Item) (item : Item)
     → length (bits_of_items (items ++ item ∷ [])) ≡ length (bits_of_items items) + length (item_bits item)
 length_more items item =

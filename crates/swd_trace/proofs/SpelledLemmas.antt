@@ -30,6 +30,7 @@ stays_synced (NoAck seen) h = absurd h
 abbrev pub item_of : Transaction → Item
 item_of tx = Tx tx
 
+-- bits that are acknowledged transactions alone are read as these transactions
 pub read_as : (txs : List Transaction) (bits : List Bool) → AreSpelled txs bits → reading Synced bits ≡ map item_of txs
 read_as [] bits h = ap (reading Synced) h ∙ reading_none Synced
 read_as (tx ∷ txs) bits h =
@@ -119,6 +120,7 @@ all_calm (tx ∷ txs) bits m h e =
     (λ k l. all_calm txs rest k (omega arith) e.5) in
     subst (Calm m) (sym is) (calm_any s.six (false ∷ (s.others ++ rest)) m (omega arith) (λ k l. (omega arith, after)))
 
+-- bits that are acknowledged transactions alone never have fifty ones in a row
 pub no_fifty : (txs : List Transaction) (bits : List Bool) → AreSpelled txs bits → (front back : List Bool)
     → bits ≡ front ++ (replicate 50 true ++ back) → ⊥
 no_fifty txs bits h front back e = calm_none 0 front back (subst (Calm 0) e (all_calm txs bits 0 (omega arith) h))

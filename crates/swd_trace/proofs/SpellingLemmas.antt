@@ -190,6 +190,7 @@ length_ending read Fault u = refl
 length_ending read (NoAck seen) u = let e = length-append (low_bits 3 seen) [] in let f = length-low_bits 3 seen in
     omega arith
 
+-- a transaction has 46 bits after OK, 13 after WAIT or FAULT, and 12 without an ACK
 pub length_spelling : (tx : Tx) (t u : Bool) → length (spelling tx t u) ≡ length_of tx.result
 length_spelling tx t u =
     let e = length-append (request tx.request) (t ∷ ending tx.request.read tx.result u) in
@@ -197,6 +198,7 @@ length_spelling tx t u =
     let g = length_ending tx.request.read tx.result u in
     omega arith
 
+-- the bits of a transaction, with any turnarounds and whatever follows, are found as that transaction, whole
 pub spelling_stands : (tx : Tx) (t u : Bool) (more : List Bool) → IsEnd tx.result →
     stands (spelling tx t u ++ more) ≡ Whole tx (length_of tx.result)
 spelling_stands tx t u more h =
@@ -204,6 +206,7 @@ spelling_stands tx t u more h =
     ∙ asked tx.request (t ∷ (ending tx.request.read tx.result u ++ more))
     ∙ stands_end tx.request tx.result t u more h
 
+-- bits that spell a transaction are found as it, whole and with their length, whatever follows
 pub spelled_stands : (tx : Tx) (bits more : List Bool) → Spells tx bits → stands (bits ++ more) ≡ Whole tx (length bits)
 spelled_stands tx bits more p =
     ap (λ x. stands (x ++ more)) p.3 ∙ spelling_stands tx p.1 p.2 more p.0
@@ -312,6 +315,7 @@ parity_found q (false ∷ true ∷ t ∷ a ∷ b ∷ c ∷ bits) tx n front h e 
     ap (λ x. x ++ t ∷ a ∷ b ∷ c ∷ bits) h ∙ append_assoc front (false ∷ true ∷ []) (t ∷ a ∷ b ∷ c ∷ bits) in
     subst (λ x. Spells tx (take n x)) join (take_found q t (a ∷ b ∷ c ∷ bits) tx n (ack_found q t a b c bits tx n e))
 
+-- where a whole transaction of n bits is found at the front, the first n bits spell it
 pub stands_spelled : (bits : List Bool) (tx : Tx) (n : ℕ) → stands bits ≡ Whole tx n → Spells tx (take n bits)
 stands_spelled [] tx n e = absurd cc
 stands_spelled (false ∷ bits) tx n e = absurd cc

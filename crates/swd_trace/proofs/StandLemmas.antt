@@ -20,6 +20,7 @@ pub chosen : {A : Type 0} (t : Bool) (a b : A) (P : A → Type 0) → (t ≡ tru
 chosen true a b P f g = f refl
 chosen false a b P f g = g refl
 
+-- the test whether a is at most b says no where b is less
 pub lt_leb : (a b : ℕ) → b < a → nat_le a b ≡ false
 lt_leb a b h = elim (leb_tells a b) [ inl p ↦ (let n : a ≤ b = p.1 in absurd (omega arith)) | inr p ↦ p.0 ]
 
@@ -79,6 +80,7 @@ choice_settles : (t : Bool) (old new : Stand) → Settles old new
 choice_settles true old new s = inr refl
 choice_settles false old new s = s
 
+-- unless the bits are the beginning of a transaction, later bits don't change what is found at their front
 pub settles : (bits more : List Bool) → (stands bits ≡ Begun) ⊎ (stands (bits ++ more) ≡ stands bits)
 settles [] more = inl refl
 settles (false ∷ bits) more = inr refl
@@ -91,10 +93,12 @@ settles (true ∷ ap ∷ read ∷ a ∷ b ∷ parity ∷ bits) more =
     choice_settles (odd (ap ∷ read ∷ a ∷ b ∷ parity ∷ [])) _ _
     (parity_settles (record { ap = ap; read = read; addr = reg4_at a b }) bits more)
 
+-- a whole transaction at the front is found whatever follows
 pub whole_stays : (bits more : List Bool) (tx : Tx) (n : ℕ) → stands bits ≡ Whole tx n
     → stands (bits ++ more) ≡ Whole tx n
 whole_stays bits more tx n e = elim (settles bits more) [ inl f ↦ absurd cc | inr f ↦ f ∙ e ]
 
+-- bits that begin no transaction begin none whatever follows
 pub broken_stays : (bits more : List Bool) → stands bits ≡ Broken → stands (bits ++ more) ≡ Broken
 broken_stays bits more e = elim (settles bits more) [ inl f ↦ absurd cc | inr f ↦ f ∙ e ]
 
@@ -104,6 +108,7 @@ ones_front [] bits = omega arith
 ones_front (false ∷ front) bits = omega arith
 ones_front (true ∷ front) bits = let h = ones_front front bits in omega arith
 
+-- no more ones are at the front than there are bits
 pub ones_le : (bits : List Bool) → ones bits ≤ length bits
 ones_le [] = omega arith
 ones_le (false ∷ bits) = omega arith
@@ -113,6 +118,7 @@ choice_broken : (t : Bool) (s : Stand) → s ≡ Broken → (if t then Broken el
 choice_broken true s e = refl
 choice_broken false s e = e
 
+-- bits with more than six ones at the front begin no transaction
 pub few_ones : (bits : List Bool) → (stands bits ≡ Broken) ⊎ (ones bits ≤ 6)
 few_ones [] = inr (omega arith)
 few_ones (false ∷ bits) = inr (omega arith)
@@ -163,6 +169,7 @@ parity_fits q (false ∷ true ∷ t ∷ a ∷ []) tx n e = absurd cc
 parity_fits q (false ∷ true ∷ t ∷ a ∷ b ∷ []) tx n e = absurd cc
 parity_fits q (false ∷ true ∷ t ∷ a ∷ b ∷ c ∷ bits) tx n e = let h = ack_fits q a b c bits tx n e in omega arith
 
+-- a whole transaction at the front has no more bits than there are
 pub whole_fits : (bits : List Bool) (tx : Tx) (n : ℕ) → stands bits ≡ Whole tx n → n ≤ length bits
 whole_fits [] tx n e = absurd cc
 whole_fits (false ∷ bits) tx n e = absurd cc

@@ -40,6 +40,7 @@ switch_front n h =
     ap (take n) (sym switch_bits ∙ parted n 16 59294 h)
     ∙ take_at (low_bits n 59294) (low_bits (16 - n) (59294 / 2 ^ n)) n (length-low_bits n 59294)
 
+-- the mask of the low n bits, as the code computes it in 64 bits
 abbrev pub mask_of : ℕ → ℕ
 mask_of n = 1 * 2 ^ n % 2 ^ 64 - 1
 
@@ -68,6 +69,7 @@ differs len v n h k d more =
       | inr e ↦ e
     ]
 
+-- directly after a reset, bits that differ from the switch's are read as in mode synced, whatever follows
 pub no_switch_law : (mode : Mode) (one : Bool) (len v n : ℕ) → mode ≡ AfterReset → n ≤ len → n ≤ 16
     → (bit_and v (mask_of n) ≡ bit_and 59294 (mask_of n) → ⊥) → (more : List Bool) →
     reading mode (low_bits len v ++ more) ≡ reading Synced (low_bits len v ++ more)
@@ -86,6 +88,7 @@ some_bits : (len v : ℕ) → 0 < len → low_bits len v ≢ []
 some_bits len v h = λ e. let l : length (low_bits len v) ≡ 0 = ap length e in let m = length-low_bits len v in omega
     arith
 
+-- directly after a reset, held bits that are the beginning of the switch decide nothing before the next bit
 pub holds_switching : (mode : Mode) (one : Bool) (run len bits next fed : ℕ) → Holds mode one run len bits next fed
     → run ≡ 0 → mode ≡ AfterReset → 0 < len → len < 16 →
     bit_and bits (mask_of len) ≡ bit_and 59294 (mask_of len) → Holds mode one run len bits (len + 1) fed
@@ -111,6 +114,7 @@ holds_switching mode one run len bits next fed h e m p k s = record {
         (omega arith))
     none (b ∷ more) j = absurd (omega arith)
 
+-- directly after a reset, held bits that are the beginning of the switch may still become it
 pub switch_open : (mode : Mode) (len bits : ℕ) → mode ≡ AfterReset → len < 16
     → bit_and bits (mask_of len) ≡ bit_and 59294 (mask_of len) → IsOpenAt mode (low_bits len bits)
 switch_open mode len bits m k s =

@@ -116,6 +116,7 @@ parse-hex8 word bs r h e p =
 abbrev pub written : List ℕ → ℕ
 written digits = number (map (λ b. b == 49) digits)
 
+-- the number that n characters write is below 2 ^ n
 pub written_lt : (digits : List ℕ) → written digits < 2 ^ length digits
 written_lt digits = subst (λ n. written digits < 2 ^ n) (length-map digits (λ b. b == 49))
     (number_lt (map (λ b. b == 49) digits))
@@ -124,6 +125,7 @@ pub byte_of_bit : (b : Bool) → bool_byte b ≡ bit b
 byte_of_bit true = refl
 byte_of_bit false = refl
 
+-- the number of the last i + 1 characters is twice that of the last i, plus the bit of the character before these
 pub written_more : (digits : List ℕ) (i : ℕ) → i < length digits →
     written (drop (length digits - (i + 1)) digits) ≡ written (drop (length digits - i) digits) * 2 + bool_byte
     (get_or digits (length digits - 1 - i) 0 == 49)
@@ -139,6 +141,7 @@ written_more digits i h =
     written (drop (length digits - i) digits) = ap written d in
     rw (byte_of_bit (get_or digits (length digits - 1 - i) 0 == 49)) (omega (arith, e))
 
+-- the number of the last i of at most 49 characters is below 2 ^ 49
 pub written_room : (digits : List ℕ) (i : ℕ) → i < length digits → length digits ≤ 49
     → written (drop (length digits - i) digits) < 2 ^ 49
 written_room digits i h k =
