@@ -257,6 +257,8 @@ map_both : {X Y : Type 0} (f : X → Y) (xs ys : List X) → map f (xs ++ ys) �
 map_both f [] ys = refl
 map_both f (x ∷ xs) ys = ap (λ l. f x ∷ l) (map_both f xs ys)
 
+-- the characters of sequences, taken by pins between two clocks, are read as these sequences, and their answers are
+-- the sampled levels
 pub went_by : {A : Type 0} (sequences : List Sequence) (drives : Bool) (answers : List ℕ) (s t : Pins A)
     → s.drives ≡ drives → IsBetween s → Session (all_characters drives sequences) answers s t
     → WentBy sequences answers s t
@@ -348,6 +350,7 @@ clocks_go_on (Hold level count) = alike_on (driven_clock level) (driven_on level
 clocks_go_on (Release count) = alike_on (driven_clock false) (driven_on false) count
 clocks_go_on (Sample count) = alike_on seen_clock seen_on count
 
+-- no character of a sequence ends the session
 pub go_on : (drives : Bool) (sequences : List Sequence) → All GoesOn (all_characters drives sequences)
 go_on drives [] = All-nil GoesOn
 go_on drives (sequence ∷ more) =
@@ -375,6 +378,7 @@ taken_whole (c ∷ text) (b ∷ taken) levels byte more left s t on h quits is =
     let rest = taken_whole text taken h.2 byte more left h.0 t (All-tail GoesOn c text on) h.4 quits (ap (drop 1) is) in
     ap (λ x. x ∷ taken) (sym (ap (λ l. get_or l 0 0) is)) ∙ ap (λ l. c ∷ l) rest
 
+-- the same for a host that is served up to its `Q`: exactly the sampled levels were written
 pub served_by : {A : Type 0} (sequences : List Sequence) (more : List ℕ) (old new : Option (List ℕ)) (s t : Pins A)
     → IsBetween s → EndsAs ends.Quit old new (all_characters s.drives sequences ++ byte_of Quits ∷ more) s t
     → (answers : List ℕ) × WentBy sequences answers s t × Appends old new answers

@@ -38,6 +38,7 @@ session_more (b ∷ text) levels byte more s m t h a = (
       ∙ append_assoc h.1 h.2 more,
 )
 
+-- a sign that ends no session leaves it open
 pub open_sign : (sign : Sign) (place byte : ℕ) → end_of sign place byte ≡ None → IsOpen sign
 open_sign Silent place byte e = tt
 open_sign (Level level) place byte e = tt
@@ -58,6 +59,7 @@ quiet found place byte served s t (Level level) o e = absurd cc
 quiet found place byte served s t Quit o e = absurd o
 quiet found place byte served s t Bad o e = absurd o
 
+-- a character whose sign ends the session leaves the pins unchanged, and is the reason for that end
 pub ended_by : {A : Type 0} (found : Option Character) (place byte : ℕ) (served : Served) (s t : Pins A) (sign : Sign)
     → Steps found s sign t → end_of sign place byte ≡ Some served → EndedBy found place byte served s t
 ended_by (Some (Moves false level)) place byte served s t sign h e = quiet _ place byte served s t sign
@@ -92,8 +94,10 @@ pub record UnderWay {A W : Type 0} (contents : W → Option (List ℕ)) (begin :
   pub taken : List ℕ
   pub more : List ℕ
   pub is : text ≡ taken ++ more
+  -- these were taken, and their answers are queued or written
   pub under_way : Taken contents begin server block taken
 
+-- after a piece, taken whole or up to the character that ended the session, the answers so far are queued or written
 pub under_way : {A W : Type 0} (contents : W → Option (List ℕ)) (begin : Begin A) (server : Server A) (block : Block W)
     (text : List ℕ) (r : Result (Unit {0}) Served) →
     OnOk r (Taken contents begin server block text)
@@ -104,10 +108,12 @@ under_way contents begin server block text (Ok u) goes stops =
 under_way contents begin server block text (Err served) goes stops =
     record { taken = stops.taken; more = stops.byte ∷ stops.more; is = stops.is; under_way = stops.under_way }
 
+-- what follows from a fact about an OK result holds of it
 pub on_ok_then : {A E P Q : Type 0} (r : Result A E) → (P → Q) → OnOk r P → OnOk r Q
 on_ok_then (Ok x) f p = f p
 on_ok_then (Err e) f p = tt
 
+-- what follows from a fact about an error holds of it
 pub if_err_then : {A E : Type 0} {P Q : E → Type 0} (r : Result A E) → ((e : E) → P e → Q e) → IfErr r P → IfErr r Q
 if_err_then (Ok x) f p = tt
 if_err_then (Err e) f p = f e p

@@ -44,6 +44,7 @@ none_of : (p : Option Drw) (at : ℕ) → access_of p at ≡ None → p ≡ None
 none_of None at e = refl
 none_of (Some drw) at e = cc
 
+-- where a target's numbers show no pending transfer, none is pending
 pub none_pending : (fields : ClockedFields) (c : Clocked Nowhere) → Numbers fields c → wanted fields ≡ None
     → c.target.pending ≡ None
 none_pending fields c n e = none_of c.target.pending c.target.tar.word (sym (wanted_is fields c n) ∙ e)
@@ -107,6 +108,7 @@ after_by : (p : Option Drw) (at : ℕ) (m : PlainMemory) (a : Access) → access
 after_by None at m a e = cc
 after_by (Some drw) at m a e = ap (λ b. plain_after b m) (ap access_or e)
 
+-- the memory, once the pending transfer took effect, is that after the access that was answered in its place
 pub after_is : (fields : ClockedFields) (c : Clocked Nowhere) (kind word : ℕ) (a : Access) (m : PlainMemory)
     → Numbers fields c → Answered fields kind word a m
     → memory_after c.target.pending c.target.tar.word m ≡ plain_after a m

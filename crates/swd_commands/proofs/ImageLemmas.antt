@@ -17,6 +17,7 @@ abbrev pub with_list : {V : Type 0} → (V → List ℕ) → Result V ImageFault
 with_list list (Ok value) = Ok (list value)
 with_list list (Err fault) = Err fault
 
+-- what a dump states of a result, it states of the result with its bytes as a list
 pub dumps_list : {V : Type 0} (list : V → List ℕ) (story : ℕ → Port) (tries resumes addr : ℕ) (Over : List Call → Type 0)
     (count : ℕ) (answer : Result V ImageFault) → DumpsRemote story tries resumes addr Over count answer list
     → DumpsRemote story tries resumes addr Over count (with_list list answer) (λ bytes. bytes)

@@ -19,6 +19,7 @@ next_driven count place rest l =
     let e : count - place ≡ suc n = omega arith in
     ap (λ k. map Some (low_bits k rest)) e
 
+-- of equal clocks that are left, one goes by
 pub next_alike : {A : Type 0} (count place : ℕ) (drive : A) → place < count
     → replicate (count - place) drive ≡ drive ∷ replicate (count - (place + 1)) drive
 next_alike count place drive l =
@@ -26,12 +27,14 @@ next_alike count place drive l =
     let e : count - place ≡ suc n = omega arith in
     ap (λ k. replicate k drive) e
 
+-- once all driven clocks went by, none is left
 pub no_driven : (count place rest : ℕ) → count ≤ place → map Some (low_bits (count - place) rest) ≡ []
 unfolding low_bits
 no_driven count place rest l =
     let e : count - place ≡ 0 = omega arith in
     ap (λ k. map Some (low_bits k rest)) e
 
+-- once all equal clocks went by, none is left
 pub none_alike : {A : Type 0} (count place : ℕ) (drive : A) → count ≤ place → replicate (count - place) drive ≡ []
 none_alike count place drive l =
     let e : count - place ≡ 0 = omega arith in
@@ -43,6 +46,7 @@ all_driven count bits =
     let e : count - 0 ≡ count = omega arith in
     ap (λ k. map Some (low_bits k bits)) e
 
+-- all equal clocks are left at first
 pub all_alike : {A : Type 0} (count : ℕ) (drive : A) → replicate (count - 0) drive ≡ replicate count drive
 all_alike count drive =
     let e : count - 0 ≡ count = omega arith in
@@ -54,6 +58,7 @@ pub one_by : {A : Type 0} (all left : List (Option Bool)) (drive : Option Bool) 
     → all ≡ drive ∷ left → GoesBy drive level s m → GoBy left seen m t → GoBy all (level ∷ seen) s t
 one_by all left drive level seen s m t e one more = subst (λ x. GoBy x (level ∷ seen) s t) (sym e) (m, one, more)
 
+-- without a clock nothing changes
 pub none_by : {A : Type 0} (all : List (Option Bool)) (s : MarkedClocked A) → all ≡ [] → GoBy all [] s s
 none_by all s e = subst (λ x. GoBy x [] s s) (sym e) refl
 
@@ -71,6 +76,7 @@ level_above n levels false l h =
     let f : levels + 0 ≡ 0 * 2 ^ n + levels = omega arith in
     ap (λ x. low_bits (n + 1) (levels + x)) e ∙ ap (low_bits (n + 1)) f ∙ low_bits-cat n 1 0 levels h
 
+-- cutting a list to n items before more are added makes no difference to the first n
 pub take_twice : {A : Type 0} (n : ℕ) (xs ys : List A) → take n (take n xs ++ ys) ≡ take n (xs ++ ys)
 take_twice zero xs ys = refl
 take_twice (suc n) [] ys = refl
@@ -85,6 +91,7 @@ kept n levels b l h =
     let few : length (low_bits n levels) ≡ n = length-low_bits n levels in
     level_above n levels b l h ∙ sym (take_all 64 _ (omega arith))
 
+-- with 64 levels waiting, one level more changes nothing of the first 64
 pub left_out : (n levels : ℕ) (b : Bool) → 64 ≤ n → n ≤ 64 → low_bits n levels ≡ take 64 (low_bits n levels ++ b ∷ [])
 left_out n levels b l h =
     let few : length (low_bits n levels) ≡ n = length-low_bits n levels in
@@ -96,6 +103,7 @@ waits_on n levels h =
     let few : length (low_bits n levels) ≡ n = length-low_bits n levels in
     sym (ap (take 64) (append-nil (low_bits n levels)) ∙ take_all 64 (low_bits n levels) (omega arith))
 
+-- no levels wait where their count is 0
 pub none_wait : (levels : ℕ) → low_bits 0 levels ≡ []
 unfolding low_bits
 none_wait levels = refl

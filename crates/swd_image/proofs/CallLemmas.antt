@@ -52,6 +52,7 @@ failed_left list answers i d e low few =
     ∙ ap (λ l. first_failed (get_or list i d ∷ drop (i + 1) list) l)
     (drop-cons answers i e few ∙ ap (λ n. get_or answers i e ∷ drop n answers) (sym (add-one i)))
 
+-- of the accesses from an index on, that at the index is the first that failed, if it wasn't done
 pub failed_here : (list : List Access) (answers : List Answer) (i : ℕ) (d : Access) (e : Answer) → i < length list
     → i < length answers → is_done (get_or list i d) (get_or answers i e) ≡ false
     → first_failed (drop i list) (drop i answers) ≡ Some (address (get_or list i d))
@@ -60,6 +61,7 @@ failed_here list answers i d e low few is =
     ∙ ap (λ b. if b then first_failed (drop (i + 1) list) (drop (i + 1) answers)
     else Some (address (get_or list i d))) is
 
+-- if it was done, the first that failed is the first of those after it
 pub failed_later : (list : List Access) (answers : List Answer) (i : ℕ) (d : Access) (e : Answer) → i < length list
     → i < length answers → is_done (get_or list i d) (get_or answers i e) ≡ true
     → first_failed (drop i list) (drop i answers) ≡ first_failed (drop (i + 1) list) (drop (i + 1) answers)
@@ -68,6 +70,7 @@ failed_later list answers i d e low few is =
     ∙ ap (λ b. if b then first_failed (drop (i + 1) list) (drop (i + 1) answers)
     else Some (address (get_or list i d))) is
 
+-- of no accesses, none failed
 pub none_left : (list : List Access) (answers : List Answer) (i : ℕ) → length list ≤ i
     → first_failed (drop i list) (drop i answers) ≡ None
 none_left list answers i high = ap (λ l. first_failed l (drop i answers)) (drop_all i list high)
@@ -219,6 +222,7 @@ module _ {W : Type 0} (port : W → Port) (plan : W → List Mark) (lawful : W �
     told = pushed ∙ ap (λ l. l ++ words_told run.told.answers) h.told ∙ sym (words_append h.answers run.told.answers);
   }
 
+  -- one call more in which each access was done, after consecutive calls in which each was
   pub made_more : (s t u : W) (list : List Access) (batch : Listed) (run : Done) (next : List Access)
       → MadeAll port plan lawful tries resumes list s t → Call port plan lawful tries resumes batch t run u
       → run.told.ended ≡ All → AreDone batch.accesses run.told.answers → next ≡ list ++ batch.accesses
@@ -229,6 +233,7 @@ module _ {W : Type 0} (port : W → Port) (plan : W → List Mark) (lawful : W �
         (more h.calls call all done);
   }
 
+  -- calls that read some words, and then calls that read others, read the ones and then the others
   pub reads_append : (s t u : W) (xs ys : List Access) (vs ws : List ℕ)
       → ReadsAs port plan lawful tries resumes xs vs s t → ReadsAs port plan lawful tries resumes ys ws t u
       → ReadsAs port plan lawful tries resumes (xs ++ ys) (vs ++ ws) s u
@@ -273,6 +278,8 @@ module _ {W : Type 0} (port : W → Port) (plan : W → List Mark) (lawful : W �
     pub tells : AllTell want P (port s).target.memory.words (port t).target.memory.words list answers
 
   module _ (want : ℕ → ℕ) (P : ℕ → Type 0) (s : W) (rest : IsAtRest (port s)) where
+    -- over a lawful wire, from a target at rest, consecutive calls leave it at rest; each word is the one before or
+    -- the one to write there; a read word is the one before, unless its address is written; a written word is there
     pub leaves : (t : W) (list : List Access) (answers : List Answer)
         → Calls port plan lawful tries resumes s list answers t
         → AllIn want P (port s).target.memory.words list → lawful t → Leaves want P s list answers t

@@ -75,6 +75,7 @@ module _ (want : ℕ → ℕ) (P : ℕ → Type 0) (words : FinMap nat_cmp ℕ) 
   tells_later old now (Write at word) (Value other) l h = tt
   tells_later old now (Write at word) BusFault l h = tt
 
+  -- what answers say of the words is still so where what was written stays
   pub all_later : (old now : FinMap nat_cmp ℕ) (list : List Access) (xs : List Answer) → Later old now
       → AllTell old list xs → AllTell now list xs
   all_later old now [] xs l h = tt
@@ -180,6 +181,8 @@ module _ (want : ℕ → ℕ) (P : ℕ → Type 0) (words : FinMap nat_cmp ℕ) 
     pub later : Later old now
     pub tells : AllTell now list answers
 
+  -- a call, however often it was resumed, leaves each word as before or as it is to be written there; a read word is
+  -- the one before, unless its address is written; a written word is there, and stays
   pub chain_keeps : (limit : ℕ) (list : List Access) (m : PlainMemory) (calls : List Told) (told : Told)
       (now : PlainMemory)
       → AllIn list → Held m.words → Chain limit list m calls told now → Kept list m.words now.words told.answers

@@ -15,6 +15,7 @@ use Rattle.swd_image.specs.Sessions.{ReadsAs}
 use Rattle.swd_image.proofs.ImageLemmas.{counted}
 use Rattle.swd_image.proofs.LoadLemmas.{are_reads, has_read, reads_words}
 
+-- the last of `count + 1` bytes of consecutive words is the byte at its place in the word that contains it
 pub bytes_next : (words : List ℕ) (place count : ℕ)
     → bytes_of words place (count + 1)
     ≡ bytes_of words place count ++ byte_in (get_or words ((place + count) / 4) 0) (place + count) ∷ []
@@ -28,6 +29,7 @@ bytes_next words place count = ap (bytes_of words place) (add-one count) ∙ by 
         ap (λ l. byte_in (get_or words (place / 4) 0) place ∷ l) (by (place + 1) count
         ∙ ap (λ p. bytes_of words (place + 1) count ++ byte_in (get_or words (p / 4) 0) p ∷ []) e)
 
+-- `count` bytes of consecutive words are as many
 pub length_bytes : (words : List ℕ) (place count : ℕ) → length (bytes_of words place count) ≡ count
 length_bytes words place zero = refl
 length_bytes words place (suc count) = ap suc (length_bytes words (place + 1) count)

@@ -195,6 +195,7 @@ module _ (addr : ℕ) (bytes : List ℕ) (head tail : ℕ) (before after : FinMa
     unchanged at out same = ap (λ o. byte_in (unwrap_or o 0) at) same
         ∙ sym (byte_outside addr bytes (word_in before (word_of at)) at out)
 
+    -- each byte is that of the image, or, outside it, the byte before
     pub bytes_are : (at : ℕ) → byte_in (word_in after (word_of at)) at
         ≡ image_byte addr bytes (word_in before (word_of at)) at
     bytes_are at = elim (held (word_of at)) [
@@ -208,5 +209,6 @@ module _ (addr : ℕ) (bytes : List ℕ) (head tail : ℕ) (before after : FinMa
       ]
     ]
 
+    -- each word without a byte of the image's range is the word before
     pub others : (at : ℕ) → (at + 4 ≤ addr) ⊎ (addr + length bytes ≤ at) → get after at ≡ get before at
     others at out = elim (held at) [ inl same ↦ same | inr i ↦ absurd (apart addr (length bytes) at out i) ]

@@ -55,10 +55,12 @@ told_words words now (Read at ∷ list) (Value word ∷ answers) r d h =
       | inr never ↦ absurd never
     ]
 
+-- the reads of consecutive words are reads
 pub are_reads : (at count : ℕ) → AreReads (reads at count)
 are_reads at zero = tt
 are_reads at (suc count) = are_reads (at + 4) count
 
+-- the memory's words at the addresses of consecutive reads are its consecutive words
 pub reads_words : (words : FinMap nat_cmp ℕ) (at count : ℕ)
     → map (λ a. word_in words (address a)) (reads at count) ≡ words_at words at count
 reads_words words at zero = refl
@@ -118,6 +120,8 @@ module _ {W : Type 0} (port : W → Port) (plan : W → List Mark) (lawful : W �
     pub same : (q : ℕ) → get (port t).target.memory.words q ≡ get (port s).target.memory.words q
     pub words_are : words ≡ map (λ a. word_in (port s).target.memory.words (address a)) list
 
+  -- over a lawful wire, from a target at rest, calls that only read return the memory's words, change none and leave
+  -- the target at rest
   pub has_read : (s t : W) (list : List Access) (words : List ℕ) → AreReads list
       → ReadsAs port plan lawful tries resumes list words s t → lawful t → IsAtRest (port s)
       → HasRead list words s t
@@ -145,6 +149,8 @@ module _ {W : Type 0} (port : W → Port) (plan : W → List Mark) (lawful : W �
       many (x ∷ xs) (v ∷ vs) d = ap suc (many xs vs d.1)
 
   module _ (addr : ℕ) (bytes : List ℕ) (s t : W) where
+    -- over a lawful wire, from a target at rest, the calls of a load leave the image in the memory, all else
+    -- unchanged, and the target at rest
     pub loaded : ((k : ℕ) → get_or bytes k 0 < 256) → (head tail : ℕ) (reached : W)
         → ReadsAs port plan lawful tries resumes (edge_list addr (length bytes))
         (edge_words addr (length bytes) head tail) s reached

@@ -13,6 +13,7 @@ use Rattle.swd_image_ends.proofs.WireLemmas.{dump_fails_by, dumps_by, load_fails
 
 module _ {W : Type 0} (calls_in : W → List Call) (story : ℕ → Port) (tries resumes addr : ℕ) (Over : List Call → Type 0)
     (s t : W) (begins : calls_in s ≡ []) (over : Over (calls_in t)) where
+  -- what a load states over a wire, it states of the calls that are noted there
   pub load_came : (bytes : List ℕ) (result : Result (Unit {0}) ImageFault)
       → OnOk result (Loads (λ w. port_at story (calls_in w)) (λ w. []) (λ w. FitsStory story (calls_in w)) tries resumes
       addr bytes s t)
@@ -42,6 +43,7 @@ module _ {W : Type 0} (calls_in : W → List Call) (story : ℕ → Port) (tries
       (calls_in t) fault) begins
       (dump_fails_by calls_in (port_at story) (λ calls. []) (FitsStory story) tries resumes addr count s t fault fails)
 
+  -- what a dump states over a wire, it states of the calls that are noted there
   pub dump_came : {B : Type 0} (count : ℕ) (result : Result B ImageFault) (list : B → List ℕ)
       → IfOk result (λ bytes. Dumps (λ w. port_at story (calls_in w)) (λ w. []) (λ w. FitsStory story (calls_in w))
       tries resumes addr count (list bytes) s t)
@@ -57,6 +59,7 @@ module _ {W : Type 0} (calls_in : W → List Call) (story : ℕ → Port) (tries
   )
   dump_came count (Err fault) list dumps fails = (calls_in t, dump_failed count fault fails, over)
 
+  -- what a verification states over a wire, it states of the calls that are noted there
   pub verify_came : (bytes : List ℕ) (result : Result (Option ByteDifference) ImageFault)
       → IfOk result (λ difference. Verifies (λ w. port_at story (calls_in w)) (λ w. [])
       (λ w. FitsStory story (calls_in w)) tries resumes addr bytes difference s t)

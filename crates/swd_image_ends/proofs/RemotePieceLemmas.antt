@@ -78,6 +78,7 @@ module _ {W V : Type 0} (by : W → V) (port : V → Port) (plan : V → List Ma
 
 module _ {W : Type 0} (calls_in : W → List Call) (story : ℕ → Port) (tries resumes : ℕ) (Over : List Call → Type 0)
     (s t : W) (begins : calls_in s ≡ []) (over : Over (calls_in t)) where
+  -- what a load of pieces states over a wire, it states of the calls that are noted there
   pub load_pieces_came : (pieces : List Bytes) (result : Result (Unit {0}) ImageFault)
       → OnOk result (LoadsAll (λ w. port_at story (calls_in w)) (λ w. []) (λ w. FitsStory story (calls_in w)) tries
       resumes pieces s t)
@@ -98,6 +99,7 @@ module _ {W : Type 0} (calls_in : W → List Call) (story : ℕ → Port) (tries
     over,
   )
 
+  -- what a verification of pieces states over a wire, it states of the calls that are noted there
   pub verify_pieces_came : (pieces : List Bytes) (result : Result (Option ByteDifference) ImageFault)
       → IfOk result (λ difference. VerifiesAll (λ w. port_at story (calls_in w)) (λ w. [])
       (λ w. FitsStory story (calls_in w)) tries resumes pieces difference s t)

@@ -263,6 +263,8 @@ write_step before told o q word ok place s d t bits tells writes (a, b, mark, c,
     write_asked before told o q word ok place s a b mark c bits tells writes first now d t last range small carries
     gives k
 
+-- after OK to a request that isn't exempt, with its data phase, what is known is true, once the transfer in flight is
+-- reported as `Took`, and the request itself if it may be an access
 pub moved_on : (read : Bool) (before : List Transfer) (told : List Told) (o : Observer) (q : Request) (word : ℕ)
     (ok : Bool)
     (place : ℕ) (s t : Port) → q.read ≡ read → class_of q ≡ Confirms

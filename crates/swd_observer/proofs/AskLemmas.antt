@@ -79,6 +79,7 @@ word_read : (read : Bool) (value : ℕ) → IsWordRead Okay read value → read 
 word_read true value h e = h
 word_read false value h e = absurd (cc)
 
+-- where the host sees OK the target answered OK, whatever the mark
 pub okayed : (mark : Mark) (c : Choice) (s : Port) (q : Request) (t : Port) → AsksNow mark c s q 1 t → Okayed s q t
 okayed mark c s q t h =
     let is : reply_in mark s.target q ≡ Okay = seen_okay mark (reply_in mark s.target q) h.sees in
@@ -129,6 +130,7 @@ plain_by : (ap : Bool) (s : Select) (read : Bool) (addr : Reg4) → (if ap then 
 plain_by true s read addr e = plain_ap (is_mem_ap s) read addr
 plain_by false s read addr e = plain_dp read addr (s.dpbanksel == 0) e
 
+-- a request whose OK confirms isn't exempt, whatever SELECT is
 pub plain : (s : Select) (q : Request) → class_of q ≡ Confirms → is_exempt (register s q) ≡ false
 plain s q e = plain_by q.ap s q.read q.addr e
 
@@ -141,6 +143,7 @@ is_harmless DrwWrite = false
 is_harmless DrwRead = false
 is_harmless r = true
 
+-- the register of each kind of write that an observer tracks
 abbrev pub register_for : Written → Register
 register_for ToSelect = SelectWrite
 register_for ToCsw = CswWrite
@@ -222,6 +225,7 @@ fits_by : (ap : Bool) (known : Option Select) (s : Select) (read : Bool) (addr :
 fits_by true known s read addr h = fits_ap known s read addr h
 fits_by false known s read addr h = fits_dp read addr (s.dpbanksel == 0)
 
+-- what a request is taken for fits the register that it names, if what is known of SELECT is true
 pub kind_fits : (known : Option Select) (s : Select) (q : Request) → IfSome known (λ v. s ≡ v)
     → KindFits (kind_of known q) (register s q)
 kind_fits known s q h = fits_by q.ap known s q.read q.addr h
@@ -247,6 +251,7 @@ posted_by false s true R4 busy filler x e = absurd (cc)
 posted_by false s true R8 busy filler x e = absurd (cc)
 posted_by false s true RC busy filler x e = refl
 
+-- an AP read or an RDBUFF read gives the word of the read buffer, or the filler where that is unknown
 pub posted : (s : Select) (q : Request) (busy : Bool) (filler : ℕ) (x : Target) → is_posted_read q ≡ true
     → value_in busy (register s q) filler x ≡ unwrap_or x.buffer filler
 posted s q busy filler x e = posted_by q.ap s q.read q.addr busy filler x e
@@ -257,6 +262,7 @@ is_writing (Writes w) = true
 is_writing (MayWrite w) = true
 is_writing k = false
 
+-- the request reads DRW, or may
 abbrev pub is_reading : Kind → Bool
 is_reading Reads = true
 is_reading MayRead = true
@@ -290,6 +296,7 @@ reads_by true (Some s) true addr e = read_if (is_mem_ap s) (is_data s addr) addr
 reads_by false known true addr e = read_dp addr
 reads_by ap known false addr e = absurd (cc)
 
+-- a read isn't taken for a write, nor for a possible one
 pub read_writes_not : (known : Option Select) (q : Request) → q.read ≡ true → is_writing (kind_of known q) ≡ false
 read_writes_not known q e = reads_by q.ap known q.read q.addr e
 
@@ -321,6 +328,7 @@ writes_by true (Some s) false addr e = write_if (is_mem_ap s) (is_data s addr) a
 writes_by false known false addr e = write_dp addr
 writes_by ap known true addr e = absurd (cc)
 
+-- a write isn't taken for a read of DRW, nor for a possible one
 pub write_reads_not : (known : Option Select) (q : Request) → q.read ≡ false → is_reading (kind_of known q) ≡ false
 write_reads_not known q e = writes_by q.ap known q.read q.addr e
 
@@ -356,5 +364,6 @@ drw_by true s read addr r h e = refl
 drw_by false s read addr r (inl h) e = absurd (ap_drw_read (s.dpbanksel == 0) read addr (e ∙ h))
 drw_by false s read addr r (inr h) e = absurd (ap_drw_write (s.dpbanksel == 0) read addr (e ∙ h))
 
+-- a request that reads or writes DRW is an AP access
 pub drw_is_ap : (s : Select) (q : Request) → (register s q ≡ DrwRead) ⊎ (register s q ≡ DrwWrite) → q.ap ≡ true
 drw_is_ap s q h = drw_by q.ap s q.read q.addr (register s q) h refl

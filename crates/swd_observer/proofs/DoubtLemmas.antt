@@ -235,6 +235,8 @@ spoil_at before told how None o x y s d rest h = record {
 spoil_at before told how (Some sent) o x y s d rest h =
     spoil_sent before told how sent.written sent.word sent.place o x y s d rest h
 
+-- once the transfer in flight is reported as `May`, or as `Not` after FAULT, what a doubting observer knows is true,
+-- even if the flags change
 pub doubt : (before : List Transfer) (told : List Told) (o : Observer) (x y : Target) → Same x y
     → IsDoubt (doubt_of o) x → Knows (ExplainsSince before told) o x
     → Knows (ExplainsSince before (told ++ listed (doubt_told o))) (doubted o) y
@@ -243,6 +245,7 @@ doubt before told o x y s d (here clean h) =
 doubt before told o x y s d (spoiled error rest h) =
     knows_doubted _ o y (spoil_at before told (doubt_of o) o.sent o x y s d rest h)
 
+-- the same as `Holds`, since a doubting observer has no unconfirmed write
 pub doubt_holds : (before : List Transfer) (told : List Told) (o : Observer) (x y : Target) → Same x y
     → IsDoubt (doubt_of o) x → Knows (ExplainsSince before told) o x
     → Holds (ExplainsSince before (told ++ listed (doubt_told o))) (doubted o) y
@@ -250,5 +253,6 @@ doubt_holds before told o x y s d (here clean h) = doubt_at before told (doubt_o
 doubt_holds before told o x y s d (spoiled error rest h) =
     spoil_at before told (doubt_of o) o.sent o x y s d rest h
 
+-- a doubting observer has no unconfirmed write
 pub doubted_is_sent_none : (o : Observer) → (doubted o).sent ≡ None
 doubted_is_sent_none o = doubted_sends_none o

@@ -112,6 +112,8 @@ takes_of : (read : Bool) (a : Port) (bits : ℕ) (t : Port) → read ≡ true �
 takes_of true a bits t e m = m
 takes_of false a bits t e m = absurd (cc)
 
+-- after OK to an ABORT write, whether or not its data arrives, what is known is true, once the transfer in flight is
+-- reported as `May`, or as `Not` after FAULT
 pub abort_told : KnownAtAbort
 abort_told before told o q word ok place s t is h k = record {
   knows = abort_step before (flushed told o) o q s h.asked t h.bits is h.asks
@@ -175,6 +177,7 @@ stands_live z word q s d is (a, b, mark, c, first, now, last) v =
     (stands_same z word a.target (after_okay h.busy DpidrRead a.target) refl refl refl
     (stands_stay z word s a first v)))
 
+-- after a DPIDR read that is answered OK, what was known is true, with nothing reported
 pub dpidr_told : KnownAtDpidr
 dpidr_told before told o q word ok place s t is h k =
     let takes : Takes h.asked h.bits t = takes_of q.read h.asked h.bits t (dpidr_is s.target.select q is).1 h.moves in

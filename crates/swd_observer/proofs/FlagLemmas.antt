@@ -36,9 +36,11 @@ doubt_by : (b : Bool) (x : Target) → (b ≡ true → IsFlagged x) → IsDoubt 
 doubt_by true x f = inr (refl, f refl)
 doubt_by false x f = inl refl
 
+-- if a flag is set after FAULT, an observer takes a transfer in flight for `Not` only where one is set
 pub doubt_is : (o : Observer) (x : Target) → (o.refused ≡ true → IsFlagged x) → IsDoubt (doubt_of o) x
 doubt_is o x f = doubt_by o.refused x f
 
+-- a calm target has no flag set
 pub calm_flagged : (x : Target) → Calm x → IsFlagged x → ⊥
 calm_flagged x calm f =
     let quiet = calm.sticky_error in
@@ -57,10 +59,12 @@ or_more false false c e = absurd (cc)
 pub flagged_on : (c : Choice) (x : Target) → IsFlagged x → IsFlagged (completion_of c x)
 flagged_on c x f = or_more x.sticky_error x.write_error _ f
 
+-- where a flag is set, one is set after a possible completion
 pub flags_stay : (s t : Port) → Completes s t → IsFlagged s.target → IsFlagged t.target
 flags_stay s t (inl e) f = subst (λ p. IsFlagged p.target) (sym e) f
 flags_stay s t (inr (c, choice, e)) f = subst (λ p. IsFlagged p.target) (sym e) (flagged_on c s.target f)
 
+-- a doubt stays one when the pending transfer takes effect
 pub doubt_stays : (how : How) (c : Choice) (x : Target) → IsDoubt how x → IsDoubt how (completion_of c x)
 doubt_stays how c x (inl e) = inl e
 doubt_stays how c x (inr (e, f)) = inr (e, flagged_on c x f)
@@ -78,14 +82,17 @@ pub flags_now : (mark : Mark) (c : Choice) (q : Request) (seen : ℕ) (s t : Por
 flags_now mark c q seen s t h f = subst IsFlagged (sym (ap (λ p. p.target) h.after))
     (flags_replied (is_wait mark) (reply_in mark s.target q) (register s.target.select q) q.ap s.target f)
 
+-- where a flag is set, one is set after a request, whatever its answer and its mark
 pub flags_asked : (q : Request) (seen : ℕ) (s t : Port) → Asks s q seen t → IsFlagged s.target → IsFlagged t.target
 flags_asked q seen s t (a, b, mark, c, first, now, last) f =
     flags_stay b t last (flags_now mark c q seen a b now (flags_stay s a first f))
 
+-- where a flag is set, one is set after the turnaround that follows WAIT or FAULT
 pub flags_passed : (s t : Port) → Passes s t → IsFlagged s.target → IsFlagged t.target
 flags_passed s t (a, b, first, now, last) f =
     flags_stay b t last (subst IsFlagged (sym (ap (λ p. p.target) now.after)) (flags_stay s a first f))
 
+-- where a flag is set, one is set after the data phase of a read
 pub flags_taken : (s t : Port) (bits : ℕ) → Takes s bits t → IsFlagged s.target → IsFlagged t.target
 flags_taken s t bits (a, b, first, now, last) f =
     flags_stay b t last (subst IsFlagged (sym (ap (λ p. p.target) now.after)) (flags_stay s a first f))
@@ -114,6 +121,7 @@ fault_flags mark busy q x e =
     x.write_error (is_unpowered q.ap (has_power x))
     (replied (is_deaf mark) (is_wait mark && may_wait (register x.select q) (answer_in x q)) (answer_in x q) e)
 
+-- after a request at which the host sees FAULT, a flag is set
 pub fault_asked : (q : Request) (s t : Port) → Asks s q 4 t → IsFlagged t.target
 fault_asked q s t (a, b, mark, c, first, now, last) =
     let is : reply_in mark a.target q ≡ Faults = seen_faults mark (reply_in mark a.target q) now.sees in
@@ -135,6 +143,7 @@ flagged_refused true damaged o = kept_refused damaged o
 flagged_refused false true o = refl
 flagged_refused false false o = arrived_refused o.sent o
 
+-- OK to a request doesn't change whether FAULT is noted
 pub accepted_refused : (k : Kind) (word : Option ℕ) (place : ℕ) (o : Observer)
     → (accepted k word place o).refused ≡ o.refused
 accepted_refused Other word place o = refl
@@ -144,15 +153,18 @@ accepted_refused (Writes w) word place o = refl
 accepted_refused MayRead word place o = refl
 accepted_refused (MayWrite w) word place o = refl
 
+-- the older read is unchanged, whether or not TAR becomes unknown at a lost acknowledgement
 pub unanswered_older : (read : Bool) (d : Observer) → (if read then record d { tar = None } else d).older ≡ d.older
 unanswered_older true d = refl
 unanswered_older false d = refl
 
+-- whether FAULT is noted is unchanged, whether or not TAR becomes unknown at a lost acknowledgement
 pub unanswered_refused : (read : Bool) (d : Observer)
     → (if read then record d { tar = None } else d).refused ≡ d.refused
 unanswered_refused true d = refl
 unanswered_refused false d = refl
 
+-- a read of CTRL/STAT doesn't change whether FAULT is noted
 pub status_refused : (known sticky damaged : Bool) (o : Observer)
     → (if known then flagged sticky damaged o else o).refused ≡ o.refused
 status_refused true sticky damaged o = flagged_refused sticky damaged o
@@ -163,6 +175,7 @@ pub record Flagged (E : List Transfer → Type 0) (o : Observer) (x : Target) : 
   pub knows : Knows E o x
   pub flagged : o.refused ≡ true → IsFlagged x
 
+-- what is known, and that after FAULT a flag is set, is true after a possible completion
 pub flagged_stay : (E : List Transfer → Type 0) (o : Observer) (s t : Port) → Completes s t → Flagged E o s.target
     → Flagged E o t.target
 flagged_stay E o s t done k = record {
@@ -178,6 +191,7 @@ refuse_sent E None o x h =
 refuse_sent E (Some s) o x h =
     record { select = h.select; increments = h.increments; range = h.range; flight = h.flight }
 
+-- what is known is true once FAULT is noted
 pub refuse : (E : List Transfer → Type 0) (o : Observer) (x : Target) → Knows E o x
     → Knows E (record o { refused = true }) x
 refuse E o x (here clean h) = here clean (refuse_sent E o.sent o x h)
@@ -191,6 +205,7 @@ hold_sent E None h o x k =
 hold_sent E (Some s) h o x k =
     record { select = k.select; increments = k.increments; range = k.range; flight = k.flight }
 
+-- what is known is true whatever older read is noted
 pub hold : (E : List Transfer → Type 0) (h : Option Older) (o : Observer) (x : Target) → Knows E o x
     → Knows E (record o { older = h }) x
 hold E h o x (here clean k) = here clean (hold_sent E o.sent h o x k)

@@ -1,4 +1,4 @@
--- What is known stays known.
+-- What is known stays known when the pending transfer takes effect.
 use Rattle.std.proofs.Common.{◌≡◌, ◌≢◌, ◌+◌, ◌%◌, ◌<◌, ◌^◌, ℕ, Bool, true, false, List, refl, sym}
 use Rattle.std.proofs.Common.{ap, subst, inl, inr, arith, ◌∙◌}
 use Rattle.std.specs.Prelude.{Option, Some, None, IfSome, unwrap_or, ◌&&◌, ◌==◌, if◌then◌else◌}
@@ -59,6 +59,7 @@ advanced (Some true) (Some a) c x now inc range at e =
 advanced (Some false) None c x now inc range at e = tt
 advanced (Some false) (Some a) c x now inc range at e = rw (inc, at) at e
 
+-- where TAR is known the pending transfer is at that address, whatever the target chooses
 pub same_place : (tar : Option ℕ) (c : Choice) (x : Target) → IfSome tar (λ a. x.tar ≡ Some a)
     → IfSome tar (λ a. unwrap_or x.tar c.address ≡ a)
 same_place None c x h = tt
@@ -100,6 +101,7 @@ took_off E b increments tar c x Reads false test inc range calm pending of at e 
 took_off E b increments tar c x (Writes word) false test inc range calm pending of at e =
     failed refl (rw (pending, test, calm.sticky_error) refl) (rw (pending, test) e)
 
+-- a transfer in flight, pending, done or failed, is one of these after the pending one took effect
 pub flies_on : (E : List Transfer → Type 0) (b : Begun) (increments : Option Bool) (tar : Option ℕ) (c : Choice)
     (x : Target)
     → IfSome increments (λ b. x.increments ≡ b) → IfSome tar (λ a. a < 2 ^ 32)
@@ -136,6 +138,7 @@ pub knows_on : (E : List Transfer → Type 0) (o : Observer) (c : Choice) (x : T
 knows_on E o c x choice (here clean h) = here clean (holds_on E (arrived o) c x choice h)
 knows_on E o c x choice (spoiled error rest h) = spoiled error rest (holds_on E (record o { sent = None }) c x choice h)
 
+-- what is known is true after a possible completion
 pub stays : (E : List Transfer → Type 0) (o : Observer) (s t : Port) → Completes s t → Knows E o s.target
     → Knows E o t.target
 stays E o s t (inl e) h = subst (λ p. Knows E o p.target) (sym e) h

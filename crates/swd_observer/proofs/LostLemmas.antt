@@ -82,6 +82,8 @@ later_read before told place tar x c busy true test at e = rw test
 later_read before told place tar x c busy false test at e = rw test
     (may_not before told (lost_read tar place) x.memory.log refl e)
 
+-- a DRW read that was accepted unseen: what is known is true, once it is reported as `May`, with TAR unknown from
+-- then on
 pub begun_read : (before : List Transfer) (told : List Told) (place : ℕ) (d : Observer) (x : Target) (busy : Bool)
     → d.begun ≡ None → Holds (ExplainsSince before told) d x
     → Holds (ExplainsSince before (told ++ lost_read d.tar place ∷ [])) (record d { tar = None })
@@ -134,6 +136,7 @@ kept_lost before told o q place x y s k =
     (doubted o) y
     refl (doubt_holds before told o x y s (doubt_is o x k.flagged) k.knows)
 
+-- a target has the same as itself of what an observer keeps
 pub same_self : (x : Target) → Same x x
 same_self x = record { select = refl; increments = refl; tar = refl; pending = refl; memory = refl }
 
@@ -191,6 +194,7 @@ lost_by before told o q place x busy Faults k = kept_lost before told o q place 
     (record { select = refl; increments = refl; tar = refl; pending = refl; memory = refl }) k
 lost_by before told o q place x busy Silent k = kept_lost before told o q place x x (same_self x) k
 
+-- an observer without an unconfirmed write has none, whether or not TAR becomes unknown at a lost acknowledgement
 pub unanswered_none : (read : Bool) (d : Observer) → d.sent ≡ None
     → (if read then record d { tar = None } else d).sent ≡ None
 unanswered_none true d e = e
@@ -220,6 +224,8 @@ lost_asked before told o q seen place s t (a, b, mark, c, first, now, last) k =
     stays _ _ b t last (lost_now before told o q seen place mark c a b now
     (flagged_stay (ExplainsSince before told) o s a first k))
 
+-- after a request without acknowledgement what is known is true, once the transfer in flight is reported as `May`, or
+-- as `Not` after FAULT, and the request itself as `May` if it may read DRW
 pub lost_step : KnownAtLost
 lost_step before told o q seen place s t w k = record {
   knows = awaits_none _ _ (unanswered (kind_of (doubted o).select q) (doubted o)) t.target

@@ -225,6 +225,8 @@ accounted before told o t k =
     subst (λ l. Accounted before l t) (sym (append-nil (flushed told o ++ listed (doubt_told o))))
     (record { now = h.flight.now; later = h.flight.later })
 
+-- from a state of which what is known is true, the accesses that are reported of a run are those that are logged in
+-- it
 pub runs_accounted : RunsAreAccounted
 runs_accounted before told o events s t k r =
     accounted before (told_after events told o) (observer_after events o) t (run before told o events s t r k)
@@ -232,6 +234,7 @@ runs_accounted before told o events s t k r =
 none_yet : (log : List Transfer) → ExplainsSince log [] log
 none_yet log = record { more = []; is = sym (append-nil log); explains = refl }
 
+-- the same from a target in its reset state, by an observer of such a target
 pub made_accounted : MadeIsAccounted
 made_accounted identification m events t r = runs_accounted m.log [] as_made events (made identification m) t (record {
   knows = record {
@@ -246,6 +249,7 @@ made_accounted identification m events t r = runs_accounted m.log [] as_made eve
   waits = λ e. absurd (cc);
 }) r
 
+-- the same by an observer that knows nothing, from a state with no transfer pending and no write data awaited
 pub any_accounted : AnyIsAccounted
 any_accounted events s t none idle r = runs_accounted s.target.memory.log [] unknown events s t (record {
   knows = record {

@@ -76,6 +76,7 @@ rests_by E tar x aimed now none = record {
   aimed = aimed_both tar x none aimed;
 }
 
+-- in a settled state the reports explain the log, and still do whatever completes
 pub rests : (E : List Transfer → Type 0) (o : Observer) (x : Target) → Settled E o x → Resting E o.tar x
 rests E o x h = rests_by E o.tar x h.aimed h.now h.none
 
@@ -116,11 +117,14 @@ range_advance (Some true) None range = tt
 range_advance (Some true) (Some a) range = range_at ((a % 4 == 0) && no (a % 1024 == 1020)) a range refl
 range_advance (Some false) tar range = range
 
+-- TAR, as known after the transfer in flight took effect, is below 2^32
 pub range_done : (b : Option Begun) (increments : Option Bool) (tar : Option ℕ) → IfSome tar (λ a. a < 2 ^ 32)
     → IfSome (tar_done b increments tar) (λ a. a < 2 ^ 32)
 range_done None increments tar range = range
 range_done (Some b) increments tar range = range_advance increments tar range
 
+-- with no flag set and nothing pending, a state is settled once the transfer in flight is reported as `Took`, where
+-- the word that was got, if any, is the read buffer's
 pub confirm : (before : List Transfer) (told : List Told) (got : Option ℕ) (o : Observer) (x : Target)
     → x.sticky_error ≡ false → x.write_error ≡ false → x.pending ≡ None → IsRight got x
     → Knows (ExplainsSince before told) o x
@@ -147,6 +151,7 @@ pub record Same (x y : Target) : Type 0 where
   pub pending : y.pending ≡ x.pending
   pub memory : y.memory ≡ x.memory
 
+-- what is known of a value is true of an equal one
 pub same_known : (T : Type 0) (known : Option T) (a b : T) → b ≡ a → IfSome known (λ k. a ≡ k)
     → IfSome known (λ k. b ≡ k)
 same_known T None a b e h = tt
@@ -156,6 +161,7 @@ same_aimed : (tar : Option ℕ) (a b : Option ℕ) → b ≡ a → IfSome tar (�
 same_aimed None a b e h = tt
 same_aimed (Some k) a b e h = e ∙ h
 
+-- a state is settled where it has the same as a settled one of what an observer keeps
 pub settled_same : (E : List Transfer → Type 0) (o : Observer) (x y : Target) → Same x y → Settled E o x → Settled E o y
 settled_same E o x y s h = record {
   select = same_known Select o.select x.select y.select s.select h.select;
@@ -176,6 +182,7 @@ settled_holds E o x rest h = record {
   flight = subst (λ b. Flight E b o.increments o.tar x) (sym rest) (rests E o x h);
 }
 
+-- in a settled state what an observer knows is true, if it has no unconfirmed write and nothing in flight
 pub settled_knows : (E : List Transfer → Type 0) (o : Observer) (x : Target) → o.sent ≡ None → o.begun ≡ None
     → Settled E o x → Knows E o x
 settled_knows E o x sent rest h =
@@ -186,6 +193,7 @@ pending_same : (r : Register) (p : Option Drw) → is_harmless r ≡ true → pe
 pending_same DrwRead p e = absurd (cc)
 pending_same r p e = refl
 
+-- OK to a request for a register of which an observer keeps nothing changes nothing of what it keeps
 pub same_okay : (busy : Bool) (r : Register) (x : Target) → is_harmless r ≡ true → Same x (after_okay busy r x)
 same_okay busy r x e = record {
   select = refl;
@@ -201,6 +209,7 @@ write_pends_not ToCsw p = refl
 write_pends_not ToTar p = refl
 write_pends_not ToDrw p = refl
 
+-- nor does OK to a write that an observer tracks: its effect comes with its data
 pub same_write : (busy : Bool) (w : Written) (x : Target) → Same x (after_okay busy (register_for w) x)
 same_write busy w x = record {
   select = refl;
@@ -242,6 +251,7 @@ pends_same : (r : Register) (word : ℕ) (p : Option Drw) → is_harmless r ≡ 
 pends_same DrwWrite word p e = absurd (cc)
 pends_same r word p e = refl
 
+-- the data of a write of which an observer keeps nothing, arrived or corrupted, changes nothing of what it keeps
 pub same_bits : (r : Register) (found : Option ℕ) (x : Target) → is_harmless r ≡ true
     → Same x (after_bits (arrival_of r found) x)
 same_bits r None x e = record { select = refl; increments = refl; tar = refl; pending = refl; memory = refl }
@@ -294,6 +304,8 @@ tar_arrives : (known : Option ℕ) (word : ℕ) → IfSome known (λ w. word ≡
 tar_arrives None word h = tt
 tar_arrives (Some w) word h = ap (λ n. Some n) h
 
+-- in a settled state without a flag, the word of a write that an observer tracks arrives: what it knows is true, with
+-- the write unconfirmed
 pub arrives : (E : List Transfer → Type 0) (o : Observer) (x : Target) (w : Written) (known : Option ℕ) (word place : ℕ)
     → o.begun ≡ None → x.sticky_error ≡ false → x.write_error ≡ false → (w ≡ ToDrw → x.debug_power ≡ true)
     → (w ≡ ToDrw → x.power_up ≡ Seen) → IfSome known (λ v. v < 2 ^ 32)

@@ -72,6 +72,7 @@ is_told before told h word known log right i =
     (took before told (record { place = h.place; read = true; addr = h.addr; word = known; how = Took }) i.read i.front
     refl (record { read = i.reads; addr = i.addr; word = word_told known word i.read.word i.word_of right }) i.explains)
 
+-- what is known is true once the older read, if any, is reported as `Took`, with a word only if it is its own
 pub flush : (before : List Transfer) (told : List Told) (h : Option Older) (known : Option ℕ) (o : Observer)
     (x : Target)
     → ((s : Standing) (word : ℕ) → IfSome h (λ z. z.standing ≡ s) → Stands s word x → IfSome known (λ v. word ≡ v))
@@ -83,6 +84,7 @@ flush before told (Some h) known o x right (word, stands, k) =
     (ExplainsSince before (told ++ listed (told_older known (Some h))))
     (λ log i. is_told before told h word known log (right h.standing word refl stands) i) o x k
 
+-- the same for a report without its word; after FAULT a flag is set
 pub flush_all : (before : List Transfer) (told : List Told) (o : Observer) (x : Target) → KnowsSince before told o x
     → Flagged (ExplainsSince before (told ++ listed (told_older None o.older))) o x
 flush_all before told o x k = record {
@@ -102,6 +104,8 @@ pub awaits_by : (E : List Transfer → Type 0) (h : Option Older) (o p : Observe
 awaits_by E None o p x y f g k = f E k
 awaits_by E (Some h) o p x y f g (word, stands, k) = (word, g h.standing word stands, f (IsOlder E h word) k)
 
+-- the word of an older read stands where it stood, if read buffer, last returned value and pending transfer are
+-- unchanged
 pub stands_same : (s : Standing) (word : ℕ) (x y : Target) → y.buffer ≡ x.buffer → y.last_returned ≡ x.last_returned
     → y.pending ≡ x.pending → Stands s word x → Stands s word y
 stands_same Buffer word x y b l p h = (b ∙ h.0, p ∙ h.1)
@@ -111,6 +115,7 @@ stands_on : (s : Standing) (word : ℕ) (c : Choice) (x : Target) → Stands s w
 stands_on Buffer word c x h = still (λ y. (y.buffer ≡ Some word) × (y.pending ≡ None)) c x h.1 h
 stands_on Returned word c x h = h
 
+-- the word of an older read stands where it stood after a possible completion
 pub stands_stay : (s : Standing) (word : ℕ) (a b : Port) → Completes a b → Stands s word a.target
     → Stands s word b.target
 stands_stay s word a b (inl e) h = subst (λ p. Stands s word p.target) (sym e) h
@@ -122,6 +127,7 @@ pub stands_passed : (s : Standing) (word : ℕ) (a b : Port) → Passes a b → 
 stands_passed s word a b (c, d, first, now, last) h = stands_stay s word d b last
     (subst (Stands s word) (sym (ap (λ p. p.target) now.after)) (stands_stay s word a c first h))
 
+-- the word of an older read stands where it stood after the data phase of a read
 pub stands_taken : (s : Standing) (word : ℕ) (a b : Port) (bits : ℕ) → Takes a bits b → Stands s word a.target
     → Stands s word b.target
 stands_taken s word a b bits (c, d, first, now, last) h = stands_stay s word d b last
@@ -143,6 +149,7 @@ stands_faulted s word q a b (c, d, mark, choice, first, now, last) h =
     stands_stay s word d b last (subst (Stands s word) (sym (ap (λ p. p.target) after.after))
     (stands_same s word c.target _ refl refl refl (stands_stay s word a c first h)))
 
+-- what is known, of an older read, too, is true after a possible completion, and after FAULT a flag is set
 pub watches_stay : (E : List Transfer → Type 0) (o : Observer) (s t : Port) → Completes s t → Watches E o s.target
     → Watches E o t.target
 watches_stay E o s t done k = record {
@@ -151,6 +158,7 @@ watches_stay E o s t done k = record {
   flagged = λ e. flags_stay s t done (k.flagged e);
 }
 
+-- after WAIT what was known is true, with nothing reported
 pub wait_told : KnownAtWait
 wait_told before told o q place s t h k = record {
   knows = awaits_by (ExplainsSince before told) o.older o o s.target t.target
@@ -159,6 +167,7 @@ wait_told before told o q place s t h k = record {
   flagged = λ e. flags_passed h.asked t h.passes (flags_asked q 2 s h.asked h.asks (k.flagged e));
 }
 
+-- after FAULT what was known is true, with nothing reported, and a flag is set
 pub fault_told : KnownAtFault
 fault_told before told o q place s t h k = record {
   knows = awaits_by (ExplainsSince before told) o.older o (record o { refused = true }) s.target t.target

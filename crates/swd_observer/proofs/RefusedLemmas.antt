@@ -19,6 +19,7 @@ use Rattle.swd_observer.specs.Observing.{arrived}
 use Rattle.swd_observer.specs.Knows.{Calm, Flying, owed, gone, failed, Flight, Holds, Knows, here, spoiled}
 use Rattle.swd_observer.proofs.KnownLemmas.{stays}
 
+-- where the host sees WAIT the target answered WAIT
 pub seen_waits : (mark : Mark) (reply : Reply) → Sees mark reply 2 → reply ≡ Waits
 seen_waits Deaf reply h = absurd (let e : true ≡ false = h.not_wait in cc)
 seen_waits (Mute place) reply h = absurd (let e : true ≡ false = h.not_wait in cc)
@@ -33,6 +34,7 @@ seen_waits (Flip place) Okay h = absurd (omega arith)
 seen_waits (Flip place) Faults h = absurd (omega arith)
 seen_waits (Flip place) Silent h = absurd (omega arith)
 
+-- where the host sees FAULT the target answered FAULT
 pub seen_faults : (mark : Mark) (reply : Reply) → Sees mark reply 4 → reply ≡ Faults
 seen_faults Deaf reply h = absurd (let e : true ≡ false = h.not_fault in cc)
 seen_faults (Mute place) reply h = absurd (let e : true ≡ false = h.not_fault in cc)
@@ -130,11 +132,13 @@ fault_now E o q mark c s t h k =
     let after = told mark c Faults (register s.target.select q) s q 4 t is refl h in
     subst (Knows E o) (sym (ap (λ p. p.target) after.after)) (faulted E o true q s.target k)
 
+-- what is known is true after a request at which WAIT is seen, and its turnaround
 pub wait_step : (E : List Transfer → Type 0) (o : Observer) (q : Request) (s a t : Port) → Asks s q 2 a → Passes a t
     → Knows E o s.target → Knows E o t.target
 wait_step E o q s d t (a, b, mark, c, first, now, last) passes k = passed E o d t passes
     (stays E o b d last (wait_now E o q mark c a b now (stays E o s a first k)))
 
+-- what is known is true after a request at which FAULT is seen, and its turnaround
 pub fault_step : (E : List Transfer → Type 0) (o : Observer) (q : Request) (s a t : Port) → Asks s q 4 a → Passes a t
     → Knows E o s.target → Knows E o t.target
 fault_step E o q s d t (a, b, mark, c, first, now, last) passes k = passed E o d t passes

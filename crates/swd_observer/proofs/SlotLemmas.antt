@@ -376,6 +376,8 @@ okay_slot (Some z) before told o q word ok place s t is tells h k =
     awaits_hold _ z _ t.target (fill (ExplainsSince before ((told ++ []) ++ listed itself)) z o q word ok place s t is
     tells h (subst (λ l. Knows (ExplainsSince before l) o s.target) same k))
 
+-- after OK to a request that isn't exempt what is known is true: an older read is reported, the transfer in flight is
+-- reported as `Took` or kept as the older read, and the request itself is reported if it may be an access
 pub okay_step : KnownAtOkay
 okay_step before told o q word ok place s t tells h k = record {
   knows = okay_slot (slot_at q (word_if ok word) o) before

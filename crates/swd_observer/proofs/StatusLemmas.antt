@@ -342,6 +342,8 @@ status_step before told o q word ok s d t bits is (a, b, mark, c, first, now, la
     taken_on (StatusTold before told o word (ok && is_status_known o)) (λ x y e z. stays _ _ x y e z) d t bits takes
     (status_asked before told o q word ok s a b d t mark c bits is first now last range carries takes k)
 
+-- after a CTRL/STAT read what is known is true: its flags show whether the write and the transfer failed, if its
+-- parity is right and DPBANKSEL is known to be 0
 pub status_told : KnownAtStatus
 status_told before told o q word ok place s t is h k =
     let takes : Takes h.asked h.bits t = takes_of q.read h.asked h.bits t (status_is s.target.select q is).1 h.moves in

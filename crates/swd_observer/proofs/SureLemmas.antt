@@ -127,6 +127,8 @@ all_more : (told : List Told) (t : Tells) → AreSure told → AllSure t → Are
 all_more told t s h = one_more ((told ++ listed t.older) ++ listed t.before) t.itself
     (one_more (told ++ listed t.older) t.before (one_more told t.older s h.0) h.1) h.2
 
+-- no access is reported as `May` before the end of a run where each request is acknowledged, SELECT is known, ABORT
+-- is written with nothing in flight, and the data registers are those of AP 0
 pub clear_sure : ClearIsSure
 clear_sure [] told o s h = s
 clear_sure (Moves tx place ∷ events) told o s h = clear_sure events (said (Moves tx place) told o)

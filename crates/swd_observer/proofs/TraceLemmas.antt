@@ -73,11 +73,14 @@ told_as_run items events first whole same =
     ap (λ l. and_told l (last_tells (after_items items first).observer)) told
     ∙ ap (λ o. and_told (told_after events [] first.observer) (last_tells o)) seen
 
+-- a trace without junk and cut end, whose transactions are those of a run from the reset state: the accesses that are
+-- reported are those that the memory logged
 pub trace_accounted : TraceIsAccounted
 trace_accounted identification m items events t runs whole same =
     subst (λ l. Accounted m.log l t) (sym (told_as_run items events from_made whole same))
     (made_accounted identification m events t runs)
 
+-- the same by an observer that knows nothing, from a state with no transfer pending and no write data awaited
 pub any_trace_accounted : AnyTraceIsAccounted
 any_trace_accounted items events s t settled idle runs whole same =
     subst (λ l. Accounted s.target.memory.log l t) (sym (told_as_run items events from_unknown whole same))

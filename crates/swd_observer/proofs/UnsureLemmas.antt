@@ -78,6 +78,7 @@ none_by true None read addr = none_maybe read addr
 none_by true (Some s) read addr = none_if (is_mem_ap s) (is_data s addr) read addr
 none_by false known read addr = none_dp read addr
 
+-- whether a request writes SELECT is always known
 pub select_is_sure : (known : Option Select) (q : Request) → may_select (kind_of known q) ≡ false
 select_is_sure known q = none_by q.ap known q.read q.addr
 
@@ -193,6 +194,8 @@ may_moved before told o y ToDrw word place found other rest is h =
       });
     }
 
+-- a write answered OK that may be one to this register: what is known is true, arrived or not, once it is reported as
+-- `May` if the register is DRW
 pub may_write : (before : List Transfer) (told : List Told) (o : Observer) (y : Target) (w : Written) (word : Option ℕ)
     (place : ℕ) (r : Register) (found : Option ℕ) → may_select (MayWrite w) ≡ false → o.begun ≡ None
     → (r ≡ register_for w) ⊎ (is_harmless r ≡ true) → IfSome found (λ f. IfSome word (λ v. f ≡ v))

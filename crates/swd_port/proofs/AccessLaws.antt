@@ -96,6 +96,8 @@ confirmed_call at word m s t (a, b, first, step, last) =
     let done : Succeeded (Write at word) m b.target = confirmed_done at word m a b step in
     subst (λ p. Succeeded (Write at word) m p.target) (sym (none_done b t done.pending last)) done
 
+-- at a ready target a DRW write, answered OK and undisturbed, and then an RDBUFF read, answered OK: the write was
+-- done once
 pub word_written : WordWritten
 word_written at word sent bits m s asked given confirmed t r h range fits is asks clean gives reads takes =
     let g : WordGiven at word m given.target = given_word at word sent m s asked given r h range fits is
@@ -183,6 +185,8 @@ got_phase : (value bits : ℕ) → Got None value bits → IsPhaseOf value bits
 got_phase value bits (got_whole e is told) = is
 got_phase value bits (got_damaged place e none told) = absurd (cc)
 
+-- at a ready target a DRW read, answered OK, and then an RDBUFF read, answered OK and undisturbed: the read was done
+-- once, and RDBUFF returns its word
 pub word_read : WordRead
 word_read at first_bits bits m s asked taken confirmed t r h fits asks first reads clean takes =
     let sent : ReadGiven at m taken.target = read_taken at first_bits m asked taken (read_seen at m s asked r h asks)

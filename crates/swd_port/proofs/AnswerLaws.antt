@@ -58,6 +58,7 @@ muted_range (suc (suc zero)) Faults h = omega arith
 muted_range (suc (suc (suc n))) reply h = absurd (omega arith)
 muted_range place Silent h = omega arith
 
+-- what the host sees of a reply, under a legal mark, is three bits
 pub seen_lt : (mark : Mark) (reply : Reply) → IsMark mark → seen_at mark reply < 8
 seen_lt (Mute place) reply h = muted_range place reply h
 seen_lt mark Okay h = omega arith
@@ -85,6 +86,7 @@ muted_seen (suc (suc zero)) Faults a h e = absurd (other (seen_at (Mute 2) Fault
 muted_seen (suc (suc (suc n))) reply a h e = absurd (omega arith)
 muted_seen place Silent a h e = e
 
+-- an OK, WAIT or FAULT that the host sees, under a legal mark, is the one that the target drove
 pub seen_driven : (mark : Mark) (reply : Reply) (a : Ack) → IsMark mark → seen_at mark reply ≡ number (ack a)
     → driven reply ≡ number (ack a)
 seen_driven (Mute place) reply a h e = muted_seen place reply a h e
@@ -113,13 +115,16 @@ pub lost_due : (read : Bool) (seen : ℕ) → (seen == 1) ≡ false → (seen ==
     → due_after read seen ≡ Lost
 lost_due read seen e f g = rw (e, f, g) refl
 
+-- after three bits that are no acknowledgement only a line reset is due
 pub none_due : (read : Bool) (seen : ℕ) → IsNoAcknowledgement seen → due_after read seen ≡ Lost
 none_due read seen none = lost_due read seen none.not_okay none.not_wait none.not_fault
 
+-- what the host sees of a reply under a Mute mark is no acknowledgement, so only a line reset is due
 pub muted_due : (place : ℕ) (reply : Reply) (read : Bool) → place < 3
     → due_after read (seen_at (Mute place) reply) ≡ Lost
 muted_due place reply read h = none_due read (seen_at (Mute place) reply) (muted_none place reply h)
 
+-- under a Deaf mark the target is silent
 pub deaf_silent : (mark : Mark) (r : Register) (a : Reply) → is_deaf mark ≡ true → reply_under mark r a ≡ Silent
 deaf_silent mark r a deaf = rw deaf refl
 

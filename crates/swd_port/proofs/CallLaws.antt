@@ -31,6 +31,7 @@ ack_bits AckOk = refl
 ack_bits AckWait = refl
 ack_bits AckFault = refl
 
+-- three bits are an acknowledgement exactly if their number is its number: 1 for OK, 2 for WAIT, 4 for FAULT
 pub acknowledgement_seen : AcknowledgementSeen
 acknowledgement_seen seen a range =
     (λ e. sym (ap number e ∙ number-low_bits 3 seen range), λ e. sym (ap (low_bits 3) e ∙ ack_bits a))
@@ -48,6 +49,7 @@ plain_due : (mark : Mark) (c : Choice) (q : Request) (seen : ℕ) (s t : Port) �
 plain_due mark c q seen s t now same sees =
     ap (λ p. p.link.due) now.after ∙ ap (due_after q.read) (same ∙ sym sees)
 
+-- three bits that are none of these have another number than 1, 2 and 4, and only a line reset is due after them
 pub no_acknowledgement_seen : NoAcknowledgementSeen
 no_acknowledgement_seen seen read range none =
     let not_okay : (seen == 1) ≡ false = differs seen 1
@@ -80,6 +82,7 @@ due_after_request q seen s t (a, b, mark, c, first, now, last) =
 due_stays : (b t : Port) → b.link.due ≡ Nothing → Completes b t → t.link.due ≡ Nothing
 due_stays b t e last = let k : Kept b t = kept b t last in ap (λ l. l.due) k.link ∙ e
 
+-- what is due after a call follows from its cue and from what was seen
 pub due_after_step : DueAfterStep
 due_after_step (Lead ones undriven switch zeros) seen s t h = due_stays h.1 t (ap (λ p. p.link.due) h.3.after) h.4
 due_after_step (Ask q) seen s t h = due_after_request q seen s t h
@@ -92,6 +95,7 @@ counted_around : (s a b t : Port) → Completes s a → b.tally ≡ a.tally → 
 counted_around s a b t first u last = let k : Kept s a = kept s a first in let l : Kept b t = kept b t last in l.tally
     ∙ u ∙ k.tally
 
+-- a call that isn't a request changes none of the three counts
 pub others_uncounted : OthersUncounted
 others_uncounted (Lead ones undriven switch zeros) seen s t other h = counted_around s h.0 h.1 t h.2 (ap (λ p. p.tally) h.3.after) h.4
 others_uncounted (Ask q) seen s t other h = grind arith
@@ -125,6 +129,8 @@ grows a b n e = omega arith
 grows_one : (a b n : ℕ) → b ≡ a + n → n ≤ 1 → b ≤ a + 1
 grows_one a b n e h = omega arith
 
+-- a request raises the count of requests by one, and those of disturbed and of lost ones by at most one; WDATAERR,
+-- the power requests, SELECT, CSW, the identification, and power seen as acknowledged are unchanged
 pub request_counted : RequestCounted
 request_counted q seen s t (a, b, mark, c, first, now, last) =
     let k : Kept s a = kept s a first in let l : Kept b t = kept b t last in
@@ -147,6 +153,7 @@ request_counted q seen s t (a, b, mark, c, first, now, last) =
       identification = l.identification ∙ y.identification ∙ k.identification;
     }
 
+-- no call changes the word that DPIDR returns
 pub identification_kept : IdentificationKept
 identification_kept (Lead ones undriven switch zeros) seen s t h =
     identified_around s h.0 h.1 t h.2 (ap (λ p. p.target.identification) h.3.after) h.4
@@ -175,6 +182,8 @@ moved_apart Step n s t apart h = subst (λ m. Around Step (with_asked n s) (with
   completed_apart n h.1 t h.4,
 )
 
+-- a step stays one if another number replaces the count of requests; a request still raises it by one, and no other
+-- call does
 pub counted_apart : CountedApart
 counted_apart n (Lead ones undriven switch zeros) seen s t h =
     moved_apart (λ a b. LeadsNow a ones b) n s t (λ a b now. record { after = ap (with_asked n) now.after }) h

@@ -19,9 +19,11 @@ use Rattle.swd_port.specs.Transfers.{Carries, Aimed, Succeeded, Failed}
 pub same_target : (c : Choice) (x : Target) → x.pending ≡ None → completion_of c x ≡ x
 same_target c x p = grind arith
 
+-- the same for the whole state: without a pending transfer a completion changes nothing
 pub same : (c : Choice) (s : Port) → s.target.pending ≡ None → completed c s ≡ s
 same c s p = ap (λ x. record s { target = x }) (same_target c s.target p)
 
+-- without a pending transfer the state after a possible completion is the state before it
 pub none_done : (s t : Port) → s.target.pending ≡ None → Completes s t → t ≡ s
 none_done s t none (inl e) = e
 none_done s t none (inr (c, fits, e)) = e ∙ same c s none
@@ -68,6 +70,8 @@ kept_same s = record {
   pending = inl refl;
 }
 
+-- a possible completion changes at most TAR, the read buffer, the memory, STICKYERR, which it may set, and the
+-- pending transfer, of which it may leave none
 pub kept : (s t : Port) → Completes s t → Kept s t
 kept s t (inl e) = subst (Kept s) (sym e) (kept_same s)
 kept s t (inr (c, fits, e)) = subst (Kept s) (sym e) (kept_done c s)
@@ -165,6 +169,7 @@ sent_done access m c x (gone fits pending memory error buffered advanced) = subs
 sent_done access m c x (failed fits pending memory error tar buffer) = subst (Sent access m)
     (sym (same_target c x pending)) (failed fits pending memory error tar buffer)
 
+-- a sent transfer, pending, done or failed, is one of these after a possible completion, too
 pub sent_stays : (access : Access) (m : PlainMemory) (s t : Port) → Completes s t → Sent access m s.target
     → Sent access m t.target
 sent_stays access m s t may = may_complete (Sent access m) (sent_done access m) s t may
@@ -174,9 +179,11 @@ pub becomes_done : (m : PlainMemory) (c : Choice) (x : Target) → Becomes m x �
 becomes_done m c x (idle pending memory) = subst (Becomes m) (sym (same_target c x pending)) (idle pending memory)
 becomes_done m c x (pends access pending tar memory) = idle refl (done_memory c access x tar pending ∙ memory)
 
+-- a possible completion keeps the memory that `Becomes` states
 pub becomes_stays : (m : PlainMemory) (s t : Port) → Completes s t → Becomes m s.target → Becomes m t.target
 becomes_stays m s t may = may_complete (Becomes m) (becomes_done m) s t may
 
+-- a sent transfer, pending, done or failed, leaves the memory after the plain access, once none is pending
 pub sent_becomes : (access : Access) (m : PlainMemory) (x : Target) → Sent access m x → Becomes (plain_after access m) x
 sent_becomes access m x (owed pending tar memory error) = pends access pending tar (ap (plain_after access) memory)
 sent_becomes access m x (gone fits pending memory error buffered advanced) = idle pending
@@ -195,6 +202,7 @@ sent_carried access m x y f (gone fits pending memory error buffered advanced) =
 sent_carried access m x y f (failed fits pending memory error tar buffer) =
     failed fits (f.pending ∙ pending) (f.memory ∙ memory) (f.sticky_error ∙ error) (f.tar ∙ tar) (f.buffer ∙ buffer)
 
+-- a state with the same pending transfer, TAR and memory keeps the memory that `Becomes` states
 pub becomes_carried : (m : PlainMemory) (x y : Target) → y.pending ≡ x.pending → y.tar ≡ x.tar → y.memory ≡ x.memory
     → Becomes m x → Becomes m y
 becomes_carried m x y e f g (idle pending memory) = idle (e ∙ pending) (g ∙ memory)
@@ -217,6 +225,7 @@ sent_succeeds access m x none fine (gone fits pending memory error buffered adva
     }
 sent_succeeds access m x none fine (failed fits pending memory error tar buffer) = absurd (cc)
 
+-- once no transfer is pending, a set STICKYERR shows that the sent one was a bus error
 pub sent_fails : (access : Access) (m : PlainMemory) (x : Target) → x.pending ≡ None → x.sticky_error ≡ true
     → Sent access m x → Failed access m x
 sent_fails access m x none bad (owed pending tar memory error) = absurd (cc)
@@ -234,6 +243,7 @@ sent_fails access m x none bad (failed fits pending memory error tar buffer) =
           buffer;
     }
 
+-- once no transfer is pending, the memory that `Becomes` states is the target's
 pub becomes_is : (m : PlainMemory) (x : Target) → x.pending ≡ None → Becomes m x → x.memory ≡ m
 becomes_is m x none (idle pending memory) = memory
 becomes_is m x none (pends access pending tar memory) = absurd (cc)
@@ -243,13 +253,17 @@ pub read_begins : (at : ℕ) (m : PlainMemory) (flip : Option ℕ) (s t : Port) 
     → Accepts DrwRead true flip s t → Sent (Read at) m t.target
 read_begins at m flip s t h a = subst (Sent (Read at) m) (sym a.target) (owed refl h.tar h.memory h.sticky_error)
 
+-- a DRW write whose word arrived, where TAR is known, none is pending and STICKYERR is clear, is a sent transfer at
+-- that address
 pub write_begins : (at word : ℕ) (m : PlainMemory) (s t : Port) → Aimed at m s.target → Gave DrwWrite word s t
     → Sent (Write at word) m t.target
 write_begins at word m s t h g = subst (Sent (Write at word) m) (sym g.target) (owed refl h.tar h.memory h.sticky_error)
 
+-- the memory that `Becomes` states is the target's once the pending transfer took effect, whatever the target chooses
 pub becomes_completed : (m : PlainMemory) (c : Choice) (x : Target) → Becomes m x → (completion_of c x).memory ≡ m
 becomes_completed m c x h = becomes_is m (completion_of c x) refl (becomes_done m c x h)
 
+-- while a sent transfer is pending, done or failed, the memory is that before it or that after it
 pub sent_memory : (access : Access) (m : PlainMemory) (x : Target) → Sent access m x
     → (x.memory ≡ m) ⊎ (x.memory ≡ plain_after access m)
 sent_memory access m x (owed pending tar memory error) = inl memory
@@ -257,11 +271,13 @@ sent_memory access m x (gone fits pending memory error buffered advanced) = inr
     (memory ∙ sym (plain_fits access m fits))
 sent_memory access m x (failed fits pending memory error tar buffer) = inl memory
 
+-- a TAR write whose word arrived aims at this word, where no transfer is pending and STICKYERR is clear
 pub aimed_by_tar : (at : ℕ) (m : PlainMemory) (s t : Port) → s.target.memory ≡ m → s.target.pending ≡ None
     → s.target.sticky_error ≡ false → Gave TarWrite at s t → Aimed at m t.target
 aimed_by_tar at m s t memory none fine g = subst (Aimed at m) (sym g.target)
     (record { tar = refl; memory = memory; pending = none; sticky_error = fine })
 
+-- with AddrInc single a transfer that was done aims at the next word, except at the end of a kilobyte
 pub aimed_by_transfer : (access : Access) (m : PlainMemory) (x : Target) → Succeeded access m x → x.increments ≡ true
     → address access % 4 ≡ 0 → address access < 2 ^ 32 →
     (address access + 4) % 1024 ≢ 0 → Aimed (address access + 4) (plain_after access m) x
@@ -274,6 +290,7 @@ aimed_by_transfer access m x h increments aligned range inside =
           h.sticky_error;
     }
 
+-- a state with the same TAR, memory, pending transfer and STICKYERR is aimed at the same address
 pub aimed_carried : (at : ℕ) (m : PlainMemory) (x y : Target) → y.tar ≡ x.tar → y.memory ≡ x.memory
     → y.pending ≡ x.pending → y.sticky_error ≡ x.sticky_error → Aimed at m x → Aimed at m y
 aimed_carried at m x y e f g h aimed =
@@ -292,12 +309,14 @@ memory_same c x y p a e =
     let f : Option Drw → Option ℕ → PlainMemory → PlainMemory = (λ i j k. memory_after i (unwrap_or j c.address) k) in
     ap (λ i. f i y.tar y.memory) p ∙ (ap (λ j. f x.pending j y.memory) a ∙ ap (λ k. f x.pending x.tar k) e)
 
+-- what the memory may become after a possible completion, it might have become before it
 pub may_become_stays : (m : PlainMemory) (s t : Port) → Completes s t → MayBecome t m → MayBecome s m
 may_become_stays m s t (inl e) h = subst (λ p. MayBecome p m) e h
 may_become_stays m s t (inr (c, fits, e)) (d, more, is) =
     let none : t.target.pending ≡ None = ap (λ p. p.target.pending) e in
     (c, fits, is ∙ ap (λ p. p.target.memory) (same d t none) ∙ ap (λ p. p.target.memory) e)
 
+-- what the memory may become, it may become in each state with the same pending transfer, TAR and memory
 pub may_become_carried : (m : PlainMemory) (s t : Port) → t.target.pending ≡ s.target.pending
     → t.target.tar ≡ s.target.tar → t.target.memory ≡ s.target.memory → MayBecome t m → MayBecome s m
 may_become_carried m s t p a e (c, fits, is) = (c, fits, is ∙ memory_same c s.target t.target p a e)
@@ -316,5 +335,6 @@ may_become_same s none = (
 may_become_only : (m : PlainMemory) (s : Port) → s.target.pending ≡ None → MayBecome s m → m ≡ s.target.memory
 may_become_only m s none (c, fits, is) = is ∙ ap (λ p. p.target.memory) (same c s none)
 
+-- without a pending transfer the memory may become what it is, and nothing else
 pub may_become_of_none : MayBecomeOfNone
 may_become_of_none = record { same = may_become_same; only = may_become_only }

@@ -51,6 +51,8 @@ data_taken flip value bits s t line range fits (a, b, first, now, last) =
     let k : Kept s a = kept s a first in
     got flip value bits (now.gets ∙ ap (λ l. bits_driven l.line) k.link ∙ ap bits_driven line) range fits
 
+-- apart from a completion before it, taking a read's data phase leaves target and counts unchanged; nothing is due
+-- then, and the line is idle
 pub take_moves_nothing : TakeMovesNothing
 take_moves_nothing bits s t (a, b, first, now, last) =
     let (d, done, e) : (d : Port) × Completes s d
@@ -61,6 +63,7 @@ take_moves_nothing bits s t (a, b, first, now, last) =
       ap (λ p. p.link.line) e,
     )
 
+-- without a pending transfer taking a read's data phase leaves target and counts unchanged
 pub take_moves_nothing_at_rest : TakeMovesNothingAtRest
 take_moves_nothing_at_rest bits s t none h =
     let found : (a : Port) × Completes s a × Passed a t × (t.link.line ≡ Idle) = take_moves_nothing bits s t h in
@@ -83,9 +86,11 @@ passed_after s a b t first now last =
 passed_at_rest : (s t : Port) → s.target.pending ≡ None → PassedAfter s t → Passed s t × (t.link.line ≡ s.link.line)
 passed_at_rest s t none h = subst (λ p. Passed p t × (t.link.line ≡ p.link.line)) (none_done s h.0 none h.1) (h.2, h.3)
 
+-- apart from a completion before it, the turnaround after WAIT or FAULT changes only what is due: nothing then
 pub turnaround_passed : TurnaroundPassed
 turnaround_passed s t (a, b, first, now, last) = passed_after s a b t first now.after last
 
+-- without a pending transfer that turnaround changes only what is due
 pub turnaround_passed_at_rest : TurnaroundPassedAtRest
 turnaround_passed_at_rest s t none h = passed_at_rest s t none (turnaround_passed s t h)
 
@@ -114,12 +119,15 @@ given r (Some place) word sent s t line range is e =
     (e ∙ ap (λ x. after_arrival (arrival x sent) s) line
     ∙ ap (λ x. after_arrival x s) (spoils r place word sent is range)))
 
+-- between two possible completions, the data phase of a write does the write, or, with a bit changed, sets WDATAERR
+-- alone
 pub data_given : DataGiven
 data_given r flip word sent s t line range fits is (a, b, first, now, last) =
     let k : Kept s a = kept s a first in
     let number : sent ≡ phase_number word = phase_told sent word fits (word_told sent word fits range (sym is)) in
     (a, b, first, given r flip word sent a b (ap (λ l. l.line) k.link ∙ line) range number now.after, last)
 
+-- the same without a pending transfer: a completion can only follow
 pub data_given_at_rest : DataGivenAtRest
 data_given_at_rest r flip word sent s t line range fits is none h =
     let found : Around (Given r flip word) s t = data_given r flip word sent s t line range fits is h in
@@ -136,6 +144,7 @@ given_rests r flip word s t none other (whole e g) = ap (λ x. x.pending) g.targ
     ∙ only_drw_pends r word s.target.pending other ∙ none
 given_rests r flip word s t none other (damaged place e g) = ap (λ x. x.pending) g.target ∙ none
 
+-- the same without a pending transfer, for every write but that of DRW: no completion follows
 pub data_given_exact : DataGivenExact
 data_given_exact r flip word sent s t line range fits is none other h =
     let found : (b : Port) × Given r flip word s b
@@ -154,17 +163,22 @@ led : (ones : ℕ) (s t : Port) → ones ≢ 0 → Leads s ones t → (a : Port)
 led ones s t other (a, b, first, now, last) = before_step after_ones (λ c p. refl) s a b t first
     (now.after ∙ rw (resets ones other) refl) last
 
+-- apart from a completion before it, a line reset makes the target fresh, with nothing due and an idle line, and sets
+-- WDATAERR where write data was awaited; it changes nothing else
 pub line_reset : LineReset
 line_reset ones s t other h =
     let (a, done, e) : (a : Port) × Completes s a × (t ≡ after_ones a) = led ones s t other h in
     (a, done, record { link = ap (λ p. p.link) e; target = ap (λ p. p.target) e; tally = ap (λ p. p.tally) e })
 
+-- apart from a completion before them, zeros alone change only what is due: nothing then
 pub idle_cycles : IdleCycles
 idle_cycles s t (a, b, first, now, last) = passed_after s a b t first now.after last
 
+-- without a pending transfer zeros alone change only what is due
 pub idle_cycles_at_rest : IdleCyclesAtRest
 idle_cycles_at_rest s t none h = passed_at_rest s t none (idle_cycles s t h)
 
+-- a line reset as the first call makes the target fresh and changes nothing else
 pub first_line_reset : FirstLineReset
 first_line_reset identification ones m t other h =
     let found : (a : Port) × Completes (made identification m) a

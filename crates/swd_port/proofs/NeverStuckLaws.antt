@@ -19,9 +19,11 @@ use Rattle.swd_port.specs.Asking.{AsksNow}
 use Rattle.swd_port.specs.Laws.NeverStuck.{EachRequestGoes, EachCallGoes, IsOfWords}
 use Rattle.swd_port.proofs.AnswerLaws.{sees_seen_at, deaf_silent}
 
+-- a target's choice: 0 for an unknown address and an unknown word, and TAR carries at the end of a kilobyte
 abbrev pub zeros : Choice
 zeros = record { address = 0; wraps = false; filler = 0 }
 
+-- its address and its word are below 2^32
 pub zeros_are : IsChoice zeros
 zeros_are = record { address = omega arith; filler = omega arith }
 
@@ -42,6 +44,8 @@ completed_buffer (Some Reads) false at m buffer words h = words at
 completed_buffer (Some (Writes word)) true at m buffer words h = tt
 completed_buffer (Some (Writes word)) false at m buffer words h = h
 
+-- a read returns 32 bits, with 0 for an unknown word, where the identification, the read buffer and the last returned
+-- value have 32 bits, or are unknown
 pub value_word : (busy : Bool) (r : Register) (x : Target) → x.identification < 2 ^ 32
     → IfSome x.buffer (λ word. word < 2 ^ 32) →
     IfSome x.last_returned (λ word. word < 2 ^ 32) → value_in busy r 0 x < 2 ^ 32
@@ -87,6 +91,7 @@ asks_zeros mark s q legal words =
       after = refl;
     }
 
+-- a request has a step under every mark, from each state whose values are words
 pub each_request_goes : EachRequestGoes
 each_request_goes mark s q legal words =
     let a = completed zeros s in
@@ -99,6 +104,7 @@ each_request_goes mark s q legal words =
       asks_zeros mark s q legal words,
     )
 
+-- every other call has a step from each state
 pub each_call_goes : EachCallGoes
 each_call_goes (Lead ones undriven switch zeros) s other =
     (0, after_lead ones s, (s, after_lead ones s, inl refl, record { after = refl }, inl refl))

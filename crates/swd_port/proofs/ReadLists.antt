@@ -9,9 +9,11 @@ reads_more addr (suc count) =
     ap (λ x. Read addr ∷ x) (reads_more (addr + 4) count
     ∙ ap (λ a. reads (addr + 4) count ++ Read a ∷ []) (omega arith))
 
+-- one read more is at the address after the last
 pub reads_next : (addr count : ℕ) → reads addr (count + 1) ≡ reads addr count ++ Read (addr + 4 * count) ∷ []
 reads_next addr count = ap (reads addr) (add-one count) ∙ reads_more addr count
 
+-- the list of `count` reads has this length
 pub length_reads : (addr count : ℕ) → length (reads addr count) ≡ count
 length_reads addr zero = refl
 length_reads addr (suc count) = ap suc (length_reads (addr + 4) count)

@@ -38,6 +38,7 @@ pub record Told (mark : Mark) (c : Choice) (reply : Reply) (r : Register) (s : P
   pub sees : Sees mark reply seen
   pub after : t ≡ after_reply mark reply r q c s
 
+-- a request's step, stated over a reply and a register that are known to be its own
 pub told : (mark : Mark) (c : Choice) (reply : Reply) (r : Register) (s : Port) (q : Request) (seen : ℕ) (t : Port) →
     reply_in mark s.target q ≡ reply → register s.target.select q ≡ r → AsksNow mark c s q seen t
     → Told mark c reply r s q seen t
@@ -114,6 +115,8 @@ steady_after busy Silent r ap x =
       memory = refl;
     }
 
+-- no reply changes the registers that are written, the identification or the memory, and power seen as acknowledged
+-- stays so
 pub steady : (busy : Bool) (reply : Reply) (r : Register) (ap : Bool) (x y : Target)
     → y ≡ target_after busy reply r ap x → Steady x y
 steady busy reply r ap x y e = subst (Steady x) (sym e) (steady_after busy reply r ap x)
@@ -377,6 +380,7 @@ exempt_request r q seen s t named exempt live (a, b, mark, c, first, now, last) 
       last,
     )
 
+-- a target that had a line reset answers a DPIDR read OK, and is live then, unless the request is lost
 pub identification_read : IdentificationRead
 identification_read q seen s t named reset (a, b, mark, c, first, now, last) =
     let k : Kept s a = kept s a first in (
@@ -393,6 +397,7 @@ flag_stays : (s a : Port) → Kept s a → (s.target.sticky_error ≡ true) ⊎ 
 flag_stays s a k (inl e) = inl (k.sticky_error e)
 flag_stays s a k (inr e) = inr (k.write_error ∙ e)
 
+-- a live target with a flag set answers a request that isn't exempt FAULT, unless it is lost
 pub flagged_request : FlaggedRequest
 flagged_request r q seen s t named plain live flag (a, b, mark, c, first, now, last) =
     let k : Kept s a = kept s a first in (
@@ -413,6 +418,8 @@ free_or_fault mark c r q seen s t named plain live write power h false e = inl
 free_or_fault mark c r q seen s t named plain live write power h true e = inr
     (e, flagged_now mark c r q seen s t named plain live (inl e) h)
 
+-- a live target with WDATAERR clear and power for the request answers one that isn't exempt OK or WAIT, or FAULT if
+-- STICKYERR is set by then, unless it is lost
 pub free_request : FreeRequest
 free_request r q seen s t named plain live write power (a, b, mark, c, first, now, last) =
     let k : Kept s a = kept s a first in (
@@ -465,22 +472,26 @@ pub exactly : (Step : Port → Port → Type 0) (s t : Port) → ((b : Port) →
     → (b : Port) × Step s b × Completes b t → Step s t
 exactly Step s t rests (b, step, last) = subst (Step s) (sym (none_done b t (rests b step) last)) step
 
+-- a live target without a pending transfer answers an exempt request OK, unless it is lost; no completion takes part
 pub exempt_request_at_rest : ExemptRequestAtRest
 exempt_request_at_rest r q seen s t named exempt live none h =
     exactly (OkayOrLost r q.read seen) s t
     (λ b. okay_or_lost_rests r q.read seen s b (exempt_starts_none r s.target.pending exempt none) none)
     (at_rest (OkayOrLost r q.read seen) s t none (exempt_request r q seen s t named exempt live h))
 
+-- the same for a DPIDR read at a target that had a line reset
 pub identification_read_at_rest : IdentificationReadAtRest
 identification_read_at_rest q seen s t named reset none h =
     exactly (OkayOrLost DpidrRead q.read seen) s t (λ b. okay_or_lost_rests DpidrRead q.read seen s b none none)
     (at_rest (OkayOrLost DpidrRead q.read seen) s t none (identification_read q seen s t named reset h))
 
+-- the same for FAULT to a request that isn't exempt, at a live target with a flag set
 pub flagged_request_at_rest : FlaggedRequestAtRest
 flagged_request_at_rest r q seen s t named plain live none flag h =
     exactly (FaultOrLost r q.ap seen) s t (λ b. fault_or_lost_rests r q.ap seen s b none)
     (at_rest (FaultOrLost r q.ap seen) s t none (flagged_request r q seen s t named plain live flag h))
 
+-- the same for FAULT to an AP access, at a live target without debug power
 pub unpowered_request_at_rest : UnpoweredRequestAtRest
 unpowered_request_at_rest r q seen s t named plain live none access power (a, b, mark, c, first, now, last) =
     let k : Kept s a = kept s a first in
@@ -494,6 +505,8 @@ free_at_rest : (r : Register) (q : Request) (seen : ℕ) (s b : Port) → s.targ
 free_at_rest r q seen s b sticky (inl h) = h.1
 free_at_rest r q seen s b sticky (inr h) = absurd (let e : s.target.sticky_error ≡ true = h.0 in cc)
 
+-- a live target with power for the request, without a flag or a pending transfer, answers one that isn't exempt OK or
+-- WAIT, unless it is lost; a completion may follow
 pub free_request_at_rest : FreeRequestAtRest
 free_request_at_rest r q seen s t named plain live none write sticky power h =
     let found : (b : Port) × FreeOrFault r q seen s b
@@ -501,6 +514,7 @@ free_request_at_rest r q seen s t named plain live none write sticky power h =
     (free_request r q seen s t named plain live write power h) in
     (found.0, free_at_rest r q seen s found.0 sticky found.1, found.2)
 
+-- the same for every request but a DRW read: no completion follows
 pub free_request_exact : FreeRequestExact
 free_request_exact r q seen s t named plain other live none write sticky power h =
     exactly (OkayWaitOrLost r q.read seen) s t
@@ -511,6 +525,7 @@ powered : (access power : Bool) → (access ≡ true → power ≡ true) → is_
 powered true power h = rw (h refl) refl
 powered false power h = refl
 
+-- FAULT leaves STICKYERR unchanged, unless it was to an AP access without debug power
 pub refused_with_power : RefusedWithPower
 refused_with_power r access s t h power = ap (λ x. x.sticky_error) h.target
     ∙ ap (λ x. s.target.sticky_error || x) (powered access (has_power s.target) power) ∙ or_false s.target.sticky_error
@@ -520,6 +535,8 @@ starts_drw : (r : Register) (pending : Option Drw) → (pending_once_read r pend
 starts_drw DrwRead pending = inr refl
 starts_drw r pending = inl refl
 
+-- a lost request changes no register that is written, no flag, no memory, and the pending transfer only if it reads
+-- DRW
 pub lost_request : LostRequest
 lost_request r read s t (inl h) = subst (LeftByLost r s.target) (sym h.target)
     (steady_after false Silent r false s.target, refl, inl refl)
@@ -574,17 +591,21 @@ accepts_unmoved r read flip s t other h = record {
 exempt_other : (r : Register) → is_exempt r ≡ true → r ≢ DrwRead
 exempt_other r e f = absurd (let g : is_exempt DrwRead ≡ true = ap is_exempt (sym f) ∙ e in cc)
 
+-- whatever its result, an exempt request changes no register that is written, no flag, no memory and no pending
+-- transfer
 pub unmoved_by_exempt : UnmovedByExempt
 unmoved_by_exempt r read seen s t e (okay h) = accepts_unmoved r read h.flip s t (exempt_other r e) h.accepts
 unmoved_by_exempt r read seen s t e (lost n (inl h)) = stays_unmoved s t h
 unmoved_by_exempt r read seen s t e (lost n (inr h)) = accepts_unmoved r read None s t (exempt_other r e) h
 
+-- the same for a request that gets OK or WAIT, or is lost, unless it reads DRW
 pub unmoved_by_free : UnmovedByFree
 unmoved_by_free r read seen s t other (okay h) = accepts_unmoved r read h.flip s t other h.accepts
 unmoved_by_free r read seen s t other (wait h) = defers_unmoved r s t h.defers
 unmoved_by_free r read seen s t other (lost n (inl h)) = stays_unmoved s t h
 unmoved_by_free r read seen s t other (lost n (inr h)) = accepts_unmoved r read None s t other h
 
+-- the same for one that gets FAULT, or is lost, unless it is an AP access without debug power
 pub unmoved_by_refused : UnmovedByRefused
 unmoved_by_refused r access seen s t power (fault h) = refuses_unmoved r access s t power h.refuses
 unmoved_by_refused r access seen s t power (lost n (inl h)) = stays_unmoved s t h
@@ -609,6 +630,8 @@ confirms access m r q seen s t sent plain (inr h) =
           (inr (inr (sent_fails access m s.target refuses.settled h.0 sent, refuses)))
     ]
 
+-- after a sent transfer, at a live target with WDATAERR clear and power: OK to a request that isn't exempt shows that
+-- it was done, FAULT that it was a bus error, WAIT neither; a lost one had no effect, or that of such an OK or FAULT
 pub confirming_request : ConfirmingRequest
 confirming_request access m r q seen s t sent named plain live write power h =
     let found : Around (FreeOrFault r q seen) s t = free_request r q seen s t named plain live write power h in (

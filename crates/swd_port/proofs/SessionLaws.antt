@@ -253,6 +253,7 @@ line_led false line h = h
 seen_range : (mark : Mark) (reply : Reply) → IsMark mark → seen_at mark reply < 8
 seen_range mark reply legal = grind (arith, answer_laws)
 
+-- from a state whose values are words, each cue has a step to such a state again, under every mark
 pub each_step_goes_on : EachStepGoesOn
 each_step_goes_on mark (Lead ones undriven switch zeros) s legal w =
     let t = after_lead ones s in (
@@ -297,6 +298,7 @@ each_step_goes_on mark Pass s legal w =
       same_words s t w refl refl refl refl refl refl w.driven,
     )
 
+-- a state before any call is such a state, where the identification and the memory's words are below 2^32
 pub made_of_words : MadeOfWords
 made_of_words identification m i h = record {
   reads = record { identification = i; buffer = tt; last_returned = tt; memory = h };
@@ -372,5 +374,7 @@ module _ (next : List Call → Cue) (marks : ℕ → Mark) (s : Port) (legal : (
     fits = fits n;
   }
 
+-- each host has a session of any length that is consistent with states of the model, whatever it chooses and whatever
+-- the marks
 pub each_session_fits : EachSessionFits
 each_session_fits next marks s n legal w rests = session next marks s legal w rests n

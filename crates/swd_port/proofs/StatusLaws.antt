@@ -48,6 +48,8 @@ system_bit a b d e f g = grind arith
 status_range : (a b d e f g : Bool) → ctrl_stat_read a b d e f g < 2 ^ 32
 status_range a b d e f g = grind arith
 
+-- from the word of CTRL/STAT the flags, READOK and both power acknowledgements are read back, each whatever the
+-- others are
 pub status_word : StatusWord
 status_word a b d e f g = record {
   sticky_held = sticky_held a b d e f g;
@@ -76,9 +78,12 @@ posted_value : (r : Register) (identification status filler : ℕ) (last_returne
     value_read r identification status last_returned buffer filler ≡ unwrap_or buffer filler
 posted_value r identification status filler last_returned buffer e = grind arith
 
+-- a DPIDR read that is answered OK puts the identification's data phase on the line, with the changed bit, if any
 pub identification_returned : IdentificationReturned
 identification_returned flip s t h = record { line = h.line; range = h.value_range refl }
 
+-- a CTRL/STAT read that is answered OK puts a word on the line that has the flags and the power acknowledgements as
+-- they were then
 pub status_returned : StatusReturned
 status_returned flip s t h = (
   record { line = h.line; range = h.value_range refl },
@@ -86,6 +91,8 @@ status_returned flip s t h = (
       s.target.write_error s.target.debug_power s.target.system_power _,
 )
 
+-- an AP read or an RDBUFF read that is answered OK puts the read buffer's word, if known, on the line, and makes it
+-- the last returned value
 pub buffer_returned : BufferReturned
 buffer_returned r flip value s t posted known h =
     let is : value_in h.busy r h.filler s.target ≡ value = posted_value r s.target.identification
@@ -99,6 +106,7 @@ buffer_returned r flip value s t posted known h =
       ap (λ x. x.last_returned) h.target ∙ taken_by (is_posted r) s.target.buffer s.target.last_returned posted ∙ known,
     )
 
+-- a RESEND read that is answered OK puts the last returned value, if known, on the line, and keeps it
 pub value_resent : ValueResent
 value_resent flip value s t known h =
     let is : unwrap_or s.target.last_returned h.filler ≡ value = returned value h.filler s.target.last_returned known in (
@@ -142,6 +150,7 @@ exempt_carries busy r x e = (
   chosen (is_posted r) x.buffer x.last_returned (posts_none r e),
 )
 
+-- an exempt request or a RESEND read, answered OK, keeps a sent transfer and the last returned value
 pub carried_by_request : CarriedByRequest
 carried_by_request r read flip s t (inl e) h = subst (Leaves s.target) (sym h.target)
     (exempt_carries h.busy r s.target e)
@@ -149,12 +158,14 @@ carried_by_request r read flip s t (inr e) h = subst (Leaves s.target)
     (sym (h.target ∙ ap (λ x. after_okay h.busy x s.target) e))
     (record { pending = refl; tar = refl; memory = refl; sticky_error = refl; buffer = refl; increments = refl }, refl)
 
+-- a request that had no effect, or got WAIT, keeps a sent transfer
 pub carried_where_held : CarriedWhereHeld
 carried_where_held r s t (inl h) = subst (Carries s.target) (sym h.target)
     (record { pending = refl; tar = refl; memory = refl; sticky_error = refl; buffer = refl; increments = refl })
 carried_where_held r s t (inr h) = subst (Carries s.target) (sym h.target)
     (record { pending = refl; tar = refl; memory = refl; sticky_error = refl; buffer = refl; increments = refl })
 
+-- one that got FAULT keeps a sent transfer, where STICKYERR is unchanged
 pub carried_where_refused : CarriedWhereRefused
 carried_where_refused r access s t h e = record {
   pending = ap (λ x. x.pending) h.target;
@@ -165,10 +176,12 @@ carried_where_refused r access s t h e = record {
   increments = ap (λ x. x.increments) h.target;
 }
 
+-- a call that leaves the target unchanged keeps a sent transfer
 pub carried_where_passed : CarriedWherePassed
 carried_where_passed s t h = subst (Carries s.target) (sym h.target)
     (record { pending = refl; tar = refl; memory = refl; sticky_error = refl; buffer = refl; increments = refl })
 
+-- a line reset keeps a sent transfer
 pub carried_by_reset : CarriedByReset
 carried_by_reset s t h = subst (Carries s.target) (sym h.target)
     (record { pending = refl; tar = refl; memory = refl; sticky_error = refl; buffer = refl; increments = refl })
@@ -180,6 +193,8 @@ cleared flag bit e = grind arith
 uncleared : (flag bit : Bool) → bit ≡ false → (flag && not bit) ≡ flag
 uncleared flag bit e = grind arith
 
+-- ABORT's bits 2 and 3 clear STICKYERR and WDATAERR; the flag of a clear bit, the last returned value, the read
+-- buffer, TAR, the memory and the pending transfer are unchanged
 pub flags_cleared : FlagsCleared
 flags_cleared word s t h = subst (Clears word s.target) (sym h.target) (record {
   sticky_cleared = cleared s.target.sticky_error (bit_of 2 word);

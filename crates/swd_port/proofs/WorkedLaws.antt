@@ -20,9 +20,11 @@ use Rattle.swd_port.specs.Laws.Accesses.{Ready}
 use Rattle.swd_bits.proofs.PhaseLemmas.{word_phase, word_flip}
 use Rattle.swd_port.proofs.AnswerLaws.{sees_seen_at, deaf_silent}
 
+-- a target's choice: 0 for an unknown address and an unknown word, and TAR wraps at the end of a kilobyte
 abbrev pub choice : Choice
 choice = record { address = 0; wraps = true; filler = 0 }
 
+-- its address and its word are below 2^32
 pub choice_fits : IsChoice choice
 choice_fits = record { address = omega arith; filler = omega arith }
 

@@ -178,6 +178,7 @@ pushed : (place : Place) (items : List Item) (item : Item) → may_follow (place
 pushed place [] item e = refl
 pushed place (last ∷ []) item e = apart last item e
   where
+    -- an item that may follow the last one isn't joined to it
     apart : (last item : Item) → may_follow (place_after last) item ≡ true → joined last item ≡ last ∷ item ∷ []
     apart (Idle m) (Idle n) e = absurd cc
     apart (Idle m) (Reset n) e = refl

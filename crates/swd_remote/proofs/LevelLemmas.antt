@@ -63,6 +63,7 @@ next_clock count place rest l =
     let e : count - place ≡ suc n = omega arith in
     ap (λ k. joined (map driven_clock (low_bits k rest))) e
 
+-- of equal clocks that are left, one goes by
 pub next_time : (count place : ℕ) (clock : List ℕ) → place < count
     → joined (replicate (count - place) clock) ≡ clock ++ joined (replicate (count - (place + 1)) clock)
 next_time count place clock l =
@@ -70,18 +71,21 @@ next_time count place clock l =
     let e : count - place ≡ suc n = omega arith in
     ap (λ k. joined (replicate k clock)) e
 
+-- at first no levels were read
 pub no_levels : (text : List ℕ) → levels 0 0 ≡ drop (length text - 0) text
 unfolding low_bits
 no_levels text =
     let e : length text - 0 ≡ length text = omega arith in
     sym (ap (λ n. drop n text) e ∙ drop-length text)
 
+-- once all driven clocks went by, none is left
 pub none_left : (count place rest : ℕ) → count ≤ place → joined (map driven_clock (low_bits (count - place) rest)) ≡ []
 unfolding low_bits
 none_left count place rest l =
     let e : count - place ≡ 0 = omega arith in
     ap (λ k. joined (map driven_clock (low_bits k rest))) e
 
+-- the byte of a level is the number of its bit
 pub from_bit : (b : Bool) (n : ℕ) → n ≡ bool_byte b → n ≡ bit b
 from_bit true n e = e
 from_bit false n e = e

@@ -60,6 +60,7 @@ pub to_carries : {W : Type 0} (contents : W → Option (List ℕ)) (flag : Bool)
     → flag ≡ false → OnItsWayBy flag contents start s text → Carries contents start s text
 to_carries contents flag start s text e h = rw e at h
 
+-- where the writer hasn't failed, characters that it and the buffer hold are on their way
 pub of_carries : {W : Type 0} (contents : W → Option (List ℕ)) (flag : Bool) (start : Option (List ℕ)) (s : Outgoing W)
     (text : List ℕ)
     → flag ≡ false → Carries contents start s text → OnItsWayBy flag contents start s text

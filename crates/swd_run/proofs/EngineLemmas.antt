@@ -64,6 +64,7 @@ pub held_is : {T : Type 0} (contents : T → Option (List ℕ)) (file : Option T
 held_is contents None = refl
 held_is contents (Some writer) = refl
 
+-- where there is a writer, there are its contents
 pub held_some : {T : Type 0} (contents : T → Option (List ℕ)) (file : Option T) → is_some file ≡ true
     → is_some (held contents file) ≡ true
 held_some contents file is = held_is contents file ∙ is
@@ -73,6 +74,7 @@ pub recorded_is : {T : Type 0} (contents : T → Option (List ℕ)) (records : R
     → is_recorded (files_of contents records) ≡ (is_some records.trace || is_some records.accesses)
 recorded_is contents records = ap₂ ◌||◌ (held_is contents records.trace) (held_is contents records.accesses)
 
+-- files that are the same before and after are left: nothing was written to them
 pub left_files : (files : Files) → AreLeft files files
 left_files files = record { trace = left_alone files.trace; accesses = left_alone files.accesses }
 
@@ -138,6 +140,7 @@ module _ {W V : Type 0} (by : W → V) (port : V → Port) (plan : V → List Ma
     refused_by limit batch s t (unresumed {stops = stops} {told = told} went lost few) =
         unresumed (went_by limit batch.accesses s stops told t went) lost few
 
+    -- what ran of a script over wires is what ran of it over what these are known by
     abbrev pub ran_by : (batches : List Listed) (s t : W)
         → Ran (λ w. port (by w)) (λ w. plan (by w)) (λ w. lawful (by w)) tries resumes batches s t
         → Ran port plan lawful tries resumes batches (by s) (by t)
@@ -207,6 +210,7 @@ seen_by true by port plan lawful tries resumes batches counted s t start begins 
     resumes batches (0, s) (counted, t) (0, start) (counted, by t) (ap (λ v. (0, v)) begins) refl answer old new before
     after h
 
+-- what an answer states over wires it states over what these are known by, also where the run is recorded
 pub answers_at_by : {W V : Type 0} (by : W → V) (port : V → Port) (plan : V → List Mark) (lawful : V → Type 0)
     (tries resumes : ℕ) (batches : List Listed) (s t : W) (start : V) → by s ≡ start
     → (answer : Result Finished EngineFault) (old new : Option (List ℕ)) (before after : Files)
@@ -336,6 +340,8 @@ full_answers batches used runs before IsWhole IsPart (Err (Write written)) old n
 full_answers batches used runs before IsWhole IsPart (Err (WriteAccesses written)) old new held now h = h
 full_answers batches used runs before IsWhole IsPart (Err TraceCut) old new held now h = h
 
+-- over a lawful wire to a target that was just made, where a plan bounds what is disturbed and lost, an answer states
+-- what the theorem of the host says for the script's memory, and whether its log is full
 pub script_answers : {W : Type 0} (port : W → Port) (plan : W → List Mark) (lawful : W → Type 0) (tries resumes : ℕ)
     (script : Meaning) (marks : List Mark) (s t : W) → port s ≡ made 731911287 (memory_of script) → plan s ≡ marks
     → ((w : W) → plan w ≡ marks

@@ -55,6 +55,7 @@ plain_alone batches made (one_more {batches = before} {made = earlier} {batch = 
     (both (is_alone runs) true
     (ap is_empty (subst (λ until. AreEarlier until runs.earlier) (no_until batch.until last) are.earlier)) refl)
 
+-- a script without `until` unfolds to itself
 pub plain : (batches : List Listed) (made : List BatchRuns) → list_all is_plain batches ≡ true
     → Unfolds (take (length made) batches) made → IsItself batches made
 plain batches made e unfolds =

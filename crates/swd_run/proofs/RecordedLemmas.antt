@@ -456,6 +456,8 @@ recorded_accounted identification m calls t steps all =
     let run = run_of (made identification m) calls t refl steps all in
     trace_accounted identification m (items_by calls) run.0 t run.1 run.2 run.3
 
+-- the theorem from any state in which nothing is due or pending and no write data is awaited, for an observer that
+-- knows nothing at first
 pub any_recorded_accounted : AnyRecordedIsAccounted
 any_recorded_accounted calls s t begins settled idle steps all =
     let run = run_of s calls t begins steps all in

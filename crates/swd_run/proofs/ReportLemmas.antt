@@ -37,6 +37,7 @@ pairs_whole text (x ∷ xs) [] (suc i) h = absurd (omega arith)
 pairs_whole text (x ∷ xs) (y ∷ ys) zero h = absurd (omega arith)
 pairs_whole text (x ∷ xs) (y ∷ ys) (suc i) h = ap (λ t. text x y ++ t) (pairs_whole text xs ys i (omega arith))
 
+-- without items of the second list there are no pairs, and no text
 pub no_pairs : {X Y : Type 0} (text : X → Y → List ℕ) (xs : List X) → pair_texts text xs [] ≡ []
 no_pairs text [] = refl
 no_pairs text (x ∷ xs) = refl
@@ -73,6 +74,7 @@ between_is from to xs end start e s =
     sym (drop-take start (end - start) xs) ∙ ap (λ l. drop start l) (sym part)
     ∙ ap (λ n. drop n (take to xs)) (sym low) ∙ drop_min from (take to xs)
 
+-- the items of a list from an index to its end are all those from this index on
 pub to_end : {X : Type 0} (from : ℕ) (xs : List X) → drop from (take (length xs) xs) ≡ drop from xs
 to_end from xs = ap (λ l. drop from l) (take_all (length xs) xs (omega arith))
 
@@ -81,6 +83,8 @@ pub text_next : (all text part line : List ℕ) → ((all ++ text) ++ part) ++ l
 text_next all text part line =
     append_assoc (all ++ text) part line ∙ append_assoc all text (part ++ line)
 
+-- after the lines up to a place where the run was resumed, and the line of this place, the lines from there on are
+-- left of the whole text
 pub lines_next : (reads : Option ℕ) (accesses : List Access) (answers : List Answer) (stops : List Stop) (i from : ℕ)
     (d : Stop) (text whole part line : List ℕ) → i < length stops →
     part ≡ lines_between reads from (get_or stops i d).answered accesses answers

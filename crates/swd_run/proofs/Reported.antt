@@ -84,6 +84,7 @@ module _ {W : Type 0} (port : W → Port) (plan : W → List Mark) (lawful : W �
     pub is : IsFinished (take i batches) made None finished
     pub gone : HasWritten old now (session_text (take i batches) made) written
 
+  -- before the first batch there is no run, and nothing was written
   pub none_yet : (finished : Finished) → IsFinished [] [] None finished → SoFar 0 s old finished 0
   none_yet finished is = record {
     made = [];
@@ -197,6 +198,7 @@ module _ {W : Type 0} (port : W → Port) (plan : W → List Mark) (lawful : W �
           sym (pairs_last batch_report (take i batches) so_far.made batch runs as_batches)
           ∙ ap (λ z. session_text z (so_far.made ++ runs ∷ [])) (sym split)
 
+      -- the runs of the next batch, and their report, which was written whole, come after those so far
       pub one_more : (written_next total : ℕ) → HasWritten now new (run_report batch reads last) written_next
           → Sums total written written_next → IsBatch batch → (finished_next : Finished)
           → ((batches : List Listed) (made : List BatchRuns) (runs : BatchRuns) → Unfolds batches made → IsBatch batch
@@ -222,6 +224,8 @@ module _ {W : Type 0} (port : W → Port) (plan : W → List Mark) (lawful : W �
             };
           }
 
+      -- the runs of the next batch, of whose report not all was written, are the last: the engine's answer is
+      -- `Write`, with the number of all bytes written
       pub stopped_in : (written_next total : ℕ) → i < length batches
           → Stopped written_next now new (run_report batch reads last) → Sums total written written_next
           → AnswersOver port plan lawful tries resumes batches s u (Err (Write total)) old new no_files no_files

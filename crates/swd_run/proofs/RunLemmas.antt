@@ -23,6 +23,7 @@ use Rattle.swd_run.specs.Running.{IsExcused, RunsAs}
 use Rattle.swd_run.specs.Sessions.{most_begun}
 use Rattle.swd_run.specs.Engine.{AreItems, IsTraceOf, IsOfTrace}
 
+-- a run stops early only if the plan excuses it, where the plan bounds what was disturbed and lost by its end
 pub excused : (ended : End) (tries : ℕ) (marks : List Mark) (s t : Port) →
     t.tally.disturbed ≤ disturbed_among marks → t.tally.lost ≤ lost_among marks → EndsAt ended tries s t
     → IsExcused ended tries marks
@@ -94,6 +95,7 @@ pub record IsRecorded (requests : ℕ) (ended : End) (port : Port) : Type 0 wher
   pub rests : pending port.link.due ≡ 0
   pub lost : (port.link.due ≡ DueLost) ↔ (ended ≡ Lost)
 
+-- after a run no transaction is incomplete, and a line reset is due exactly if it ended `Lost`
 pub ends_at : (ended : End) (tries : ℕ) (s t : Port) → EndsAt ended tries s t
     → (pending t.link.due ≡ 0) × ((t.link.due ≡ DueLost) ↔ (ended ≡ Lost))
 ends_at All tries s t e = (ap pending e.0.due, (λ d. absurd (apart t.link.due e.0.due d), λ f. absurd cc))

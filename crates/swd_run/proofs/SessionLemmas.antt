@@ -24,6 +24,7 @@ use Rattle.swd_run.proofs.WentLemmas.{asked, due_after, ending, law_before, plan
 
 -- ---- lists of runs
 
+-- runs end as the last one ends
 pub ended_last : (runs : List Done) (run : Done) → ended_of (runs ++ run ∷ []) ≡ run.told.ended
 ended_last [] run = refl
 ended_last (first ∷ []) run = refl
@@ -34,6 +35,7 @@ requests_last : (runs : List Done) (run : Done)
 requests_last [] run = omega arith
 requests_last (first ∷ runs) run = let h = requests_last runs run in omega (arith, h)
 
+-- a mapped list has as many items as the list
 pub map_length : {X Y : Type 0} (f : X → Y) (xs : List X) → length (map f xs) ≡ length xs
 map_length f [] = refl
 map_length f (x ∷ xs) = ap (λ n. suc n) (map_length f xs)
@@ -62,6 +64,7 @@ left_of f xs i d low =
 -- ---- runs over a wire
 
 module _ {W : Type 0} (port : W → Port) (plan : W → List Mark) (lawful : W → Type 0) (tries resumes : ℕ) (s : W) where
+  -- nothing is due after a run that ended `All`
   pub due_then : (batch : Listed) (run : Done) (t u : W) → run.told.ended ≡ All
       → GoesOn port plan lawful (most_begun batch) tries resumes batch t run u → (port u).link.due ≡ Nothing
   due_then batch run t u all goes =
@@ -107,6 +110,8 @@ module _ {W : Type 0} (port : W → Port) (plan : W → List Mark) (lawful : W �
               (sym last) ending_is;
         }
 
+    -- over a lawful wire, from a target at rest and a count of 0, the requests counted are those of the runs; no
+    -- transaction is incomplete, and a line reset is due exactly if the runs ended `Lost`
     pub recorded : (batches : List Listed) (runs : List Done) (t : W) → (port s).tally.asked ≡ 0
         → Runs port plan lawful most_begun tries resumes s batches runs t → lawful t
         → IsRecorded (requests_of runs) (ended_of runs) (port t)
@@ -151,6 +156,8 @@ module _ {W : Type 0} (port : W → Port) (plan : W → List Mark) (lawful : W �
     → ((port w).tally.disturbed ≤ disturbed_among marks) × ((port w).tally.lost ≤ lost_among marks)) (law : lawful t)
     (unfolds : Unfolds (take (length made) script.batches) made)
     (all : Runs port plan lawful most_begun tries resumes s (calls_of script.batches made) (runs_of made) t) where
+  -- over a lawful wire the runs of a script's first batches are those from its initial memory, and leave the target's
+  -- memory
   pub script_runs : RunsScript tries resumes script marks made (port t).target.memory
   script_runs =
       let rest : IsAtRest (port s) = made_rests (memory_of script) (port s) is_made in

@@ -27,10 +27,12 @@ pub and_left : (a b : Bool) → (a && b) ≡ true → a ≡ true
 and_left true b e = refl
 and_left false b e = absurd cc
 
+-- where both bits are set, the second is
 pub and_right : (a b : Bool) → (a && b) ≡ true → b ≡ true
 and_right true b e = e
 and_right false b e = absurd cc
 
+-- where each of two bits is set, both are
 pub both : (a b : Bool) → a ≡ true → b ≡ true → (a && b) ≡ true
 both true b e f = f
 both false b e f = absurd cc
@@ -145,6 +147,7 @@ pub no_calls : (batches : List Listed) → calls_of batches [] ≡ []
 no_calls [] = refl
 no_calls (batch ∷ batches) = refl
 
+-- without runs none is the read of an `until` whose word never came
 pub no_until : (batches : List Listed) → ends_until batches [] ≡ false
 no_until [] = refl
 no_until (batch ∷ batches) = refl
@@ -356,6 +359,7 @@ module _ {W : Type 0} (port : W → Port) (plan : W → List Mark) (lawful : W �
       pub runs : Runs port plan lawful most_begun tries resumes s (again batch earlier) earlier between
       pub goes : GoesOn port plan lawful (most_begun batch) tries resumes batch between last t
 
+    -- a first read of an `until`, before which there is none
     pub asking_first : (last : Done) (t : W)
         → GoesOn port plan lawful (most_begun batch) tries resumes batch s last t → Asking 1 last t
     asking_first last t goes = record {
@@ -376,6 +380,7 @@ module _ {W : Type 0} (port : W → Port) (plan : W → List Mark) (lawful : W �
           (sym (again_more batch asking.earlier last))
           (then asking.runs (all_asked until asking.earlier asking.asked) asking.goes)
 
+      -- one read more of an `until`, after one that asked for another
       pub asking_more : asks_again until last ≡ true → (next : Done) (u : W)
           → GoesOn port plan lawful (most_begun batch) tries resumes batch t next u → Asking (n + 1) next u
       asking_more again_asked next u goes =
@@ -391,6 +396,8 @@ module _ {W : Type 0} (port : W → Port) (plan : W → List Mark) (lawful : W �
           }
 
       module _ (waits : batch.until ≡ Some until) where
+        -- the reads of an `until` are the runs of its batch, where the last one doesn't ask for another, or is the
+        -- last allowed
         pub performed : n ≤ until.most → (asks_again until last ≡ true → n ≡ until.most)
             → (runs : BatchRuns) × (runs.last ≡ last) × (reads_of runs ≡ n)
             × Performs port plan lawful tries resumes batch s runs t

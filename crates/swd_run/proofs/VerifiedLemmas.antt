@@ -16,15 +16,18 @@ reads_left reads answers i d low =
     ap (λ l. difference_in l answers)
     (drop-cons reads i d low ∙ ap (λ n. get_or reads i d ∷ drop n reads) (sym (add-one i)))
 
+-- where no expected read is left, there is no difference
 pub no_read_left : (reads : List Expected) (answers : List Answer) (i : ℕ) → length reads ≤ i
     → difference_in (drop i reads) answers ≡ None
 no_read_left reads answers i high = ap (λ l. difference_in l answers) (drop_all i reads high)
 
+-- a difference that was found first is the whole result, whatever is found later
 pub found_first : (result later whole : Option Difference) (found : Difference) → result ≡ Some found
     → whole ≡ or_else result later
     → Some found ≡ whole
 found_first result later whole found is e = sym (e ∙ ap (λ r. or_else r later) is)
 
+-- where no difference was found first, the whole result is what is found later
 pub found_later : (result later whole : Option Difference) → result ≡ None → whole ≡ or_else result later
     → whole ≡ later
 found_later result later whole is e = e ∙ ap (λ r. or_else r later) is

@@ -169,6 +169,7 @@ module _ {W : Type 0} (port : W → Port) (plan : W → List Mark) (lawful : W �
     law_before stops told t (resumed {stops = before} {earlier = e} {t = u} went lost same goes over) law =
         law_before before e u went (over law).0
 
+    -- a run and its resumed calls don't change the plan
     pub plan_kept : (stops : List Stop) (told : Told) (t : W) → Went port plan lawful limit list tries s stops told t
         → plan t ≡ plan s
     plan_kept stops told t (ran same closes over) = same
@@ -262,6 +263,7 @@ module _ {W : Type 0} (port : W → Port) (plan : W → List Mark) (lawful : W �
   known stops told t (resumed {stops = before} {earlier = e} {told = a} {t = u} {u = v} went lost same goes over) law =
       known_at a.ended tries (port u) (port v) ((over law).1 (known before e u went (over law).0)).ends
 
+  -- over a lawful wire, from a target at rest, the count of requests grows by the requests of all calls
   pub asked : (stops : List Stop) (told : Told) (t : W) → Went port plan lawful limit list tries s stops told t
       → lawful t
       → (port t).tally.asked ≡ (port s).tally.asked + (requests_before stops + told.requests)
@@ -273,6 +275,8 @@ module _ {W : Type 0} (port : W → Port) (plan : W → List Mark) (lawful : W �
       let r = requests_more before (stop_of e) in
       omega (arith, h, c, r)
 
+  -- over a lawful wire, from a target at rest, no transaction is incomplete after all calls, and a line reset is due
+  -- exactly if the last one ended `Lost`
   pub ending : (stops : List Stop) (told : Told) (t : W) → Went port plan lawful limit list tries s stops told t
       → lawful t
       → (pending (port t).link.due ≡ 0) × (((port t).link.due ≡ DueLost) ↔ (told.ended ≡ Lost))
@@ -363,6 +367,7 @@ module _ {W : Type 0} (port : W → Port) (plan : W → List Mark) (lawful : W �
       in_turn_at limit list (port s) stops told (port t) told.ended refl rest (rests stops told t went law)
       (in_turn stops told t went law)
 
+  -- over a lawful wire, from a target at rest, the reports of the calls state what `TellOf` says of the plain memory
   pub tell_of : (stops : List Stop) (told : Told) (t : W) → Went port plan lawful limit list tries s stops told t
       → lawful t
       → TellOf limit tries list (port s).target.memory stops told (port t).target.memory
@@ -455,6 +460,8 @@ module _ {W : Type 0} (port : W → Port) (plan : W → List Mark) (lawful : W �
     (batch : Listed)
     (marks : List Mark) (run : Done) (s t : W) (rest : IsAtRest (port s)) (law : lawful t)
     (goes : GoesOn port plan lawful (most_begun batch) tries resumes batch s run t) where
+  -- over a lawful wire, from a target at rest and under a plan, a run that may be resumed states what `RunsOn` says
+  -- of the plain memory
   pub runs_on : plan s ≡ marks
       → ((w : W) → plan w ≡ marks → ((port w).tally.disturbed ≤ disturbed_among marks)
       × ((port w).tally.lost ≤ lost_among marks))

@@ -42,6 +42,7 @@ lines_last (byte ∷ next ∷ line) h =
     (ne_eqb next 10 h.1.0)
     ∙ ap (before_first byte) (lines_last (next ∷ line) h.1)
 
+-- a line without a line feed has none with one more byte that isn't one
 pub unbroken_more : (line : List ℕ) (byte : ℕ) → IsUnbroken line → byte ≢ 10 → IsUnbroken (line ++ byte ∷ [])
 unbroken_more [] byte h k = (k, tt)
 unbroken_more (first ∷ line) byte h k = (h.0, unbroken_more line byte h.1 k)

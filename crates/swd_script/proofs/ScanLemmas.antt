@@ -172,6 +172,7 @@ pub record Tests (byte : ℕ) (plain : Bool) : Type 0 where
   pub plain_is : is_plain byte ≡ plain
   pub hash : (byte == 35) ≡ false
 
+-- a blank is plain and begins no comment
 pub blank_tests : (byte : ℕ) → is_blank byte ≡ true → byte ≢ 35 → Tests byte true
 blank_tests byte e n = record {
   plain_is = ap (λ t. t || (nat_le 33 byte && nat_le byte 126)) e;
@@ -194,15 +195,19 @@ other_tests byte plain e p n = record {
   hash = ne_eqb byte 35 n;
 }
 
+-- a byte of printable ASCII other than `#` is plain and begins no comment
 pub word_tests : (byte : ℕ) → is_blank byte ≡ false → 33 ≤ byte → byte ≤ 126 → byte ≢ 35 → Tests byte true
 word_tests byte e h k n = other_tests byte true e (within byte h k) n
 
+-- a byte below printable ASCII that is no blank isn't plain and begins no comment
 pub low_tests : (byte : ℕ) → is_blank byte ≡ false → byte < 33 → byte ≢ 35 → Tests byte false
 low_tests byte e h n = other_tests byte false e (below byte h) n
 
+-- a byte above printable ASCII isn't plain and begins no comment
 pub high_tests : (byte : ℕ) → is_blank byte ≡ false → 126 < byte → byte ≢ 35 → Tests byte false
 high_tests byte e h n = other_tests byte false e (above byte h) n
 
+-- a line so far without a comment, and a plain byte more: there is still none, and its words are gathered
 pub code_so_far : (line : List ℕ) (byte : ℕ) (old new : Words) → Tests byte true
     → (Gathers line old → Gathers (line ++ byte ∷ []) new) → IsCodeSoFar line old → IsCodeSoFar (line ++ byte ∷ []) new
 code_so_far line byte old new t f h = record {
@@ -210,6 +215,8 @@ code_so_far line byte old new t f h = record {
   gathers = f h.gathers;
 }
 
+-- a line so far without a comment, and a byte more that isn't plain, begins no comment and is no carriage return: the
+-- line is invalid, whatever follows
 pub code_spoils : (line : List ℕ) (byte : ℕ) (old : Words) → Tests byte false → byte ≢ 13 → IsCodeSoFar line old
     → IsSpoiled (line ++ byte ∷ [])
 code_spoils line byte old t n h = spoils line byte h.code n t.hash t.plain_is
@@ -223,6 +230,7 @@ fed_words line Return old kept f n h = fed_return line h.0 old kept f h.1
 fed_words line Comment old kept f n h = fed_comment line h.0 h.1 old kept f h.2
 fed_words line Spoiled old kept f n h = absurd (n refl)
 
+-- the last line of a text, at whose end there is code or a comment, has the words that were kept
 pub ended_words : (line : List ℕ) (place : Place) (old : Words) (kept : List (ArrayVec ℕ))
     → ((front : List ℕ) → Gathers front old → AreFirst kept front) → (place ≡ Code) ⊎ (place ≡ Comment)
     → HoldsAt place line old → HasWords line kept
@@ -236,6 +244,7 @@ ended_words line Spoiled old kept f (inr n) h = absurd cc
 spoiled_line : (line : List ℕ) → IsSpoiled line → line_words line ≡ None
 spoiled_line line h = ap line_words (sym (append-nil line)) ∙ h.unfed []
 
+-- the last line of a text, at whose end there is a carriage return or which has an invalid byte, is invalid
 pub ended_none : (line : List ℕ) (place : Place) (old : Words) → (place ≡ Return) ⊎ (place ≡ Spoiled)
     → HoldsAt place line old → line_words line ≡ None
 ended_none line Code old (inl n) h = absurd cc
@@ -245,6 +254,7 @@ ended_none line Comment old (inl n) h = absurd cc
 ended_none line Comment old (inr n) h = absurd cc
 ended_none line Spoiled old n h = spoiled_line line h
 
+-- a line with an invalid byte is invalid, also where a line feed ends it
 pub fed_none : (line : List ℕ) (place : Place) (old : Words) → place ≡ Spoiled → HoldsAt place line old
     → line_words (without_return line) ≡ None
 fed_none line place old e h =
@@ -258,6 +268,7 @@ return_more line byte place old e h =
     let k : HoldsAt Return line old = subst (λ p. HoldsAt p line old) e h in
     return_spoils line k.0 byte old k.1
 
+-- a byte more in a comment, or in an invalid line, changes nothing of what is held
 pub passed_more : (line : List ℕ) (byte : ℕ) (place : Place) (old : Words) → (place ≡ Comment) ⊎ (place ≡ Spoiled)
     → HoldsAt place line old → HoldsAt place (line ++ byte ∷ []) old
 passed_more line byte Code old (inl n) h = absurd cc

@@ -214,6 +214,7 @@ script_words number said line (Some kept) h =
     ap (λ x. script_line number said (Some x)) h.first ∙ script_cut number said h.all
     ∙ ap (script_line number said) (sym h.are)
 
+-- the first words of a plan's line say what all its words say
 pub plan_words : (marks : List Mark) (line : List ℕ) (words : Option (ArrayVec (ArrayVec ℕ))) → IsScanned line words
     → plan_line marks (texts_of words) ≡ plan_line marks (line_words line)
 plan_words marks line None h = ap (plan_line marks) (sym h)

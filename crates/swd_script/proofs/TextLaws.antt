@@ -441,6 +441,7 @@ whole_runs (Ok said) m f e = let s = f said refl in meaning_runs said.memory sai
 none : (k : ℕ) (d : Listed) → k < 0 → IsBatch (get_or [] k d)
 none k d l = absurd (omega arith)
 
+-- a script without an error can be run: its memory can be made, and a host takes its calls
 pub is_runnable : (text : List ℕ) (m : Meaning) → script_of text ≡ Ok m → IsRunnable m
 is_runnable text m e =
     whole_runs (after_lines script_line nothing_said 0 (lines text)) m
@@ -511,6 +512,7 @@ legal_line old new (Some (name ∷ arguments)) e h = with_one (mark_of (name ∷
         (All-append IsMark old (mark ∷ []) h (one_legal mark (legal_mark (name ∷ arguments) mark k)))
     with_one (Err fault) k e = absurd cc
 
+-- the marks of a plan without an error are legal
 pub is_plan : (text : List ℕ) (marks : List Mark) → plan_of text ≡ Ok marks → All IsMark marks
 is_plan text marks e = after_all (λ number. plan_line) (All IsMark) (λ number. legal_line) (lines text) [] marks 0 e
     (λ k d l. absurd (omega arith))

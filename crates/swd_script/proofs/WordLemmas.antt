@@ -126,12 +126,14 @@ first_of line old kept e g =
     ∙ ap first_words (sym (ap words (sym (append-nil line)) ∙ g.split []
     ∙ ap (λ x. g.ended ++ x) (words_end g.last [] g.unblank refl ∙ append-nil (begun g.last))))
 
+-- six words that are kept are the first six, whatever words follow them
 pub texts_cut : (kept : List (ArrayVec ℕ)) (more : List (List ℕ)) → 6 ≤ length kept → length kept ≤ 6
     → texts kept ≡ take 6 (texts kept ++ more)
 texts_cut kept more h k =
     let n : length (texts kept) ≡ length kept = length-map kept (λ word. word.items) in
     sym (take-append-le 6 (texts kept) more (omega arith) ∙ take_all 6 (texts kept) (omega arith))
 
+-- where no word was begun, up to six words that are kept are all the first ones
 pub texts_same : (kept : List (ArrayVec ℕ)) (word : List ℕ) → length kept ≤ 6 → length word ≡ 0
     → texts kept ≡ take 6 (texts kept ++ begun word)
 texts_same kept [] k e =

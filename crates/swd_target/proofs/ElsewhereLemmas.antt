@@ -76,6 +76,7 @@ none_pending s t steps ready same =
 state_at_rest : {A : Type 0} (c : Choice) (t : Target A) → t.pending ≡ None → completion_of c (state_of t) ≡ state_of t
 state_at_rest c t e = grind arith
 
+-- a completion that leaves the log unchanged, though the pending transfer would have succeeded, changes nothing
 pub stays : {A : Type 0} (s t : Target A) → Steps completion_of s t → IsReady s.memory s → t.memory.log ≡ s.memory.log
     → Stays s t
 stays s t steps ready same =
@@ -130,6 +131,7 @@ state_over m waits Waits r ap_ x = refl
 state_over m waits Faults r ap_ x = refl
 state_over m waits Silent r ap_ x = refl
 
+-- a simulated target over another memory
 abbrev pub placed : PlainMemory → Simulation → Simulation
 placed m s = record s { state = record s.state { memory = m } }
 
@@ -153,9 +155,11 @@ quirks_if : (b : Bool) (s t : Simulation) → t.quirks ≡ s.quirks → (if b th
 quirks_if true s t e = e
 quirks_if false s t e = refl
 
+-- accepting a transfer doesn't change the quirks
 pub quirks_accepted : (s : Simulation) → (accepted s).quirks ≡ s.quirks
 quirks_accepted s = quirks_if s.quirks.late (transferred s) s refl
 
+-- a request doesn't change the quirks
 pub quirks_after : {A : Type 0} (waits : Bool) (reply : Reply) (r : Register) (ap_ : Bool) (s a b t : Target A)
     → simulation a ≡ settled_when waits r ap_ (simulation s)
     → simulation b ≡ stepped (λ c. target_after waits reply r ap_) (simulation a)
@@ -168,6 +172,7 @@ quirks_after waits reply r ap_ s a b t settles after accepts =
     ∙ quirks_if (is_okay reply) (simulation b) (accepted (simulation b)) (quirks_accepted (simulation b)) in
     third ∙ (second ∙ first)
 
+-- up to its reply a request leaves the quirk `late` set
 pub late_after : {A : Type 0} (waits : Bool) (reply : Reply) (r : Register) (ap_ : Bool) (s a b : Target A)
     → s.quirks.late ≡ true
     → simulation a ≡ settled_when waits r ap_ (simulation s)
@@ -178,6 +183,7 @@ late_after waits reply r ap_ s a b late settles after =
     let second : b.quirks ≡ a.quirks = ap (λ (x : Simulation). x.quirks) after in
     ap (λ (x : Quirks). x.late) (second ∙ first) ∙ late
 
+-- where a request left the log unchanged, and nothing took effect after the reply, it was unchanged before the reply
 pub log_before : {A : Type 0} (waits : Bool) (reply : Reply) (r : Register) (ap_ : Bool) (s a b t : Target A)
     → state_of b ≡ target_after waits reply r ap_ (state_of a) → t ≡ b → t.memory.log ≡ s.memory.log
     → a.memory.log ≡ s.memory.log
@@ -298,6 +304,7 @@ completion_alike c x m e =
     buffer_alike x.pending (fails x.pending at x.memory) at m x.memory x.buffer f e in
     rw (f, b) refl
 
+-- a completion takes the same step over a memory that gives the pending transfer the same answer
 pub completes_over : {A : Type 0} (m : PlainMemory) (s t : Target A) → IsAlike s.pending s.tar.word m s.memory
     → Steps completion_of s t
     → Steps completion_of (over m s) (over (memory_after s.pending s.tar.word m) t)

@@ -11,6 +11,7 @@ use Rattle.swd_target.specs.declared.target.Target.{Target}
 use Rattle.swd_target.specs.Fields.{fields_of, pending_fields, power_number, reset_number, read_flag, read_pending}
 use Rattle.swd_target.specs.Fields.{read_power, read_reset, read_target}
 
+-- the number of a flag is read as itself
 pub flag_read : (b : Bool) → read_flag (bit b) ≡ bit b
 flag_read true = refl
 flag_read false = refl
@@ -30,6 +31,7 @@ power_read Unseen = refl
 power_read Late = refl
 power_read Seen = refl
 
+-- the numbers of a target are read as themselves
 pub target_read : {A : Type 0} (t : Target A) → read_target (fields_of t) ≡ fields_of t
 target_read t =
     rw (

@@ -35,6 +35,7 @@ pub disturbed_used : (plan : List Mark) (n n' d d' : ℕ) (mark : Mark) → mark
     → d' ≡ d + disturbs mark → d' ≡ disturbed_among (take n' plan)
 disturbed_used plan n n' d d' mark is next old new = rw (new, old, is, next) (sym (sum_used disturbs refl plan n))
 
+-- the count of lost requests, with the next request's mark, is that among the marks used then
 pub lost_used : (plan : List Mark) (n n' d d' : ℕ) (mark : Mark) → mark ≡ mark_at plan n → n' ≡ n + 1
     → d ≡ lost_among (take n plan)
     → d' ≡ d + loses mark → d' ≡ lost_among (take n' plan)

@@ -16,6 +16,8 @@ seen_muted reply.Waits place n = refl
 seen_muted reply.Faults place n = refl
 seen_muted reply.Silent place n = absurd (n refl)
 
+-- an acknowledgement with the bit changed that a Mute mark names is what the host sees of the reply, unless that is
+-- silence
 pub muted : (m : Mark) (r : Reply) (place bits : ℕ) → m ≡ mark.Mute place → IsMark m → (r ≡ reply.Silent → ⊥)
     → bits ≡ driven r → bit_xor bits (1 * 2 ^ place % 256) ≡ seen_at m r
 muted m r place bits is legal n e =

@@ -22,6 +22,7 @@ stand_in-fits : {A : Type 0} (r : Register) (t : Target A) → stand_in r t < 2 
 stand_in-fits ResendRead t = t.last_returned.fits
 stand_in-fits r t = t.buffer.fits
 
+-- the address and the word that a target chooses, its own, are below 2^32
 pub is_choice : {A : Type 0} (r : Register) (t : Target A) → IsChoice (choice_for r t)
 is_choice r t = record { address = t.tar.fits; filler = stand_in-fits r t }
 
@@ -36,6 +37,7 @@ owed_by : (exempt : Bool) (waits : Bool) (r : Register) (reset : Reset) (sticky 
     (answer reset sticky write unpowered r) failing
 owed_by exempt waits r reset sticky write unpowered failing x = grind arith
 
+-- the code's test holds exactly where the reply, once the pending transfer took effect, has to come after it
 pub owed : {A : Type 0} (waits : Bool) (r : Register) (ap_ : Bool) (t : Target A)
     → is_owed r (reply_when waits r (answer_at r ap_ (transferred (simulation t)).state)) ≡ is_settling waits r
     (answer_at r ap_ (state_of t)) (fails t.pending t.tar.word t.memory)
@@ -69,6 +71,7 @@ unchanged : (b : Bool) (s t : Simulation) → t ≡ s → s ≡ (if b then t els
 unchanged true s t e = sym e
 unchanged false s t e = refl
 
+-- where the code's test finds no pending transfer, there is none
 pub none_pending : (pending : Option Drw) → is_some pending ≡ false → pending ≡ None
 none_pending pending e = grind arith
 

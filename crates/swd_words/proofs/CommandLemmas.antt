@@ -39,6 +39,7 @@ pub simple : is_simple swd_app ≡ true
 unfolding clap_on_literals
 simple = refl
 
+-- the command is simple, and no argument has a rule on another
 pub simple_and_free : is_simple_and_free swd_app ≡ true
 unfolding clap_on_literals
 simple_and_free = refl
