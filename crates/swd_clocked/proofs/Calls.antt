@@ -41,6 +41,7 @@ begins q v e = let h : (v % 2 == 1) ≡ true = cc in grind (arith, nat_tests)
 pub idle_at : (f : Frame) → is_idle f ≡ true → f ≡ idle
 idle_at f e = grind (arith, nat_tests)
 
+-- a frame that fits where nothing is due is the one between transactions
 pub idle_due : (due : Due) (f : Frame) → due ≡ Nothing → rests due f ≡ true → f ≡ idle
 idle_due due f is e = idle_at f (subst (λ (d : Due). rests d f ≡ true) is e)
 
@@ -50,6 +51,7 @@ kind lines.Idle = 0
 kind (lines.Drives bits) = 1
 kind (lines.Awaits r flip) = 2
 
+-- the same after a reply to a read or a write: only OK is followed by a data phase
 abbrev pub kind_after : Reply → Bool → ℕ
 kind_after Okay true = 1
 kind_after Okay false = 2
@@ -170,6 +172,7 @@ pub record SeenUnder {A : Type 0} (m : Mark) (q : Request) (a : Reply) (s : Targ
   pub line : line_at t.frame (flip_of m) ≡ line_after a phase lines.Idle
   pub resting : rests (due_after q.read (seen_at m a)) t.frame ≡ true
 
+-- a request that the target sees under a mark is answered as the model says, and what is due then fits its frame
 pub seen_marked : {A : Type 0} (m : Mark) (q : Request) (a : Reply) (s : Target A) (w : Bool) (t : Clocked A) → IsMark m
     → is_deaf m ≡ false → w ≡ is_wait m → Seen q a s w t → SeenUnder m q a s t
 seen_marked m q a s w t legal hears waits d =
@@ -182,6 +185,7 @@ seen_marked m q a s w t legal hears waits d =
       resting = ap (rests (due_after q.read (seen_at m a))) d.frame ∙ rests_seen m a q.read d.phase legal k;
     }
 
+-- a frame that fits where a write's data is due awaits the data of its write
 pub awaiting_at : (f : Frame) (flip : Option ℕ) → rests Give f ≡ true
     → line_at f flip ≡ lines.Awaits (frame_register f) flip
 awaiting_at (Awaits r bits place) flip e = refl
@@ -211,6 +215,7 @@ deaf_is Wait e = absurd cc
 deaf_is (Flip p) e = absurd cc
 deaf_is (Mute p) e = absurd cc
 
+-- a request that leaves the target unchanged between transactions is answered with silence, under the mark Deaf
 pub deaf_under : {A : Type 0} (m : Mark) (q : Request) (s : Target A) (w : Bool) (t : Clocked A) → m ≡ Deaf
     → Moved idle s w t → SeenUnder m q Silent s t
 deaf_under m q s w t deaf moved = record {

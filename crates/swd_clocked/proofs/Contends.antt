@@ -1,4 +1,4 @@
--- In which cycles of a host nobody else drives the line.
+-- In which cycles of a host nobody else drives the line. For the phases of `MarkedClocked`.
 use Rattle.std.proofs.Common.{◌≡◌, ℕ, ◌+◌, Bool, true, false, refl, ap, ◌∙◌, arith, if◌then◌else◌}
 use Rattle.std.proofs.lemmas.Bool.Decides.{nat_tests}
 use Rattle.swd_port.specs.declared.register.Register.{Register}
@@ -16,10 +16,12 @@ pub stays_in : (n m k : ℕ) (f g : Frame) (driven : Bool) → m ≡ n → k ≡
 stays_in n m k f g driven first next is none = stays_on n m k (contends f driven) first next
     (ap (λ (x : Frame). contends x driven) is ∙ none)
 
+-- while the bits of a request are awaited, a cycle isn't contended
 pub asks_alone : (bits count : ℕ) (driven : Bool) → contends (Asks bits count) driven ≡ 0
 asks_alone bits count true = refl
 asks_alone bits count false = refl
 
+-- while the 33 bits of a write's data are awaited, a cycle isn't contended
 pub data_alone : (r : Register) (bits place : ℕ) (driven : Bool) → contends (Awaits r bits (place + 1)) driven ≡ 0
 data_alone r bits place true = grind (arith, nat_tests)
 data_alone r bits place false = refl

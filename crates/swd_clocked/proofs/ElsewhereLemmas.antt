@@ -144,6 +144,8 @@ cycles m (Drives bits left) b answer s w t u ready x = drives m bits left b answ
 cycles m (Awaits r bits place) b answer s w t u ready x = (x.0, awaits m r bits place b s w t u.late x.1)
 cycles m Passes b answer s w t u ready x = (x.0, moved m _ s w t x.1)
 
+-- a cycle in which a late target does no transfer is such a cycle over every memory; where WAIT is asked for, over
+-- every one in which the pending transfer would succeed
 pub clocks_over : {A : Type 0} (m : PlainMemory) (drive : Option Bool) (answer : Bool) (s t : Clocked A)
     → IsUntouched s.target t.target → IsReadyIf s.waits m s.target
     → Clocks drive answer s t → Clocks drive answer (over m s) (over m t)

@@ -1,4 +1,4 @@
--- The numbers of a clocked target are read as they are.
+-- The numbers of a clocked target are read as they are. For `ClockedFields::clocked`.
 use Rattle.std.proofs.Math.Nat.{mod-eq_of_lt}
 use Rattle.std.proofs.Common.{◌≡◌, ◌<◌, ◌^◌, Some, None, refl}
 use Rattle.swd_port.specs.declared.register.Register.{Register}
@@ -63,5 +63,6 @@ frame_read (Drives bits left) h p = rw (mod-eq_of_lt p, mod-eq_of_lt h) refl
 frame_read (Awaits r bits place) h p = rw (mod-eq_of_lt p, mod-eq_of_lt h, register_read r) refl
 frame_read Passes h p = refl
 
+-- the fields of a clocked target are read as themselves
 pub clocked_read : {A : Type 0} (c : Clocked A) → read_clocked (fields_of c) ≡ fields_of c
 clocked_read c = rw (frame_read c.frame c.bits c.place, target_read c.target, flag_read c.waits) refl

@@ -1,4 +1,4 @@
--- What ones and zeros do at a clocked target.
+-- What ones and zeros do at a clocked target. For `MarkedClocked` and the law `ones_reset`.
 use Rattle.std.proofs.Common.{◌≡◌, ℕ, ◌+◌, ◌-◌, ◌/◌, ◌<◌, ◌≤◌, ◌^◌, ◌⊎◌, inl, inr, Option, Bool, true, refl, ap}
 use Rattle.std.proofs.Common.{subst, ◌∙◌, arith}
 use Rattle.std.proofs.lemmas.Bool.{cases_lt}
@@ -84,17 +84,21 @@ one_rose (Awaits r bits place) answer s w t i p c =
     ]
 one_rose Passes answer s w t i p c = rose_moved _ s w t c.1
 
+-- a one, where ones lead to a line reset, leads to the same line reset
 pub one_rises : {A : Type 0} (s t : Clocked A) (answer : Bool) → IsRising s.frame
     → frame_place s.frame < frame_limit s.frame → Cycles s.frame true answer s.target s.waits t → Rises s t
 one_rises s t answer i p c = let r = one_rose s.frame answer s.target s.waits t i p c in
     record { state = r.0; exact = r.1 }
 
+-- cycles that lead to the same line reset, and further such cycles, together do
 pub rises_on : {A : Type 0} (s t u : Clocked A) → Rises s t → Rises t u → Rises s u
 rises_on s t u a b = record { state = b.state ∙ a.state; exact = b.exact ∙ a.exact }
 
+-- where no cycle passed, the line reset that ones lead to is the same
 pub rises_none : {A : Type 0} (s : Clocked A) → Rises s s
 rises_none s = record { state = refl; exact = refl }
 
+-- where ones lead to a line reset and no more of them are needed, fifty ones have passed
 pub risen_high : (f : Frame) → IsRising f → rise f ≡ 0 → frame_place f < frame_limit f → f ≡ High
 risen_high High i e p = refl
 risen_high (Asks bits count) i e p = absurd (omega arith)
@@ -148,6 +152,7 @@ eight_ones : ones_at_end 255 ≡ 8
 unfolding count_leading_zeros
 eight_ones = refl
 
+-- after a one, a frame from which ones lead to a line reset is such a frame again, one fewer being needed if any was
 pub one_frame : {A : Type 0} (f : Frame) (answer : Bool) (s : Target A) (w : Bool) (t : Clocked A) → IsRising f
     → frame_place f < frame_limit f → Cycles f true answer s w t → Risen f t.frame
 one_frame High answer s w t i p c = record { next = High; is = c.1.frame; rising = tt; less = refl }

@@ -1,4 +1,4 @@
--- Cycles at a clocked target whose requests meet a plan, and the bits that its marks change.
+-- Cycles at a clocked target whose requests meet a plan, and the bits that its marks change. For `MarkedClocked`.
 use Rattle.std.proofs.Common.{◌≡◌, ℕ, zero, suc, ◌+◌, ◌*◌, ◌/◌, ◌%◌, ◌-◌, ◌<◌, ◌^◌, inl, inr, Option, Bool, true, false}
 use Rattle.std.proofs.Common.{not, refl, sym, ap, subst, ◌∙◌, arith}
 use Rattle.std.specs.Prelude.{◌==◌, is_some, unwrap_or, bit_xor}
@@ -30,6 +30,7 @@ use Rattle.swd_clocked.specs.Marked.{Keeps, Reaches, MarkedCycles}
 use Rattle.swd_clocked.specs.Phases.{Goes}
 use Rattle.swd_clocked.proofs.Shifts.{moved_on}
 
+-- a mark that passes the test changes one of the 33 bits of a data phase, one of three of an ACK, or no bit
 pub legal_mark : (m : Mark) → is_legal m ≡ true → IsMark m
 legal_mark Clean e = tt
 legal_mark Wait e = tt
@@ -68,12 +69,14 @@ turns_of : {A : Type 0} (m : Mark) (w : Bool) (drive : Option Bool) (answer : Bo
     → Reaches m w drive answer s t → Turns s.clocked.frame m drive answer s.clocked.target w t.clocked
 turns_of m w drive answer s t r = record { bit = r.bit; cycles = r.cycles; sees = r.sees }
 
+-- a cycle that reaches the target is a cycle in its frame, its bit changed as the mark says
 pub turns_at : {A : Type 0} (f : Frame) (m : Mark) (w : Bool) (drive : Option Bool) (answer : Bool)
     (s t : MarkedClocked A) → Reaches m w drive answer s t → s.clocked.frame ≡ f
     → Turns f m drive answer s.clocked.target w t.clocked
 turns_at f m w drive answer s t r is = subst (λ (x : Frame). Turns x m drive answer s.clocked.target w t.clocked) is
     (turns_of m w drive answer s t r)
 
+-- a cycle that reaches the target where no request ends keeps plan and mark, its bit changed as the mark says
 pub step_at : {A : Type 0} (f : Frame) (drive : Option Bool) (answer : Bool) (s t : MarkedClocked A)
     → MarkedCycles drive answer s t → s.unseen ≡ 0 → s.clocked.frame ≡ f → IsOpen f → Step f drive answer s t
 step_at f drive answer s t c heard is o =
@@ -121,6 +124,7 @@ pub record Plain {A : Type 0} (f : Frame) (drive : Option Bool) (answer : Bool) 
   pub keeps : Keeps s t
   pub heard : t.unseen ≡ 0
 
+-- a cycle that reaches the target in a frame where no bit is changed is one of the target alone
 pub plain_at : {A : Type 0} (f : Frame) (drive : Option Bool) (answer : Bool) (s t : MarkedClocked A)
     → MarkedCycles drive answer s t → s.unseen ≡ 0 → s.clocked.frame ≡ f → IsPlain f → Plain f drive answer s t
 plain_at f drive answer s t c heard is plain =
@@ -138,6 +142,7 @@ keeps_on s t u a b = record { plan = b.plan ∙ a.plan; mark = b.mark ∙ a.mark
 pub keeps_none : {A : Type 0} (s : MarkedClocked A) → Keeps s s
 keeps_none s = record { plan = refl; mark = refl }
 
+-- where no cycle passed, nothing changed
 pub goes_none : {A : Type 0} (f : Frame) (s : MarkedClocked A) → s.unseen ≡ 0 → s.clocked.frame ≡ f → Goes f s s
 goes_none f s heard is = record {
   moved = record { frame = is; target = refl; waits = refl };
@@ -145,6 +150,7 @@ goes_none f s heard is = record {
   heard = heard;
 }
 
+-- cycles that changed only the frame, and a further such cycle, changed only the frame
 pub goes_on : {A : Type 0} (f g : Frame) (s t u : MarkedClocked A) → Goes f s t
     → Moved g t.clocked.target t.clocked.waits u.clocked → Keeps t u → u.unseen ≡ 0 → Goes g s u
 goes_on f g s t u a m k heard =
@@ -203,6 +209,7 @@ changes_driven (Flip p) bits k driven l h = grind (arith, nat_tests)
 changes_driven Deaf bits k driven l h = refl
 changes_driven (Mute p) bits k driven l h = refl
 
+-- the same of the data of a write that the host drives: the cycle of bit k is the one after the turnaround and k bits
 pub changes_sent : (m : Mark) (r : Register) (bits k : ℕ) → changes (Awaits r bits (k + 1)) m true ≡ flips_at m k
 changes_sent Clean r bits k = refl
 changes_sent Wait r bits k = refl
@@ -214,6 +221,7 @@ changes_sent (Mute p) r bits k = refl
 abbrev pub shown : Mark → Reply → Line → ℕ → Bool
 shown m reply line place = turned (changes (Replies reply line place) m false) (reply_bit reply place)
 
+-- the number of three bits, the first of them least significant
 abbrev pub three_bits : Bool → Bool → Bool → ℕ
 three_bits a b c = bool_byte a + 2 * bool_byte b + 4 * bool_byte c
 
@@ -234,6 +242,7 @@ muted (suc (suc (suc p))) Okay line l n = absurd (omega arith)
 muted (suc (suc (suc p))) Waits line l n = absurd (omega arith)
 muted (suc (suc (suc p))) Faults line l n = absurd (omega arith)
 
+-- the three bits that a reply drives, as a mark leaves them, are the ACK as seen under that mark
 pub seen_bits : (m : Mark) (reply : Reply) (line : Line) → IsMark m → (reply ≡ Silent → ⊥)
     → three_bits (shown m reply line 1) (shown m reply line 2) (shown m reply line 3) ≡ seen_at m reply
 seen_bits m Silent line l n = absurd (n refl)

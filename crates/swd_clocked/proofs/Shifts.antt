@@ -1,4 +1,4 @@
--- Bits that go through a shift register, and cycles that follow each other.
+-- Bits that go through a shift register, and cycles that follow each other. For the phases of `MarkedClocked`.
 use Rattle.std.proofs.Common.{◌≡◌, ℕ, zero, suc, ◌+◌, ◌*◌, ◌/◌, ◌%◌, ◌-◌, ◌<◌, ◌^◌, Bool, true, false, refl, sym, ap}
 use Rattle.std.proofs.Common.{subst, ◌∙◌, arith}
 use Rattle.std.specs.Prelude.{◌==◌}
@@ -26,6 +26,7 @@ no_request_at ap read R4 e = cc
 no_request_at ap read R8 e = cc
 no_request_at ap read RC e = cc
 
+-- no request has eight ones as its bits
 pub no_request : (q : Request) → request q ≡ low_bits 8 255 → ⊥
 no_request q e = no_request_at q.ap q.read q.addr e
 
@@ -34,6 +35,7 @@ pub record Shifts (n whole place rest bits : ℕ) : Type 0 where
   pub equation : rest * n + bits ≡ whole / 2 ^ place
   pub small : bits < n
 
+-- a number shifted right by k bits and by one more is shifted right by k + 1
 pub halved : (w k : ℕ) → w / 2 ^ k / 2 ≡ w / 2 ^ (k + 1)
 halved w k = shr-shr w k 1
 
@@ -42,6 +44,7 @@ digit zero h = refl
 digit (suc zero) h = refl
 digit (suc (suc n)) h = absurd (omega arith)
 
+-- an 8-bit register that takes the next bit at its top has taken one bit more of the number
 pub shift_8 : (whole place rest bits : ℕ) → Shifts 256 whole place rest bits
     → Shifts 256 whole (place + 1) (rest / 2) (shifted 128 bits (rest % 2 == 1))
 shift_8 whole place rest bits s =
@@ -55,6 +58,7 @@ shift_8 whole place rest bits s =
       small = (let b = s.small in rw d (omega arith));
     }
 
+-- the same of a 33-bit register
 pub shift_33 : (whole place rest bits : ℕ) → Shifts (2 ^ 33) whole place rest bits
     → Shifts (2 ^ 33) whole (place + 1) (rest / 2) (shifted (2 ^ 32) bits (rest % 2 == 1))
 shift_33 whole place rest bits s =
@@ -72,10 +76,12 @@ shift_33 whole place rest bits s =
 pub shifted_8 : (byte rest bits : ℕ) → byte < 256 → Shifts 256 (byte * 256 + 255) 8 rest bits → bits ≡ byte
 shifted_8 byte rest bits h s = let e = s.equation in let b = s.small in omega arith
 
+-- after 33 shifts a 33-bit register that was preset with ones has the number that was sent
 pub shifted_33 : (sent rest bits : ℕ) → sent < 2 ^ 33 → Shifts (2 ^ 33) (sent * 2 ^ 33 + (2 ^ 33 - 1)) 33 rest bits
     → bits ≡ sent
 shifted_33 sent rest bits h s = let e = s.equation in let b = s.small in omega arith
 
+-- so has one that was preset with zeros
 pub taken_33 : (sent rest bits : ℕ) → sent < 2 ^ 33 → Shifts (2 ^ 33) (sent * 2 ^ 33) 33 rest bits → bits ≡ sent
 taken_33 sent rest bits h s = let e = s.equation in let b = s.small in omega arith
 
@@ -95,6 +101,7 @@ byte_bit false false n e h = e
 byte_bit true false n e h = absurd cc
 byte_bit false true n e h = absurd cc
 
+-- a 33-bit register that takes the next bit, given as a number, has taken one bit more
 pub shift_taken : (whole place rest bits n : ℕ) → Shifts (2 ^ 33) whole place rest bits → n ≡ bit (rest % 2 == 1)
     → Shifts (2 ^ 33) whole (place + 1) (rest / 2) (bits / 2 + n * 2 ^ 32)
 shift_taken whole place rest bits n s e =
@@ -106,11 +113,13 @@ pub moved_on : {A : Type 0} (f g : Frame) (s : Target A) (w : Bool) (t u : Clock
     → Moved g t.target t.waits u → Moved g s w u
 moved_on f g s w t u m n = record { frame = n.frame; target = n.target ∙ m.target; waits = n.waits ∙ m.waits }
 
+-- a write's data that came after cycles that changed the frame alone came to the target from before those cycles
 pub came_on : {A : Type 0} (f : Frame) (r : Register) (a b : ℕ) (s : Target A) (w : Bool) (t u : Clocked A)
     → Moved f s w t → a ≡ b → DataCame r a t.target t.waits u → DataCame r b s w u
 came_on f r a b s w t u m e d = subst (λ x. DataCame r x s w u) e
     (subst (λ (x : Target _). DataCame r a x w u) m.target (subst (λ x. DataCame r a t.target x u) m.waits d))
 
+-- after one more of the 33 bits that a target drives, one fewer is left
 pub left_less : {A : Type 0} (rest place : ℕ) (s : Target A) (w : Bool) (t : Clocked A) → place < 33
     → Moved (Drives rest (33 - place - 1)) s w t → Moved (Drives rest (33 - (place + 1))) s w t
 left_less rest place s w t h m = let e : 33 - place - 1 ≡ 33 - (place + 1) = omega arith in

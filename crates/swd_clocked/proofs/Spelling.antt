@@ -1,4 +1,4 @@
--- Cycles one after the other: what a request, its reply and its data leave on the line.
+-- Cycles one after the other: what a request, its reply and its data leave on the line. For two functions of `laws`.
 use Rattle.std.proofs.Common.{◌≡◌, ◌≢◌, ℕ, zero, suc, ◌+◌, ◌-◌, ◌/◌, ◌%◌, ◌<◌, ◌≤◌, ◌^◌, Bool, true}
 use Rattle.std.proofs.Common.{false, not, List}
 use Rattle.std.proofs.Common.{[], ◌∷◌, ◌++◌, length, map, replicate, Option, Some, None, refl, sym, ap, subst, ◌∙◌}
@@ -441,6 +441,7 @@ kind_answered : {A : Type 0} (w : Bool) (q : Request) (s t : Target A) (reply : 
 kind_answered true q s t reply follows x = kind_seen WaitMark q s t reply follows (x.under WaitMark tt refl refl)
 kind_answered false q s t reply follows x = kind_seen Clean q s t reply follows (x.under Clean tt refl refl)
 
+-- a request that is sent between transactions and the cycles after it spell one transaction, with the model's reply
 pub requests_spell : {A : Type 0} → RequestsSpell A
 requests_spell q phase line s m is n r =
     let x = sent q line s m is r in
@@ -490,6 +491,7 @@ hears f h = elim h [
   | inr (ones, e) ↦ rw e (tt, omega arith, λ x. refl)
 ]
 
+-- fifty ones, driven or not, are a line reset, between transactions and where the target awaits one
 pub ones_reset : {A : Type 0} → OnesReset A
 ones_reset drives line s t from many ones r =
     let (rising, few, to) = hears s.frame from in

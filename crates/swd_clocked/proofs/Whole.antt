@@ -1,4 +1,4 @@
--- Whole phases at a clocked target whose requests meet a plan.
+-- Whole phases at a clocked target whose requests meet a plan: what their cycles do. For `MarkedClocked`.
 use Rattle.std.proofs.Common.{◌≡◌, ℕ, suc, ◌+◌, ◌/◌, ◌%◌, ◌-◌, ◌<◌, ◌≤◌, ◌^◌, ◌⊎◌, inl, inr, Option, Some}
 use Rattle.std.proofs.Common.{None, Bool}
 use Rattle.std.proofs.Common.{true, false, refl, sym, ap, subst, ◌∙◌, arith, if◌then◌else◌}
@@ -89,6 +89,7 @@ missed_step left answer s t c some =
     let less : s.unseen - 1 ≡ left = omega arith in
     (subst (λ n. Misses n None answer s t) less x.0, x.1)
 
+-- in the last three of four undriven cycles after a request the host sees the reply's bits, or ones without a reply
 pub reply_seen : {A : Type 0} (s a b c t : MarkedClocked A) (w x y z : Bool) → IsMark s.mark → MarkedCycles None w s a
     → MarkedCycles None x a b → MarkedCycles None y b c → MarkedCycles None z c t → SeesReply (three_bits x y z) s t
 reply_seen s a b c t w x y z legal one two three four = record {
@@ -215,6 +216,7 @@ pub record OneStep {A : Type 0} (s t : MarkedClocked A) : Type 0 where
   pub keeps : Keeps s t
   pub heard : t.unseen ≡ 0
 
+-- where ones lead to a line reset, a one reaches the target if it is undriven or at most fifty are needed
 pub one_step : {A : Type 0} (drive : Option Bool) (answer : Bool) (s t : MarkedClocked A) → IsMark s.mark
     → IsRising s.clocked.frame → frame_place s.clocked.frame < frame_limit s.clocked.frame → s.unseen ≡ 0
     → unwrap_or drive true ≡ true → (is_some drive ≡ true → rise s.clocked.frame ≤ 50) → MarkedCycles drive answer s t
@@ -233,6 +235,7 @@ pub record Driven {A : Type 0} (got sent k : ℕ) (answer : Bool) (s t : MarkedC
   pub keeps : Keeps s t
   pub heard : t.unseen ≡ 0
 
+-- the host sees bit k of a read's data as the mark leaves it, and the target has one bit fewer to drive
 pub driven_step : {A : Type 0} (m : Mark) (sent k : ℕ) (answer : Bool) (s t : MarkedClocked A) → IsMark m → k < 33
     → s.mark ≡ m → MarkedCycles None answer s t → s.unseen ≡ 0
     → s.clocked.frame ≡ Drives (sent / 2 ^ k) (33 - k) → Driven (flipped (flip_of m) sent) sent k answer s t
@@ -260,6 +263,7 @@ pub record Arrives {A : Type 0} (got k : ℕ) (r : Register) (bits : ℕ) (s t :
   pub keeps : Keeps s t
   pub heard : t.unseen ≡ 0
 
+-- bit k of a write's data reaches the target as the mark leaves it
 pub sent_step : {A : Type 0} (m : Mark) (sent k : ℕ) (r : Register) (bits rest : ℕ) (answer : Bool)
     (s t : MarkedClocked A) → s.mark ≡ m → rest ≡ sent / 2 ^ k → MarkedCycles (Some (rest % 2 == 1)) answer s t
     → s.unseen ≡ 0
@@ -327,6 +331,7 @@ heard_or_not : (b : Bool) → (b ≡ true) ⊎ (b ≡ false)
 heard_or_not true = inl refl
 heard_or_not false = inr refl
 
+-- the bits of a request and the cycles of its reply are together a request, the reply to it and the ACK that is seen
 pub asked_whole : {A : Type 0} (q : Request) (seen : ℕ) (s m t : MarkedClocked A) → Sent q s m → SeesReply seen m t
     → Asked q seen s t
 asked_whole q seen s m t sent r =

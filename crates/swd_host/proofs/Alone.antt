@@ -71,16 +71,19 @@ module _ (i : ℕ) (list : List Access) (o e g f : Engine) (answers : List Answe
   access_performs end low due at never before after added =
       grind (arith, access_spends, begun_there, few_here, min_next, stopped_due)
 
+  -- once the access at i is answered, what the engine keeps by itself after i answers holds after i + 1
   pub answered_stays : (answer : Answer) (more : List Answer) → more ≡ answers ++ answer ∷ [] → DueFits f u
       → ((b : Access) → following ≡ Some b → Follower i list b) → finished_of f ≡ Some (Answered answer)
       → Stays (i + 1) list o f more u
   answered_stays answer more is_more due next finished =
       search (arith, access_spends, chain_here, few_here, length-append)
 
+-- an engine that starts an access isn't stopped with `All`
 pub start_never : (a : Access) (following : Option Access) (e g : Engine) → Starts a following e g
     → is_all_stop g.state ≡ false
 start_never a following e g starts = ap is_all_stop starts.state ∙ first_never (is_ahead e) e.ahead g.aims
 
+-- an engine that wasn't stopped with `All` before stops with another end, whatever came back
 pub stop_never : (g f : Engine) (end : End) → Works g f → is_all_stop g.state ≡ false
     → f.state ≡ Resting (Stopped end) → end ≢ All
 stop_never g f end works before at all = grind arith
@@ -94,10 +97,12 @@ all_performs i list o e answers t due stays h is before after added = grind arit
 -- THE REPORT, from the opening and the list done after it
 module _ (kind : Bursts) (again : Bool) (tries : ℕ) (e f : Engine) (small : tries < 2 ^ 32)
     (new : IsNew kind again tries e) (works : Works e f) (list : List Access) where
+  -- if the opening stopped, its report, without answers, has what every report has whatever the target answers
   pub opening_closes : (end : End) (due : Due) → f.state ≡ Resting (Stopped end) → DueAt f.state f.stray f.task due
       → Closes (stray_left again) (most_of kind) list tries (told_by [] f end) due
   opening_closes end due at fits = grind arith
 
+  -- so has the report of an opening and of the list done after it
   pub list_closes : (g : Engine) (end : End) (due : Due) (before after : List Answer)
       → (p : Performs list f g before after end due)
       → Closes (stray_left again) (most_of kind) list tries (told_by p.answers g end) due
@@ -109,6 +114,7 @@ pub closes_as : (kind : Bursts) (again : Bool) (spare tries : ℕ) (list : List 
     → Closes spare (most_of kind) list tries told due
 closes_as kind again spare tries list e told due new h = grind arith
 
+-- an equal report has what every report has
 pub closes_told : (spare limit : ℕ) (list : List Access) (tries : ℕ) (x y : Told) (due : Due) → y ≡ x
     → Closes spare limit list tries x due → Closes spare limit list tries y due
 closes_told spare limit list tries x y due is h = subst (λ told. Closes spare limit list tries told due) (sym is) h

@@ -17,9 +17,13 @@ use Rattle.swd_host.proofs.Frames.{same_accepts, before_framed, before_within, b
 
 -- WHAT CAME OF A REQUEST
 pub data Came (job : Job) (n : ℕ) (base : Counted) (b : ℕ) (k : Hand) (v : ℕ) (t : Port) : Type 0 where
+  -- OK was seen, with what is known while the data phase is due
   came_okay : v ≡ 1 → During job n b k t → Came job n base b k v t
+  -- WAIT was seen, at a request that may get it: what held before it still holds, with one more event
   came_wait : v ≡ 2 → Waiting job n b k t → Came job n base b k v t
+  -- FAULT was seen, for data that was corrupted or for a bus error
   came_fault : v ≡ 4 → FaultedAt job n b k t → Came job n base b k v t
+  -- no ACK was seen: a request was lost, and the memory is one that the accesses in flight allow
   came_lost : IsNoAcknowledgement v → Within b k t.target → base.lost < t.tally.lost → n ≤ t.tally.disturbed
       → Came job n base b k v t
 
@@ -104,6 +108,7 @@ flagged_asked job r n base b c k v s t q reg ex live rest write power l g within
 tells : (busy : Bool) (s t : Port) → Same s t → StatusTells busy s.target → Tells (status_in busy s.target) t.target
 tells busy s t e h = record { error = h.sticky_held ∙ sym e.sticky; damaged = h.write_held ∙ sym e.write }
 
+-- the read of CTRL/STAT, for SELECT 0
 abbrev pub status : Request
 status = record { ap = false; read = true; addr = R4 }
 
@@ -160,6 +165,7 @@ power_from n b k s t flip live h (inr (place, fits, some, one)) a more =
           (before_framed n (n + 1) b k s t f e (omega (arith, one)) (At Powered) h) r.1),
     )
 
+-- what came of a read of CTRL/STAT at rest, for a job whose data phase is a word that shows the flags
 pub status_asked : (job : Job) (n : ℕ) (base : Counted) (b : ℕ) (k : Hand) (v : ℕ) (s t : Port)
     → s.target.select ≡ no_select → s.target.reset ≡ Live → s.target.pending ≡ None → base.lost ≤ s.tally.lost
     → Before job n b k s → Asks s status v t → (Says job n b k t → During job n b k t) → Came job n base b k v t
@@ -168,6 +174,7 @@ status_asked job n base b k v s t select live rest l h asks go =
     (λ e. absurd (cc)) live rest l h asks
     (λ flip sp a more. go (says_from job n b k s t flip live h sp a more))
 
+-- what came of the read of CTRL/STAT that checks whether power is acknowledged, at rest
 pub power_asked : (n : ℕ) (base : Counted) (b : ℕ) (k : Hand) (v : ℕ) (s t : Port)
     → s.target.select ≡ no_select → s.target.reset ≡ Live → s.target.pending ≡ None → base.lost ≤ s.tally.lost
     → Before (At Powered) n b k s → Asks s status v t → Came (At Powered) n base b k v t
@@ -179,6 +186,7 @@ power_asked n base b k v s t select live rest l h asks =
 pub abort_register : (s : Port) → s.target.select ≡ no_select → register s.target.select abort ≡ AbortWrite
 abort_register s e = ap (λ x. register x abort) e
 
+-- what came of the request of an ABORT write at rest: P, which unchanged registers keep, holds while its data is due
 pub abort_asked : (job : Job) (n : ℕ) (base : Counted) (b : ℕ) (k : Hand) (v : ℕ) (s t : Port) (P : ℕ → Type 0)
     → s.target.select ≡ no_select → s.target.reset ≡ Live → s.target.pending ≡ None → base.lost ≤ s.tally.lost
     → Before job n b k s → Asks s abort v t

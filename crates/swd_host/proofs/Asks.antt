@@ -41,6 +41,7 @@ back_written p back task aims e = grind arith
 pub hurt_calm : (p : Place) (n b : ℕ) (k : Hand) (s : Port) → Hurt p n b k s → Calm k.memory s.target
 hurt_calm p n b k s h = written_calm h.back b k s (back_written p h.back k.task k.aims h.confirms) h.has
 
+-- where what held before a corrupted write still holds, the target is live and at rest, with STICKYERR clear
 pub spoilt_calm : (p : Place) (b : ℕ) (k : Hand) (s : Port) → Spoilt p b k s.target → Calm k.memory s.target
 spoilt_calm p b k s h = written_calm h.back b k s (back_written p h.back k.task k.aims h.confirms) h.has
 
@@ -85,6 +86,7 @@ hurt_asked p n base b c k v s t plain g l h asks =
 
 -- SURE WRITES
 module _ (p : Place) (n : ℕ) (base : Counted) (b c : ℕ) (k : Hand) (v : ℕ) (s t : Port) where
+  -- what came of the request of a write, other than ABORT's, where the write before it wasn't corrupted
   pub write_asked : (r : Register) → register_at p k.task ≡ r → (request_for (At p) k.task).read ≡ false
       → is_exempt r ≡ false → is_posted r ≡ false → is_exempt_place p ≡ false → is_abort_write p ≡ false
       → r ≢ DrwRead → b ≤ c
@@ -155,6 +157,7 @@ csw_was_read : (n b : ℕ) (k : Hand) (s t : Port) (flip : Option ℕ) → Sure 
     → Accepts CswRead true flip s t → s.tally.disturbed ≤ t.tally.disturbed → Sure Configured n b k t
 csw_was_read n b k s t flip h a more = grind arith
 
+-- what came of the posted read of CSW, where the write of CSW before it wasn't corrupted
 pub read_csw_asked : (n : ℕ) (base : Counted) (b : ℕ) (k : Hand) (v : ℕ) (s t : Port) → base.lost ≤ s.tally.lost
     → Sure ReadCsw n b k s → Asks s (request_for (At ReadCsw) k.task) v t → Came (At ReadCsw) n base b k v t
 read_csw_asked n base b k v s t l h asks =
@@ -172,6 +175,7 @@ configured_word : (n n' : ℕ) (b : ℕ) (k : Hand) (s t : Port) (flip : Option 
     → Resent Configured csw_word_read n' b k t
 configured_word n n' b k s t flip more h a = grind arith
 
+-- what came of the read of RDBUFF that returns the word of CSW
 pub configured_asked : (n : ℕ) (base : Counted) (b : ℕ) (k : Hand) (v : ℕ) (s t : Port) → base.lost ≤ s.tally.lost
     → Sure Configured n b k s → Asks s (request_for (At Configured) k.task) v t → Came (At Configured) n base b k v t
 configured_asked n base b k v s t l h asks =

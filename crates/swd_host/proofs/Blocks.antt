@@ -75,6 +75,7 @@ module _ (at n c : ℕ) (k : Hand) (x y : Port) (flip : Option ℕ) (task : k.ta
             (resent n (omega arith)) (λ i. resent (n + 1) (omega arith)),
       )
 
+-- what came of the DRW read of a block's next access, which confirms the current one and returns its word
 pub next_asked : (at n : ℕ) (base : Counted) (b c : ℕ) (k : Hand) (v : ℕ) (s t : Port) → k.task ≡ BurstRead at
     → IsTask (BurstRead at) → 2 ≤ c → base.lost ≤ s.tally.lost → Sure Confirm n b k s
     → Asks s (request_for (At Confirm) k.task) v t → Came (At Confirm) n base c k v t
@@ -149,6 +150,7 @@ done_resend_asked NextSent word n base b k v s t l h r asks = passing_asked word
 done_resend_asked NextFailed word n base b k v s t l h r asks =
     resend_rested Confirm word n base b k v _ s t l h.1.1.calm r asks
 
+-- what came of RESEND for the word of a place, whether or not the next read of a block is in flight
 pub resend_asked : (p : Place) (word n : ℕ) (base : Counted) (b : ℕ) (k : Hand) (v : ℕ) (s t : Port)
     → base.lost ≤ s.tally.lost → Resent p word n b k s → Asks s (request_for (Resend p) k.task) v t
     → Came (Resend p) n base b k v t

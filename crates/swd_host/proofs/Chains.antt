@@ -31,6 +31,8 @@ module _ (limit : ℕ) (list : List Access) (s : Port) (rest : IsAtRest s) where
   known calls told t (resumed {calls = before} {earlier = e} {told = a} {t = u} {u = v} went tries kept over) =
       known_at a.ended tries u v (over (known before e u went)).ends
 
+  -- over a target at rest a call and the calls of `resume` after it are a chain over memories, from the target's to
+  -- each that the last port may become
   pub chained : (calls : List Told) (told : Told) (t : Port) → Calls limit list s calls told t
       → (now : PlainMemory) → MayBecome t now → Chain limit list s.target.memory calls told now
   chained calls told t (ran {told = a} {t = u} tries runs) now (c, i, is) =
@@ -40,6 +42,7 @@ module _ (limit : ℕ) (list : List Access) (s : Port) (rest : IsAtRest s) where
       let from = fits.goes now may in
       again (chained before e u went from.before from.comes) fits.own kept fits.begun from.fits
 
+-- the same for every list, limit and target at rest
 pub are_chained : AreChained
 are_chained limit list s calls told t rest went now may = chained limit list s rest calls told t went now may
 
@@ -241,6 +244,7 @@ reaches limit list m calls told now
     again_done limit list m c e a left n (places_of limit list m c e left chain) (reaches limit list m c e left chain)
     own kept begun k fit
 
+-- the memory after a chain of calls is that after the accesses at its places, each of them at most once a call
 pub chain_does : ChainDoes
 chain_does limit list m calls told now chain = (reaches limit list m calls told now chain).done
 
@@ -249,6 +253,8 @@ first_same : (calls : List Told) (earlier told : Told) → begun_first (calls ++
 first_same [] earlier told = refl
 first_same (one ∷ calls) earlier told = refl
 
+-- if the first call left at most one access in flight and the log has room, the report is that of the list with at
+-- most one access repeated for each call of `resume`, and a whole list leaves the same words as without repetitions
 pub chain_repeats : ChainRepeats
 chain_repeats limit list m calls told now few room (first {told = a} {now = n} fits) =
     let none = fits_again limit list m a n few fits in

@@ -88,6 +88,7 @@ module _ (n : ℕ) (stray : Bool) (start : Port) (bits : ℕ) (s t : Port) (rang
         (λ w. (shown word (cleared_rests owed n stray start s w) told, read_keeps (Check Select owed) n w))
         (λ w. read_keeps (Check Select owed) (n + 1) w)
 
+    -- after a data phase that is read early, what its word shows is known, or that it has to be read again
     pub read_early : (job : Job) (task : Task) → word_for job task ≡ None → EarlyDuring job n stray start s
         → EarlyTaken job (word_in bits) n stray start t
     read_early (At Identify) task none h = take_identify h
@@ -149,6 +150,7 @@ module _ (n : ℕ) (stray : Bool) (start : Port) (sent : ℕ) (s t : Port) (rang
     phase_is : (word other : ℕ) → Some other ≡ Some word → sent ≡ phase_number word → sent ≡ phase_number other
     phase_is word other is e = e ∙ ap phase_number (let same : word ≡ other = cc in same)
 
+    -- after a data phase that is written early, what its write leaves is known, unless the write is SELECT's
     pub given_early : (job : Job) (task : Task) (word : ℕ) → word_for job task ≡ Some word → sent ≡ phase_number word
         → EarlyDuring job n stray start s → (job ≡ At Select) ⊎ EarlySent job n stray start t
     given_early (At WriteAbort) task word is e h = inr (give_abort (phase_is word 0x1e is e) h)

@@ -13,6 +13,7 @@ pub resumes_by : (e f : Engine) (s t : Port) → f.task ≡ e.task → s.tally.l
 resumes_by e f s t task lost step follows base start (early ok few h) = step base start ok few h
 resumes_by e f s t task lost step follows base start (over m may h) = over m may (follows base m h)
 
+-- an engine that is early before and after a call has, after it, the invariant of an engine that resumes
 pub still_early : (e f : Engine) (s t : Port) → f.task ≡ e.task → s.tally.lost ≤ t.tally.lost
     → ((base : Counted) (start : Port) → base.lost ≤ s.tally.lost → IsEarly base start e s → IsEarly base start f t)
     → (base : Counted) (start : Port) → IsTask e.task → base.lost ≤ s.tally.lost → IsEarly base start e s
@@ -44,6 +45,7 @@ over_there base start e s is ok few h =
     let follows : Follows base h.memory e s = record { task = ok; lost = few; tracks = tracks } in
     record { memory = h.memory; comes = h.comes; follows = follows }
 
+-- while the data phase of SELECT's write is due, the engine follows one memory that the start might become
 pub select_chooses : (base : Counted) (start : Port) (e : Engine) (s : Port) (job : Job) → e.state ≡ Doing job Data
     → job ≡ At Select → IsTask e.task → base.lost ≤ s.tally.lost → IsEarly base start e s → Chosen base start e s
 select_chooses base start e s job is at ok few h = grind (arith, over_there)

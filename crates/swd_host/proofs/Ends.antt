@@ -17,13 +17,16 @@ pub outcome_case : (x : State) (task : Task) (outcome : Outcome) → finished_at
     → (x ≡ Resting outcome) ⊎ ((is_ahead_in x task ≡ true) × (outcome ≡ Answered Written))
 outcome_case x task outcome h = grind arith
 
+-- an engine whose outcome is a stop rests in that stop
 pub stopped_state : (x : State) (task : Task) (end : End) → finished_at x task ≡ Some (Stopped end)
     → x ≡ Resting (Stopped end)
 stopped_state x task end h = grind arith
 
+-- a state of an access never has the outcome `Opened`
 pub not_opened : (x : State) (task : Task) → is_state_of false x ≡ true → finished_at x task ≡ Some Opened → ⊥
 not_opened x task access h = grind arith
 
+-- a state of the opening whose outcome is no stop rests as `Opened`
 pub opened_state : (x : State) (task : Task) (outcome : Outcome) → is_state_of true x ≡ true
     → finished_at x task ≡ Some outcome → ((end : End) → outcome ≡ Stopped end → ⊥) → x ≡ Resting Opened
 opened_state x task outcome opening h none = grind arith
@@ -92,6 +95,7 @@ answered_ahead base m f t ahead h =
       begun = λ single. absurd (let both : true ≡ false = sym (ahead_burst f.state f.task ahead) ∙ single in cc);
     }
 
+-- an answered access has the plain memory's answer; what holds between two accesses holds over the memory after it
 pub answered_there : (base : Counted) (m : PlainMemory) (answer : Answer) (f : Engine) (t : Port)
     → finished_of f ≡ Some (Answered answer) → Follows base m f t → Answers answer base m f t
 answered_there base m answer f t is h = grind (arith, answered_ahead, answered_rests, outcome_case)
@@ -123,6 +127,7 @@ stops_by TriesOut n tries base b k t h = record {
 }
 stops_by _ n tries base b k t h = absurd h
 
+-- a stop is for a lost acknowledgement or too many disturbances; the accesses in flight allow the memory
 pub stops_there : (base : Counted) (m : PlainMemory) (f : Engine) (end : End) (t : Port)
     → f.state ≡ Resting (Stopped end)
     → Follows base m f t → Stops end base f.tries (base.disturbed + f.events) f.begun (hand_of f m) t
@@ -133,6 +138,7 @@ pub later_memory : (b : ℕ) (k : Hand) (t : Port) (c : Choice) → (w : Within 
     → (completed c t).target.memory ≡ w.later
 later_memory b k t c w = becomes_completed w.later c t.target w.becomes
 
+-- after a stop the reported number of begun accesses is the one that the engine counts
 pub begun_there : (f : Engine) (end : End) → f.state ≡ Resting (Stopped end) → begun_of f ≡ f.begun
 begun_there f end is = ap (λ x. if is_ahead_in x f.task then 0 else f.begun) is
 

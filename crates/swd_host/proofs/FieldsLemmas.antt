@@ -1,4 +1,4 @@
--- What has numbers is read back from them.
+-- What has numbers is read back from them: an engine, and its parts. For `EngineFields::engine`.
 use Rattle.swd_host.proofs.Words.{arith, ◌≡◌, ◌==◌, ℕ, Bool, Option, bit, Bursts, Task, Ahead, State, Engine, fields_of}
 use Rattle.swd_host.proofs.Words.{engine_at}
 use Rattle.swd_host.specs.Fields.{ahead_number, bursts_number, state_fields, tar_fields, task_fields}
@@ -22,5 +22,6 @@ task_back t = grind arith
 tar_back : (tar : Option ℕ) → tar_at (tar_fields tar) ≡ tar
 tar_back tar = grind arith
 
+-- the engine that is read from the fields of an engine is that engine
 pub engine_back : (e : Engine) → engine_at (fields_of e) ≡ e
 engine_back e = grind (arith, ahead_back, bursts_back, flag_back, state_back, tar_back, task_back)

@@ -1,4 +1,4 @@
--- What stays at the port stays known.
+-- What stays at the port stays known: the host's facts, by the fields that a step leaves unchanged.
 use Rattle.swd_host.proofs.Words.{◌≡◌, ◌≢◌, ◌+◌, ◌≤◌, ℕ, Bool, true, false, refl, sym, ap, subst, inl, inr, arith, ◌∙◌}
 use Rattle.swd_host.proofs.Words.{Option, None, ◌⊎◌, ◌||◌, if◌then◌else◌, PlainMemory, plain_after, Port, Target}
 use Rattle.swd_host.proofs.Words.{Register, DrwRead, AbortWrite, Live, Completes, has_power, is_posted, Seen, Stays}
@@ -59,36 +59,45 @@ framed s t ok error write h = record {
   identification = ap (λ i. i.identification) h;
 }
 
+-- an unchanged target has these fields unchanged
 pub frame_same : (s t : Port) → t.target ≡ s.target → Frame s t
 frame_same s t h = framed s t s.target.read_ok s.target.sticky_error s.target.write_error h
 
 pub same_same : (s t : Port) → t.target ≡ s.target → Same s t
 same_same s t h = record { sticky = ap (λ i. i.sticky_error) h; write = ap (λ i. i.write_error) h }
 
+-- a call that changes neither the target nor the counts leaves these fields unchanged
 pub frame_passed : (s t : Port) → Passed s t → Frame s t
 frame_passed s t h = frame_same s t h.target
 
+-- such a call leaves the flags unchanged
 pub same_passed : (s t : Port) → Passed s t → Same s t
 same_passed s t h = same_same s t h.target
 
+-- a request that is answered WAIT leaves these fields unchanged
 pub frame_waits : (r : Register) (s t : Port) → Defers r s t → Frame s t
 frame_waits r s t h = framed s t
     (if is_posted r then false else s.target.read_ok) s.target.sticky_error s.target.write_error h.target
 
+-- a request that is answered WAIT leaves the flags unchanged
 pub same_waits : (r : Register) (s t : Port) → Defers r s t → Same s t
 same_waits r s t h = record { sticky = ap (λ i. i.sticky_error) h.target; write = ap (λ i. i.write_error) h.target }
 
+-- a request that is answered FAULT leaves these fields unchanged
 pub frame_refuses : (r : Register) (access : Bool) (s t : Port) → Refuses r access s t → Frame s t
 frame_refuses r access s t h = framed s t (if is_posted r then false else s.target.read_ok)
     (s.target.sticky_error || is_unpowered access (has_power s.target)) s.target.write_error h.target
 
+-- a request that is answered FAULT leaves the flags unchanged, if an access port that it addresses has power
 pub same_refuses : (r : Register) (access : Bool) (s t : Port) → (access ≡ true → has_power s.target ≡ true)
     → Refuses r access s t → Same s t
 same_refuses r access s t power h = grind arith
 
+-- a write whose data was corrupted leaves these fields unchanged
 pub frame_spoiled : (s t : Port) → Spoiled s t → Frame s t
 frame_spoiled s t h = framed s t s.target.read_ok s.target.sticky_error true h.target
 
+-- a write of ABORT leaves these fields unchanged
 pub frame_abort : (word : ℕ) (s t : Port) → Gave AbortWrite word s t → Frame s t
 frame_abort word s t h = grind arith
 
@@ -101,13 +110,16 @@ pub frame_accepts : (r : Register) (read : Bool) (flip : Option ℕ) (s t : Port
     → s.target.reset ≡ Live → Accepts r read flip s t → Frame s t
 frame_accepts r read flip s t plain live h = grind arith
 
+-- a request that is answered OK leaves the flags unchanged
 pub same_accepts : (r : Register) (read : Bool) (flip : Option ℕ) (s t : Port) → Accepts r read flip s t → Same s t
 same_accepts r read flip s t h = grind arith
 
+-- a live target at rest with STICKYERR clear stays so, where these fields and STICKYERR are unchanged
 pub calm_framed : (m : PlainMemory) (s t : Port) → Frame s t → t.target.sticky_error ≡ s.target.sticky_error
     → Calm m s.target → Calm m t.target
 calm_framed m s t f e h = grind arith
 
+-- where they are, what holds before a place's request, WDATAERR aside, stays with as many accesses in flight or more
 pub has_framed : (p : Place) (b c : ℕ) (k : Hand) (s t : Port) → b ≤ c → Frame s t
     → t.target.sticky_error ≡ s.target.sticky_error → Has p b k s.target → Has p c k t.target
 has_framed p b c k s t g f e h = grind arith
@@ -121,6 +133,7 @@ facts_framed error p b k s t f e h = grind arith
 -- n events that were paid for at s, and n' at t
 module _ (n n' : ℕ) (b : ℕ) (k : Hand) (s t : Port) (f : Frame s t) (e : Same s t)
     (more : n' + s.tally.disturbed ≤ n + t.tally.disturbed) where
+  -- what holds before a place's request where no write was corrupted stays
   pub sure_framed : (p : Place) → Sure p n b k s → Sure p n' b k t
   sure_framed p h = grind arith
 
@@ -130,15 +143,18 @@ module _ (n n' : ℕ) (b : ℕ) (k : Hand) (s t : Port) (f : Frame s t) (e : Sam
   pub refused_framed : (p : Place) → Refused p n b k s → Refused p n' b k t
   refused_framed p h = grind arith
 
+  -- what is known of a word that RESEND returns again stays
   pub resent_framed : (p : Place) (word : ℕ) → Resent p word n b k s → Resent p word n' b k t
   resent_framed p word h = grind arith
 
+  -- what is known where ABORT has to be written for these flags stays
   pub owes_framed : (p : Place) (owed : Flags) → Owes p owed n b k s → Owes p owed n' b k t
   owes_framed p owed h = grind arith
 
   pub checks_framed : (p : Place) (owed : Flags) → Checks p owed n b k s → Checks p owed n' b k t
   checks_framed p owed h = grind arith
 
+  -- what is known before the request of any job stays
   pub before_framed : (job : Job) → Before job n b k s → Before job n' b k t
   before_framed job h =
       grind (arith, checks_framed, hurt_framed, owes_framed, refused_framed, resent_framed, sure_framed)
@@ -159,6 +175,7 @@ within_carried b c k s t g p a e h =
       ends = more h.later h.ends;
     }
 
+-- completion leaves a memory that the accesses in flight allow
 pub within_stays : (b : ℕ) (k : Hand) (s t : Port) → Completes s t → Within b k s.target → Within b k t.target
 within_stays b k s t (inl same) h = subst (λ i. Within b k i.target) (sym same) h
 within_stays b k s t (inr (c, i, same)) h = record {
@@ -169,10 +186,12 @@ within_stays b k s t (inr (c, i, same)) h = record {
   ends = h.ends;
 }
 
+-- the accesses in flight allow the memory from before the current access, where no transfer is pending
 pub within_idle : (b : ℕ) (k : Hand) (s : Port) → s.target.pending ≡ None → s.target.memory ≡ k.memory
     → Within b k s.target
 within_idle b k s p e = record { now = within_none e; later = k.memory; becomes = idle p e; ends = within_none refl }
 
+-- they allow the memory after the current access, if that is in flight and no transfer is pending
 pub within_done : (b : ℕ) (k : Hand) (s : Port) → 1 ≤ b → s.target.pending ≡ None
     → s.target.memory ≡ plain_after (access_of k.task) k.memory → Within b k s.target
 within_done b k s g p e = record {
@@ -182,6 +201,7 @@ within_done b k s g p e = record {
   ends = within_first g refl;
 }
 
+-- they allow the memory while the accepted transfer of the current access is pending, done or failed
 pub within_sent : (b : ℕ) (k : Hand) (s : Port) → 1 ≤ b → Sent (access_of k.task) k.memory s.target
     → Within b k s.target
 within_sent b k s g h = record {
@@ -206,6 +226,7 @@ within_next b k s g block h =
     ] in
     record { now = more s.target.memory h.now; later = h.later; becomes = h.becomes; ends = more h.later h.ends }
 
+-- before the request of each place the memory is one that the accesses in flight allow
 pub has_within : (p : Place) (b : ℕ) (k : Hand) (s : Port) → Has p b k s.target → Within b k s.target
 has_within Powered b k s h = within_idle b k s h.calm.pending h.calm.memory
 has_within Configure b k s h = within_idle b k s h.calm.pending h.calm.memory
@@ -247,6 +268,7 @@ checks_within : (p : Place) (owed : Flags) (n b : ℕ) (k : Hand) (s : Port) →
 checks_within p owed n b k s (cleared h i w paid) = facts_within owed.error p b k s h
 checks_within p owed n b k s (kept h i w paid) = facts_within owed.error p b k s h
 
+-- before the request of any job, also one after an error, the memory is one that the accesses in flight allow
 pub before_within : (job : Job) (n b : ℕ) (k : Hand) (s : Port) → Before job n b k s → Within b k s.target
 before_within (At p) n b k s (inl h) = has_within p b k s h.has
 before_within (At p) n b k s (inr h) = has_within h.back b k s h.has

@@ -29,6 +29,7 @@ pub whole_given : (r : Register) (word : ℕ) (s t : Port) → Given r None word
 whole_given r word s t (given_whole e h) = h
 whole_given r word s t (given_damaged place e h) = absurd (cc)
 
+-- a phase that arrives with a changed bit writes nothing, and sets WDATAERR
 pub changed_given : (place : ℕ) (r : Register) (word : ℕ) (s t : Port) → Given r (Some place) word s t → Spoiled s t
 changed_given place r word s t (given_whole e h) = absurd (cc)
 changed_given place r word s t (given_damaged other e h) = h
@@ -42,6 +43,7 @@ pub sticky_gone : (error damaged : Bool) (x y : Target) → Clears (clear_word
     (record { error = error; damaged = damaged })) x y → x.sticky_error ≡ error → y.sticky_error ≡ false
 sticky_gone error damaged x y c h = grind arith
 
+-- after ABORT is written for the flags that are set, WDATAERR is clear
 pub write_gone : (error damaged : Bool) (x y : Target) → Clears (clear_word
     (record { error = error; damaged = damaged })) x y → x.write_error ≡ damaged → y.write_error ≡ false
 write_gone error damaged x y c h = grind arith
@@ -240,6 +242,7 @@ module _ (n b : ℕ) (k : Hand) (s t : Port) (sent : ℕ) (range : sent < 2 ^ 33
   phase_is : (word other : ℕ) → Some other ≡ Some word → sent ≡ phase_number word → sent ≡ phase_number other
   phase_is word other is e = e ∙ ap phase_number (let same : word ≡ other = cc in same)
 
+  -- after the data phase of a job's write what has to hold before the next request holds
   pub job_gave : (job : Job) (word : ℕ) → word_for job k.task ≡ Some word → sent ≡ phase_number word → IsTask k.task
       → During job n b k s → WasSent job n b k t
   job_gave (At WriteAbort) word is e ok h = abort_gave (phase_is word 0x1e is e) h

@@ -1,9 +1,10 @@
--- Calls one after the other.
+-- Calls one after the other: what the engine and the port keep over each, they keep over all. For `running::drive`.
 use Rattle.swd_host.proofs.Words.{◌≡◌, ◌+◌, ◌-◌, ◌*◌, ◌≤◌, Bool, true, false, refl, sym, ap, subst, arith, ◌∙◌, is_some}
 use Rattle.swd_host.proofs.Words.{nat_lt, most_begun, bit, Port, Engine, is_resting, finished_at, least_in}
 use Rattle.swd_host.proofs.Words.{open_requests, Goes, IsCountable}
 use Rattle.std.proofs.lemmas.Bool.{ltb-true, ltb-false}
 
+-- what the engine and the port keep over calls holds where no call was made
 pub goes_refl : (e : Engine) (s : Port) → Goes e s e s
 goes_refl e s = record {
   task = refl;

@@ -26,11 +26,13 @@ pub told_length : (k : ℕ) (list : List Access) (m : PlainMemory) (answers : Li
     → answers ≡ answers_of (take k list) m → length answers ≡ k
 told_length k list m answers few is = ap length is ∙ (answers_length (take k list) m ∙ length-take-le k list few)
 
+-- the rest of a list from place k on is k accesses shorter than the list
 pub drop_length : (k : ℕ) (list : List Access) → k ≤ length list → length (drop k list) + k ≡ length list
 drop_length zero list few = omega arith
 drop_length (suc k) [] few = absurd (omega arith)
 drop_length (suc k) (x ∷ list) few = let h = drop_length k list (omega arith) in omega (arith, h)
 
+-- the rest of a list from place k on is the access there, and then the rest from k + 1 on
 pub drop_first : (k : ℕ) (list : List Access) (d : Access) → k < length list
     → drop k list ≡ get_or list k d ∷ drop (suc k) list
 drop_first zero (x ∷ list) d few = refl
@@ -173,6 +175,7 @@ at_least : (n : ℕ) → n ≢ 0 → 1 ≤ n
 at_least zero some = absurd (some refl)
 at_least (suc n) some = omega arith
 
+-- the test for `All` fails at every other end
 pub not_all : (end : End) → end ≢ All → is_all end ≡ false
 not_all end never = grind arith
 
@@ -376,6 +379,8 @@ module _ (js : List ℕ) (k kk j : ℕ) (list : List Access) (m x now : PlainMem
   fit_again : (n : ℕ) → n ≡ kk + j → Ongoing js list m earlier (since raw earlier) now
   fit_again n is = grind (arith, none_again, some_again)
 
+-- where the log has room, a report of a list with accesses repeated and a run over the rest make such a report again:
+-- of the same repetitions, or of these and one more of the access that was in flight
 pub goes_again : (js : List ℕ) (list : List Access) (d : Access) (m x now : PlainMemory) (earlier raw : Told)
     (part : List Answer) → raw.answers ≡ earlier.answers ++ part → Again js list m earlier x → HasRoom js list m
     → Fits 1 (drop (length earlier.answers) list) x (record raw { answers = part }) now
@@ -398,6 +403,7 @@ fits_at_again k (suc zero) list m told now few less is =
     inr (omega (arith, few, less), after_none (k + 1) list m now (is ∙ ap (λ n. memory_after (take n list) m) same))
 fits_at_again k (suc (suc j)) list m told now few less is = absurd (omega (arith, few, less))
 
+-- a report that fits the memory, with at most one access in flight, is that of its list with no access repeated
 pub fits_again : (limit : ℕ) (list : List Access) (m : PlainMemory) (told : Told) (now : PlainMemory)
     → told.begun ≤ 1 → Fits limit list m told now → Again [] list m told now
 fits_again limit list m told now few (k, f) =

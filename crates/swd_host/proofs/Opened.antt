@@ -65,6 +65,7 @@ module _ (m : PlainMemory) (f : Engine) (start t : Port) (none : f.begun ≡ 0) 
   within_now : MayBecome start t.target.memory
   within_now = subst (MayBecome start) (sym (within_of_none f.begun (hand_of f m) t.target.memory none w.now)) may
 
+-- an opening stops for a lost ACK or too many disturbances; each memory that may follow might follow from the start
 pub opening_ends : (base : Counted) (start : Port) (f : Engine) (end : End) (t : Port) → f.state ≡ Resting (Stopped end)
     → f.begun ≡ 0 → DueFits f t → Resumes base start f t
     → OpeningEnds end base f.tries (base.disturbed + f.events) start t
@@ -78,6 +79,7 @@ pub record OpenOver (n : ℕ) (start : Port) (f : Engine) (t : Port) : Type 0 wh
   pub is_open : IsOpen memory f t
   pub paid : n ≤ t.tally.disturbed
 
+-- an opening that succeeded leaves the target up, over one of the memories that the start might become
 pub opened_over : (base : Counted) (start : Port) (f : Engine) (t : Port) → f.state ≡ Resting Opened
     → t.target.identification % 2 ≡ 1 → Resumes base start f t → OpenOver (base.disturbed + f.events) start f t
 opened_over base start f t at odd (early ok few h) =

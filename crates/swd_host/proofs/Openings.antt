@@ -17,15 +17,19 @@ module _ (kind : Bursts) (again : Bool) (tries : ℕ) (e f : Engine) (s t : Port
   new_left : open_requests e ≤ 5 * tries + stray_left again + 10
   new_left = grind arith
 
+  -- requests sent, requests left without an event, and five for each event still allowed are at most ten, five for
+  -- each of the tries, and five more where a run resumes
   pub opening_spends : f.requests + 5 * (tries - f.events) + left_in f.state ≤ 5 * tries + stray_left again + 10
   opening_spends = omega (arith, goes.spends, goes.tries, new.tries, new.requests, new_left)
 
+  -- the port counts as many further requests as the engine sent in the opening
   pub opening_asked : t.tally.asked ≡ s.tally.asked + f.requests
   opening_asked = omega (arith, goes.asked (omega (arith, new_left, new.requests, stray_few again)), new.requests)
 
   opening_part : is_state_of true e.state ≡ true
   opening_part = ap (is_state_of true) new.leads
 
+  -- in the opening no access is in flight
   pub opening_unbegun : f.begun ≡ 0
   opening_unbegun = goes.unbegun opening_part new.begun
 

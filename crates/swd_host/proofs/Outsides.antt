@@ -1,4 +1,4 @@
--- What a run over a wire of which no call was made says of a story.
+-- What a run over a wire of which no call was made says of a story, and of the calls noted. For `run_outside`.
 use Rattle.swd_host.proofs.Words.{◌≡◌, ◌++◌, ◌∙◌, ℕ, List, [], subst, sym, Access, Port, RunsOver, told_of}
 use Rattle.std.specs.Prelude.{Result, Ok, Err, IfOk}
 use Rattle.swd_port.specs.declared.call.Call.{Call}
@@ -8,6 +8,7 @@ use Rattle.swd_host.specs.declared.outcome.Report.{Report}
 use Rattle.swd_host.specs.Sent.{TellsSent}
 use Rattle.std.proofs.lemmas.List.{append-nil}
 
+-- if no call was made of the wire before a run, the theorem of the run holds from the port before any call
 pub fresh_run : {A : Type 0} (result : Result (Report A) Refused) (list : List Access) (tries : ℕ) (story : ℕ → Port)
     (before after : List Call) → before ≡ []
     → IfOk result (λ report. FitsStory story after → FitsStory story before

@@ -53,10 +53,12 @@ before_passed (Clear p owed) n b k s t passes h = before_rested (Clear p owed) n
 before_passed (Check p owed) n b k s t passes h = before_rested (Check p owed) n b k s t
     (checks_rest p owed n b k s h).pending passes h
 
+-- the turnaround after WAIT keeps what is known
 pub waiting_passed : (job : Job) (n b : ℕ) (k : Hand) (s t : Port) → Passes s t → Waiting job n b k s
     → Waiting job n b k t
 waiting_passed job n b k s t passes h = grind (arith, before_passed)
 
+-- the turnaround after FAULT keeps what is known
 pub faulted_passed : (job : Job) (n b : ℕ) (k : Hand) (s t : Port) → Passes s t → FaultedAt job n b k s
     → FaultedAt job n b k t
 faulted_passed job n b k s t passes h = grind arith

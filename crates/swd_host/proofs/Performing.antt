@@ -221,6 +221,7 @@ module _ (i : ℕ) (list : List Access) (o e g f : Engine) (answers : List Answe
         ];
       }
 
+  -- the result of a list where the engine stopped in the access at i
   pub access_does : (earlier after : List Answer) (end : End) → after ≡ earlier ++ answers
       → ((b : Access) → following ≡ Some b → Follower i list b)
       → finished_of f ≡ Some (Stopped end) → Does list o f earlier after end s u
@@ -264,6 +265,7 @@ module _ (i : ℕ) (list : List Access) (o e g f : Engine) (answers : List Answe
         most = omega (arith, spent, tries_here, r.most, r.fewest);
       }
 
+  -- once the access at i is answered, what is known after i answers holds after i + 1
   pub answered_stands : (answer : Answer) (more : List Answer) → more ≡ answers ++ answer ∷ []
       → ((b : Access) → following ≡ Some b → Follower i list b) → finished_of f ≡ Some (Answered answer)
       → Stands (i + 1) list o s f more u
@@ -347,6 +349,7 @@ module _ (i : ℕ) (list : List Access) (o e : Engine) (answers : List Answer) (
         most = omega (arith, r.most, r.fewest, ready.paid);
       }
 
+  -- the result of a list whose accesses are all answered, after the idle cycles that follow them
   pub all_does : (earlier after : List Answer) (u : Port) → after ≡ earlier ++ answers → Leads t 0 u
       → Does list o e earlier after All s u
   all_does earlier after u added leads = grind (arith, all_over, identification_kept, others_uncounted)

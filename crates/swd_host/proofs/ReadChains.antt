@@ -225,6 +225,7 @@ plainly limit list m calls told now some reads room
     again_plainly limit list m c e a left n own k some reads
     (plainly limit list m c e left some reads (omega (arith, room, one)) chain) (omega (arith, room, one)) kept fit
 
+-- a chain of calls over a list of reads changes no word, and where the log has room it answers as the plain memory
 pub chain_reads : ChainReads
 chain_reads limit list m calls told now some reads chain = record {
   words = words_kept limit list m calls told now reads chain;

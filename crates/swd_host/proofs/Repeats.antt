@@ -1,4 +1,4 @@
--- Lists where accesses are repeated, one access more at a time.
+-- Lists where accesses are repeated, one access more at a time: the list, and the memory after it.
 use Rattle.swd_host.proofs.Words.{◌≡◌, ◌+◌, ◌<◌, ℕ, false, refl, sym, ap, subst, arith, ◌∙◌, List, [], ◌∷◌, ◌++◌}
 use Rattle.swd_host.proofs.Words.{length, take, get_or, suc, replicate, ◌==◌, if◌then◌else◌, Access, PlainMemory}
 use Rattle.swd_host.proofs.Words.{plain_after, memory_after, times, repeated, AllBelow, IsAfter}
@@ -21,11 +21,13 @@ repeated_append js i (x ∷ xs) a =
     ap (λ l. x ∷ (replicate (times i js) x ++ l)) h
     ∙ ap (λ l. x ∷ l) (sym (append_assoc (replicate (times i js) x) (repeated js (i + 1) xs) _))
 
+-- with one access more, a list with repetitions ends in that access and one copy for each occurrence of its place
 pub repeated_next : (js : List ℕ) (list : List Access) (i : ℕ) (d : Access) → i < length list
     → repeated js 0 (take (i + 1) list)
     ≡ repeated js 0 (take i list) ++ get_or list i d ∷ replicate (times i js) (get_or list i d)
 repeated_next js list i d l = grind (arith, length-take-le, repeated_append, take_at_read)
 
+-- a list of which no place is repeated is unchanged
 pub repeated_none : (i : ℕ) (xs : List Access) → repeated [] i xs ≡ xs
 repeated_none i [] = refl
 repeated_none i (x ∷ xs) = ap (λ l. x ∷ l) (repeated_none (i + 1) xs)

@@ -88,6 +88,7 @@ module _ (list : List Access) (tries : ℕ) (earlier : Told) (e f : Engine) (bef
       },
     )
 
+    -- the theorem of `resume` for a call whose opening stopped, so that it did no access
     pub resume_stops : ResumeFits list tries earlier (since raw earlier) s t
     resume_stops = record {
       own = raw.begun;
@@ -142,6 +143,7 @@ module _ (list : List Access) (tries : ℕ) (earlier : Told) (e f : Engine) (bef
     done_most : last.requests ≤ 14 + 6 * length list + 5 * (u.tally.disturbed - s.tally.disturbed)
     done_most = grind (arith, done, long, opening_spends)
 
+    -- the theorem of `resume` for a call whose opening succeeded, with the result of the rest of the list
     pub resume_performs : ResumeFits list tries earlier (since told earlier) s u
     resume_performs = record {
       own = told.begun;
@@ -153,6 +155,7 @@ module _ (list : List Access) (tries : ℕ) (earlier : Told) (e f : Engine) (bef
       most = done_most;
     }
 
+-- the theorem of `resume` holds of an equal report
 pub resumed_as : (list : List Access) (tries : ℕ) (earlier x y : Told) (s t : Port) → y ≡ x
     → ResumeFits list tries earlier x s t → ResumeFits list tries earlier y s t
 resumed_as list tries earlier x y s t is h = subst (λ told. ResumeFits list tries earlier told s t) (sym is) h

@@ -42,6 +42,7 @@ module _ (kind : Bursts) (list : List Access) (tries : ℕ) (e f : Engine) (answ
       → Fits (most_of kind) list m (told_by answers f end) now
   opening_fits now end never at may = grind arith
 
+  -- the theorem of a run whose opening stopped, so that it did no access
   pub opening_stops : (end : End) → f.state ≡ Resting (Stopped end)
       → RunFits (most_of kind) list tries m (told_by answers f end) s t
   opening_stops end at =
@@ -65,6 +66,7 @@ module _ (kind : Bursts) (list : List Access) (tries : ℕ) (e f : Engine) (answ
         ];
       }
 
+  -- the theorem of a run whose opening succeeded, with the result of its list
   pub list_fits : (last : Engine) (part : List Answer) (end : End) (u : Port) → f.state ≡ Resting Opened
       → (does : Does list f last answers part end t u) → AreAccesses list
       → RunFits (most_of kind) list tries m (told_by part last end) s u

@@ -31,18 +31,23 @@ broken_rest p b k s h = record { select = h.select; live = h.live; pending = h.p
 bus_error_rest : (p : Place) (b : ℕ) (k : Hand) (s : Port) → BusErrorOf p b k s.target → AtRest s
 bus_error_rest p b k s h = grind (arith, broken_rest)
 
+-- where the cause of the flags to be cleared is known, the target is live and at rest, with SELECT 0
 pub facts_rest : (error : Bool) (p : Place) (b : ℕ) (k : Hand) (s : Port) → Facts error p b k s.target → AtRest s
 facts_rest error p b k s h = grind (arith, bus_error_rest, calm_rest, spoilt_calm)
 
+-- the same where a request met a flag
 pub refused_rest : (p : Place) (n b : ℕ) (k : Hand) (s : Port) → Refused p n b k s → AtRest s
 refused_rest p n b k s h = grind (arith, bus_error_rest, calm_rest, hurt_calm)
 
+-- the same after ABORT was written to clear the flags
 pub checks_rest : (p : Place) (owed : Flags) (n b : ℕ) (k : Hand) (s : Port) → Checks p owed n b k s → AtRest s
 checks_rest p owed n b k s h = grind (arith, facts_rest)
 
+-- the same before the read of CTRL/STAT that checks that no flag is left
 pub ctrl_stat_rest : (n b : ℕ) (k : Hand) (s : Port) → Before (At CheckCtrlStat) n b k s → AtRest s
 ctrl_stat_rest n b k s h = grind (arith, calm_rest, hurt_calm)
 
+-- the same before the read of CTRL/STAT that checks whether power is acknowledged
 pub powered_rest : (n b : ℕ) (k : Hand) (s : Port) → Before (At Powered) n b k s → AtRest s
 powered_rest n b k s h = grind (arith, calm_rest, hurt_calm)
 
@@ -155,6 +160,7 @@ pub came_saw : (job : Job) (n : ℕ) (base : Counted) (b : ℕ) (k : Hand) (v : 
     → t.target.select ≡ no_select → Came job n base b k v t → Saw job v n base b k t
 came_saw job n base b k v t select h = grind arith
 
+-- a request that may be sent gets OK, WAIT, FAULT or no ACK, each with what the engine has to know after it
 pub ask_saw : (job : Job) (n : ℕ) (base : Counted) (b : ℕ) (k : Hand) (v : ℕ) (s t : Port)
     → base.lost ≤ s.tally.lost → IsTask k.task → Before job n b k s → Asks s (request_for job k.task) v t
     → Saw job v n base (max b (begins job k.task)) k t

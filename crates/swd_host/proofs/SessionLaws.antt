@@ -1,4 +1,4 @@
--- Calls one after the other over one target.
+-- Calls one after the other over one target are as one list. For the laws `sessions` and `made_is_at_rest`.
 use Rattle.swd_host.proofs.Words.{◌≡◌, ◌%◌, ℕ, refl, sym, ap, subst, arith, ◌∙◌, List, ◌++◌, length, take, Access}
 use Rattle.swd_host.proofs.Words.{Answer, PlainMemory, Port, All, memory_after, answers_of, Told, FitsAt, EndsAt}
 use Rattle.swd_host.proofs.Words.{IsAtRest, RunFits}
@@ -7,6 +7,7 @@ use Rattle.swd_port.specs.Port.{made}
 use Rattle.swd_host.specs.Sessions.{Session, none, then, IsAsOne}
 use Rattle.swd_host.proofs.Lists.{memory_append, answers_append}
 
+-- a target that was just made is at rest, if bit 0 of its identification is 1
 pub made_rests : (identification : ℕ) (m : PlainMemory) → identification % 2 ≡ 1 → IsAtRest (made identification m)
 made_rests identification m odd = record { due = refl; known = record { select = refl; odd = odd }; settled = refl }
 

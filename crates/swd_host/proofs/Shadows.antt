@@ -32,15 +32,18 @@ pub record HasPlace (c : ℕ) (a : Access) (p : PlainMemory) : Type 0 where
 contains_succeeds : (at : ℕ) (p : PlainMemory) → length p.log < p.room → succeeds_at at p ≡ contains_key p.words at
 contains_succeeds at p l = rw (lt-ltb (length p.log) p.room l) (grind arith)
 
+-- an access that succeeds leaves the memory with its effect and its log entry
 pub after_true : (a : Access) (p : PlainMemory) → succeeds_at (address a) p ≡ true → plain_after a p ≡ done a p
 after_true a p e = rw e refl
 
+-- an access that is a bus error leaves the memory unchanged
 pub after_false : (a : Access) (p : PlainMemory) → succeeds_at (address a) p ≡ false → plain_after a p ≡ p
 after_false a p e = rw e refl
 
 done_log : (a : Access) (p : PlainMemory) → length (done a p).log ≡ length p.log + 1
 done_log a p = length-append p.log (transfer_of a p ∷ [])
 
+-- an access that succeeds makes the log one transfer longer
 pub log_done : (a : Access) (p : PlainMemory) → succeeds_at (address a) p ≡ true
     → length (plain_after a p).log ≡ length p.log + 1
 log_done a p e = ap (λ x. length x.log) (after_true a p e) ∙ done_log a p
@@ -58,6 +61,7 @@ plain_same : (a : Access) (p q : PlainMemory) → succeeds_at (address a) q ≡ 
     → answer_of a q ≡ answer_of a p → plain_answer a q ≡ plain_answer a p
 plain_same a p q e g = grind arith
 
+-- where the log has room, a memory with the same words and a longer log answers an access alike
 pub shadow_answer : (c : ℕ) (a : Access) (p q : PlainMemory) → HasPlace c a p → Shadow c p q
     → plain_answer a q ≡ plain_answer a p
 shadow_answer c a p q f h = plain_same a p q (shadow_succeeds c a p q f h) (answer_same a p q h.words)
@@ -66,6 +70,7 @@ shadow_answer c a p q f h = plain_same a p q (shadow_succeeds c a p q f h) (answ
 done_shadow : (c : ℕ) (a : Access) (p q : PlainMemory) → Shadow c p q → Shadow c (done a p) (done a q)
 done_shadow c a p q h = grind (arith, done_log)
 
+-- and after the access it has the same words again, its log longer by no more than the same bound
 pub shadow_next : (c : ℕ) (a : Access) (p q : PlainMemory) → HasPlace c a p → Shadow c p q
     → Shadow c (plain_after a p) (plain_after a q)
 shadow_next c a p q f h =

@@ -1,4 +1,4 @@
--- An access begins.
+-- An access begins: its task, its first state, and what is known of the port then. For the loops over a list.
 use Rattle.swd_host.proofs.Words.{◌≡◌, ◌+◌, ◌*◌, ◌%◌, ◌<◌, ◌≤◌, ℕ, Bool, true, false, not, refl, sym, ap, subst, inl}
 use Rattle.swd_host.proofs.Words.{arith, ◌∙◌, Option, Some, None, ◌&&◌, if◌then◌else◌, bit, Access, AccessRead}
 use Rattle.swd_host.proofs.Words.{AccessWrite, BusFault, DrwWrite, Due, Nothing, PlainMemory, address, plain_answer}
@@ -42,14 +42,17 @@ next_writes kind task b following burst h = grind arith
 is_task : (kind : Bursts) (a : Access) (following : Option Access) → IsAccess a → IsTask (task_for kind a following)
 is_task kind a following ok = grind arith
 
+-- an access of a burst is one that the following access continues
 pub burst_continues : (kind : Bursts) (a : Access) (following : Option Access)
     → is_burst (task_for kind a following) ≡ true → continues a following ≡ true
 burst_continues kind a following burst = grind arith
 
+-- a task may have no more accesses in flight than its engine's kind of bursts: one for writes, two for reads
 pub task_most : (kind : Bursts) (a : Access) (following : Option Access)
     → most_begun (task_for kind a following) ≤ most_of kind
 task_most kind a following = grind arith
 
+-- a read of a block is an access of a burst
 pub block_burst : (task : Task) → is_block task ≡ true → is_burst task ≡ true
 block_burst task h = grind arith
 
@@ -60,12 +63,14 @@ single_block task h = grind arith
 pub ahead_state : (x : State) (task : Task) → is_ahead_in x task ≡ true → x ≡ Doing (At Confirm) Data
 ahead_state x task h = grind arith
 
+-- an access that the OK to the next one's DRW write has answered is a write of a burst
 pub ahead_write : (x : State) (task : Task) → is_ahead_in x task ≡ true → is_burst_write task ≡ true
 ahead_write x task h = grind arith
 
 write_burst : (task : Task) → is_burst_write task ≡ true → is_burst task ≡ true
 write_burst task h = grind arith
 
+-- and so an access of a burst
 pub ahead_burst : (x : State) (task : Task) → is_ahead_in x task ≡ true → is_burst task ≡ true
 ahead_burst x task h = write_burst task (ahead_write x task h)
 
@@ -122,6 +127,7 @@ bit_most : (b : Bool) → bit b ≤ 1
 bit_most b = grind arith
 
 module _ (a : Access) (following : Option Access) (e g : Engine) (starts : Starts a following e g) where
+  -- the engine's current access is the one that was started
   pub same_access : access_of g.task ≡ a
   same_access = ap access_of starts.task ∙ task_access e.bursts a (if has_failed e then None else following)
 
@@ -137,6 +143,7 @@ module _ (a : Access) (following : Option Access) (e g : Engine) (starts : Start
   begun_here : has_failed e ≡ false → is_burst e.task ≡ true → 1 ≤ g.begun
   begun_here none burst = grind (arith, begun_by)
 
+  -- an access that the one before found to be a bus error is answered as it starts, with no access in flight
   pub answered_start : has_failed e ≡ true → IsAnswered g
   answered_start failed = grind arith
 
@@ -191,6 +198,7 @@ module _ (a : Access) (following : Option Access) (e g : Engine) (starts : Start
         paid = h.paid;
       }
 
+  -- from what holds between two accesses the engine's invariant follows at the start of the next one
   pub start_follows : (n : ℕ) (m : PlainMemory) (s : Port) → IsAccess a
       → (is_burst e.task ≡ true → continues (access_of e.task) (Some a) ≡ true)
       → Waits (is_ahead e) n (hand_of e m) s → Follows (record { disturbed = n; lost = s.tally.lost }) m g s
@@ -205,12 +213,15 @@ module _ (a : Access) (following : Option Access) (e g : Engine) (starts : Start
             (sym none) (start_tracks (is_ahead e) e.ahead n g.tries base m s refl refl chain h));
       }
 
+  -- an access that starts sends at most six requests before its outcome, and five more for each of the tries
   pub start_left : open_requests g ≤ 5 * e.tries + 6
   start_left = grind (arith, first_left)
 
+  -- as an access starts that isn't answered at once, at most DRW's request and TAR's, if it is needed, count as sent
   pub start_least : has_failed e ≡ false → least_in g.aims g.state ≤ bit g.aims + 1
   start_least going = grind (arith, first_least)
 
+  -- as an access starts, at most one access is in flight
   pub start_begun : g.begun ≤ 1
   start_begun = omega (arith, starts.begun, bit_most (is_burst e.task && not (has_failed e)))
 
@@ -218,6 +229,7 @@ module _ (a : Access) (following : Option Access) (e g : Engine) (starts : Start
   pub first_start : IsAnew e → IsFirst g
   first_start anew = grind arith
 
+  -- an access starts in a state of an access, not of the opening
   pub start_access : is_state_of false g.state ≡ true
   start_access = ap (is_state_of false) starts.state ∙ first_access (is_ahead e) e.ahead g.aims
 
@@ -231,6 +243,7 @@ due_before : (ahead : Bool) (kind : Bursts) (a : Access) (following : Option Acc
     → due ≡ (if ahead then due_of (is_read (task_for kind a following)) else Nothing)
 due_before ahead kind a following e due is may on h = grind arith
 
+-- what is due between two accesses is what the state at the start of the next one expects
 pub start_due : (a : Access) (following : Option Access) (e g : Engine) (s : Port) → Starts a following e g
     → may_start (finished_of e) ≡ true → GoesOn e a → DueFits e s → DueFits g s
 start_due a following e g s starts may on h = grind (arith, due_before, first_due)

@@ -1,4 +1,4 @@
--- Steps of the engine's own.
+-- Steps of the engine's own: the bounds and the facts that they keep. For the methods of `Engine`.
 use Rattle.swd_host.proofs.Words.{◌≡◌, ◌+◌, ◌-◌, ◌≤◌, ℕ, Bool, true, false, not, refl, sym, arith, ◌∙◌, Some, BusFault}
 use Rattle.swd_host.proofs.Words.{Port, Flags, Place, Select, Job, At, Clear, Check, Ask, Data, State, Doing, Engine}
 use Rattle.swd_host.proofs.Words.{is_behind, is_unread, left_at, left_for, least_for, is_state_of, Lands, flags_in}
@@ -24,6 +24,7 @@ record IsAgain (aims : Bool) (p : Place) : Type 0 where
 is_again : (aims : Bool) (p : Place) → IsAgain aims p
 is_again aims p = record { left = grind arith; least = grind arith; part = λ opening h. grind arith }
 
+-- a step to the request that reads a place's word again keeps the bounds of a step from that place's data phase
 pub again_lands : (p : Place) (e f : Engine) → Lands (left_for (again_at p) - 5) (least_for e.aims (again_at p))
     (Doing (again_at p) Ask) e f → Lands (left_at p - 1) (least_at e.aims p + 1) (Doing (At p) Data) e f
 again_lands p e f h = grind (arith, is_again, lands_within)
@@ -50,6 +51,7 @@ own_earns : (p : Place) (n b : ℕ) (k : Hand) (t : Port) → is_behind p ≡ fa
 own_earns p n b k t own (own_error h) error write paid = by_fault p refl h refl error write paid
 own_earns p n b k t own (next_error h) error write paid = absurd (let both : true ≡ false = sym h.place ∙ own in cc)
 
+-- once the flag of the access's own bus error is cleared, the access has earned the answer of a bus error
 pub own_error_cleared : (p : Place) (n b : ℕ) (k : Hand) (t : Port) → is_behind p ≡ false → Cleared p n b k t
     → Earns BusFault Unsent n b k t
 own_error_cleared p n b k t own h = own_earns p n b k t own h.error h.sticky h.flag h.paid

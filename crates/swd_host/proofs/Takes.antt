@@ -13,10 +13,12 @@ use Rattle.swd_host.proofs.Frames.{Frame, Same, frame_passed, same_passed, calm_
 use Rattle.swd_host.proofs.Blocks.{resent_stays}
 use Rattle.swd_host.proofs.Sends.{refused_rest, checks_rest, ctrl_stat_rest, powered_rest}
 
+-- a phase that arrives whole has the word that was sent
 pub got_whole_of : (word bits : ℕ) → Got None word bits → word_in bits ≡ Some word
 got_whole_of word bits (got_whole e i h) = h
 got_whole_of word bits (got_damaged place e i h) = absurd (cc)
 
+-- a phase that arrives with a changed bit has no word, since its parity is wrong
 pub got_changed_of : (place word bits : ℕ) → Got (Some place) word bits → word_in bits ≡ None
 got_changed_of place word bits (got_whole e i h) = absurd (cc)
 got_changed_of place word bits (got_damaged other e i h) = h
@@ -148,6 +150,7 @@ module _ (n b : ℕ) (k : Hand) (s t : Port) (bits : ℕ) (range : bits < 2 ^ 33
   transfers_facts : (a : Task) → word_of_task a ≡ None → Transfers a n b k s → Sure Confirm n b k t
   transfers_facts a e h = grind (arith, drw_facts)
 
+  -- what is known after a job's data phase was read, by its word or by its wrong parity
   pub taken_facts : (job : Job) → word_for job k.task ≡ None → is_ahead_at job Data k.task ≡ false
       → During job n b k s → TakenFor job (word_in bits) n b k t
   taken_facts (At Identify) e none h = identify_facts h (awake_pending h)

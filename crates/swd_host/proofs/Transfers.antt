@@ -92,6 +92,7 @@ drw_write_asked n base b c k v s t grows r l h asks go =
     (λ x. absurd (cc))
     grows h.has.up.calm (λ x. has_debug s.target h.has.up.debug h.has.up.seen) l h asks go
 
+-- what came of an access's DRW request, where TAR has its address and no write was corrupted
 pub drw_asked : (task : Task) (n : ℕ) (base : Counted) (b c : ℕ) (k : Hand) (v : ℕ) (s t : Port) → k.task ≡ task
     → b ≤ c → 1 ≤ c → base.lost ≤ s.tally.lost → Sure Transfer n b k s → Asks s (request_for (At Transfer) k.task) v t
     → Came (At Transfer) n base c k v t
@@ -185,6 +186,7 @@ module _ (r : Register) (q : Request) (h : Hand) (x y : Port) (power : q.ap ≡ 
     pub flag : y.target.write_error ≡ false
     pub paid : n ≤ y.tally.disturbed
 
+  -- what came of a request that confirms a transfer, where the caller knows what its OK, WAIT, FAULT or loss leads to
   pub confirming_came : (job : Job) (n : ℕ) (base : Counted) (b : ℕ) (k : Hand) (v : ℕ) (t : Port)
       → base.lost ≤ x.tally.lost → Under 1 h x.target → x.target.write_error ≡ false → n ≤ x.tally.disturbed
       → Completes y t → (Succeeded (access_of h.task) h.memory x.target → SeesOkay r q.read v x y → During job n b k t)
@@ -239,6 +241,7 @@ within_more b c k s grows h = within_carried b c k s s grows refl refl refl h
 
 -- the request that confirms; c accesses are begun by it
 module _ (n : ℕ) (base : Counted) (b c : ℕ) (k : Hand) (v : ℕ) (s t : Port) (some : 1 ≤ c) where
+  -- what came of the request that confirms an access, where the caller knows what its OK leads to, seen or lost
   pub confirm_came : base.lost ≤ s.tally.lost → Sure Confirm n b k s → Asks s (request_for (At Confirm) k.task) v t
       → ((x y : Port) → Completes y t → Under c k x.target → x.target.write_error ≡ false → n ≤ x.tally.disturbed
       → Succeeded (access_of k.task) k.memory x.target
@@ -271,6 +274,7 @@ module _ (n : ℕ) (base : Counted) (b c : ℕ) (k : Hand) (v : ℕ) (s t : Port
       (λ d ac. gone x y last d (under_more b c k x some ux) ac)
       came
 
+-- what came of the request that confirms an access that isn't a read of a block
 pub confirm_asked : (n : ℕ) (base : Counted) (b c : ℕ) (k : Hand) (v : ℕ) (s t : Port) → 1 ≤ c
     → is_block k.task ≡ false → base.lost ≤ s.tally.lost
     → Sure Confirm n b k s → Asks s (request_for (At Confirm) k.task) v t → Came (At Confirm) n base c k v t

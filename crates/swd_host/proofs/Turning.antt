@@ -32,6 +32,7 @@ pub record IsTaking (ahead : Bool) (word : Option ℕ) : Type 0 where
   pub ahead_not : ahead ≡ false
   pub reads : word ≡ None
 
+-- where the cue of a data phase is to read, the engine has no word to write, and the access isn't answered yet
 pub take_cue : (ahead : Bool) (word : Option ℕ) → data_cue ahead word ≡ Some CueTake → IsTaking ahead word
 take_cue false None e = record { ahead_not = refl; reads = refl }
 take_cue _ _ e = absurd (cc)
@@ -41,6 +42,7 @@ pub record IsGiving (word : Option ℕ) (sent : ℕ) : Type 0 where
   pub is : word ≡ Some gives
   pub sends : sent ≡ phase_number gives
 
+-- where the cue of a data phase is to write, its bits are those of the engine's word
 pub give_cue : (ahead : Bool) (word : Option ℕ) (sent : ℕ) → data_cue ahead word ≡ Some (CueGive sent)
     → IsGiving word sent
 give_cue ahead word sent e = grind arith
@@ -51,6 +53,7 @@ pub record IsAsking (x : State) (task : Task) (q : Request) : Type 0 where
   pub at : x ≡ Doing job Ask
   pub is : q ≡ request_for job task
 
+-- where the cue is a request, the engine has a job to ask for, and the request is that job's
 pub asking : (x : State) (stray : Bool) (task : Task) (q : Request) → cue_at x stray task ≡ Some (CueAsk q)
     → IsAsking x task q
 asking x stray task q e = grind arith
@@ -69,6 +72,7 @@ resumed_left : (base : Counted) (start : Port) (e : Engine) (s : Port) (job : Jo
     → is_job_of true job ≡ true → Resumes base start e s → 2 ≤ left_for job
 resumed_left base start e s job at opening h = grind arith
 
+-- no request of the opening starts an access
 pub opening_begins : (job : Job) (task : Task) → is_job_of true job ≡ true → begins job task ≡ 0
 opening_begins job task h = grind arith
 
@@ -76,24 +80,30 @@ begins_least : (job : Job) (task : Task) (aims : Bool) → 1 ≤ begins job task
     → bit aims + begins job task ≤ least_for aims job + 1
 begins_least job task aims some = grind arith
 
+-- a request puts no more accesses in flight than its task may have
 pub begins_few : (job : Job) (task : Task) → begins job task ≤ most_begun task
 begins_few job task = grind arith
 
+-- the greater of two numbers within a bound is within that bound
 pub max_few : (a b most : ℕ) → a ≤ most → b ≤ most → max a b ≤ most
 max_few a b most h i = grind arith
 
 max_grown : (a b : ℕ) → a < max a b → max a b ≡ b
 max_grown a b h = grind arith
 
+-- the greater of two zeros is zero
 pub max_none : (a b : ℕ) → a ≡ 0 → b ≡ 0 → max a b ≡ 0
 max_none a b h i = grind arith
 
+-- the saturating count of requests rises by one or not at all
 pub one_more_least : (n : ℕ) → (n ≤ one_more n) × (one_more n ≤ n + 1)
 one_more_least n = grind arith
 
+-- while it stays below 2^64, that count rises by one
 pub one_more_exact : (n : ℕ) → n + 1 < 2 ^ 64 → one_more n ≡ n + 1
 one_more_exact n h = grind arith
 
+-- a request that is a step of the model: what the engine and the port keep over it
 pub ask_goes : (e f : Engine) (on : is_resting e ≡ false) (s t : Port) (q : Request) (v : ℕ)
     → cue_of e ≡ Some (CueAsk q)
     → Asks s q v t → open_requests f + 1 ≤ open_requests e → f.requests ≡ one_more e.requests → Sees v e f
@@ -165,6 +175,7 @@ ask_goes e f on s t q v cue asks left sent sees tracks hears =
           omega (arith, sent, more.1, open_here, two, same));
     }
 
+-- what is due after the three bits that were seen is what the engine's state after them expects
 pub due_seen : (job : Job) (stray : Bool) (task : Task) (one two four : Bool) →
     DueAt (if one then Doing job Data else if two then Doing job Waited else if four then Doing job Faulted else
     Resting (Stopped Lost)) stray task
@@ -227,15 +238,18 @@ pub record IsPhase (x : State) (task : Task) (cue : Cue) : Type 0 where
   pub at : x ≡ Doing job Data
   pub is : data_cue (is_ahead_at job Data task) (word_for job task) ≡ Some cue
 
+-- where the cue is to read a data phase, the engine is at the data phase of a job
 pub taking : (x : State) (stray : Bool) (task : Task) → cue_at x stray task ≡ Some CueTake → IsPhase x task CueTake
 taking (Doing job Data) stray task e = record { job = job; at = refl; is = e }
 taking _ stray task e = absurd (cc)
 
+-- where the cue is to write a data phase, the engine is at the data phase of a job
 pub giving : (x : State) (stray : Bool) (task : Task) (sent : ℕ) → cue_at x stray task ≡ Some (CueGive sent)
     → IsPhase x task (CueGive sent)
 giving (Doing job Data) stray task sent e = record { job = job; at = refl; is = e }
 giving _ stray task sent e = absurd (cc)
 
+-- a data phase that is read, as a step of the model: what the engine and the port keep over it
 pub take_goes : (e f : Engine) (on : is_resting e ≡ false) (s t : Port) (bits : ℕ) → bits < 2 ^ 33
     → cue_of e ≡ Some CueTake
     → Takes s bits t → lands_from e f
@@ -274,6 +288,7 @@ early_left_at : (base : Counted) (start : Port) (e : Engine) (t : Port) (x : Sta
     → EarlyLeft e.state (base.disturbed + e.events) e.stray start t
 early_left_at base start e t x at h = subst (λ y. EarlyLeft y (base.disturbed + e.events) e.stray start t) (sym at) h
 
+-- a data phase that is written, as a step of the model: what the engine and the port keep over it
 pub give_goes : (e f : Engine) (on : is_resting e ≡ false) (s t : Port) (sent : ℕ) → sent < 2 ^ 33
     → cue_of e ≡ Some (CueGive sent) → Gives s sent t → lands_from e f → Dones e f → SendsEarly e f → Goes e s f t
 give_goes e f on s t sent range cue gives lands tracks sends =
@@ -308,6 +323,7 @@ passed_early : (n tries : ℕ) (base : Counted) (x : State) (stray : Bool) (task
     → cue_at x stray task ≡ Some CuePass → Passes s t → Early x n tries base stray start s → EarlyLeft x n stray start t
 passed_early n tries base x stray task start s t e passes h = grind arith
 
+-- the turnaround after WAIT or FAULT, as a step of the model: what the engine and the port keep over it
 pub pass_goes : (e f : Engine) (on : is_resting e ≡ false) (s t : Port) → cue_of e ≡ Some CuePass → Passes s t
     → lands_from e f → Dones e f → SendsEarly e f → Goes e s f t
 pass_goes e f on s t cue passes lands tracks sends =
@@ -333,6 +349,7 @@ led_first : (n tries : ℕ) (base : Counted) (x : State) (stray : Bool) (task : 
     → Early x n tries base stray start s → EarlyLeft x n stray start t
 led_first n tries base x stray task ones undriven low switch start s t e leads h = grind arith
 
+-- the line reset of the opening, as a step of the model: what the engine and the port keep over it
 pub lead_goes : (e f : Engine) (on : is_resting e ≡ false) (s t : Port) (ones undriven low : ℕ) (switch : Bool)
     → cue_of e ≡ Some (Lead ones undriven switch low) → Leads s ones t → lands_from e f → Dones e f → SendsEarly e f
     → Goes e s f t
@@ -348,6 +365,7 @@ lead_goes e f on s t ones undriven low switch cue leads lands tracks sends =
     (led_first (base.disturbed + e.events) e.tries base e.state e.stray e.task ones undriven low switch start s t cue
     leads h)))
 
+-- the line reset lowers the bound on the calls before the next outcome
 pub lead_falls : (e f : Engine) (ones undriven low : ℕ) (switch : Bool)
     → cue_of e ≡ Some (Lead ones undriven switch low) → lands_from e f
     → calls_left f < calls_left e

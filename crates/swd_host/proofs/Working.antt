@@ -6,6 +6,7 @@ use Rattle.swd_port.specs.Answers.{due_after}
 use Rattle.swd_host.proofs.Turning.{asking, due_seen, one_more_least, one_more_exact, max_few, begins_few, max_none}
 use Rattle.swd_host.proofs.Turning.{opening_begins}
 
+-- what the engine keeps by itself over calls holds where no call was made
 pub works_refl : (e : Engine) → Works e e
 works_refl e = grind arith
 
@@ -20,6 +21,7 @@ moves_works e f on lands = grind arith
 seen_never : (job : Job) (v : ℕ) → is_all_stop (state_seen job v) ≡ false
 seen_never job v = grind arith
 
+-- a request: what the engine keeps by itself over it, whatever three bits came back
 pub ask_works : (e f : Engine) (on : is_resting e ≡ false) (q : Request) (v : ℕ) → cue_of e ≡ Some (CueAsk q)
     → open_requests f + 1 ≤ open_requests e → f.requests ≡ one_more e.requests → Sees v e f → Works e f
 ask_works e f on q v cue left sent sees =

@@ -1,4 +1,4 @@
--- How many calls are made for a run.
+-- How many calls are made for a run at most. For the law `ends`.
 use Rattle.std.proofs.Common.{arith, refl, sym, ap, subst, ◌∙◌, ◌≡◌, ◌+◌, ◌*◌, ◌<◌, ◌≤◌, ℕ, Bool, true, false}
 use Rattle.std.proofs.Common.{inl, inr}
 use Rattle.std.proofs.Common.{List, [], ◌∷◌, ◌++◌, length, length-append}
@@ -193,6 +193,7 @@ module _ (how : Beginning) (list : List Access) where
   any_made calls answers e Between h = rested_made calls answers e h
   any_made calls answers e (Ended end) h = h
 
+-- a run makes at most the calls that its opening and its accesses may take, and one more, whatever comes back
 pub ends : Ends
 ends how accesses calls run answers ran =
     any_made how (drop how.from accesses) calls answers run.engine run.stage

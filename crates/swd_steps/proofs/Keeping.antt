@@ -1,4 +1,4 @@
--- Each step of a run keeps what is known of it.
+-- Each step of a run keeps what is known of it. For `Running`.
 use Rattle.std.proofs.Common.{arith, refl, sym, ap, subst, ◌∙◌, ◌≡◌, ◌+◌, ◌^◌, ◌<◌, ◌≤◌, ℕ, Bool, true, false}
 use Rattle.std.proofs.Common.{List, [], ◌∷◌, ◌++◌, length, get_or, length-append}
 use Rattle.std.specs.Prelude.{Some, slice_get}
@@ -74,6 +74,7 @@ module _ (story : ℕ → Port) (past : List Call) (how : Beginning) (list : Lis
     goes = λ fits. (fits, goes_refl e (port []));
   }
 
+  -- a call that the engine asks for in the opening keeps what is known of the opening
   pub opening_turns : (calls : List Call) (call : Call) (e f : Engine) → Opening story past how calls e → Turned call
       e f
       → IsPhaseCue call.cue → Opening story past how (call ∷ calls) f
@@ -99,6 +100,7 @@ module _ (story : ℕ → Port) (past : List Call) (how : Beginning) (list : Lis
       HasOpened e
   opened calls e h at = has_opened how.kind how.again how.tries h.first e small h.new h.works at
 
+  -- where the opening succeeded, what holds between two accesses holds, with no answer yet
   pub opening_rests : (calls : List Call) (e : Engine) → Opening story past how calls e → finished_of e ≡ Some Opened
       → Rested story past how list calls e []
   opening_rests calls e h finished =
@@ -117,10 +119,12 @@ module _ (story : ℕ → Port) (past : List Call) (how : Beginning) (list : Lis
         keeps = λ before counts. counts;
       }
 
+  -- an opening never ends in an answer
   pub opening_answered : (calls : List Call) (e : Engine) (answer : Answer) → Opening story past how calls e
       → finished_of e ≡ Some (Answered answer) → ⊥
   opening_answered calls e answer h finished = not_answered e.state e.task answer (opening_part calls e h) finished
 
+  -- where the opening stopped, what holds at the end of a run holds, without answers
   pub opening_stops : (calls : List Call) (e : Engine) (end : End) → Opening story past how calls e
       → finished_of e ≡ Some (Stopped end) → Finished story past how list calls e [] end
   opening_stops calls e end h finished = never_opened h (stopped_state e.state e.task end finished) refl
@@ -151,6 +155,7 @@ module _ (story : ℕ → Port) (past : List Call) (how : Beginning) (list : Lis
         goes = λ fits. (fits, goes_refl f (port calls));
       }
 
+  -- a call that the engine asks for within an access keeps what is known of the access
   pub hand_turns : (calls : List Call) (answers : List Answer) (call : Call) (e f : Engine)
       → InHand story past how list calls e answers → Turned call e f → IsPhaseCue call.cue
       → InHand story past how list (call ∷ calls) f answers
@@ -177,6 +182,7 @@ module _ (story : ℕ → Port) (past : List Call) (how : Beginning) (list : Lis
             ));
       }
 
+  -- an access never ends in the outcome `Opened`
   pub hand_opened : (calls : List Call) (answers : List Answer) (e : Engine) → InHand story past how list calls e
       answers
       → finished_of e ≡ Some Opened → ⊥
@@ -194,6 +200,7 @@ module _ (story : ℕ → Port) (past : List Call) (how : Beginning) (list : Lis
       has : HasOpened r.o
       has = opened r.early r.o r.opening r.at
 
+      -- where the access is answered, what holds between two accesses holds, with its answer added
       pub hand_answered : (answer : Answer) → finished_of f ≡ Some (Answered answer)
           → Rested story past how list calls f (answers ++ answer ∷ [])
       hand_answered answer finished =
@@ -224,6 +231,7 @@ module _ (story : ℕ → Port) (past : List Call) (how : Beginning) (list : Lis
                 h.next answer finished r.late h.recent r.keeps (h.g, h.starts, h.turns);
           }
 
+      -- where the engine stopped within an access, what holds at the end of a run holds, with the answers so far
       pub hand_stops : (end : End) → finished_of f ≡ Some (Stopped end) → Finished story past how list calls f answers
           end
       hand_stops end finished =

@@ -1,4 +1,4 @@
--- Lists of accesses, by what stands at an index.
+-- Lists of accesses, by what stands at an index. For `Stepping`, `Keeping` and `run::unaligned`.
 use Rattle.std.proofs.Common.{arith, ◌≡◌, ◌+◌, ◌≤◌, ℕ, true, refl, sym, subst, ◌∙◌, List, [], ◌∷◌, length, zero}
 use Rattle.std.proofs.Common.{suc, ap, length-drop}
 use Rattle.std.specs.Prelude.{Option, Some, None, drop, slice_get, take}
@@ -9,6 +9,7 @@ use Rattle.swd_host.specs.Plain.{AreAccesses, HasRanges, is_aligned, IsAccess}
 use Rattle.swd_host.specs.Reports.{Follower}
 use Rattle.swd_host.proofs.Folding.{are_next, is_access}
 
+-- what stands at i of the rest of a list from place k on stands at k + i of the list
 pub get_dropped : (k : ℕ) (list : List Access) (i : ℕ) → slice_get (drop k list) i ≡ slice_get list (k + i)
 get_dropped zero list i = ap (λ n. slice_get list n) (omega arith)
 get_dropped (suc k) [] i = refl
@@ -21,6 +22,7 @@ are_dropped zero list h = h
 are_dropped (suc k) [] h = h
 are_dropped (suc k) (a ∷ list) h = are_dropped k list h.1
 
+-- k accesses and the rest of a list from place k on are as many as the list has
 pub rest_dropped : (k : ℕ) (list : List Access) → k ≤ length list → k + length (drop k list) ≡ length list
 rest_dropped k list h = omega (arith, length-drop k list)
 

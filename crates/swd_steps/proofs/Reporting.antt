@@ -1,4 +1,4 @@
--- The report of a run that ended.
+-- The report of a run that ended is that of the theorem. For the law `runs`.
 use Rattle.std.proofs.Common.{arith, refl, sym, ap, subst, ◌∙◌, ◌≡◌, ◌^◌, ◌<◌, ◌≤◌, ℕ, Bool, false}
 use Rattle.std.proofs.Common.{List, [], ◌∷◌, ◌++◌, length, length-drop}
 use Rattle.std.specs.Prelude.{drop}
@@ -107,6 +107,7 @@ closed_by how list calls e answers end small few (performed o early late parts h
           (tells.ends early (opening_counts list how.kind how.again how.tries h.first o early h.new h.turns at)));
     }
 
+-- whatever came back, the report of a run that ended has what every report has, and matches the calls that were made
 pub closes_anyhow : ClosesAnyhow
 closes_anyhow how accesses calls run answers end small ran ended =
     closed_by how (drop how.from accesses) calls run.engine answers end small
@@ -132,6 +133,7 @@ runs_by how list calls e answers end story past small new ok (performed o early 
     (subst (λ b. IsNew how.kind b how.tries h.first) new h.new) opened.1 h.due refl rest e answers end
     (port_at story (calls ++ past)) at done.1 ok
 
+-- where the calls are consistent with the model, the theorem of a run holds of the report of a new run that ended
 pub runs_as_told : RunsAsTold
 runs_as_told kind tries accesses calls run answers end small ran ended story past clear fits rest =
     runs_by (anew kind tries) accesses calls run.engine answers end story past small refl
@@ -178,6 +180,7 @@ resumes_by tries accesses calls e answers end earlier story past small ok report
     past))
     (port_at story (calls ++ past)) done.1)
 
+-- where the calls are consistent with the model, the theorem of `resume` holds of the report of a run that resumed
 pub resumes_as_told : ResumesAsTold
 resumes_as_told tries accesses calls run answers end earlier small ran ended story past fits known =
     let how : Beginning = after (length earlier.answers) tries in

@@ -1,4 +1,4 @@
--- What a run has come to, as what is known of it.
+-- What a run has come to, as what is known of it. For `Reporting`, `Ending` and `Stepping`.
 use Rattle.std.proofs.Common.{arith, refl, sym, ap, subst, ◌≡◌, ◌^◌, ◌<◌, ◌≤◌, ℕ, true, false, inl, inr}
 use Rattle.std.proofs.Common.{List, [], ◌∷◌, ◌++◌, length, length-append}
 use Rattle.std.specs.Prelude.{◌⊎◌, Some}
@@ -65,6 +65,7 @@ module _ (story : ℕ → Port) (past : List Call) (how : Beginning) (list : Lis
   stopped_holds calls answers e end finished (inr h) =
       hand_stops story past how list small clear few calls answers e h end finished
 
+  -- what is known at a stage of a run holds, by the calls and replies that led to it
   pub holds : {calls : List Call} {e : Engine} {stage : Stage} {answers : List Answer}
       → Came how list calls e stage answers → Holds story past how list calls e stage answers
   holds (has_begun e new) = inl (begins_holds story past how list small clear few e new, refl)

@@ -71,8 +71,10 @@ pub record InHand (story : ℕ → Port) (past : List Call) (how : Beginning) (l
 -- at its end: the opening was stopped, or the list was done
 pub data Finished (story : ℕ → Port) (past : List Call) (how : Beginning) (list : List Access) (calls : List Call)
     (e : Engine) (answers : List Answer) (end : End) : Type 0 where
+  -- the opening stopped, and there is no answer
   never_opened : Opening story past how calls e → e.state ≡ Resting (Stopped end) → answers ≡ []
       → Finished story past how list calls e answers end
+  -- the opening succeeded, and the list was performed up to this end
   performed : (o : Engine) (early late : List Call) → calls ≡ late ++ early → Opening story past how early o
       → o.state ≡ Resting Opened → Performs list o e [] answers end (port_at story (calls ++ past)).link.due
       → (FitsStory story (calls ++ past) → FitsStory story (early ++ past)

@@ -34,6 +34,7 @@ use Rattle.swd_steps.proofs.Running.{begins, few_answers}
 new_moves : (e : Engine) → e.state ≡ Leading → is_resting e ≡ false
 new_moves e leads = grind arith
 
+-- a run that was just made is in its state before any call, with a cue and no answer
 pub new_ran : (how : Beginning) (list : List Access) (run : Run) (e : Engine) → IsNew how.kind how.again how.tries e
     → run.engine ≡ e → run.stage ≡ Driving → run.answered ≡ how.from → Ran how list [] run []
 new_ran how list run e new engine stage answered = record {
@@ -122,6 +123,7 @@ driven : (how : Beginning) (accesses : List Access) (calls : List Call) (run : R
 driven how accesses calls run answers at h =
     subst (λ x. Came how (drop how.from accesses) calls run.engine x answers) at h.came
 
+-- where the engine stopped, the run has ended, and no answer is added
 pub stopped_follows : (accesses : List Access) (run : Run) (end : End) → run.stage ≡ Driving
     → finished_of run.engine ≡ Some (Stopped end)
     → Leaves accesses run [] (record { engine = run.engine; stage = Ended end; answered = run.answered })
@@ -138,6 +140,7 @@ stopped_follows accesses run end at finished how calls answers h =
       last = λ is. absurd (cc);
     })
 
+-- where the opening succeeded, the next access starts, unless the list has no further one, and no answer is added
 pub opened_follows : (accesses : List Access) (run after : Run) → run.stage ≡ Driving
     → finished_of run.engine ≡ Some Opened
     → ((a : Access) → slice_get accesses run.answered ≡ Some a
@@ -150,6 +153,7 @@ opened_follows accesses run after at finished starts drives none same how calls 
     (begun_comes accesses run after starts none drives same how calls answers
     (has_opened run.engine (driven how accesses calls run answers at h) finished) h.number)
 
+-- where the access is answered, the next one starts, unless the list has no further one, and that answer is added
 pub answered_follows : (accesses : List Access) (run more after : Run) (answer : Answer) → run.stage ≡ Driving
     → finished_of run.engine ≡ Some (Answered answer) → more.engine ≡ run.engine → more.answered ≡ run.answered + 1
     → ((a : Access) → slice_get accesses more.answered ≡ Some a
@@ -267,6 +271,7 @@ come : {how : Beginning} {accesses : List Access} {calls : List Call} {run : Run
     → Ran how accesses calls run answers → HasCome how accesses calls run answers
 come ran = record { came = ran.came; number = ran.number; last = ran.last }
 
+-- a call for a list that fits the run extends the run's calls by this one, and its answers by those of this call
 pub run_goes_on : (accesses : List Access) (before after : Run) (cue : Cue) (reply seen : ℕ) (came : List Answer)
     → IsFit accesses before → seen ≡ seen_of cue reply → MakesCall cue seen accesses before came after
     → (after.stage ≡ Driving → is_resting after.engine ≡ false) → Extends cue reply accesses before came after
@@ -292,12 +297,14 @@ pub too_few : (how : Beginning) (accesses : List Access) (calls : List Call) (ru
 too_few how accesses calls run answers h from low =
     absurd (omega (arith, h.number, few_answers h.came, rest_dropped how.from accesses from))
 
+-- a list with fewer accesses than the run has answered isn't the one that led to it
 pub too_few_before : (accesses : List Access) (run : Run) → length accesses < run.answered
     → (how : Beginning) (calls : List Call) (answers : List Answer) → Ran how accesses calls run answers
     → how.from ≤ length accesses → ⊥
 too_few_before accesses run low how calls answers ran from =
     too_few how accesses calls run answers (come ran) from low
 
+-- nor is a list with fewer accesses than the run has answered after the next call
 pub too_few_after : (accesses : List Access) (before after : Run) (cue : Cue) (seen : ℕ) (came : List Answer)
     → MakesCall cue seen accesses before came after → length accesses < after.answered
     → (how : Beginning) (calls : List Call) (answers : List Answer) → Ran how accesses calls before answers

@@ -36,6 +36,7 @@ works_by (Give bits) seen e f on cue did = moves_works e f on did.lands
 works_by Pass seen e f on cue did = moves_works e f on did.lands
 works_by (Lead ones undriven switch zeros) seen e f on cue did = moves_works e f on did.lands
 
+-- a call that the engine asked for keeps what the engine keeps by itself
 pub turned_works : (call : Call) (e f : Engine) → Turned call e f → Works e f
 turned_works call e f turned =
     works_by call.cue call.seen e f (turned_moves call e f turned) turned.cue turned.replied
@@ -54,6 +55,7 @@ due_by_call Pass seen e f t cue did due = quiet_due f.state f.stray f.task t.lin
 due_by_call (Lead ones undriven switch zeros) seen e f t cue did due =
     quiet_due f.state f.stray f.task t.link.due did.lands.quiet due
 
+-- what is due after such a call is what the engine expects then
 pub turned_due : (call : Call) (e f : Engine) (t : Port) → Turned call e f
     → t.link.due ≡ due_once call.cue call.seen → DueFits f t
 turned_due call e f t turned due = due_by_call call.cue call.seen e f t turned.cue turned.replied due
