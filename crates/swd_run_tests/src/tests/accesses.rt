@@ -53,7 +53,7 @@ fn run_on(rt: &HostRuntime, script: &[u8], plan: &[u8], trace: usize, accesses: 
 
 // The opening has 544 bits and ten requests; a transaction with a data phase has 46, and one without 13. TAR is
 // written first, so that the first access is at 590.
-const ROWS: [(&str, &[u8], &[u8], &[u8]); 7] = [
+const ROWS: [(&str, &[u8], &[u8], &[u8]); 9] = [
     ("none", b"memory 20000000 1\n", b"", b""),
     ("a write", ONE_WRITE, b"", b"@590 w 20000000 deadbeef\n"),
     (
@@ -68,6 +68,18 @@ const ROWS: [(&str, &[u8], &[u8], &[u8]); 7] = [
         ONE_WRITE,
         b".\n.\n.\n.\n.\n.\n.\n.\n.\n.\nflip 17\n",
         b"@590 w 20000000 deadbeef not\n@787 w 20000000 deadbeef\n",
+    ),
+    (
+        "a read whose word arrives with wrong parity, and again by RESEND",
+        ONE_READ,
+        b".\n.\n.\n.\n.\n.\n.\n.\n.\n.\n.\nflip 5\n",
+        b"@590 r 20000000 00000000\n",
+    ),
+    (
+        "the same, where RESEND's word has wrong parity too: a second RESEND gives it to the host, and it isn't shown",
+        ONE_READ,
+        b".\n.\n.\n.\n.\n.\n.\n.\n.\n.\n.\nflip 5\nflip 6\n",
+        b"@590 r 20000000 ????????\n",
     ),
     (
         "a read whose acknowledgement is lost: it doesn't confirm the write of TAR either",
