@@ -31,7 +31,7 @@ use Rattle.swd_run.specs.Records.{AreLeft, Files, ForFile, IfRecorded, IsLeft, f
 use Rattle.swd_observer.specs.Explained.{Explains}
 use Rattle.swd_observer.specs.Traces.{from_made, told_in}
 use Rattle.swd_run.specs.Running.{AnswersScript, IsTraceIn, RunsScript, full_room, memory_of, with_full}
-use Rattle.swd_run.specs.Sessions.{Done, GoesOn, IsRefused, Runs, ended_of, most_begun, none, requests_of, then}
+use Rattle.swd_run.specs.Sessions.{Done, GoesOn, IsRefused, Runs, most_begun, none, requests_of, then}
 use Rattle.swd_run.specs.Sessions.{unresumed, unsent}
 use Rattle.swd_run.specs.Unfoldings.{AreDone, BatchRuns, IsCutShort, Unfolds, again, calls_of, runs_of}
 use Rattle.swd_run.proofs.RunLemmas.{made_rests}
@@ -190,6 +190,8 @@ module _ {W V : Type 0} (by : W → V) (port : V → Port) (plan : V → List Ma
           whole = is.whole;
           explained = is.explained;
           explained_any = is.explained_any;
+          reported = is.reported;
+          reported_any = is.reported_any;
         })
         (λ over items is. record { read = is.read; part = is.part }) answer old new before after h))
 
@@ -366,10 +368,10 @@ script_answers port plan lawful tries resumes script marks s t is_made planned m
     let left_seen : (seen (h.0, t)).target.memory ≡ memory = memory_seen traced port h.0 t ∙ sym left in (
       memory,
       full_answers script.batches (full_room script.room memory) (λ over. over.made) (λ over. over.made)
-          (λ ran items. IsTraceIn memory (runs_of ran.made) items)
+          (λ ran items. IsTraceIn memory (calls_of script.batches ran.made) (runs_of ran.made) items)
           (λ ran items. IsOfTrace (requests_of (runs_of ran.made)) items) answer old new before after
           (answers_as script.batches None (λ over. over.made) (λ over. over.made) IsTraceOver IsOfTraceOver
-          (λ ran items. IsTraceIn memory (runs_of ran.made) items)
+          (λ ran items. IsTraceIn memory (calls_of script.batches ran.made) (runs_of ran.made) items)
           (λ ran items. IsOfTrace (requests_of (runs_of ran.made)) items)
           (λ over. record {
             made = over.made;
@@ -390,5 +392,6 @@ script_answers port plan lawful tries resumes script marks s t is_made planned m
             explained = ∥∥₁_map (is.explained law rest 731911287 (memory_of script) begins)
                 (λ told. subst (λ (m : PlainMemory). Explains (told_in items from_made) m.log) left_seen
                 (subst (Explains (told_in items from_made)) (sym told.now.is) told.now.explains));
+            reported = λ whole. is.reported law rest whole 731911287 (memory_of script) begins;
           }) (λ over items is. is.part law rest) answer old new before after h.1),
     )

@@ -9,3 +9,4 @@ pub mod Reported
 pub mod VerifiedLemmas
 pub mod WorkedReports
 pub mod RecordedLemmas
+pub mod TransferLemmas

@@ -12,6 +12,7 @@ use Rattle.swd_port.specs.Leading.{is_awaiting}
 use Rattle.swd_port.specs.PlainMemory.{PlainMemory}
 use Rattle.swd_port.specs.Port.{Port, made}
 use Rattle.swd_port.specs.Laws.Calls.{with_asked}
+use Rattle.swd_observer.specs.Explained.{Explains}
 use Rattle.swd_observer.specs.Runs.{Accounted}
 use Rattle.swd_observer.specs.Traces.{from_made, from_unknown, told_in}
 use Rattle.swd_host.specs.declared.outcome.End.{End}
@@ -24,6 +25,7 @@ use Rattle.swd_run.specs.declared.fault.EngineFault.TheVariants.{Memory, Write, 
 use Rattle.swd_run.specs.Records.{AccessesStop, AreLeft, AreWritten, Files, IfRecorded, TraceStops, is_recorded}
 use Rattle.swd_run.specs.Reports.{session_text}
 use Rattle.swd_run.specs.Sessions.{Runs, ended_of, most_begun, requests_of}
+use Rattle.swd_run.specs.Transfers.{AreWhole, transfers_in}
 use Rattle.swd_run.specs.Unfoldings.{AreDone, BatchRuns, IsCutShort, Unfolds, calls_of, ends_until, runs_of}
 use Rattle.swd_run.specs.Verified.{first_difference, met_bus_fault}
 
@@ -96,6 +98,14 @@ module _ {W : Type 0} {port : W → Port} {plan : W → List Mark} {lawful : W �
     -- of any other target at rest that awaits no write data, those do which they show where nothing is known at first
     pub explained_any : lawful end → IsAtRest (port start) → is_awaiting (port start).link.line ≡ false
         → ∥ Accounted (port start).target.memory.log (told_in items from_unknown) (port end) ∥₁
+    -- If also each call ended `All` and none was resumed, the same accesses explain the transfers that the reports
+    -- state: those of the lists, but for bus errors, with their addresses and words.
+    pub reported : lawful end → IsAtRest (port start) → AreWhole (runs_of ran.made) → (identification : ℕ)
+        (m : PlainMemory) → port start ≡ made identification m
+        → ∥ Explains (told_in items from_made) (transfers_in (calls_of batches ran.made) (runs_of ran.made)) ∥₁
+    pub reported_any : lawful end → IsAtRest (port start) → AreWhole (runs_of ran.made)
+        → is_awaiting (port start).link.line ≡ false
+        → ∥ Explains (told_in items from_unknown) (transfers_in (calls_of batches ran.made) (runs_of ran.made)) ∥₁
 
   -- the same for a truncated trace
   pub record IsOfTraceOver (items : List Item) : Type 0 where

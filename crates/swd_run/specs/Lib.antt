@@ -3,6 +3,7 @@ pub mod Recorded
 pub mod Engine
 pub mod GoingOn
 pub mod Sessions
+pub mod Transfers
 pub mod Unfoldings
 pub mod Reports
 pub mod Verified

@@ -30,6 +30,7 @@ use Rattle.swd_run.specs.Engine.{Answers, IsOfTrace, IsTraceOf}
 use Rattle.swd_run.specs.GoingOn.{TellOf, in_all}
 use Rattle.swd_run.specs.Records.{AreLeft, Files, IsLeft}
 use Rattle.swd_run.specs.Sessions.{Done, ended_of, most_begun, requests_of}
+use Rattle.swd_run.specs.Transfers.{AreWhole, transfers_in}
 use Rattle.swd_run.specs.Unfoldings.{BatchRuns, Unfolds, calls_of, ends_until, runs_of}
 
 -- the memory of a script before its run
@@ -120,10 +121,14 @@ pub record RanScriptShort (tries resumes : ℕ) (script : Meaning) (marks : List
   pub all : ended_of (runs_of made) ≡ All
   pub came : ends_until script.batches made ≡ false
 
--- The complete trace of a script's runs. The accesses that it shows explain the log of the target's memory.
-pub record IsTraceIn (memory : PlainMemory) (runs : List Done) (items : List Item) : Type 0 where
-  pub is : IsTraceOf (requests_of runs) (ended_of runs) items
-  pub explained : ∥ Explains (told_in items from_made) memory.log ∥₁
+-- The complete trace of a script's calls and runs. The accesses that it shows explain the log of the target's memory. If
+-- each call ended `All` and none was resumed, they explain the transfers that the reports state: those of the lists, but
+-- for bus errors, with their addresses and words.
+pub record IsTraceIn (memory : PlainMemory) (batches : List Listed) (runs : List Done) (items : List Item) : Type 0
+  where
+    pub is : IsTraceOf (requests_of runs) (ended_of runs) items
+    pub explained : ∥ Explains (told_in items from_made) memory.log ∥₁
+    pub reported : AreWhole runs → ∥ Explains (told_in items from_made) (transfers_in batches runs) ∥₁
 
 -- What the engine's result states about a script over a new target, and some memory that it is left with.
 abbrev pub AnswersScript : ℕ → ℕ → Meaning → List Mark → Result Finished EngineFault → Option (List ℕ)
@@ -132,7 +137,7 @@ AnswersScript tries resumes script marks answer old new before after =
     (memory : PlainMemory)
     × Answers {Came = RanScript tries resumes script marks memory} {Short = RanScriptShort tries resumes script marks}
     script.batches (full_room script.room memory) (λ ran. ran.made) (λ short. short.made)
-    (λ ran items. IsTraceIn memory (runs_of ran.made) items)
+    (λ ran items. IsTraceIn memory (calls_of script.batches ran.made) (runs_of ran.made) items)
     (λ ran items. IsOfTrace (requests_of (runs_of ran.made)) items) answer old new
     before after
 

@@ -1,6 +1,7 @@
 //! Laws of the runs of scripts, and of recorded runs. The functions do nothing: their contracts are the laws.
 ghost use Rattle.swd_run.specs.Laws.{PlainScripts};
 ghost use Rattle.swd_run.specs.Recorded.{AnyRecordedIsAccounted, RecordedIsAccounted};
+ghost use Rattle.swd_run.specs.Transfers.{KnownIsExact, SessionIsReported, SureIsExact};
 
 /// States that a script without `until` unfolds to itself: its calls are its batches, each once, and the report has the
 /// lines of their runs and no others.
@@ -15,4 +16,17 @@ pub fn plain_scripts_are_unchanged()
 pub fn recorded_accesses()
     ensures made { RecordedIsAccounted }
     ensures any { AnyRecordedIsAccounted }
+{}
+
+/// States what the accesses that an observer reports have to do with the answers of runs. Let successive runs and blocks
+/// over a target at rest each have ended `All`. Then accesses that explain what the memory logged in them explain the
+/// transfers of their answers: one for each access of the lists, but for bus errors.
+///
+/// If none is reported as `May`, those that took effect are these transfers, one by one and in order. Each has the
+/// direction of its transfer, and its address and word unless they are unknown. If none of these is unknown, they are
+/// equal.
+pub fn reported_accesses()
+    ensures sessions { SessionIsReported }
+    ensures sure { SureIsExact }
+    ensures known { KnownIsExact }
 {}

@@ -1,6 +1,7 @@
 //! Runs with their accesses: worked ones, and writers that fail.
 use super::expect::expect_eq_at;
 use super::{ONE_READ, ONE_WRITE, TRIES, WORKED, WORKED_REPORT};
+use std::test::Fail;
 use swd_fakes::ShortWriter;
 use swd_run::{EngineFault, Finished, Records, RunFault, run_text};
 
@@ -53,7 +54,7 @@ fn run_on(rt: &HostRuntime, script: &[u8], plan: &[u8], trace: usize, accesses: 
 
 // The opening has 544 bits and ten requests; a transaction with a data phase has 46, and one without 13. TAR is
 // written first, so that the first access is at 590.
-const ROWS: [(&str, &[u8], &[u8], &[u8]); 7] = [
+const ROWS: [(&str, &[u8], &[u8], &[u8]); 10] = [
     ("none", b"memory 20000000 1\n", b"", b""),
     ("a write", ONE_WRITE, b"", b"@590 w 20000000 deadbeef\n"),
     (
@@ -68,6 +69,24 @@ const ROWS: [(&str, &[u8], &[u8], &[u8]); 7] = [
         ONE_WRITE,
         b".\n.\n.\n.\n.\n.\n.\n.\n.\n.\nflip 17\n",
         b"@590 w 20000000 deadbeef not\n@787 w 20000000 deadbeef\n",
+    ),
+    (
+        "a read whose word arrives with wrong parity, and again by RESEND",
+        ONE_READ,
+        b".\n.\n.\n.\n.\n.\n.\n.\n.\n.\n.\nflip 5\n",
+        b"@590 r 20000000 00000000\n",
+    ),
+    (
+        "the same, where RESEND's word has wrong parity too: a second RESEND gives it to the host, and it isn't shown",
+        ONE_READ,
+        b".\n.\n.\n.\n.\n.\n.\n.\n.\n.\n.\nflip 5\nflip 6\n",
+        b"@590 r 20000000 ????????\n",
+    ),
+    (
+        "in a block, RESEND confirms the next read too; its word has wrong parity in turn, and isn't shown",
+        b"memory 20000000 16\nblock 20000000 3\n",
+        b".\n.\n.\n.\n.\n.\n.\n.\n.\n.\n.\nflip 5\n.\nflip 6\n",
+        b"@590 r 20000000 00000000\n@636 r 20000004 ????????\n@728 r 20000008 00000000\n",
     ),
     (
         "a read whose acknowledgement is lost: it doesn't confirm the write of TAR either",
@@ -120,4 +139,49 @@ fn accesses_at_each_write_that_fails(rt: HostRuntime) {
         expect_eq_at(&rt, &room, &seen.answer, &Err(RunFault::Engine(fault)));
         expect_eq_at(&rt, &room, &seen.accesses.taken(), &b"".as_slice());
     }
+}
+
+// Writes and reads over the end of a kilobyte, a bus error, and a block over the same end: 45 requests.
+const VARIED: &[u8] =
+    b"memory 20000000 512\nw 200003fc 1\nw 20000400 2\nw 20000404 3\nr 20000404\nr 20000000\n\
+    r 30000000\nnext\nblock 200003f8 4\n";
+
+const VARIED_SHOWN: &[u8] =
+    b" w 200003fc 00000001\n w 20000400 00000002\n w 20000404 00000003\n r 20000404 00000003\n \
+    r 20000000 00000000\n r 200003f8 00000000\n r 200003fc 00000001\n r 20000400 00000002\n r 20000404 00000003\n";
+
+// The lines without ` not`, without their places.
+fn taken_effect(rt: &HostRuntime, accesses: &[u8]) -> Result<Vec<u8>, Fail> {
+    let mut shown = Vec::new(rt.alloc());
+    for line in accesses.split(|byte| *byte == b'\n') {
+        if line.ends_with(b" not") {
+            continue;
+        }
+        let Some(space) = line.iter().position(|byte| *byte == b' ') else {
+            continue;
+        };
+        shown.extend_from_slice(&line[space..])?;
+        shown.push(b'\n')?;
+    }
+    Ok(shown)
+}
+
+// Whichever request is answered WAIT or has a bit of its data changed: all that took effect is shown, with addresses and
+// words.
+#[test]
+fn accesses_where_one_request_is_disturbed(rt: HostRuntime) -> Result<(), Fail> {
+    for mark in [b"wait".as_slice(), b"flip 0", b"flip 7", b"flip 32"] {
+        for place in 0..52 {
+            let mut plan = Vec::new(rt.alloc());
+            for _ in 0..place {
+                plan.extend_from_slice(b".\n")?;
+            }
+            plan.extend_from_slice(mark)?;
+            let seen = run_on(&rt, VARIED, plan.as_slice(), ROOM, ROOM);
+            expect_eq_at(&rt, &(mark, place), &seen.answer.is_ok(), &true);
+            let shown = taken_effect(&rt, seen.accesses.taken())?;
+            expect_eq_at(&rt, &(mark, place), &shown.as_slice(), &VARIED_SHOWN);
+        }
+    }
+    Ok(())
 }
