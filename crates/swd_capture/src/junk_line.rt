@@ -1,5 +1,6 @@
 //! The lines of junk bits.
-ghost use Rattle.std.specs.Prelude.{◌≡◌, ◌+◌, ◌*◌, ◌/◌, ◌%◌, ◌^◌, ◌<◌, ◌≤◌, ◌==◌, ◌++◌, ◌∷◌, [], length, replicate};
+ghost use Rattle.std.specs.Prelude.{◌≡◌, ◌+◌, ◌-◌, ◌*◌, ◌/◌, ◌%◌, ◌^◌, ◌<◌, ◌≤◌, ◌==◌, ◌++◌, ◌∷◌, []};
+ghost use Rattle.std.specs.Prelude.{length, replicate};
 ghost use Rattle.arrayvec.specs.ArrayString.{array_string_len};
 ghost use Rattle.swd_trace.specs.Texts.{item_line};
 ghost use Rattle.swd_trace.specs.declared.item.Item.TheVariants.{Junk};
@@ -23,14 +24,15 @@ pub(crate) const LONGEST_JUNK: usize = LONGEST_TENS + 9;
 /// `@`, and the digits of a place before its last one. They are kept, since ten places in a row begin with them.
 #[derive(Drop)]
 pub(crate) struct Tens {
-    // The place divided by ten.
-    tens: u64,
+    // The first of these places.
+    start: u64,
     // The number of their bytes.
     len: usize,
     // These bytes, and then spaces: a copy of constant length is fastest.
     text: ArrayString<ROOM>,
-    ghost holds: { text.bytes ≡ tens_text tens ++ replicate 20 32 },
-    ghost counts: { len ≡ length (tens_text tens) },
+    ghost holds: { text.bytes ≡ tens_text (start / 10) ++ replicate 20 32 },
+    ghost counts: { len ≡ length (tens_text (start / 10)) },
+    ghost even: { start % 10 ≡ 0 },
     ghost short: { len ≤ 20 },
 }
 
@@ -55,31 +57,29 @@ impl Tens {
         push_tens(&mut text, 0);
         text.push_str(SPACES);
         Tens {
-            tens: 0,
+            start: 0,
             len: 1,
             text,
         }
     }
 
-    // Changes them to those of a place's ten.
+    // Changes them to those of a place.
     #[inline(always)]
-    fn set(&mut self, tens: u64)
-        requires { tens * 10 < 2 ^ 64 }
-        ensures { self.new.tens ≡ tens }
+    fn set(&mut self, place: u64)
+        ensures { self.new.start ≡ place - place % 10 }
     {
-        if tens != self.tens {
-            self.change(tens);
+        if place < self.start || place - self.start > 9 {
+            self.change(place);
         }
     }
 
     #[inline(never)]
-    fn change(&mut self, tens: u64)
-        requires { tens * 10 < 2 ^ 64 }
-        ensures { self.new.tens ≡ tens }
+    fn change(&mut self, place: u64)
+        ensures { self.new.start ≡ place - place % 10 }
     {
-        self.tens = tens;
+        self.start = place - place % 10;
         self.text.clear();
-        push_tens(&mut self.text, tens);
+        push_tens(&mut self.text, place / 10);
         self.len = self.text.len();
         self.text.push_str(SPACES);
     }
@@ -88,7 +88,7 @@ impl Tens {
     #[inline(always)]
     fn push<const N: usize>(&self, text: &mut ArrayString<N>)
         requires { array_string_len text.old + LONGEST_TENS ≤ N }
-        ensures bytes { text.new.bytes ≡ text.old.bytes ++ tens_text self.now.tens }
+        ensures bytes { text.new.bytes ≡ text.old.bytes ++ tens_text (self.now.start / 10) }
         ensures len { array_string_len text.new ≤ array_string_len text.old + LONGEST_TENS }
     {
         let end = text.len() + self.len;
@@ -103,9 +103,9 @@ impl Tens {
         ensures bytes { text.new.bytes ≡ text.old.bytes ++ (place_text place ++ (item_line (Junk bit) ++ 10 ∷ [])) }
         ensures len { array_string_len text.new ≤ array_string_len text.old + LONGEST_JUNK }
     {
-        self.set(place / 10);
+        self.set(place);
         self.push(text);
-        text.push_str(placed_end(2 * (place % 10) + u64::from(bit)));
+        text.push_str(placed_end(2 * (place - self.start) + u64::from(bit)));
     }
 
     /// Appends the line of a junk bit and its line feed, with its place if lines begin with it.

@@ -91,7 +91,15 @@ fn is_lost(observer: &TraceObserver) -> bool
     ensures gap { result ≡ true → observer.now.in_gap ≡ true }
     ensures unknown { result ≡ true → observer.now.observer ≡ unknown }
 {
-    let Observer { select, increments, tar, sent, begun, refused, older } = observer.observer;
+    let Observer {
+        select,
+        increments,
+        tar,
+        sent,
+        begun,
+        refused,
+        older,
+    } = observer.observer;
     observer.in_gap
         && select.is_none()
         && increments.is_none()

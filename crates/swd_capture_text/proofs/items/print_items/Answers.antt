@@ -1,4 +1,5 @@
-use Rattle.std.proofs.Common.{◌≡◌, ℕ, ◌+◌, ◌<◌, List, [], ◌∷◌, ◌++◌, false, length, map, take, get_or, refl, sym, ap, subst, ◌∙◌}
+use Rattle.std.proofs.Common.{◌≡◌, ℕ, ◌+◌, ◌<◌, List, [], ◌∷◌, ◌++◌, false, length, map, take, get_or}
+use Rattle.std.proofs.Common.{refl, sym, ap, subst, ◌∙◌}
 use Rattle.std.proofs.KnownBytes.{Appends-nil}
 use Rattle.std.specs.Io.KnownBytes.{Appends}
 use Rattle.std.proofs.lemmas.List.{map-append, take_all, take_more}
@@ -57,8 +58,8 @@ returns-in-Ok g c =
     let all = c.put_rows.ensures.sends start printed false parts c.loop-item.invariant.after
     c.loop-item.invariant.sends in
     subst (λ w. Appends start (contents w) (printout_of_items printed items)) (sym same)
-        (subst (λ p. Appends start (contents c.flush.new.self.writer.now) (printout printed false p)) whole
-        (c.in-Ok.ensures.ok start (printout printed false parts) all).0)
+    (subst (λ p. Appends start (contents c.flush.new.self.writer.now) (printout printed false p)) whole
+    (c.in-Ok.ensures.ok start (printout printed false parts) all).0)
 
 pub returns-in-Err : goal.returns-in-Err
 returns-in-Err g c =
@@ -74,5 +75,5 @@ returns-in-Err g c =
     let all = c.put_rows.ensures.sends start printed false parts c.loop-item.invariant.after
     c.loop-item.invariant.sends in
     subst (λ w. Stopped c.in-Err.written start (contents w) (printout_of_items printed items)) (sym same)
-        (subst (λ p. Stopped c.in-Err.written start (contents c.flush.new.self.writer.now) (printout printed false p))
-        whole (c.in-Err.ensures.err start (printout printed false parts) all))
+    (subst (λ p. Stopped c.in-Err.written start (contents c.flush.new.self.writer.now) (printout printed false p))
+    whole (c.in-Err.ensures.err start (printout printed false parts) all))

@@ -1,4 +1,5 @@
-use Rattle.std.proofs.Common.{◌≡◌, ◌+◌, ◌-◌, ◌^◌, ◌<◌, ◌≤◌, ◌++◌, ℕ, min, true, false, replicate, refl, sym, ap, ◌∙◌, arith}
+use Rattle.std.proofs.Common.{◌≡◌, ◌+◌, ◌-◌, ◌^◌, ◌<◌, ◌++◌, ℕ, min, true, false, replicate}
+use Rattle.std.proofs.Common.{sym, ap, ◌∙◌, arith}
 use Rattle.std.proofs.lemmas.List.{append-nil}
 use Rattle.swd_trace.specs.declared.item.Item.TheVariants.{Junk}
 use Rattle.swd_observer.specs.declared.trace.TraceObserver.{TraceObserver}
@@ -22,7 +23,7 @@ pub returns-then-is_lost-clause-observer : goal.returns-then-is_lost-clause-obse
 returns-then-is_lost-clause-observer g c =
     let old = c.args.observer.now in
     let e : old ≡ among old.place = is_among old (c.is_lost.ensures.gap c.if-is_lost.true)
-        (c.is_lost.ensures.unknown c.if-is_lost.true) in
+    (c.is_lost.ensures.unknown c.if-is_lost.true) in
     ap (at old) c.saturating_add-observer.ensures
     ∙ ap (λ t. at t (min (old.place + c.args.count) (2 ^ 64 - 1))) e
     ∙ sym (after_junk c.args.count old.place (omega arith))
@@ -32,7 +33,7 @@ pub returns-then-is_lost-clause-bytes : goal.returns-then-is_lost-clause-bytes
 returns-then-is_lost-clause-bytes g c =
     let old = c.args.observer.now in
     let e : old ≡ among old.place = is_among old (c.is_lost.ensures.gap c.if-is_lost.true)
-        (c.is_lost.ensures.unknown c.if-is_lost.true) in
+    (c.is_lost.ensures.unknown c.if-is_lost.true) in
     sym (append-nil c.args.text.now.bytes)
     ∙ ap (λ x. c.args.text.now.bytes ++ x) (sym (junk_shows_nothing c.args.count old.place)
     ∙ ap (accesses (replicate c.args.count (Junk false))) (sym e))

@@ -1,5 +1,5 @@
-use Rattle.std.proofs.Common.{◌≡◌, ℕ, zero, suc, ◌+◌, ◌*◌, ◌/◌, ◌%◌, ◌^◌, ◌<◌, Bool, true, false, List, [], ◌∷◌, ◌++◌}
-use Rattle.std.proofs.Common.{refl, sym, ap, ◌∙◌, append_assoc, arith}
+use Rattle.std.proofs.Common.{◌≡◌, ℕ, zero, suc, ◌+◌, ◌-◌, ◌*◌, ◌/◌, ◌%◌, ◌^◌, ◌<◌, Bool, true, false, List}
+use Rattle.std.proofs.Common.{[], ◌∷◌, ◌++◌, refl, sym, ap, ◌∙◌, append_assoc, arith}
 use Rattle.std.specs.Prelude.{◌==◌, if◌then◌else◌}
 use Rattle.std.specs.Fmt.{decimal}
 use Rattle.std.proofs.Math.Dec.{eqb-suc-zero}
@@ -42,16 +42,20 @@ returns-clause-bytes g c =
     let old = c.args.text.now.bytes in
     let place = c.args.place in
     let bit = c.args.bit in
+    let start = c.set.new.self.start in
     let d = place % 10 in
+    let n = c.from.result in
     let end = c.placed_end.result.now in
     let line = item_line (Junk bit) ++ 10 ∷ [] in
-    let tens = tens_text c.set.new.self.tens in
+    let first : start / 10 ≡ place / 10 = omega (arith, c.set.ensures) in
+    let last : place - start ≡ d = omega (arith, c.set.ensures) in
     let ends : end ≡ (48 + d) ∷ 32 ∷ line =
     c.placed_end.ensures.bytes
+    ∙ ap (λ k. (48 + (2 * k + n) / 2) ∷ 32 ∷ (item_line (Junk ((2 * k + n) % 2 == 1)) ++ 10 ∷ [])) last
     ∙ ap (λ n. (48 + (2 * d + n) / 2) ∷ 32 ∷ (item_line (Junk ((2 * d + n) % 2 == 1)) ++ 10 ∷ [])) c.from.ensures
     ∙ ap (λ n. (48 + n) ∷ 32 ∷ (item_line (Junk ((2 * d + bool_byte bit) % 2 == 1)) ++ 10 ∷ [])) (half d bit)
     ∙ ap (λ b. (48 + d) ∷ 32 ∷ (item_line (Junk b) ++ 10 ∷ [])) (odd d bit) in
-    c.push_str.ensures.bytes ∙ ap (λ x. x ++ end) c.push.ensures.bytes ∙ append_assoc old tens end
-    ∙ ap (λ t. old ++ (tens_text t ++ end)) c.set.ensures
+    c.push_str.ensures.bytes ∙ ap (λ x. x ++ end) c.push.ensures.bytes ∙ append_assoc old (tens_text (start / 10)) end
+    ∙ ap (λ t. old ++ (tens_text t ++ end)) first
     ∙ ap (λ x. old ++ (tens_text (place / 10) ++ x)) ends
     ∙ ap (λ x. old ++ x) (sym (place_split place line c.ranges.place.fits))

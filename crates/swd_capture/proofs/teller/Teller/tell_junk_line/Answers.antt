@@ -1,4 +1,5 @@
-use Rattle.std.proofs.Common.{◌≡◌, ◌+◌, ◌-◌, ◌^◌, min, Bool, true, false, [], ◌∷◌, ◌++◌, refl, sym, ap, ◌∙◌, append_assoc}
+use Rattle.std.proofs.Common.{◌≡◌, ◌+◌, ◌-◌, ◌^◌, min, Bool, true, false, [], ◌∷◌, ◌++◌}
+use Rattle.std.proofs.Common.{refl, sym, ap, ◌∙◌, append_assoc}
 use Rattle.std.specs.Prelude.{Option}
 use Rattle.swd_port.specs.declared.select.Select.{Select}
 use Rattle.swd_trace.specs.Texts.{item_line}
@@ -25,7 +26,8 @@ returns-clause-after g c = λ over parts h.
     }
 
 -- a junk bit's line has no name
-no_name : (names : Bool) (select : Option Select) (b : Bool) → part_text names select (Told (Junk b)) ≡ item_line (Junk b)
+no_name : (names : Bool) (select : Option Select) (b : Bool)
+    → part_text names select (Told (Junk b)) ≡ item_line (Junk b)
 no_name true select b = refl
 no_name false select b = refl
 
