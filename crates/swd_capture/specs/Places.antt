@@ -1,5 +1,5 @@
 -- The place of an item in its trace.
-use Rattle.std.specs.Prelude.{ℕ, ◌-◌, ◌^◌, min, List, ◌++◌, length, codes}
+use Rattle.std.specs.Prelude.{ℕ, ◌-◌, ◌^◌, ◌==◌, min, List, [], ◌∷◌, ◌++◌, length, codes, if◌then◌else◌}
 use Rattle.std.specs.Fmt.{decimal}
 use Rattle.swd_trace.specs.declared.item.Item.{Item}
 use Rattle.swd_trace.specs.Texts.{bits_of_items}
@@ -11,3 +11,7 @@ place_behind items = min (length (bits_of_items items)) (2 ^ 64 - 1)
 -- the beginning of a line with a place
 abbrev pub place_text : ℕ → List ℕ
 place_text place = codes "@" ++ decimal place ++ codes " "
+
+-- what the places of a ten begin with: all but a space and the last digit
+abbrev pub tens_text : ℕ → List ℕ
+tens_text tens = 64 ∷ (if tens == 0 then [] else decimal tens)

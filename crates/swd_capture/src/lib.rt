@@ -4,6 +4,7 @@
 
 mod bit_count;
 mod flags;
+mod junk_line;
 mod laws;
 mod names;
 mod printed;

@@ -3,13 +3,14 @@ ghost use Rattle.std.specs.Prelude.{◌≡◌, ℕ, ◌+◌, ◌-◌, ◌^◌, �
 ghost use Rattle.arrayvec.specs.ArrayString.{array_string_len};
 ghost use Rattle.swd_resync.specs.declared.part.Part.{Part};
 ghost use Rattle.swd_resync.specs.AsItems.{items_of_part};
-ghost use Rattle.swd_trace.specs.Texts.{bits_of_items, item_line};
+ghost use Rattle.swd_trace.specs.Texts.{bits_of_items};
 ghost use Rattle.swd_trace.specs.declared.item.Item.TheVariants.{Junk};
 ghost use Rattle.swd_capture.specs.declared.printed.Printed.{Printed};
 ghost use Rattle.swd_capture.specs.Names.{select_from};
 ghost use Rattle.swd_capture.specs.Printing.{first_observer, line_if, part_text, place_if};
 
 use crate::bit_count::bit_count;
+use crate::junk_line::{LONGEST_JUNK, Tens};
 use crate::names::{LONGEST_NAMED, push_named, selected_after};
 use crate::printed::{LineForm, Printed};
 use crate::table::{ROWS, Table};
@@ -24,14 +25,11 @@ use swd_trace::{Item, LONGEST_LINE};
 // The most bytes of a place.
 const LONGEST_PLACE: usize = 22;
 
-/// The most bytes printed for one part, or for one row at the end.
-pub const LONGEST_ENTRY: usize = LONGEST_PLACE + LONGEST_LINE + 1;
-
 /// The most junk bits that one call takes.
-pub const MOST_JUNK: u8 = 8;
+pub const MOST_JUNK: u8 = 32;
 
-// The most bytes of a junk bit's line, with its place and its line feed.
-const LONGEST_JUNK: usize = LONGEST_PLACE + 7;
+/// The most bytes that one call appends: the lines of so many junk bits.
+pub const LONGEST_ENTRY: usize = MOST_JUNK as usize * LONGEST_JUNK;
 
 /// A printer of the parts of a capture. It takes one part after another, and appends the output of each to a text. It
 /// allocates nothing.
@@ -42,6 +40,8 @@ pub struct Teller {
     over: bool,
     // The number of bits of the parts so far, at most 2^64 - 1.
     place: u64,
+    // How the places of junk bits begin.
+    tens: Tens,
     // What is known of SELECT.
     select: Option<Select>,
     table: Table,
@@ -98,15 +98,6 @@ fn push_part_line<const N: usize>(
     }
 }
 
-// Returns the line of a junk bit, with its line feed.
-#[inline(always)]
-fn junk_line(bit: bool) -> &'static str
-    ensures bytes { result.now ≡ item_line (Junk bit) ++ 10 ∷ [] }
-    ensures len { length result.now ≡ 7 }
-{
-    if bit { "junk 1\n" } else { "junk 0\n" }
-}
-
 // Returns what is known of SELECT after a part.
 fn selected_behind(select: Option<Select>, over: bool, part: &Part) -> Option<Select>
     ensures { result ≡ select_from select (items_of_part over part.now) }
@@ -155,6 +146,7 @@ impl Teller {
             printed,
             over,
             place: 0,
+            tens: Tens::new(),
             select: None,
             table: Table::new(),
             observer: observer_of_printed(printed),
@@ -241,8 +233,7 @@ impl Teller {
         ensures len { array_string_len text.new ≤ array_string_len text.old + LONGEST_JUNK }
     {
         let place = self.place;
-        push_place(text, form.places, place);
-        text.push_str(junk_line(bit));
+        self.tens.push_junk(form.places, place, bit, text);
         self.place = place.saturating_add(1);
         self.select = None;
     }

@@ -1,17 +1,17 @@
 //! Prints what the parts of a capture show of the target's memory.
-ghost use Rattle.std.specs.Prelude.{◌≡◌, ◌+◌, ◌*◌, ◌≤◌, ◌++◌, false, replicate};
+ghost use Rattle.std.specs.Prelude.{◌≡◌, ◌+◌, ◌*◌, ◌≤◌, ◌++◌, true, false, replicate};
 ghost use Rattle.arrayvec.specs.ArrayString.{array_string_len};
 ghost use Rattle.swd_trace.specs.declared.item.Item.TheVariants.{Junk};
 ghost use Rattle.swd_trace.specs.Held.{idle_items};
 ghost use Rattle.swd_resync.specs.AsItems.{items_of_part};
 ghost use Rattle.swd_resync.specs.declared.part.Part.TheVariants.{Item as OfStretch};
-ghost use Rattle.swd_observer.specs.Observing.{last_tells};
+ghost use Rattle.swd_observer.specs.Observing.{last_tells, unknown};
 ghost use Rattle.swd_observer.specs.Traces.{after_items};
 ghost use Rattle.swd_observer_text.specs.Accesses.{accesses, gap_text, shown_text, tells_text, told_text};
 
 use crate::line::{LONGEST, line_of, line_of_gap};
 use arrayvec::ArrayString;
-use swd_observer::{Shown, Tells, Told, TraceObserver};
+use swd_observer::{Observer, Shown, Tells, Told, TraceObserver};
 use swd_resync::{Part, phase_len};
 use swd_trace::Item;
 
@@ -86,6 +86,30 @@ fn watch_item<const N: usize>(
     watch_phase(observer, phase_len(item, over));
 }
 
+// Returns whether the observer is in a gap and knows nothing of the target: a junk bit then only moves its place.
+fn is_lost(observer: &TraceObserver) -> bool
+    ensures gap { result ≡ true → observer.now.in_gap ≡ true }
+    ensures unknown { result ≡ true → observer.now.observer ≡ unknown }
+{
+    let Observer {
+        select,
+        increments,
+        tar,
+        sent,
+        begun,
+        refused,
+        older,
+    } = observer.observer;
+    observer.in_gap
+        && select.is_none()
+        && increments.is_none()
+        && tar.is_none()
+        && sent.is_none()
+        && begun.is_none()
+        && !refused
+        && older.is_none()
+}
+
 // Takes a skip, and appends the lines of what it shows. After its first bit nothing is known of the target.
 fn watch_skip<const N: usize>(observer: &mut TraceObserver, count: u64, text: &mut ArrayString<N>)
     requires { array_string_len text.old + LONGEST_SHOWN ≤ N }
@@ -94,6 +118,10 @@ fn watch_skip<const N: usize>(observer: &mut TraceObserver, count: u64, text: &m
     ensures len { array_string_len text.new ≤ array_string_len text.old + LONGEST_SHOWN }
 {
     if count == 0 {
+        return;
+    }
+    if is_lost(observer) {
+        observer.place = observer.place.saturating_add(count);
         return;
     }
     push_shown(text, observer.watch(&Item::Junk(false)));

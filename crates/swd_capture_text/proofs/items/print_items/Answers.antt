@@ -1,12 +1,15 @@
-use Rattle.std.proofs.Common.{◌≡◌, ℕ, ◌+◌, ◌<◌, List, [], ◌∷◌, ◌++◌, false, length, map, take, get_or, refl, sym, ap, subst, ◌∙◌}
+use Rattle.std.proofs.Common.{◌≡◌, ℕ, ◌+◌, ◌<◌, List, [], ◌∷◌, ◌++◌, false, length, map, take, get_or}
+use Rattle.std.proofs.Common.{refl, sym, ap, subst, ◌∙◌}
 use Rattle.std.proofs.KnownBytes.{Appends-nil}
-use Rattle.std.proofs.lemmas.List.{map-append, take_more}
-use Rattle.swd_io.specs.Blocks.{Sends}
+use Rattle.std.specs.Io.KnownBytes.{Appends}
+use Rattle.std.proofs.lemmas.List.{map-append, take_all, take_more}
+use Rattle.swd_io.specs.Blocks.{Sends, Stopped}
 use Rattle.swd_trace.specs.declared.item.Item.{Item}
 use Rattle.swd_resync.specs.declared.part.Part.TheVariants.{Item as Told}
-use Rattle.swd_capture.specs.Printing.{told}
+use Rattle.swd_capture.specs.Printing.{printout, told}
 use Rattle.swd_capture.specs.Tellers.{IsAfter}
 use Rattle.swd_capture.proofs.TellerLemmas.{told_more, told_none}
+use Rattle.swd_capture_text.specs.Captures.{printout_of_items}
 use Rattle.swd_capture_text.proofs.items.print_items.Goals as goal
 
 -- the parts for some items and one more
@@ -40,3 +43,37 @@ loop-item-preserved g c =
           (told c.args.printed false before) c.loop-item.invariant.sends);
       writer = c.put_part.ensures.writer ∙ c.loop-item.invariant.writer;
     }
+
+pub returns-in-Ok : goal.returns-in-Ok
+returns-in-Ok g c =
+    let contents = g.W.Write.contents in
+    let start = contents c.args.writer.now in
+    let items = c.args.items.now in
+    let printed = c.args.printed in
+    let parts = map Told (take c.loop-item.item-index items) in
+    let whole : parts ≡ map Told items =
+    ap (map Told) (take_all c.loop-item.item-index items c.loop-item-test.false) in
+    let same = c.writer-1.given.1 (sym (c.flush.ensures.writer ∙ c.put_rows.ensures.writer
+    ∙ c.loop-item.invariant.writer ∙ c.new-block.ensures.writer)) in
+    let all = c.put_rows.ensures.sends start printed false parts c.loop-item.invariant.after
+    c.loop-item.invariant.sends in
+    subst (λ w. Appends start (contents w) (printout_of_items printed items)) (sym same)
+    (subst (λ p. Appends start (contents c.flush.new.self.writer.now) (printout printed false p)) whole
+    (c.in-Ok.ensures.ok start (printout printed false parts) all).0)
+
+pub returns-in-Err : goal.returns-in-Err
+returns-in-Err g c =
+    let contents = g.W.Write.contents in
+    let start = contents c.args.writer.now in
+    let items = c.args.items.now in
+    let printed = c.args.printed in
+    let parts = map Told (take c.loop-item.item-index items) in
+    let whole : parts ≡ map Told items =
+    ap (map Told) (take_all c.loop-item.item-index items c.loop-item-test.false) in
+    let same = c.writer-1.given.1 (sym (c.flush.ensures.writer ∙ c.put_rows.ensures.writer
+    ∙ c.loop-item.invariant.writer ∙ c.new-block.ensures.writer)) in
+    let all = c.put_rows.ensures.sends start printed false parts c.loop-item.invariant.after
+    c.loop-item.invariant.sends in
+    subst (λ w. Stopped c.in-Err.written start (contents w) (printout_of_items printed items)) (sym same)
+    (subst (λ p. Stopped c.in-Err.written start (contents c.flush.new.self.writer.now) (printout printed false p))
+    whole (c.in-Err.ensures.err start (printout printed false parts) all))

@@ -1,4 +1,5 @@
-use Rattle.std.proofs.Common.{◌≡◌, ◌+◌, ◌-◌, ◌^◌, min, Bool, true, false, [], ◌∷◌, ◌++◌, refl, sym, ap, ◌∙◌, append_assoc}
+use Rattle.std.proofs.Common.{◌≡◌, ◌+◌, ◌-◌, ◌^◌, min, Bool, true, false, [], ◌∷◌, ◌++◌}
+use Rattle.std.proofs.Common.{refl, sym, ap, ◌∙◌, append_assoc}
 use Rattle.std.specs.Prelude.{Option}
 use Rattle.swd_port.specs.declared.select.Select.{Select}
 use Rattle.swd_trace.specs.Texts.{item_line}
@@ -25,7 +26,8 @@ returns-clause-after g c = λ over parts h.
     }
 
 -- a junk bit's line has no name
-no_name : (names : Bool) (select : Option Select) (b : Bool) → part_text names select (Told (Junk b)) ≡ item_line (Junk b)
+no_name : (names : Bool) (select : Option Select) (b : Bool)
+    → part_text names select (Told (Junk b)) ≡ item_line (Junk b)
 no_name true select b = refl
 no_name false select b = refl
 
@@ -33,13 +35,11 @@ pub returns-clause-bytes : goal.returns-clause-bytes
 returns-clause-bytes g c = λ over parts h.
     let old = c.args.text.now.bytes in
     let form = c.args.form in
+    let part = Told (Junk c.args.bit) in
     let before = items_of over parts in
-    let line = c.junk_line.result.now in
+    let line = item_line (Junk c.args.bit) ++ 10 ∷ [] in
     let place = place_if form.places (place_behind before) in
-    let named : line ≡ part_text form.names (select_behind before) (Told (Junk c.args.bit)) ++ 10 ∷ [] =
-    c.junk_line.ensures.bytes ∙ sym (ap (λ x. x ++ 10 ∷ []) (no_name form.names (select_behind before) c.args.bit)) in
-    c.push_str.ensures.bytes ∙ ap (λ x. x ++ line) c.push_place.ensures.bytes
-    ∙ append_assoc old (place_if form.places c.args.self.now.place) line
-    ∙ ap (λ p. old ++ (place_if form.places p ++ line)) h.keeps.0 ∙ ap (λ x. old ++ (place ++ x)) named
-    ∙ ap (λ x. old ++ x) (sym (append_assoc place (part_text form.names (select_behind before) (Told (Junk c.args.bit)))
-    (10 ∷ [])))
+    c.push_junk.ensures.bytes
+    ∙ ap (λ p. old ++ (place_if form.places p ++ line)) h.keeps.0
+    ∙ ap (λ x. old ++ (place ++ (x ++ 10 ∷ []))) (sym (no_name form.names (select_behind before) c.args.bit))
+    ∙ ap (λ x. old ++ x) (sym (append_assoc place (part_text form.names (select_behind before) part) (10 ∷ [])))

@@ -12,9 +12,10 @@ abbrev pub invariant-loop-left : goal.invariant-loop-left
 invariant-loop-left g l = record {
   tells : (over : Bool) (parts : List Part) → IsAfter (Lines l.form) over parts l.fn.self
       → (done : List Part) × (more : List ℕ) × IsAfter (Lines l.form) over done l.self
-      × (l.text.bytes ≡ l.fn.text.bytes ++ more) × (told (Lines l.form) over done ≡ told (Lines l.form) over parts ++ more)
+      × (l.text.bytes ≡ l.fn.text.bytes ++ more)
+      × (told (Lines l.form) over done ≡ told (Lines l.form) over parts ++ more)
       × (done ++ junk_parts (low_bits l.left l.bits) ≡ parts ++ junk_parts (bits_of l.fn.junk));
-  room : array_string_len l.text + 29 * l.left ≤ array_string_len l.fn.text + 232;
+  room : array_string_len l.text + 29 * l.left ≤ array_string_len l.fn.text + 928;
 }
 
 abbrev pub decreases-loop-left : goal.decreases-loop-left

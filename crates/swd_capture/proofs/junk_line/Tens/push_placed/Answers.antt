@@ -1,0 +1,61 @@
+use Rattle.std.proofs.Common.{◌≡◌, ℕ, zero, suc, ◌+◌, ◌-◌, ◌*◌, ◌/◌, ◌%◌, ◌^◌, ◌<◌, Bool, true, false, List}
+use Rattle.std.proofs.Common.{[], ◌∷◌, ◌++◌, refl, sym, ap, ◌∙◌, append_assoc, arith}
+use Rattle.std.specs.Prelude.{◌==◌, if◌then◌else◌}
+use Rattle.std.specs.Fmt.{decimal}
+use Rattle.std.proofs.Math.Dec.{eqb-suc-zero}
+use Rattle.std.proofs.lemmas.Fmt.{decimal_digit, decimal_step}
+use Rattle.swd_trace.specs.Texts.{item_line}
+use Rattle.swd_trace.specs.declared.item.Item.TheVariants.{Junk}
+use Rattle.swd_capture.specs.Places.{place_text, tens_text}
+use Rattle.swd_capture.proofs.junk_line.Tens.push_placed.Goals as goal
+use mir.Val.{bool_byte}
+
+-- the digits of a number are those of its tens, if there are any, and its last one
+last_digit : (n tens : ℕ) → n < 2 ^ 64 → n / 10 ≡ tens
+    → decimal n ≡ (if tens == 0 then [] else decimal tens) ++ (48 + n % 10) ∷ []
+last_digit n zero h e =
+    let same : n ≡ n % 10 = omega (arith, e) in
+    decimal_digit n (omega (arith, e)) ∙ ap (λ d. (48 + d) ∷ []) same
+last_digit n (suc tens) h e =
+    let last = (48 + n % 10) ∷ [] in
+    decimal_step n (omega (arith, e)) h ∙ ap (λ t. decimal t ++ last) e
+    ∙ ap (λ t. (if t then [] else decimal (suc tens)) ++ last) (sym (eqb-suc-zero tens))
+
+-- so a place is what its ten begins with, its last digit and a space
+place_split : (n : ℕ) (rest : List ℕ) → n < 2 ^ 64
+    → place_text n ++ rest ≡ tens_text (n / 10) ++ ((48 + n % 10) ∷ 32 ∷ rest)
+place_split n rest h =
+    append_assoc (64 ∷ decimal n) (32 ∷ []) rest
+    ∙ ap (λ x. 64 ∷ (x ++ 32 ∷ rest)) (last_digit n (n / 10) h refl)
+    ∙ ap (λ x. 64 ∷ x) (append_assoc (if n / 10 == 0 then [] else decimal (n / 10)) ((48 + n % 10) ∷ []) (32 ∷ rest))
+
+half : (d : ℕ) (bit : Bool) → (2 * d + bool_byte bit) / 2 ≡ d
+half d true = omega arith
+half d false = omega arith
+
+odd : (d : ℕ) (bit : Bool) → ((2 * d + bool_byte bit) % 2 == 1) ≡ bit
+odd d true = let e : (2 * d + 1) % 2 ≡ 1 = omega arith in ap (λ n. n == 1) e
+odd d false = let e : (2 * d + 0) % 2 ≡ 0 = omega arith in ap (λ n. n == 1) e
+
+pub returns-clause-bytes : goal.returns-clause-bytes
+returns-clause-bytes g c =
+    let old = c.args.text.now.bytes in
+    let place = c.args.place in
+    let bit = c.args.bit in
+    let start = c.set.new.self.start in
+    let d = place % 10 in
+    let n = c.from.result in
+    let end = c.placed_end.result.now in
+    let line = item_line (Junk bit) ++ 10 ∷ [] in
+    let first : start / 10 ≡ place / 10 = omega (arith, c.set.ensures) in
+    let last : place - start ≡ d = omega (arith, c.set.ensures) in
+    let ends : end ≡ (48 + d) ∷ 32 ∷ line =
+    c.placed_end.ensures.bytes
+    ∙ ap (λ k. (48 + (2 * k + n) / 2) ∷ 32 ∷ (item_line (Junk ((2 * k + n) % 2 == 1)) ++ 10 ∷ [])) last
+    ∙ ap (λ n. (48 + (2 * d + n) / 2) ∷ 32 ∷ (item_line (Junk ((2 * d + n) % 2 == 1)) ++ 10 ∷ [])) c.from.ensures
+    ∙ ap (λ n. (48 + n) ∷ 32 ∷ (item_line (Junk ((2 * d + bool_byte bit) % 2 == 1)) ++ 10 ∷ [])) (half d bit)
+    ∙ ap (λ b. (48 + d) ∷ 32 ∷ (item_line (Junk b) ++ 10 ∷ [])) (odd d bit) in
+    c.push_str.ensures.bytes ∙ ap (λ x. x ++ end) c.push.ensures.bytes ∙ append_assoc old (tens_text (start / 10)) end
+    ∙ ap (λ t. old ++ (tens_text t ++ end)) first
+    ∙ ap (λ x. old ++ (tens_text (place / 10) ++ x)) ends
+    ∙ ap (λ x. old ++ x) (sym (place_split place line c.ranges.place.fits))
