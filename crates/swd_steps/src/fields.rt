@@ -80,7 +80,7 @@ impl RunFields {
             stage: stage_with(self.stage, self.end),
             answered: self.answered,
         };
-        if run.fields() == *self {
+        if run.fields_with(self.engine) == *self {
             Some(run)
         } else {
             None
@@ -93,9 +93,16 @@ impl Run {
     pub fn fields(&self) -> RunFields
         ensures { result ≡ fields_of self.now }
     {
+        self.fields_with(self.engine.fields())
+    }
+
+    // Returns the fields of the run, with these for its engine.
+    fn fields_with(&self, engine: EngineFields) -> RunFields
+        ensures { result ≡ record (fields_of self.now) { engine = engine } }
+    {
         RunFields {
             requests: self.requests(),
-            engine: self.engine.fields(),
+            engine,
             end: fields_of_end(self.stage),
             answered: self.answered,
             begun: self.begun(),
