@@ -1,12 +1,14 @@
 //! Carries out the program's arguments.
 ghost use Rattle.std.specs.Prelude.{◌≡◌, ◌≢◌, IfNone, IfSome, Some, codes};
 ghost use Rattle.swd_commands.specs.Inputs.{IsStandard, named};
-ghost use Rattle.swd_commands.specs.Statuses.{Performs, PerformsRun, PerformsUnder};
+ghost use Rattle.swd_commands.specs.Statuses.{Performs, PerformsRun, PerformsUnder, status_of_run};
 
 use crate::decode_command::perform_decode;
 use crate::draw_command::perform_draw;
 use crate::image_command::perform_image;
+use crate::noted::{Noted, Seen};
 use crate::open_files::{Files, Identity};
+use crate::reason::texts_status;
 use crate::remote_command::{Untold, perform_remote};
 use crate::report::{DONE, FAULT, cannot_open, engine_status, one_status, run_status, tell};
 use crate::target_command::perform_target;
@@ -15,7 +17,7 @@ use clap::Error;
 use std::alloc::Global;
 use std::io::{Read, Write};
 use swd_bits::one_text;
-use swd_run::run_text;
+use swd_run::{Finished, RunFault, run_text};
 use swd_text::encode_text;
 use swd_words::{DecodeLine, DrawLine, Line, LineFault, RunLine, line};
 
@@ -228,7 +230,39 @@ fn perform_under<S: Read, P: Read, F: Files, O: Write, E: Write>(
         Ok(records) => records,
         Err(status) => return status,
     };
+    let mut script = Noted {
+        reader: script,
+        seen: Seen::new(),
+    };
+    let mut plan = Noted {
+        reader: plan,
+        seen: Seen::new(),
+    };
     let (tries, resumes) = (run.tries, run.resumes);
-    let answer = run_text(alloc, script, plan, tries, resumes, output, &mut records);
-    run_status(errors, answer, run.strict)
+    let answer = run_text(
+        alloc,
+        &mut script,
+        &mut plan,
+        tries,
+        resumes,
+        output,
+        &mut records,
+    );
+    answer_status(errors, answer, run.strict, &script.seen, &plan.seen)
+}
+
+// Prints what went wrong in a run of these texts, and returns the status.
+fn answer_status<E: Write>(
+    errors: &mut E,
+    answer: Result<Finished, RunFault>,
+    strict: bool,
+    script: &Seen,
+    plan: &Seen,
+) -> u8
+    ensures { result ≡ status_of_run strict answer }
+{
+    match answer {
+        Err(RunFault::Texts(fault)) => texts_status(errors, fault, script, plan),
+        answer => run_status(errors, answer, strict),
+    }
 }

@@ -4,7 +4,9 @@ ghost use Rattle.std.specs.FinMap.{empty};
 ghost use Rattle.swd_port.specs.Port.{made};
 ghost use Rattle.swd_commands.specs.Remotes.{PerformsRemote, status_at};
 
+use crate::noted::{Noted, Seen};
 use crate::open_files::{Files, Identity};
+use crate::reason::script_status;
 use crate::report::{STOPPED, cannot_open, run_status, tell};
 use crate::trace::{Sources, open_records, open_trace};
 use std::alloc::Global;
@@ -89,17 +91,37 @@ pub fn perform_remote<P: Story, S: Read, I: Read + Drop, F: Files, O: Write + Dr
         Err(status) => return (status, Line::unused(input, output)),
     };
     let records = &mut opened;
+    let mut script = Noted {
+        reader: script,
+        seen: Seen::new(),
+    };
     let (tries, resumes, strict) = (run.tries, run.resumes, run.strict);
     let Some(mut file) = report.file else {
         let (answer, line) = run_remote::<P, _, _, _, _, _, _>(
-            alloc, script, input, output, tries, resumes, errors, records,
+            alloc,
+            &mut script,
+            input,
+            output,
+            tries,
+            resumes,
+            errors,
+            records,
         );
-        return (reached_status(errors, answer, line.fault, strict), line);
+        let status = reached_status(errors, answer, line.fault, strict, &script.seen);
+        return (status, line);
     };
     let (answer, line) = run_remote::<P, _, _, _, _, _, _>(
-        alloc, script, input, output, tries, resumes, &mut file, records,
+        alloc,
+        &mut script,
+        input,
+        output,
+        tries,
+        resumes,
+        &mut file,
+        records,
     );
-    (reached_status(errors, answer, line.fault, strict), line)
+    let status = reached_status(errors, answer, line.fault, strict, &script.seen);
+    (status, line)
 }
 
 // Returns the status of a run over a line: 1 if a report was made but the other end is gone, else the run's status.
@@ -108,9 +130,13 @@ fn reached_status<E: Write>(
     answer: Result<Finished, RemoteFault>,
     gone: Option<Fault>,
     strict: bool,
+    script: &Seen,
 ) -> u8
     ensures { result ≡ status_at strict gone answer }
 {
+    if let Err(RemoteFault::Script(fault)) = answer {
+        return script_status(errors, fault, script);
+    }
     let reached = answer.is_ok();
     let status = run_status(errors, answer, strict);
     match gone {

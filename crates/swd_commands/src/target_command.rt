@@ -3,8 +3,10 @@ ghost use Rattle.std.specs.Prelude.{◌≡◌, ℕ, true, false, List, Option};
 ghost use Rattle.swd_bitbang.specs.Traces.{is_cut_off};
 ghost use Rattle.swd_commands.specs.Targets.{IsServedStatus, ServesHost};
 
+use crate::noted::{Noted, Seen};
 use crate::open_files::{Files, Identity, Opened};
-use crate::report::{DONE, FAULT, cannot_open, engine_status, tell};
+use crate::reason::texts_status;
+use crate::report::{DONE, FAULT, cannot_open, tell};
 use crate::trace::{Sources, cannot_open_record, open_plan, open_record};
 use std::alloc::Allocator;
 use std::io::{Read, Write};
@@ -98,14 +100,22 @@ fn serve_under<S: Read, P: Read, I: Read, F: Files, O: Write, E: Write, A: Alloc
         Some(_) => Trace::new(alloc),
         None => Trace::none(alloc),
     };
-    match read_target(alloc, script, plan, kept) {
+    let mut script = Noted {
+        reader: script,
+        seen: Seen::new(),
+    };
+    let mut plan = Noted {
+        reader: plan,
+        seen: Seen::new(),
+    };
+    match read_target(alloc, &mut script, &mut plan, kept) {
         Ok(pins) => {
             let (served, pins) = serve(input, output, pins);
             let (target, kept) = pins.into_parts();
             let done = write_records(log, trace, &target, &kept);
             served_status(errors, served, done)
         }
-        Err(fault) => target_status(errors, fault),
+        Err(fault) => target_status(errors, fault, &script.seen, &plan.seen),
     }
 }
 
@@ -166,11 +176,11 @@ fn bad_status<E: Write>(errors: &mut E, place: u64, byte: u8) -> u8
 }
 
 // Prints why there is no target, and returns the status 2.
-fn target_status<E: Write>(errors: &mut E, fault: TargetFault) -> u8
+fn target_status<E: Write>(errors: &mut E, fault: TargetFault, script: &Seen, plan: &Seen) -> u8
     ensures { result ≡ 2 }
 {
     match fault {
-        TargetFault::Texts(fault) => engine_status(errors, Err(fault)),
+        TargetFault::Texts(fault) => texts_status(errors, fault, script, plan),
         TargetFault::Memory => tell(errors, "no memory"),
         TargetFault::Accesses => tell(errors, "a target's script has no accesses and no next"),
     }

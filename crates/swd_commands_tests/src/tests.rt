@@ -22,6 +22,7 @@ mod expect;
 mod image_files;
 mod images;
 mod plan;
+mod reasons;
 mod remote;
 mod target;
 mod verified;
@@ -130,6 +131,12 @@ impl<'a> Files for Shelf<'a> {
             "deaf" => Ok(file(name, b"deaf\n")),
             "cut" => Ok(file(name, CUT)),
             "flip33" => Ok(file(name, b"flip 33")),
+            "plan-x" => Ok(file(name, b"wait\nx\n")),
+            "plan-flip" => Ok(file(name, b"flip\n")),
+            "plan-wait" => Ok(file(name, b"wait 1\n")),
+            "plan-odd" => Ok(file(name, b"mute one\n")),
+            "plan-mark" => Ok(file(name, b"\xef\xbb\xbf.\n")),
+            "script-x" => Ok(file(name, b"memory 0 1\nwx 0 1\n")),
             "input" | "script-again" => Ok(file(name, b".\n")),
             _ => Err(io::Error::from(io::ErrorKind::NotFound)),
         }

@@ -1,8 +1,6 @@
 -- The program's command line, as the parser reads it, and the meaning of its arguments.
 use Rattle.std.specs.Prelude.{ℕ, ◌≡◌, ◌≤◌, ◌↔◌, ◌⊎◌, List, [], ◌∷◌, Option, Some, None, IsSomeAnd, true, codes, pos}
-use Rattle.std.specs.Prelude.{drop, take, if◌then◌else◌}
 use Rattle.std.specs.Option.{option_and_then, option_map}
-use Rattle.std.specs.Str.{bytes_eq}
 use Rattle.std.specs.String.{string_bytes}
 use Rattle.std.specs.Str.Parse.{signed_digits_value}
 use Rattle.clap.specs.Words.{App, HasKind, Kinds, kind_of, Row, first_of, Rule, Text, new_app, new_rule, with_rule}

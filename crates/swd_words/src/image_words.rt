@@ -81,13 +81,11 @@ const BYTES_FORM: &str = "BYTES is not a number of 32 bits";
 const NO_TARGET: &str = "the target is missing: give --remote";
 
 // Returns the required argument for the address.
-fn addr_arg<'a>(alloc: Global) -> Arg<'a>
+fn addr_arg<'a>(alloc: Global, help: &'a str) -> Arg<'a>
     ensures rule { rule_of result ≡ addr_rule }
     ensures local { result.global ≡ false }
 {
-    Arg::new(alloc, "ADDR")
-        .required(true)
-        .help("The address of the first byte, or an offset; hexadecimal")
+    Arg::new(alloc, "ADDR").required(true).help(help)
 }
 
 // Returns the required argument for the number of bytes.
@@ -131,7 +129,13 @@ fn over_an_image<'a>(
     ensures local { IfOk result (λ c. (out-Command c).has_globals ≡ false) }
 {
     let bare = Command::new(alloc, name).about(about).after_help(after);
-    let addr = with_arg(bare, addr_arg(alloc))?;
+    let addr = with_arg(
+        bare,
+        addr_arg(
+            alloc,
+            "The address of the first byte, or an offset; hexadecimal",
+        ),
+    )?;
     let file = with_arg(addr, image_arg(alloc, "The file of the bytes"))?;
     with_options(alloc, file)
 }
@@ -144,7 +148,10 @@ fn dump_command<'a>(alloc: Global) -> Result<Command<'a>, AllocError>
     let bare = Command::new(alloc, "dump")
         .about(DUMP_ABOUT)
         .after_help(DUMP_AFTER);
-    let addr = with_arg(bare, addr_arg(alloc))?;
+    let addr = with_arg(
+        bare,
+        addr_arg(alloc, "The address of the first byte, hexadecimal"),
+    )?;
     let bytes = with_arg(addr, bytes_arg(alloc))?;
     let file = with_arg(bytes, image_arg(alloc, "The file to write (overwrites it)"))?;
     with_options(alloc, file)

@@ -133,7 +133,8 @@ error is an answer, and fails the run only with --strict: status 1. The status
 is also 1 if the word of until never came, and if a word to verify differed or
 met a bus error. A line on standard error then names the first word to verify,
 with its line in the script, and both words.
-An error in a script or plan is printed with its line, counted from 1:
+An error in a script or plan is printed with its line, counted from 1, and with
+what was expected there:
   word            an unknown command or mark, or one in the wrong place
   number          not a number of 32 bits
   range           a number out of its range

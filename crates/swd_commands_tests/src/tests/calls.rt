@@ -2,14 +2,14 @@
 use super::expect::expect_eq_at;
 use super::target::{LEVELS, SESSION};
 use super::verified::CALLS;
-use super::{DPIDR_BITS, DPIDR_LINE, DPIDR_READ, REPORT, RESUMED, SCRIPT, run_on};
+use super::{DPIDR_BITS, DPIDR_LINE, DPIDR_READ, REPORT, RESUMED, SCRIPT, reasons, run_on};
 
 // What standard input has where a file is read in its place.
 const UNREAD: &[u8] = b"x";
 
 // A name, the arguments, standard input, and what comes of them: the status, standard output and standard error.
 // No trace is made where no option asks for one.
-type Call<'a> = (&'a str, &'a [&'a str], &'a [u8], u8, &'a [u8], &'a [u8]);
+pub(super) type Call<'a> = (&'a str, &'a [&'a str], &'a [u8], u8, &'a [u8], &'a [u8]);
 
 const READS: [Call; 16] = [
     (
@@ -238,7 +238,7 @@ const RUNS: [Call; 16] = [
         b"r 0\n",
         2,
         b"",
-        b"swd: script line 1: no memory line\n",
+        b"swd: script line 1: no memory line: memory ADDR WORDS has to come first\n",
     ),
     (
         "the script's fault is told before the plan's",
@@ -246,7 +246,7 @@ const RUNS: [Call; 16] = [
         b"r 20000000",
         2,
         b"",
-        b"swd: script line 1: no memory line\n",
+        b"swd: script line 1: no memory line: memory ADDR WORDS has to come first\n",
     ),
     (
         "an address between words",
@@ -254,7 +254,7 @@ const RUNS: [Call; 16] = [
         b"memory 0 1\nr 2",
         2,
         b"",
-        b"swd: script line 2: range\n",
+        b"swd: script line 2: range: ADDR is a multiple of 4, and a call has at most 65536 accesses\n",
     ),
     (
         "the plan's fault is told",
@@ -262,7 +262,7 @@ const RUNS: [Call; 16] = [
         b"",
         2,
         b"",
-        b"swd: plan line 1: range\n",
+        b"swd: plan line 1: range: BIT is at most 32 for flip, at most 2 for mute\n",
     ),
     (
         "several calls report one after the other",
@@ -470,7 +470,14 @@ const TARGETS: [Call; 12] = [
 
 #[test]
 fn each_call_has_its_output_and_its_status(rt: HostRuntime) {
-    for rows in [READS.as_slice(), &RUNS, &FAULTS, &TARGETS] {
+    for rows in [
+        READS.as_slice(),
+        &RUNS,
+        &FAULTS,
+        &TARGETS,
+        &reasons::SCRIPTS,
+        &reasons::FILES,
+    ] {
         for (name, words, input, status, output, errors) in rows {
             let ran = run_on(rt.alloc(), words, *input);
             expect_eq_at(&rt, name, &ran.output.as_slice(), output);

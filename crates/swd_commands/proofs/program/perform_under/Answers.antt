@@ -16,5 +16,5 @@ returns g c =
       files_of contents c.run_text-answer.new.records,
       are_for contents c.args.run.now _ c.in-Ok.records c.in-Ok.ensures.ok,
       c.run_text-answer.ensures,
-      c.run_status.ensures,
+      c.answer_status.ensures,
     )

@@ -15,7 +15,7 @@ returns-in_default-file g c =
       _,
       are_for contents c.args.run.now _ c.in-Ok-open_records.opened c.in-Ok-open_records.ensures.ok,
       c.run_remote-answer.ensures,
-      c.reached_status.ensures,
+      c.reached_status-status.ensures,
     )
 
 pub returns : goal.returns
@@ -30,5 +30,5 @@ returns g c =
       _,
       are_for contents c.args.run.now _ c.in-Ok-open_records.opened c.in-Ok-open_records.ensures.ok,
       c.run_remote-answer-2.ensures,
-      c.reached_status-2.ensures,
+      c.reached_status-status-2.ensures,
     )
