@@ -4,7 +4,7 @@ use Rattle.swd_port.specs.declared.mark.Mark.{Mark}
 use Rattle.swd_port.specs.Port.{made_target}
 use Rattle.swd_clocked.specs.declared.marked.MarkedClocked.{MarkedClocked}
 use Rattle.swd_clocked.specs.Frames.{idle}
-use Rattle.swd_clocked.specs.Marked.{state_of, frame_in, unseen_of, plan_of, tally_of, cycles_of}
+use Rattle.swd_clocked.specs.Marked.{state_of, simulation_of, frame_in, unseen_of, plan_of, tally_of, cycles_of}
 use Rattle.swd_bitbang.specs.declared.trace.Trace.{Trace}
 use Rattle.swd_bitbang.specs.declared.pins.Pins.{Pins}
 use Rattle.swd_script.specs.Scripts.{Listed, Meaning}
@@ -15,6 +15,8 @@ use Rattle.swd_run.specs.Running.{AreRead, AreUnread, IsScript, IsPlan, memory_o
 -- a target before its first cycle, with the memory of a script and the marks of a plan
 pub record IsMade {A : Type 0} (script : Meaning) (marks : List Mark) (target : MarkedClocked A) : Type 0 where
   pub state : state_of target ≡ made_target 0x2ba0_1477 (memory_of script)
+  -- a transfer takes effect at once, TAR wraps at the end of a kilobyte, and a value that is unknown is 0
+  pub choices : (simulation_of target).quirks ≡ record { wrap = true; late = false; filler = 0 }
   pub frame : frame_in target ≡ idle
   pub unseen : unseen_of target ≡ 0
   pub plan : plan_of target ≡ marks

@@ -1,8 +1,9 @@
-//! Three ways to use the host: by `run` and `run_block` over a wire, by `resume` after a lost acknowledgement, and by
-//! the engine alone over two pins.
+//! Ways to use the host: by `run` and `run_block` over a wire, by `resume` after a lost acknowledgement, by
+//! `run_outside` over a probe, by `run_over_line` over a connection, and by the engine alone over two pins.
 #![tactic(auto)]
 
 mod by_hand;
+mod outside;
 mod resumed;
 mod whole;
 
@@ -13,10 +14,14 @@ fn main(rt: HostRuntime) -> io::Result<ExitCode> {
     let loaded = whole::load(rt.alloc());
     let resumed = resumed::load(rt.alloc());
     let driven = by_hand::load(rt.alloc());
+    let probed = outside::load(rt.alloc());
+    let lined = outside::write_over_line(rt.alloc());
     for (name, failed) in [
         ("run", loaded.err()),
         ("resume", resumed.err()),
         ("by hand", driven.err()),
+        ("over a probe", probed.err()),
+        ("over a line", lined.err()),
     ] {
         match failed {
             None => println!(rt; "{name}: the words are there")?,

@@ -1,6 +1,7 @@
 use Rattle.std.proofs.Common.{◌≡◌, Bool, true, false, map, sym, ap, ◌∙◌, subst}
 use Rattle.swd_port.specs.Port.{made_target}
 use Rattle.swd_port.specs.PlainMemory.{PlainMemory}
+use Rattle.swd_target.specs.Simulations.{Simulation}
 use Rattle.swd_clocked.specs.declared.marked.MarkedClocked.{MarkedClocked}
 use Rattle.swd_script.specs.Readers.{listed, meaning}
 use Rattle.swd_script.proofs.TextLaws.{is_runnable, is_plan}
@@ -36,6 +37,7 @@ returns-clause-made g c =
     let marks = c.in-Ok.texts.plan.items in
     let made : IsMade (meaning script) marks c.new-target.result = record {
       state = target.state ∙ ap (λ (m : PlainMemory). made_target 731911287 m) c.in-Some.ensures;
+      choices = ap (λ (s : Simulation). s.quirks) target.exact;
       frame = target.frame;
       unseen = target.unseen;
       plan = target.plan;
