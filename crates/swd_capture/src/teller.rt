@@ -25,11 +25,11 @@ use swd_trace::{Item, LONGEST_LINE};
 // The most bytes of a place.
 const LONGEST_PLACE: usize = 22;
 
-/// The most junk bits that one call takes.
-pub const MOST_JUNK: u8 = 32;
+/// The most bytes printed for one part, or for one row at the end.
+pub const LONGEST_ENTRY: usize = LONGEST_PLACE + LONGEST_LINE + 1;
 
-/// The most bytes that one call appends: the lines of so many junk bits.
-pub const LONGEST_ENTRY: usize = MOST_JUNK as usize * LONGEST_JUNK;
+/// The most junk bits that one call takes.
+pub const MOST_JUNK: u8 = 8;
 
 /// A printer of the parts of a capture. It takes one part after another, and appends the output of each to a text. It
 /// allocates nothing.

@@ -15,7 +15,7 @@ invariant-loop-left g l = record {
       × (l.text.bytes ≡ l.fn.text.bytes ++ more)
       × (told (Lines l.form) over done ≡ told (Lines l.form) over parts ++ more)
       × (done ++ junk_parts (low_bits l.left l.bits) ≡ parts ++ junk_parts (bits_of l.fn.junk));
-  room : array_string_len l.text + 29 * l.left ≤ array_string_len l.fn.text + 928;
+  room : array_string_len l.text + 29 * l.left ≤ array_string_len l.fn.text + 232;
 }
 
 abbrev pub decreases-loop-left : goal.decreases-loop-left
