@@ -2,6 +2,7 @@
 //! reports the result. The caller passes the machine's files and the standard streams.
 #![tactic(auto)]
 
+mod arguments;
 mod decode_command;
 mod draw_command;
 mod image_command;
@@ -15,6 +16,7 @@ mod report;
 mod target_command;
 mod trace;
 
+pub use arguments::run_arguments;
 pub use open_files::{Files, Identity, Opened};
 pub use program::run_words;
-pub use report::{cannot_open, engine_status, tell};
+pub use report::{cannot_open, engine_status};

@@ -15,6 +15,7 @@ use swd_text::{DecodeFault, EncodeFault, TextFault};
 use swd_trace::ListFault;
 
 mod accesses;
+mod arguments;
 mod calls;
 mod captures;
 mod drawings;
