@@ -1,8 +1,8 @@
 //! Keeps the line of a script or a plan that is being read, so that an error can show it.
 
 use arrayvec::ArrayVec;
-use std::io;
 use std::io::Read;
+use std::{io, slice};
 
 // The most bytes that one read takes. They are kept until the next read.
 const PIECE: usize = 4096;
@@ -21,14 +21,22 @@ struct Place {
 }
 
 impl Place {
-    // Passes a byte.
-    fn pass(&mut self, byte: u8) {
-        if byte == b'\n' {
-            self.line = self.line.saturating_add(1);
-            self.start.clear();
-        } else if !self.start.is_full() {
-            self.start.push(byte);
+    // Passes these bytes.
+    fn pass(&mut self, bytes: &[u8]) {
+        for byte in bytes {
+            if *byte == b'\n' {
+                self.line = self.line.saturating_add(1);
+            }
         }
+        let rest = match bytes.iter().rposition(|byte| *byte == b'\n') {
+            Some(end) => {
+                self.start.clear();
+                &bytes[end + 1..]
+            }
+            None => bytes,
+        };
+        let more = self.start.remaining_capacity().min(rest.len());
+        let _ = self.start.try_extend_from_slice(&rest[..more]);
     }
 }
 
@@ -55,15 +63,9 @@ impl Seen {
 
     // Keeps a piece in place of the one before.
     fn keep(&mut self, piece: &[u8]) {
-        for byte in self.piece.as_slice() {
-            self.from.pass(*byte);
-        }
+        self.from.pass(self.piece.as_slice());
         self.piece.clear();
-        for byte in piece {
-            if !self.piece.is_full() {
-                self.piece.push(*byte);
-            }
-        }
+        let _ = self.piece.try_extend_from_slice(piece);
     }
 
     /// Returns the first bytes of the line with this number, if it is in the piece that was read last.
@@ -72,14 +74,12 @@ impl Seen {
             line: self.from.line,
             start: ArrayVec::new(),
         };
-        for byte in self.from.start.as_slice() {
-            place.pass(*byte);
-        }
+        place.pass(self.from.start.as_slice());
         for byte in self.piece.as_slice() {
             if place.line == number && *byte == b'\n' {
                 return place.start;
             }
-            place.pass(*byte);
+            place.pass(slice::from_ref(byte));
         }
         if place.line == number {
             place.start
