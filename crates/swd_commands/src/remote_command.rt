@@ -90,37 +90,23 @@ pub fn perform_remote<P: Story, S: Read, I: Read + Drop, F: Files, O: Write + Dr
         Ok(opened) => opened,
         Err(status) => return (status, Line::unused(input, output)),
     };
-    let records = &mut opened;
-    let mut script = Noted {
+    let mut noted = Noted {
         reader: script,
         seen: Seen::new(),
     };
+    let (script, records) = (&mut noted, &mut opened);
     let (tries, resumes, strict) = (run.tries, run.resumes, run.strict);
     let Some(mut file) = report.file else {
         let (answer, line) = run_remote::<P, _, _, _, _, _, _>(
-            alloc,
-            &mut script,
-            input,
-            output,
-            tries,
-            resumes,
-            errors,
-            records,
+            alloc, script, input, output, tries, resumes, errors, records,
         );
-        let status = reached_status(errors, answer, line.fault, strict, &script.seen);
+        let status = reached_status(errors, answer, line.fault, strict, &noted.seen);
         return (status, line);
     };
     let (answer, line) = run_remote::<P, _, _, _, _, _, _>(
-        alloc,
-        &mut script,
-        input,
-        output,
-        tries,
-        resumes,
-        &mut file,
-        records,
+        alloc, script, input, output, tries, resumes, &mut file, records,
     );
-    let status = reached_status(errors, answer, line.fault, strict, &script.seen);
+    let status = reached_status(errors, answer, line.fault, strict, &noted.seen);
     (status, line)
 }
 

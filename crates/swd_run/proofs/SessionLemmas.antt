@@ -79,6 +79,7 @@ module _ {W : Type 0} (port : W → Port) (plan : W → List Mark) (lawful : W �
       pub counted : (port t).tally.asked ≡ (port s).tally.asked + requests_of runs
       pub ending : (pending (port t).link.due ≡ 0) × (((port t).link.due ≡ DueLost) ↔ (ended_of runs ≡ Lost))
 
+    -- after runs of a script that leave a lawful wire, all of this holds
     pub ends : (batches : List Listed) (runs : List Done) (t : W)
         → Runs port plan lawful most_begun tries resumes s batches runs t → lawful t → Ends runs t
     ends batches runs t none law = record {

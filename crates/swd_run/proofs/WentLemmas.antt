@@ -38,6 +38,7 @@ use Rattle.swd_run.proofs.RunLemmas.{ends_at, excused, run_as}
 one_more : {X : Type 0} (xs : List X) (x : X) → length (xs ++ x ∷ []) ≡ length xs + 1
 one_more xs x = length-append xs (x ∷ [])
 
+-- a list has as many answers of the plain memory as it has accesses
 pub answers_many : (list : List Access) (m : PlainMemory) → length (answers_of list m) ≡ length list
 answers_many [] m = refl
 answers_many (a ∷ list) m = ap (λ n. suc n) (answers_many list (plain_after a m))
