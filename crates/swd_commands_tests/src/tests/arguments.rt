@@ -58,7 +58,7 @@ fn arguments_that_are_not_read_are_a_fault(rt: HostRuntime) {
     }
 }
 
-// The list of words on a heap of each size: the command is carried out, or want of memory is told.
+// The list of words on a heap of each size: the command is carried out, or out of memory is reported.
 #[test]
 fn arguments_where_memory_ends(rt: HostRuntime) -> Result<(), Fail> {
     let mut refused = 0usize;
