@@ -175,7 +175,7 @@ impl PlanReason {
             "flip" | "mute" => write!(f, "expected {name} BIT"),
             _ => write!(
                 f,
-                "'{name}' is no mark, which are ., wait, deaf, flip BIT and mute BIT"
+                "'{name}' isn't a mark; the marks are ., wait, deaf, flip BIT and mute BIT"
             ),
         }
     }

@@ -1,5 +1,5 @@
 //! Runs a script over a simulated target with the marks of a plan.
-ghost use Rattle.std.specs.Prelude.{◌≡◌, IfNone, IfSome};
+ghost use Rattle.std.specs.Prelude.{◌≡◌, true, false, IfNone, IfSome};
 ghost use Rattle.swd_port.specs.declared.wire.Due.TheVariants.{Nothing};
 ghost use Rattle.swd_port.specs.Port.{made};
 ghost use Rattle.swd_host.specs.Plain.{AreAccesses};
@@ -7,7 +7,7 @@ ghost use Rattle.swd_host.specs.Reports.{told_of, Closes, RunsWithin};
 ghost use Rattle.swd_script.specs.Readers.{listed, meaning};
 ghost use Rattle.swd_script.specs.Laws.{IsBatch, IsRunnable};
 ghost use Rattle.swd_target.specs.Marks.{IsPlan};
-ghost use Rattle.swd_target.specs.Benches.{port_of, plan_of};
+ghost use Rattle.swd_target.specs.Benches.{port_of, plan_of, simulation_of};
 ghost use Rattle.swd_run.specs.Sessions.{most_begun};
 ghost use Rattle.swd_run.specs.Records.{files_of};
 ghost use Rattle.swd_run.specs.Running.{AnswersScript, RunsText, full_room, memory_of, with_full};
@@ -78,6 +78,9 @@ fn target_of<A: Allocator + Copy>(
     requires plan { IsPlan plan.items }
     ensures port { IfSome result (λ bench. port_of bench ≡ made 0x2ba0_1477 (memory_of (meaning script.now))) }
     ensures plan { IfSome result (λ bench. plan_of bench ≡ plan.items) }
+    // A transfer takes effect at once, TAR wraps at the end of a kilobyte, and a value that is unknown is 0.
+    ensures choices { IfSome result (λ bench.
+        (simulation_of bench).quirks ≡ record { wrap = true; late = false; filler = 0 }) }
 {
     let memory = zero_memory(alloc, script)?;
     Some(Bench::new(memory, QUIRKS, plan))

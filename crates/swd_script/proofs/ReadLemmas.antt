@@ -13,7 +13,7 @@ use Rattle.swd_script.specs.Faults.{line_number, after_lines, then_lines, fault_
 use Rattle.swd_script.specs.Lines.{lines, line_words}
 use Rattle.swd_script.specs.Readers.{EndsLine, IsFaultOf, IsFed, IsLast, IsTextFault}
 use Rattle.swd_script.specs.Readers.{RunsOut, Splits}
-use Rattle.swd_script.specs.Scans.{without_return, Holds, IsScanned}
+use Rattle.swd_script.specs.Scans.{without_return, Holds, IsScanned, words_of}
 use Rattle.swd_script.proofs.LineLemmas.{lines_fed, lines_last, unbroken_more}
 
 -- a byte of a line more
@@ -35,28 +35,29 @@ next_number : (number before : ℕ) → number ≡ line_number before
 next_number number before e = omega arith
 
 -- a line feed more
-pub splits_fed : (seen : List ℕ) (ended : List (List ℕ)) (old new : Lines) (scanned : Option (ArrayVec (ArrayVec ℕ)))
-    → new.number ≡ min (old.number + 1) (2 ^ 64 - 1) → Holds [] new.scan →
-    ((line : List ℕ) → Holds line old.scan → IsScanned (without_return line) scanned) → Splits seen ended old
-    → IsFed seen ended scanned new
-splits_fed seen ended old new scanned e h f s =
-    let line = without_return s.line in
-    let law : (more : List ℕ) → lines (seen ++ 10 ∷ more) ≡ ended ++ line ∷ lines more =
-    λ more. s.law (10 ∷ more) ∙ ap (λ x. ended ++ x) (lines_fed s.line more s.unbroken) in
-    record {
-      line = line;
-      scan = f s.line s.holds;
-      law = law;
-      next = record {
-        line = [];
-        law = λ more. ap lines (append_assoc seen (10 ∷ []) more) ∙ law more
-            ∙ sym (append_assoc ended (line ∷ []) (lines more));
-        unbroken = tt;
-        holds = h;
-        number = e ∙ next_number old.number (length ended) s.number
-            ∙ ap line_number (sym (length-append ended (line ∷ [])));
-      };
-    }
+pub splits_fed : (seen : List ℕ) (ended : List (List ℕ)) (old new : Lines) → new.number ≡ old.number →
+    ((line : List ℕ) → Holds line old.scan → IsScanned (without_return line) (words_of new.scan)) → Splits seen ended old
+    → IsFed seen ended new
+splits_fed seen ended old new e f s = record {
+  line = without_return s.line;
+  scan = f s.line s.holds;
+  law = λ more. s.law (10 ∷ more) ∙ ap (λ x. ended ++ x) (lines_fed s.line more s.unbroken);
+  number = e ∙ s.number;
+}
+
+-- the next line begins behind a line feed
+pub splits_next : (seen : List ℕ) (ended : List (List ℕ)) (old new : Lines)
+    → new.number ≡ min (old.number + 1) (2 ^ 64 - 1) → Holds [] new.scan → (fed : IsFed seen ended old)
+    → Splits (seen ++ 10 ∷ []) (ended ++ fed.line ∷ []) new
+splits_next seen ended old new e h fed = record {
+  line = [];
+  law = λ more. ap lines (append_assoc seen (10 ∷ []) more) ∙ fed.law more
+      ∙ sym (append_assoc ended (fed.line ∷ []) (lines more));
+  unbroken = tt;
+  holds = h;
+  number = e ∙ next_number old.number (length ended) fed.number
+      ∙ ap line_number (sym (length-append ended (fed.line ∷ [])));
+}
 
 -- the end of the text
 pub splits_last : (seen : List ℕ) (ended : List (List ℕ)) (old : Lines) (scanned : Option (ArrayVec (ArrayVec ℕ)))

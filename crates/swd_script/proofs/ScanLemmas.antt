@@ -11,7 +11,8 @@ use Rattle.swd_script.specs.declared.line_scan.Place.{Place}
 use Rattle.swd_script.specs.declared.line_scan.Place.TheVariants.{Code, Return, Comment, Spoiled}
 use Rattle.swd_script.specs.declared.words.Words.{Words}
 use Rattle.swd_script.specs.Lines.{is_blank, is_plain, line_words, uncommented, words}
-use Rattle.swd_script.specs.Scans.{without_return, HasWords, HoldsAt, IsCode, IsCodeSoFar, IsCodeThen, IsSpoiled}
+use Rattle.swd_script.specs.Scans.{without_return, words_at, HasWords, HoldsAt, IsCode, IsCodeSoFar, IsCodeThen}
+use Rattle.swd_script.specs.Scans.{IsScanned, IsSpoiled}
 use Rattle.swd_script.specs.Words.{AreFirst, Gathers}
 
 uncommented_byte : (byte : ℕ) (line : List ℕ) → (byte == 35) ≡ false
@@ -260,6 +261,26 @@ pub fed_none : (line : List ℕ) (place : Place) (old : Words) → place ≡ Spo
 fed_none line place old e h =
     let k : IsSpoiled line = subst (λ p. HoldsAt p line old) e h in
     ap (λ x. line_words (without_return x)) (sym (append-nil line)) ∙ k.fed []
+
+-- a line that a line feed ends, with the words that were kept
+pub fed_scanned : (line : List ℕ) (place : Place) (old new : Words)
+    → ((front : List ℕ) → Gathers front old → AreFirst new.ended.items front) → HoldsAt place line old
+    → IsScanned (without_return line) (words_at place new)
+fed_scanned line Code old new f h = fed_words line Code old new.ended.items f (λ e. cc) h
+fed_scanned line Return old new f h = fed_words line Return old new.ended.items f (λ e. cc) h
+fed_scanned line Comment old new f h = fed_words line Comment old new.ended.items f (λ e. cc) h
+fed_scanned line Spoiled old new f h = fed_none line Spoiled old refl h
+
+-- the last line of a text, at whose end there is code or a comment, with the words that were kept
+pub ended_scanned : (line : List ℕ) (place : Place) (old new : Words)
+    → ((front : List ℕ) → Gathers front old → AreFirst new.ended.items front) → (place ≡ Code) ⊎ (place ≡ Comment)
+    → HoldsAt place line old → IsScanned line (words_at place new)
+ended_scanned line Code old new f n h = ended_words line Code old new.ended.items f n h
+ended_scanned line Return old new f (inl n) h = absurd cc
+ended_scanned line Return old new f (inr n) h = absurd cc
+ended_scanned line Comment old new f n h = ended_words line Comment old new.ended.items f n h
+ended_scanned line Spoiled old new f (inl n) h = absurd cc
+ended_scanned line Spoiled old new f (inr n) h = absurd cc
 
 -- a byte after a carriage return, or in a comment or a spoiled line
 pub return_more : (line : List ℕ) (byte : ℕ) (place : Place) (old : Words) → place ≡ Return → HoldsAt place line old

@@ -16,7 +16,7 @@ use Rattle.swd_script.specs.declared.script.Script.{Script}
 use Rattle.swd_script.specs.Faults.{line_number, after_lines, fault_at}
 use Rattle.swd_script.specs.Lines.{lines}
 use Rattle.swd_script.specs.Plans.{plan_line, plan_of}
-use Rattle.swd_script.specs.Scans.{Holds, IsScanned}
+use Rattle.swd_script.specs.Scans.{Holds, IsScanned, words_of}
 use Rattle.swd_script.specs.Scripts.{Listed, Meaning, Sayings, nothing_said, script_line, script_of}
 
 -- no line feed
@@ -37,13 +37,12 @@ pub record EndsLine (text : List ℕ) (ended : List (List ℕ)) (line : List ℕ
   pub rest : List (List ℕ)
   pub law : lines text ≡ ended ++ line ∷ rest
 
--- a line feed has ended a line with these first words, or an invalid line
-pub record IsFed (seen : List ℕ) (ended : List (List ℕ))
-    (scanned : Option (ArrayVec (ArrayVec ℕ))) (state : Lines) : Type 0 where
+-- a line feed has ended a line, whose first words are kept if it is valid
+pub record IsFed (seen : List ℕ) (ended : List (List ℕ)) (state : Lines) : Type 0 where
   pub line : List ℕ
-  pub scan : IsScanned line scanned
+  pub scan : IsScanned line (words_of state.scan)
   pub law : (more : List ℕ) → lines (seen ++ 10 ∷ more) ≡ ended ++ line ∷ lines more
-  pub next : Splits (seen ++ 10 ∷ []) (ended ++ line ∷ []) state
+  pub number : state.number ≡ line_number (length ended)
 
 -- the last line of a text has these first words, or is invalid
 pub record IsLast (text : List ℕ) (ended : List (List ℕ))

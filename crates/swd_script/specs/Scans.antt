@@ -44,6 +44,16 @@ HoldsAt Spoiled line kept = IsSpoiled line
 abbrev pub Holds : List ℕ → LineScan → Type 0
 Holds line scan = HoldsAt scan.place line scan.words
 
+-- the words of a line that was ended, or `None` if a byte was invalid
+abbrev pub words_at : Place → Words → Option (ArrayVec (ArrayVec ℕ))
+words_at Code kept = Some kept.ended
+words_at Return kept = Some kept.ended
+words_at Comment kept = Some kept.ended
+words_at Spoiled kept = None
+
+abbrev pub words_of : LineScan → Option (ArrayVec (ArrayVec ℕ))
+words_of scan = words_at scan.place scan.words
+
 -- these are the first words of a line
 pub record HasWords (line : List ℕ) (kept : List (ArrayVec ℕ)) : Type 0 where
   pub all : List (List ℕ)

@@ -1,6 +1,6 @@
 //! What the lines of a script have said so far.
 ghost use Rattle.std.specs.Prelude.{◌≡◌, ◌+◌, ◌∷◌, [], length, nat_le, ok_or};
-ghost use Rattle.std.specs.Prelude.{Ok, Err, OnOk, IfErr, IfOk};
+ghost use Rattle.std.specs.Prelude.{Ok, Err, OnOk, IfErr, IfOk, option_copied};
 ghost use Rattle.swd_script.specs.Scripts.{are_words, can_come};
 
 use crate::batch::{Batch, Expected, Until};
@@ -61,9 +61,11 @@ impl<A: Allocator + Copy> Draft<A> {
 
     /// Takes the line with this number and these first words. `None` stands for a line with an invalid byte.
     /// After an error the state is unspecified.
-    pub(crate) fn line(&mut self, number: u64, words: Option<FirstWords>) -> Result<(), LineFault>
-        ensures ok { OnOk result (script_line number (said self.old) (texts_of words) ≡ Ok (said self.new)) }
-        ensures err { IfErr result (λ fault. IsFaultOf fault (script_line number (said self.old) (texts_of words))) }
+    pub(crate) fn line(&mut self, number: u64, words: Option<&FirstWords>) -> Result<(), LineFault>
+        ensures ok { OnOk result
+            (script_line number (said self.old) (texts_of (option_copied words.entry)) ≡ Ok (said self.new)) }
+        ensures err { IfErr result
+            (λ fault. IsFaultOf fault (script_line number (said self.old) (texts_of (option_copied words.entry)))) }
     {
         let Some(words) = words else {
             return Err(LineFault::Word);

@@ -1,5 +1,5 @@
 //! Reads input line by line, however it is divided into pieces.
-ghost use Rattle.std.specs.Prelude.{◌++◌, ◌∷◌, [], ℕ, List, OnOk, IfErr, IfOk, IfSome};
+ghost use Rattle.std.specs.Prelude.{◌++◌, ◌∷◌, [], ℕ, List, OnOk, IfErr, IfOk, IfSome, option_copied};
 ghost use Rattle.swd_io.specs.Pieces.{IsText, IsUnread};
 ghost use Rattle.swd_script.specs.declared.fault.ScriptFault.{ScriptFault as TheFault};
 ghost use Rattle.swd_script.specs.Lines.{lines};
@@ -28,9 +28,9 @@ pub trait LineSink: Drop {
 
     /// Adds the line with this number and these first words. `None` stands for a line with an invalid byte.
     /// After an error the state is unspecified.
-    fn add_line(&mut self, number: u64, words: Option<FirstWords>) -> Result<(), LineFault>
-        ensures ok { OnOk result (LineLeads took number words self.old self.new) }
-        ensures err { IfErr result (λ fault. LineStops took refuses number words self.old fault) };
+    fn add_line(&mut self, number: u64, words: Option<&FirstWords>) -> Result<(), LineFault>
+        ensures ok { OnOk result (LineLeads took number (option_copied words.entry) self.old self.new) }
+        ensures err { IfErr result (λ fault. LineStops took refuses number (option_copied words.entry) self.old fault) };
 
     /// Returns what the whole input says, once all lines were added. The last one has this number.
     fn whole(self, last: u64) -> Result<Self::Whole, ScriptFault>
@@ -74,8 +74,10 @@ impl<S: LineSink> LineReader<S> {
             return Ok(());
         }
         let line = self.lines.number;
-        let words = self.lines.feed();
-        match self.sink.add_line(line, words) {
+        self.lines.feed();
+        let added = self.sink.add_line(line, self.lines.words());
+        self.lines.begin();
+        match added {
             Ok(()) => Ok(()),
             Err(fault) => Err(fault.at(line)),
         }
@@ -90,9 +92,13 @@ impl<S: LineSink> LineReader<S> {
         ensures ok { IfOk result (λ whole. (seen : List ℕ) → ReadsLines S.took self seen → S.says seen whole) }
         ensures err { IfErr result (λ fault. (seen : List ℕ) → ReadsLines S.took self seen → S.refuses fault seen) }
     {
-        let LineReader { lines, mut sink } = self;
+        let LineReader {
+            mut lines,
+            mut sink,
+        } = self;
         let line = lines.number;
-        match sink.add_line(line, lines.finish()) {
+        lines.finish();
+        match sink.add_line(line, lines.words()) {
             Ok(()) => sink.whole(line),
             Err(fault) => Err(fault.at(line)),
         }

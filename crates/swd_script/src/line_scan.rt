@@ -1,5 +1,5 @@
 //! Scans one line of a script or a plan, byte by byte.
-ghost use Rattle.std.specs.Prelude.{◌≡◌, ◌≢◌, ◌∷◌, ◌++◌, [], ℕ, List};
+ghost use Rattle.std.specs.Prelude.{◌≡◌, ◌≢◌, ◌∷◌, ◌++◌, [], ℕ, List, option_copied};
 ghost use Rattle.swd_script.specs.Lines.{is_blank};
 
 use crate::words::{FirstWords, Words};
@@ -25,7 +25,7 @@ pub(crate) struct LineScan {
 }
 
 impl LineScan {
-    ghost use Rattle.swd_script.specs.Scans.{Holds, IsScanned, without_return};
+    ghost use Rattle.swd_script.specs.Scans.{Holds, IsScanned, without_return, words_of};
 
     /// Returns a scan before the first byte of a line.
     pub(crate) fn new() -> LineScan
@@ -64,25 +64,39 @@ impl LineScan {
         }
     }
 
-    /// Ends the line at a line feed, and returns its first words. Returns `None` if a byte was invalid.
-    pub(crate) fn feed(self) -> Option<FirstWords>
-        ensures { (line : List ℕ) → Holds line self → IsScanned (without_return line) result }
+    /// Ends the line at a line feed. Then call `words`.
+    pub(crate) fn feed(&mut self)
+        ensures { (line : List ℕ) → Holds line self.old → IsScanned (without_return line) (words_of self.new) }
+    {
+        self.words.end();
+    }
+
+    /// Ends the line at the end of the input. Then call `words`.
+    pub(crate) fn finish(&mut self)
+        ensures { (line : List ℕ) → Holds line self.old → IsScanned line (words_of self.new) }
     {
         match self.place {
-            Place::Code | Place::Return | Place::Comment => Some(self.words.finish()),
+            Place::Code | Place::Comment => self.words.end(),
+            Place::Return | Place::Spoiled => self.place = Place::Spoiled,
+        }
+    }
+
+    /// Returns the first words of the line that was ended. Returns `None` if a byte was invalid.
+    pub(crate) fn words(&self) -> Option<&FirstWords>
+        ensures { option_copied result ≡ words_of self.now }
+    {
+        match self.place {
+            Place::Code | Place::Return | Place::Comment => Some(&self.words.ended),
             Place::Spoiled => None,
         }
     }
 
-    /// Ends the line at the end of the input, and returns its first words. Returns `None` if a byte was
-    /// invalid.
-    pub(crate) fn finish(self) -> Option<FirstWords>
-        ensures { (line : List ℕ) → Holds line self → IsScanned line result }
+    /// Begins the next line.
+    pub(crate) fn begin(&mut self)
+        ensures { Holds [] self.new }
     {
-        match self.place {
-            Place::Code | Place::Comment => Some(self.words.finish()),
-            Place::Return | Place::Spoiled => None,
-        }
+        self.words.clear();
+        self.place = Place::Code;
     }
 }
 

@@ -1,9 +1,8 @@
 //! Scans the lines of a script or a plan, byte by byte.
-ghost use Rattle.std.specs.Prelude.{◌≢◌, ◌∷◌, ◌++◌, [], ℕ, List};
+ghost use Rattle.std.specs.Prelude.{◌≡◌, ◌≢◌, ◌∷◌, ◌++◌, [], ℕ, List, option_copied};
 
 use crate::line_scan::LineScan;
 use crate::words::FirstWords;
-use std::mem;
 
 /// The current line.
 #[derive(Drop)]
@@ -14,7 +13,7 @@ pub(crate) struct Lines {
 }
 
 impl Lines {
-    ghost use Rattle.swd_script.specs.Scans.{IsScanned};
+    ghost use Rattle.swd_script.specs.Scans.{words_of};
     ghost use Rattle.swd_script.specs.Readers.{Splits, IsFed, IsLast};
 
     /// Returns the state before the first byte of the first line.
@@ -36,21 +35,35 @@ impl Lines {
         self.scan.byte(byte);
     }
 
-    /// Takes a line feed: ends the line, starts the next one, and returns the first words of the ended one.
-    /// Returns `None` if a byte of it was invalid.
-    pub(crate) fn feed(&mut self) -> Option<FirstWords>
+    /// Takes a line feed: ends the line. Then call `words`, and `begin`.
+    pub(crate) fn feed(&mut self)
         ensures { (seen : List ℕ) (ended : List (List ℕ)) → Splits seen ended self.old
-            → IsFed seen ended result self.new }
+            → IsFed seen ended self.new }
     {
-        let scan = mem::replace(&mut self.scan, LineScan::new());
-        self.number = self.number.saturating_add(1);
-        scan.feed()
+        self.scan.feed();
     }
 
-    /// Returns the first words of the last line. Returns `None` if a byte of it was invalid.
-    pub(crate) fn finish(self) -> Option<FirstWords>
-        ensures { (seen : List ℕ) (ended : List (List ℕ)) → Splits seen ended self → IsLast seen ended result }
+    /// Ends the last line. Then call `words`.
+    pub(crate) fn finish(&mut self)
+        ensures { (seen : List ℕ) (ended : List (List ℕ)) → Splits seen ended self.old
+            → IsLast seen ended (words_of self.new.scan) }
     {
-        self.scan.finish()
+        self.scan.finish();
+    }
+
+    /// Returns the first words of the line that was ended. Returns `None` if a byte of it was invalid.
+    pub(crate) fn words(&self) -> Option<&FirstWords>
+        ensures { option_copied result ≡ words_of self.now.scan }
+    {
+        self.scan.words()
+    }
+
+    /// Begins the line behind one that a line feed ended.
+    pub(crate) fn begin(&mut self)
+        ensures { (seen : List ℕ) (ended : List (List ℕ)) (fed : IsFed seen ended self.old)
+            → Splits (seen ++ 10 ∷ []) (ended ++ fed.line ∷ []) self.new }
+    {
+        self.scan.begin();
+        self.number = self.number.saturating_add(1);
     }
 }

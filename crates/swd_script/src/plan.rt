@@ -1,5 +1,5 @@
 //! Plans: a mark for each request.
-ghost use Rattle.std.specs.Prelude.{◌≡◌, [], ℕ, List, Ok, OnOk, IfErr, IfOk, IfSome};
+ghost use Rattle.std.specs.Prelude.{◌≡◌, [], ℕ, List, Ok, OnOk, IfErr, IfOk, IfSome, option_copied};
 ghost use Rattle.swd_io.specs.Pieces.{IsText, IsUnread};
 ghost use Rattle.swd_script.specs.Numerals.{decimal_of as decimal_in};
 ghost use Rattle.swd_script.specs.Plans.{bare_mark, mark_of, place_below, placed_mark, plan_line, plan_of};
@@ -41,7 +41,7 @@ impl<A: Allocator> LineSink for Vec<Mark, A> {
 
     ghost refuses = { IsPlanFault };
 
-    fn add_line(&mut self, _number: u64, words: Option<FirstWords>) -> Result<(), LineFault> {
+    fn add_line(&mut self, _number: u64, words: Option<&FirstWords>) -> Result<(), LineFault> {
         add_mark(self, words)
     }
 
@@ -71,10 +71,10 @@ pub fn read_plan<R: Read, A: Allocator>(
 // without words has no mark.
 fn add_mark<A: Allocator>(
     marks: &mut Vec<Mark, A>,
-    words: Option<FirstWords>,
+    words: Option<&FirstWords>,
 ) -> Result<(), LineFault>
-    ensures ok { OnOk result (plan_line marks.old.items (texts_of words) ≡ Ok marks.new.items) }
-    ensures err { IfErr result (λ fault. IsFaultOf fault (plan_line marks.old.items (texts_of words))) }
+    ensures ok { OnOk result (plan_line marks.old.items (texts_of (option_copied words.entry)) ≡ Ok marks.new.items) }
+    ensures err { IfErr result (λ fault. IsFaultOf fault (plan_line marks.old.items (texts_of (option_copied words.entry)))) }
 {
     let Some(words) = words else {
         return Err(LineFault::Word);

@@ -51,7 +51,7 @@ impl<A: Allocator + Copy> LineSink for Draft<A> {
 
     ghost refuses = { IsScriptFault };
 
-    fn add_line(&mut self, number: u64, words: Option<FirstWords>) -> Result<(), LineFault> {
+    fn add_line(&mut self, number: u64, words: Option<&FirstWords>) -> Result<(), LineFault> {
         self.line(number, words)
     }
 

@@ -67,11 +67,18 @@ impl Words {
         }
     }
 
-    /// Ends the line, and returns its first words.
-    pub(crate) fn finish(mut self) -> FirstWords
-        ensures { (line : List ℕ) → Gathers line self → AreFirst result.items line }
+    /// Ends the line. Its first words are then those in `ended`.
+    pub(crate) fn end(&mut self)
+        ensures { (line : List ℕ) → Gathers line self.old → AreFirst self.new.ended.items line }
     {
         self.end_word();
-        self.ended
+    }
+
+    /// Removes all words.
+    pub(crate) fn clear(&mut self)
+        ensures { Gathers [] self.new }
+    {
+        self.ended.clear();
+        self.last.clear();
     }
 }

@@ -216,7 +216,7 @@ pub(super) const FILES: [Call; 9] = [
         b"",
         2,
         b"",
-        b"swd: plan line 2: word: 'x' is no mark, which are ., wait, deaf, flip BIT and mute BIT\n",
+        b"swd: plan line 2: word: 'x' isn't a mark; the marks are ., wait, deaf, flip BIT and mute BIT\n",
     ),
     (
         "a mark without its bit",
@@ -272,7 +272,7 @@ pub(super) const FILES: [Call; 9] = [
         b"",
         2,
         b"",
-        b"swd: plan line 2: word: 'x' is no mark, which are ., wait, deaf, flip BIT and mute BIT\n",
+        b"swd: plan line 2: word: 'x' isn't a mark; the marks are ., wait, deaf, flip BIT and mute BIT\n",
     ),
     (
         "a remote run's script",

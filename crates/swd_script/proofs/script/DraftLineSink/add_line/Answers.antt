@@ -1,4 +1,5 @@
 use Rattle.std.proofs.Common.{sym, ap, ◌∙◌, subst}
+use Rattle.std.specs.Prelude.{option_copied}
 use Rattle.std.proofs.lemmas.Result.{on_ok_weaker, IfErr-weaker}
 use Rattle.swd_script.specs.Readers.{said, IsFaultOf, IsScriptFault, LineStops, TookScript}
 use Rattle.swd_script.specs.Scripts.{nothing_said, script_line, script_of, whole_script}
@@ -13,17 +14,17 @@ returns-clause-ok g c =
     let number = c.args.number in
     on_ok_weaker c.line.result
     (λ e ended line n h t. after_line script_line nothing_said old (said c.line.new.self) ended line number n t
-    (sym (script_words number old line c.args.words h) ∙ e))
+    (sym (script_words number old line (option_copied c.args.words) h) ∙ e))
     c.line.ensures.ok
 
 pub returns-clause-err : goal.returns-clause-err
 returns-clause-err g c =
     let old = said c.args.self.now in
     let number = c.args.number in
-    IfErr-weaker c.line.result (λ fault. IsFaultOf fault (script_line number old (texts_of c.args.words)))
-    (LineStops TookScript IsScriptFault number c.args.words c.args.self.now)
+    IfErr-weaker c.line.result (λ fault. IsFaultOf fault (script_line number old (texts_of (option_copied c.args.words))))
+    (LineStops TookScript IsScriptFault number (option_copied c.args.words) c.args.self.now)
     (λ fault e text ended line l n h t.
     text_fault script_of script_line nothing_said old (λ text at e. ap whole_script e) text ended line number fault l n
     t
-    (subst (IsFaultOf fault) (script_words number old line c.args.words h) e))
+    (subst (IsFaultOf fault) (script_words number old line (option_copied c.args.words) h) e))
     c.line.ensures.err
