@@ -45,14 +45,33 @@ pub(crate) fn bits_before_start(window: TxBits) -> u8
     ensures within { result ≤ window.len }
     ensures before { (over : Bool) (back : List Bool) → result ≤ gap over (bits_of window ++ back) }
 {
-    let mut rest = window;
+    let mut rest = from_first_place(window);
     while rest.len >= REQUEST_BITS && begins_nothing(rest) {
-        rest = TxBits {
+        rest = from_first_place(TxBits {
             len: rest.len - 1,
             bits: rest.bits / 2,
-        };
+        });
     }
     window.len - rest.len
+}
+
+// Returns the bits from the first one that may be the Start bit of a request, since it and the bit seven places behind
+// it, where Park would be, are ones. Without such a bit returns the last seven. No stretch begins before them.
+#[inline(always)]
+fn from_first_place(window: TxBits) -> TxBits
+    requires spelled { IsSpelled window }
+    requires most { window.len ≤ 50 }
+    ensures spelled { IsSpelled result }
+    ensures within { result.len ≤ window.len }
+    ensures before { (over : Bool) (back : List Bool)
+        → gap over (bits_of window ++ back) ≡ (window.len - result.len) + gap over (bits_of result ++ back) }
+{
+    let places = window.bits & (window.bits >> 7);
+    let skipped = (places.trailing_zeros() as u8).min(window.len.saturating_sub(7));
+    TxBits {
+        len: window.len - skipped,
+        bits: window.bits >> skipped,
+    }
 }
 
 // Returns whether neither a transaction nor fifty ones begin with these bits.
