@@ -1,24 +1,29 @@
 -- Laws of the places where no stretch begins.
-use Rattle.std.proofs.Common.{◌≡◌, ℕ, zero, suc, ◌+◌, ◌-◌, ◌*◌, ◌/◌, ◌%◌, ◌^◌, ◌<◌, ◌≤◌, Bool, true, false, List, [], ◌∷◌}
+use Rattle.std.proofs.Common.{take, subst, ◌≢◌, ◌⊎◌, ◌≡◌, ℕ, zero, suc, ◌+◌, ◌-◌, ◌*◌, ◌/◌, ◌%◌, ◌^◌, ◌<◌, ◌≤◌, Bool, true, false, List, [], ◌∷◌}
 use Rattle.std.proofs.Common.{◌++◌, length, replicate, nat_le, append_assoc, bit_and, refl, sym, ap, ◌∙◌}
 use Rattle.std.proofs.Common.{arith, inl, inr}
 use Rattle.std.specs.Prelude.{◌==◌, min}
 use lib.Count.{count_trailing_zeros}
 use Rattle.std.specs.Int.{bit_at}
 use Rattle.std.proofs.lemmas.Bool.{leb-true, or_cases, eqb-true}
-use Rattle.std.proofs.lemmas.List.{append-nil}
+use Rattle.std.proofs.lemmas.List.{append-nil, take_at}
 use Rattle.std.proofs.lemmas.Nat.{shr-shr}
 use Rattle.std.proofs.lemmas.Nat.Bits.{bit_at-suc, bit_at-lt, bit_at_and, bit_at_lowest}
-use Rattle.swd_bits.specs.Bits.{low_bits, odd}
-use Rattle.swd_bits.specs.Wire.{request}
+use Rattle.swd_bits.specs.Bits.{low_bits}
+use Rattle.swd_bits.specs.Wire.{request, ack}
+use Rattle.swd_bits.specs.declared.ack.Ack.{Ack}
+use Rattle.swd_bits.specs.declared.ack.Ack.TheVariants.{Ok as AckOk, Wait as AckWait, Fault as AckFault}
 use Rattle.swd_bits.specs.Transactions.{ending}
 use Rattle.swd_bits.specs.declared.request.Request.{Request}
 use Rattle.swd_bits.specs.declared.request.Reg4.{Reg4}
 use Rattle.swd_bits.specs.declared.request.Reg4.TheVariants.{R0, R4, R8, RC}
 use Rattle.swd_bits.specs.declared.tx.TxEnd.{TxEnd}
-use Rattle.swd_trace.specs.Reading.{ones}
-use Rattle.swd_trace.proofs.NumberLemmas.{next_bit, zeros_front}
-use Rattle.swd_trace.proofs.ReadingLemmas.{bool_cases}
+use Rattle.swd_trace.specs.Reading.{ones, all_ones}
+use Rattle.swd_trace.proofs.NumberLemmas.{next_bit, zeros_front, parted, low_mod}
+use Rattle.swd_trace.proofs.ReadingLemmas.{bool_cases, ones_end}
+use Rattle.swd_bits.proofs.BitsLemmas.{length-low_bits}
+use Rattle.swd_bits.proofs.TxLemmas.{length_request}
+use Rattle.swd_bits.specs.declared.tx.TxEnd.TheVariants.{Moved, Wait, Fault, NoAck}
 use Rattle.swd_resync.specs.Parts.{begins, gap, pair, is_sound}
 use Rattle.swd_resync.proofs.PairLemmas.{pair_found}
 use Rattle.swd_resync.proofs.StepLemmas.{gap_none}
@@ -96,13 +101,103 @@ pair_asks over bits e =
           ∙ append_assoc (request tx.request) behind (shows.1 ++ rest);
     }
 
-asked_ends : (ap read : Bool) (addr : Reg4) (back : List Bool)
-    → (nth 0 (request (record { ap = ap; read = read; addr = addr }) ++ back) ≡ true)
-    × (nth 7 (request (record { ap = ap; read = read; addr = addr }) ++ back) ≡ true)
-asked_ends ap read R0 back = (refl, refl)
-asked_ends ap read R4 back = (refl, refl)
-asked_ends ap read R8 back = (refl, refl)
-asked_ends ap read RC back = (refl, refl)
+first_eight : (byte : ℕ) (back front rest : List Bool) → low_bits 8 byte ++ back ≡ front ++ rest → length front ≡ 8
+    → low_bits 8 byte ≡ front
+first_eight byte back front rest e n =
+    sym (take_at (low_bits 8 byte) back 8 (length-low_bits 8 byte)) ∙ ap (take 8) e ∙ take_at front rest 8 n
+
+asked_ends : (port read : Bool) (addr : Reg4) (back : List Bool)
+    → (nth 0 (request (record { ap = port; read = read; addr = addr }) ++ back) ≡ true)
+    × (nth 7 (request (record { ap = port; read = read; addr = addr }) ++ back) ≡ true)
+asked_ends port read R0 back = (refl, refl)
+asked_ends port read R4 back = (refl, refl)
+asked_ends port read R8 back = (refl, refl)
+asked_ends port read RC back = (refl, refl)
+
+-- where these eight bits are no request, no pair begins
+pub no_request : (over : Bool) (len v : ℕ) (back : List Bool) → 8 ≤ len
+    → ((q : Request) → request q ≢ low_bits 8 (v % 2 ^ 8)) → pair over (low_bits len v ++ back) ≡ false
+no_request over len v back some none = elim (bool_cases (pair over (low_bits len v ++ back))) [
+  | inr none_here ↦ none_here
+  | inl here ↦
+      let a = pair_asks over (low_bits len v ++ back) here in
+      let others : List Bool = low_bits (len - 8) (v / 2 ^ 8) in
+      let eight : low_bits len v ++ back ≡ low_bits 8 (v % 2 ^ 8) ++ (others ++ back) =
+      ap (λ x. x ++ back) (parted 8 len v some ∙ ap (λ x. x ++ others) (sym (low_mod 8 v)))
+      ∙ append_assoc (low_bits 8 (v % 2 ^ 8)) others back in
+      absurd (none a.asked (sym (first_eight (v % 2 ^ 8) (others ++ back) (request a.asked) _ (sym eight ∙ a.split)
+      (length_request a.asked))))
+]
+
+-- exactly one of three bits is a one
+abbrev IsAcked : List Bool → Type 0
+IsAcked bits = (nth 9 bits ≡ true) × (nth 10 bits ≡ false) × (nth 11 bits ≡ false)
+    ⊎ (nth 9 bits ≡ false) × (nth 10 bits ≡ true) × (nth 11 bits ≡ false)
+    ⊎ (nth 9 bits ≡ false) × (nth 10 bits ≡ false) × (nth 11 bits ≡ true)
+
+-- the three bits behind a request and a turnaround
+behind_request : (port read : Bool) (addr : Reg4) (t : Bool) (back : List Bool)
+    → (nth 9 (request (record { ap = port; read = read; addr = addr }) ++ t ∷ back) ≡ nth 0 back)
+    × (nth 10 (request (record { ap = port; read = read; addr = addr }) ++ t ∷ back) ≡ nth 1 back)
+    × (nth 11 (request (record { ap = port; read = read; addr = addr }) ++ t ∷ back) ≡ nth 2 back)
+behind_request port read R0 t back = (refl, refl, refl)
+behind_request port read R4 t back = (refl, refl, refl)
+behind_request port read R8 t back = (refl, refl, refl)
+behind_request port read RC t back = (refl, refl, refl)
+
+acked : (q : Request) (t u : Bool) (end : TxEnd) (more : List Bool) → is_sound end ≡ true
+    → IsAcked (request q ++ t ∷ (ending q.read end u ++ more))
+acked q t u (Moved word ok) more e = inl (behind_request q.ap q.read q.addr t (ending q.read (Moved word ok) u ++ more))
+acked q t u Wait more e = inr (inl (behind_request q.ap q.read q.addr t (ending q.read Wait u ++ more)))
+acked q t u Fault more e = inr (inr (behind_request q.ap q.read q.addr t (ending q.read Fault u ++ more)))
+acked q t u (NoAck seen) more e = absurd cc
+
+not_acked : (over : Bool) (len v : ℕ) (back : List Bool) → 12 ≤ len → v / 2 ^ 9 % 8 ≢ 1 → v / 2 ^ 9 % 8 ≢ 2
+    → v / 2 ^ 9 % 8 ≢ 4 → pair over (low_bits len v ++ back) ≡ false
+not_acked over len v back some ok wait fault = elim (bool_cases (pair over (low_bits len v ++ back))) [
+  | inr none_here ↦ none_here
+  | inl here ↦
+      let bits : List Bool = low_bits len v ++ back in
+      let a = pair_asks over bits here in
+      let sum : v / 2 ^ 9 % 8 ≡ bit_at v 9 + 2 * bit_at v 10 + 4 * bit_at v 11 = omega arith in
+      let one : (i : ℕ) → i < 12 → nth i bits ≡ true → bit_at v i ≡ 1 =
+      λ i l t. eqb-true _ _ (sym (nth_low i len v back (omega arith)) ∙ t) in
+      let none : (i : ℕ) → i < 12 → nth i bits ≡ false → bit_at v i ≡ 0 =
+      λ i l t. zero_of (bit_at v i) (bit_at-lt v i) (sym (nth_low i len v back (omega arith)) ∙ t) in
+      elim (subst IsAcked (sym a.split) (acked a.asked a.turn a.last a.end a.more a.right)) [
+        | inl x ↦ absurd (ok (omega (arith, sum, one 9 (omega arith) x.0, none 10 (omega arith) x.1, none 11 (omega arith) x.2)))
+        | inr y ↦ elim y [
+          | inl x ↦ absurd (wait (omega (arith, sum, none 9 (omega arith) x.0, one 10 (omega arith) x.1, none 11 (omega arith) x.2)))
+          | inr x ↦ absurd (fault (omega (arith, sum, none 9 (omega arith) x.0, none 10 (omega arith) x.1, one 11 (omega arith) x.2)))
+        ]
+      ]
+]
+
+-- where these three bits are no acknowledgement, no pair begins
+pub no_ack : (over : Bool) (len v : ℕ) (back : List Bool) → 12 ≤ len → ((a : Ack) → ack a ≢ low_bits 3 (v / 2 ^ 9 % 8))
+    → pair over (low_bits len v ++ back) ≡ false
+unfolding low_bits
+no_ack over len v back some none =
+    not_acked over len v back some (λ e. none AckOk (sym (ap (low_bits 3) e))) (λ e. none AckWait (sym (ap (low_bits 3) e)))
+    (λ e. none AckFault (sym (ap (low_bits 3) e)))
+
+-- no stretch begins with fewer than fifty bits among which is a zero, unless a pair does
+pub none_begin : (over : Bool) (len v : ℕ) (back : List Bool) → len ≤ 50 → all_ones (low_bits len v) ≡ false
+    → pair over (low_bits len v ++ back) ≡ false → begins over (low_bits len v ++ back) ≡ false
+none_begin over len v back most zero_among none =
+    elim (bool_cases (begins over (low_bits len v ++ back))) [
+      | inr none_here ↦ none_here
+      | inl here ↦ elim (or_cases (nat_le 50 (ones (low_bits len v ++ back))) (pair over (low_bits len v ++ back)) here) [
+        | inl many ↦
+            let l : length (low_bits len v) ≡ len = length-low_bits len v in
+            let o = ones_end (low_bits len v) back zero_among in
+            let fifty : 50 ≤ ones (low_bits len v ++ back) = leb-true 50 (ones (low_bits len v ++ back)) many in
+            let few : ones (low_bits len v) < length (low_bits len v) = o.1.1 in
+            let same = o.0 in
+            absurd (omega arith)
+        | inr both ↦ let both_ways : true ≡ false = sym both ∙ none in absurd cc
+      ]
+    ]
 
 -- where a stretch begins, the bits where Start and Park of a request would be are ones
 pub begins_ends : (over : Bool) (bits : List Bool) → begins over bits ≡ true

@@ -1,5 +1,4 @@
-use Rattle.std.proofs.Common.{◌≡◌, ◌+◌, ◌-◌, ◌/◌, ◌^◌, ◌<◌, ◌≤◌, Bool, List, ◌++◌, arith}
-use Rattle.swd_trace.proofs.NumberLemmas.{shifted_lt}
+use Rattle.std.proofs.Common.{◌≤◌, arith}
 use Rattle.swd_resync.proofs.PlaceLemmas.{one_before}
 use Rattle.swd_resync.proofs.judge.bits_before_start.Goals as goal
 

@@ -1,8 +1,5 @@
-use Rattle.std.proofs.Common.{◌≡◌, ℕ, zero, suc, ◌+◌, ◌-◌, ◌/◌, ◌%◌, ◌^◌, ◌<◌, ◌≤◌, Bool, List, ◌++◌, bit_and, sym, ap, ◌∙◌, arith}
-use lib.Count.{count_trailing_zeros}
-use Rattle.std.specs.Int.{bit_at}
+use Rattle.std.proofs.Common.{◌/◌, ◌^◌, bit_and, arith}
 use Rattle.swd_trace.proofs.NumberLemmas.{shifted_lt}
-use Rattle.swd_resync.specs.Parts.{gap}
 use Rattle.swd_resync.proofs.PlaceLemmas.{places_before, zero_below}
 use Rattle.swd_resync.proofs.judge.from_first_place.Goals as goal
 
