@@ -11,3 +11,4 @@ pub mod MoveLemmas
 pub mod PairLemmas
 pub mod HoldLemmas
 pub mod ItemLemmas
+pub mod PlaceLemmas

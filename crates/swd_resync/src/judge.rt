@@ -11,7 +11,7 @@ ghost use Rattle.swd_resync.specs.Judged.{Judges, IsClear, IsMost, tx_step};
 
 use crate::held::Held;
 use crate::look::{is_ones, look};
-use swd_bits::{Request, Tx, TxBits, TxEnd};
+use swd_bits::{Ack, Request, Tx, TxBits, TxEnd};
 
 // The number of bits of a request.
 const REQUEST_BITS: u8 = 8;
@@ -45,14 +45,33 @@ pub(crate) fn bits_before_start(window: TxBits) -> u8
     ensures within { result ≤ window.len }
     ensures before { (over : Bool) (back : List Bool) → result ≤ gap over (bits_of window ++ back) }
 {
-    let mut rest = window;
+    let mut rest = from_first_place(window);
     while rest.len >= REQUEST_BITS && begins_nothing(rest) {
-        rest = TxBits {
+        rest = from_first_place(TxBits {
             len: rest.len - 1,
             bits: rest.bits / 2,
-        };
+        });
     }
     window.len - rest.len
+}
+
+// Returns the bits from the first one that may be the Start bit of a request, since it and the bit seven places behind
+// it, where Park would be, are ones. Without such a bit returns the last seven. No stretch begins before them.
+#[inline(always)]
+fn from_first_place(window: TxBits) -> TxBits
+    requires spelled { IsSpelled window }
+    requires most { window.len ≤ 50 }
+    ensures spelled { IsSpelled result }
+    ensures within { result.len ≤ window.len }
+    ensures before { (over : Bool) (back : List Bool)
+        → gap over (bits_of window ++ back) ≡ (window.len - result.len) + gap over (bits_of result ++ back) }
+{
+    let places = window.bits & (window.bits >> 7);
+    let skipped = (places.trailing_zeros() as u8).min(window.len.saturating_sub(7));
+    TxBits {
+        len: window.len - skipped,
+        bits: window.bits >> skipped,
+    }
 }
 
 // Returns whether neither a transaction nor fifty ones begin with these bits.
@@ -63,7 +82,25 @@ fn begins_nothing(window: TxBits) -> bool
     requires most { window.len ≤ 50 }
     ensures { result ≡ true → (over : Bool) (back : List Bool) → begins over (bits_of window ++ back) ≡ false }
 {
-    !is_ones(window) && Request::of((window.bits % 256) as u8).is_none()
+    !is_ones(window) && (lacks_request(window) || lacks_ack(window))
+}
+
+// Returns whether no transaction begins with these bits, since they begin with no request.
+#[inline(always)]
+fn lacks_request(window: TxBits) -> bool
+    requires some { 8 ≤ window.len }
+    ensures { result ≡ true → (over : Bool) (back : List Bool) → pair over (bits_of window ++ back) ≡ false }
+{
+    Request::of((window.bits % 256) as u8).is_none()
+}
+
+// Returns whether no sound transaction begins with these bits, since the three where its acknowledgement would be, behind
+// eight bits and a turnaround, are not OK, WAIT or FAULT.
+#[inline(always)]
+fn lacks_ack(window: TxBits) -> bool
+    ensures { result ≡ true → (over : Bool) (back : List Bool) → pair over (bits_of window ++ back) ≡ false }
+{
+    window.len >= 12 && Ack::of(((window.bits >> 9) % 8) as u8).is_none()
 }
 
 // Returns whether two sound transactions are at the front, with at most zeros between them.
