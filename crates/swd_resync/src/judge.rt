@@ -69,6 +69,10 @@ fn from_first_place(window: TxBits) -> TxBits
     ensures before { (over : Bool) (back : List Bool)
         → gap over (bits_of window ++ back) ≡ (window.len - result.len) + gap over (bits_of result ++ back) }
 {
+    // With eight ones here this is such a place, as many in a row may be: no others are looked for.
+    if window.bits % 256 == 255 {
+        return window;
+    }
     let skipped = (places_of(window.bits).trailing_zeros() as u8).min(window.len.saturating_sub(7));
     TxBits {
         len: window.len - skipped,
