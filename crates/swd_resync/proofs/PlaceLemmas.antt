@@ -1,15 +1,16 @@
--- Laws of the places where no stretch begins.
-use Rattle.std.proofs.Common.{take, subst, ◌≢◌, ◌⊎◌, ◌≡◌, ℕ, zero, suc, ◌+◌, ◌-◌, ◌*◌, ◌/◌, ◌%◌, ◌^◌, ◌<◌, ◌≤◌, Bool, true, false, List, [], ◌∷◌}
-use Rattle.std.proofs.Common.{◌++◌, length, replicate, nat_le, append_assoc, bit_and, refl, sym, ap, ◌∙◌}
-use Rattle.std.proofs.Common.{arith, inl, inr}
-use Rattle.std.specs.Prelude.{◌==◌, min}
-use lib.Count.{count_trailing_zeros}
-use Rattle.std.specs.Int.{bit_at}
-use Rattle.std.proofs.lemmas.Bool.{leb-true, or_cases, eqb-true}
+-- Laws of the places where no stretch begins, and of those where one may.
+use Rattle.std.proofs.Common.{take, subst, ◌≢◌, ◌⊎◌, ◌≡◌, ℕ, zero, suc, ◌+◌, ◌-◌, ◌*◌, ◌/◌, ◌%◌, ◌^◌, ◌<◌, ◌≤◌}
+use Rattle.std.proofs.Common.{Bool, true, false, List, [], ◌∷◌, ◌++◌, length, replicate, nat_le, append_assoc}
+use Rattle.std.proofs.Common.{bit_and, refl, sym, ap, ◌∙◌, arith, inl, inr, bit_or, bit_xor}
+use Rattle.std.specs.Prelude.{◌==◌}
+use Rattle.std.specs.Int.{bit_at, bit_not, w64}
+use Rattle.std.proofs.lemmas.Bool.{cases_lt, leb-true, or_cases, eqb-true}
+use Rattle.std.proofs.lemmas.Nat.{or_lt, xor_lt, and_le_l, shr_le, shr-shr}
+use Rattle.std.proofs.lemmas.Nat.Bits.{bit_at_or, bit_at_xor, bit_at_not, bit_at_above, bit_at-suc, bit_at-lt}
+use Rattle.std.proofs.lemmas.Nat.Bits.{bit_at_and, bit_at_lowest}
 use Rattle.std.proofs.lemmas.List.{append-nil, take_at}
-use Rattle.std.proofs.lemmas.Nat.{shr-shr}
-use Rattle.std.proofs.lemmas.Nat.Bits.{bit_at-suc, bit_at-lt, bit_at_and, bit_at_lowest}
-use Rattle.swd_bits.specs.Bits.{low_bits}
+use lib.Count.{count_trailing_zeros}
+use Rattle.swd_bits.specs.Bits.{low_bits, bit}
 use Rattle.swd_bits.specs.Wire.{request, ack}
 use Rattle.swd_bits.specs.declared.ack.Ack.{Ack}
 use Rattle.swd_bits.specs.declared.ack.Ack.TheVariants.{Ok as AckOk, Wait as AckWait, Fault as AckFault}
@@ -18,12 +19,12 @@ use Rattle.swd_bits.specs.declared.request.Request.{Request}
 use Rattle.swd_bits.specs.declared.request.Reg4.{Reg4}
 use Rattle.swd_bits.specs.declared.request.Reg4.TheVariants.{R0, R4, R8, RC}
 use Rattle.swd_bits.specs.declared.tx.TxEnd.{TxEnd}
-use Rattle.swd_trace.specs.Reading.{ones, all_ones}
-use Rattle.swd_trace.proofs.NumberLemmas.{next_bit, zeros_front, parted, low_mod}
-use Rattle.swd_trace.proofs.ReadingLemmas.{bool_cases, ones_end}
 use Rattle.swd_bits.proofs.BitsLemmas.{length-low_bits}
 use Rattle.swd_bits.proofs.TxLemmas.{length_request}
 use Rattle.swd_bits.specs.declared.tx.TxEnd.TheVariants.{Moved, Wait, Fault, NoAck}
+use Rattle.swd_trace.specs.Reading.{ones, all_ones}
+use Rattle.swd_trace.proofs.NumberLemmas.{next_bit, zeros_front, parted, low_mod}
+use Rattle.swd_trace.proofs.ReadingLemmas.{bool_cases, ones_end}
 use Rattle.swd_resync.specs.Parts.{begins, gap, pair, is_sound}
 use Rattle.swd_resync.proofs.PairLemmas.{pair_found}
 use Rattle.swd_resync.proofs.StepLemmas.{gap_none}
@@ -31,20 +32,20 @@ use Rattle.swd_resync.proofs.StepLemmas.{gap_none}
 -- ---- one of the bits
 
 -- the bit with this number, the first being number 0
-abbrev pub nth : ℕ → List Bool → Bool
+abbrev nth : ℕ → List Bool → Bool
 nth i [] = false
 nth zero (b ∷ bits) = b
 nth (suc i) (b ∷ bits) = nth i bits
 
 -- it is that of the number
-pub nth_low : (i n v : ℕ) (back : List Bool) → i < n → nth i (low_bits n v ++ back) ≡ (bit_at v i == 1)
+nth_low : (i n v : ℕ) (back : List Bool) → i < n → nth i (low_bits n v ++ back) ≡ (bit_at v i == 1)
 unfolding low_bits
 nth_low i zero v back h = absurd (omega arith)
 nth_low zero (suc n) v back h = ap (λ d. d == 1) (sym (bit_at_lowest v))
 nth_low (suc i) (suc n) v back h = nth_low i n (v / 2) back (omega arith) ∙ ap (λ d. d == 1) (sym (bit_at-suc v i))
 
 -- bits that are ones
-pub nth_ones : (i : ℕ) (bits : List Bool) → i < ones bits → nth i bits ≡ true
+nth_ones : (i : ℕ) (bits : List Bool) → i < ones bits → nth i bits ≡ true
 nth_ones i [] h = absurd (omega arith)
 nth_ones i (false ∷ bits) h = absurd (omega arith)
 nth_ones zero (true ∷ bits) h = refl
@@ -70,16 +71,16 @@ zero_below k v i h =
 -- ---- the bits of a pair
 
 -- the bits begin with a request, and a sound transaction is behind it
-pub record Asks (bits : List Bool) : Type 0 where
-  pub asked : Request
-  pub turn : Bool
-  pub end : TxEnd
-  pub last : Bool
-  pub more : List Bool
-  pub right : is_sound end ≡ true
-  pub split : bits ≡ request asked ++ turn ∷ (ending asked.read end last ++ more)
+record Asks (bits : List Bool) : Type 0 where
+  asked : Request
+  turn : Bool
+  end : TxEnd
+  last : Bool
+  more : List Bool
+  right : is_sound end ≡ true
+  split : bits ≡ request asked ++ turn ∷ (ending asked.read end last ++ more)
 
-pub pair_asks : (over : Bool) (bits : List Bool) → pair over bits ≡ true → Asks bits
+pair_asks : (over : Bool) (bits : List Bool) → pair over bits ≡ true → Asks bits
 pair_asks over bits e =
     let p = pair_found over bits e in
     let tx = p.0 in
@@ -105,14 +106,6 @@ first_eight : (byte : ℕ) (back front rest : List Bool) → low_bits 8 byte ++ 
     → low_bits 8 byte ≡ front
 first_eight byte back front rest e n =
     sym (take_at (low_bits 8 byte) back 8 (length-low_bits 8 byte)) ∙ ap (take 8) e ∙ take_at front rest 8 n
-
-asked_ends : (port read : Bool) (addr : Reg4) (back : List Bool)
-    → (nth 0 (request (record { ap = port; read = read; addr = addr }) ++ back) ≡ true)
-    × (nth 7 (request (record { ap = port; read = read; addr = addr }) ++ back) ≡ true)
-asked_ends port read R0 back = (refl, refl)
-asked_ends port read R4 back = (refl, refl)
-asked_ends port read R8 back = (refl, refl)
-asked_ends port read RC back = (refl, refl)
 
 -- where these eight bits are no request, no pair begins
 pub no_request : (over : Bool) (len v : ℕ) (back : List Bool) → 8 ≤ len
@@ -165,10 +158,28 @@ not_acked over len v back some ok wait fault = elim (bool_cases (pair over (low_
       let none : (i : ℕ) → i < 12 → nth i bits ≡ false → bit_at v i ≡ 0 =
       λ i l t. zero_of (bit_at v i) (bit_at-lt v i) (sym (nth_low i len v back (omega arith)) ∙ t) in
       elim (subst IsAcked (sym a.split) (acked a.asked a.turn a.last a.end a.more a.right)) [
-        | inl x ↦ absurd (ok (omega (arith, sum, one 9 (omega arith) x.0, none 10 (omega arith) x.1, none 11 (omega arith) x.2)))
+        | inl x ↦ absurd (ok (omega (
+          arith,
+          sum,
+          one 9 (omega arith) x.0,
+          none 10 (omega arith) x.1,
+          none 11 (omega arith) x.2,
+        )))
         | inr y ↦ elim y [
-          | inl x ↦ absurd (wait (omega (arith, sum, none 9 (omega arith) x.0, one 10 (omega arith) x.1, none 11 (omega arith) x.2)))
-          | inr x ↦ absurd (fault (omega (arith, sum, none 9 (omega arith) x.0, none 10 (omega arith) x.1, one 11 (omega arith) x.2)))
+          | inl x ↦ absurd (wait (omega (
+            arith,
+            sum,
+            none 9 (omega arith) x.0,
+            one 10 (omega arith) x.1,
+            none 11 (omega arith) x.2,
+          )))
+          | inr x ↦ absurd (fault (omega (
+            arith,
+            sum,
+            none 9 (omega arith) x.0,
+            none 10 (omega arith) x.1,
+            one 11 (omega arith) x.2,
+          )))
         ]
       ]
 ]
@@ -178,8 +189,8 @@ pub no_ack : (over : Bool) (len v : ℕ) (back : List Bool) → 12 ≤ len → (
     → pair over (low_bits len v ++ back) ≡ false
 unfolding low_bits
 no_ack over len v back some none =
-    not_acked over len v back some (λ e. none AckOk (sym (ap (low_bits 3) e))) (λ e. none AckWait (sym (ap (low_bits 3) e)))
-    (λ e. none AckFault (sym (ap (low_bits 3) e)))
+    not_acked over len v back some (λ e. none AckOk (sym (ap (low_bits 3) e)))
+    (λ e. none AckWait (sym (ap (low_bits 3) e))) (λ e. none AckFault (sym (ap (low_bits 3) e)))
 
 -- no stretch begins with fewer than fifty bits among which is a zero, unless a pair does
 pub none_begin : (over : Bool) (len v : ℕ) (back : List Bool) → len ≤ 50 → all_ones (low_bits len v) ≡ false
@@ -187,30 +198,204 @@ pub none_begin : (over : Bool) (len v : ℕ) (back : List Bool) → len ≤ 50 �
 none_begin over len v back most zero_among none =
     elim (bool_cases (begins over (low_bits len v ++ back))) [
       | inr none_here ↦ none_here
-      | inl here ↦ elim (or_cases (nat_le 50 (ones (low_bits len v ++ back))) (pair over (low_bits len v ++ back)) here) [
-        | inl many ↦
-            let l : length (low_bits len v) ≡ len = length-low_bits len v in
-            let o = ones_end (low_bits len v) back zero_among in
-            let fifty : 50 ≤ ones (low_bits len v ++ back) = leb-true 50 (ones (low_bits len v ++ back)) many in
-            let few : ones (low_bits len v) < length (low_bits len v) = o.1.1 in
-            let same = o.0 in
-            absurd (omega arith)
-        | inr both ↦ let both_ways : true ≡ false = sym both ∙ none in absurd cc
-      ]
+      | inl here ↦
+          let bits : List Bool = low_bits len v ++ back in
+          elim (or_cases (nat_le 50 (ones bits)) (pair over bits) here) [
+            | inl many ↦
+                let l : length (low_bits len v) ≡ len = length-low_bits len v in
+                let o = ones_end (low_bits len v) back zero_among in
+                let fifty : 50 ≤ ones (low_bits len v ++ back) = leb-true 50 (ones (low_bits len v ++ back)) many in
+                let few : ones (low_bits len v) < length (low_bits len v) = o.1.1 in
+                let same = o.0 in
+                absurd (omega arith)
+            | inr both ↦ let both_ways : true ≡ false = sym both ∙ none in absurd cc
+          ]
     ]
 
--- where a stretch begins, the bits where Start and Park of a request would be are ones
-pub begins_ends : (over : Bool) (bits : List Bool) → begins over bits ≡ true
-    → (nth 0 bits ≡ true) × (nth 7 bits ≡ true)
-begins_ends over bits e = elim (or_cases (nat_le 50 (ones bits)) (pair over bits) e) [
-  | inl many ↦
-      let h : 50 ≤ ones bits = leb-true 50 (ones bits) many in
-      (nth_ones 0 bits (omega arith), nth_ones 7 bits (omega arith))
-  | inr both ↦
-      let a = pair_asks over bits both in
-      let r = asked_ends a.asked.ap a.asked.read a.asked.addr (a.turn ∷ (ending a.asked.read a.end a.last ++ a.more)) in
-      (ap (nth 0) a.split ∙ r.0, ap (nth 7) a.split ∙ r.1)
+-- ---- the places where a stretch may begin
+
+-- the bits of a request, as numbers
+record IsAsked (bits : List Bool) : Type 0 where
+  start : bit (nth 0 bits) ≡ 1
+  even : (bit (nth 1 bits) + bit (nth 2 bits) + bit (nth 3 bits) + bit (nth 4 bits) + bit (nth 5 bits)) % 2 ≡ 0
+  stop : bit (nth 6 bits) ≡ 0
+  park : bit (nth 7 bits) ≡ 1
+
+asked_bits : (port read : Bool) (addr : Reg4) (back : List Bool)
+    → IsAsked (request (record { ap = port; read = read; addr = addr }) ++ back)
+asked_bits false false R0 back = record { start = refl; even = refl; stop = refl; park = refl }
+asked_bits false false R4 back = record { start = refl; even = refl; stop = refl; park = refl }
+asked_bits false false R8 back = record { start = refl; even = refl; stop = refl; park = refl }
+asked_bits false false RC back = record { start = refl; even = refl; stop = refl; park = refl }
+asked_bits false true R0 back = record { start = refl; even = refl; stop = refl; park = refl }
+asked_bits false true R4 back = record { start = refl; even = refl; stop = refl; park = refl }
+asked_bits false true R8 back = record { start = refl; even = refl; stop = refl; park = refl }
+asked_bits false true RC back = record { start = refl; even = refl; stop = refl; park = refl }
+asked_bits true false R0 back = record { start = refl; even = refl; stop = refl; park = refl }
+asked_bits true false R4 back = record { start = refl; even = refl; stop = refl; park = refl }
+asked_bits true false R8 back = record { start = refl; even = refl; stop = refl; park = refl }
+asked_bits true false RC back = record { start = refl; even = refl; stop = refl; park = refl }
+asked_bits true true R0 back = record { start = refl; even = refl; stop = refl; park = refl }
+asked_bits true true R4 back = record { start = refl; even = refl; stop = refl; park = refl }
+asked_bits true true R8 back = record { start = refl; even = refl; stop = refl; park = refl }
+asked_bits true true RC back = record { start = refl; even = refl; stop = refl; park = refl }
+
+one_seen : (bits : List Bool) → IsAcked bits → bit (nth 9 bits) + bit (nth 10 bits) + bit (nth 11 bits) ≡ 1
+one_seen bits (inl x) = omega (arith, ap bit x.0, ap bit x.1, ap bit x.2)
+one_seen bits (inr (inl x)) = omega (arith, ap bit x.0, ap bit x.1, ap bit x.2)
+one_seen bits (inr (inr x)) = omega (arith, ap bit x.0, ap bit x.1, ap bit x.2)
+
+bit_of : (d : ℕ) → d < 2 → bit (d == 1) ≡ d
+bit_of zero h = refl
+bit_of (suc zero) h = refl
+bit_of (suc (suc d)) h = absurd (omega arith)
+
+-- each of the bits is that of the number, and those of the number past the count are zeros
+bit_low : (i n v : ℕ) (back : List Bool) → i < n → bit_at v i ≡ bit (nth i (low_bits n v ++ back))
+bit_low i n v back h = sym (ap bit (nth_low i n v back h) ∙ bit_of (bit_at v i) (bit_at-lt v i))
+
+bit_most : (i n v : ℕ) (back : List Bool) → v < 2 ^ n → bit_at v i ≤ bit (nth i (low_bits n v ++ back))
+bit_most i n v back fits = elim (cases_lt i n) [
+  | inl here ↦ let same = bit_low i n v back here in omega arith
+  | inr past ↦ let none = bit_at_above v n i fits past in omega arith
 ]
+
+same_place : (v k i : ℕ) → bit_at (v / 2 ^ k) i ≡ bit_at (v / 2 ^ i) k
+same_place v k i = ap (λ x. x % 2) (shr-shr v k i ∙ ap (λ n. v / 2 ^ n) (omega arith) ∙ sym (shr-shr v i k))
+
+and_ones : (a b i : ℕ) → bit_at a i ≡ 1 → bit_at b i ≡ 1 → bit_at (bit_and a b) i ≡ 1
+and_ones a b i p q = omega (arith, bit_at_and a b i)
+
+and_few : (a b i : ℕ) → bit_at a i + bit_at b i ≤ 1 → bit_at (bit_and a b) i ≡ 0
+and_few a b i p = omega (arith, bit_at_and a b i)
+
+or_first : (a b i : ℕ) → bit_at a i ≡ 1 → bit_at (bit_or a b) i ≡ 1
+or_first a b i p = omega (arith, bit_at_or a b i, bit_at-lt b i)
+
+or_second : (a b i : ℕ) → bit_at b i ≡ 1 → bit_at (bit_or a b) i ≡ 1
+or_second a b i p = omega (arith, bit_at_or a b i, bit_at-lt a i)
+
+or_none : (a b i : ℕ) → bit_at a i ≡ 0 → bit_at b i ≡ 0 → bit_at (bit_or a b) i ≡ 0
+or_none a b i p q = omega (arith, bit_at_or a b i)
+
+-- the numbers that the code makes of the bits
+abbrev pub run_marks : ℕ → ℕ
+run_marks v = bit_and (bit_and (bit_and (bit_and (bit_and (v / 2 ^ 1) (v / 2 ^ 2)) (v / 2 ^ 3)) (v / 2 ^ 4))
+    (v / 2 ^ 5)) (v / 2 ^ 6)
+
+abbrev pub odd_marks : ℕ → ℕ
+odd_marks v = bit_xor (bit_xor (bit_xor (bit_xor (v / 2 ^ 1) (v / 2 ^ 2)) (v / 2 ^ 3)) (v / 2 ^ 4)) (v / 2 ^ 5)
+
+abbrev pub several_marks : ℕ → ℕ
+several_marks v = bit_or (bit_and (v / 2 ^ 9) (v / 2 ^ 10)) (bit_and (bit_or (v / 2 ^ 9) (v / 2 ^ 10)) (v / 2 ^ 11))
+
+abbrev pub wrong_marks : ℕ → ℕ
+wrong_marks v = bit_or (bit_or (v / 2 ^ 6) (odd_marks v)) (several_marks v)
+
+abbrev pub place_marks : ℕ → ℕ
+place_marks v = bit_and (bit_and v (v / 2 ^ 7)) (bit_or (run_marks v) (bit_not w64 (wrong_marks v)))
+
+small : (v k : ℕ) → v < 2 ^ 64 → v / 2 ^ k < 2 ^ 64
+small v k h = let less = shr_le v k in omega arith
+
+wrong_fits : (v : ℕ) → v < 2 ^ 64 → wrong_marks v < 2 ^ 64
+wrong_fits v h =
+    let s = small v in
+    or_lt 64 _ _ (or_lt 64 _ _ (s 6 h) (xor_lt 64 _ _ (xor_lt 64 _ _ (xor_lt 64 _ _ (xor_lt 64 _ _ (s 1 h) (s 2 h))
+    (s 3 h)) (s 4 h)) (s 5 h)))
+    (or_lt 64 _ _ (and_lt (v / 2 ^ 9) (v / 2 ^ 10) (s 9 h))
+    (and_lt (bit_or (v / 2 ^ 9) (v / 2 ^ 10)) (v / 2 ^ 11) (or_lt 64 _ _ (s 9 h) (s 10 h))))
+  where
+    and_lt : (a b : ℕ) → a < 2 ^ 64 → bit_and a b < 2 ^ 64
+    and_lt a b h = let less = and_le_l a b in omega arith
+
+-- a run of ones is marked
+run_marked : (v i : ℕ) → ((k : ℕ) → k < 8 → bit_at (v / 2 ^ k) i ≡ 1) → bit_at (run_marks v) i ≡ 1
+run_marked v i one =
+    and_ones _ _ i (and_ones _ _ i (and_ones _ _ i (and_ones _ _ i (and_ones _ _ i (one 1 (omega arith))
+    (one 2 (omega arith))) (one 3 (omega arith))) (one 4 (omega arith))) (one 5 (omega arith))) (one 6 (omega arith))
+
+even_marked : (v i : ℕ) → (bit_at (v / 2 ^ 1) i + bit_at (v / 2 ^ 2) i + bit_at (v / 2 ^ 3) i + bit_at (v / 2 ^ 4) i
+    + bit_at (v / 2 ^ 5) i) % 2 ≡ 0 → bit_at (odd_marks v) i ≡ 0
+even_marked v i even =
+    let a : ℕ = bit_xor (v / 2 ^ 1) (v / 2 ^ 2) in
+    let b : ℕ = bit_xor a (v / 2 ^ 3) in
+    let c : ℕ = bit_xor b (v / 2 ^ 4) in
+    by _ _ _ _ _ (bit_at a i) (bit_at b i) (bit_at c i) (bit_at (odd_marks v) i) even
+    (bit_at_xor (v / 2 ^ 1) (v / 2 ^ 2) i) (bit_at_xor a (v / 2 ^ 3) i) (bit_at_xor b (v / 2 ^ 4) i)
+    (bit_at_xor c (v / 2 ^ 5) i)
+  where
+    by : (p q r s t a b c d : ℕ) → (p + q + r + s + t) % 2 ≡ 0 → a ≡ (p + q) % 2 → b ≡ (a + r) % 2 → c ≡ (b + s) % 2
+        → d ≡ (c + t) % 2 → d ≡ 0
+    by p q r s t a b c d even ea eb ec ed = omega arith
+
+few_marked : (v i : ℕ) → bit_at (v / 2 ^ 9) i + bit_at (v / 2 ^ 10) i + bit_at (v / 2 ^ 11) i ≤ 1
+    → bit_at (several_marks v) i ≡ 0
+few_marked v i few =
+    or_none (bit_and (v / 2 ^ 9) (v / 2 ^ 10)) (bit_and (bit_or (v / 2 ^ 9) (v / 2 ^ 10)) (v / 2 ^ 11)) i
+    (and_few (v / 2 ^ 9) (v / 2 ^ 10) i (omega arith))
+    (and_few (bit_or (v / 2 ^ 9) (v / 2 ^ 10)) (v / 2 ^ 11) i
+    (let either = bit_at_or (v / 2 ^ 9) (v / 2 ^ 10) i in omega arith))
+
+-- where a stretch begins, the place is marked
+place_marked : (over : Bool) (len v i : ℕ) (back : List Bool) → v < 2 ^ 64 → 8 ≤ len → i + len ≤ 64
+    → v / 2 ^ i < 2 ^ len
+    → begins over (low_bits len (v / 2 ^ i) ++ back) ≡ true → bit_at (place_marks v) i ≡ 1
+place_marked over len v i back h some within fits e =
+    elim (or_cases (nat_le 50 (ones bits)) (pair over bits) e) [
+      | inl many ↦
+          let fifty : 50 ≤ ones bits = leb-true 50 (ones bits) many in
+          let one : (k : ℕ) → k < 8 → bit_at (v / 2 ^ k) i ≡ 1 =
+          λ k l. equal k l ∙ ap bit (nth_ones k bits (omega arith)) in
+          and_ones _ _ i (and_ones v _ i (start ∙ one 0 (omega arith)) (one 7 (omega arith)))
+          (or_first _ (bit_not w64 (wrong_marks v)) i (run_marked v i one))
+      | inr both ↦
+          let a = pair_asks over bits both in
+          let behind : List Bool = a.turn ∷ (ending a.asked.read a.end a.last ++ a.more) in
+          let asked : IsAsked bits =
+          subst IsAsked (sym a.split) (asked_bits a.asked.ap a.asked.read a.asked.addr behind) in
+          let seen = one_seen bits (subst IsAcked (sym a.split) (acked a.asked a.turn a.last a.end a.more a.right)) in
+          let even : bit_at (odd_marks v) i ≡ 0 =
+          even_marked v i (omega (
+            arith,
+            asked.even,
+            equal 1 (omega arith),
+            equal 2 (omega arith),
+            equal 3 (omega arith),
+            equal 4 (omega arith),
+            equal 5 (omega arith),
+          )) in
+          let few : bit_at (several_marks v) i ≡ 0 =
+          few_marked v i (omega (arith, seen, most 9, most 10, most 11)) in
+          let none : bit_at (wrong_marks v) i ≡ 0 =
+          or_none _ _ i (or_none _ _ i (equal 6 (omega arith) ∙ asked.stop) even) few in
+          let right : bit_at (bit_not w64 (wrong_marks v)) i ≡ 1 =
+          bit_at_not w64 (wrong_marks v) i (wrong_fits v h) (omega arith) ∙ ap (λ d. 1 - d) none in
+          and_ones _ _ i (and_ones v _ i (start ∙ equal 0 (omega arith) ∙ asked.start)
+          (equal 7 (omega arith) ∙ asked.park))
+          (or_second (run_marks v) _ i right)
+    ]
+  where
+    bits : List Bool
+    bits = low_bits len (v / 2 ^ i) ++ back
+
+    start : bit_at v i ≡ bit_at (v / 2 ^ 0) i
+    start = let same : v ≡ v / 2 ^ 0 = omega arith in ap (λ x. bit_at x i) same
+
+    equal : (k : ℕ) → k < 8 → bit_at (v / 2 ^ k) i ≡ bit (nth k bits)
+    equal k l = same_place v k i ∙ bit_low k len (v / 2 ^ i) back (omega arith)
+
+    most : (k : ℕ) → bit_at (v / 2 ^ k) i ≤ bit (nth k bits)
+    most k = let same = same_place v k i in let less = bit_most k len (v / 2 ^ i) back fits in omega arith
+
+-- no stretch begins at a place that isn't marked
+pub not_marked : (over : Bool) (len v i : ℕ) (back : List Bool) → v < 2 ^ 64 → 8 ≤ len → i + len ≤ 64
+    → v / 2 ^ i < 2 ^ len → bit_at (place_marks v) i ≡ 0 → begins over (low_bits len (v / 2 ^ i) ++ back) ≡ false
+not_marked over len v i back h some within fits none =
+    elim (bool_cases (begins over (low_bits len (v / 2 ^ i) ++ back))) [
+      | inr none_here ↦ none_here
+      | inl here ↦ let marked = place_marked over len v i back h some within fits here in absurd (omega arith)
+    ]
 
 -- ---- the bits before a stretch
 
@@ -224,52 +409,30 @@ one_before over m v back some none =
     let g = gap_none over (v % 2 == 1) (low_bits (m - 1) (v / 2) ++ back) no in
     ap (λ x. gap over (x ++ back)) next ∙ g ∙ omega arith
 
--- no stretch begins where one of these two bits is a zero
-none_here : (over : Bool) (m v : ℕ) (back : List Bool) → 8 ≤ m → min (bit_at v 0) (bit_at v 7) ≡ 0
-    → begins over (low_bits m v ++ back) ≡ false
-none_here over m v back some zero_there = elim (bool_cases (begins over (low_bits m v ++ back))) [
-  | inr none ↦ none
-  | inl here ↦
-      let ends = begins_ends over (low_bits m v ++ back) here in
-      let start : bit_at v 0 ≡ 1 = eqb-true _ _ (sym (nth_low 0 m v back (omega arith)) ∙ ends.0) in
-      let park : bit_at v 7 ≡ 1 = eqb-true _ _ (sym (nth_low 7 m v back (omega arith)) ∙ ends.1) in
-      absurd (omega arith)
-]
-
--- some bits come before the next stretch if at each of them one of the two is a zero
-many_before : (over : Bool) (n m v : ℕ) (back : List Bool) → (0 < n → n + 7 ≤ m)
-    → ((i : ℕ) → i < n → min (bit_at v i) (bit_at v (i + 7)) ≡ 0)
+-- some bits come before the next stretch if no stretch begins at any of them
+pub many_before : (over : Bool) (n m v : ℕ) (back : List Bool) → n ≤ m
+    → ((i : ℕ) → i < n → begins over (low_bits (m - i) (v / 2 ^ i) ++ back) ≡ false)
     → gap over (low_bits m v ++ back) ≡ n + gap over (low_bits (m - n) (v / 2 ^ n) ++ back)
 many_before over zero m v back some none =
-    let all : m - 0 ≡ m = omega arith in
-    let same : v / 2 ^ 0 ≡ v = omega arith in
+    let all : m ≡ m - 0 = omega arith in
+    let same : v ≡ v / 2 ^ 0 = omega arith in
     let kept : gap over (low_bits m v ++ back) ≡ gap over (low_bits (m - 0) (v / 2 ^ 0) ++ back) =
-    ap (λ k. gap over (low_bits k v ++ back)) (sym all)
-    ∙ ap (λ w. gap over (low_bits (m - 0) w ++ back)) (sym same) in
+    (λ j. gap over (low_bits (all j) (same j) ++ back)) in
     omega arith
 many_before over (suc n) m v back some none =
-    let fits : suc n + 7 ≤ m = some (omega arith) in
-    let one = one_before over m v back (omega arith)
-    (none_here over m v back (omega arith) (none 0 (omega arith))) in
-    let others = many_before over n (m - 1) (v / 2) back (λ _. omega arith)
-    (λ i l. ap (λ d. min d (bit_at (v / 2) (i + 7))) (sym (bit_at-suc v i))
-    ∙ ap (min (bit_at v (suc i))) (sym (bit_at-suc v (i + 7)) ∙ ap (bit_at v) (omega arith))
-    ∙ none (suc i) (omega arith)) in
+    let all : m - 0 ≡ m = omega arith in
+    let same : v / 2 ^ 0 ≡ v = omega arith in
+    let first : begins over (low_bits m v ++ back) ≡ false =
+    sym (λ j. begins over (low_bits (all j) (same j) ++ back)) ∙ none 0 (omega arith) in
+    let one = one_before over m v back (omega arith) first in
+    let others = many_before over n (m - 1) (v / 2) back (omega arith)
+    (λ i l.
+    let less : m - 1 - i ≡ m - suc i = omega arith in
+    let shift : v / 2 / 2 ^ i ≡ v / 2 ^ suc i = shr-shr v 1 i ∙ ap (λ k. v / 2 ^ k) (omega arith) in
+    (λ j. begins over (low_bits (less j) (shift j) ++ back)) ∙ none (suc i) (omega arith)) in
     let less : m - 1 - n ≡ m - suc n = omega arith in
     let shift : v / 2 / 2 ^ n ≡ v / 2 ^ suc n = shr-shr v 1 n ∙ ap (λ k. v / 2 ^ k) (omega arith) in
     let end : gap over (low_bits (m - 1 - n) (v / 2 / 2 ^ n) ++ back)
     ≡ gap over (low_bits (m - suc n) (v / 2 ^ suc n) ++ back) =
-    ap (λ k. gap over (low_bits k (v / 2 / 2 ^ n) ++ back)) less
-    ∙ ap (λ w. gap over (low_bits (m - suc n) w ++ back)) shift in
+    (λ j. gap over (low_bits (less j) (shift j) ++ back)) in
     omega arith
-
--- the bits before the first place where both are ones come before the next stretch
-pub places_before : (over : Bool) (n m v : ℕ) (back : List Bool) → (0 < n → n + 7 ≤ m)
-    → ((i : ℕ) → i < n → bit_at (bit_and v (v / 2 ^ 7)) i ≡ 0)
-    → gap over (low_bits m v ++ back) ≡ n + gap over (low_bits (m - n) (v / 2 ^ n) ++ back)
-places_before over n m v back some none =
-    many_before over n m v back some
-    (λ i l.
-    let shift : bit_at (v / 2 ^ 7) i ≡ bit_at v (i + 7) =
-    ap (λ x. x % 2) (shr-shr v 7 i ∙ ap (λ k. v / 2 ^ k) (omega arith)) in
-    ap (min (bit_at v i)) (sym shift) ∙ sym (bit_at_and v (v / 2 ^ 7) i) ∙ none i l)

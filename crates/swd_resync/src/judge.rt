@@ -1,6 +1,9 @@
 //! Decides whether a stretch begins or continues at a place of a capture. `over` means overrun detection;
 //! `ended` means that no bits follow the held ones. The functions return `None` if more bits are needed.
-ghost use Rattle.std.specs.Prelude.{◌≡◌, ◌+◌, ◌-◌, ◌<◌, ◌≤◌, List, Bool, ◌++◌, length, true, false, IfSome, IfNone};
+ghost use Rattle.std.specs.Prelude.{◌≡◌, ℕ, ◌+◌, ◌-◌, ◌/◌, ◌^◌, ◌<◌, ◌≤◌, List, Bool, ◌++◌, length, true, false};
+ghost use Rattle.std.specs.Prelude.{IfSome, IfNone};
+ghost use Rattle.std.specs.Int.{bit_at};
+ghost use Rattle.swd_bits.specs.Bits.{low_bits};
 ghost use Rattle.swd_bits.specs.BitLists.{bits_of, IsSpelled};
 ghost use Rattle.swd_trace.specs.Reading.{whole};
 ghost use Rattle.swd_resync.specs.Parts.{sound, sound_next, pair, begins, goes_on, ended_or_reset, followed_by};
@@ -55,8 +58,8 @@ pub(crate) fn bits_before_start(window: TxBits) -> u8
     window.len - rest.len
 }
 
-// Returns the bits from the first one that may be the Start bit of a request, since it and the bit seven places behind
-// it, where Park would be, are ones. Without such a bit returns the last seven. No stretch begins before them.
+// Returns the bits from the first place on where a stretch may begin, as `places_of` says, or the last seven if there
+// is no such place.
 #[inline(always)]
 fn from_first_place(window: TxBits) -> TxBits
     requires spelled { IsSpelled window }
@@ -66,12 +69,28 @@ fn from_first_place(window: TxBits) -> TxBits
     ensures before { (over : Bool) (back : List Bool)
         → gap over (bits_of window ++ back) ≡ (window.len - result.len) + gap over (bits_of result ++ back) }
 {
-    let places = window.bits & (window.bits >> 7);
-    let skipped = (places.trailing_zeros() as u8).min(window.len.saturating_sub(7));
+    // With eight ones here this is such a place, as many in a row may be: no others are looked for.
+    if window.bits % 256 == 255 {
+        return window;
+    }
+    let skipped = (places_of(window.bits).trailing_zeros() as u8).min(window.len.saturating_sub(7));
     TxBits {
         len: window.len - skipped,
         bits: window.bits >> skipped,
     }
+}
+
+// Returns a one for each place where a stretch may begin: the eight bits from it on are ones, or they are a request,
+// and no two of the three bits where its acknowledgement would be are ones. It examines all places at once.
+#[inline(always)]
+fn places_of(bits: u64) -> u64
+    ensures { (over : Bool) (len place : ℕ) (back : List Bool) → 8 ≤ len → place + len ≤ 64 → bits / 2 ^ place < 2 ^ len
+        → bit_at result place ≡ 0 → begins over (low_bits len (bits / 2 ^ place) ++ back) ≡ false }
+{
+    let ones = bits >> 1 & bits >> 2 & bits >> 3 & bits >> 4 & bits >> 5 & bits >> 6;
+    let odd = bits >> 1 ^ bits >> 2 ^ bits >> 3 ^ bits >> 4 ^ bits >> 5;
+    let several = bits >> 9 & bits >> 10 | (bits >> 9 | bits >> 10) & bits >> 11;
+    bits & bits >> 7 & (ones | !(bits >> 6 | odd | several))
 }
 
 // Returns whether neither a transaction nor fifty ones begin with these bits.
@@ -94,8 +113,8 @@ fn lacks_request(window: TxBits) -> bool
     Request::of((window.bits % 256) as u8).is_none()
 }
 
-// Returns whether no sound transaction begins with these bits, since the three where its acknowledgement would be, behind
-// eight bits and a turnaround, are not OK, WAIT or FAULT.
+// Returns whether no sound transaction begins with these bits, since the three where its acknowledgement would be,
+// after eight bits and a turnaround, are not OK, WAIT or FAULT.
 #[inline(always)]
 fn lacks_ack(window: TxBits) -> bool
     ensures { result ≡ true → (over : Bool) (back : List Bool) → pair over (bits_of window ++ back) ≡ false }

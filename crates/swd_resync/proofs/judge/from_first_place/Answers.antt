@@ -1,6 +1,6 @@
-use Rattle.std.proofs.Common.{◌/◌, ◌^◌, bit_and, arith}
+use Rattle.std.proofs.Common.{◌-◌, ◌≤◌, arith}
 use Rattle.swd_trace.proofs.NumberLemmas.{shifted_lt}
-use Rattle.swd_resync.proofs.PlaceLemmas.{places_before, zero_below}
+use Rattle.swd_resync.proofs.PlaceLemmas.{many_before, zero_below}
 use Rattle.swd_resync.proofs.judge.from_first_place.Goals as goal
 
 pub returns-clause-spelled : goal.returns-clause-spelled
@@ -12,6 +12,8 @@ returns-clause-before c = λ over back.
     let v = c.args.window.bits in
     let m = c.args.window.len in
     let n = c.min-skipped.result in
-    let all = places_before over n m v back (λ some. omega arith)
-    (λ i l. zero_below 64 (bit_and v (v / 2 ^ 7)) i (omega arith)) in
+    let most : m ≤ 50 = c.requires.most in
+    let all = many_before over n m v back (omega arith)
+    (λ i l. c.places_of.ensures over (m - i) i back (omega arith) (omega arith)
+    (shifted_lt i m v (omega arith) c.requires.spelled) (zero_below 64 c.places_of.result i (omega arith))) in
     omega arith

@@ -15,5 +15,5 @@ by_result len v None t e some none is over back = no_ack over len v back some no
 by_result len v (Some a) t e some none is over back = let both_ways : true ≡ false = e ∙ ap not is in absurd cc
 
 pub returns-then-window-ge12 : goal.returns-then-window-ge12
-returns-then-window-ge12 c = by_result c.args.window.len c.args.window.bits c.of.result c.is_none.result c.is_none.ensures
-    c.if-window-ge12.true c.of.ensures.none
+returns-then-window-ge12 c = by_result c.args.window.len c.args.window.bits c.of.result c.is_none.result
+    c.is_none.ensures c.if-window-ge12.true c.of.ensures.none

@@ -15,5 +15,5 @@ by_result len v None t e some none is over back = no_request over len v back som
 by_result len v (Some q) t e some none is over back = let both_ways : true ≡ false = e ∙ ap not is in absurd cc
 
 pub returns : goal.returns
-returns c = by_result c.args.window.len c.args.window.bits c.of.result c.is_none.result c.is_none.ensures c.requires.some
-    c.of.ensures.none
+returns c = by_result c.args.window.len c.args.window.bits c.of.result c.is_none.result c.is_none.ensures
+    c.requires.some c.of.ensures.none
