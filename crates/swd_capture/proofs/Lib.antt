@@ -1,4 +1,5 @@
 pub mod KindLemmas
+pub mod PlaceLemmas
 pub mod TableLemmas
 pub mod TextLemmas
 pub mod TellerLemmas

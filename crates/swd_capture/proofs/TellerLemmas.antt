@@ -108,6 +108,21 @@ items_of_junk over (p ∷ parts) bits =
     ap (λ x. items_of_part over p ++ x) (items_of_junk over parts bits)
     ∙ sym (append_assoc (items_of_part over p) (items_of over parts) (map Junk bits))
 
+any_junk_forgets : (bits : List Bool) (select : Option Select)
+    → select_from select (map Junk bits) ≡ select_from select (replicate (length bits) (Junk false))
+any_junk_forgets [] select = refl
+any_junk_forgets (b ∷ bits) select = any_junk_forgets bits None
+
+-- what is known of SELECT behind junk bits, as behind a skip
+pub select_junk : (over : Bool) (parts : List Part) (bits : List Bool) (n : ℕ) → length bits ≡ n
+    → select_behind (items_of over (parts ++ junk_parts bits))
+    ≡ select_from (select_behind (items_of over parts)) (replicate n (Junk false))
+select_junk over parts bits n e =
+    let before = select_behind (items_of over parts) in
+    ap select_behind (items_of_junk over parts bits)
+    ∙ select_join _ (items_of over parts) (map Junk bits)
+    ∙ any_junk_forgets bits before ∙ ap (λ n. select_from before (replicate n (Junk false))) e
+
 -- an observer takes each junk bit alike
 after_any_junk : (bits : List Bool) (t : TraceObserver)
     → after_items (map Junk bits) t ≡ after_items (replicate (length bits) (Junk false)) t

@@ -18,8 +18,8 @@ const ROOM: usize = 2 * LONGEST_TENS;
 // As many spaces.
 const SPACES: &str = "                    ";
 
-/// The most bytes of a junk bit's line, with its place and its line feed.
-pub(crate) const LONGEST_JUNK: usize = LONGEST_TENS + 9;
+// The most bytes of a junk bit's line, with its place and its line feed.
+const LONGEST_JUNK: usize = LONGEST_TENS + 9;
 
 /// `@`, and the digits of a place before its last one. They are kept, since ten places in a row begin with them.
 #[derive(Drop)]
@@ -51,6 +51,25 @@ fn push_tens<const N: usize>(text: &mut ArrayString<N>, tens: u64)
     text.push_str(digits.format(tens));
 }
 
+// Replaces `@`, the digits of a number of tens (both are `len` bytes), and the spaces after them by `@` and the digits of
+// another number. Within a hundred it writes the last digit alone.
+fn change_tens(text: &mut ArrayString<ROOM>, len: usize, from: u64, to: u64)
+    requires holds { text.old.bytes ≡ tens_text from ++ replicate 20 32 }
+    requires counts { len ≡ length (tens_text from) }
+    requires short { len ≤ 20 }
+    requires to { to * 10 < 2 ^ 64 }
+    ensures bytes { text.new.bytes ≡ tens_text to }
+    ensures len { array_string_len text.new ≤ 20 }
+{
+    if from >= 10 && to / 10 == from / 10 {
+        text.truncate(len - 1);
+        text.push_str(digit(to % 10));
+    } else {
+        text.clear();
+        push_tens(text, to);
+    }
+}
+
 impl Tens {
     pub(crate) fn new() -> Tens {
         let mut text = ArrayString::new();
@@ -77,9 +96,8 @@ impl Tens {
     fn change(&mut self, place: u64)
         ensures { self.new.start ≡ place - place % 10 }
     {
+        change_tens(&mut self.text, self.len, self.start / 10, place / 10);
         self.start = place - place % 10;
-        self.text.clear();
-        push_tens(&mut self.text, place / 10);
         self.len = self.text.len();
         self.text.push_str(SPACES);
     }
@@ -139,6 +157,27 @@ fn junk_line(bit: bool) -> &'static str
     if bit { "junk 1\n" } else { "junk 0\n" }
 }
 
+// Returns a digit.
+fn digit(number: u64) -> &'static str
+    requires { number < 10 }
+    ensures bytes { result.now ≡ (48 + number) ∷ [] }
+    ensures len { length result.now ≡ 1 }
+{
+    match number {
+        0 => "0",
+        1 => "1",
+        2 => "2",
+        3 => "3",
+        4 => "4",
+        5 => "5",
+        6 => "6",
+        7 => "7",
+        8 => "8",
+        9 => "9",
+        _ => unreachable!(),
+    }
+}
+
 // Returns the last digit of a place, a space, and the line of the junk bit there, with its line feed. The number is
 // twice the digit, plus the bit.
 #[inline(always)]
@@ -167,6 +206,8 @@ fn placed_end(number: u64) -> &'static str
         16 => "8 junk 0\n",
         17 => "8 junk 1\n",
         18 => "9 junk 0\n",
-        _ => "9 junk 1\n",
+        19 => "9 junk 1\n",
+        // An arm for the rest would cost a jump that is often guessed wrong.
+        _ => unreachable!(),
     }
 }

@@ -4,13 +4,12 @@ ghost use Rattle.arrayvec.specs.ArrayString.{array_string_len};
 ghost use Rattle.swd_resync.specs.declared.part.Part.{Part};
 ghost use Rattle.swd_resync.specs.AsItems.{items_of_part};
 ghost use Rattle.swd_trace.specs.Texts.{bits_of_items};
-ghost use Rattle.swd_trace.specs.declared.item.Item.TheVariants.{Junk};
 ghost use Rattle.swd_capture.specs.declared.printed.Printed.{Printed};
 ghost use Rattle.swd_capture.specs.Names.{select_from};
 ghost use Rattle.swd_capture.specs.Printing.{first_observer, line_if, part_text, place_if};
 
 use crate::bit_count::bit_count;
-use crate::junk_line::{LONGEST_JUNK, Tens};
+use crate::junk_line::Tens;
 use crate::names::{LONGEST_NAMED, push_named, selected_after};
 use crate::printed::{LineForm, Printed};
 use crate::table::{ROWS, Table};
@@ -134,7 +133,6 @@ impl Teller {
     ghost use Rattle.swd_bits.specs.BitLists.{bits_of};
     ghost use Rattle.swd_capture.specs.Printing.{end_row_text, entry, junk_parts, row_count, told};
     ghost use Rattle.swd_capture.specs.declared.printed.Printed.TheVariants.{Lines};
-    ghost use Rattle.swd_resync.specs.declared.part.Part.TheVariants.{Item as Told};
     ghost use Rattle.swd_capture.specs.Tellers.{IsAfter};
 
     /// Returns a teller that was given no parts. `over` says that the host uses overrun detection (IHI 0031, B4), so
@@ -192,7 +190,7 @@ impl Teller {
         }
     }
 
-    // Appends the lines of junk bits, and updates place and SELECT.
+    // Appends the lines of junk bits, and updates place and SELECT once.
     fn tell_junk_lines<const N: usize>(
         &mut self,
         form: LineForm,
@@ -208,34 +206,19 @@ impl Teller {
             × (told (Lines form) over (parts ++ junk_parts (bits_of junk)) ≡ told (Lines form) over parts ++ more) }
         ensures len { array_string_len text.new ≤ array_string_len text.old + LONGEST_ENTRY }
     {
+        let mut place = self.place;
         let mut bits = junk.bits;
         let mut left = junk.len;
         while left > 0 {
-            self.tell_junk_line(form, bits % 2 == 1, text);
+            self.tens.push_junk(form.places, place, bits % 2 == 1, text);
+            place = place.saturating_add(1);
             bits /= 2;
             left -= 1;
         }
-    }
-
-    // Appends the line of a junk bit, and updates place and SELECT.
-    #[inline(always)]
-    fn tell_junk_line<const N: usize>(
-        &mut self,
-        form: LineForm,
-        bit: bool,
-        text: &mut ArrayString<N>,
-    )
-        requires { array_string_len text.old + LONGEST_JUNK ≤ N }
-        ensures after { (over : Bool) (parts : List Part) → IsAfter (Lines form) over parts self.old
-            → IsAfter (Lines form) over (parts ++ Told (Junk bit) ∷ []) self.new }
-        ensures bytes { (over : Bool) (parts : List Part) → IsAfter (Lines form) over parts self.old
-            → text.new.bytes ≡ text.old.bytes ++ entry (Lines form) over parts (Told (Junk bit)) }
-        ensures len { array_string_len text.new ≤ array_string_len text.old + LONGEST_JUNK }
-    {
-        let place = self.place;
-        self.tens.push_junk(form.places, place, bit, text);
-        self.place = place.saturating_add(1);
-        self.select = None;
+        self.place = place;
+        // They count as bits that were skipped.
+        let skipped = Part::Skip(u64::from(junk.len));
+        self.select = selected_behind(self.select, self.over, &skipped);
     }
 
     // Appends the part's line, and updates place and SELECT.

@@ -1,33 +1,12 @@
-use Rattle.std.proofs.Common.{◌≡◌, ℕ, zero, suc, ◌+◌, ◌-◌, ◌*◌, ◌/◌, ◌%◌, ◌^◌, ◌<◌, Bool, true, false, List}
-use Rattle.std.proofs.Common.{[], ◌∷◌, ◌++◌, refl, sym, ap, ◌∙◌, append_assoc, arith}
-use Rattle.std.specs.Prelude.{◌==◌, if◌then◌else◌}
-use Rattle.std.specs.Fmt.{decimal}
-use Rattle.std.proofs.Math.Dec.{eqb-suc-zero}
-use Rattle.std.proofs.lemmas.Fmt.{decimal_digit, decimal_step}
+use Rattle.std.proofs.Common.{◌≡◌, ℕ, ◌+◌, ◌-◌, ◌*◌, ◌/◌, ◌%◌, Bool, true, false, [], ◌∷◌, ◌++◌}
+use Rattle.std.proofs.Common.{sym, ap, ◌∙◌, append_assoc, arith}
+use Rattle.std.specs.Prelude.{◌==◌}
 use Rattle.swd_trace.specs.Texts.{item_line}
 use Rattle.swd_trace.specs.declared.item.Item.TheVariants.{Junk}
-use Rattle.swd_capture.specs.Places.{place_text, tens_text}
+use Rattle.swd_capture.specs.Places.{tens_text}
+use Rattle.swd_capture.proofs.PlaceLemmas.{place_split}
 use Rattle.swd_capture.proofs.junk_line.Tens.push_placed.Goals as goal
 use mir.Val.{bool_byte}
-
--- the digits of a number are those of its tens, if there are any, and its last one
-last_digit : (n tens : ℕ) → n < 2 ^ 64 → n / 10 ≡ tens
-    → decimal n ≡ (if tens == 0 then [] else decimal tens) ++ (48 + n % 10) ∷ []
-last_digit n zero h e =
-    let same : n ≡ n % 10 = omega (arith, e) in
-    decimal_digit n (omega (arith, e)) ∙ ap (λ d. (48 + d) ∷ []) same
-last_digit n (suc tens) h e =
-    let last = (48 + n % 10) ∷ [] in
-    decimal_step n (omega (arith, e)) h ∙ ap (λ t. decimal t ++ last) e
-    ∙ ap (λ t. (if t then [] else decimal (suc tens)) ++ last) (sym (eqb-suc-zero tens))
-
--- so a place is what its ten begins with, its last digit and a space
-place_split : (n : ℕ) (rest : List ℕ) → n < 2 ^ 64
-    → place_text n ++ rest ≡ tens_text (n / 10) ++ ((48 + n % 10) ∷ 32 ∷ rest)
-place_split n rest h =
-    append_assoc (64 ∷ decimal n) (32 ∷ []) rest
-    ∙ ap (λ x. 64 ∷ (x ++ 32 ∷ rest)) (last_digit n (n / 10) h refl)
-    ∙ ap (λ x. 64 ∷ x) (append_assoc (if n / 10 == 0 then [] else decimal (n / 10)) ((48 + n % 10) ∷ []) (32 ∷ rest))
 
 half : (d : ℕ) (bit : Bool) → (2 * d + bool_byte bit) / 2 ≡ d
 half d true = omega arith
