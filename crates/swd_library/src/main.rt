@@ -1,10 +1,12 @@
 //! Ways to use the host: by `run` and `run_block` over a wire, by `resume` after a lost acknowledgement, by
-//! `run_outside` over a probe, by `run_over_line` over a connection, and by the engine alone over two pins.
+//! `run_outside` over a probe, by `run_over_line` over a connection, by the engine alone over two pins, and by `run` over
+//! a wire that is recorded, whose trace shows the accesses.
 #![tactic(auto)]
 
 mod by_hand;
 mod outside;
 mod resumed;
+mod traced;
 mod whole;
 
 use std::io;
@@ -16,12 +18,14 @@ fn main(rt: HostRuntime) -> io::Result<ExitCode> {
     let driven = by_hand::load(rt.alloc());
     let probed = outside::load(rt.alloc());
     let lined = outside::write_over_line(rt.alloc());
+    let traced = traced::load(rt.alloc());
     for (name, failed) in [
         ("run", loaded.err()),
         ("resume", resumed.err()),
         ("by hand", driven.err()),
         ("over a probe", probed.err()),
         ("over a line", lined.err()),
+        ("in a trace", traced.err()),
     ] {
         match failed {
             None => println!(rt; "{name}: the words are there")?,
