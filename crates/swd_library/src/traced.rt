@@ -36,7 +36,7 @@ pub fn load(alloc: Global) -> Result<(), Failure> {
             if !is_written(&told, count) {
                 return Err(Failure::Differs(count));
             }
-            count += 1;
+            count = count.saturating_add(1);
         }
     }
     if count == IMAGE.len() {
