@@ -1,8 +1,8 @@
 //! The layout of the structs, for checks of a C header.
 ghost use Rattle.std.specs.Prelude.{◌≡◌, ◌<◌, ◌^◌};
-ghost use Rattle.swd_c.specs.Layouts.{access_numbered, content_numbered, cue_numbered, decoder_numbered, double};
-ghost use Rattle.swd_c.specs.Layouts.{engine_numbered, frame_numbered};
-ghost use Rattle.swd_c.specs.Layouts.{item_numbered, run_numbered, target_numbered, transfer_numbered, word};
+ghost use Rattle.swd_c.specs.Layouts.{IsNumbered, access_list, content_list, cue_list, decoder_list, engine_list};
+ghost use Rattle.swd_c.specs.Layouts.{frame_list, item_list, layout_list, repeated, run_list, target_list};
+ghost use Rattle.swd_c.specs.Layouts.{transfer_list};
 
 use crate::cue::SwdCue;
 use crate::engine::SwdAccess;
@@ -39,20 +39,20 @@ pub struct SwdLayout {
 // Returns a word whose four bytes are this number.
 const fn word(number: u32) -> u32
     requires { number < 2 ^ 8 }
-    ensures { result ≡ word number }
+    ensures { result ≡ repeated 4 number }
 {
     number * 0x0101_0101
 }
 
 const fn double(number: u64) -> u64
     requires { number < 2 ^ 8 }
-    ensures { result ≡ double number }
+    ensures { result ≡ repeated 8 number }
 {
     number * 0x0101_0101_0101_0101
 }
 
 fn engine_numbered() -> EngineFields
-    ensures { result ≡ engine_numbered }
+    ensures { IsNumbered 1 (engine_list result) }
 {
     EngineFields {
         requests: double(1),
@@ -90,7 +90,7 @@ fn engine_numbered() -> EngineFields
 }
 
 fn cue_numbered() -> SwdCue
-    ensures { result ≡ cue_numbered }
+    ensures { IsNumbered 22 (cue_list result) }
 {
     SwdCue {
         bits: double(22),
@@ -109,7 +109,7 @@ fn cue_numbered() -> SwdCue
 }
 
 fn access_numbered() -> SwdAccess
-    ensures { result ≡ access_numbered }
+    ensures { IsNumbered 32 (access_list result) }
 {
     SwdAccess {
         addr: word(32),
@@ -119,7 +119,7 @@ fn access_numbered() -> SwdAccess
 }
 
 fn decoder_numbered() -> DecoderFields
-    ensures { result ≡ decoder_numbered }
+    ensures { IsNumbered 35 (decoder_list result) }
 {
     DecoderFields {
         fed: double(35),
@@ -132,7 +132,7 @@ fn decoder_numbered() -> DecoderFields
 }
 
 fn item_numbered() -> SwdItem
-    ensures { result ≡ item_numbered }
+    ensures { IsNumbered 41 (item_list result) }
 {
     SwdItem {
         count: double(41),
@@ -147,7 +147,7 @@ fn item_numbered() -> SwdItem
 
 fn content_numbered(first: u32) -> ContentFields
     requires { first < 2 ^ 7 }
-    ensures { result ≡ content_numbered first }
+    ensures { IsNumbered first (content_list result) }
 {
     ContentFields {
         word: word(first),
@@ -156,7 +156,7 @@ fn content_numbered(first: u32) -> ContentFields
 }
 
 fn frame_numbered() -> FrameFields
-    ensures { result ≡ frame_numbered }
+    ensures { IsNumbered 49 (frame_list result) }
 {
     FrameFields {
         line: LineFields {
@@ -174,7 +174,7 @@ fn frame_numbered() -> FrameFields
 }
 
 fn target_numbered() -> ClockedFields
-    ensures { result ≡ target_numbered }
+    ensures { IsNumbered 48 (target_list result) }
 {
     ClockedFields {
         cycles: double(48),
@@ -208,7 +208,7 @@ fn target_numbered() -> ClockedFields
 }
 
 fn transfer_numbered() -> SwdTransfer
-    ensures { result ≡ transfer_numbered }
+    ensures { IsNumbered 82 (transfer_list result) }
 {
     SwdTransfer {
         addr: word(82),
@@ -217,16 +217,11 @@ fn transfer_numbered() -> SwdTransfer
     }
 }
 
-/// Writes a different number to each field, so that a header can be checked, and the sizes.
+/// Writes a number of its own to each field, the same to all of its bytes: 1, 2 and so on in the order of the fields. So
+/// a header can be checked, and a field's place and size can be found. Also writes the sizes.
 #[unsafe(no_mangle)]
 pub extern "C" fn swd_layout(layout: &mut SwdLayout)
-    ensures engine { layout.new.engine ≡ engine_numbered }
-    ensures cue { layout.new.cue ≡ cue_numbered }
-    ensures access { layout.new.access ≡ access_numbered }
-    ensures decoder { layout.new.decoder ≡ decoder_numbered }
-    ensures item { layout.new.item ≡ item_numbered }
-    ensures target { layout.new.target ≡ target_numbered }
-    ensures transfer { layout.new.transfer ≡ transfer_numbered }
+    ensures { IsNumbered 1 (layout_list layout.new) }
 {
     *layout = SwdLayout {
         engine: engine_numbered(),
@@ -256,10 +251,11 @@ pub struct SwdRunLayout {
     pub layout_size: u64,
 }
 
-/// Writes a different number to each field of a run's struct, and the sizes.
+/// Writes a number of its own to each field of a run's struct, the same to all of its bytes: 1 to 21 to those of its
+/// engine, and from 22 on to the others, in their order. Also writes the sizes.
 #[unsafe(no_mangle)]
 pub extern "C" fn swd_run_layout(layout: &mut SwdRunLayout)
-    ensures run { layout.new.run ≡ run_numbered }
+    ensures { IsNumbered 1 (run_list layout.new.run) }
 {
     *layout = SwdRunLayout {
         run: RunFields {
