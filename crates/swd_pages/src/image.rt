@@ -1,0 +1,24 @@
+//! An image that is loaded over a wire.
+ghost use Rattle.std.specs.Prelude.{◌≡◌, OnOk};
+ghost use Rattle.swd_port.specs.declared.wire.Due.TheVariants.{Nothing};
+ghost use Rattle.swd_host.specs.Reports.{IsAtRest};
+ghost use Rattle.swd_image.specs.Images.{IsLoaded};
+
+use std::alloc::Global;
+use swd_image::{ImageFault, load};
+use swd_port::Wire;
+
+/// Writes bytes from an address on. Each access may meet eight events, and a call is resumed once after a lost
+/// acknowledgement.
+pub fn flash<W: Wire>(
+    alloc: Global,
+    wire: &mut W,
+    addr: u32,
+    bytes: &[u8],
+) -> Result<(), ImageFault>
+    requires { (W.port wire.old).link.due ≡ Nothing }
+    ensures { OnOk result (W.lawful wire.new → IsAtRest (W.port wire.old)
+        → IsLoaded addr bytes.now (W.port wire.old).target.memory (W.port wire.new).target.memory) }
+{
+    load(alloc, wire, addr, bytes, 8, 1)
+}

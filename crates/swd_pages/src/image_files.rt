@@ -1,0 +1,13 @@
+//! The first byte of an image file.
+use std::alloc::Global;
+use swd_image_files::{Format, ImageFileFault, read_image};
+
+/// Returns the address and the value of the first byte of an Intel HEX file, or `None` if it has no data.
+pub fn first_byte(alloc: Global, file: &[u8]) -> Result<Option<(u32, u8)>, ImageFileFault> {
+    let image = read_image(alloc, Format::IntelHex, file, 0)?;
+    let mut pieces = image.pieces();
+    let Some(piece) = pieces.next() else {
+        return Ok(None);
+    };
+    Ok(piece.bytes.first().map(|byte| (piece.addr, *byte)))
+}
