@@ -1,5 +1,5 @@
 //! The word of one transaction, from its bits.
-ghost use Rattle.std.specs.Prelude.{◌≡◌, ◌<◌, ◌^◌, IfSome, true};
+ghost use Rattle.std.specs.Prelude.{◌<◌, ◌^◌, IfSome, true};
 ghost use Rattle.swd_bits.specs.declared.request.Request.{Request};
 ghost use Rattle.swd_bits.specs.Bits.{low_bits};
 ghost use Rattle.swd_bits.specs.Transactions.{Spells};

@@ -1,10 +1,17 @@
 //! The lines of two parts, with their places and their registers' names.
+ghost use Rattle.std.specs.Prelude.{◌≡◌, [], ◌∷◌, ◌++◌, false, true};
+ghost use Rattle.swd_capture.specs.declared.printed.LineForm.{LineForm as Form};
+ghost use Rattle.swd_capture.specs.Printing.{entry};
+
 use arrayvec::ArrayString;
 use swd_capture::{LineForm, Printed, Teller};
 use swd_resync::Part;
 
 /// Returns the lines of the first two parts of a trace.
-pub fn lines(first: &Part, second: &Part) -> ArrayString<1024> {
+pub fn lines(first: &Part, second: &Part) -> ArrayString<1024>
+    ensures { let form : Form = record { places = true; names = true } in result.bytes
+        ≡ entry (Printed.Lines form) false [] first.now ++ entry (Printed.Lines form) false (first.now ∷ []) second.now }
+{
     let form = LineForm {
         places: true,
         names: true,

@@ -1,14 +1,20 @@
 //! Lines that are written through a block.
-use std::io::Write;
-use swd_io::Block;
+ghost use Rattle.std.specs.Prelude.{◌≤◌, [], ◌∷◌, ◌++◌, OnOk, length};
+ghost use Rattle.std.specs.Io.KnownBytes.{Appends};
 
-/// Writes a word for each flag, a line each. Returns the number of written bytes: of all, or of those before the writer
-/// failed.
-pub fn write_flags<W: Write>(writer: &mut W, flags: &[bool]) -> Result<u64, u64> {
+use std::io::Write;
+use swd_io::{Block, LONGEST};
+
+/// Writes a name and a value, a line each. Returns the number of written bytes: of both lines, or of those before the
+/// writer failed.
+pub fn write_pair<W: Write>(writer: &mut W, name: &[u8], value: &[u8]) -> Result<u64, u64>
+    requires name { length name.now ≤ LONGEST }
+    requires value { length value.now ≤ LONGEST }
+    ensures { OnOk result (Appends (W.contents writer.old) (W.contents writer.new)
+        ((name.now ++ 10 ∷ []) ++ (value.now ++ 10 ∷ []))) }
+{
     let mut block = Block::new(writer, 0);
-    for flag in flags {
-        let word: &[u8] = if *flag { b"set" } else { b"clear" };
-        block.put_line(word);
-    }
+    block.put_line(name);
+    block.put_line(value);
     block.flush()
 }

@@ -121,7 +121,7 @@ fn show_lines(rt: &HostRuntime) -> anyhow::Result<()> {
     if let Ok(Some(log)) = ends::serve_script(rt.alloc(), MEMORY, CHARACTERS, &mut levels) {
         show(rt, "swd_ends", log.as_slice())?;
     }
-    let written = io::write_flags(&mut rt.stdout(), &[true, false]);
+    let written = io::write_pair(&mut rt.stdout(), b"addr", b"20000000");
     println!(rt; "swd_io: {written:?}")?;
     Ok(())
 }
