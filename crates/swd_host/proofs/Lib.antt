@@ -13,8 +13,8 @@ mod EarlyFrames
 mod EarlyAsks
 mod EarlyMoves
 mod EarlyTurns
-mod Turning
 mod Working
+mod Turning
 mod StepLemmas
 mod Going
 mod Lists

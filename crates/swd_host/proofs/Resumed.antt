@@ -45,7 +45,7 @@ module _ (list : List Access) (tries : ℕ) (earlier : Told) (e f : Engine) (bef
   resumes = goes.resumes (counted_at s) s first
 
   same_tries : f.tries ≡ tries
-  same_tries = goes.tries ∙ new.tries
+  same_tries = goes.works.tries ∙ new.tries
 
   -- the opening was stopped
   module _ (end : End) (at : f.state ≡ Resting (Stopped end)) where
@@ -122,7 +122,7 @@ module _ (list : List Access) (tries : ℕ) (earlier : Told) (e f : Engine) (bef
     long = drop_length (length earlier.answers) list reported
 
     one : most_of f.bursts ≡ 1
-    one = ap most_of (goes.bursts ∙ new.bursts)
+    one = ap most_of (goes.works.bursts ∙ new.bursts)
 
     later : Fits 1 rest opened.memory (told_by does.answers last end) done.settled
     later = subst (λ n. Fits n rest opened.memory (told_by does.answers last end) done.settled) one done.later

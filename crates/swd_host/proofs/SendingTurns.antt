@@ -26,7 +26,8 @@ use Rattle.swd_host.specs.Stages.{Counts, EndsIn}
 use Rattle.swd_host.specs.Steps.{GoesTo, RestsWith, ahead_to, is_rested, is_stop, read_to, sent_to}
 use Rattle.swd_host.specs.Turns.{begun_left, GoesOn}
 use Rattle.std.proofs.lemmas.List.{append-nil}
-use Rattle.swd_host.proofs.Turning.{IsAsking, asking, IsPhase, taking, giving, IsTaking, take_cue, IsGiving, give_cue}
+use Rattle.swd_host.proofs.Working.{IsAsking, asking}
+use Rattle.swd_host.proofs.Turning.{IsPhase, taking, giving, IsTaking, take_cue, IsGiving, give_cue}
 use Rattle.swd_host.proofs.SendingStages.{Here, settled_none}
 use Rattle.swd_host.proofs.Sending.{ask_knows, waited_knows, faulted_knows, given_knows, taken_knows, knows_as}
 use Rattle.swd_host.proofs.Sending.{state_job, passing, sent_as}

@@ -1,24 +1,22 @@
 -- One call of the wire, as the engine asks for it: what the engine and the port keep.
 use Rattle.swd_host.proofs.Words.{◌≡◌, ◌+◌, ◌-◌, ◌*◌, ◌^◌, ◌≤◌, ◌<◌, ℕ, Bool, true, false, refl, sym, ap, subst, inl}
-use Rattle.swd_host.proofs.Words.{inr, arith, ◌∙◌, Option, Some, None, ◌||◌, if◌then◌else◌, max, bit, Request}
+use Rattle.swd_host.proofs.Words.{inr, arith, ◌∙◌, Option, Some, None, max, Request}
 use Rattle.swd_host.proofs.Words.{PlainMemory, Port, phase_number, word_in, Asks, Takes, Gives, Passes, Leads, Lost}
-use Rattle.swd_host.proofs.Words.{Stopped, Task, Job, CueAsk, Ask, Data, Waited, State, Doing, Resting, Engine}
-use Rattle.swd_host.proofs.Words.{request_for, word_for, begins, most_begun, least_for, cue_of, is_ahead_at, is_resting}
-use Rattle.swd_host.proofs.Words.{one_more, job_in, left_for, left_in, least_in, open_requests, is_job_of, is_state_of}
+use Rattle.swd_host.proofs.Words.{Stopped, Task, Job, CueAsk, Ask, Data, State, Doing, Resting, Engine}
+use Rattle.swd_host.proofs.Words.{request_for, word_for, begins, cue_of, is_ahead_at, is_resting}
+use Rattle.swd_host.proofs.Words.{one_more, job_in, left_for, left_in, open_requests, is_job_of, is_state_of}
 use Rattle.swd_host.proofs.Words.{calls_left, Hand, Counted, Before, Tracks, TracksEngine, Follows, IsTask, Saw, Left}
-use Rattle.swd_host.proofs.Words.{TakenFor, hand_of, DueAt, Sees, lands_from, IsCountable, Goes, Early, IsEarly}
+use Rattle.swd_host.proofs.Words.{TakenFor, hand_of, Sees, lands_from, IsCountable, Goes, Early, IsEarly}
 use Rattle.swd_host.proofs.Words.{Resumes, early, over, EarlySaw, EarlyTaken}
-use Rattle.swd_port.specs.declared.wire.Due.TheVariants.{Take, Give, Pass, Lost as DueLost}
 use Rattle.swd_port.specs.Laws.Calls.{Asked}
 use Rattle.swd_port.proofs.CallLaws.{request_counted, others_uncounted, identification_kept}
 use Rattle.swd_port.specs.declared.cue.Cue.{Cue}
 use Rattle.swd_port.specs.declared.cue.Cue.TheVariants.{Lead, Take as CueTake, Give as CueGive, Pass as CuePass}
-use Rattle.swd_host.specs.declared.engine.Phase.TheVariants.{Faulted}
 use Rattle.swd_host.specs.Progress.{is_quiet}
 use Rattle.swd_host.specs.Engines.{cue_at, data_cue}
 use Rattle.swd_host.specs.Tracks.{Hears, HasSent, HasRead}
-use Rattle.swd_host.specs.Turns.{begun_left}
 use Rattle.swd_host.specs.Early.{EarlyLeft, HearsEarly, SendsEarly, ReadsEarly}
+use Rattle.swd_host.proofs.Working.{IsAsking, asking, one_more_least, one_more_exact, ask_works, moves_works}
 use Rattle.swd_host.proofs.EarlyAsks.{ask_early}
 use Rattle.swd_host.proofs.EarlyMoves.{read_early, given_early}
 use Rattle.swd_host.proofs.EarlyTurns.{resumes_by, still_early, select_chooses}
@@ -47,17 +45,6 @@ pub give_cue : (ahead : Bool) (word : Option ℕ) (sent : ℕ) → data_cue ahea
     → IsGiving word sent
 give_cue ahead word sent e = grind arith
 
--- A REQUEST
-pub record IsAsking (x : State) (task : Task) (q : Request) : Type 0 where
-  pub job : Job
-  pub at : x ≡ Doing job Ask
-  pub is : q ≡ request_for job task
-
--- where the cue is a request, the engine has a job to ask for, and the request is that job's
-pub asking : (x : State) (stray : Bool) (task : Task) (q : Request) → cue_at x stray task ≡ Some (CueAsk q)
-    → IsAsking x task q
-asking x stray task q e = grind arith
-
 -- what holds at a state
 tracked : (base : Counted) (m : PlainMemory) (e : Engine) (s : Port) (x : State) → e.state ≡ x
     → TracksEngine base m e s → Tracks x (base.disturbed + e.events) e.tries base e.begun (hand_of e m) s
@@ -72,37 +59,7 @@ resumed_left : (base : Counted) (start : Port) (e : Engine) (s : Port) (job : Jo
     → is_job_of true job ≡ true → Resumes base start e s → 2 ≤ left_for job
 resumed_left base start e s job at opening h = grind arith
 
--- no request of the opening starts an access
-pub opening_begins : (job : Job) (task : Task) → is_job_of true job ≡ true → begins job task ≡ 0
-opening_begins job task h = grind arith
-
-begins_least : (job : Job) (task : Task) (aims : Bool) → 1 ≤ begins job task
-    → bit aims + begins job task ≤ least_for aims job + 1
-begins_least job task aims some = grind arith
-
--- a request puts no more accesses in flight than its task may have
-pub begins_few : (job : Job) (task : Task) → begins job task ≤ most_begun task
-begins_few job task = grind arith
-
--- the greater of two numbers within a bound is within that bound
-pub max_few : (a b most : ℕ) → a ≤ most → b ≤ most → max a b ≤ most
-max_few a b most h i = grind arith
-
-max_grown : (a b : ℕ) → a < max a b → max a b ≡ b
-max_grown a b h = grind arith
-
--- the greater of two zeros is zero
-pub max_none : (a b : ℕ) → a ≡ 0 → b ≡ 0 → max a b ≡ 0
-max_none a b h i = grind arith
-
--- the saturating count of requests rises by one or not at all
-pub one_more_least : (n : ℕ) → (n ≤ one_more n) × (one_more n ≤ n + 1)
-one_more_least n = grind arith
-
--- while it stays below 2^64, that count rises by one
-pub one_more_exact : (n : ℕ) → n + 1 < 2 ^ 64 → one_more n ≡ n + 1
-one_more_exact n h = grind arith
-
+-- A REQUEST
 -- a request that is a step of the model: what the engine and the port keep over it
 pub ask_goes : (e f : Engine) (on : is_resting e ≡ false) (s t : Port) (q : Request) (v : ℕ)
     → cue_of e ≡ Some (CueAsk q)
@@ -118,8 +75,6 @@ ask_goes e f on s t q v cue asks left sent sees tracks hears =
     let exact : IsCountable e → f.requests ≡ e.requests + 1 =
     λ few. sent ∙ one_more_exact e.requests (let l = left in omega arith) in
     let open_here : left_in e.state ≡ left_for a.job = ap left_in a.at in
-    let part_of : (opening : Bool) → is_state_of opening e.state ≡ true
-    → is_job_of opening a.job ≡ true = λ opening h. sym (ap (is_state_of opening) a.at) ∙ h in
     let asked : Asks s (request_for a.job e.task) v t = subst (λ r. Asks s r v t) a.is asks in
     let follows : (base : Counted) (m : PlainMemory) → Follows base m e s → Follows base m f t = λ base m h. (
     let before : Before a.job (base.disturbed + e.events) e.begun (hand_of e m) s =
@@ -137,30 +92,8 @@ ask_goes e f on s t q v cue asks left sent sees tracks hears =
     (subst (λ j. EarlySaw j v (base.disturbed + e.events) base e.stray start t) (sym job)
     (ask_early (base.disturbed + e.events) base e.stray start v s t e.task few a.job
     (early_at base start e s (Doing a.job Ask) a.at h) asked)) in
-    let begun_is : f.begun ≡ max e.begun (begins a.job e.task) =
-    sees.begun ∙ ap (λ j. max e.begun (begins j e.task)) job
-    in
     record {
-      task = sees.task;
-      aims = sees.aims;
-      tries = sees.tries;
-      part = sees.part;
-      rests = λ at. absurd (let both : true ≡ false = sym at ∙ on in cc);
-      bursts = sees.bursts;
-      few = λ few. subst (λ b. b ≤ most_begun e.task) (sym begun_is)
-          (max_few e.begun (begins a.job e.task) (most_begun e.task) few (begins_few a.job e.task));
-      unbegun = λ opening h. begun_is
-          ∙ max_none e.begun (begins a.job e.task) h (opening_begins a.job e.task (part_of true opening));
-      more = omega (arith, sent, more.0);
-      spends = omega (arith, sent, more.1, left);
-      least = λ few. omega (arith, exact few, sees.least);
-      begun = λ few grows. (
-          let by : f.begun ≡ begins a.job e.task = begun_is ∙ max_grown e.begun (begins a.job e.task)
-          (subst (λ b. e.begun < b) begun_is grows) in
-          let here : least_in e.aims e.state ≡ least_for e.aims a.job = ap (least_in e.aims) a.at in
-          let least : bit e.aims + begins a.job e.task ≤ least_for e.aims a.job + 1 =
-          begins_least a.job e.task e.aims (omega arith) in
-          omega (arith, exact few));
+      works = ask_works e f on q v cue left sent sees;
       follows = follows;
       resumes = resumes_by e f s t sees.task c.lost_least
           (still_early e f s t sees.task c.lost_least step) follows;
@@ -169,23 +102,14 @@ ask_goes e f on s t q v cue asks left sent sees tracks hears =
       lost = c.lost_least;
       asked = λ few. omega (arith, exact few, c.asked);
       lost_early = λ on base start h opening is. (
-          let two : 2 ≤ left_for a.job = resumed_left base start e s a.job a.at (part_of true opening) h in
+          let two : 2 ≤ left_for a.job =
+          resumed_left base start e s a.job a.at (sym (ap (is_state_of true) a.at) ∙ opening) h in
           let same : 5 * (f.tries - f.events) ≡ 5 * (e.tries - e.events) =
           ap (λ i. 5 * (i - f.events)) sees.tries ∙ ap (λ i. 5 * (e.tries - i)) sees.events in
           omega (arith, sent, more.1, open_here, two, same));
     }
 
--- what is due after the three bits that were seen is what the engine's state after them expects
-pub due_seen : (job : Job) (stray : Bool) (task : Task) (one two four : Bool) →
-    DueAt (if one then Doing job Data else if two then Doing job Waited else if four then Doing job Faulted else
-    Resting (Stopped Lost)) stray task
-    (if one then (if (request_for job task).read then Take else Give) else if two || four then Pass else DueLost)
-due_seen job stray task one two four = grind arith
-
 -- EVERY OTHER CALL
-pub left_few : (x : State) (task : Task) (b : ℕ) → begun_left x task b ≤ b
-left_few x task b = grind arith
-
 -- an engine that is quiet has not stopped with a lost acknowledgement
 no_lost : (x : State) → is_quiet x ≡ true → x ≡ Resting (Stopped Lost) → ⊥
 no_lost x h is = absurd (let both : true ≡ false = sym h ∙ ap is_quiet is in cc)
@@ -200,18 +124,7 @@ moves : (e f : Engine) (on : is_resting e ≡ false) (s t : Port) → lands_from
     → t.target.identification ≡ s.target.identification
     → ((base : Counted) (m : PlainMemory) → Follows base m e s → Follows base m f t) → Steps e s f t → Goes e s f t
 moves e f on s t lands tally identified follows steps = record {
-  task = lands.task;
-  aims = lands.aims;
-  tries = lands.tries;
-  part = lands.part;
-  rests = λ at. absurd (let both : true ≡ false = sym at ∙ on in cc);
-  bursts = lands.bursts;
-  few = λ few. omega (arith, lands.begun, left_few f.state e.task e.begun);
-  unbegun = λ opening h. omega (arith, lands.begun, left_few f.state e.task e.begun);
-  more = omega (arith, lands.requests);
-  spends = omega (arith, lands.requests, lands.left);
-  least = λ few. omega (arith, lands.requests, lands.least);
-  begun = λ few grows. absurd (omega (arith, lands.begun, left_few f.state e.task e.begun));
+  works = moves_works e f on lands;
   follows = follows;
   resumes = resumes_by e f s t lands.task (omega (arith, ap (λ i. i.lost) tally)) steps follows;
   identification = identified;

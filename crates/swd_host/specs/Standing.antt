@@ -80,6 +80,7 @@ ContinuesAt list i a = (i < length list) × ((d : Access) → continues a (Some 
 pub record Stays (i : ℕ) (list : List Access) (o e : Engine) (answers : List Answer) (t : Port) : Type 0 where
   pub due : DueFits e t
   pub rests : may_start (finished_of e) ≡ true
+  -- the next access continues the burst
   pub chain : is_burst e.task ≡ true → ContinuesAt list i (access_of e.task)
   pub tried : e.tries ≡ o.tries
   pub bursts : e.bursts ≡ o.bursts
@@ -90,14 +91,7 @@ pub record Stays (i : ℕ) (list : List Access) (o e : Engine) (answers : List A
 -- i accesses are answered, from the engine o and the port s at the end of the opening
 pub record Stands (i : ℕ) (list : List Access) (o : Engine) (s : Port) (e : Engine) (answers : List Answer)
     (t : Port) : Type 0 where
-  pub due : DueFits e t
-  pub rests : may_start (finished_of e) ≡ true
-  -- the next access continues the burst
-  pub chain : is_burst e.task ≡ true → ContinuesAt list i (access_of e.task)
-  pub tried : e.tries ≡ o.tries
-  pub bursts : e.bursts ≡ o.bursts
-  pub number : length answers ≡ i
-  pub bounded : e.requests ≤ (i + 1) * 2 ^ 35
+  pub stays : Stays i list o e answers t
   pub asked : t.tally.asked + o.requests ≡ s.tally.asked + e.requests
   pub disturbed : s.tally.disturbed ≤ t.tally.disturbed
   pub lost : s.tally.lost ≤ t.tally.lost

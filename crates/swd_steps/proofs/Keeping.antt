@@ -205,6 +205,9 @@ module _ (story : ℕ → Port) (past : List Call) (how : Beginning) (list : Lis
           → Rested story past how list calls f (answers ++ answer ∷ [])
       hand_answered answer finished =
           let long : length answers + 1 ≡ length (answers ++ answer ∷ []) = sym (length-append answers (answer ∷ [])) in
+          let stays : Stays (length answers + 1) list r.o f (answers ++ answer ∷ []) (port calls) =
+          answered_stays (length answers) list r.o h.e h.g f answers (port h.before) (port calls) (Read 0) h.following
+          r.stays h.starts h.works answer (answers ++ answer ∷ []) refl h.due h.next finished in
           record {
             o = r.o;
             early = r.early;
@@ -212,10 +215,7 @@ module _ (story : ℕ → Port) (past : List Call) (how : Beginning) (list : Lis
             parts = joined;
             opening = r.opening;
             at = r.at;
-            stays = subst (λ n. Stays n list r.o f (answers ++ answer ∷ []) (port calls)) long
-                (answered_stays (length answers) list r.o h.e h.g f answers (port h.before) (port calls) (Read 0)
-                h.following
-                r.stays h.starts h.works answer (answers ++ answer ∷ []) refl h.due h.next finished);
+            stays = subst (λ n. Stays n list r.o f (answers ++ answer ∷ []) (port calls)) long stays;
             stands = λ fits. (
                 let soon = h.goes fits in
                 let first = r.stands soon.0 in (
@@ -224,7 +224,7 @@ module _ (story : ℕ → Port) (past : List Call) (how : Beginning) (list : Lis
                       (answered_stands (length answers) list r.o h.e h.g f answers (port r.early) (port h.before) (port
                       calls)
                       (Read 0) h.following has (omega (arith, h.low, few)) h.low first.1 h.starts soon.1 h.due answer
-                      (answers ++ answer ∷ []) refl h.next finished),
+                      (answers ++ answer ∷ []) refl finished stays),
                 ));
             keeps = answered_follows (length answers) list r.o h.e f answers (port h.before) (Read 0) h.following
                 r.stays h.low

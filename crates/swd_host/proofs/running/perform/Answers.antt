@@ -56,17 +56,18 @@ loop-index-preserved g c =
     let before = c.loop-index.answers.items in
     let pushed : c.push.new.self.items ≡ before ++ c.in-Ok.answer ∷ [] = c.push.ensures.items
     ∙ ap (λ r. if is_ok r then before ++ c.in-Ok.answer ∷ [] else before) c.unwrap.ensures in
+    let stays = answered_stays c.loop-index.index c.args.accesses.now c.args.engine.now c.loop-index.engine works.0
+    c.access.new.engine v.added.part (g.W.Wire.port c.loop-index.wire)
+    (g.W.Wire.port c.access.new.wire) _ _ v.stays works.1 works.2 c.in-Ok.answer
+    (v.added.part ++ c.in-Ok.answer ∷ []) refl c.access.ensures.due
+    (some_follows _ _ _ c.following-following.ensures) c.in-Ok.ensures.finished in
     record {
       added = record {
         part = v.added.part ++ c.in-Ok.answer ∷ [];
         whole = pushed ∙ (ap (λ x. x ++ c.in-Ok.answer ∷ []) v.added.whole
             ∙ append_assoc c.args.answers.now.items v.added.part (c.in-Ok.answer ∷ []));
       };
-      stays = answered_stays c.loop-index.index c.args.accesses.now c.args.engine.now c.loop-index.engine works.0
-          c.access.new.engine v.added.part (g.W.Wire.port c.loop-index.wire)
-          (g.W.Wire.port c.access.new.wire) _ _ v.stays works.1 works.2 c.in-Ok.answer
-          (v.added.part ++ c.in-Ok.answer ∷ []) refl c.access.ensures.due
-          (some_follows _ _ _ c.following-following.ensures) c.in-Ok.ensures.finished;
+      stays = stays;
       stands = λ lawful. (
           let late = c.access.ensures.goes lawful in
           let soon = v.stands late.0 in (
@@ -76,7 +77,7 @@ loop-index-preserved g c =
                 (g.W.Wire.port c.access.new.wire) _ _ c.requires.opened (omega (arith, c.requires.few))
                 c.loop-index-test.true
                 soon.1 late.1.1 late.1.2 c.access.ensures.due c.in-Ok.answer (v.added.part ++ c.in-Ok.answer ∷ []) refl
-                (some_follows _ _ _ c.following-following.ensures) c.in-Ok.ensures.finished,
+                c.in-Ok.ensures.finished stays,
           ));
       told = made_then g.W.Wire.notes _ _ _ _ _ _
           (answered_follows c.loop-index.index c.args.accesses.now c.args.engine.now c.loop-index.engine
