@@ -1,7 +1,7 @@
 -- Passes on the lemmas from which `turn`, `perform`, `run` and `resume` fold their calls, for a crate whose loop is
 -- another one, and declares nothing.
-pub use Rattle.swd_host.proofs.Turning.{ask_goes, take_goes, give_goes, pass_goes, lead_goes}
-pub use Rattle.swd_host.proofs.Working.{works_refl, works_then, moves_works, ask_works, ask_due_framed}
+pub use Rattle.swd_host.proofs.Turned.{turned_moves, turned_works, turned_due, turned_falls, turned_goes, moves_few}
+pub use Rattle.swd_host.proofs.Working.{works_refl, works_then}
 pub use Rattle.swd_host.proofs.Going.{goes_refl, goes_then}
 pub use Rattle.swd_host.proofs.Lists.{are_next, is_access}
 pub use Rattle.swd_host.proofs.Starts.{ahead_burst, start_access, start_due, start_left}

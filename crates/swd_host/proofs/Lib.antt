@@ -15,6 +15,7 @@ mod EarlyMoves
 mod EarlyTurns
 mod Working
 mod Turning
+mod Turned
 mod StepLemmas
 mod Going
 mod Lists

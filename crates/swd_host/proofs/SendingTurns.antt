@@ -28,6 +28,7 @@ use Rattle.swd_host.specs.Turns.{begun_left, GoesOn}
 use Rattle.std.proofs.lemmas.List.{append-nil}
 use Rattle.swd_host.proofs.Working.{IsAsking, asking}
 use Rattle.swd_host.proofs.Turning.{IsPhase, taking, giving, IsTaking, take_cue, IsGiving, give_cue}
+use Rattle.swd_host.proofs.Turned.{lands_by, turned_works}
 use Rattle.swd_host.proofs.SendingStages.{Here, settled_none}
 use Rattle.swd_host.proofs.Sending.{ask_knows, waited_knows, faulted_knows, given_knows, taken_knows, knows_as}
 use Rattle.swd_host.proofs.Sending.{state_job, passing, sent_as}
@@ -93,21 +94,6 @@ module _ (list : List Access) (answers : List Answer) where
             → is_state_of false x ≡ true → cue_at x stray task ≡ Some (Lead ones undriven switch low) → ⊥
         leading x stray task ones undriven switch low on e = grind arith
 
-  part_kept : (e f : Engine) (cue : Cue) (seen : ℕ) (opening : Bool) → Replied cue seen e f
-      → is_state_of opening e.state ≡ true → is_state_of opening f.state ≡ true
-  part_kept e f (CueAsk q) seen opening saw = saw.sees.part opening
-  part_kept e f Take seen opening took = took.lands.part opening
-  part_kept e f (Give bits) seen opening did = did.lands.part opening
-  part_kept e f Pass seen opening did = did.lands.part opening
-  part_kept e f (Lead ones undriven switch low) seen opening did = did.lands.part opening
-
-  task_kept : (e f : Engine) (cue : Cue) (seen : ℕ) → Replied cue seen e f → f.task ≡ e.task
-  task_kept e f (CueAsk q) seen saw = saw.sees.task
-  task_kept e f Take seen took = took.lands.task
-  task_kept e f (Give bits) seen did = did.lands.task
-  task_kept e f Pass seen did = did.lands.task
-  task_kept e f (Lead ones undriven switch low) seen did = did.lands.task
-
   -- the calls of an access
   pub turns_know : (e f : Engine) (past calls : List Call) → is_state_of false e.state ≡ true
       → Here list answers e.task → Knows list answers e past → Turns e calls f
@@ -119,8 +105,8 @@ module _ (list : List Access) (answers : List Answer) where
   )
   turns_know e f past (call ∷ calls) on here h (g, turns, turned) =
       let before = turns_know e g past calls on here h turns in (
-        part_kept g f call.cue call.seen false turned.replied before.0,
-        task_kept g f call.cue call.seen turned.replied ∙ before.1,
+        (turned_works call g f turned).part false before.0,
+        (turned_works call g f turned).task ∙ before.1,
         turned_by g f call.cue call.seen (calls ++ past) before.0
             (subst (λ t. Here list answers t) (sym before.1) here) before.2 turned.cue turned.replied,
       )
@@ -129,10 +115,7 @@ module _ (list : List Access) (answers : List Answer) where
 counts_by : (e f : Engine) (cue : Cue) (seen n : ℕ) → e.requests ≡ n → Replied cue seen e f
     → f.requests ≡ (if is_ask cue then one_more n else n)
 counts_by e f (CueAsk q) seen n is saw = saw.requests ∙ ap one_more is
-counts_by e f Take seen n is took = took.lands.requests ∙ is
-counts_by e f (Give bits) seen n is did = did.lands.requests ∙ is
-counts_by e f Pass seen n is did = did.lands.requests ∙ is
-counts_by e f (Lead ones undriven switch low) seen n is did = did.lands.requests ∙ is
+counts_by e f cue seen n is replied = (lands_by cue seen e f refl replied).requests ∙ is
 
 -- the engine counts the requests of its calls
 pub turns_counted : (e f : Engine) (past calls : List Call) → e.requests ≡ counted past → Turns e calls f
@@ -203,7 +186,7 @@ turns_open list e f [] on moves same = record {
 }
 turns_open list e f (call ∷ calls) on moves (g, turns, turned) =
     let before : Opens list g calls = turns_open list e g calls on moves turns in record {
-      on = part_kept list [] g f call.cue call.seen true turned.replied before.on;
+      on = (turned_works call g f turned).part true before.on;
       ahead = opened_ahead g f call.cue call.seen before.on turned.replied;
       none = unasked (asks_drw call.cue) _ (opening_cue g call.cue before.on turned.cue);
       since = seen_since call before.since;

@@ -5,7 +5,7 @@ use Rattle.swd_host.proofs.Words.{PlainMemory, Port, phase_number, word_in, Asks
 use Rattle.swd_host.proofs.Words.{Stopped, Task, Job, CueAsk, Ask, Data, State, Doing, Resting, Engine}
 use Rattle.swd_host.proofs.Words.{request_for, word_for, begins, cue_of, is_ahead_at, is_resting}
 use Rattle.swd_host.proofs.Words.{one_more, job_in, left_for, left_in, open_requests, is_job_of, is_state_of}
-use Rattle.swd_host.proofs.Words.{calls_left, Hand, Counted, Before, Tracks, TracksEngine, Follows, IsTask, Saw, Left}
+use Rattle.swd_host.proofs.Words.{Hand, Counted, Before, Tracks, TracksEngine, Follows, IsTask, Saw, Left}
 use Rattle.swd_host.proofs.Words.{TakenFor, hand_of, Sees, lands_from, IsCountable, Goes, Early, IsEarly}
 use Rattle.swd_host.proofs.Words.{Resumes, early, over, EarlySaw, EarlyTaken}
 use Rattle.swd_port.specs.Laws.Calls.{Asked}
@@ -14,8 +14,8 @@ use Rattle.swd_port.specs.declared.cue.Cue.{Cue}
 use Rattle.swd_port.specs.declared.cue.Cue.TheVariants.{Lead, Take as CueTake, Give as CueGive, Pass as CuePass}
 use Rattle.swd_host.specs.Progress.{is_quiet}
 use Rattle.swd_host.specs.Engines.{cue_at, data_cue}
-use Rattle.swd_host.specs.Tracks.{Hears, HasSent, HasRead}
-use Rattle.swd_host.specs.Early.{EarlyLeft, HearsEarly, SendsEarly, ReadsEarly}
+use Rattle.swd_host.specs.Replies.{Did, Replied, Took}
+use Rattle.swd_host.specs.Early.{EarlyLeft}
 use Rattle.swd_host.proofs.Working.{IsAsking, asking, one_more_least, one_more_exact, ask_works, moves_works}
 use Rattle.swd_host.proofs.EarlyAsks.{ask_early}
 use Rattle.swd_host.proofs.EarlyMoves.{read_early, given_early}
@@ -63,17 +63,18 @@ resumed_left base start e s job at opening h = grind arith
 -- a request that is a step of the model: what the engine and the port keep over it
 pub ask_goes : (e f : Engine) (on : is_resting e ≡ false) (s t : Port) (q : Request) (v : ℕ)
     → cue_of e ≡ Some (CueAsk q)
-    → Asks s q v t → open_requests f + 1 ≤ open_requests e → f.requests ≡ one_more e.requests → Sees v e f
-    → ((base : Counted) (m : PlainMemory) (u : Port) → Hears v base m e u → TracksEngine base m f u) → HearsEarly v e f
-    → Goes e s f t
-ask_goes e f on s t q v cue asks left sent sees tracks hears =
+    → Asks s q v t → Replied (CueAsk q) v e f → Goes e s f t
+ask_goes e f on s t q v cue asks heard =
+    let sent : f.requests ≡ one_more e.requests = heard.requests in
+    let left : open_requests f + 1 ≤ open_requests e = heard.fewer in
+    let sees : Sees v e f = heard.sees in
     let c : Asked s t = request_counted q v s t asks in
     let a : IsAsking e.state e.task q = asking e.state e.stray e.task q cue in
     let job : job_in e.state ≡ a.job = ap job_in a.at in
     let more : (e.requests ≤ one_more e.requests) × (one_more e.requests ≤ e.requests + 1) =
     one_more_least e.requests in
     let exact : IsCountable e → f.requests ≡ e.requests + 1 =
-    λ few. sent ∙ one_more_exact e.requests (let l = left in omega arith) in
+    λ few. sent ∙ one_more_exact e.requests (omega arith) in
     let open_here : left_in e.state ≡ left_for a.job = ap left_in a.at in
     let asked : Asks s (request_for a.job e.task) v t = subst (λ r. Asks s r v t) a.is asks in
     let follows : (base : Counted) (m : PlainMemory) → Follows base m e s → Follows base m f t = λ base m h. (
@@ -84,16 +85,16 @@ ask_goes e f on s t q v cue asks left sent sees tracks hears =
     record {
       task = subst IsTask (sym sees.task) h.task;
       lost = omega (arith, c.lost_least, h.lost);
-      tracks = tracks base m t (subst (λ j. Saw j v (base.disturbed + e.events) base (max e.begun (begins j e.task))
+      tracks = heard.tracks base m t (subst (λ j. Saw j v (base.disturbed + e.events) base (max e.begun (begins j e.task))
           (hand_of e m) t) (sym job) saw);
     }) in
     let step : (base : Counted) (start : Port) → base.lost ≤ s.tally.lost → IsEarly base start e s
-    → IsEarly base start f t = λ base start few h. hears base start t
+    → IsEarly base start f t = λ base start few h. heard.early base start t
     (subst (λ j. EarlySaw j v (base.disturbed + e.events) base e.stray start t) (sym job)
     (ask_early (base.disturbed + e.events) base e.stray start v s t e.task few a.job
     (early_at base start e s (Doing a.job Ask) a.at h) asked)) in
     record {
-      works = ask_works e f on q v cue left sent sees;
+      works = ask_works e f on q v cue heard;
       follows = follows;
       resumes = resumes_by e f s t sees.task c.lost_least
           (still_early e f s t sees.task c.lost_least step) follows;
@@ -164,32 +165,26 @@ giving _ stray task sent e = absurd (cc)
 
 -- a data phase that is read, as a step of the model: what the engine and the port keep over it
 pub take_goes : (e f : Engine) (on : is_resting e ≡ false) (s t : Port) (bits : ℕ) → bits < 2 ^ 33
-    → cue_of e ≡ Some CueTake
-    → Takes s bits t → lands_from e f
-    → ((base : Counted) (m : PlainMemory) (u : Port) → HasRead (word_in bits) base m e u → TracksEngine base m f u)
-    → ReadsEarly (word_in bits) e f → Goes e s f t
-take_goes e f on s t bits range cue takes lands tracks reads =
+    → cue_of e ≡ Some CueTake → Takes s bits t → Took bits e f → Goes e s f t
+take_goes e f on s t bits range cue takes took =
+    let lands : lands_from e f = took.lands in
     let p : IsPhase e.state e.task CueTake = taking e.state e.stray e.task cue in
     let c : IsTaking (is_ahead_at p.job Data e.task) (word_for p.job e.task) =
     take_cue (is_ahead_at p.job Data e.task) (word_for p.job e.task) p.is in
     let job : job_in e.state ≡ p.job = ap job_in p.at in
     let tally : t.tally ≡ s.tally = others_uncounted CueTake bits s t refl takes in
     moves e f on s t lands tally (identification_kept CueTake bits s t takes)
-    (follows_by e f s t lands tally (λ base m h. tracks base m t (
+    (follows_by e f s t lands tally (λ base m h. took.tracks base m t (
       h.task,
       subst
           (λ j. TakenFor j (word_in bits) (base.disturbed + e.events) e.begun (hand_of e m) t) (sym job)
           (taken_facts (base.disturbed + e.events) e.begun (hand_of e m) s t bits range takes p.job c.reads c.ahead_not
           (tracked base m e s (Doing p.job Data) p.at h.tracks)),
     )))
-    (steps_by e f s t lands tally (λ base start h. reads base start t
+    (steps_by e f s t lands tally (λ base start h. took.early base start t
     (subst (λ j. EarlyTaken j (word_in bits) (base.disturbed + e.events) e.stray start t) (sym job)
     (read_early (base.disturbed + e.events) e.stray start bits s t range takes p.job e.task c.reads
     (early_at base start e s (Doing p.job Data) p.at h)))))
-
--- a call of `done` says what was left
-abbrev pub Dones : Engine → Engine → Type 0
-Dones e f = (base : Counted) (m : PlainMemory) (u : Port) → HasSent base m e u → TracksEngine base m f u
 
 left_at_state : (base : Counted) (m : PlainMemory) (e : Engine) (t : Port) (x : State) → e.state ≡ x
     → Left x (base.disturbed + e.events) e.begun (hand_of e m) t
@@ -203,14 +198,15 @@ early_left_at base start e t x at h = subst (λ y. EarlyLeft y (base.disturbed +
 
 -- a data phase that is written, as a step of the model: what the engine and the port keep over it
 pub give_goes : (e f : Engine) (on : is_resting e ≡ false) (s t : Port) (sent : ℕ) → sent < 2 ^ 33
-    → cue_of e ≡ Some (CueGive sent) → Gives s sent t → lands_from e f → Dones e f → SendsEarly e f → Goes e s f t
-give_goes e f on s t sent range cue gives lands tracks sends =
+    → cue_of e ≡ Some (CueGive sent) → Gives s sent t → Did e f → Goes e s f t
+give_goes e f on s t sent range cue gives did =
+    let lands : lands_from e f = did.lands in
     let p : IsPhase e.state e.task (CueGive sent) = giving e.state e.stray e.task sent cue in
     let c : IsGiving (word_for p.job e.task) sent = give_cue (is_ahead_at p.job Data e.task)
     (word_for p.job e.task) sent p.is in
     let tally : t.tally ≡ s.tally = others_uncounted (CueGive sent) 0 s t refl gives in
     let follows : (base : Counted) (m : PlainMemory) → Follows base m e s → Follows base m f t =
-    follows_by e f s t lands tally (λ base m h. tracks base m t (
+    follows_by e f s t lands tally (λ base m h. did.tracks base m t (
       h.task,
       left_at_state base m e t (Doing p.job Data) p.at
           (job_gave (base.disturbed + e.events) e.begun
@@ -225,7 +221,7 @@ give_goes e f on s t sent range cue gives lands tracks sends =
           (let chosen = select_chooses base start e s p.job p.at at ok few h in
           over chosen.memory chosen.comes (follows base chosen.memory chosen.follows))
       | inr left ↦ early (subst IsTask (sym lands.task) ok) (omega (arith, ap (λ i. i.lost) tally, few))
-          (sends base start t (early_left_at base start e t (Doing p.job Data) p.at left))
+          (did.early base start t (early_left_at base start e t (Doing p.job Data) p.at left))
     ])
 
 passed_left : (n tries : ℕ) (base : Counted) (b : ℕ) (k : Hand) (x : State) (stray : Bool) (task : Task)
@@ -238,16 +234,17 @@ passed_early n tries base x stray task start s t e passes h = grind arith
 
 -- the turnaround after WAIT or FAULT, as a step of the model: what the engine and the port keep over it
 pub pass_goes : (e f : Engine) (on : is_resting e ≡ false) (s t : Port) → cue_of e ≡ Some CuePass → Passes s t
-    → lands_from e f → Dones e f → SendsEarly e f → Goes e s f t
-pass_goes e f on s t cue passes lands tracks sends =
+    → Did e f → Goes e s f t
+pass_goes e f on s t cue passes did =
+    let lands : lands_from e f = did.lands in
     let tally : t.tally ≡ s.tally = others_uncounted CuePass 0 s t refl passes in
     moves e f on s t lands tally (identification_kept CuePass 0 s t passes)
-    (follows_by e f s t lands tally (λ base m h. tracks base m t (
+    (follows_by e f s t lands tally (λ base m h. did.tracks base m t (
       h.task,
       passed_left (base.disturbed + e.events) e.tries base e.begun
           (hand_of e m) e.state e.stray e.task s t cue passes h.tracks,
     )))
-    (steps_by e f s t lands tally (λ base start h. sends base start t
+    (steps_by e f s t lands tally (λ base start h. did.early base start t
     (passed_early (base.disturbed + e.events) e.tries base e.state e.stray e.task start s t cue passes h)))
 
 led_left : (n tries : ℕ) (base : Counted) (b : ℕ) (k : Hand) (x : State) (stray : Bool) (task : Task)
@@ -264,22 +261,16 @@ led_first n tries base x stray task ones undriven low switch start s t e leads h
 
 -- the line reset of the opening, as a step of the model: what the engine and the port keep over it
 pub lead_goes : (e f : Engine) (on : is_resting e ≡ false) (s t : Port) (ones undriven low : ℕ) (switch : Bool)
-    → cue_of e ≡ Some (Lead ones undriven switch low) → Leads s ones t → lands_from e f → Dones e f → SendsEarly e f
-    → Goes e s f t
-lead_goes e f on s t ones undriven low switch cue leads lands tracks sends =
+    → cue_of e ≡ Some (Lead ones undriven switch low) → Leads s ones t → Did e f → Goes e s f t
+lead_goes e f on s t ones undriven low switch cue leads did =
+    let lands : lands_from e f = did.lands in
     let tally : t.tally ≡ s.tally = others_uncounted (Lead ones undriven switch low) 0 s t refl leads in
     moves e f on s t lands tally (identification_kept (Lead ones undriven switch low) 0 s t leads)
-    (follows_by e f s t lands tally (λ base m h. tracks base m t (
+    (follows_by e f s t lands tally (λ base m h. did.tracks base m t (
       h.task,
       led_left (base.disturbed + e.events) e.tries base e.begun
           (hand_of e m) e.state e.stray e.task ones undriven low switch s t cue leads h.tracks,
     )))
-    (steps_by e f s t lands tally (λ base start h. sends base start t
+    (steps_by e f s t lands tally (λ base start h. did.early base start t
     (led_first (base.disturbed + e.events) e.tries base e.state e.stray e.task ones undriven low switch start s t cue
     leads h)))
-
--- the line reset lowers the bound on the calls before the next outcome
-pub lead_falls : (e f : Engine) (ones undriven low : ℕ) (switch : Bool)
-    → cue_of e ≡ Some (Lead ones undriven switch low) → lands_from e f
-    → calls_left f < calls_left e
-lead_falls e f ones undriven low switch cue lands = grind arith

@@ -10,6 +10,7 @@ use Rattle.swd_port.specs.Answers.{due_after}
 use Rattle.swd_port.specs.declared.wire.Due.TheVariants.{Take, Give, Pass, Lost as DueLost}
 use Rattle.swd_host.specs.declared.engine.Phase.TheVariants.{Faulted}
 use Rattle.swd_host.specs.Engines.{cue_at}
+use Rattle.swd_host.specs.Replies.{Replied}
 use Rattle.swd_host.specs.Turns.{begun_left}
 
 -- A REQUEST
@@ -59,13 +60,16 @@ seen_never job v = grind arith
 
 -- a request: what the engine keeps by itself over it, whatever three bits came back
 pub ask_works : (e f : Engine) (on : is_resting e ≡ false) (q : Request) (v : ℕ) → cue_of e ≡ Some (CueAsk q)
-    → open_requests f + 1 ≤ open_requests e → f.requests ≡ one_more e.requests → Sees v e f → Works e f
-ask_works e f on q v cue left sent sees =
+    → Replied (CueAsk q) v e f → Works e f
+ask_works e f on q v cue saw =
+    let left : open_requests f + 1 ≤ open_requests e = saw.fewer in
+    let sent : f.requests ≡ one_more e.requests = saw.requests in
+    let sees : Sees v e f = saw.sees in
     let a : IsAsking e.state e.task q = asking e.state e.stray e.task q cue in
     let more : (e.requests ≤ one_more e.requests) × (one_more e.requests ≤ e.requests + 1) =
     one_more_least e.requests in
     let exact : IsCountable e → f.requests ≡ e.requests + 1 =
-    λ few. sent ∙ one_more_exact e.requests (let l = left in omega arith) in
+    λ few. sent ∙ one_more_exact e.requests (omega arith) in
     let begun_is : f.begun ≡ max e.begun (begins a.job e.task) =
     sees.begun ∙ ap (λ x. max e.begun (begins (job_in x) e.task)) a.at in
     record {

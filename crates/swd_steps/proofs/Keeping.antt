@@ -26,6 +26,7 @@ use Rattle.swd_host.specs.Progress.{is_state_of}
 use Rattle.swd_host.specs.Standing.{HasOpened, Stands, Stays}
 use Rattle.swd_host.specs.Tracks.{DueAt, DueFits}
 use Rattle.swd_host.specs.Turns.{GoesOn, IsNew, Starts, Works}
+use Rattle.swd_host.proofs.Folding.{turned_moves, turned_works, turned_due, turned_goes}
 use Rattle.swd_host.proofs.Folding.{works_refl, works_then, goes_refl, goes_then, ahead_burst, start_access}
 use Rattle.swd_host.proofs.Folding.{start_due, start_never, stop_never, stopped_state, opened_state, not_opened}
 use Rattle.swd_host.proofs.Folding.{opened_stays, opened_stands, answered_stays, answered_stands, answered_follows}
@@ -33,7 +34,6 @@ use Rattle.swd_host.proofs.Folding.{access_performs, access_does, stopped_tells,
 use Rattle.swd_steps.specs.Runs.{Beginning}
 use Rattle.swd_steps.proofs.Lists.{got_follows}
 use Rattle.swd_steps.proofs.Standing.{Opening, Rested, InHand, Finished, never_opened, performed}
-use Rattle.swd_steps.proofs.Turning.{turned_moves, turned_works, turned_due, turned_goes}
 
 -- an opening comes to no answer
 pub not_answered : (x : State) (task : Task) (answer : Answer) → is_state_of true x ≡ true

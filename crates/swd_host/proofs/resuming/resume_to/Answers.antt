@@ -1,4 +1,4 @@
-use Rattle.swd_host.proofs.Words.{ap, ◌∙◌, ◌++◌, ◌-◌, [], refl, subst, sym, length, drop, since, true, Does, Performs}
+use Rattle.swd_host.proofs.Words.{ap, ◌∙◌, ◌++◌, [], refl, subst, sym, length, drop, since, true, Does, Performs}
 use Rattle.swd_host.proofs.Words.{told_by}
 use Rattle.std.proofs.Common.{arith}
 use Rattle.std.proofs.lemmas.List.{append-nil}

@@ -1,4 +1,4 @@
-use Rattle.swd_host.proofs.Words.{ap, arith, ◌∙◌, ◌++◌, ◌∷◌, [], refl, sym, ◌≡◌}
+use Rattle.swd_host.proofs.Words.{ap, arith, ◌∙◌, ◌++◌, ◌∷◌, [], refl, sym}
 use Rattle.std.proofs.lemmas.List.{append_assoc, append-nil}
 use Rattle.swd_host.proofs.Lists.{some_follows}
 use Rattle.swd_host.proofs.Ends.{stopped_state}
