@@ -144,4 +144,4 @@ module _ (how : Beginning) (list : List Access) where
 pub ends : Ends
 ends how accesses calls run answers ran =
     any_made how (drop how.from accesses) calls answers run.engine run.stage
-    (made how (drop how.from accesses) ran.came)
+    (made how (drop how.from accesses) ran.come.came)

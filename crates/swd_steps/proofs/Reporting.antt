@@ -46,7 +46,7 @@ module _ (how : Beginning) (accesses : List Access) (calls : List Call) (run : R
   rest = drop how.from accesses
 
   came : Came how rest calls run.engine (Ended end) answers
-  came = subst (λ x. Came how rest calls run.engine x answers) ended ran.came
+  came = subst (λ x. Came how rest calls run.engine x answers) ended ran.come.came
 
   pub accepted : (length accesses ≤ 65536) × AreAccesses accesses × (how.from ≤ length accesses)
   accepted = ended_calls how.from accesses how rest calls run.engine answers end came ran.accepted

@@ -1,8 +1,9 @@
 -- What each function of a run leaves, as a step of what it has come to.
 use Rattle.std.proofs.Common.{arith, refl, sym, ap, subst, ◌∙◌, ◌≡◌, ◌+◌, ◌<◌, ◌≤◌, ℕ, Bool, true, false}
-use Rattle.std.proofs.Common.{List, [], ◌∷◌, ◌++◌, length, length-append}
+use Rattle.std.proofs.Common.{List, [], ◌∷◌, ◌++◌, inl, inr, length, length-append}
 use Rattle.std.specs.Prelude.{Option, Some, None, IfSome, drop, slice_get}
 use Rattle.std.proofs.lemmas.List.{append_assoc, append-nil}
+use Rattle.std.proofs.lemmas.Bool.{cases_Bool}
 use Rattle.swd_port.specs.declared.access.Access.{Access}
 use Rattle.swd_port.specs.declared.access.Answer.{Answer}
 use Rattle.swd_port.specs.declared.call.Call.{Call}
@@ -24,7 +25,7 @@ use Rattle.swd_host.specs.Turns.{IsNew, Starts, first_state}
 use Rattle.swd_steps.specs.declared.run.Run.{Run}
 use Rattle.swd_steps.specs.declared.run.Stage.{Stage}
 use Rattle.swd_steps.specs.declared.run.Stage.TheVariants.{Driving, Between, Ended}
-use Rattle.swd_steps.specs.Runs.{Beginning, Came, Leaves, Extends, HasCome, IsFit, Ran, MakesCall, call_of, cue_at}
+use Rattle.swd_steps.specs.Runs.{Beginning, Came, Leaves, Extends, HasCome, IsFit, Ran, MakesCall, cue_at}
 use Rattle.swd_steps.specs.Runs.{has_answered, has_begun, has_idled, has_opened, has_started, has_stopped, has_turned}
 use Rattle.swd_steps.specs.Runs.{is_lead, listed, run_cue, seen_of}
 use Rattle.swd_steps.proofs.Lists.{get_dropped, none_past, rest_dropped}
@@ -38,11 +39,13 @@ new_moves e leads = grind arith
 pub new_ran : (how : Beginning) (list : List Access) (run : Run) (e : Engine) → IsNew how.kind how.again how.tries e
     → run.engine ≡ e → run.stage ≡ Driving → run.answered ≡ how.from → Ran how list [] run []
 new_ran how list run e new engine stage answered = record {
-  came = subst (λ x. Came how (drop how.from list) [] run.engine x []) (sym stage)
-      (subst (λ x. Came how (drop how.from list) [] x Driving []) (sym engine) (has_begun e new));
-  number = omega (arith, answered);
+  come = record {
+    came = subst (λ x. Came how (drop how.from list) [] run.engine x []) (sym stage)
+        (subst (λ x. Came how (drop how.from list) [] x Driving []) (sym engine) (has_begun e new));
+    number = omega (arith, answered);
+    last = λ at. absurd (let both : Driving ≡ Between = sym stage ∙ at in cc);
+  };
   accepted = tt;
-  last = λ at. absurd (let both : Driving ≡ Between = sym stage ∙ at in cc);
   drives = λ at. ap is_resting engine ∙ new_moves e new.leads;
 }
 
@@ -240,10 +243,6 @@ module _ (accesses : List Access) (before mid one two : Run) (seen : ℕ) (first
       → HasCue (λ cue. MakesCall cue seen accesses before came two) (run_cue before)
   engine_turns never asked replied = at_stage before.stage refl never asked replied
 
-by_bool : (b : Bool) (P : Type 0) → (b ≡ true → P) → (b ≡ false → P) → P
-by_bool true P set clear = set refl
-by_bool false P set clear = clear refl
-
 -- after two outcomes there is something to send, or the engine is not asked any more
 pub twice_drives : (mid one two : Run) → (is_resting mid.engine ≡ false → one ≡ mid)
     → (is_resting mid.engine ≡ true → one.stage ≡ Driving
@@ -251,12 +250,12 @@ pub twice_drives : (mid one two : Run) → (is_resting mid.engine ≡ false → 
     → (is_resting one.engine ≡ false → two ≡ one)
     → (one.engine.ahead ≡ Unsent → is_ahead one.engine ≡ false → two.stage ≡ Driving → is_resting two.engine ≡ false)
     → (two.stage ≡ Driving → one.stage ≡ Driving) → two.stage ≡ Driving → is_resting two.engine ≡ false
-twice_drives mid one two same calm further drives driven at = by_bool (is_resting mid.engine)
-    (is_resting two.engine ≡ false)
-    (λ rests. let known = calm rests (driven at) in drives known.0 known.1 at)
-    (λ moves.
-    let first : is_resting one.engine ≡ false = ap (λ (x : Run). is_resting x.engine) (same moves) ∙ moves in
-    ap (λ (x : Run). is_resting x.engine) (further first) ∙ first)
+twice_drives mid one two same calm further drives driven at = elim (cases_Bool (is_resting mid.engine)) [
+  | inl rests ↦ (let known = calm rests (driven at) in drives known.0 known.1 at)
+  | inr moves ↦
+      (let first : is_resting one.engine ≡ false = ap (λ (x : Run). is_resting x.engine) (same moves) ∙ moves in
+      ap (λ (x : Run). is_resting x.engine) (further first) ∙ first)
+]
 
 -- A STEP OF A RUN
 leads_first : (e : Engine) → e.state ≡ Leading → is_lead (cue_of e) ≡ true
@@ -264,30 +263,22 @@ leads_first e at = grind arith
 
 accepted_first : (how : Beginning) (accesses : List Access) (calls : List Call) (run : Run) (answers : List Answer)
     → Ran how accesses calls run answers → IsFit accesses run → AreAccesses accesses
-accepted_first how accesses [] run answers ran fit = fit.are (leads_first run.engine (begins ran.came).1)
+accepted_first how accesses [] run answers ran fit = fit.are (leads_first run.engine (begins ran.come.came).1)
 accepted_first how accesses (call ∷ calls) run answers ran fit = ran.accepted.1
-
-come : {how : Beginning} {accesses : List Access} {calls : List Call} {run : Run} {answers : List Answer}
-    → Ran how accesses calls run answers → HasCome how accesses calls run answers
-come ran = record { came = ran.came; number = ran.number; last = ran.last }
 
 -- a call for a list that fits the run extends the run's calls by this one, and its answers by those of this call
 pub run_goes_on : (accesses : List Access) (before after : Run) (cue : Cue) (reply seen : ℕ) (came : List Answer)
     → IsFit accesses before → seen ≡ seen_of cue reply → MakesCall cue seen accesses before came after
     → (after.stage ≡ Driving → is_resting after.engine ≡ false) → Extends cue reply accesses before came after
 run_goes_on accesses before after cue reply seen came fit is turns drives how calls answers ran =
-    let turned : HasCome how accesses (call_of cue reply ∷ calls) after (answers ++ came) =
-    subst (λ n. HasCome how accesses (record { cue = cue; seen = n } ∷ calls) after (answers ++ came)) is
-    (turns how calls answers (come ran)) in
     record {
-      came = turned.came;
-      number = turned.number;
+      come = subst (λ n. HasCome how accesses (record { cue = cue; seen = n } ∷ calls) after (answers ++ came)) is
+          (turns how calls answers ran.come);
       accepted = (
         fit.few,
         accepted_first how accesses calls before answers ran fit,
-        omega (arith, ran.number, fit.answered),
+        omega (arith, ran.come.number, fit.answered),
       );
-      last = turned.last;
       drives = drives;
     }
 
@@ -302,7 +293,7 @@ pub too_few_before : (accesses : List Access) (run : Run) → length accesses < 
     → (how : Beginning) (calls : List Call) (answers : List Answer) → Ran how accesses calls run answers
     → how.from ≤ length accesses → ⊥
 too_few_before accesses run low how calls answers ran from =
-    too_few how accesses calls run answers (come ran) from low
+    too_few how accesses calls run answers ran.come from low
 
 -- nor is a list with fewer accesses than the run has answered after the next call
 pub too_few_after : (accesses : List Access) (before after : Run) (cue : Cue) (seen : ℕ) (came : List Answer)
@@ -311,4 +302,4 @@ pub too_few_after : (accesses : List Access) (before after : Run) (cue : Cue) (s
     → how.from ≤ length accesses → ⊥
 too_few_after accesses before after cue seen came turns low how calls answers ran from =
     too_few how accesses (record { cue = cue; seen = seen } ∷ calls) after (answers ++ came)
-    (turns how calls answers (come ran)) from low
+    (turns how calls answers ran.come) from low
