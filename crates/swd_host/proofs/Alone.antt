@@ -10,7 +10,8 @@ use Rattle.std.specs.Prelude.{min}
 use Rattle.swd_host.specs.Reports.{due_at}
 use Rattle.swd_host.specs.Standing.{Stays}
 use Rattle.swd_host.proofs.Lists.{follower_continues}
-use Rattle.swd_host.proofs.Starts.{same_access, burst_continues, start_left, start_begun, task_most}
+use Rattle.swd_host.specs.Turns.{GoesOn}
+use Rattle.swd_host.proofs.Starts.{ahead_burst, same_access, burst_continues, start_left, start_begun, task_most}
 use Rattle.swd_host.proofs.Ends.{begun_there}
 
 -- BEFORE THE FIRST ACCESS
@@ -36,6 +37,11 @@ min_next : (i k n : ℕ) → k ≡ i → i < n → min n (k + 1) ≡ i + 1
 min_next i k n is low = grind arith
 
 -- AN ACCESS
+-- the access at i is the one that continues a burst
+pub goes_on : (i : ℕ) (list : List Access) (o e : Engine) (answers : List Answer) (t : Port) (d : Access)
+    → Stays i list o e answers t → GoesOn e (get_or list i d)
+goes_on i list o e answers t d stays = record { on = λ on. (stays.chain (ahead_burst e.state e.task on)).1 d }
+
 module _ (i : ℕ) (list : List Access) (o e g f : Engine) (answers : List Answer) (t u : Port) (d : Access)
     (following : Option Access) (stays : Stays i list o e answers t)
     (starts : Starts (get_or list i d) following e g) (works : Works g f) where

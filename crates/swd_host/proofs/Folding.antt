@@ -4,9 +4,9 @@ pub use Rattle.swd_host.proofs.Turned.{turned_moves, turned_works, turned_due, t
 pub use Rattle.swd_host.proofs.Working.{works_refl, works_then}
 pub use Rattle.swd_host.proofs.Going.{goes_refl, goes_then}
 pub use Rattle.swd_host.proofs.Lists.{are_next, is_access}
-pub use Rattle.swd_host.proofs.Starts.{ahead_burst, start_access, start_due, start_left}
+pub use Rattle.swd_host.proofs.Starts.{start_access, start_due, start_left}
 pub use Rattle.swd_host.proofs.Ends.{stopped_state, opened_state, not_opened}
-pub use Rattle.swd_host.proofs.Alone.{opened_stays, access_performs, answered_stays, all_performs, stop_never}
+pub use Rattle.swd_host.proofs.Alone.{goes_on, opened_stays, access_performs, answered_stays, all_performs, stop_never}
 pub use Rattle.swd_host.proofs.Alone.{start_never, opening_closes, list_closes, closes_told}
 pub use Rattle.swd_host.proofs.Performing.{opened_stands, access_does, answered_stands, all_does}
 pub use Rattle.swd_host.proofs.Runs.{opening_stops, list_fits}

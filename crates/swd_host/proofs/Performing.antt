@@ -32,8 +32,7 @@ opened_stands list o s has due = grind (arith, opened_stays)
 
 -- AN ACCESS
 some_of : (a b : ℕ) → a ≡ b → a ≢ 0 → 1 ≤ b
-some_of a zero same none = absurd (none same)
-some_of a (suc b) same none = omega arith
+some_of a b same none = omega arith
 
 two_most : (task : Task) → most_begun task ≤ 2
 two_most task = grind arith

@@ -24,12 +24,10 @@ use Rattle.swd_host.specs.Standing.{Stays}
 use Rattle.swd_host.specs.Turns.{GoesOn}
 use Rattle.swd_host.specs.declared.engine.Ahead.{Ahead}
 use Rattle.swd_host.specs.declared.engine.Ahead.TheVariants.{Unsent}
-use Rattle.swd_host.proofs.Starts.{same_access, start_access}
-use Rattle.swd_host.proofs.Alone.{last_plain}
+use Rattle.swd_host.proofs.Starts.{block_burst, calm_by, same_access, start_access}
+use Rattle.swd_host.proofs.Alone.{goes_on, last_plain}
 use Rattle.swd_host.proofs.SendingStages.{Here}
-use Rattle.swd_host.proofs.SendingTurns.{answered_rests, start_knows, turns_counted, turns_know, burst_kind}
-use Rattle.swd_host.proofs.SendingTurns.{write_burst}
-use Rattle.swd_host.proofs.SendingTurns.{block_bursts}
+use Rattle.swd_host.proofs.SendingTurns.{answered_rests, start_knows, turns_counted, turns_know}
 
 none_follows : (kind : Bursts) (a : Access) → is_block (task_for kind a None) ≡ true → ⊥
 none_follows kind a h = grind arith
@@ -69,15 +67,13 @@ module _ (i : ℕ) (list : List Access) (o e g f : Engine) (answers : List Answe
         ));
   }
 
-  chained : GoesOn e (get_or list i d)
-  chained = record { on = λ on. (stays.chain (write_burst e.task (burst_kind e.state e.task on))).1 d }
-
   known : (past calls : List Call) → Counts list answers e past → Turns g calls f
       → (f.requests ≡ counted (calls ++ past)) × Knows list answers f (calls ++ past)
   known past calls h turns = (
     turns_counted g f past calls (starts.requests ∙ h.requests) turns,
     (turns_know list answers g f past calls (start_access (get_or list i d) following e g starts) here
-        (start_knows list answers (get_or list i d) following e g past starts chained here h.rests) turns).2,
+        (start_knows list answers (get_or list i d) following e g past starts
+        (goes_on i list o e answers t d stays) here h.rests) turns).2,
   )
 
   answered_counts : (answer : Answer) → finished_of f ≡ Some (Answered answer) → (past calls : List Call)
@@ -152,10 +148,7 @@ last_rests list answers false Unsent task calls plain none h = let s = h.stood i
   is = other _ h.none (λ k. absurd (cc)) s.is;
 }
 last_rests list answers false ahead task calls plain none h =
-    absurd (let both : true ≡ false = sym (block_bursts task (h.goes_on refl)) ∙ plain in cc)
-
-not_ahead : (e : Engine) → is_burst e.task ≡ false → is_ahead e ≡ false
-not_ahead e h = grind (arith, burst_kind, write_burst)
+    absurd (let both : true ≡ false = sym (block_burst task (h.goes_on refl)) ∙ plain in cc)
 
 -- all are answered, and eight idle cycles follow
 pub all_tells : (i : ℕ) (list : List Access) (o e : Engine) (answers : List Answer) (t : Port)
@@ -171,7 +164,8 @@ all_tells i list o e answers t stays all before after added early late h is =
           (let counts : Counts list answers e (early ++ past) = h past p in
           record {
             requests = counts.requests;
-            stood = last_rests list answers (is_ahead e) e.ahead e.task (early ++ past) plain (not_ahead e plain)
+            stood = last_rests list answers (is_ahead e) e.ahead e.task (early ++ past) plain
+                (calm_by e.state e.task plain)
                 counts.rests;
           });
     }

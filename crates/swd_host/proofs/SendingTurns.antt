@@ -29,6 +29,7 @@ use Rattle.std.proofs.lemmas.List.{append-nil}
 use Rattle.swd_host.proofs.Working.{IsAsking, asking}
 use Rattle.swd_host.proofs.Turning.{IsPhase, taking, giving, IsTaking, take_cue, IsGiving, give_cue}
 use Rattle.swd_host.proofs.Turned.{lands_by, turned_works}
+use Rattle.swd_host.proofs.Starts.{ahead_burst, ahead_write, block_burst}
 use Rattle.swd_host.proofs.SendingStages.{Here, settled_none}
 use Rattle.swd_host.proofs.Sending.{ask_knows, waited_knows, faulted_knows, given_knows, taken_knows, knows_as}
 use Rattle.swd_host.proofs.Sending.{state_job, passing, sent_as}
@@ -230,20 +231,9 @@ opening_ends list kind again tries e f end calls new turns =
     }
 
 -- AN ACCESS FROM ITS START
-pub burst_kind : (x : State) (task : Task) → is_ahead_in x task ≡ true → is_burst_write task ≡ true
-burst_kind x task h = grind arith
-
--- a write of a burst is one of a burst
-pub write_burst : (task : Task) → is_burst_write task ≡ true → is_burst task ≡ true
-write_burst task h = grind arith
-
 next_written : (task : Task) (kind : Bursts) (a : Access) (following : Option Access) → is_burst_write task ≡ true
     → continues (access_of task) (Some a) ≡ true → drw_register (task_for kind a following) ≡ DrwWrite
 next_written task kind a following h on = grind arith
-
--- a read of a block is one of a burst
-pub block_bursts : (task : Task) → is_block task ≡ true → is_burst task ≡ true
-block_bursts task h = grind arith
 
 module _ (list : List Access) (answers : List Answer) where
   first_knows : (given : Bool) (ahead : Ahead) (aims : Bool) (before task : Task) (b : ℕ) (calls : List Call)
@@ -266,7 +256,7 @@ module _ (list : List Access) (answers : List Answer) where
     };
   }
   first_knows false NextSent aims before task b calls burst writes begun here h =
-      let on : is_burst before ≡ true = block_bursts before (h.goes_on refl) in
+      let on : is_burst before ≡ true = block_burst before (h.goes_on refl) in
       let one : b ≡ 1 = begun ∙ ap (λ x. bit (x && true)) on in
       let s = h.stood in record {
         none = h.none;
@@ -327,8 +317,8 @@ module _ (list : List Access) (answers : List Answer) where
       (subst (λ x. KnowsAt list answers (first_state (is_ahead e) e.ahead g.aims) g.task g.begun x calls)
       (sym starts.ahead)
       (first_knows (is_ahead e) e.ahead g.aims e.task g.task g.begun calls
-      (λ on. write_burst e.task (burst_kind e.state e.task on))
-      (λ on. ap drw_register starts.task ∙ next_written e.task e.bursts a _ (burst_kind e.state e.task on)
+      (λ on. ahead_burst e.state e.task on)
+      (λ on. ap drw_register starts.task ∙ next_written e.task e.bursts a _ (ahead_write e.state e.task on)
       (chain.on on))
       starts.begun here h))
 

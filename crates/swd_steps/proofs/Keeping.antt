@@ -27,7 +27,7 @@ use Rattle.swd_host.specs.Standing.{HasOpened, Stands, Stays}
 use Rattle.swd_host.specs.Tracks.{DueAt, DueFits}
 use Rattle.swd_host.specs.Turns.{GoesOn, IsNew, Starts, Works}
 use Rattle.swd_host.proofs.Folding.{turned_moves, turned_works, turned_due, turned_goes}
-use Rattle.swd_host.proofs.Folding.{works_refl, works_then, goes_refl, goes_then, ahead_burst, start_access}
+use Rattle.swd_host.proofs.Folding.{works_refl, works_then, goes_refl, goes_then, goes_on, start_access}
 use Rattle.swd_host.proofs.Folding.{start_due, start_never, stop_never, stopped_state, opened_state, not_opened}
 use Rattle.swd_host.proofs.Folding.{opened_stays, opened_stands, answered_stays, answered_stands, answered_follows}
 use Rattle.swd_host.proofs.Folding.{access_performs, access_does, stopped_tells, all_performs, all_does, all_tells}
@@ -52,11 +52,6 @@ new_due kind again tries e s new clear = grind arith
 has_opened : (kind : Bursts) (again : Bool) (tries : ℕ) (e o : Engine) → tries < 2 ^ 32 → IsNew kind again tries e
     → Works e o → o.state ≡ Resting Opened → HasOpened o
 has_opened kind again tries e o small new works at = grind arith
-
--- the access is the one that continues a burst
-goes_on : (i : ℕ) (list : List Access) (o e : Engine) (answers : List Answer) (t : Port) (d : Access)
-    → Stays i list o e answers t → GoesOn e (get_or list i d)
-goes_on i list o e answers t d stays = record { on = λ on. (stays.chain (ahead_burst e.state e.task on)).1 d }
 
 module _ (story : ℕ → Port) (past : List Call) (how : Beginning) (list : List Access) (small : how.tries < 2 ^ 32)
     (clear : how.again ≡ false → due_by past ≡ Nothing) (few : length list ≤ 65536) where

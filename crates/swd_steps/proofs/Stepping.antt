@@ -4,6 +4,7 @@ use Rattle.std.proofs.Common.{List, [], ◌∷◌, ◌++◌, inl, inr, length, l
 use Rattle.std.specs.Prelude.{Option, Some, None, IfSome, drop, slice_get}
 use Rattle.std.proofs.lemmas.List.{append_assoc, append-nil}
 use Rattle.std.proofs.lemmas.Bool.{cases_Bool}
+use Rattle.std.proofs.Common.{length-drop}
 use Rattle.swd_port.specs.declared.access.Access.{Access}
 use Rattle.swd_port.specs.declared.access.Answer.{Answer}
 use Rattle.swd_port.specs.declared.call.Call.{Call}
@@ -28,7 +29,7 @@ use Rattle.swd_steps.specs.declared.run.Stage.TheVariants.{Driving, Between, End
 use Rattle.swd_steps.specs.Runs.{Beginning, Came, Leaves, Extends, HasCome, IsFit, Ran, MakesCall, cue_at}
 use Rattle.swd_steps.specs.Runs.{has_answered, has_begun, has_idled, has_opened, has_started, has_stopped, has_turned}
 use Rattle.swd_steps.specs.Runs.{is_lead, listed, run_cue, seen_of}
-use Rattle.swd_steps.proofs.Lists.{get_dropped, none_past, rest_dropped}
+use Rattle.swd_steps.proofs.Lists.{get_dropped, none_past}
 use Rattle.swd_steps.proofs.Running.{begins, few_answers}
 
 -- A NEW RUN
@@ -286,7 +287,7 @@ run_goes_on accesses before after cue reply seen came fit is turns drives how ca
 pub too_few : (how : Beginning) (accesses : List Access) (calls : List Call) (run : Run) (answers : List Answer)
     → HasCome how accesses calls run answers → how.from ≤ length accesses → length accesses < run.answered → ⊥
 too_few how accesses calls run answers h from low =
-    absurd (omega (arith, h.number, few_answers h.came, rest_dropped how.from accesses from))
+    absurd (omega (arith, h.number, few_answers h.came, length-drop how.from accesses))
 
 -- a list with fewer accesses than the run has answered isn't the one that led to it
 pub too_few_before : (accesses : List Access) (run : Run) → length accesses < run.answered
