@@ -3,7 +3,7 @@ ghost use Rattle.std.specs.Vec.{vec_capacity};
 
 use super::expect::expect_eq_at;
 use super::outside::{Bridge, Untold, behind};
-use super::row::{READ, WORD, WRITE};
+use super::row::WRITE;
 use std::cell::Cell;
 use std::test::Fail;
 use swd_host::{AnswerSink, Bursts, End, Ending, Refused, run_to};
@@ -68,17 +68,24 @@ type Row = (
 
 const FAR: Access = Access::Write(0x2000_0020, 7);
 
-const VALUE: Answer = Answer::Value(WORD);
-
 // The opening is a lead and nine requests, each with a data phase: 19 calls. An access takes requests of TAR, DRW and
-// RDBUFF: six calls, and four where TAR has its address.
-const ROWS: [Row; 5] = [
+// RDBUFF: six calls, and four where TAR has its address, which is incremented after each access. In a burst of writes the
+// OK of the next DRW request confirms a write, before its own data phase.
+const ROWS: [Row; 6] = [
     (
-        "a write and two reads",
+        "a write, and a read of the next word",
         100,
-        &[WRITE, READ, READ],
-        &[Answer::Written, VALUE, VALUE],
-        [25, 29, 33, 0],
+        &[WRITE, Access::Read(0x2000_0004)],
+        &[Answer::Written, Answer::Value(0)],
+        [25, 29, 0, 0],
+        Ok(End::All),
+    ),
+    (
+        "a burst of two writes",
+        100,
+        &[WRITE, Access::Write(0x2000_0004, 7)],
+        &[Answer::Written, Answer::Written],
+        [24, 27, 0, 0],
         Ok(End::All),
     ),
     (
