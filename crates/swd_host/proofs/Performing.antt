@@ -17,6 +17,8 @@ use Rattle.swd_port.proofs.CompletionLaws.{same}
 use Rattle.swd_host.specs.declared.engine.Ahead.TheVariants.{Failed}
 use Rattle.swd_host.specs.Standing.{Stays, Reached, HasSentFor, anew, on}
 use Rattle.swd_port.proofs.CallLaws.{others_uncounted, identification_kept}
+use Rattle.swd_host.specs.Turns.{Later}
+use Rattle.swd_host.proofs.Going.{later_then}
 use Rattle.swd_host.proofs.Fitting.{IsLeft, none_left, fits_by}
 use Rattle.swd_host.proofs.Lists.{memory_next, answers_next, access_at}
 use Rattle.swd_host.proofs.Starts.{IsFirst, IsAnswered, calm_by, start_follows}
@@ -100,6 +102,9 @@ module _ (i : ℕ) (list : List Access) (o e g f : Engine) (answers : List Answe
 
   asked_here : u.tally.asked + o.requests ≡ s.tally.asked + f.requests
   asked_here = omega (arith, goes.asked countable, starts.requests, stands.asked)
+
+  later_here : Later s u
+  later_here = later_then s t u stands.later goes.later
 
   -- an access that is answered at once
   here_at_once : has_failed e ≡ true → f ≡ g
@@ -202,8 +207,8 @@ module _ (i : ℕ) (list : List Access) (o e g f : Engine) (answers : List Answe
         becomes = λ c. later_memory f.begun k u c stop.within;
         later = stop_fits m stop.within.later end stop.never at next r stop.within.ends;
         ends = subst (λ n. EndsAt end n s u) tries_here
-            (stop.ends s f.stray f.task r.fewest stands.lost
-            (ap (λ w. w % 2) (goes.identification ∙ stands.identification) ∙ is.odd)
+            (stop.ends s f.stray f.task r.fewest stands.later.lost
+            (ap (λ w. w % 2) later_here.identification ∙ is.odd)
             (subst (λ x. DueAt x f.stray f.task u.link.due) at due));
         least = λ whole. absurd (stop.never whole);
         most = elim stop.paid [
@@ -220,9 +225,7 @@ module _ (i : ℕ) (list : List Access) (o e g f : Engine) (answers : List Answe
     answers = answers;
     added = added;
     asked = asked_here;
-    disturbed = omega (arith, stands.disturbed, goes.disturbed);
-    lost = omega (arith, stands.lost, goes.lost);
-    identification = goes.identification ∙ stands.identification;
+    later = later_here;
     over = λ m is ok. access_over m end is ok next finished;
   }
 
@@ -263,9 +266,7 @@ module _ (i : ℕ) (list : List Access) (o e g f : Engine) (answers : List Answe
   answered_stands answer more is_more finished stays = record {
     stays = stays;
     asked = asked_here;
-    disturbed = omega (arith, stands.disturbed, goes.disturbed);
-    lost = omega (arith, stands.lost, goes.lost);
-    identification = goes.identification ∙ stands.identification;
+    later = later_here;
     reached = λ m is ok. answered_reached m ok answer more is_more finished (stands.reached m is ok);
   }
 
@@ -313,7 +314,7 @@ module _ (i : ℕ) (list : List Access) (o e : Engine) (answers : List Answer) (
             known = record {
               select = ap (λ x. x.select) passed.target ∙ up.calm.select;
               odd = ap (λ x. x.identification % 2) passed.target
-                  ∙ (ap (λ w. w % 2) stands.identification ∙ is.odd);
+                  ∙ (ap (λ w. w % 2) stands.later.identification ∙ is.odd);
             };
             settled = idle;
           },

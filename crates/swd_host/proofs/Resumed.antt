@@ -29,7 +29,7 @@ module _ (list : List Access) (tries : ℕ) (earlier : Told) (e f : Engine) (bef
     (reported : length earlier.answers ≤ length list) (known : IsKnown s.target) (goes : Goes e s f t)
     (due : DueFits f t) (kept : before ≡ earlier.answers) where
   odd : t.target.identification % 2 ≡ 1
-  odd = ap (λ w. w % 2) goes.identification ∙ known.odd
+  odd = ap (λ w. w % 2) goes.later.identification ∙ known.odd
 
   first : Resumes (counted_at s) s e s
   first = new_resumes Writes true tries e s new known (inl refl)

@@ -29,7 +29,7 @@ module _ (kind : Bursts) (list : List Access) (tries : ℕ) (e f : Engine) (answ
   resumes = goes.resumes (counted_at s) s first
 
   odd : t.target.identification % 2 ≡ 1
-  odd = ap (λ w. w % 2) goes.identification ∙ rest.known.odd
+  odd = ap (λ w. w % 2) goes.later.identification ∙ rest.known.odd
 
   unbegun : f.begun ≡ 0
   unbegun = opening_unbegun kind false tries e f s t small new goes
@@ -77,7 +77,7 @@ module _ (kind : Bursts) (list : List Access) (tries : ℕ) (e f : Engine) (answ
       let left : left_in f.state ≡ 1 = ap left_in at in
       let limit : most_of f.bursts ≡ most_of kind = ap most_of (goes.works.bursts ∙ new.bursts) in
       let mine : part ≡ does.answers = does.added ∙ ap (λ x. x ++ does.answers) none in
-      let ends : EndsAt end tries s u = ends_since end tries s t u goes.disturbed goes.lost
+      let ends : EndsAt end tries s u = ends_since end tries s t u goes.later.disturbed goes.later.lost
       (subst (λ n. EndsAt end n t u) (goes.works.tries ∙ new.tries) over.ends) in
       told_as (most_of kind) list tries m (told_by does.answers last end) (told_by part last end) s u
       (ap (λ x. told_by x last end) mine)
@@ -95,7 +95,7 @@ module _ (kind : Bursts) (list : List Access) (tries : ℕ) (e f : Engine) (answ
               over.most,
               opening_spends kind false tries e f s t small new goes,
               opened.paid,
-              does.disturbed,
+              does.later.disturbed,
             );
       })
 

@@ -85,8 +85,8 @@ ask_goes e f on s t q v cue asks heard =
     record {
       task = subst IsTask (sym sees.task) h.task;
       lost = omega (arith, c.lost_least, h.lost);
-      tracks = heard.tracks base m t (subst (λ j. Saw j v (base.disturbed + e.events) base (max e.begun (begins j e.task))
-          (hand_of e m) t) (sym job) saw);
+      tracks = heard.tracks base m t (subst (λ j. Saw j v (base.disturbed + e.events) base
+          (max e.begun (begins j e.task)) (hand_of e m) t) (sym job) saw);
     }) in
     let step : (base : Counted) (start : Port) → base.lost ≤ s.tally.lost → IsEarly base start e s
     → IsEarly base start f t = λ base start few h. heard.early base start t
@@ -98,9 +98,7 @@ ask_goes e f on s t q v cue asks heard =
       follows = follows;
       resumes = resumes_by e f s t sees.task c.lost_least
           (still_early e f s t sees.task c.lost_least step) follows;
-      identification = c.identification;
-      disturbed = c.disturbed_least;
-      lost = c.lost_least;
+      later = record { identification = c.identification; disturbed = c.disturbed_least; lost = c.lost_least };
       asked = λ few. omega (arith, exact few, c.asked);
       lost_early = λ on base start h opening is. (
           let two : 2 ≤ left_for a.job =
@@ -128,9 +126,11 @@ moves e f on s t lands tally identified follows steps = record {
   works = moves_works e f on lands;
   follows = follows;
   resumes = resumes_by e f s t lands.task (omega (arith, ap (λ i. i.lost) tally)) steps follows;
-  identification = identified;
-  disturbed = omega (arith, ap (λ i. i.disturbed) tally);
-  lost = omega (arith, ap (λ i. i.lost) tally);
+  later = record {
+    identification = identified;
+    disturbed = omega (arith, ap (λ i. i.disturbed) tally);
+    lost = omega (arith, ap (λ i. i.lost) tally);
+  };
   asked = λ few. omega (arith, ap (λ i. i.asked) tally, lands.requests);
   lost_early = λ on base start h opening is. absurd (no_lost f.state lands.quiet is);
 }

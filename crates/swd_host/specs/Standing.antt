@@ -22,6 +22,7 @@ use Rattle.swd_host.specs.Tasks.{access_of, is_burst, most_of}
 use Rattle.swd_host.specs.Engines.{begun_of, is_ahead, finished_of, may_start}
 use Rattle.swd_host.specs.Tracks.{Hand, Up, Writes, IsReady, hand_of, DueFits}
 use Rattle.swd_host.specs.Reports.{Told, Fits, EndsAt, due_at}
+use Rattle.swd_host.specs.Turns.{Later}
 
 -- the report of an engine
 abbrev pub told_by : List Answer → Engine → End → Told
@@ -93,9 +94,7 @@ pub record Stands (i : ℕ) (list : List Access) (o : Engine) (s : Port) (e : En
     (t : Port) : Type 0 where
   pub stays : Stays i list o e answers t
   pub asked : t.tally.asked + o.requests ≡ s.tally.asked + e.requests
-  pub disturbed : s.tally.disturbed ≤ t.tally.disturbed
-  pub lost : s.tally.lost ≤ t.tally.lost
-  pub identification : t.target.identification ≡ s.target.identification
+  pub later : Later s t
   pub reached : (m : PlainMemory) → IsOpen m o s → AreAccesses list → Reached i list m o s e answers t
 
 -- an engine that has opened its target, after at least nine requests
@@ -137,7 +136,5 @@ pub record Does (list : List Access) (o f : Engine) (before after : List Answer)
   pub answers : List Answer
   pub added : after ≡ before ++ answers
   pub asked : t.tally.asked + o.requests ≡ s.tally.asked + f.requests
-  pub disturbed : s.tally.disturbed ≤ t.tally.disturbed
-  pub lost : s.tally.lost ≤ t.tally.lost
-  pub identification : t.target.identification ≡ s.target.identification
+  pub later : Later s t
   pub over : (m : PlainMemory) → IsOpen m o s → AreAccesses list → DoesOver list m o f answers end s t

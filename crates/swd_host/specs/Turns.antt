@@ -155,14 +155,18 @@ pub record Works (e f : Engine) : Type 0 where
       → e.requests + bit e.aims + f.begun ≤ f.requests + least_in e.aims e.state
   pub never : is_all_stop e.state ≡ false → is_all_stop f.state ≡ false
 
--- what it keeps with the port, over a target that conforms to the model
+-- A port some calls later: it has the same DPIDR, and no count of disturbances or of lost requests has fallen.
+pub record Later (s t : Port) : Type 0 where
+  pub identification : t.target.identification ≡ s.target.identification
+  pub disturbed : s.tally.disturbed ≤ t.tally.disturbed
+  pub lost : s.tally.lost ≤ t.tally.lost
+
+-- what the engine keeps with the port, over a target that conforms to the model
 pub record Goes (e : Engine) (s : Port) (f : Engine) (t : Port) : Type 0 where
   pub works : Works e f
   pub follows : (base : Counted) (m : PlainMemory) → Follows base m e s → Follows base m f t
   pub resumes : (base : Counted) (start : Port) → Resumes base start e s → Resumes base start f t
-  pub identification : t.target.identification ≡ s.target.identification
-  pub disturbed : s.tally.disturbed ≤ t.tally.disturbed
-  pub lost : s.tally.lost ≤ t.tally.lost
+  pub later : Later s t
   pub asked : IsCountable e → t.tally.asked + e.requests ≡ s.tally.asked + f.requests
   -- over such a target the opening's last request is never answered FAULT, so a lost acknowledgement leaves one request
   -- of the bound unused

@@ -147,9 +147,7 @@ does_after list o f before answers end s t h = record {
   answers = h.answers;
   added = ap (λ l. before ++ l) h.added;
   asked = h.asked;
-  disturbed = h.disturbed;
-  lost = h.lost;
-  identification = h.identification;
+  later = h.later;
   over = h.over;
 }
 
