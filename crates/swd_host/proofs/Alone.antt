@@ -1,5 +1,6 @@
 -- What the engine keeps by itself along a list, whatever came back.
-use Rattle.swd_host.proofs.Words.{◌≡◌, ◌≢◌, ◌+◌, ◌*◌, ◌^◌, ◌<◌, ◌≤◌, ℕ, Bool, true, false, refl, sym, ap, subst, arith, ◌∙◌}
+use Rattle.swd_host.proofs.Words.{◌≡◌, ◌≢◌, ◌+◌, ◌*◌, ◌^◌, ◌<◌, ◌≤◌, ℕ, Bool, true, false, refl, sym, ap, arith, ◌∙◌}
+use Rattle.swd_host.proofs.Words.{subst}
 use Rattle.swd_host.proofs.Words.{List, [], ◌∷◌, ◌++◌, length, get_or, length-append, Option, Some, None, if◌then◌else◌}
 use Rattle.swd_host.proofs.Words.{Access, Answer, Due, Nothing, Port, End, All, Answered, Stopped, Ahead, Resting}
 use Rattle.swd_host.proofs.Words.{Engine, Bursts, Task, continues, access_of, is_burst, task_for, most_begun, most_of}

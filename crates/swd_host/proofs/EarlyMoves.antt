@@ -149,6 +149,7 @@ module _ (n : ℕ) (stray : Bool) (start : Port) (sent : ℕ) (s t : Port) (rang
     pub given_early : (job : Job) (task : Task) (word : ℕ) → word_for job task ≡ Some word → sent ≡ phase_number word
         → EarlyDuring job n stray start s → (job ≡ At Select) ⊎ EarlySent job n stray start t
     given_early (At WriteAbort) task word is e h = inr (give_abort (phase_is sent word 0x1e is e) h)
-    given_early (Clear Select owed) task word is e h = inr (give_clear owed (phase_is sent word (clear_word owed) is e) h)
+    given_early (Clear Select owed) task word is e h =
+        inr (give_clear owed (phase_is sent word (clear_word owed) is e) h)
     given_early (At Select) task word is e h = inl refl
     given_early _ task word is e h = grind arith

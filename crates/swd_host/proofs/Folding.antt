@@ -12,4 +12,5 @@ pub use Rattle.swd_host.proofs.Performing.{opened_stands, access_does, answered_
 pub use Rattle.swd_host.proofs.Runs.{opening_stops, list_fits}
 pub use Rattle.swd_host.proofs.Resumed.{resume_stops, resume_performs}
 pub use Rattle.swd_host.proofs.SendingTurns.{opening_counts, opening_ends}
-pub use Rattle.swd_host.proofs.SendingRuns.{Keeping, answered_follows, stopped_tells, all_tells, tells_told, closes_small}
+pub use Rattle.swd_host.proofs.SendingRuns.{Keeping, answered_follows, stopped_tells, all_tells, tells_told}
+pub use Rattle.swd_host.proofs.SendingRuns.{closes_small}

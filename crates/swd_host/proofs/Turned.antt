@@ -1,8 +1,8 @@
--- One call that an engine asked for, by what came of it: what the engine keeps, what is due then, and what the engine and
--- the port at the other end keep. For `running::turn`, and for the loop of `swd_steps`.
+-- One call that an engine asked for, by what came of it: what the engine keeps, what is due then, how many calls are
+-- left, and what the engine and the port at the other end keep. For `running::turn`, and for the loop of `swd_steps`.
 use Rattle.swd_host.proofs.Words.{◌≡◌, ◌<◌, ◌≤◌, ℕ, Bool, true, false, refl, arith, List, ◌∷◌, [], Some, is_some}
-use Rattle.swd_host.proofs.Words.{Task, Port, State, Engine, cue_of, finished_at, is_resting, calls_left, DueAt, DueFits}
-use Rattle.swd_host.proofs.Words.{lands_from, Works, Goes}
+use Rattle.swd_host.proofs.Words.{Task, Port, State, Engine, cue_of, finished_at, is_resting, calls_left, DueAt}
+use Rattle.swd_host.proofs.Words.{DueFits, lands_from, Works, Goes}
 use Rattle.swd_port.specs.declared.call.Call.{Call}
 use Rattle.swd_port.specs.declared.cue.Cue.{Cue}
 use Rattle.swd_port.specs.declared.cue.Cue.TheVariants.{Lead, Ask, Take, Give, Pass}

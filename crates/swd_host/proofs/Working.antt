@@ -2,7 +2,8 @@
 use Rattle.swd_host.proofs.Words.{◌≡◌, ◌+◌, ◌^◌, ◌≤◌, ◌<◌, ◌||◌, ℕ, Bool, Some, true, false, if◌then◌else◌, max}
 use Rattle.swd_host.proofs.Words.{inl, inr, ap, sym, subst, arith, ◌∙◌, bit, Request, Port, Lost, Stopped, Task, Job}
 use Rattle.swd_host.proofs.Words.{CueAsk, Ask, Data, Waited, State, Doing, Resting, Engine, request_for, begins}
-use Rattle.swd_host.proofs.Words.{most_begun, least_for, least_in, cue_of, is_resting, is_job_of, is_state_of, one_more, job_in}
+use Rattle.swd_host.proofs.Words.{most_begun, least_for, least_in, cue_of, is_resting, is_job_of, is_state_of}
+use Rattle.swd_host.proofs.Words.{one_more, job_in}
 use Rattle.swd_host.proofs.Words.{open_requests, state_seen, DueAt, DueFits, Sees, lands_from, IsCountable, Works}
 use Rattle.swd_host.proofs.Words.{is_all_stop}
 use Rattle.std.proofs.lemmas.Bool.{cases_lt}

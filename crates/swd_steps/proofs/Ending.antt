@@ -50,9 +50,6 @@ start_calls : (a : Access) (e g : Engine) (tries : ℕ) → calls_left g ≤ 2 *
     → calls_left g ≤ 2 * (6 + 5 * tries) + 1
 start_calls a e g tries few same = omega arith
 
-one_more : (k b : ℕ) → k * b + b ≡ (k + 1) * b
-one_more k b = grind arith
-
 module _ (how : Beginning) (list : List Access) where
   turned_made : (calls : List Call) (answers : List Answer) (call : Call) (e f : Engine) → Turned call e f
       → Spends how list calls e Driving answers → Spends how list (call ∷ calls) f Driving answers
@@ -94,7 +91,6 @@ module _ (how : Beginning) (list : List Access) where
       omega (
         arith,
         h,
-        one_more (length answers) (for_access how),
         start_calls a e f how.tries
             (omega (
               arith,
@@ -115,7 +111,11 @@ module _ (how : Beginning) (list : List Access) where
       → length calls ≤ for_opening how + length list * for_access how + 1
   stopped_made calls answers e (same, inl h) = omega (arith, h.1)
   stopped_made calls answers e (same, inr h) =
-      omega (arith, h.2, mul-le-mul_right {m = length answers + 1} {n = length list} (for_access how) (omega (arith, h.1)))
+      omega (
+        arith,
+        h.2,
+        mul-le-mul_right {m = length answers + 1} {n = length list} (for_access how) (omega (arith, h.1)),
+      )
 
   rested_made : (calls : List Call) (answers : List Answer) (e : Engine) → Spends how list calls e Between answers
       → length calls ≤ for_opening how + length list * for_access how + 1

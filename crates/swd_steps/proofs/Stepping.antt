@@ -130,13 +130,9 @@ driven how accesses calls run answers at h =
 -- where the engine stopped, the run has ended, and no answer is added
 pub stopped_follows : (accesses : List Access) (run : Run) (end : End) → run.stage ≡ Driving
     → finished_of run.engine ≡ Some (Stopped end)
-    → Leaves accesses run [] (record { engine = run.engine; stage = Ended end; answered = run.answered })
+    → Leaves accesses run [] (record run { stage = Ended end })
 stopped_follows accesses run end at finished how calls answers h =
-    subst (λ l. HasCome how accesses calls (record {
-      engine = run.engine;
-      stage = Ended end;
-      answered = run.answered;
-    }) l)
+    subst (λ l. HasCome how accesses calls (record run { stage = Ended end }) l)
     (sym (append-nil answers))
     (record {
       came = has_stopped run.engine end (driven how accesses calls run answers at h) finished;
@@ -175,30 +171,16 @@ answered_follows accesses run more after answer at finished engine one starts dr
 -- the eight idle cycles
 pub idle_turns : (accesses : List Access) (run : Run) (seen : ℕ) → run.stage ≡ Between
     → HasCue (λ cue. IsSeen cue seen × IsPhaseCue cue) (run_cue run)
-    → HasCue (λ cue. MakesCall cue seen accesses run [] (record {
-      engine = run.engine;
-      stage = Ended All;
-      answered = run.answered;
-    })) (run_cue run)
+    → HasCue (λ cue. MakesCall cue seen accesses run [] (record run { stage = Ended All })) (run_cue run)
 idle_turns accesses run seen at asked =
     let cue : run_cue run ≡ Some (Lead 0 0 false 8) = ap (λ x. cue_at x run.engine) at in
     let none : seen ≡ 0 = (subst (HasCue (λ cue. IsSeen cue seen × IsPhaseCue cue)) cue asked).0 in
-    subst (HasCue (λ cue. MakesCall cue seen accesses run [] (record {
-      engine = run.engine;
-      stage = Ended All;
-      answered = run.answered;
-    }))) (sym cue)
+    subst (HasCue (λ cue. MakesCall cue seen accesses run [] (record run { stage = Ended All }))) (sym cue)
     (λ how calls answers h.
-    subst (λ n. HasCome how accesses (record { cue = Lead 0 0 false 8; seen = n } ∷ calls) (record {
-      engine = run.engine;
-      stage = Ended All;
-      answered = run.answered;
-    }) (answers ++ [])) (sym none)
-    (subst (λ l. HasCome how accesses (record { cue = Lead 0 0 false 8; seen = 0 } ∷ calls) (record {
-      engine = run.engine;
-      stage = Ended All;
-      answered = run.answered;
-    }) l) (sym (append-nil answers))
+    subst (λ n. HasCome how accesses (record { cue = Lead 0 0 false 8; seen = n } ∷ calls)
+    (record run { stage = Ended All }) (answers ++ [])) (sym none)
+    (subst (λ l. HasCome how accesses (record { cue = Lead 0 0 false 8; seen = 0 } ∷ calls)
+    (record run { stage = Ended All }) l) (sym (append-nil answers))
     (record {
       came = has_idled run.engine
           (subst (λ x. Came how (drop how.from accesses) calls run.engine x answers) at h.came) (h.last at);

@@ -72,8 +72,8 @@ Accepted from accesses (call ∷ calls) =
 abbrev pub IsLast : Beginning → List Access → Run → List Answer → Type 0
 IsLast how accesses run answers = run.stage ≡ Between → length answers ≡ length (drop how.from accesses)
 
--- A run that was made as `how` says has reached this state over a list, after these calls and with these answers. Within
--- a call it isn't known yet whether it has a cue.
+-- A run that was made as `how` says has reached this state over a list, after these calls and with these answers.
+-- Within a call it isn't known yet whether it has a cue.
 pub record HasCome (how : Beginning) (accesses : List Access) (calls : List Call) (run : Run) (answers : List Answer)
     : Type 0 where
   pub came : Came how (drop how.from accesses) calls run.engine run.stage answers

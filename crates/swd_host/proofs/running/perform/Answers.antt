@@ -45,7 +45,8 @@ returns-in-Err-clause-does g c = λ lawful.
           c.access.new.engine c.loop-index.invariant.added.part (g.W.Wire.port c.args.wire.now)
           (g.W.Wire.port c.loop-index.wire) (g.W.Wire.port c.access.new.wire) _ _ c.requires.opened
           (omega (arith, c.requires.few)) c.loop-index-test.true soon.1 late.1.1
-          late.1.2 c.access.ensures.due (g.K.AnswerSink.taken c.args.sink.now) (g.K.AnswerSink.taken c.loop-index.sink) c.in-Err.end
+          late.1.2 c.access.ensures.due (g.K.AnswerSink.taken c.args.sink.now)
+          (g.K.AnswerSink.taken c.loop-index.sink) c.in-Err.end
           c.loop-index.invariant.added.whole (some_follows _ _ _ c.following-following.ensures)
           c.in-Err.ensures.finished,
     )
@@ -92,7 +93,8 @@ pub returns-clause-performs : goal.returns-clause-performs
 returns-clause-performs g c =
     all_performs c.loop-index.index c.args.accesses.now c.args.engine.now c.loop-index.engine
     c.loop-index.invariant.added.part (g.W.Wire.port c.loop-index.wire) _ c.loop-index.invariant.stays (omega arith)
-    c.idle.ensures.due (g.K.AnswerSink.taken c.args.sink.now) (g.K.AnswerSink.taken c.loop-index.sink) c.loop-index.invariant.added.whole
+    c.idle.ensures.due (g.K.AnswerSink.taken c.args.sink.now) (g.K.AnswerSink.taken c.loop-index.sink)
+    c.loop-index.invariant.added.whole
 
 pub returns-clause-does : goal.returns-clause-does
 returns-clause-does g c = λ lawful.
