@@ -1,6 +1,6 @@
 -- Going on after a lost acknowledgement: each data phase, each turnaround and the line reset keep what is known.
-use Rattle.swd_host.proofs.Words.{◌≡◌, ◌≢◌, ◌+◌, ◌^◌, ◌<◌, ℕ, Bool, refl, sym, ap, subst, arith, ◌∙◌, inl, inr, Some}
-use Rattle.swd_host.proofs.Words.{None, ◌⊎◌, Port, AbortWrite, Reset, Unreset, Live, phase_number, word_in, Takes}
+use Rattle.swd_host.proofs.Words.{◌≡◌, ◌+◌, ◌^◌, ◌<◌, ℕ, Bool, refl, sym, ap, subst, arith, ◌∙◌, inl, inr, Some}
+use Rattle.swd_host.proofs.Words.{None, ◌⊎◌, Port, AbortWrite, phase_number, word_in, Takes}
 use Rattle.swd_host.proofs.Words.{Gives, Gave, Spoiled, Clears, Flags, Identify, WriteAbort, CheckCtrlStat, Select, Job}
 use Rattle.swd_host.proofs.Words.{At, Status}
 use Rattle.swd_host.proofs.Words.{Clear, Check, Task, flags_in, clear_word, word_for, Reads, Writes, whole, changed}

@@ -1,8 +1,7 @@
 -- Each turnaround and the lead keep what the engine knows.
-use Rattle.swd_host.proofs.Words.{◌≡◌, ◌≢◌, ℕ, inl, inr, arith, None, Port, Passes, Leads, Place, Identify, WriteAbort}
-use Rattle.swd_host.proofs.Words.{CheckCtrlStat, Select, Power, Powered, Configure, ReadCsw, Configured, WriteTar}
+use Rattle.swd_host.proofs.Words.{◌≡◌, ◌≢◌, ℕ, inl, inr, arith, None, Port, Passes, Leads, Place, Identify}
 use Rattle.swd_host.proofs.Words.{false, refl, is_confirm}
-use Rattle.swd_host.proofs.Words.{Confirm, Behind, Job, At, Resend, Status, LastStatus, Clear, Check, Hand, Sure}
+use Rattle.swd_host.proofs.Words.{Confirm, Job, At, Resend, Status, LastStatus, Clear, Check, Hand, Sure}
 use Rattle.swd_host.proofs.Words.{Resent, Before, FaultedAt, Waiting}
 use Rattle.swd_port.proofs.MovingLaws.{turnaround_passed_at_rest}
 use Rattle.swd_host.specs.Tracks.{Unled}

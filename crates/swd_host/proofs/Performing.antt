@@ -1,6 +1,6 @@
 -- From what holds between two accesses to what doing the whole list comes to.
 use Rattle.swd_host.proofs.Words.{◌≡◌, ◌≢◌, ◌+◌, ◌-◌, ◌*◌, ◌%◌, ◌^◌, ◌<◌, ◌≤◌, ℕ, Bool, true, false, refl, sym, ap}
-use Rattle.swd_host.proofs.Words.{subst, inl, inr, arith, ◌∙◌, List, [], ◌∷◌, ◌++◌, length, take, zero, suc, get_or}
+use Rattle.swd_host.proofs.Words.{subst, inl, inr, arith, ◌∙◌, List, [], ◌∷◌, ◌++◌, length, take, get_or}
 use Rattle.swd_host.proofs.Words.{Option, Some, None, if◌then◌else◌, ◌&&◌, not, bit, Access, Answer}
 use Rattle.swd_host.proofs.Words.{PlainMemory, plain_answer, plain_after, Port, Leads, Passed, End, All, Answered}
 use Rattle.swd_host.proofs.Words.{Stopped, Resting, Engine, memory_after, answers_of, AreAccesses, Ahead}

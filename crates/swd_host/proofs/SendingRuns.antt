@@ -21,7 +21,6 @@ use Rattle.swd_host.specs.Resuming.{is_all, since}
 use Rattle.swd_host.specs.Sent.{Sent, HasAccess, TellsSent, other}
 use Rattle.swd_host.specs.Stages.{Stood, KnowsAt, Knows, RestsAt, counted, Counts, EndsIn, Tells, most_at}
 use Rattle.swd_host.specs.Standing.{Stays}
-use Rattle.swd_host.specs.Turns.{GoesOn}
 use Rattle.swd_host.specs.declared.engine.Ahead.{Ahead}
 use Rattle.swd_host.specs.declared.engine.Ahead.TheVariants.{Unsent}
 use Rattle.swd_host.proofs.Starts.{block_burst, calm_by, same_access, start_access}

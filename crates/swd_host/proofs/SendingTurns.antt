@@ -3,11 +3,11 @@ use Rattle.swd_host.proofs.Words.{◌≡◌, ◌++◌, ◌∷◌, [], ℕ, Bool,
 use Rattle.swd_host.proofs.Words.{inl, inr, arith, ◌∙◌, List, Option, Some, if◌then◌else◌, max, bit}
 use Rattle.swd_host.proofs.Words.{word_in, Answered, Opened, Task, Job, Data, State, Doing, Resting}
 use Rattle.swd_host.proofs.Words.{Ahead, Unsent, NextSent, NextFailed, At, Confirm, Engine}
-use Rattle.swd_host.proofs.Words.{begins, is_ahead, is_ahead_at, is_ahead_in, is_job_of, is_state_of, state_seen}
+use Rattle.swd_host.proofs.Words.{begins, is_ahead, is_ahead_in, is_job_of, is_state_of, state_seen}
 use Rattle.swd_host.proofs.Words.{job_in}
-use Rattle.swd_host.proofs.Words.{is_block, is_burst, is_burst_write, access_of, Access, Answer, finished_at}
+use Rattle.swd_host.proofs.Words.{is_burst, is_burst_write, access_of, Access, Answer, finished_at}
 use Rattle.swd_host.proofs.Words.{first_state, is_failed, one_more, cue_of, continues, task_for}
-use Rattle.swd_host.proofs.Words.{drw_register, request_for, word_for, Starts, Sees, ◌&&◌, Bursts, End, IsNew}
+use Rattle.swd_host.proofs.Words.{drw_register, request_for, Starts, Sees, ◌&&◌, Bursts, End, IsNew}
 use Rattle.swd_port.specs.declared.access.Answer.TheVariants.{Written}
 use Rattle.swd_port.specs.declared.call.Call.{Call}
 use Rattle.swd_port.specs.declared.cue.Cue.{Cue}
@@ -27,7 +27,7 @@ use Rattle.swd_host.specs.Steps.{GoesTo, RestsWith, ahead_to, is_rested, is_stop
 use Rattle.swd_host.specs.Turns.{begun_left, GoesOn}
 use Rattle.std.proofs.lemmas.List.{append-nil}
 use Rattle.swd_host.proofs.Working.{IsAsking, asking}
-use Rattle.swd_host.proofs.Turning.{IsPhase, taking, giving, IsTaking, take_cue, IsGiving, give_cue}
+use Rattle.swd_host.proofs.Turning.{IsTaking, taking, IsGiving, giving}
 use Rattle.swd_host.proofs.Turned.{lands_by, turned_works}
 use Rattle.swd_host.proofs.Starts.{ahead_burst, ahead_write, block_burst}
 use Rattle.swd_host.proofs.SendingStages.{Here, settled_none}
@@ -55,26 +55,22 @@ module _ (list : List Access) (answers : List Answer) where
       (ask_knows list answers a.job e.task e.begun f.begun seen f.ahead calls here (omega (arith, begun))
       (omega (arith, begun)) before)))
   turned_by e f Take seen calls on here h asks took =
-      let p : IsPhase e.state e.task Take = taking e.state e.stray e.task asks in
-      let c : IsTaking (is_ahead_at p.job Data e.task) (word_for p.job e.task) =
-      take_cue (is_ahead_at p.job Data e.task) (word_for p.job e.task) p.is in
+      let p : IsTaking e.state e.task = taking e.state e.stray e.task asks in
       let job : job_in e.state ≡ p.job = ap job_in p.at in
       let own : is_job_of false p.job ≡ true = state_job list answers e.state p.job Data p.at on in
       knows_as list answers f e.task _ _ took.lands.task took.lands.begun
-      (taken_knows list answers p.job e.task e.aims e.begun seen f.ahead calls f.state here own c.reads c.ahead_not
+      (taken_knows list answers p.job e.task e.aims e.begun seen f.ahead calls f.state here own p.reads p.ahead_not
       (subst (λ j. GoesTo (read_to j (word_in seen) e.task e.aims) f.state) job
       (took.goes (ap (is_job_of false) job ∙ own)))
       (subst (λ j. RestsWith (ahead_to j e.task) f.state f.ahead) job took.rests)
       (subst (λ x. KnowsAt list answers x e.task e.begun e.ahead calls) p.at h))
   turned_by e f (Give bits) seen calls on here h asks did =
-      let p : IsPhase e.state e.task (Give bits) = giving e.state e.stray e.task bits asks in
-      let c : IsGiving (word_for p.job e.task) bits =
-      give_cue (is_ahead_at p.job Data e.task) (word_for p.job e.task) bits p.is in
+      let p : IsGiving e.state e.task bits = giving e.state e.stray e.task bits asks in
       knows_as list answers f e.task _ _ did.lands.task did.lands.begun
       (subst (λ b. KnowsAt list answers f.state e.task (begun_left f.state e.task e.begun) f.ahead
-      (record { cue = Give b; seen = seen } ∷ calls)) (sym c.sends)
-      (given_knows list answers p.job e.task e.begun c.gives seen f.ahead calls f.state here
-      (state_job list answers e.state p.job Data p.at on) c.is
+      (record { cue = Give b; seen = seen } ∷ calls)) (sym p.sends)
+      (given_knows list answers p.job e.task e.begun p.gives seen f.ahead calls f.state here
+      (state_job list answers e.state p.job Data p.at on) p.is
       (subst (λ x. GoesTo (sent_to x e.task) f.state) p.at did.goes)
       (subst (λ x. KnowsAt list answers x e.task e.begun e.ahead calls) p.at h)))
   turned_by e f Pass seen calls on here h asks did =

@@ -1,6 +1,6 @@
 -- One call of the wire, as the engine asks for it: what the engine and the port keep.
 use Rattle.swd_host.proofs.Words.{◌≡◌, ◌+◌, ◌-◌, ◌*◌, ◌^◌, ◌≤◌, ◌<◌, ℕ, Bool, true, false, refl, sym, ap, subst, inl}
-use Rattle.swd_host.proofs.Words.{inr, arith, ◌∙◌, Option, Some, None, max, Request}
+use Rattle.swd_host.proofs.Words.{inr, arith, ◌∙◌, Some, None, max, Request}
 use Rattle.swd_host.proofs.Words.{PlainMemory, Port, phase_number, word_in, Asks, Takes, Gives, Passes, Leads, Lost}
 use Rattle.swd_host.proofs.Words.{Stopped, Task, Job, CueAsk, Ask, Data, State, Doing, Resting, Engine}
 use Rattle.swd_host.proofs.Words.{request_for, word_for, begins, cue_of, is_ahead_at, is_resting}
@@ -10,10 +10,9 @@ use Rattle.swd_host.proofs.Words.{TakenFor, hand_of, Sees, lands_from, IsCountab
 use Rattle.swd_host.proofs.Words.{Resumes, early, over, EarlySaw, EarlyTaken}
 use Rattle.swd_port.specs.Laws.Calls.{Asked}
 use Rattle.swd_port.proofs.CallLaws.{request_counted, others_uncounted, identification_kept}
-use Rattle.swd_port.specs.declared.cue.Cue.{Cue}
 use Rattle.swd_port.specs.declared.cue.Cue.TheVariants.{Lead, Take as CueTake, Give as CueGive, Pass as CuePass}
 use Rattle.swd_host.specs.Progress.{is_quiet}
-use Rattle.swd_host.specs.Engines.{cue_at, data_cue}
+use Rattle.swd_host.specs.Engines.{cue_at}
 use Rattle.swd_host.specs.Replies.{Did, Replied, Took}
 use Rattle.swd_host.specs.Early.{EarlyLeft}
 use Rattle.swd_host.proofs.Working.{IsAsking, asking, one_more_least, one_more_exact, ask_works, moves_works}
@@ -26,24 +25,28 @@ use Rattle.swd_host.proofs.Gives.{job_gave}
 use Rattle.swd_host.proofs.Passes.{waiting_passed, faulted_passed}
 
 -- THE CUE OF A DATA PHASE
-pub record IsTaking (ahead : Bool) (word : Option ℕ) : Type 0 where
-  pub ahead_not : ahead ≡ false
-  pub reads : word ≡ None
+pub record IsTaking (x : State) (task : Task) : Type 0 where
+  pub job : Job
+  pub at : x ≡ Doing job Data
+  pub ahead_not : is_ahead_at job Data task ≡ false
+  pub reads : word_for job task ≡ None
 
--- where the cue of a data phase is to read, the engine has no word to write, and the access isn't answered yet
-pub take_cue : (ahead : Bool) (word : Option ℕ) → data_cue ahead word ≡ Some CueTake → IsTaking ahead word
-take_cue false None e = record { ahead_not = refl; reads = refl }
-take_cue _ _ e = absurd (cc)
+-- where the cue is to read, the engine is at the data phase of a job that has no word to write, and the access isn't
+-- answered yet
+pub taking : (x : State) (stray : Bool) (task : Task) → cue_at x stray task ≡ Some CueTake → IsTaking x task
+taking x stray task e = grind arith
 
-pub record IsGiving (word : Option ℕ) (sent : ℕ) : Type 0 where
+pub record IsGiving (x : State) (task : Task) (sent : ℕ) : Type 0 where
+  pub job : Job
+  pub at : x ≡ Doing job Data
   pub gives : ℕ
-  pub is : word ≡ Some gives
+  pub is : word_for job task ≡ Some gives
   pub sends : sent ≡ phase_number gives
 
--- where the cue of a data phase is to write, its bits are those of the engine's word
-pub give_cue : (ahead : Bool) (word : Option ℕ) (sent : ℕ) → data_cue ahead word ≡ Some (CueGive sent)
-    → IsGiving word sent
-give_cue ahead word sent e = grind arith
+-- where the cue is to write, the engine is at the data phase of a job, and the bits are those of the job's word
+pub giving : (x : State) (stray : Bool) (task : Task) (sent : ℕ) → cue_at x stray task ≡ Some (CueGive sent)
+    → IsGiving x task sent
+giving x stray task sent e = grind arith
 
 -- what holds at a state
 tracked : (base : Counted) (m : PlainMemory) (e : Engine) (s : Port) (x : State) → e.state ≡ x
@@ -146,31 +149,12 @@ steps_by : (e f : Engine) (s t : Port) → lands_from e f → t.tally ≡ s.tall
     → ((base : Counted) (start : Port) → IsEarly base start e s → IsEarly base start f t) → Steps e s f t
 steps_by e f s t lands tally step = grind (arith, still_early)
 
--- where a data phase is read
-pub record IsPhase (x : State) (task : Task) (cue : Cue) : Type 0 where
-  pub job : Job
-  pub at : x ≡ Doing job Data
-  pub is : data_cue (is_ahead_at job Data task) (word_for job task) ≡ Some cue
-
--- where the cue is to read a data phase, the engine is at the data phase of a job
-pub taking : (x : State) (stray : Bool) (task : Task) → cue_at x stray task ≡ Some CueTake → IsPhase x task CueTake
-taking (Doing job Data) stray task e = record { job = job; at = refl; is = e }
-taking _ stray task e = absurd (cc)
-
--- where the cue is to write a data phase, the engine is at the data phase of a job
-pub giving : (x : State) (stray : Bool) (task : Task) (sent : ℕ) → cue_at x stray task ≡ Some (CueGive sent)
-    → IsPhase x task (CueGive sent)
-giving (Doing job Data) stray task sent e = record { job = job; at = refl; is = e }
-giving _ stray task sent e = absurd (cc)
-
 -- a data phase that is read, as a step of the model: what the engine and the port keep over it
 pub take_goes : (e f : Engine) (on : is_resting e ≡ false) (s t : Port) (bits : ℕ) → bits < 2 ^ 33
     → cue_of e ≡ Some CueTake → Takes s bits t → Took bits e f → Goes e s f t
 take_goes e f on s t bits range cue takes took =
     let lands : lands_from e f = took.lands in
-    let p : IsPhase e.state e.task CueTake = taking e.state e.stray e.task cue in
-    let c : IsTaking (is_ahead_at p.job Data e.task) (word_for p.job e.task) =
-    take_cue (is_ahead_at p.job Data e.task) (word_for p.job e.task) p.is in
+    let p : IsTaking e.state e.task = taking e.state e.stray e.task cue in
     let job : job_in e.state ≡ p.job = ap job_in p.at in
     let tally : t.tally ≡ s.tally = others_uncounted CueTake bits s t refl takes in
     moves e f on s t lands tally (identification_kept CueTake bits s t takes)
@@ -178,12 +162,12 @@ take_goes e f on s t bits range cue takes took =
       h.task,
       subst
           (λ j. TakenFor j (word_in bits) (base.disturbed + e.events) e.begun (hand_of e m) t) (sym job)
-          (taken_facts (base.disturbed + e.events) e.begun (hand_of e m) s t bits range takes p.job c.reads c.ahead_not
+          (taken_facts (base.disturbed + e.events) e.begun (hand_of e m) s t bits range takes p.job p.reads p.ahead_not
           (tracked base m e s (Doing p.job Data) p.at h.tracks)),
     )))
     (steps_by e f s t lands tally (λ base start h. took.early base start t
     (subst (λ j. EarlyTaken j (word_in bits) (base.disturbed + e.events) e.stray start t) (sym job)
-    (read_early (base.disturbed + e.events) e.stray start bits s t range takes p.job e.task c.reads
+    (read_early (base.disturbed + e.events) e.stray start bits s t range takes p.job e.task p.reads
     (early_at base start e s (Doing p.job Data) p.at h)))))
 
 left_at_state : (base : Counted) (m : PlainMemory) (e : Engine) (t : Port) (x : State) → e.state ≡ x
@@ -201,21 +185,19 @@ pub give_goes : (e f : Engine) (on : is_resting e ≡ false) (s t : Port) (sent 
     → cue_of e ≡ Some (CueGive sent) → Gives s sent t → Did e f → Goes e s f t
 give_goes e f on s t sent range cue gives did =
     let lands : lands_from e f = did.lands in
-    let p : IsPhase e.state e.task (CueGive sent) = giving e.state e.stray e.task sent cue in
-    let c : IsGiving (word_for p.job e.task) sent = give_cue (is_ahead_at p.job Data e.task)
-    (word_for p.job e.task) sent p.is in
+    let p : IsGiving e.state e.task sent = giving e.state e.stray e.task sent cue in
     let tally : t.tally ≡ s.tally = others_uncounted (CueGive sent) 0 s t refl gives in
     let follows : (base : Counted) (m : PlainMemory) → Follows base m e s → Follows base m f t =
     follows_by e f s t lands tally (λ base m h. did.tracks base m t (
       h.task,
       left_at_state base m e t (Doing p.job Data) p.at
           (job_gave (base.disturbed + e.events) e.begun
-          (hand_of e m) s t sent range gives p.job c.gives c.is c.sends h.task
+          (hand_of e m) s t sent range gives p.job p.gives p.is p.sends h.task
           (tracked base m e s (Doing p.job Data) p.at h.tracks)),
     )) in
     moves e f on s t lands tally (identification_kept (CueGive sent) 0 s t gives) follows
     (λ base start ok few h.
-    elim (given_early (base.disturbed + e.events) e.stray start sent s t range gives p.job e.task c.gives c.is c.sends
+    elim (given_early (base.disturbed + e.events) e.stray start sent s t range gives p.job e.task p.gives p.is p.sends
     (early_at base start e s (Doing p.job Data) p.at h)) [
       | inl at ↦
           (let chosen = select_chooses base start e s p.job p.at at ok few h in

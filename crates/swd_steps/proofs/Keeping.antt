@@ -25,7 +25,7 @@ use Rattle.swd_host.specs.Engines.{IsPhaseCue, finished_at, finished_of}
 use Rattle.swd_host.specs.Progress.{is_state_of}
 use Rattle.swd_host.specs.Standing.{HasOpened, Stands, Stays}
 use Rattle.swd_host.specs.Tracks.{DueAt, DueFits}
-use Rattle.swd_host.specs.Turns.{GoesOn, IsNew, Starts, Works}
+use Rattle.swd_host.specs.Turns.{IsNew, Starts, Works}
 use Rattle.swd_host.proofs.Folding.{turned_moves, turned_works, turned_due, turned_goes}
 use Rattle.swd_host.proofs.Folding.{works_refl, works_then, goes_refl, goes_then, goes_on, start_access}
 use Rattle.swd_host.proofs.Folding.{start_due, start_never, stop_never, stopped_state, opened_state, not_opened}

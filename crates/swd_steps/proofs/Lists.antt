@@ -1,6 +1,6 @@
 -- Lists of accesses, by what stands at an index. For `Stepping`, `Keeping` and `run::unaligned`.
 use Rattle.std.proofs.Common.{arith, ◌≡◌, ◌+◌, ◌≤◌, ℕ, true, refl, sym, subst, ◌∙◌, List, [], ◌∷◌, length, zero}
-use Rattle.std.proofs.Common.{suc, ap, length-drop}
+use Rattle.std.proofs.Common.{suc, ap}
 use Rattle.std.specs.Prelude.{Option, Some, None, drop, slice_get, take}
 use Rattle.std.proofs.lemmas.Option.{slice_get_within, get_or_from_slice_get}
 use Rattle.swd_port.specs.declared.access.Access.{Access}
