@@ -109,6 +109,7 @@ pub last_plain : (i : ℕ) (list : List Access) (o e : Engine) (answers : List A
     → Stays i list o e answers t → i ≡ length list → is_burst e.task ≡ false
 last_plain i list o e answers t stays all = last_of i list o e answers t (is_burst e.task) stays all refl
 
+-- what the engine reached by itself with a list whose accesses are all answered
 pub all_performs : (i : ℕ) (list : List Access) (o e : Engine) (answers : List Answer) (t : Port) (due : Due)
     → Stays i list o e answers t → i ≡ length list → due ≡ Nothing → (before after : List Answer)
     → after ≡ before ++ answers → Performs list o e before after All due

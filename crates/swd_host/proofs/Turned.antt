@@ -116,6 +116,7 @@ pub record Kept {W : Type 0} (port : W → Port) (lawful : W → Type 0) (notes 
   pub falls : calls_left f < calls_left e
   pub made : Made notes (λ calls. Turns e calls f) v w
 
+-- over every wire such a call keeps this
 pub turned_keeps : {W : Type 0} (port : W → Port) (lawful : W → Type 0) (notes : List Call → W → Type 0) (call : Call)
     (e f : Engine) (v w : W) → Turned call e f → IsPhaseCue call.cue → (port w).link.due ≡ due_once call.cue call.seen
     → (lawful w → lawful v × IsStep call.cue call.seen (port v) (port w))
