@@ -1,5 +1,6 @@
 -- What the engine keeps by itself along a list, whatever came back.
-use Rattle.swd_host.proofs.Words.{◌≡◌, ◌≢◌, ◌+◌, ◌*◌, ◌^◌, ◌<◌, ◌≤◌, ℕ, Bool, true, false, sym, ap, subst, arith, ◌∙◌}
+use Rattle.swd_host.proofs.Words.{◌≡◌, ◌≢◌, ◌+◌, ◌*◌, ◌^◌, ◌<◌, ◌≤◌, ℕ, Bool, true, false, refl, sym, ap, arith, ◌∙◌}
+use Rattle.swd_host.proofs.Words.{subst}
 use Rattle.swd_host.proofs.Words.{List, [], ◌∷◌, ◌++◌, length, get_or, length-append, Option, Some, None, if◌then◌else◌}
 use Rattle.swd_host.proofs.Words.{Access, Answer, Due, Nothing, Port, End, All, Answered, Stopped, Ahead, Resting}
 use Rattle.swd_host.proofs.Words.{Engine, Bursts, Task, continues, access_of, is_burst, task_for, most_begun, most_of}
@@ -10,7 +11,8 @@ use Rattle.std.specs.Prelude.{min}
 use Rattle.swd_host.specs.Reports.{due_at}
 use Rattle.swd_host.specs.Standing.{Stays}
 use Rattle.swd_host.proofs.Lists.{follower_continues}
-use Rattle.swd_host.proofs.Starts.{same_access, burst_continues, start_left, start_begun, task_most}
+use Rattle.swd_host.specs.Turns.{GoesOn}
+use Rattle.swd_host.proofs.Starts.{ahead_burst, same_access, burst_continues, start_left, start_begun, task_most}
 use Rattle.swd_host.proofs.Ends.{begun_there}
 
 -- BEFORE THE FIRST ACCESS
@@ -36,10 +38,16 @@ min_next : (i k n : ℕ) → k ≡ i → i < n → min n (k + 1) ≡ i + 1
 min_next i k n is low = grind arith
 
 -- AN ACCESS
+-- the access at i is the one that continues a burst
+pub goes_on : (i : ℕ) (list : List Access) (o e : Engine) (answers : List Answer) (t : Port) (d : Access)
+    → Stays i list o e answers t → GoesOn e (get_or list i d)
+goes_on i list o e answers t d stays = record { on = λ on. (stays.chain (ahead_burst e.state e.task on)).1 d }
+
 module _ (i : ℕ) (list : List Access) (o e g f : Engine) (answers : List Answer) (t u : Port) (d : Access)
     (following : Option Access) (stays : Stays i list o e answers t)
     (starts : Starts (get_or list i d) following e g) (works : Works g f) where
-  access_here : access_of f.task ≡ get_or list i d
+  -- the access that was started is the one at i
+  pub access_here : access_of f.task ≡ get_or list i d
   access_here = ap access_of works.task ∙ same_access (get_or list i d) following e g starts
 
   follower_here : ((b : Access) → following ≡ Some b → Follower i list b)
@@ -47,7 +55,7 @@ module _ (i : ℕ) (list : List Access) (o e g f : Engine) (answers : List Answe
   follower_here next b = grind arith
 
   -- an access of a burst is followed by the one that continues it
-  chain_here : ((b : Access) → following ≡ Some b → Follower i list b) → is_burst f.task ≡ true
+  pub chain_here : ((b : Access) → following ≡ Some b → Follower i list b) → is_burst f.task ≡ true
       → ContinuesAt list (i + 1) (access_of f.task)
   chain_here next burst =
       let task : f.task ≡ task_for e.bursts (get_or list i d) (if has_failed e then None else following) =
@@ -62,7 +70,8 @@ module _ (i : ℕ) (list : List Access) (o e g f : Engine) (answers : List Answe
   access_spends : f.requests ≤ o.requests + (i + 1) * (6 + 5 * o.tries)
   access_spends = grind (arith, more_spent, start_left)
 
-  few_here : f.begun ≤ most_of o.bursts
+  -- no more accesses are in flight than the kind of burst allows
+  pub few_here : f.begun ≤ most_of o.bursts
   few_here = grind (arith, one_most, start_begun, task_most)
 
   -- it stopped
@@ -89,6 +98,18 @@ pub stop_never : (g f : Engine) (end : End) → Works g f → is_all_stop g.stat
 stop_never g f end works before at all = grind arith
 
 -- ALL ARE ANSWERED
+last_of : (i : ℕ) (list : List Access) (o e : Engine) (answers : List Answer) (t : Port) (b : Bool)
+    → Stays i list o e answers t → i ≡ length list → is_burst e.task ≡ b → b ≡ false
+last_of i list o e answers t true stays all burst =
+    let beyond : i < length list = (stays.chain burst).0 in absurd (omega arith)
+last_of i list o e answers t false stays all burst = refl
+
+-- no access follows the last one
+pub last_plain : (i : ℕ) (list : List Access) (o e : Engine) (answers : List Answer) (t : Port)
+    → Stays i list o e answers t → i ≡ length list → is_burst e.task ≡ false
+last_plain i list o e answers t stays all = last_of i list o e answers t (is_burst e.task) stays all refl
+
+-- what the engine reached by itself with a list whose accesses are all answered
 pub all_performs : (i : ℕ) (list : List Access) (o e : Engine) (answers : List Answer) (t : Port) (due : Due)
     → Stays i list o e answers t → i ≡ length list → due ≡ Nothing → (before after : List Answer)
     → after ≡ before ++ answers → Performs list o e before after All due

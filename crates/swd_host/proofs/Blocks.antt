@@ -98,14 +98,14 @@ passing_asked word n base b k v s t l h r asks =
     let q : Request = request_for (Resend Confirm) k.task in
     let u : Under 1 h2 s.target = h.1.1 in
     let (x, y, first, came, last) = confirming_request (access_of h2.task) h2.memory ResendRead q v s t u.sent
-    (ap (λ z. register z q) u.select) refl u.live r.flag (λ e. absurd (cc)) asks in
+    (ap (λ z. register z q) u.serves.select) refl u.serves.live r.flag (λ e. absurd (cc)) asks in
     let kp = kept_by s x first in
     let ux : Under 1 h2 x.target = under_stays 1 h2 s x first u in
     let rx : Resent Confirm word n b k x = resent_stays Confirm word n b k s x first r in
     confirming_came ResendRead q h2 x y (λ e. absurd (cc)) (Resend Confirm) n base b k v t
     (omega (arith, ap (λ i. i.lost) kp.tally)) ux rx.flag rx.paid last
     (λ d a. (let ac : Accepts ResendRead true a.flip x y = a.accepts in
-    let f : Frame x y = frame_accepts ResendRead true a.flip x y refl ux.live ac in
+    let f : Frame x y = frame_accepts ResendRead true a.flip x y refl ux.serves.live ac in
     let e : Same x y = same_accepts ResendRead true a.flip x y ac in
     let more : x.tally.disturbed ≤ y.tally.disturbed = a.heard.disturbed_least in (
       word,

@@ -1,6 +1,6 @@
 -- Going on after a lost acknowledgement: each data phase, each turnaround and the line reset keep what is known.
-use Rattle.swd_host.proofs.Words.{◌≡◌, ◌≢◌, ◌+◌, ◌^◌, ◌<◌, ℕ, Bool, refl, sym, ap, subst, arith, ◌∙◌, inl, inr, Some}
-use Rattle.swd_host.proofs.Words.{None, ◌⊎◌, Port, AbortWrite, Reset, Unreset, Live, phase_number, word_in, Takes}
+use Rattle.swd_host.proofs.Words.{◌≡◌, ◌+◌, ◌^◌, ◌<◌, ℕ, Bool, refl, sym, ap, subst, arith, ◌∙◌, inl, inr, Some}
+use Rattle.swd_host.proofs.Words.{None, ◌⊎◌, Port, AbortWrite, phase_number, word_in, Takes}
 use Rattle.swd_host.proofs.Words.{Gives, Gave, Spoiled, Clears, Flags, Identify, WriteAbort, CheckCtrlStat, Select, Job}
 use Rattle.swd_host.proofs.Words.{At, Status}
 use Rattle.swd_host.proofs.Words.{Clear, Check, Task, flags_in, clear_word, word_for, Reads, Writes, whole, changed}
@@ -11,15 +11,12 @@ use Rattle.swd_port.proofs.MovingLaws.{data_taken, take_moves_nothing, data_give
 use Rattle.swd_port.proofs.StatusLaws.{flags_cleared}
 use Rattle.swd_host.specs.Early.{EarlySent}
 use Rattle.swd_host.proofs.Frames.{Frame, frame_passed, same_passed, frame_abort, frame_spoiled}
-use Rattle.swd_host.proofs.Takes.{got_whole_of, got_changed_of}
-use Rattle.swd_host.proofs.Gives.{spells, whole_given, changed_given, clear_small, sticky_gone, write_gone}
+use Rattle.swd_host.proofs.Takes.{got_whole_of, got_changed_of, live_reset}
+use Rattle.swd_host.proofs.Gives.{phase_is, spells, whole_given, changed_given, clear_small, sticky_gone, write_gone}
 use Rattle.swd_host.proofs.EarlyFrames.{awaited_quiet, woken_stays, early_stays, woken_carried, early_carried}
 use Rattle.swd_host.proofs.EarlyFrames.{cleared_rests}
 
 -- DATA PHASES THAT ARE READ
-not_unreset : (r : Reset) → r ≡ Live → r ≢ Unreset
-not_unreset r is there = absurd (cc)
-
 module _ (n : ℕ) (stray : Bool) (start : Port) (bits : ℕ) (s t : Port) (range : bits < 2 ^ 33) (takes : Takes s bits t)
   where
     -- what is known before a request is known after a data phase that is read
@@ -57,7 +54,7 @@ module _ (n : ℕ) (stray : Bool) (start : Port) (bits : ℕ) (s t : Port) (rang
     take_identify h = take_early (At Identify) s.target.identification (λ c. Woken c stray start s) h
         (λ w. (read_keeps (At WriteAbort) n w, w.any.odd))
         (λ w. (let u : Woken (n + 1) stray start t = read_keeps (At WriteAbort) (n + 1) w in
-        record { any = u.any; reset = not_unreset t.target.reset u.live }))
+        record { any = u.any; reset = live_reset t.target.reset u.live }))
 
     take_ctrl_stat : (word : ℕ) → Glimpsed (flags_in word) stray s.target
         → Reads word n (λ c. AbortWritten c stray start s) s
@@ -147,13 +144,12 @@ module _ (n : ℕ) (stray : Bool) (start : Port) (sent : ℕ) (s t : Port) (rang
         (ap (λ i. i.write_error) g.target))
 
     -- every write but SELECT's, which ends what is early
-    phase_is : (word other : ℕ) → Some other ≡ Some word → sent ≡ phase_number word → sent ≡ phase_number other
-    phase_is word other is e = e ∙ ap phase_number (let same : word ≡ other = cc in same)
 
     -- after a data phase that is written early, what its write leaves is known, unless the write is SELECT's
     pub given_early : (job : Job) (task : Task) (word : ℕ) → word_for job task ≡ Some word → sent ≡ phase_number word
         → EarlyDuring job n stray start s → (job ≡ At Select) ⊎ EarlySent job n stray start t
-    given_early (At WriteAbort) task word is e h = inr (give_abort (phase_is word 0x1e is e) h)
-    given_early (Clear Select owed) task word is e h = inr (give_clear owed (phase_is word (clear_word owed) is e) h)
+    given_early (At WriteAbort) task word is e h = inr (give_abort (phase_is sent word 0x1e is e) h)
+    given_early (Clear Select owed) task word is e h =
+        inr (give_clear owed (phase_is sent word (clear_word owed) is e) h)
     given_early (At Select) task word is e h = inl refl
     given_early _ task word is e h = grind arith

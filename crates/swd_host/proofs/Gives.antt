@@ -20,6 +20,10 @@ use Rattle.swd_host.proofs.Frames.{frame_spoiled, frame_abort, calm_framed, fact
 use Rattle.swd_host.proofs.Transfers.{under_stays}
 use Rattle.swd_host.proofs.Sends.{facts_rest}
 
+-- the data phase that is sent is that of the word that the job writes
+pub phase_is : (sent word other : ℕ) → Some other ≡ Some word → sent ≡ phase_number word → sent ≡ phase_number other
+phase_is sent word other is e = e ∙ ap phase_number (let same : word ≡ other = cc in same)
+
 -- the bits that were sent are those of the word's phase
 pub spells : (word sent : ℕ) → word < 2 ^ 32 → sent ≡ phase_number word → IsPhaseOf word sent
 spells word sent small e = sym (subst (λ x. low_bits 33 x ≡ phase word) (sym e) (bits_phase word small))
@@ -239,18 +243,15 @@ module _ (n b : ℕ) (k : Hand) (s t : Port) (sent : ℕ) (range : sent < 2 ^ 33
       (ap (λ i. i.write_error) x.target) (omega (arith, ap (λ i. i.disturbed) x.tally, h.paid))))
 
   -- EVERY WRITE
-  phase_is : (word other : ℕ) → Some other ≡ Some word → sent ≡ phase_number word → sent ≡ phase_number other
-  phase_is word other is e = e ∙ ap phase_number (let same : word ≡ other = cc in same)
-
   -- after the data phase of a job's write what has to hold before the next request holds
   pub job_gave : (job : Job) (word : ℕ) → word_for job k.task ≡ Some word → sent ≡ phase_number word → IsTask k.task
       → During job n b k s → WasSent job n b k t
-  job_gave (At WriteAbort) word is e ok h = abort_gave (phase_is word 0x1e is e) h
-  job_gave (At Select) word is e ok h = select_gave (phase_is word 0 is e) h
-  job_gave (At Power) word is e ok h = power_gave (phase_is word 0x5000_0000 is e) h
-  job_gave (At Configure) word is e ok h = configure_gave (phase_is word 0x2300_0012 is e) h
-  job_gave (At WriteTar) word is e ok h = write_tar_gave (address_small k.task ok) (phase_is word
+  job_gave (At WriteAbort) word is e ok h = abort_gave (phase_is sent word 0x1e is e) h
+  job_gave (At Select) word is e ok h = select_gave (phase_is sent word 0 is e) h
+  job_gave (At Power) word is e ok h = power_gave (phase_is sent word 0x5000_0000 is e) h
+  job_gave (At Configure) word is e ok h = configure_gave (phase_is sent word 0x2300_0012 is e) h
+  job_gave (At WriteTar) word is e ok h = write_tar_gave (address_small k.task ok) (phase_is sent word
       (address (access_of k.task)) is e) h
   job_gave (At Transfer) word is e ok h = transfer_gave k.task word refl ok is e h
-  job_gave (Clear p owed) word is e ok h = clear_gave p owed (phase_is word (clear_word owed) is e) h
+  job_gave (Clear p owed) word is e ok h = clear_gave p owed (phase_is sent word (clear_word owed) is e) h
   job_gave _ word is e ok h = grind arith

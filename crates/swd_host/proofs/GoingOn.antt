@@ -5,7 +5,9 @@ use Rattle.swd_host.proofs.Words.{Access, Answer, PlainMemory, plain_answer, pla
 use Rattle.swd_host.proofs.Words.{memory_after, answers_of, Told, Fits, FitsAt, IsAfter, AllBelow, Again, HasRoom}
 use Rattle.swd_host.proofs.Words.{since, max, End, Lost, ◌-◌, false}
 use Rattle.swd_host.specs.declared.outcome.End.TheVariants.{TriesOut, WrongId, Confused}
-use Rattle.std.proofs.lemmas.List.{append-nil, append_assoc, length-take-le, take_all}
+use Rattle.std.proofs.lemmas.List.{append-nil, append_assoc, get_or-drop, length-take-le, nil_from_length, take_all}
+use Rattle.std.proofs.Math.Seq.{drop-cons}
+use Rattle.std.proofs.Common.{length-drop}
 use Rattle.swd_host.specs.Again.{AgainAt}
 use Rattle.swd_host.specs.Resuming.{is_all}
 use Rattle.swd_host.proofs.Lists.{memory_next, answers_next}
@@ -17,10 +19,6 @@ answers_length : (xs : List Access) (m : PlainMemory) → length (answers_of xs 
 answers_length [] m = refl
 answers_length (x ∷ xs) m = let h = answers_length xs (plain_after x m) in omega (arith, h)
 
-pub no_answers : (xs : List Answer) → length xs ≡ 0 → xs ≡ []
-no_answers [] none = refl
-no_answers (x ∷ xs) none = absurd (omega arith)
-
 -- so many answers there are
 pub told_length : (k : ℕ) (list : List Access) (m : PlainMemory) (answers : List Answer) → k ≤ length list
     → answers ≡ answers_of (take k list) m → length answers ≡ k
@@ -28,26 +26,7 @@ told_length k list m answers few is = ap length is ∙ (answers_length (take k l
 
 -- the rest of a list from place k on is k accesses shorter than the list
 pub drop_length : (k : ℕ) (list : List Access) → k ≤ length list → length (drop k list) + k ≡ length list
-drop_length zero list few = omega arith
-drop_length (suc k) [] few = absurd (omega arith)
-drop_length (suc k) (x ∷ list) few = let h = drop_length k list (omega arith) in omega (arith, h)
-
--- the rest of a list from place k on is the access there, and then the rest from k + 1 on
-pub drop_first : (k : ℕ) (list : List Access) (d : Access) → k < length list
-    → drop k list ≡ get_or list k d ∷ drop (suc k) list
-drop_first zero (x ∷ list) d few = refl
-drop_first (suc k) (x ∷ list) d few = drop_first k list d (omega arith)
-drop_first _ [] d few = absurd (omega arith)
-
--- the access at n of those from i on
-drop_at : (i n : ℕ) (list : List Access) (d : Access) → get_or (drop i list) n d ≡ get_or list (i + n) d
-drop_at zero n list d = (let e : n ≡ 0 + n = omega arith in ap (λ j. get_or list j d) e)
-drop_at (suc i) n [] d = nothing n (suc i + n) d
-  where
-    nothing : (n m : ℕ) (d : Access) → get_or [] n d ≡ get_or [] m d
-    nothing n m d = grind arith
-drop_at (suc i) n (x ∷ list) d = drop_at i n list d ∙ (let e : suc (i + n) ≡ suc i + n = omega arith in
-    ap (λ j. get_or (x ∷ list) j d) e)
+drop_length k list few = omega (arith, length-drop k list)
 
 -- the places afterwards: the same, or, where an access was begun, that one's too
 abbrev pub Grows : List ℕ → Told → List ℕ → Type 0
@@ -78,7 +57,7 @@ walked js i (suc n) list d m q few places room h =
     let w : Walked js i n list m q = walked js i n list d m q (omega arith) places room h in
     let long = drop_length i list (omega arith) in
     let low : n < length rest = omega (arith, long) in
-    let same : get_or rest n d ≡ a = drop_at i n list d in
+    let same : get_or rest n d ≡ a = get_or-drop i list n d in
     let s : n + 1 ≡ suc n = omega arith in
     let t : i + n + 1 ≡ i + suc n = omega arith in
     let below : i + n < length list = omega arith in
@@ -153,7 +132,7 @@ done_onward js k n list d m q earlier few o =
     walked o.more (k + 1) n list d m (plain_after a q) (omega arith) o.after.places o.roomy o.after in
     let next : suc k ≡ k + 1 = omega arith in
     let first : take (suc n) (drop k list) ≡ a ∷ take n (drop (k + 1) list) =
-    ap (take (suc n)) (drop_first k list d low ∙ ap (λ j. a ∷ drop j list) next) in
+    ap (take (suc n)) (drop-cons list k d low ∙ ap (λ j. a ∷ drop j list) next) in
     let count : k + 1 + n ≡ k + suc n = omega arith in
     let old : List Answer = answers_of (take k list) m in
     let new : List Answer = answers_of (take n (drop (k + 1) list)) (plain_after a q) in
@@ -172,8 +151,7 @@ some_begun : (n : ℕ) → n ≡ 1 → n ≢ 0
 some_begun n one none = absurd (let both : 1 ≡ 0 = sym one ∙ none in omega arith)
 
 at_least : (n : ℕ) → n ≢ 0 → 1 ≤ n
-at_least zero some = absurd (some refl)
-at_least (suc n) some = omega arith
+at_least n some = omega arith
 
 -- the test for `All` fails at every other end
 pub not_all : (end : End) → end ≢ All → is_all end ≡ false
@@ -290,7 +268,7 @@ module _ (js : List ℕ) (k kk j : ℕ) (list : List Access) (m x now : PlainMem
       (omega (arith, most, some, long), h.1)
 
   none_part : kk ≡ 0 → part ≡ []
-  none_part zero_done = no_answers part (omega (arith, part_number, zero_done))
+  none_part zero_done = nil_from_length part (omega (arith, part_number, zero_done))
 
   none_left : kk ≡ 0 → j ≡ 0 → now ≡ x
   none_left zero_done zero_begun =

@@ -13,8 +13,9 @@ mod EarlyFrames
 mod EarlyAsks
 mod EarlyMoves
 mod EarlyTurns
-mod Turning
 mod Working
+mod Turning
+mod Turned
 mod StepLemmas
 mod Going
 mod Lists

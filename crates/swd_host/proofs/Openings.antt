@@ -20,7 +20,7 @@ module _ (kind : Bursts) (again : Bool) (tries : ℕ) (e f : Engine) (s t : Port
   -- requests sent, requests left without an event, and five for each event still allowed are at most ten, five for
   -- each of the tries, and five more where a run resumes
   pub opening_spends : f.requests + 5 * (tries - f.events) + left_in f.state ≤ 5 * tries + stray_left again + 10
-  opening_spends = omega (arith, goes.spends, goes.tries, new.tries, new.requests, new_left)
+  opening_spends = omega (arith, goes.works.spends, goes.works.tries, new.tries, new.requests, new_left)
 
   -- the port counts as many further requests as the engine sent in the opening
   pub opening_asked : t.tally.asked ≡ s.tally.asked + f.requests
@@ -31,7 +31,7 @@ module _ (kind : Bursts) (again : Bool) (tries : ℕ) (e f : Engine) (s t : Port
 
   -- in the opening no access is in flight
   pub opening_unbegun : f.begun ≡ 0
-  opening_unbegun = goes.unbegun opening_part new.begun
+  opening_unbegun = goes.works.unbegun opening_part new.begun
 
   -- where it is lost, a request less was sent
   pub opening_lost : (base : Counted) (start : Port) → Resumes base start e s → f.state ≡ Resting (Stopped Lost)
@@ -39,7 +39,7 @@ module _ (kind : Bursts) (again : Bool) (tries : ℕ) (e f : Engine) (s t : Port
   opening_lost base start h lost =
       let going : is_resting e ≡ false = ap (λ x. is_some (finished_at x e.task)) new.leads in
       let early = goes.lost_early going base start h opening_part lost in
-      omega (arith, early, new_left, new.requests, goes.tries, new.tries)
+      omega (arith, early, new_left, new.requests, goes.works.tries, new.tries)
 
   -- how many requests the opening has at least
   pub opened_sent : f.state ≡ Resting Opened → 9 ≤ f.requests

@@ -1,8 +1,7 @@
 -- Each turnaround and the lead keep what the engine knows.
-use Rattle.swd_host.proofs.Words.{◌≡◌, ◌≢◌, ℕ, inl, inr, arith, None, Port, Passes, Leads, Place, Identify, WriteAbort}
-use Rattle.swd_host.proofs.Words.{CheckCtrlStat, Select, Power, Powered, Configure, ReadCsw, Configured, WriteTar}
-use Rattle.swd_host.proofs.Words.{Transfer}
-use Rattle.swd_host.proofs.Words.{Confirm, Behind, Job, At, Resend, Status, LastStatus, Clear, Check, Hand, Sure}
+use Rattle.swd_host.proofs.Words.{◌≡◌, ◌≢◌, ℕ, inl, inr, arith, None, Port, Passes, Leads, Place, Identify}
+use Rattle.swd_host.proofs.Words.{false, refl, is_confirm}
+use Rattle.swd_host.proofs.Words.{Confirm, Job, At, Resend, Status, LastStatus, Clear, Check, Hand, Sure}
 use Rattle.swd_host.proofs.Words.{Resent, Before, FaultedAt, Waiting}
 use Rattle.swd_port.proofs.MovingLaws.{turnaround_passed_at_rest}
 use Rattle.swd_host.specs.Tracks.{Unled}
@@ -23,22 +22,14 @@ resent_passed : (p : Place) (word n b : ℕ) (k : Hand) (s t : Port) → Passes 
     → Resent p word n b k t
 resent_passed p word n b k s t passes h = grind arith
 
+sure_rest : (p : Place) (n b : ℕ) (k : Hand) (s : Port) → is_confirm p ≡ false → Sure p n b k s
+    → s.target.pending ≡ None
+sure_rest p n b k s other h = grind arith
+
 -- a turnaround leaves what is known before a request
 place_passed : (p : Place) (n b : ℕ) (k : Hand) (s t : Port) → Passes s t → Sure p n b k s → Before (At p) n b k t
 place_passed Confirm n b k s t passes h = inl (confirm_passed n b k s t passes h)
-place_passed Identify n b k s t passes h = before_rested (At Identify) n b k s t h.has.pending passes (inl h)
-place_passed WriteAbort n b k s t passes h = before_rested (At WriteAbort) n b k s t h.has.pending passes (inl h)
-place_passed CheckCtrlStat n b k s t passes h = before_rested (At CheckCtrlStat) n b k s t h.has.pending passes (inl h)
-place_passed Select n b k s t passes h = before_rested (At Select) n b k s t h.has.pending passes (inl h)
-place_passed Power n b k s t passes h = before_rested (At Power) n b k s t h.has.pending passes (inl h)
-place_passed Powered n b k s t passes h = before_rested (At Powered) n b k s t h.has.calm.pending passes (inl h)
-place_passed Configure n b k s t passes h = before_rested (At Configure) n b k s t h.has.calm.pending passes (inl h)
-place_passed ReadCsw n b k s t passes h = before_rested (At ReadCsw) n b k s t h.has.up.calm.pending passes (inl h)
-place_passed Configured n b k s t passes h = before_rested (At Configured) n b k s t h.has.up.calm.pending passes
-    (inl h)
-place_passed WriteTar n b k s t passes h = before_rested (At WriteTar) n b k s t h.has.up.calm.pending passes (inl h)
-place_passed Transfer n b k s t passes h = before_rested (At Transfer) n b k s t h.has.up.calm.pending passes (inl h)
-place_passed Behind n b k s t passes h = absurd h.has
+place_passed p n b k s t passes h = before_rested (At p) n b k s t (sure_rest p n b k s refl h) passes (inl h)
 
 before_passed : (job : Job) (n b : ℕ) (k : Hand) (s t : Port) → Passes s t → Before job n b k s → Before job n b k t
 before_passed (At p) n b k s t passes (inl h) = place_passed p n b k s t passes h

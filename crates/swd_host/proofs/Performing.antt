@@ -1,37 +1,40 @@
 -- From what holds between two accesses to what doing the whole list comes to.
 use Rattle.swd_host.proofs.Words.{◌≡◌, ◌≢◌, ◌+◌, ◌-◌, ◌*◌, ◌%◌, ◌^◌, ◌<◌, ◌≤◌, ℕ, Bool, true, false, refl, sym, ap}
-use Rattle.swd_host.proofs.Words.{subst, inl, inr, arith, ◌∙◌, List, [], ◌∷◌, ◌++◌, length, take, zero, suc, get_or}
-use Rattle.swd_host.proofs.Words.{length-append, Option, Some, None, if◌then◌else◌, ◌&&◌, not, bit, Access, Answer}
+use Rattle.swd_host.proofs.Words.{subst, inl, inr, arith, ◌∙◌, List, [], ◌∷◌, ◌++◌, length, take, get_or}
+use Rattle.swd_host.proofs.Words.{Option, Some, None, if◌then◌else◌, ◌&&◌, not, bit, Access, Answer}
 use Rattle.swd_host.proofs.Words.{PlainMemory, plain_answer, plain_after, Port, Leads, Passed, End, All, Answered}
-use Rattle.swd_host.proofs.Words.{Stopped, Resting, Engine, continues, memory_after, answers_of, AreAccesses, Ahead}
-use Rattle.swd_host.proofs.Words.{Task, access_of, is_burst, is_block, task_for, most_begun, most_of, is_ahead}
-use Rattle.swd_host.proofs.Words.{begun_of, finished_of, may_start, least_in, open_requests, Hand, Counted, IsWithin}
+use Rattle.swd_host.proofs.Words.{Stopped, Resting, Engine, memory_after, answers_of, AreAccesses, Ahead}
+use Rattle.swd_host.proofs.Words.{Task, access_of, is_burst, is_block, most_begun, most_of, is_ahead}
+use Rattle.swd_host.proofs.Words.{begun_of, finished_of, least_in, open_requests, Hand, Counted, IsWithin}
 use Rattle.swd_host.proofs.Words.{within_none, within_first, within_both, IsReady, Follows, hand_of, next_read, Up}
 use Rattle.swd_host.proofs.Words.{AheadAt, IsKnownAt, DueAt, DueFits, is_failed, has_failed, Starts, Goes, Fits, EndsAt}
 use Rattle.swd_host.proofs.Words.{Follower, Waits, ContinuesAt, Stands, HasOpened, IsOpen, Does, DoesOver, told_by}
 use Rattle.swd_host.proofs.Words.{Nothing}
-use Rattle.std.proofs.lemmas.Bool.{ltb-true, ltb-false}
+use Rattle.std.proofs.lemmas.Bool.{cases_Bool, cases_lt}
+use Rattle.std.proofs.Math.Nat.{mul-le-mul_right}
 use Rattle.swd_port.proofs.MovingLaws.{idle_cycles_at_rest}
 use Rattle.swd_port.proofs.CompletionLaws.{same}
 use Rattle.swd_host.specs.declared.engine.Ahead.TheVariants.{Failed}
-use Rattle.swd_host.specs.Standing.{Reached, HasSentFor, anew, on}
+use Rattle.swd_host.specs.Standing.{Stays, Reached, HasSentFor, anew, on}
 use Rattle.swd_port.proofs.CallLaws.{others_uncounted, identification_kept}
+use Rattle.swd_host.specs.Turns.{Later}
+use Rattle.swd_host.proofs.Going.{later_then}
 use Rattle.swd_host.proofs.Fitting.{IsLeft, none_left, fits_by}
-use Rattle.swd_host.proofs.Lists.{memory_next, answers_next, access_at, follower_continues}
-use Rattle.swd_host.proofs.Starts.{IsFirst, IsAnswered, same_access, calm_by, burst_continues, task_most, start_follows}
+use Rattle.swd_host.proofs.Lists.{memory_next, answers_next, access_at}
+use Rattle.swd_host.proofs.Starts.{IsFirst, IsAnswered, calm_by, start_follows}
 use Rattle.swd_host.proofs.Starts.{start_left, start_least, start_begun, first_start, answered_start, block_burst}
 use Rattle.swd_host.proofs.Starts.{next_is}
+use Rattle.swd_host.proofs.Alone.{opened_stays, access_here, chain_here, few_here, last_plain}
 use Rattle.swd_host.proofs.Ends.{Answers, Stops, answered_there, stops_there, stopped_state, later_memory, begun_there}
 
 -- BEFORE THE FIRST ACCESS
 pub opened_stands : (list : List Access) (o : Engine) (s : Port) → HasOpened o → s.link.due ≡ Nothing
     → Stands 0 list o s o [] s
-opened_stands list o s has due = grind arith
+opened_stands list o s has due = grind (arith, opened_stays)
 
 -- AN ACCESS
 some_of : (a b : ℕ) → a ≡ b → a ≢ 0 → 1 ≤ b
-some_of a zero same none = absurd (none same)
-some_of a (suc b) same none = omega arith
+some_of a b same none = omega arith
 
 two_most : (task : Task) → most_begun task ≤ 2
 two_most task = grind arith
@@ -48,10 +51,6 @@ failed_tar _ n k t _ is failed h = absurd (cc)
 abbrev counted_from : ℕ → Port → Counted
 counted_from met t = record { disturbed = met; lost = t.tally.lost }
 
-by_cases : (b : Bool) (P : Type 0) → (b ≡ true → P) → (b ≡ false → P) → P
-by_cases true P set clear = set refl
-by_cases false P set clear = clear refl
-
 answered_least : (f : Engine) (answer : Answer) → finished_of f ≡ Some (Answered answer)
     → least_in f.aims f.state ≡ bit f.aims + 2
 answered_least f answer is = grind arith
@@ -60,37 +59,52 @@ module _ (i : ℕ) (list : List Access) (o e g f : Engine) (answers : List Answe
     (following : Option Access) (opened : HasOpened o) (few : i ≤ 65536) (l : i < length list)
     (stands : Stands i list o s e answers t) (starts : Starts (get_or list i d) following e g) (goes : Goes g t f u)
     (due : DueFits f u) where
-  access_here : access_of f.task ≡ get_or list i d
-  access_here = ap access_of goes.task ∙ same_access (get_or list i d) following e g starts
+  here : access_of f.task ≡ get_or list i d
+  here = access_here i list o e g f answers t u d following stands.stays starts goes.works
+
+  chain : ((b : Access) → following ≡ Some b → Follower i list b) → is_burst f.task ≡ true
+      → ContinuesAt list (i + 1) (access_of f.task)
+  chain next = chain_here i list o e g f answers t u d following stands.stays starts goes.works next
 
   after_here : (m : PlainMemory)
       → plain_after (access_of f.task) (memory_after (take i list) m) ≡ memory_after (take (i + 1) list) m
-  after_here m = ap (λ a. plain_after a (memory_after (take i list) m)) access_here ∙ sym (memory_next list i d m l)
+  after_here m = ap (λ a. plain_after a (memory_after (take i list) m)) here ∙ sym (memory_next list i d m l)
 
   tries_here : f.tries ≡ o.tries
-  tries_here = goes.tries ∙ (starts.tries ∙ stands.tried)
+  tries_here = goes.works.tries ∙ (starts.tries ∙ stands.stays.tried)
 
   follows_here : (m : PlainMemory) → AreAccesses list → (r : Reached i list m o s e answers t)
       → Follows (counted_from r.met t) (memory_after (take i list) m) f u
   follows_here m ok r =
       let before : PlainMemory = memory_after (take i list) m in
       goes.follows (counted_from r.met t) before (start_follows (get_or list i d) following e g starts r.met before t
-      (access_at list i d l ok) (λ burst. (stands.chain burst).1 d) r.ready)
+      (access_at list i d l ok) (λ burst. (stands.stays.chain burst).1 d) r.ready)
 
   -- HOW MANY REQUESTS
   left_here : open_requests g ≤ 5 * o.tries + 6
-  left_here = omega (arith, start_left (get_or list i d) following e g starts, stands.tried)
+  left_here = omega (arith, start_left (get_or list i d) following e g starts, stands.stays.tried)
 
   -- the count of requests stays below 2 ^ 64
   countable : g.requests + open_requests g < 2 ^ 64
-  countable = omega (arith, left_here, starts.requests, stands.bounded, opened.tries)
+  countable = omega (
+    arith,
+    left_here,
+    starts.requests,
+    stands.stays.spent,
+    mul-le-mul_right (6 + 5 * o.tries) few,
+    opened.most,
+    opened.tries,
+  )
 
   -- how many requests an access takes at most
   spent : f.requests + 5 * (o.tries - f.events) ≤ e.requests + 5 * o.tries + 6
-  spent = omega (arith, goes.spends, left_here, starts.requests, tries_here)
+  spent = omega (arith, goes.works.spends, left_here, starts.requests, tries_here)
 
   asked_here : u.tally.asked + o.requests ≡ s.tally.asked + f.requests
   asked_here = omega (arith, goes.asked countable, starts.requests, stands.asked)
+
+  later_here : Later s u
+  later_here = later_then s t u stands.later goes.later
 
   -- an access that is answered at once
   here_at_once : has_failed e ≡ true → f ≡ g
@@ -102,9 +116,9 @@ module _ (i : ℕ) (list : List Access) (o e g f : Engine) (answers : List Answe
       let first : IsFirst g = first_start (get_or list i d) following e g starts fresh in
       on (omega (
         arith,
-        goes.least countable,
+        goes.works.least countable,
         answered_least f answer is,
-        ap bit goes.aims,
+        ap bit goes.works.aims,
         ap bit first.aims,
         first.least,
         starts.requests,
@@ -112,9 +126,9 @@ module _ (i : ℕ) (list : List Access) (o e g f : Engine) (answers : List Answe
   answered_on answer is going (on sent) =
       on (omega (
         arith,
-        goes.least countable,
+        goes.works.least countable,
         answered_least f answer is,
-        ap bit goes.aims,
+        ap bit goes.works.aims,
         start_least (get_or list i d) following e g starts going,
         starts.requests,
       ))
@@ -123,37 +137,18 @@ module _ (i : ℕ) (list : List Access) (o e g f : Engine) (answers : List Answe
   answered_at_once failed unknown h = grind arith
 
   begun_on : has_failed e ≡ false → 1 ≤ f.begun → HasSentFor i o e → o.requests + 1 + i + f.begun ≤ f.requests
-  begun_on going some h = grind (arith, by_cases, countable, first_start, ltb-false, ltb-true, start_begun, start_least)
+  begun_on going some h = grind (arith, cases_lt, countable, first_start, start_begun, start_least)
 
   begun_sent : 1 ≤ f.begun → HasSentFor i o e → o.requests + 1 + i + f.begun ≤ f.requests
-  begun_sent some sent = by_cases (has_failed e) (o.requests + 1 + i + f.begun ≤ f.requests)
-      (λ failed. absurd (
-      let at : IsAnswered g = answered_start (get_or list i d) following e g starts failed in
-      omega (arith, ap (λ x. x.begun) (here_at_once failed), at.begun)))
-      (λ going. begun_on going some sent)
+  begun_sent some sent = elim (cases_Bool (has_failed e)) [
+    | inl failed ↦ absurd (
+        let at : IsAnswered g = answered_start (get_or list i d) following e g starts failed in
+        omega (arith, ap (λ x. x.begun) (here_at_once failed), at.begun))
+    | inr going ↦ begun_on going some sent
+  ]
 
   begun_few : f.begun ≤ most_begun f.task
   begun_few = grind arith
-
-  begun_most : f.begun ≤ most_of o.bursts
-  begun_most = grind (arith, begun_few, task_most)
-
-  -- THE ACCESS THAT FOLLOWS
-  follower_here : ((b : Access) → following ≡ Some b → Follower i list b)
-      → (b : Access) → (if has_failed e then None else following) ≡ Some b → Follower i list b
-  follower_here next b = grind arith
-
-  chain_here : ((b : Access) → following ≡ Some b → Follower i list b) → is_burst f.task ≡ true
-      → ContinuesAt list (i + 1) (access_of f.task)
-  chain_here next burst =
-      let task : f.task ≡ task_for e.bursts (get_or list i d) (if has_failed e then None else following) =
-      goes.task ∙ starts.task in
-      let on_it : continues (get_or list i d) (if has_failed e then None else following) ≡ true =
-      burst_continues e.bursts (get_or list i d) (if has_failed e then None else following)
-      (sym (ap is_burst task) ∙ burst) in
-      subst (ContinuesAt list (i + 1)) (sym access_here)
-      (follower_continues list i (get_or list i d) (if has_failed e then None else following) on_it
-      (follower_here next))
 
   -- A STOP
   within_left : (m now : PlainMemory) → ((b : Access) → following ≡ Some b → Follower i list b)
@@ -161,12 +156,12 @@ module _ (i : ℕ) (list : List Access) (o e g f : Engine) (answers : List Answe
   within_left m now next (within_none h) = none_left i list m f.begun now h
   within_left m now next (within_first some h) = record { more = 1; few = some; memory = h ∙ after_here m }
   within_left m now next (within_both two block h) =
-      let chain : ContinuesAt list (i + 1) (access_of f.task) = chain_here next (block_burst f.task block) in
+      let after : ContinuesAt list (i + 1) (access_of f.task) = chain next (block_burst f.task block) in
       let second : get_or list (i + 1) d ≡ next_read f.task =
-      next_is f.task (get_or list (i + 1) d) block (chain.1 d) in
+      next_is f.task (get_or list (i + 1) d) block (after.1 d) in
       let both : memory_after (take (i + 1 + 1) list) m
       ≡ plain_after (next_read f.task) (memory_after (take (i + 1) list) m) =
-      memory_next list (i + 1) d m chain.0 ∙ ap (λ a. plain_after a (memory_after (take (i + 1) list) m)) second in
+      memory_next list (i + 1) d m after.0 ∙ ap (λ a. plain_after a (memory_after (take (i + 1) list) m)) second in
       let count : i + 1 + 1 ≡ i + 2 = omega arith in
       record {
         more = 2;
@@ -177,7 +172,7 @@ module _ (i : ℕ) (list : List Access) (o e g f : Engine) (answers : List Answe
 
   -- the list has the accesses that are begun
   list_has : ((b : Access) → following ≡ Some b → Follower i list b) → i + f.begun ≤ length list
-  list_has next = grind (arith, begun_few, block_burst, by_cases, chain_here, single_most, two_most)
+  list_has next = grind (arith, begun_few, block_burst, chain, single_most, two_most)
 
   stop_fits : (m now : PlainMemory) (end : End) → end ≢ All → f.state ≡ Resting (Stopped end)
       → ((b : Access) → following ≡ Some b → Follower i list b)
@@ -185,7 +180,8 @@ module _ (i : ℕ) (list : List Access) (o e g f : Engine) (answers : List Answe
       → Fits (most_of o.bursts) list m (told_by answers f end) now
   stop_fits m now end never at next r within =
       let same : begun_of f ≡ f.begun = begun_there f end at in
-      fits_by (most_of o.bursts) i list m answers f end now (omega arith) r.answered (omega (arith, begun_most))
+      fits_by (most_of o.bursts) i list m answers f end now (omega arith) r.answered
+      (omega (arith, few_here i list o e g f answers t u d following stands.stays starts goes.works))
       (λ begun. (
         omega (arith, list_has next),
         never,
@@ -211,8 +207,8 @@ module _ (i : ℕ) (list : List Access) (o e g f : Engine) (answers : List Answe
         becomes = λ c. later_memory f.begun k u c stop.within;
         later = stop_fits m stop.within.later end stop.never at next r stop.within.ends;
         ends = subst (λ n. EndsAt end n s u) tries_here
-            (stop.ends s f.stray f.task r.fewest stands.lost
-            (ap (λ w. w % 2) (goes.identification ∙ stands.identification) ∙ is.odd)
+            (stop.ends s f.stray f.task r.fewest stands.later.lost
+            (ap (λ w. w % 2) later_here.identification ∙ is.odd)
             (subst (λ x. DueAt x f.stray f.task u.link.due) at due));
         least = λ whole. absurd (stop.never whole);
         most = elim stop.paid [
@@ -229,21 +225,20 @@ module _ (i : ℕ) (list : List Access) (o e g f : Engine) (answers : List Answe
     answers = answers;
     added = added;
     asked = asked_here;
-    disturbed = omega (arith, stands.disturbed, goes.disturbed);
-    lost = omega (arith, stands.lost, goes.lost);
-    identification = goes.identification ∙ stands.identification;
+    later = later_here;
     over = λ m is ok. access_over m end is ok next finished;
   }
 
   -- AN ANSWER
   answered_sent : (m : PlainMemory) (answer : Answer) → finished_of f ≡ Some (Answered answer)
       → Reached i list m o s e answers t → HasSentFor (i + 1) o f
-  answered_sent m answer is r = by_cases (has_failed e) (HasSentFor (i + 1) o f)
-      (λ failed. answered_at_once failed
-      (starts.tar ∙ failed_tar (is_ahead e) r.met (hand_of e (memory_after
-      (take i list) m)) t e.ahead refl failed r.ready)
-      r.sent)
-      (λ going. answered_on answer is going r.sent)
+  answered_sent m answer is r = elim (cases_Bool (has_failed e)) [
+    | inl failed ↦ answered_at_once failed
+        (starts.tar ∙ failed_tar (is_ahead e) r.met (hand_of e (memory_after
+        (take i list) m)) t e.ahead refl failed r.ready)
+        r.sent
+    | inr going ↦ answered_on answer is going r.sent
+  ]
 
   answered_reached : (m : PlainMemory) → AreAccesses list → (answer : Answer) (more : List Answer)
       → more ≡ answers ++ answer ∷ [] → finished_of f ≡ Some (Answered answer)
@@ -253,7 +248,7 @@ module _ (i : ℕ) (list : List Access) (o e g f : Engine) (answers : List Answe
       let before : PlainMemory = memory_after (take i list) m in
       let x : Answers answer base before f u = answered_there base before answer f u finished (follows_here m ok r) in
       let told : plain_answer (get_or list i d) before ≡ answer =
-      sym (ap (λ a. plain_answer a before) access_here) ∙ x.told in
+      sym (ap (λ a. plain_answer a before) here) ∙ x.told in
       record {
         met = r.met + f.events;
         fewest = omega (arith, r.fewest);
@@ -267,20 +262,11 @@ module _ (i : ℕ) (list : List Access) (o e g f : Engine) (answers : List Answe
 
   -- once the access at i is answered, what is known after i answers holds after i + 1
   pub answered_stands : (answer : Answer) (more : List Answer) → more ≡ answers ++ answer ∷ []
-      → ((b : Access) → following ≡ Some b → Follower i list b) → finished_of f ≡ Some (Answered answer)
-      → Stands (i + 1) list o s f more u
-  answered_stands answer more is_more next finished = record {
-    due = due;
-    rests = ap may_start finished;
-    chain = chain_here next;
-    tried = tries_here;
-    bursts = goes.bursts ∙ (starts.bursts ∙ stands.bursts);
-    number = ap length is_more ∙ simp length-append (omega (arith, stands.number));
-    bounded = omega (arith, spent, stands.bounded);
+      → finished_of f ≡ Some (Answered answer) → Stays (i + 1) list o f more u → Stands (i + 1) list o s f more u
+  answered_stands answer more is_more finished stays = record {
+    stays = stays;
     asked = asked_here;
-    disturbed = omega (arith, stands.disturbed, goes.disturbed);
-    lost = omega (arith, stands.lost, goes.lost);
-    identification = goes.identification ∙ stands.identification;
+    later = later_here;
     reached = λ m is ok. answered_reached m ok answer more is_more finished (stands.reached m is ok);
   }
 
@@ -296,13 +282,8 @@ single_up further task m t single h = grind arith
 
 module _ (i : ℕ) (list : List Access) (o e : Engine) (answers : List Answer) (s t : Port) (opened : HasOpened o)
     (whole : i ≡ length list) (stands : Stands i list o s e answers t) where
-  -- no access follows the last one
-  last_plain : (b : Bool) → is_burst e.task ≡ b → b ≡ false
-  last_plain true burst = absurd (let follows = (stands.chain burst).0 in omega arith)
-  last_plain false burst = refl
-
   last_single : is_burst e.task ≡ false
-  last_single = last_plain (is_burst e.task) refl
+  last_single = last_plain i list o e answers t stands.stays whole
 
   last_calm : is_ahead e ≡ false
   last_calm = calm_by e.state e.task last_single
@@ -333,7 +314,7 @@ module _ (i : ℕ) (list : List Access) (o e : Engine) (answers : List Answer) (
             known = record {
               select = ap (λ x. x.select) passed.target ∙ up.calm.select;
               odd = ap (λ x. x.identification % 2) passed.target
-                  ∙ (ap (λ w. w % 2) stands.identification ∙ is.odd);
+                  ∙ (ap (λ w. w % 2) stands.later.identification ∙ is.odd);
             };
             settled = idle;
           },

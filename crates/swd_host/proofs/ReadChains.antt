@@ -4,14 +4,17 @@ use Rattle.swd_host.proofs.Words.{◌≡◌, ◌+◌, ◌-◌, ◌<◌, ◌≤�
 use Rattle.swd_host.proofs.Words.{[], ◌∷◌, ◌++◌, length, take, drop, zero, suc, get_or, length-append}
 use Rattle.swd_host.proofs.Words.{Access, PlainMemory, Told, Fits, FitsAt, plain_after, plain_answer}
 use Rattle.swd_host.proofs.Words.{memory_after, answers_of}
+use Rattle.std.proofs.lemmas.List.{length-take}
+use Rattle.std.proofs.Math.Seq.{drop-cons, take-add}
 use Rattle.swd_port.specs.declared.access.Access.TheVariants.{Read, Write}
 use Rattle.swd_port.specs.PlainMemory.{succeeds_at}
 use Rattle.swd_host.specs.Again.{own_told, added_in}
 use Rattle.swd_host.specs.Chains.{Chain, first, again, AreReads, ChainReads}
 use Rattle.swd_host.proofs.Lists.{memory_append, answers_append, memory_next}
-use Rattle.swd_host.proofs.GoingOn.{told_length, drop_length, drop_first}
+use Rattle.swd_host.proofs.GoingOn.{told_length, drop_length}
 use Rattle.swd_host.proofs.Shadows.{Shadow, HasPlace, Roomy, shadow_answer, shadow_next, place_there}
-use Rattle.swd_host.proofs.Shadows.{after_true, after_false, log_done}
+use Rattle.swd_port.proofs.CompletionLaws.{plain_fits, plain_fails}
+use Rattle.swd_host.proofs.Shadows.{log_done}
 
 -- READS
 reads_take : (n : ℕ) (list : List Access) → AreReads list → AreReads (take n list)
@@ -30,7 +33,7 @@ reads_drop (suc n) (Write at word ∷ list) h = absurd h
 read_shadow : (at : ℕ) (p : PlainMemory) → Shadow 1 p (plain_after (Read at) p)
 read_shadow at p = elim (succeeds_at at p) as (λ b. succeeds_at at p ≡ b → Shadow 1 p (plain_after (Read at) p)) [
   | true ↦ λ e.
-      (let is = after_true (Read at) p e in
+      (let is = plain_fits (Read at) p e in
       let l = log_done (Read at) p e in
       record {
         words = ap (λ x. x.words) is;
@@ -39,7 +42,7 @@ read_shadow at p = elim (succeeds_at at p) as (λ b. succeeds_at at p ≡ b → 
         least = omega (arith, l);
       })
   | false ↦ λ e.
-      (let is = after_false (Read at) p e in
+      (let is = plain_fails (Read at) p e in
       let l = ap (λ x. length x.log) is in
       record {
         words = ap (λ x. x.words) is;
@@ -71,31 +74,16 @@ reads_shadow (Read at ∷ list) p h =
     (read_shadow at p) (reads_shadow list (plain_after (Read at) p) h))
 reads_shadow (Write at word ∷ list) p h = absurd h
 
-length_take : (n : ℕ) (list : List Access) → length (take n list) ≤ n
-length_take zero list = omega arith
-length_take (suc n) [] = omega arith
-length_take (suc n) (x ∷ list) = let h = length_take n list in omega (arith, h)
-
-take_none : (n : ℕ) → take {A = Access} n [] ≡ []
-take_none n = grind arith
-
-take_split : (k j : ℕ) (list : List Access) → take (k + j) list ≡ take k list ++ take j (drop k list)
-take_split zero j list = (let e : zero + j ≡ j = omega arith in ap (λ n. take n list) e)
-take_split (suc k) j [] = take_none (suc k + j) ∙ sym (take_none j)
-take_split (suc k) j (x ∷ list) =
-    (let e : suc k + j ≡ suc (k + j) = omega arith in ap (λ n. take n (x ∷ list)) e)
-    ∙ ap (λ l. x ∷ l) (take_split k j list)
-
 -- j reads more than k of a list of reads
 reads_more : (k j : ℕ) (list : List Access) (p : PlainMemory) → AreReads list
     → Shadow j (memory_after (take k list) p) (memory_after (take (k + j) list) p)
 reads_more k j list p h =
     let more : List Access = take j (drop k list) in
     let is : memory_after (take (k + j) list) p ≡ memory_after more (memory_after (take k list) p) =
-    ap (λ l. memory_after l p) (take_split k j list) ∙ memory_append (take k list) more p in
+    ap (λ l. memory_after l p) (take-add k j list) ∙ memory_append (take k list) more p in
     subst (λ x. Shadow j (memory_after (take k list) p) x) (sym is)
     (shadow_few (length more) j (memory_after (take k list) p) (memory_after more (memory_after (take k list) p))
-    (length_take j (drop k list))
+    (omega (arith, length-take j (drop k list)))
     (reads_shadow more (memory_after (take k list) p) (reads_take j (drop k list) (reads_drop k list h))))
 
 -- ACCESSES OVER A SHADOW of the plain memory
@@ -122,7 +110,7 @@ shown x k (suc n) list m q few room h =
     let w : Shown x (suc k) n list m (plain_after a q) =
     shown x (suc k) n list m (plain_after a q) (omega (arith, few)) room one in
     let is : take (suc n) (drop k list) ≡ a ∷ take n (drop (suc k) list) =
-    ap (take (suc n)) (drop_first k list d low) in
+    ap (take (suc n)) (drop-cons list k d low) in
     let count : suc k + n ≡ k + suc n = omega arith in
     let rest : List Access = take n (drop (suc k) list) in
     record {
@@ -204,7 +192,7 @@ again_plainly limit list m calls earlier told before now own k some reads was ro
     kept ∙ (ap (λ l. earlier.answers ++ l) (fit.answers ∙ w.answers)
     ∙ (ap (λ l. l ++ answers_of (take k rest) (memory_after (take at list) m)) was.answers
     ∙ (sym (answers_append (take at list) (take k rest) m)
-    ∙ ap (λ l. answers_of l m) (sym (take_split at k list))))) in
+    ∙ ap (λ l. answers_of l m) (sym (take-add at k list))))) in
     record {
       extra = x + j;
       few = omega (arith, x_few, less, most, one);

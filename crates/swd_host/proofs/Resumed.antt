@@ -7,6 +7,7 @@ use Rattle.swd_host.proofs.Words.{Resting, Engine, most_of, AreAccesses, begun_o
 use Rattle.swd_host.proofs.Words.{IsNew, Goes, Told, Fits, EndsAt, IsKnown, Closes, Does, DoesOver}
 use Rattle.swd_host.proofs.Words.{told_by, since, MayBecome}
 use Rattle.std.proofs.lemmas.List.{take_all}
+use Rattle.std.proofs.Math.Seq.{drop-append_seam, drop-length}
 use Rattle.swd_host.specs.declared.task.Bursts.TheVariants.{Writes}
 use Rattle.swd_host.specs.Again.{ResumeFits, Continues, added_in, own_told}
 use Rattle.swd_host.proofs.Ends.{begun_there, stops_only}
@@ -19,14 +20,6 @@ are_drop : (k : ℕ) (list : List Access) → AreAccesses list → AreAccesses (
 are_drop (suc k) (x ∷ list) h = are_drop k list h.1
 are_drop _ _ h = h
 
-drop_append : (xs ys : List Answer) → drop (length xs) (xs ++ ys) ≡ ys
-drop_append [] ys = refl
-drop_append (x ∷ xs) ys = drop_append xs ys
-
-drop_all : (xs : List Answer) → drop (length xs) xs ≡ []
-drop_all [] = refl
-drop_all (x ∷ xs) = drop_all xs
-
 unbegun : (f : Engine) (end : End) → f.state ≡ Resting (Stopped end) → f.begun ≡ 0 → begun_of f ≡ 0
 unbegun f end at none = begun_there f end at ∙ none
 
@@ -36,7 +29,7 @@ module _ (list : List Access) (tries : ℕ) (earlier : Told) (e f : Engine) (bef
     (reported : length earlier.answers ≤ length list) (known : IsKnown s.target) (goes : Goes e s f t)
     (due : DueFits f t) (kept : before ≡ earlier.answers) where
   odd : t.target.identification % 2 ≡ 1
-  odd = ap (λ w. w % 2) goes.identification ∙ known.odd
+  odd = ap (λ w. w % 2) goes.later.identification ∙ known.odd
 
   first : Resumes (counted_at s) s e s
   first = new_resumes Writes true tries e s new known (inl refl)
@@ -45,7 +38,7 @@ module _ (list : List Access) (tries : ℕ) (earlier : Told) (e f : Engine) (bef
   resumes = goes.resumes (counted_at s) s first
 
   same_tries : f.tries ≡ tries
-  same_tries = goes.tries ∙ new.tries
+  same_tries = goes.works.tries ∙ new.tries
 
   -- the opening was stopped
   module _ (end : End) (at : f.state ≡ Resting (Stopped end)) where
@@ -62,7 +55,7 @@ module _ (list : List Access) (tries : ℕ) (earlier : Told) (e f : Engine) (bef
     stop_ends = subst (λ n. EndsAt end n s t) same_tries (stop.ends s (omega arith) (omega arith) odd)
 
     stop_none : added_in earlier (since raw earlier) ≡ []
-    stop_none = ap (drop (length earlier.answers)) kept ∙ drop_all earlier.answers
+    stop_none = ap (drop (length earlier.answers)) kept ∙ drop-length earlier.answers
 
     stop_most : f.requests ≤ 14 + 6 * length list + 5 * (t.tally.disturbed - s.tally.disturbed)
     stop_most = elim stop.paid [
@@ -122,7 +115,7 @@ module _ (list : List Access) (tries : ℕ) (earlier : Told) (e f : Engine) (bef
     long = drop_length (length earlier.answers) list reported
 
     one : most_of f.bursts ≡ 1
-    one = ap most_of (goes.bursts ∙ new.bursts)
+    one = ap most_of (goes.works.bursts ∙ new.bursts)
 
     later : Fits 1 rest opened.memory (told_by does.answers last end) done.settled
     later = subst (λ n. Fits n rest opened.memory (told_by does.answers last end) done.settled) one done.later
@@ -131,7 +124,7 @@ module _ (list : List Access) (tries : ℕ) (earlier : Told) (e f : Engine) (bef
     done_ends = grind (arith, done, ends_since, same_tries)
 
     done_added : added_in earlier (since told earlier) ≡ does.answers
-    done_added = ap (drop (length earlier.answers)) after_is ∙ drop_append earlier.answers does.answers
+    done_added = ap (drop (length earlier.answers)) after_is ∙ drop-append_seam earlier.answers does.answers
 
     done_fits : (now : PlainMemory) → MayBecome u now
         → Fits 1 rest opened.memory (own_told earlier (since told earlier) told.begun) now
@@ -168,7 +161,7 @@ pub continues : (list : List Access) (tries : ℕ) (raw earlier report : Told) (
 continues list tries raw earlier report part due reported is added h =
     let rest : List Access = drop (length earlier.answers) list in
     let new : added_in earlier raw ≡ part =
-    ap (drop (length earlier.answers)) added ∙ drop_append earlier.answers part in
+    ap (drop (length earlier.answers)) added ∙ drop-append_seam earlier.answers part in
     let long = drop_length (length earlier.answers) list reported in
     let many = ap length added ∙ length-append earlier.answers part in
     let number = h.number in

@@ -29,7 +29,7 @@ module _ (kind : Bursts) (list : List Access) (tries : ℕ) (e f : Engine) (answ
   resumes = goes.resumes (counted_at s) s first
 
   odd : t.target.identification % 2 ≡ 1
-  odd = ap (λ w. w % 2) goes.identification ∙ rest.known.odd
+  odd = ap (λ w. w % 2) goes.later.identification ∙ rest.known.odd
 
   unbegun : f.begun ≡ 0
   unbegun = opening_unbegun kind false tries e f s t small new goes
@@ -48,7 +48,7 @@ module _ (kind : Bursts) (list : List Access) (tries : ℕ) (e f : Engine) (answ
   opening_stops end at =
       let stop : OpeningEnds end (counted_at s) f.tries (s.tally.disturbed + f.events) s t =
       opening_ends (counted_at s) s f end t at unbegun due resumes in
-      let ends : EndsAt end tries s t = subst (λ n. EndsAt end n s t) (goes.tries ∙ new.tries)
+      let ends : EndsAt end tries s t = subst (λ n. EndsAt end n s t) (goes.works.tries ∙ new.tries)
       (stop.ends s (omega arith) (omega arith) odd) in
       record {
         now = opening_fits t.target.memory end stop.never at (stop.now rest.settled);
@@ -62,7 +62,7 @@ module _ (kind : Bursts) (list : List Access) (tries : ℕ) (e f : Engine) (answ
               (let lost : f.state ≡ Resting (Stopped Lost) = at ∙ ap (λ x. Resting (Stopped x)) p.0 in
               let early = opening_lost kind false tries e f s t small new goes (counted_at s) s first lost in
               omega (arith, p.1))
-          | inr p ↦ omega (arith, opening_spends kind false tries e f s t small new goes, goes.tries, new.tries)
+          | inr p ↦ omega (arith, opening_spends kind false tries e f s t small new goes, goes.works.tries, new.tries)
         ];
       }
 
@@ -75,10 +75,10 @@ module _ (kind : Bursts) (list : List Access) (tries : ℕ) (e f : Engine) (answ
       let is_open : IsOpen m f t = subst (λ x. IsOpen x f t) (only opened.memory opened.comes) opened.is_open in
       let over = does.over m is_open ok in
       let left : left_in f.state ≡ 1 = ap left_in at in
-      let limit : most_of f.bursts ≡ most_of kind = ap most_of (goes.bursts ∙ new.bursts) in
+      let limit : most_of f.bursts ≡ most_of kind = ap most_of (goes.works.bursts ∙ new.bursts) in
       let mine : part ≡ does.answers = does.added ∙ ap (λ x. x ++ does.answers) none in
-      let ends : EndsAt end tries s u = ends_since end tries s t u goes.disturbed goes.lost
-      (subst (λ n. EndsAt end n t u) (goes.tries ∙ new.tries) over.ends) in
+      let ends : EndsAt end tries s u = ends_since end tries s t u goes.later.disturbed goes.later.lost
+      (subst (λ n. EndsAt end n t u) (goes.works.tries ∙ new.tries) over.ends) in
       told_as (most_of kind) list tries m (told_by does.answers last end) (told_by part last end) s u
       (ap (λ x. told_by x last end) mine)
       (record {
@@ -95,7 +95,7 @@ module _ (kind : Bursts) (list : List Access) (tries : ℕ) (e f : Engine) (answ
               over.most,
               opening_spends kind false tries e f s t small new goes,
               opened.paid,
-              does.disturbed,
+              does.later.disturbed,
             );
       })
 

@@ -7,6 +7,7 @@ use Rattle.swd_host.proofs.Words.{At, Check, Clear, LastStatus, Resend, Status, 
 use Rattle.swd_host.proofs.Words.{word_for, begins, confirmed_by, is_ahead_at, is_job_of, flags_in, state_seen}
 use Rattle.swd_host.proofs.Words.{not, is_read, is_block, access_of, Access, Answer, Request, ◌&&◌, ◌||◌, Engine}
 use Rattle.swd_host.proofs.Words.{is_state_of}
+use Rattle.std.proofs.Math.Bool.{and-false}
 use Rattle.swd_port.specs.declared.access.Access.TheVariants.{Read, Write}
 use Rattle.swd_port.specs.declared.access.Answer.TheVariants.{Written, Value, BusFault}
 use Rattle.swd_port.specs.declared.call.Call.{Call}
@@ -31,7 +32,7 @@ use Rattle.swd_host.specs.Stages.{ahead_stage, is_sent}
 use Rattle.swd_host.specs.Steps.{is_stop, GoesTo, stopped, written_to, faulted_to, read_to, ahead_to}
 use Rattle.swd_host.specs.Steps.{RestsWith, status_to, cleared_to}
 use Rattle.swd_host.specs.Steps.{repeated_at}
-use Rattle.swd_host.proofs.SendingStages.{Here, asks_nothing, no_and, one_or, refused_at, refused_settled}
+use Rattle.swd_host.proofs.SendingStages.{Here, asks_nothing, one_or, refused_at, refused_settled}
 use Rattle.swd_host.proofs.SendingStages.{stop_or}
 
 module _ (list : List Access) (answers : List Answer) where
@@ -175,7 +176,7 @@ module _ (list : List Access) (answers : List Answer) where
   unconfirmed : (q : Request) (v : ℕ) → (v == 1) ≡ false
       → is_confirmation (record { cue = CueAsk q; seen = v }) ≡ true → ⊥
   unconfirmed q v none k =
-      let both : true ≡ false = sym k ∙ (ap (λ okays. asks_result (CueAsk q) && okays) none ∙ no_and _) in cc
+      let both : true ≡ false = sym k ∙ (ap (λ okays. asks_result (CueAsk q) && okays) none ∙ and-false _) in cc
 
   -- a request, by what was seen of it
   pub ask_knows : (job : Job) (task : Task) (b more v : ℕ) (ahead : Ahead) (calls : List Call) → Here list answers task
@@ -195,7 +196,7 @@ module _ (list : List Access) (answers : List Answer) where
             })
         | inr none ↦
             (let unasked : awaits_data (record { cue = CueAsk (request_for job task); seen = v } ∷ calls) ≡ false =
-            ap (λ okays. asks_drw (CueAsk (request_for job task)) && okays) none ∙ no_and _ in
+            ap (λ okays. asks_drw (CueAsk (request_for job task)) && okays) none ∙ and-false _ in
             subst (λ okays. KnowsAt list answers (if okays then Doing job Data else if v == 2 then Doing job Waited else
             if v == 4 then Doing job Faulted else Resting (Stopped Lost)) task more ahead
             (record { cue = CueAsk (request_for job task); seen = v } ∷ calls)) (sym none)

@@ -8,6 +8,7 @@ use Rattle.swd_host.proofs.Words.{one_more, Starts, Follower, Closes, Told, told
 use Rattle.std.proofs.lemmas.List.{append_assoc, get_or_default}
 use Rattle.std.proofs.lemmas.List.Recursion.{is_count_by}
 use Rattle.std.proofs.Math.Seq.{drop-append_seam}
+use Rattle.std.proofs.Math.Nat.{mul-le-mul_right}
 use Rattle.std.proofs.Common.{length-drop}
 use Rattle.std.specs.Prelude.{count_by, max, min, drop, ◌-◌}
 use Rattle.swd_port.specs.declared.access.Access.TheVariants.{Read, Write}
@@ -20,14 +21,12 @@ use Rattle.swd_host.specs.Resuming.{is_all, since}
 use Rattle.swd_host.specs.Sent.{Sent, HasAccess, TellsSent, other}
 use Rattle.swd_host.specs.Stages.{Stood, KnowsAt, Knows, RestsAt, counted, Counts, EndsIn, Tells, most_at}
 use Rattle.swd_host.specs.Standing.{Stays}
-use Rattle.swd_host.specs.Turns.{GoesOn}
 use Rattle.swd_host.specs.declared.engine.Ahead.{Ahead}
 use Rattle.swd_host.specs.declared.engine.Ahead.TheVariants.{Unsent}
-use Rattle.swd_host.proofs.Starts.{same_access, start_access}
+use Rattle.swd_host.proofs.Starts.{block_burst, calm_by, same_access, start_access}
+use Rattle.swd_host.proofs.Alone.{goes_on, last_plain}
 use Rattle.swd_host.proofs.SendingStages.{Here}
-use Rattle.swd_host.proofs.SendingTurns.{answered_rests, start_knows, turns_counted, turns_know, burst_kind}
-use Rattle.swd_host.proofs.SendingTurns.{write_burst}
-use Rattle.swd_host.proofs.SendingTurns.{block_bursts}
+use Rattle.swd_host.proofs.SendingTurns.{answered_rests, start_knows, turns_counted, turns_know}
 
 none_follows : (kind : Bursts) (a : Access) → is_block (task_for kind a None) ≡ true → ⊥
 none_follows kind a h = grind arith
@@ -67,15 +66,13 @@ module _ (i : ℕ) (list : List Access) (o e g f : Engine) (answers : List Answe
         ));
   }
 
-  chained : GoesOn e (get_or list i d)
-  chained = record { on = λ on. (stays.chain (write_burst e.task (burst_kind e.state e.task on))).1 d }
-
   known : (past calls : List Call) → Counts list answers e past → Turns g calls f
       → (f.requests ≡ counted (calls ++ past)) × Knows list answers f (calls ++ past)
   known past calls h turns = (
     turns_counted g f past calls (starts.requests ∙ h.requests) turns,
     (turns_know list answers g f past calls (start_access (get_or list i d) following e g starts) here
-        (start_knows list answers (get_or list i d) following e g past starts chained here h.rests) turns).2,
+        (start_knows list answers (get_or list i d) following e g past starts
+        (goes_on i list o e answers t d stays) here h.rests) turns).2,
   )
 
   answered_counts : (answer : Answer) → finished_of f ≡ Some (Answered answer) → (past calls : List Call)
@@ -150,16 +147,7 @@ last_rests list answers false Unsent task calls plain none h = let s = h.stood i
   is = other _ h.none (λ k. absurd (cc)) s.is;
 }
 last_rests list answers false ahead task calls plain none h =
-    absurd (let both : true ≡ false = sym (block_bursts task (h.goes_on refl)) ∙ plain in cc)
-
-not_ahead : (e : Engine) → is_burst e.task ≡ false → is_ahead e ≡ false
-not_ahead e h = grind (arith, burst_kind, write_burst)
-
-last_plain : (i : ℕ) (list : List Access) (o e : Engine) (answers : List Answer) (t : Port) (b : Bool)
-    → Stays i list o e answers t → i ≡ length list → is_burst e.task ≡ b → b ≡ false
-last_plain i list o e answers t true stays all is =
-    let beyond : i < length list = (stays.chain is).0 in absurd (omega arith)
-last_plain i list o e answers t false stays all is = refl
+    absurd (let both : true ≡ false = sym (block_burst task (h.goes_on refl)) ∙ plain in cc)
 
 -- all are answered, and eight idle cycles follow
 pub all_tells : (i : ℕ) (list : List Access) (o e : Engine) (answers : List Answer) (t : Port)
@@ -167,7 +155,7 @@ pub all_tells : (i : ℕ) (list : List Access) (o e : Engine) (answers : List An
     → (early late : List Call) → Keeping list answers o e early → late ≡ eight_idle ∷ []
     → Tells list o e before after All (late ++ early)
 all_tells i list o e answers t stays all before after added early late h is =
-    let plain : is_burst e.task ≡ false = last_plain i list o e answers t (is_burst e.task) stays all refl in
+    let plain : is_burst e.task ≡ false = last_plain i list o e answers t stays all in
     record {
       answers = answers;
       added = added;
@@ -175,7 +163,8 @@ all_tells i list o e answers t stays all before after added early late h is =
           (let counts : Counts list answers e (early ++ past) = h past p in
           record {
             requests = counts.requests;
-            stood = last_rests list answers (is_ahead e) e.ahead e.task (early ++ past) plain (not_ahead e plain)
+            stood = last_rests list answers (is_ahead e) e.ahead e.task (early ++ past) plain
+                (calm_by e.state e.task plain)
                 counts.rests;
           });
     }
@@ -228,9 +217,6 @@ tells_told list answers f end told calls is small h = subst (λ x. TellsSent lis
     (tells_sent list answers f end calls
     (subst (λ x. x < 18446744073709551615) (ap (λ (x : Told). x.requests) is) small) h)
 
-product_few : (a b c : ℕ) → a ≤ b → a * c ≤ b * c
-product_few a b c h = grind arith
-
 -- whatever came back, the count doesn't reach its greatest value
 pub closes_small : (spare limit : ℕ) (list : List Access) (tries : ℕ) (told : Told) (due : Due) → spare ≤ 5
     → length list ≤ 65536 → tries < 2 ^ 32 → Closes spare limit list tries told due
@@ -238,7 +224,7 @@ pub closes_small : (spare limit : ℕ) (list : List Access) (tries : ℕ) (told 
 closes_small spare limit list tries told due few short small h =
     let n : ℕ = min (length list) (length told.answers + 1) in
     let most : n ≤ 65536 = omega arith in
-    let product : n * (6 + 5 * tries) ≤ 65536 * (6 + 5 * tries) = product_few n 65536 (6 + 5 * tries) most in
+    let product : n * (6 + 5 * tries) ≤ 65536 * (6 + 5 * tries) = mul-le-mul_right (6 + 5 * tries) most in
     omega (arith, h.spends)
 
 -- GOING ON

@@ -20,11 +20,6 @@ pub record Here (list : List Access) (answers : List Answer) (task : Task) : Typ
   pub has : HasAccess list (length answers) (access_of task)
   pub next : is_block task ≡ true → (at : ℕ) × HasAccess list (length answers + 1) (Read at)
 
--- false behind any test
-pub no_and : (b : Bool) → (b && false) ≡ false
-no_and true = refl
-no_and false = refl
-
 -- a number is 1, or its test for 1 fails
 pub one_or : (v : ℕ) → (v ≡ 1) ⊎ ((v == 1) ≡ false)
 one_or v = grind arith

@@ -3,11 +3,11 @@ use Rattle.swd_host.proofs.Words.{◌≡◌, ◌++◌, ◌∷◌, [], ℕ, Bool,
 use Rattle.swd_host.proofs.Words.{inl, inr, arith, ◌∙◌, List, Option, Some, if◌then◌else◌, max, bit}
 use Rattle.swd_host.proofs.Words.{word_in, Answered, Opened, Task, Job, Data, State, Doing, Resting}
 use Rattle.swd_host.proofs.Words.{Ahead, Unsent, NextSent, NextFailed, At, Confirm, Engine}
-use Rattle.swd_host.proofs.Words.{begins, is_ahead, is_ahead_at, is_ahead_in, is_job_of, is_state_of, state_seen}
+use Rattle.swd_host.proofs.Words.{begins, is_ahead, is_ahead_in, is_job_of, is_state_of, state_seen}
 use Rattle.swd_host.proofs.Words.{job_in}
-use Rattle.swd_host.proofs.Words.{is_block, is_burst, is_burst_write, access_of, Access, Answer, finished_at}
+use Rattle.swd_host.proofs.Words.{is_burst, is_burst_write, access_of, Access, Answer, finished_at}
 use Rattle.swd_host.proofs.Words.{first_state, is_failed, one_more, cue_of, continues, task_for}
-use Rattle.swd_host.proofs.Words.{drw_register, request_for, word_for, Starts, Sees, ◌&&◌, Bursts, End, IsNew}
+use Rattle.swd_host.proofs.Words.{drw_register, request_for, Starts, Sees, ◌&&◌, Bursts, End, IsNew}
 use Rattle.swd_port.specs.declared.access.Answer.TheVariants.{Written}
 use Rattle.swd_port.specs.declared.call.Call.{Call}
 use Rattle.swd_port.specs.declared.cue.Cue.{Cue}
@@ -26,7 +26,10 @@ use Rattle.swd_host.specs.Stages.{Counts, EndsIn}
 use Rattle.swd_host.specs.Steps.{GoesTo, RestsWith, ahead_to, is_rested, is_stop, read_to, sent_to}
 use Rattle.swd_host.specs.Turns.{begun_left, GoesOn}
 use Rattle.std.proofs.lemmas.List.{append-nil}
-use Rattle.swd_host.proofs.Turning.{IsAsking, asking, IsPhase, taking, giving, IsTaking, take_cue, IsGiving, give_cue}
+use Rattle.swd_host.proofs.Working.{IsAsking, asking}
+use Rattle.swd_host.proofs.Turning.{IsTaking, taking, IsGiving, giving}
+use Rattle.swd_host.proofs.Turned.{lands_by, turned_works}
+use Rattle.swd_host.proofs.Starts.{ahead_burst, ahead_write, block_burst}
 use Rattle.swd_host.proofs.SendingStages.{Here, settled_none}
 use Rattle.swd_host.proofs.Sending.{ask_knows, waited_knows, faulted_knows, given_knows, taken_knows, knows_as}
 use Rattle.swd_host.proofs.Sending.{state_job, passing, sent_as}
@@ -52,26 +55,22 @@ module _ (list : List Access) (answers : List Answer) where
       (ask_knows list answers a.job e.task e.begun f.begun seen f.ahead calls here (omega (arith, begun))
       (omega (arith, begun)) before)))
   turned_by e f Take seen calls on here h asks took =
-      let p : IsPhase e.state e.task Take = taking e.state e.stray e.task asks in
-      let c : IsTaking (is_ahead_at p.job Data e.task) (word_for p.job e.task) =
-      take_cue (is_ahead_at p.job Data e.task) (word_for p.job e.task) p.is in
+      let p : IsTaking e.state e.task = taking e.state e.stray e.task asks in
       let job : job_in e.state ≡ p.job = ap job_in p.at in
       let own : is_job_of false p.job ≡ true = state_job list answers e.state p.job Data p.at on in
       knows_as list answers f e.task _ _ took.lands.task took.lands.begun
-      (taken_knows list answers p.job e.task e.aims e.begun seen f.ahead calls f.state here own c.reads c.ahead_not
+      (taken_knows list answers p.job e.task e.aims e.begun seen f.ahead calls f.state here own p.reads p.ahead_not
       (subst (λ j. GoesTo (read_to j (word_in seen) e.task e.aims) f.state) job
       (took.goes (ap (is_job_of false) job ∙ own)))
       (subst (λ j. RestsWith (ahead_to j e.task) f.state f.ahead) job took.rests)
       (subst (λ x. KnowsAt list answers x e.task e.begun e.ahead calls) p.at h))
   turned_by e f (Give bits) seen calls on here h asks did =
-      let p : IsPhase e.state e.task (Give bits) = giving e.state e.stray e.task bits asks in
-      let c : IsGiving (word_for p.job e.task) bits =
-      give_cue (is_ahead_at p.job Data e.task) (word_for p.job e.task) bits p.is in
+      let p : IsGiving e.state e.task bits = giving e.state e.stray e.task bits asks in
       knows_as list answers f e.task _ _ did.lands.task did.lands.begun
       (subst (λ b. KnowsAt list answers f.state e.task (begun_left f.state e.task e.begun) f.ahead
-      (record { cue = Give b; seen = seen } ∷ calls)) (sym c.sends)
-      (given_knows list answers p.job e.task e.begun c.gives seen f.ahead calls f.state here
-      (state_job list answers e.state p.job Data p.at on) c.is
+      (record { cue = Give b; seen = seen } ∷ calls)) (sym p.sends)
+      (given_knows list answers p.job e.task e.begun p.gives seen f.ahead calls f.state here
+      (state_job list answers e.state p.job Data p.at on) p.is
       (subst (λ x. GoesTo (sent_to x e.task) f.state) p.at did.goes)
       (subst (λ x. KnowsAt list answers x e.task e.begun e.ahead calls) p.at h)))
   turned_by e f Pass seen calls on here h asks did =
@@ -92,21 +91,6 @@ module _ (list : List Access) (answers : List Answer) where
             → is_state_of false x ≡ true → cue_at x stray task ≡ Some (Lead ones undriven switch low) → ⊥
         leading x stray task ones undriven switch low on e = grind arith
 
-  part_kept : (e f : Engine) (cue : Cue) (seen : ℕ) (opening : Bool) → Replied cue seen e f
-      → is_state_of opening e.state ≡ true → is_state_of opening f.state ≡ true
-  part_kept e f (CueAsk q) seen opening saw = saw.sees.part opening
-  part_kept e f Take seen opening took = took.lands.part opening
-  part_kept e f (Give bits) seen opening did = did.lands.part opening
-  part_kept e f Pass seen opening did = did.lands.part opening
-  part_kept e f (Lead ones undriven switch low) seen opening did = did.lands.part opening
-
-  task_kept : (e f : Engine) (cue : Cue) (seen : ℕ) → Replied cue seen e f → f.task ≡ e.task
-  task_kept e f (CueAsk q) seen saw = saw.sees.task
-  task_kept e f Take seen took = took.lands.task
-  task_kept e f (Give bits) seen did = did.lands.task
-  task_kept e f Pass seen did = did.lands.task
-  task_kept e f (Lead ones undriven switch low) seen did = did.lands.task
-
   -- the calls of an access
   pub turns_know : (e f : Engine) (past calls : List Call) → is_state_of false e.state ≡ true
       → Here list answers e.task → Knows list answers e past → Turns e calls f
@@ -118,8 +102,8 @@ module _ (list : List Access) (answers : List Answer) where
   )
   turns_know e f past (call ∷ calls) on here h (g, turns, turned) =
       let before = turns_know e g past calls on here h turns in (
-        part_kept g f call.cue call.seen false turned.replied before.0,
-        task_kept g f call.cue call.seen turned.replied ∙ before.1,
+        (turned_works call g f turned).part false before.0,
+        (turned_works call g f turned).task ∙ before.1,
         turned_by g f call.cue call.seen (calls ++ past) before.0
             (subst (λ t. Here list answers t) (sym before.1) here) before.2 turned.cue turned.replied,
       )
@@ -128,10 +112,7 @@ module _ (list : List Access) (answers : List Answer) where
 counts_by : (e f : Engine) (cue : Cue) (seen n : ℕ) → e.requests ≡ n → Replied cue seen e f
     → f.requests ≡ (if is_ask cue then one_more n else n)
 counts_by e f (CueAsk q) seen n is saw = saw.requests ∙ ap one_more is
-counts_by e f Take seen n is took = took.lands.requests ∙ is
-counts_by e f (Give bits) seen n is did = did.lands.requests ∙ is
-counts_by e f Pass seen n is did = did.lands.requests ∙ is
-counts_by e f (Lead ones undriven switch low) seen n is did = did.lands.requests ∙ is
+counts_by e f cue seen n is replied = (lands_by cue seen e f refl replied).requests ∙ is
 
 -- the engine counts the requests of its calls
 pub turns_counted : (e f : Engine) (past calls : List Call) → e.requests ≡ counted past → Turns e calls f
@@ -202,7 +183,7 @@ turns_open list e f [] on moves same = record {
 }
 turns_open list e f (call ∷ calls) on moves (g, turns, turned) =
     let before : Opens list g calls = turns_open list e g calls on moves turns in record {
-      on = part_kept list [] g f call.cue call.seen true turned.replied before.on;
+      on = (turned_works call g f turned).part true before.on;
       ahead = opened_ahead g f call.cue call.seen before.on turned.replied;
       none = unasked (asks_drw call.cue) _ (opening_cue g call.cue before.on turned.cue);
       since = seen_since call before.since;
@@ -246,20 +227,9 @@ opening_ends list kind again tries e f end calls new turns =
     }
 
 -- AN ACCESS FROM ITS START
-pub burst_kind : (x : State) (task : Task) → is_ahead_in x task ≡ true → is_burst_write task ≡ true
-burst_kind x task h = grind arith
-
--- a write of a burst is one of a burst
-pub write_burst : (task : Task) → is_burst_write task ≡ true → is_burst task ≡ true
-write_burst task h = grind arith
-
 next_written : (task : Task) (kind : Bursts) (a : Access) (following : Option Access) → is_burst_write task ≡ true
     → continues (access_of task) (Some a) ≡ true → drw_register (task_for kind a following) ≡ DrwWrite
 next_written task kind a following h on = grind arith
-
--- a read of a block is one of a burst
-pub block_bursts : (task : Task) → is_block task ≡ true → is_burst task ≡ true
-block_bursts task h = grind arith
 
 module _ (list : List Access) (answers : List Answer) where
   first_knows : (given : Bool) (ahead : Ahead) (aims : Bool) (before task : Task) (b : ℕ) (calls : List Call)
@@ -282,7 +252,7 @@ module _ (list : List Access) (answers : List Answer) where
     };
   }
   first_knows false NextSent aims before task b calls burst writes begun here h =
-      let on : is_burst before ≡ true = block_bursts before (h.goes_on refl) in
+      let on : is_burst before ≡ true = block_burst before (h.goes_on refl) in
       let one : b ≡ 1 = begun ∙ ap (λ x. bit (x && true)) on in
       let s = h.stood in record {
         none = h.none;
@@ -343,8 +313,8 @@ module _ (list : List Access) (answers : List Answer) where
       (subst (λ x. KnowsAt list answers (first_state (is_ahead e) e.ahead g.aims) g.task g.begun x calls)
       (sym starts.ahead)
       (first_knows (is_ahead e) e.ahead g.aims e.task g.task g.begun calls
-      (λ on. write_burst e.task (burst_kind e.state e.task on))
-      (λ on. ap drw_register starts.task ∙ next_written e.task e.bursts a _ (burst_kind e.state e.task on)
+      (λ on. ahead_burst e.state e.task on)
+      (λ on. ap drw_register starts.task ∙ next_written e.task e.bursts a _ (ahead_write e.state e.task on)
       (chain.on on))
       starts.begun here h))
 

@@ -26,7 +26,7 @@ calm_rest : (m : PlainMemory) (s : Port) → Calm m s.target → AtRest s
 calm_rest m s h = record { select = h.select; live = h.live; pending = h.pending }
 
 broken_rest : (p : Place) (b : ℕ) (k : Hand) (s : Port) → Broken p b k s.target → AtRest s
-broken_rest p b k s h = record { select = h.select; live = h.live; pending = h.pending }
+broken_rest p b k s h = record { select = h.serves.select; live = h.serves.live; pending = h.pending }
 
 bus_error_rest : (p : Place) (b : ℕ) (k : Hand) (s : Port) → BusErrorOf p b k s.target → AtRest s
 bus_error_rest p b k s h = grind (arith, broken_rest)

@@ -15,6 +15,7 @@ use Rattle.swd_port.specs.PlainMemory.{succeeds_at, words_after, transfer_of, do
 use Rattle.swd_port.proofs.MapLemmas.{get_same, insert_twice}
 use Rattle.swd_host.proofs.Lists.{memory_append, memory_next}
 use Rattle.swd_host.proofs.Repeats.{repeated_next}
+use Rattle.swd_port.proofs.CompletionLaws.{plain_fits, plain_fails}
 
 -- a memory whose log is up to c transfers longer, and that is the same else
 pub record Shadow (c : ℕ) (p q : PlainMemory) : Type 0 where
@@ -32,21 +33,13 @@ pub record HasPlace (c : ℕ) (a : Access) (p : PlainMemory) : Type 0 where
 contains_succeeds : (at : ℕ) (p : PlainMemory) → length p.log < p.room → succeeds_at at p ≡ contains_key p.words at
 contains_succeeds at p l = rw (lt-ltb (length p.log) p.room l) (grind arith)
 
--- an access that succeeds leaves the memory with its effect and its log entry
-pub after_true : (a : Access) (p : PlainMemory) → succeeds_at (address a) p ≡ true → plain_after a p ≡ done a p
-after_true a p e = rw e refl
-
--- an access that is a bus error leaves the memory unchanged
-pub after_false : (a : Access) (p : PlainMemory) → succeeds_at (address a) p ≡ false → plain_after a p ≡ p
-after_false a p e = rw e refl
-
 done_log : (a : Access) (p : PlainMemory) → length (done a p).log ≡ length p.log + 1
 done_log a p = length-append p.log (transfer_of a p ∷ [])
 
 -- an access that succeeds makes the log one transfer longer
 pub log_done : (a : Access) (p : PlainMemory) → succeeds_at (address a) p ≡ true
     → length (plain_after a p).log ≡ length p.log + 1
-log_done a p e = ap (λ x. length x.log) (after_true a p e) ∙ done_log a p
+log_done a p e = ap (λ x. length x.log) (plain_fits a p e) ∙ done_log a p
 
 shadow_succeeds : (c : ℕ) (a : Access) (p q : PlainMemory) → HasPlace c a p → Shadow c p q
     → succeeds_at (address a) q ≡ succeeds_at (address a) p
@@ -77,10 +70,10 @@ shadow_next c a p q f h =
     let s : succeeds_at (address a) q ≡ succeeds_at (address a) p = shadow_succeeds c a p q f h in
     elim (succeeds_at (address a) p) as (λ b. succeeds_at (address a) p ≡ b
     → Shadow c (plain_after a p) (plain_after a q)) [
-      | true ↦ λ e. subst (λ y. Shadow c y (plain_after a q)) (sym (after_true a p e))
-          (subst (λ z. Shadow c (done a p) z) (sym (after_true a q (s ∙ e))) (done_shadow c a p q h))
-      | false ↦ λ e. subst (λ y. Shadow c y (plain_after a q)) (sym (after_false a p e))
-          (subst (λ z. Shadow c p z) (sym (after_false a q (s ∙ e))) h)
+      | true ↦ λ e. subst (λ y. Shadow c y (plain_after a q)) (sym (plain_fits a p e))
+          (subst (λ z. Shadow c (done a p) z) (sym (plain_fits a q (s ∙ e))) (done_shadow c a p q h))
+      | false ↦ λ e. subst (λ y. Shadow c y (plain_after a q)) (sym (plain_fails a p e))
+          (subst (λ z. Shadow c p z) (sym (plain_fails a q (s ∙ e))) h)
     ] refl
 
 -- ONCE MORE
@@ -103,7 +96,7 @@ record Twice (c : ℕ) (a : Access) (p q : PlainMemory) : Type 0 where
 twice_done : (c : ℕ) (a : Access) (p q : PlainMemory) → succeeds_at (address a) p ≡ true → HasPlace (c + 1) a p
     → Shadow c (done a p) q → Twice c a p q
 twice_done c a p q e f h =
-    grind (arith, after_true, answer_twice, contains_succeeds, done_log, log_done, plain_same, there_still, words_twice)
+    grind (arith, plain_fits, answer_twice, contains_succeeds, done_log, log_done, plain_same, there_still, words_twice)
 
 -- room for more copies is room for fewer
 place_less : (c : ℕ) (a : Access) (p : PlainMemory) → HasPlace (c + 1) a p → HasPlace c a p
@@ -116,9 +109,9 @@ shadow_twice : (c : ℕ) (a : Access) (p q : PlainMemory) → HasPlace (c + 1) a
     → Twice c a p q
 shadow_twice c a p q f h =
     elim (succeeds_at (address a) p) as (λ b. succeeds_at (address a) p ≡ b → Twice c a p q) [
-      | true ↦ λ e. twice_done c a p q e f (subst (λ y. Shadow c y q) (after_true a p e) h)
+      | true ↦ λ e. twice_done c a p q e f (subst (λ y. Shadow c y q) (plain_fits a p e) h)
       | false ↦ λ e.
-          (let k : Shadow c p q = subst (λ y. Shadow c y q) (after_false a p e) h in
+          (let k : Shadow c p q = subst (λ y. Shadow c y q) (plain_fails a p e) h in
           let less : HasPlace c a p = place_less c a p f in
           record {
             answer = shadow_answer c a p q less k;
@@ -166,7 +159,7 @@ below_none (j ∷ js) =
 -- THE ROOM: the log only grows, and the room stays
 grown : (a : Access) (p : PlainMemory) (b : Bool) → succeeds_at (address a) p ≡ b
     → ((plain_after a p).room ≡ p.room) × (length p.log ≤ length (plain_after a p).log)
-grown a p b e = grind (arith, after_false, after_true, log_done)
+grown a p b e = grind (arith, plain_fails, plain_fits, log_done)
 
 room_list : (xs : List Access) (p : PlainMemory) → (memory_after xs p).room ≡ p.room
 room_list [] p = refl

@@ -169,12 +169,7 @@ module _ (a : Access) (following : Option Access) (e g : Engine) (starts : Start
       let burst : is_burst e.task ≡ true = block_burst e.task up.0 in
       inl (record {
         has = record {
-          live = up.1.live;
-          select = up.1.select;
-          debug = up.1.debug;
-          system = up.1.system;
-          seen = up.1.seen;
-          increments = up.1.increments;
+          serves = up.1.serves;
           begun = begun_here (failed_by false NextSent is at) burst;
           sent = subst (λ x. Sent x m s.target) (sym (same_access ∙ next_is e.task a up.0 (chain burst))) up.1.sent;
         };

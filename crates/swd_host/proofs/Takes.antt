@@ -42,7 +42,8 @@ told X word n bits P Q s t range takes (changed place line small h) keep good ba
     subst X (sym (got_changed_of place word bits (data_taken (Some place) word bits s t line small range takes)))
     (bad (keep (n + 1) h))
 
-live_reset : (r : Reset) → r ≡ Live → r ≢ Unreset
+-- a live target had a line reset
+pub live_reset : (r : Reset) → r ≡ Live → r ≢ Unreset
 live_reset r is there = absurd (cc)
 
 module _ (n b : ℕ) (k : Hand) (s t : Port) (bits : ℕ) (range : bits < 2 ^ 33) (takes : Takes s bits t) where

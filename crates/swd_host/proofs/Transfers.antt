@@ -255,13 +255,13 @@ module _ (n : ℕ) (base : Counted) (b c : ℕ) (k : Hand) (v : ℕ) (s t : Port
       let r : Register = confirming_register k.task in
       let q : Request = request_for (At Confirm) k.task in
       let (x, y, first, came, last) = confirming_request (access_of k.task) k.memory r q v s t u.sent
-      (register_there Confirm k.task s u.select) (not_exempt Confirm k.task refl) u.live (h.flag refl)
-      (λ e. has_debug s.target u.debug u.seen) asks in
+      (register_there Confirm k.task s u.serves.select) (not_exempt Confirm k.task refl) u.serves.live (h.flag refl)
+      (λ e. has_debug s.target u.serves.debug u.serves.seen) asks in
       let kp = kept_by s x first in
       let ux : Under b k x.target = under_stays b k s x first u in
       let flag : x.target.write_error ≡ false = kp.write_error ∙ h.flag refl in
       let paid : n ≤ x.tally.disturbed = omega (arith, ap (λ i. i.disturbed) kp.tally, h.paid) in
-      confirming_came r q k x y (λ e. has_debug x.target ux.debug ux.seen) (At Confirm) n base c k v t
+      confirming_came r q k x y (λ e. has_debug x.target ux.serves.debug ux.serves.seen) (At Confirm) n base c k v t
       (omega (arith, ap (λ i. i.lost) kp.tally)) (under_more b 1 k x (omega arith) ux) flag paid last
       (λ d a. good x y last (under_more b c k x some ux) flag paid d a)
       (λ a w. record { free = refl; before = inl (sure_more (n + 1) 1 c k t some w) })

@@ -1,24 +1,21 @@
 -- One call of the wire, as the engine asks for it: what the engine and the port keep.
 use Rattle.swd_host.proofs.Words.{◌≡◌, ◌+◌, ◌-◌, ◌*◌, ◌^◌, ◌≤◌, ◌<◌, ℕ, Bool, true, false, refl, sym, ap, subst, inl}
-use Rattle.swd_host.proofs.Words.{inr, arith, ◌∙◌, Option, Some, None, ◌||◌, if◌then◌else◌, max, bit, Request}
+use Rattle.swd_host.proofs.Words.{inr, arith, ◌∙◌, Some, None, max, Request}
 use Rattle.swd_host.proofs.Words.{PlainMemory, Port, phase_number, word_in, Asks, Takes, Gives, Passes, Leads, Lost}
-use Rattle.swd_host.proofs.Words.{Stopped, Task, Job, CueAsk, Ask, Data, Waited, State, Doing, Resting, Engine}
-use Rattle.swd_host.proofs.Words.{request_for, word_for, begins, most_begun, least_for, cue_of, is_ahead_at, is_resting}
-use Rattle.swd_host.proofs.Words.{one_more, job_in, left_for, left_in, least_in, open_requests, is_job_of, is_state_of}
-use Rattle.swd_host.proofs.Words.{calls_left, Hand, Counted, Before, Tracks, TracksEngine, Follows, IsTask, Saw, Left}
-use Rattle.swd_host.proofs.Words.{TakenFor, hand_of, DueAt, Sees, lands_from, IsCountable, Goes, Early, IsEarly}
+use Rattle.swd_host.proofs.Words.{Stopped, Task, Job, CueAsk, Ask, Data, State, Doing, Resting, Engine}
+use Rattle.swd_host.proofs.Words.{request_for, word_for, begins, cue_of, is_ahead_at, is_resting}
+use Rattle.swd_host.proofs.Words.{one_more, job_in, left_for, left_in, open_requests, is_job_of, is_state_of}
+use Rattle.swd_host.proofs.Words.{Hand, Counted, Before, Tracks, TracksEngine, Follows, IsTask, Saw, Left}
+use Rattle.swd_host.proofs.Words.{TakenFor, hand_of, Sees, lands_from, IsCountable, Goes, Early, IsEarly}
 use Rattle.swd_host.proofs.Words.{Resumes, early, over, EarlySaw, EarlyTaken}
-use Rattle.swd_port.specs.declared.wire.Due.TheVariants.{Take, Give, Pass, Lost as DueLost}
 use Rattle.swd_port.specs.Laws.Calls.{Asked}
 use Rattle.swd_port.proofs.CallLaws.{request_counted, others_uncounted, identification_kept}
-use Rattle.swd_port.specs.declared.cue.Cue.{Cue}
 use Rattle.swd_port.specs.declared.cue.Cue.TheVariants.{Lead, Take as CueTake, Give as CueGive, Pass as CuePass}
-use Rattle.swd_host.specs.declared.engine.Phase.TheVariants.{Faulted}
 use Rattle.swd_host.specs.Progress.{is_quiet}
-use Rattle.swd_host.specs.Engines.{cue_at, data_cue}
-use Rattle.swd_host.specs.Tracks.{Hears, HasSent, HasRead}
-use Rattle.swd_host.specs.Turns.{begun_left}
-use Rattle.swd_host.specs.Early.{EarlyLeft, HearsEarly, SendsEarly, ReadsEarly}
+use Rattle.swd_host.specs.Engines.{cue_at}
+use Rattle.swd_host.specs.Replies.{Did, Replied, Took}
+use Rattle.swd_host.specs.Early.{EarlyLeft}
+use Rattle.swd_host.proofs.Working.{IsAsking, asking, one_more_least, one_more_exact, ask_works, moves_works}
 use Rattle.swd_host.proofs.EarlyAsks.{ask_early}
 use Rattle.swd_host.proofs.EarlyMoves.{read_early, given_early}
 use Rattle.swd_host.proofs.EarlyTurns.{resumes_by, still_early, select_chooses}
@@ -28,35 +25,28 @@ use Rattle.swd_host.proofs.Gives.{job_gave}
 use Rattle.swd_host.proofs.Passes.{waiting_passed, faulted_passed}
 
 -- THE CUE OF A DATA PHASE
-pub record IsTaking (ahead : Bool) (word : Option ℕ) : Type 0 where
-  pub ahead_not : ahead ≡ false
-  pub reads : word ≡ None
+pub record IsTaking (x : State) (task : Task) : Type 0 where
+  pub job : Job
+  pub at : x ≡ Doing job Data
+  pub ahead_not : is_ahead_at job Data task ≡ false
+  pub reads : word_for job task ≡ None
 
--- where the cue of a data phase is to read, the engine has no word to write, and the access isn't answered yet
-pub take_cue : (ahead : Bool) (word : Option ℕ) → data_cue ahead word ≡ Some CueTake → IsTaking ahead word
-take_cue false None e = record { ahead_not = refl; reads = refl }
-take_cue _ _ e = absurd (cc)
+-- where the cue is to read, the engine is at the data phase of a job that has no word to write, and the access isn't
+-- answered yet
+pub taking : (x : State) (stray : Bool) (task : Task) → cue_at x stray task ≡ Some CueTake → IsTaking x task
+taking x stray task e = grind arith
 
-pub record IsGiving (word : Option ℕ) (sent : ℕ) : Type 0 where
+pub record IsGiving (x : State) (task : Task) (sent : ℕ) : Type 0 where
+  pub job : Job
+  pub at : x ≡ Doing job Data
   pub gives : ℕ
-  pub is : word ≡ Some gives
+  pub is : word_for job task ≡ Some gives
   pub sends : sent ≡ phase_number gives
 
--- where the cue of a data phase is to write, its bits are those of the engine's word
-pub give_cue : (ahead : Bool) (word : Option ℕ) (sent : ℕ) → data_cue ahead word ≡ Some (CueGive sent)
-    → IsGiving word sent
-give_cue ahead word sent e = grind arith
-
--- A REQUEST
-pub record IsAsking (x : State) (task : Task) (q : Request) : Type 0 where
-  pub job : Job
-  pub at : x ≡ Doing job Ask
-  pub is : q ≡ request_for job task
-
--- where the cue is a request, the engine has a job to ask for, and the request is that job's
-pub asking : (x : State) (stray : Bool) (task : Task) (q : Request) → cue_at x stray task ≡ Some (CueAsk q)
-    → IsAsking x task q
-asking x stray task q e = grind arith
+-- where the cue is to write, the engine is at the data phase of a job, and the bits are those of the job's word
+pub giving : (x : State) (stray : Bool) (task : Task) (sent : ℕ) → cue_at x stray task ≡ Some (CueGive sent)
+    → IsGiving x task sent
+giving x stray task sent e = grind arith
 
 -- what holds at a state
 tracked : (base : Counted) (m : PlainMemory) (e : Engine) (s : Port) (x : State) → e.state ≡ x
@@ -72,54 +62,23 @@ resumed_left : (base : Counted) (start : Port) (e : Engine) (s : Port) (job : Jo
     → is_job_of true job ≡ true → Resumes base start e s → 2 ≤ left_for job
 resumed_left base start e s job at opening h = grind arith
 
--- no request of the opening starts an access
-pub opening_begins : (job : Job) (task : Task) → is_job_of true job ≡ true → begins job task ≡ 0
-opening_begins job task h = grind arith
-
-begins_least : (job : Job) (task : Task) (aims : Bool) → 1 ≤ begins job task
-    → bit aims + begins job task ≤ least_for aims job + 1
-begins_least job task aims some = grind arith
-
--- a request puts no more accesses in flight than its task may have
-pub begins_few : (job : Job) (task : Task) → begins job task ≤ most_begun task
-begins_few job task = grind arith
-
--- the greater of two numbers within a bound is within that bound
-pub max_few : (a b most : ℕ) → a ≤ most → b ≤ most → max a b ≤ most
-max_few a b most h i = grind arith
-
-max_grown : (a b : ℕ) → a < max a b → max a b ≡ b
-max_grown a b h = grind arith
-
--- the greater of two zeros is zero
-pub max_none : (a b : ℕ) → a ≡ 0 → b ≡ 0 → max a b ≡ 0
-max_none a b h i = grind arith
-
--- the saturating count of requests rises by one or not at all
-pub one_more_least : (n : ℕ) → (n ≤ one_more n) × (one_more n ≤ n + 1)
-one_more_least n = grind arith
-
--- while it stays below 2^64, that count rises by one
-pub one_more_exact : (n : ℕ) → n + 1 < 2 ^ 64 → one_more n ≡ n + 1
-one_more_exact n h = grind arith
-
+-- A REQUEST
 -- a request that is a step of the model: what the engine and the port keep over it
 pub ask_goes : (e f : Engine) (on : is_resting e ≡ false) (s t : Port) (q : Request) (v : ℕ)
     → cue_of e ≡ Some (CueAsk q)
-    → Asks s q v t → open_requests f + 1 ≤ open_requests e → f.requests ≡ one_more e.requests → Sees v e f
-    → ((base : Counted) (m : PlainMemory) (u : Port) → Hears v base m e u → TracksEngine base m f u) → HearsEarly v e f
-    → Goes e s f t
-ask_goes e f on s t q v cue asks left sent sees tracks hears =
+    → Asks s q v t → Replied (CueAsk q) v e f → Goes e s f t
+ask_goes e f on s t q v cue asks heard =
+    let sent : f.requests ≡ one_more e.requests = heard.requests in
+    let left : open_requests f + 1 ≤ open_requests e = heard.fewer in
+    let sees : Sees v e f = heard.sees in
     let c : Asked s t = request_counted q v s t asks in
     let a : IsAsking e.state e.task q = asking e.state e.stray e.task q cue in
     let job : job_in e.state ≡ a.job = ap job_in a.at in
     let more : (e.requests ≤ one_more e.requests) × (one_more e.requests ≤ e.requests + 1) =
     one_more_least e.requests in
     let exact : IsCountable e → f.requests ≡ e.requests + 1 =
-    λ few. sent ∙ one_more_exact e.requests (let l = left in omega arith) in
+    λ few. sent ∙ one_more_exact e.requests (omega arith) in
     let open_here : left_in e.state ≡ left_for a.job = ap left_in a.at in
-    let part_of : (opening : Bool) → is_state_of opening e.state ≡ true
-    → is_job_of opening a.job ≡ true = λ opening h. sym (ap (is_state_of opening) a.at) ∙ h in
     let asked : Asks s (request_for a.job e.task) v t = subst (λ r. Asks s r v t) a.is asks in
     let follows : (base : Counted) (m : PlainMemory) → Follows base m e s → Follows base m f t = λ base m h. (
     let before : Before a.job (base.disturbed + e.events) e.begun (hand_of e m) s =
@@ -129,63 +88,30 @@ ask_goes e f on s t q v cue asks left sent sees tracks hears =
     record {
       task = subst IsTask (sym sees.task) h.task;
       lost = omega (arith, c.lost_least, h.lost);
-      tracks = tracks base m t (subst (λ j. Saw j v (base.disturbed + e.events) base (max e.begun (begins j e.task))
-          (hand_of e m) t) (sym job) saw);
+      tracks = heard.tracks base m t (subst (λ j. Saw j v (base.disturbed + e.events) base
+          (max e.begun (begins j e.task)) (hand_of e m) t) (sym job) saw);
     }) in
     let step : (base : Counted) (start : Port) → base.lost ≤ s.tally.lost → IsEarly base start e s
-    → IsEarly base start f t = λ base start few h. hears base start t
+    → IsEarly base start f t = λ base start few h. heard.early base start t
     (subst (λ j. EarlySaw j v (base.disturbed + e.events) base e.stray start t) (sym job)
     (ask_early (base.disturbed + e.events) base e.stray start v s t e.task few a.job
     (early_at base start e s (Doing a.job Ask) a.at h) asked)) in
-    let begun_is : f.begun ≡ max e.begun (begins a.job e.task) =
-    sees.begun ∙ ap (λ j. max e.begun (begins j e.task)) job
-    in
     record {
-      task = sees.task;
-      aims = sees.aims;
-      tries = sees.tries;
-      part = sees.part;
-      rests = λ at. absurd (let both : true ≡ false = sym at ∙ on in cc);
-      bursts = sees.bursts;
-      few = λ few. subst (λ b. b ≤ most_begun e.task) (sym begun_is)
-          (max_few e.begun (begins a.job e.task) (most_begun e.task) few (begins_few a.job e.task));
-      unbegun = λ opening h. begun_is
-          ∙ max_none e.begun (begins a.job e.task) h (opening_begins a.job e.task (part_of true opening));
-      more = omega (arith, sent, more.0);
-      spends = omega (arith, sent, more.1, left);
-      least = λ few. omega (arith, exact few, sees.least);
-      begun = λ few grows. (
-          let by : f.begun ≡ begins a.job e.task = begun_is ∙ max_grown e.begun (begins a.job e.task)
-          (subst (λ b. e.begun < b) begun_is grows) in
-          let here : least_in e.aims e.state ≡ least_for e.aims a.job = ap (least_in e.aims) a.at in
-          let least : bit e.aims + begins a.job e.task ≤ least_for e.aims a.job + 1 =
-          begins_least a.job e.task e.aims (omega arith) in
-          omega (arith, exact few));
+      works = ask_works e f on q v cue heard;
       follows = follows;
       resumes = resumes_by e f s t sees.task c.lost_least
           (still_early e f s t sees.task c.lost_least step) follows;
-      identification = c.identification;
-      disturbed = c.disturbed_least;
-      lost = c.lost_least;
+      later = record { identification = c.identification; disturbed = c.disturbed_least; lost = c.lost_least };
       asked = λ few. omega (arith, exact few, c.asked);
       lost_early = λ on base start h opening is. (
-          let two : 2 ≤ left_for a.job = resumed_left base start e s a.job a.at (part_of true opening) h in
+          let two : 2 ≤ left_for a.job =
+          resumed_left base start e s a.job a.at (sym (ap (is_state_of true) a.at) ∙ opening) h in
           let same : 5 * (f.tries - f.events) ≡ 5 * (e.tries - e.events) =
           ap (λ i. 5 * (i - f.events)) sees.tries ∙ ap (λ i. 5 * (e.tries - i)) sees.events in
           omega (arith, sent, more.1, open_here, two, same));
     }
 
--- what is due after the three bits that were seen is what the engine's state after them expects
-pub due_seen : (job : Job) (stray : Bool) (task : Task) (one two four : Bool) →
-    DueAt (if one then Doing job Data else if two then Doing job Waited else if four then Doing job Faulted else
-    Resting (Stopped Lost)) stray task
-    (if one then (if (request_for job task).read then Take else Give) else if two || four then Pass else DueLost)
-due_seen job stray task one two four = grind arith
-
 -- EVERY OTHER CALL
-pub left_few : (x : State) (task : Task) (b : ℕ) → begun_left x task b ≤ b
-left_few x task b = grind arith
-
 -- an engine that is quiet has not stopped with a lost acknowledgement
 no_lost : (x : State) → is_quiet x ≡ true → x ≡ Resting (Stopped Lost) → ⊥
 no_lost x h is = absurd (let both : true ≡ false = sym h ∙ ap is_quiet is in cc)
@@ -200,23 +126,14 @@ moves : (e f : Engine) (on : is_resting e ≡ false) (s t : Port) → lands_from
     → t.target.identification ≡ s.target.identification
     → ((base : Counted) (m : PlainMemory) → Follows base m e s → Follows base m f t) → Steps e s f t → Goes e s f t
 moves e f on s t lands tally identified follows steps = record {
-  task = lands.task;
-  aims = lands.aims;
-  tries = lands.tries;
-  part = lands.part;
-  rests = λ at. absurd (let both : true ≡ false = sym at ∙ on in cc);
-  bursts = lands.bursts;
-  few = λ few. omega (arith, lands.begun, left_few f.state e.task e.begun);
-  unbegun = λ opening h. omega (arith, lands.begun, left_few f.state e.task e.begun);
-  more = omega (arith, lands.requests);
-  spends = omega (arith, lands.requests, lands.left);
-  least = λ few. omega (arith, lands.requests, lands.least);
-  begun = λ few grows. absurd (omega (arith, lands.begun, left_few f.state e.task e.begun));
+  works = moves_works e f on lands;
   follows = follows;
   resumes = resumes_by e f s t lands.task (omega (arith, ap (λ i. i.lost) tally)) steps follows;
-  identification = identified;
-  disturbed = omega (arith, ap (λ i. i.disturbed) tally);
-  lost = omega (arith, ap (λ i. i.lost) tally);
+  later = record {
+    identification = identified;
+    disturbed = omega (arith, ap (λ i. i.disturbed) tally);
+    lost = omega (arith, ap (λ i. i.lost) tally);
+  };
   asked = λ few. omega (arith, ap (λ i. i.asked) tally, lands.requests);
   lost_early = λ on base start h opening is. absurd (no_lost f.state lands.quiet is);
 }
@@ -232,51 +149,26 @@ steps_by : (e f : Engine) (s t : Port) → lands_from e f → t.tally ≡ s.tall
     → ((base : Counted) (start : Port) → IsEarly base start e s → IsEarly base start f t) → Steps e s f t
 steps_by e f s t lands tally step = grind (arith, still_early)
 
--- where a data phase is read
-pub record IsPhase (x : State) (task : Task) (cue : Cue) : Type 0 where
-  pub job : Job
-  pub at : x ≡ Doing job Data
-  pub is : data_cue (is_ahead_at job Data task) (word_for job task) ≡ Some cue
-
--- where the cue is to read a data phase, the engine is at the data phase of a job
-pub taking : (x : State) (stray : Bool) (task : Task) → cue_at x stray task ≡ Some CueTake → IsPhase x task CueTake
-taking (Doing job Data) stray task e = record { job = job; at = refl; is = e }
-taking _ stray task e = absurd (cc)
-
--- where the cue is to write a data phase, the engine is at the data phase of a job
-pub giving : (x : State) (stray : Bool) (task : Task) (sent : ℕ) → cue_at x stray task ≡ Some (CueGive sent)
-    → IsPhase x task (CueGive sent)
-giving (Doing job Data) stray task sent e = record { job = job; at = refl; is = e }
-giving _ stray task sent e = absurd (cc)
-
 -- a data phase that is read, as a step of the model: what the engine and the port keep over it
 pub take_goes : (e f : Engine) (on : is_resting e ≡ false) (s t : Port) (bits : ℕ) → bits < 2 ^ 33
-    → cue_of e ≡ Some CueTake
-    → Takes s bits t → lands_from e f
-    → ((base : Counted) (m : PlainMemory) (u : Port) → HasRead (word_in bits) base m e u → TracksEngine base m f u)
-    → ReadsEarly (word_in bits) e f → Goes e s f t
-take_goes e f on s t bits range cue takes lands tracks reads =
-    let p : IsPhase e.state e.task CueTake = taking e.state e.stray e.task cue in
-    let c : IsTaking (is_ahead_at p.job Data e.task) (word_for p.job e.task) =
-    take_cue (is_ahead_at p.job Data e.task) (word_for p.job e.task) p.is in
+    → cue_of e ≡ Some CueTake → Takes s bits t → Took bits e f → Goes e s f t
+take_goes e f on s t bits range cue takes took =
+    let lands : lands_from e f = took.lands in
+    let p : IsTaking e.state e.task = taking e.state e.stray e.task cue in
     let job : job_in e.state ≡ p.job = ap job_in p.at in
     let tally : t.tally ≡ s.tally = others_uncounted CueTake bits s t refl takes in
     moves e f on s t lands tally (identification_kept CueTake bits s t takes)
-    (follows_by e f s t lands tally (λ base m h. tracks base m t (
+    (follows_by e f s t lands tally (λ base m h. took.tracks base m t (
       h.task,
       subst
           (λ j. TakenFor j (word_in bits) (base.disturbed + e.events) e.begun (hand_of e m) t) (sym job)
-          (taken_facts (base.disturbed + e.events) e.begun (hand_of e m) s t bits range takes p.job c.reads c.ahead_not
+          (taken_facts (base.disturbed + e.events) e.begun (hand_of e m) s t bits range takes p.job p.reads p.ahead_not
           (tracked base m e s (Doing p.job Data) p.at h.tracks)),
     )))
-    (steps_by e f s t lands tally (λ base start h. reads base start t
+    (steps_by e f s t lands tally (λ base start h. took.early base start t
     (subst (λ j. EarlyTaken j (word_in bits) (base.disturbed + e.events) e.stray start t) (sym job)
-    (read_early (base.disturbed + e.events) e.stray start bits s t range takes p.job e.task c.reads
+    (read_early (base.disturbed + e.events) e.stray start bits s t range takes p.job e.task p.reads
     (early_at base start e s (Doing p.job Data) p.at h)))))
-
--- a call of `done` says what was left
-abbrev pub Dones : Engine → Engine → Type 0
-Dones e f = (base : Counted) (m : PlainMemory) (u : Port) → HasSent base m e u → TracksEngine base m f u
 
 left_at_state : (base : Counted) (m : PlainMemory) (e : Engine) (t : Port) (x : State) → e.state ≡ x
     → Left x (base.disturbed + e.events) e.begun (hand_of e m) t
@@ -290,29 +182,28 @@ early_left_at base start e t x at h = subst (λ y. EarlyLeft y (base.disturbed +
 
 -- a data phase that is written, as a step of the model: what the engine and the port keep over it
 pub give_goes : (e f : Engine) (on : is_resting e ≡ false) (s t : Port) (sent : ℕ) → sent < 2 ^ 33
-    → cue_of e ≡ Some (CueGive sent) → Gives s sent t → lands_from e f → Dones e f → SendsEarly e f → Goes e s f t
-give_goes e f on s t sent range cue gives lands tracks sends =
-    let p : IsPhase e.state e.task (CueGive sent) = giving e.state e.stray e.task sent cue in
-    let c : IsGiving (word_for p.job e.task) sent = give_cue (is_ahead_at p.job Data e.task)
-    (word_for p.job e.task) sent p.is in
+    → cue_of e ≡ Some (CueGive sent) → Gives s sent t → Did e f → Goes e s f t
+give_goes e f on s t sent range cue gives did =
+    let lands : lands_from e f = did.lands in
+    let p : IsGiving e.state e.task sent = giving e.state e.stray e.task sent cue in
     let tally : t.tally ≡ s.tally = others_uncounted (CueGive sent) 0 s t refl gives in
     let follows : (base : Counted) (m : PlainMemory) → Follows base m e s → Follows base m f t =
-    follows_by e f s t lands tally (λ base m h. tracks base m t (
+    follows_by e f s t lands tally (λ base m h. did.tracks base m t (
       h.task,
       left_at_state base m e t (Doing p.job Data) p.at
           (job_gave (base.disturbed + e.events) e.begun
-          (hand_of e m) s t sent range gives p.job c.gives c.is c.sends h.task
+          (hand_of e m) s t sent range gives p.job p.gives p.is p.sends h.task
           (tracked base m e s (Doing p.job Data) p.at h.tracks)),
     )) in
     moves e f on s t lands tally (identification_kept (CueGive sent) 0 s t gives) follows
     (λ base start ok few h.
-    elim (given_early (base.disturbed + e.events) e.stray start sent s t range gives p.job e.task c.gives c.is c.sends
+    elim (given_early (base.disturbed + e.events) e.stray start sent s t range gives p.job e.task p.gives p.is p.sends
     (early_at base start e s (Doing p.job Data) p.at h)) [
       | inl at ↦
           (let chosen = select_chooses base start e s p.job p.at at ok few h in
           over chosen.memory chosen.comes (follows base chosen.memory chosen.follows))
       | inr left ↦ early (subst IsTask (sym lands.task) ok) (omega (arith, ap (λ i. i.lost) tally, few))
-          (sends base start t (early_left_at base start e t (Doing p.job Data) p.at left))
+          (did.early base start t (early_left_at base start e t (Doing p.job Data) p.at left))
     ])
 
 passed_left : (n tries : ℕ) (base : Counted) (b : ℕ) (k : Hand) (x : State) (stray : Bool) (task : Task)
@@ -325,16 +216,17 @@ passed_early n tries base x stray task start s t e passes h = grind arith
 
 -- the turnaround after WAIT or FAULT, as a step of the model: what the engine and the port keep over it
 pub pass_goes : (e f : Engine) (on : is_resting e ≡ false) (s t : Port) → cue_of e ≡ Some CuePass → Passes s t
-    → lands_from e f → Dones e f → SendsEarly e f → Goes e s f t
-pass_goes e f on s t cue passes lands tracks sends =
+    → Did e f → Goes e s f t
+pass_goes e f on s t cue passes did =
+    let lands : lands_from e f = did.lands in
     let tally : t.tally ≡ s.tally = others_uncounted CuePass 0 s t refl passes in
     moves e f on s t lands tally (identification_kept CuePass 0 s t passes)
-    (follows_by e f s t lands tally (λ base m h. tracks base m t (
+    (follows_by e f s t lands tally (λ base m h. did.tracks base m t (
       h.task,
       passed_left (base.disturbed + e.events) e.tries base e.begun
           (hand_of e m) e.state e.stray e.task s t cue passes h.tracks,
     )))
-    (steps_by e f s t lands tally (λ base start h. sends base start t
+    (steps_by e f s t lands tally (λ base start h. did.early base start t
     (passed_early (base.disturbed + e.events) e.tries base e.state e.stray e.task start s t cue passes h)))
 
 led_left : (n tries : ℕ) (base : Counted) (b : ℕ) (k : Hand) (x : State) (stray : Bool) (task : Task)
@@ -351,22 +243,16 @@ led_first n tries base x stray task ones undriven low switch start s t e leads h
 
 -- the line reset of the opening, as a step of the model: what the engine and the port keep over it
 pub lead_goes : (e f : Engine) (on : is_resting e ≡ false) (s t : Port) (ones undriven low : ℕ) (switch : Bool)
-    → cue_of e ≡ Some (Lead ones undriven switch low) → Leads s ones t → lands_from e f → Dones e f → SendsEarly e f
-    → Goes e s f t
-lead_goes e f on s t ones undriven low switch cue leads lands tracks sends =
+    → cue_of e ≡ Some (Lead ones undriven switch low) → Leads s ones t → Did e f → Goes e s f t
+lead_goes e f on s t ones undriven low switch cue leads did =
+    let lands : lands_from e f = did.lands in
     let tally : t.tally ≡ s.tally = others_uncounted (Lead ones undriven switch low) 0 s t refl leads in
     moves e f on s t lands tally (identification_kept (Lead ones undriven switch low) 0 s t leads)
-    (follows_by e f s t lands tally (λ base m h. tracks base m t (
+    (follows_by e f s t lands tally (λ base m h. did.tracks base m t (
       h.task,
       led_left (base.disturbed + e.events) e.tries base e.begun
           (hand_of e m) e.state e.stray e.task ones undriven low switch s t cue leads h.tracks,
     )))
-    (steps_by e f s t lands tally (λ base start h. sends base start t
+    (steps_by e f s t lands tally (λ base start h. did.early base start t
     (led_first (base.disturbed + e.events) e.tries base e.state e.stray e.task ones undriven low switch start s t cue
     leads h)))
-
--- the line reset lowers the bound on the calls before the next outcome
-pub lead_falls : (e f : Engine) (ones undriven low : ℕ) (switch : Bool)
-    → cue_of e ≡ Some (Lead ones undriven switch low) → lands_from e f
-    → calls_left f < calls_left e
-lead_falls e f ones undriven low switch cue lands = grind arith

@@ -12,6 +12,7 @@ use Rattle.swd_port.specs.Port.{Port, Target}
 use Rattle.swd_port.specs.Choices.{Choice}
 use Rattle.swd_port.specs.Completion.{completed}
 use Rattle.swd_host.specs.declared.outcome.Report.{Report}
+use Rattle.swd_host.specs.declared.outcome.Ending.{Ending}
 use Rattle.swd_host.specs.declared.outcome.Refused.{Refused}
 use Rattle.swd_host.specs.declared.outcome.Refused.TheVariants.{TooMany, Unaligned, Memory}
 use Rattle.swd_host.specs.declared.outcome.End.{End}
@@ -32,6 +33,15 @@ told_of report = record {
   begun = report.begun;
   requests = report.requests;
   ended = report.ended;
+}
+
+-- the report with these answers
+abbrev pub told_to : List Answer → Ending → Told
+told_to answers ending = record {
+  answers = answers;
+  begun = ending.begun;
+  requests = ending.requests;
+  ended = ending.ended;
 }
 
 -- The answers are exactly those to the first k accesses of the list over the plain memory. The memory `now` is that

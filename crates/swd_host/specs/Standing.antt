@@ -22,6 +22,7 @@ use Rattle.swd_host.specs.Tasks.{access_of, is_burst, most_of}
 use Rattle.swd_host.specs.Engines.{begun_of, is_ahead, finished_of, may_start}
 use Rattle.swd_host.specs.Tracks.{Hand, Up, Writes, IsReady, hand_of, DueFits}
 use Rattle.swd_host.specs.Reports.{Told, Fits, EndsAt, due_at}
+use Rattle.swd_host.specs.Turns.{Later}
 
 -- the report of an engine
 abbrev pub told_by : List Answer → Engine → End → Told
@@ -80,6 +81,7 @@ ContinuesAt list i a = (i < length list) × ((d : Access) → continues a (Some 
 pub record Stays (i : ℕ) (list : List Access) (o e : Engine) (answers : List Answer) (t : Port) : Type 0 where
   pub due : DueFits e t
   pub rests : may_start (finished_of e) ≡ true
+  -- the next access continues the burst
   pub chain : is_burst e.task ≡ true → ContinuesAt list i (access_of e.task)
   pub tried : e.tries ≡ o.tries
   pub bursts : e.bursts ≡ o.bursts
@@ -90,18 +92,9 @@ pub record Stays (i : ℕ) (list : List Access) (o e : Engine) (answers : List A
 -- i accesses are answered, from the engine o and the port s at the end of the opening
 pub record Stands (i : ℕ) (list : List Access) (o : Engine) (s : Port) (e : Engine) (answers : List Answer)
     (t : Port) : Type 0 where
-  pub due : DueFits e t
-  pub rests : may_start (finished_of e) ≡ true
-  -- the next access continues the burst
-  pub chain : is_burst e.task ≡ true → ContinuesAt list i (access_of e.task)
-  pub tried : e.tries ≡ o.tries
-  pub bursts : e.bursts ≡ o.bursts
-  pub number : length answers ≡ i
-  pub bounded : e.requests ≤ (i + 1) * 2 ^ 35
+  pub stays : Stays i list o e answers t
   pub asked : t.tally.asked + o.requests ≡ s.tally.asked + e.requests
-  pub disturbed : s.tally.disturbed ≤ t.tally.disturbed
-  pub lost : s.tally.lost ≤ t.tally.lost
-  pub identification : t.target.identification ≡ s.target.identification
+  pub later : Later s t
   pub reached : (m : PlainMemory) → IsOpen m o s → AreAccesses list → Reached i list m o s e answers t
 
 -- an engine that has opened its target, after at least nine requests
@@ -143,7 +136,5 @@ pub record Does (list : List Access) (o f : Engine) (before after : List Answer)
   pub answers : List Answer
   pub added : after ≡ before ++ answers
   pub asked : t.tally.asked + o.requests ≡ s.tally.asked + f.requests
-  pub disturbed : s.tally.disturbed ≤ t.tally.disturbed
-  pub lost : s.tally.lost ≤ t.tally.lost
-  pub identification : t.target.identification ≡ s.target.identification
+  pub later : Later s t
   pub over : (m : PlainMemory) → IsOpen m o s → AreAccesses list → DoesOver list m o f answers end s t

@@ -166,14 +166,18 @@ pub record LacksTar (k : Hand) (s : Target) : Type 0 where
   pub up : Up k.memory s
   pub aims : k.aims ≡ true
 
--- the transfer was sent; b accesses are begun
-pub record Under (b : ℕ) (k : Hand) (s : Target) : Type 0 where
+-- a live target that transfers: SELECT is 0, power is acknowledged, and TAR increments
+pub record Serves (s : Target) : Type 0 where
   pub live : s.reset ≡ Live
   pub select : s.select ≡ no_select
   pub debug : s.debug_power ≡ true
   pub system : s.system_power ≡ true
   pub seen : s.power_up ≡ Seen
   pub increments : s.increments ≡ true
+
+-- the transfer was sent; b accesses are begun
+pub record Under (b : ℕ) (k : Hand) (s : Target) : Type 0 where
+  pub serves : Serves s
   pub begun : 1 ≤ b
   pub sent : Sent (access_of k.task) k.memory s
 
@@ -220,12 +224,7 @@ pub record IsBusError (a : Access) (m : PlainMemory) : Type 0 where
 pub record Broken (p : Place) (b : ℕ) (k : Hand) (s : Target) : Type 0 where
   pub place : is_confirm p ≡ true
   pub begun : 1 ≤ b
-  pub live : s.reset ≡ Live
-  pub select : s.select ≡ no_select
-  pub debug : s.debug_power ≡ true
-  pub system : s.system_power ≡ true
-  pub seen : s.power_up ≡ Seen
-  pub increments : s.increments ≡ true
+  pub serves : Serves s
   pub pending : s.pending ≡ None
   pub memory : s.memory ≡ k.memory
   pub fails : IsBusError (access_of k.task) k.memory

@@ -151,29 +151,22 @@ pub record Works (e f : Engine) : Type 0 where
   pub more : e.requests ≤ f.requests
   pub spends : f.requests + open_requests f ≤ e.requests + open_requests e
   pub least : IsCountable e → e.requests + least_in f.aims f.state ≤ f.requests + least_in e.aims e.state
-  pub never : is_all_stop e.state ≡ false → is_all_stop f.state ≡ false
-
-pub record Goes (e : Engine) (s : Port) (f : Engine) (t : Port) : Type 0 where
-  -- the engine alone
-  pub task : f.task ≡ e.task
-  pub aims : f.aims ≡ e.aims
-  pub tries : f.tries ≡ e.tries
-  pub part : (opening : Bool) → is_state_of opening e.state ≡ true → is_state_of opening f.state ≡ true
-  pub rests : is_resting e ≡ true → f ≡ e
-  pub bursts : f.bursts ≡ e.bursts
-  pub few : e.begun ≤ most_begun e.task → f.begun ≤ most_begun e.task
-  pub unbegun : is_state_of true e.state ≡ true → e.begun ≡ 0 → f.begun ≡ 0
-  pub more : e.requests ≤ f.requests
-  pub spends : f.requests + open_requests f ≤ e.requests + open_requests e
-  pub least : IsCountable e → e.requests + least_in f.aims f.state ≤ f.requests + least_in e.aims e.state
   pub begun : IsCountable e → e.begun < f.begun
       → e.requests + bit e.aims + f.begun ≤ f.requests + least_in e.aims e.state
-  -- with the port
-  pub follows : (base : Counted) (m : PlainMemory) → Follows base m e s → Follows base m f t
-  pub resumes : (base : Counted) (start : Port) → Resumes base start e s → Resumes base start f t
+  pub never : is_all_stop e.state ≡ false → is_all_stop f.state ≡ false
+
+-- A port some calls later: it has the same DPIDR, and no count of disturbances or of lost requests has fallen.
+pub record Later (s t : Port) : Type 0 where
   pub identification : t.target.identification ≡ s.target.identification
   pub disturbed : s.tally.disturbed ≤ t.tally.disturbed
   pub lost : s.tally.lost ≤ t.tally.lost
+
+-- what the engine keeps with the port, over a target that conforms to the model
+pub record Goes (e : Engine) (s : Port) (f : Engine) (t : Port) : Type 0 where
+  pub works : Works e f
+  pub follows : (base : Counted) (m : PlainMemory) → Follows base m e s → Follows base m f t
+  pub resumes : (base : Counted) (start : Port) → Resumes base start e s → Resumes base start f t
+  pub later : Later s t
   pub asked : IsCountable e → t.tally.asked + e.requests ≡ s.tally.asked + f.requests
   -- over such a target the opening's last request is never answered FAULT, so a lost acknowledgement leaves one request
   -- of the bound unused

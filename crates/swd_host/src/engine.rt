@@ -132,6 +132,16 @@ impl Engine {
         engine
     }
 
+    // Creates an engine for bursts of this kind.
+    pub(crate) fn opening(bursts: Bursts, tries: u32) -> Engine
+        ensures { IsNew bursts false tries result }
+    {
+        match bursts {
+            Bursts::Writes => Engine::new(tries),
+            Bursts::Reads => Engine::blocks(tries),
+        }
+    }
+
     /// Creates an engine that resumes after a lost acknowledgement, at the start of a new opening.
     ///
     /// Its line reset has 100 ones, of which the first 34 are undriven. In them a data phase that the target may be in

@@ -1,16 +1,18 @@
 //! Resumes a run after a lost acknowledgement, or after its retries ran out.
-ghost use Rattle.std.specs.Prelude.{◌≡◌, ◌≤◌, ◌-◌, IfOk, IfErr, IfSome, length};
+ghost use Rattle.std.specs.Prelude.{◌≡◌, ◌≤◌, ◌-◌, IfOk, IfErr, IfSome, List, length};
+ghost use Rattle.swd_port.specs.declared.access.Answer.{Answer as AnswerType};
 ghost use Rattle.std.specs.Vec.{vec_capacity};
 ghost use Rattle.swd_host.specs.Plain.{AreAccesses};
 ghost use Rattle.swd_host.specs.Sent.{Made};
-ghost use Rattle.swd_host.specs.Reports.{told_of};
+ghost use Rattle.swd_host.specs.Reports.{told_of, told_to};
 ghost use Rattle.swd_host.specs.Again.{Continues, ResumesOver, TellsRest};
 ghost use Rattle.swd_host.specs.Resuming.{since};
 ghost use Rattle.swd_host.specs.declared.outcome.Refused.TheVariants.{Memory};
 
 use crate::engine::Engine;
-use crate::outcome::{End, Refused, Report};
-use crate::running::{open, perform, report_of};
+use crate::outcome::{End, Ending, Refused, Report};
+use crate::running::{open, perform};
+use crate::sink::AnswerSink;
 use std::alloc::Allocator;
 use swd_port::{Access, Answer, Wire};
 
@@ -51,13 +53,41 @@ pub fn resume<W: Wire, A: Allocator>(
     let Some(mut answers) = copy_answers(alloc, &report.answers, accesses.len()) else {
         return Err(Refused::Memory);
     };
+    let ending = resume_to(wire, accesses, report.ending(), tries, &mut answers);
+    Ok(ending.with(answers))
+}
+
+/// Resumes a run as [`resume`] does, and hands each further answer on once it is certain. The sink has the answers so
+/// far. Returns the report without its answers: `begun` as that of `resume`, and the requests of this call alone. It
+/// allocates no memory.
+pub fn resume_to<W: Wire, K: AnswerSink>(
+    wire: &mut W,
+    accesses: &[Access],
+    earlier: Ending,
+    tries: u32,
+    sink: &mut K,
+) -> Ending
+    requires accepted { (length accesses.now ≤ 65536) × AreAccesses accesses.now }
+    requires reported { length (K.taken sink.old) ≤ length accesses.now }
+    requires room { length accesses.now ≤ K.most sink.old }
+    ensures continues { Continues accesses.now tries (told_to (K.taken sink.old) earlier)
+        (told_to (K.taken sink.new) result) (W.port wire.new).link.due }
+    ensures fits { W.lawful wire.new → W.lawful wire.old
+        × ResumesOver accesses.now tries (told_to (K.taken sink.old) earlier) (told_to (K.taken sink.new) result)
+        (W.port wire.old) (W.port wire.new) }
+    ensures keeps { K.keeps sink.old sink.new }
+    ensures most { K.most sink.old ≤ K.most sink.new }
+    ensures plan { W.plan wire.new ≡ W.plan wire.old }
+    ensures told { Made W.notes (TellsRest accesses.now (told_to (K.taken sink.old) earlier)
+        (told_to (K.taken sink.new) result)) wire.old wire.new }
+{
+    let answered = sink.count();
     let mut engine = Engine::again(tries);
     if let Err(end) = open(wire, &mut engine) {
-        return Ok(since(report_of(answers, &engine, end), report));
+        return since(engine.ending(end), earlier, 0);
     }
-    let rest = &accesses[report.answers.len()..];
-    let ended = perform(wire, &mut engine, rest, &mut answers);
-    Ok(since(report_of(answers, &engine, ended), report))
+    let ended = perform(wire, &mut engine, &accesses[answered..], sink);
+    since(engine.ending(ended), earlier, sink.count() - answered)
 }
 
 // Copies the answers to a list with room for `most`.
@@ -71,24 +101,24 @@ fn copy_answers<A: Allocator>(alloc: A, answers: &[Answer], most: usize) -> Opti
     Some(kept)
 }
 
-// Adds to the report of this call the unanswered accesses that earlier calls started.
-fn since<A: Allocator>(report: Report<A>, earlier: &Report<A>) -> Report<A>
-    ensures { told_of result ≡ since (told_of report) (told_of earlier.now) }
+// Adds to the report of this call, which has `more` answers, the unanswered accesses that earlier calls started.
+fn since(ending: Ending, earlier: Ending, more: usize) -> Ending
+    ensures { (before after : List AnswerType) → more ≡ length after - length before
+        → told_to after result ≡ since (told_to after ending) (told_to before earlier) }
 {
-    let begun = match report.ended {
+    let begun = match ending.ended {
         End::All => 0,
-        _ => report.begun.max(still_open(earlier, report.answers.len())),
+        _ => ending.begun.max(still_open(earlier.begun, more)),
     };
-    Report { begun, ..report }
+    Ending { begun, ..ending }
 }
 
-// Returns how many accesses in flight after the earlier run are still unanswered with `answered` answers.
-fn still_open<A: Allocator>(earlier: &Report<A>, answered: usize) -> u8
-    ensures { result ≡ (told_of earlier.now).begun - (answered - length (told_of earlier.now).answers) }
+// Returns how many of the accesses that earlier calls left in flight are unanswered after `more` answers.
+fn still_open(begun: u8, more: usize) -> u8
+    ensures { result ≡ begun - more }
 {
-    let more = answered.saturating_sub(earlier.answers.len());
-    if more < earlier.begun as usize {
-        earlier.begun - more as u8
+    if more < begun as usize {
+        begun - more as u8
     } else {
         0
     }

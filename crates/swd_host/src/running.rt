@@ -1,6 +1,6 @@
 //! Drives an engine over a wire.
-ghost use Rattle.std.specs.Prelude.{◌≡◌, ◌<◌, ◌≤◌, Some, true, false, IfOk, IfErr, IfNone, IfSome};
-ghost use Rattle.std.specs.Prelude.{◌+◌, ◌∷◌, length, []};
+ghost use Rattle.std.specs.Prelude.{◌≡◌, ◌≢◌, ◌<◌, ◌≤◌, Some, true, false, IfOk, IfErr, IfNone, IfSome};
+ghost use Rattle.std.specs.Prelude.{◌+◌, ◌∷◌, length, List, []};
 ghost use Rattle.std.specs.Vec.{vec_capacity};
 ghost use Rattle.swd_port.specs.declared.wire.Due.TheVariants.{Nothing};
 ghost use Rattle.swd_port.specs.Leading.{Leads};
@@ -11,13 +11,17 @@ ghost use Rattle.swd_host.specs.Progress.{calls_left, open_requests};
 ghost use Rattle.swd_host.specs.Tasks.{most_of};
 ghost use Rattle.swd_host.specs.Tracks.{DueFits};
 ghost use Rattle.swd_host.specs.Turns.{Works, WorksFrom, Goes, GoesFrom, GoesOn, IsNew, answered_as, opened_as};
-ghost use Rattle.swd_host.specs.Reports.{Closes, Follower, RefusedAs, RunsOver, RunsWithin, told_of};
+ghost use Rattle.swd_host.specs.Reports.{Closes, Follower, RefusedAs, RunsOver, RunsWithin, told_of, told_to};
+ghost use Rattle.swd_host.specs.declared.outcome.Refused.TheVariants.{Memory};
+ghost use Rattle.swd_port.specs.declared.access.Answer.{Answer as AnswerType};
 ghost use Rattle.swd_host.specs.Sent.{Made, TellsSent};
 ghost use Rattle.swd_host.specs.Stages.{Tells};
 ghost use Rattle.swd_host.specs.Standing.{Does, HasOpened, Performs, told_by};
 
 use crate::engine::Engine;
-use crate::outcome::{End, Outcome, Refused, Report};
+use crate::outcome::{End, Ending, Outcome, Refused, Report};
+use crate::sink::AnswerSink;
+use crate::task::Bursts;
 use std::alloc::Allocator;
 use swd_port::{Access, Answer, Cue, MOST_ACCESSES, Wire};
 
@@ -128,6 +132,7 @@ fn is_aligned(access: Access) -> bool
 fn refusal(accesses: &[Access]) -> Option<Refused>
     ensures none { IfNone result ((length accesses.now ≤ 65536) × AreAccesses accesses.now) }
     ensures refused { IfSome result (RefusedAs accesses.now) }
+    ensures memory { IfSome result (λ refused. refused ≢ Memory) }
 {
     if accesses.len() > MOST_ACCESSES as usize {
         return Some(Refused::TooMany);
@@ -209,31 +214,33 @@ fn idle<W: Wire>(wire: &mut W)
     });
 }
 
-// Performs a list over a target that the engine has opened, and appends the answers. Sends eight idle cycles after a
-// whole list.
-pub(crate) fn perform<W: Wire, A: Allocator>(
+// Performs a list over a target that the engine has opened, and hands each answer on once it is certain. Sends eight idle
+// cycles after a whole list.
+pub(crate) fn perform<W: Wire, K: AnswerSink>(
     wire: &mut W,
     engine: &mut Engine,
     accesses: &[Access],
-    answers: &mut Vec<Answer, A>,
+    sink: &mut K,
 ) -> End
     requires opened { HasOpened engine.old }
     requires due { (W.port wire.old).link.due ≡ Nothing }
     requires few { length accesses.now ≤ 65536 }
-    requires room { length answers.old.items + length accesses.now ≤ vec_capacity answers.old }
-    ensures performs { Performs accesses.now engine.old engine.new answers.old.items answers.new.items result
+    requires room { length (K.taken sink.old) + length accesses.now ≤ K.most sink.old }
+    ensures performs { Performs accesses.now engine.old engine.new (K.taken sink.old) (K.taken sink.new) result
         (W.port wire.new).link.due }
     ensures does { W.lawful wire.new → W.lawful wire.old
-        × Does accesses.now engine.old engine.new answers.old.items answers.new.items result
+        × Does accesses.now engine.old engine.new (K.taken sink.old) (K.taken sink.new) result
         (W.port wire.old) (W.port wire.new) }
     ensures plan { W.plan wire.new ≡ W.plan wire.old }
-    ensures told { Made W.notes (Tells accesses.now engine.old engine.new answers.old.items answers.new.items result)
+    ensures told { Made W.notes (Tells accesses.now engine.old engine.new (K.taken sink.old) (K.taken sink.new) result)
         wire.old wire.new }
+    ensures most { K.most sink.old ≤ K.most sink.new }
+    ensures keeps { K.keeps sink.old sink.new }
 {
     for (index, next) in accesses.iter().enumerate() {
         let following = following(accesses, index);
         match access(wire, engine, *next, following) {
-            Ok(answer) => answers.push(answer).unwrap(),
+            Ok(answer) => sink.take(answer),
             Err(end) => return end,
         }
     }
@@ -285,6 +292,48 @@ pub fn run<W: Wire, A: Allocator>(
     Ok(conduct(wire, Engine::new(tries), accesses, answers))
 }
 
+/// Performs the accesses in order over a target at rest, with the guarantees of [`run`], and hands each answer on once it
+/// is certain. It allocates no memory.
+///
+/// The answers that the sink has taken are at each moment the first ones of the report: those that it would have if the
+/// next acknowledgement were lost. With `Bursts::Reads` it reads as [`run_block`](crate::run_block) does: a report may
+/// have up to two accesses in flight.
+///
+/// # Errors
+///
+/// Returns `TooMany` for more than 65,536 accesses, and `Unaligned` for the first address that isn't a multiple of 4.
+/// Nothing is sent then, and the sink takes nothing.
+pub fn run_to<W: Wire, K: AnswerSink>(
+    wire: &mut W,
+    accesses: &[Access],
+    bursts: Bursts,
+    tries: u32,
+    sink: &mut K,
+) -> Result<Ending, Refused>
+    requires due { (W.port wire.old).link.due ≡ Nothing }
+    requires none { K.taken sink.old ≡ [] }
+    requires room { length accesses.now ≤ K.most sink.old }
+    ensures closes { IfOk result (λ ending. Closes 0 (most_of bursts) accesses.now tries
+        (told_to (K.taken sink.new) ending) (W.port wire.new).link.due) }
+    ensures fits { IfOk result (λ ending. W.lawful wire.new → W.lawful wire.old
+        × RunsWithin (most_of bursts) accesses.now tries (told_to (K.taken sink.new) ending)
+        (W.port wire.old) (W.port wire.new)) }
+    ensures accepted { IfOk result (λ ending. (length accesses.now ≤ 65536) × AreAccesses accesses.now) }
+    ensures refused { IfErr result (RefusedAs accesses.now) }
+    ensures memory { IfErr result (λ refused. refused ≢ Memory) }
+    ensures untouched { IfErr result (λ refused. (wire.new ≡ wire.old) × (sink.new ≡ sink.old)) }
+    ensures keeps { K.keeps sink.old sink.new }
+    ensures most { K.most sink.old ≤ K.most sink.new }
+    ensures plan { W.plan wire.new ≡ W.plan wire.old }
+    ensures told { IfOk result (λ ending.
+        Made W.notes (TellsSent accesses.now (told_to (K.taken sink.new) ending)) wire.old wire.new) }
+{
+    match refusal(accesses) {
+        Some(refused) => Err(refused),
+        None => Ok(conduct_to(wire, Engine::opening(bursts, tries), accesses, sink)),
+    }
+}
+
 // Opens the target with a new engine, and performs the list.
 pub(crate) fn conduct<W: Wire, A: Allocator>(
     wire: &mut W,
@@ -305,26 +354,50 @@ pub(crate) fn conduct<W: Wire, A: Allocator>(
     ensures plan { W.plan wire.new ≡ W.plan wire.old }
     ensures told { Made W.notes (TellsSent accesses.now (told_of result)) wire.old wire.new }
 {
-    let mut engine = engine;
     let mut answers = answers;
-    if let Err(end) = open(wire, &mut engine) {
-        return report_of(answers, &engine, end);
-    }
-    let ended = perform(wire, &mut engine, accesses, &mut answers);
-    report_of(answers, &engine, ended)
+    let ending = conduct_to(wire, engine, accesses, &mut answers);
+    ending.with(answers)
 }
 
-pub(crate) fn report_of<A: Allocator>(
-    answers: Vec<Answer, A>,
-    engine: &Engine,
-    ended: End,
-) -> Report<A>
-    ensures { told_of result ≡ told_by answers.items engine.now ended }
+// The same, with the answers handed on.
+fn conduct_to<W: Wire, K: AnswerSink>(
+    wire: &mut W,
+    engine: Engine,
+    accesses: &[Access],
+    sink: &mut K,
+) -> Ending
+    requires due { (W.port wire.old).link.due ≡ Nothing }
+    requires new { IsNew engine.bursts false engine.tries engine }
+    requires accepted { (length accesses.now ≤ 65536) × AreAccesses accesses.now }
+    requires none { K.taken sink.old ≡ [] }
+    requires room { length accesses.now ≤ K.most sink.old }
+    ensures closes { Closes 0 (most_of engine.bursts) accesses.now engine.tries (told_to (K.taken sink.new) result)
+        (W.port wire.new).link.due }
+    ensures fits { W.lawful wire.new → W.lawful wire.old
+        × RunsWithin (most_of engine.bursts) accesses.now engine.tries (told_to (K.taken sink.new) result)
+        (W.port wire.old) (W.port wire.new) }
+    ensures plan { W.plan wire.new ≡ W.plan wire.old }
+    ensures told { Made W.notes (TellsSent accesses.now (told_to (K.taken sink.new) result)) wire.old wire.new }
+    ensures most { K.most sink.old ≤ K.most sink.new }
+    ensures keeps { K.keeps sink.old sink.new }
 {
-    Report {
-        answers,
-        begun: engine.begun(),
-        requests: engine.requests(),
-        ended,
+    let mut engine = engine;
+    if let Err(end) = open(wire, &mut engine) {
+        return engine.ending(end);
+    }
+    let ended = perform(wire, &mut engine, accesses, sink);
+    engine.ending(ended)
+}
+
+impl Engine {
+    // Returns the report of a run without its answers.
+    pub(crate) fn ending(&self, ended: End) -> Ending
+        ensures { (answers : List AnswerType) → told_to answers result ≡ told_by answers self.now ended }
+    {
+        Ending {
+            begun: self.begun(),
+            requests: self.requests(),
+            ended,
+        }
     }
 }

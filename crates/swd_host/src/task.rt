@@ -9,7 +9,7 @@ use swd_port::{Access, Register};
 /// The kind of accesses that an engine performs in bursts. In a burst the DRW request of an access confirms the one
 /// before.
 #[derive(Clone, Copy, Debug, PartialEq, Eq)]
-pub(crate) enum Bursts {
+pub enum Bursts {
     /// Writes.
     Writes,
     /// Reads, as in a block.

@@ -1,26 +1,21 @@
 -- How many calls are made for a run at most. For the law `ends`.
-use Rattle.std.proofs.Common.{arith, refl, sym, ap, subst, ◌∙◌, ◌≡◌, ◌+◌, ◌*◌, ◌<◌, ◌≤◌, ℕ, Bool, true, false}
+use Rattle.std.proofs.Common.{arith, sym, ap, subst, ◌∙◌, ◌≡◌, ◌+◌, ◌*◌, ◌<◌, ◌≤◌, ℕ, Bool, true, false}
 use Rattle.std.proofs.Common.{inl, inr}
 use Rattle.std.proofs.Common.{List, [], ◌∷◌, ◌++◌, length, length-append}
 use Rattle.std.specs.Prelude.{◌⊎◌, Some, slice_get, drop}
 use Rattle.std.proofs.lemmas.Option.{slice_get_within}
+use Rattle.std.proofs.Math.Nat.{mul-le-mul_right}
 use Rattle.swd_port.specs.declared.access.Access.{Access}
 use Rattle.swd_port.specs.declared.access.Answer.{Answer}
 use Rattle.swd_port.specs.declared.call.Call.{Call}
-use Rattle.swd_port.specs.declared.cue.Cue.{Cue}
-use Rattle.swd_port.specs.declared.cue.Cue.TheVariants.{Lead, Ask, Take, Give, Pass}
-use Rattle.swd_port.specs.Stories.{is_ask}
 use Rattle.swd_host.specs.declared.engine.Engine.{Engine}
-use Rattle.swd_host.specs.declared.engine.State.{State}
 use Rattle.swd_host.specs.declared.outcome.Outcome.TheVariants.{Opened, Answered}
 use Rattle.swd_host.specs.declared.task.Bursts.{Bursts}
-use Rattle.swd_host.specs.declared.task.Task.{Task}
 use Rattle.swd_host.specs.Calls.{Turned, eight_idle}
-use Rattle.swd_host.specs.Engines.{cue_at, cue_of, finished_of}
-use Rattle.swd_host.specs.Progress.{calls_left, is_quiet, is_state_of, moves_first, stray_left}
-use Rattle.swd_host.specs.Replies.{Replied}
+use Rattle.swd_host.specs.Engines.{finished_of}
+use Rattle.swd_host.specs.Progress.{calls_left, is_state_of, stray_left}
 use Rattle.swd_host.specs.Turns.{IsNew, Starts}
-use Rattle.swd_host.proofs.Folding.{not_opened, start_access, start_left}
+use Rattle.swd_host.proofs.Folding.{moves_few, not_opened, start_access, start_left, turned_falls, turned_works}
 use Rattle.swd_steps.specs.declared.run.Stage.{Stage}
 use Rattle.swd_steps.specs.declared.run.Stage.TheVariants.{Driving, Between, Ended}
 use Rattle.swd_steps.specs.Laws.{Ends, most_calls}
@@ -29,51 +24,6 @@ use Rattle.swd_steps.specs.Runs.{has_started, has_idled}
 use Rattle.swd_steps.specs.Runs.{has_stopped}
 use Rattle.swd_steps.proofs.Keeping.{not_answered}
 use Rattle.swd_steps.proofs.Running.{few_answers}
-use Rattle.swd_steps.proofs.Turning.{turned_works}
-
--- A CALL
-moves_few : (x : State) → moves_first x ≤ 1
-moves_few x = grind arith
-
-quiet_moves : (x : State) → is_quiet x ≡ true → moves_first x ≡ 0
-quiet_moves x h = grind arith
-
-sends_moves : (x : State) (stray : Bool) (task : Task) (cue : Cue) → cue_at x stray task ≡ Some cue → is_ask cue ≡
-    false
-    → moves_first x ≡ 1
-sends_moves x stray task cue h other = grind arith
-
--- it leaves fewer
-falls_by : (cue : Cue) (seen : ℕ) (e f : Engine) → cue_of e ≡ Some cue → Replied cue seen e f
-    → calls_left f + 1 ≤ calls_left e
-falls_by (Ask q) seen e f cue saw = omega (arith, saw.fewer, moves_few f.state)
-falls_by Take seen e f cue took = omega (
-  arith,
-  took.lands.left,
-  quiet_moves f.state took.lands.quiet,
-  sends_moves e.state e.stray e.task Take cue refl,
-)
-falls_by (Give bits) seen e f cue did = omega (
-  arith,
-  did.lands.left,
-  quiet_moves f.state did.lands.quiet,
-  sends_moves e.state e.stray e.task (Give bits) cue refl,
-)
-falls_by Pass seen e f cue did = omega (
-  arith,
-  did.lands.left,
-  quiet_moves f.state did.lands.quiet,
-  sends_moves e.state e.stray e.task Pass cue refl,
-)
-falls_by (Lead ones undriven switch zeros) seen e f cue did = omega (
-  arith,
-  did.lands.left,
-  quiet_moves f.state did.lands.quiet,
-  sends_moves e.state e.stray e.task (Lead ones undriven switch zeros) cue refl,
-)
-
-turned_falls : (call : Call) (e f : Engine) → Turned call e f → calls_left f + 1 ≤ calls_left e
-turned_falls call e f turned = falls_by call.cue call.seen e f turned.cue turned.replied
 
 -- ALONG A RUN
 abbrev for_opening : Beginning → ℕ
@@ -99,12 +49,6 @@ new_calls kind again tries e new = grind arith
 start_calls : (a : Access) (e g : Engine) (tries : ℕ) → calls_left g ≤ 2 * (6 + 5 * e.tries) + 1 → e.tries ≡ tries
     → calls_left g ≤ 2 * (6 + 5 * tries) + 1
 start_calls a e g tries few same = omega arith
-
-one_more : (k b : ℕ) → k * b + b ≡ (k + 1) * b
-one_more k b = grind arith
-
-products : (a b c : ℕ) → a ≤ b → a * c ≤ b * c
-products a b c h = grind arith
 
 module _ (how : Beginning) (list : List Access) where
   turned_made : (calls : List Call) (answers : List Answer) (call : Call) (e f : Engine) → Turned call e f
@@ -147,7 +91,6 @@ module _ (how : Beginning) (list : List Access) where
       omega (
         arith,
         h,
-        one_more (length answers) (for_access how),
         start_calls a e f how.tries
             (omega (
               arith,
@@ -168,12 +111,16 @@ module _ (how : Beginning) (list : List Access) where
       → length calls ≤ for_opening how + length list * for_access how + 1
   stopped_made calls answers e (same, inl h) = omega (arith, h.1)
   stopped_made calls answers e (same, inr h) =
-      omega (arith, h.2, products (length answers + 1) (length list) (for_access how) (omega (arith, h.1)))
+      omega (
+        arith,
+        h.2,
+        mul-le-mul_right {m = length answers + 1} {n = length list} (for_access how) (omega (arith, h.1)),
+      )
 
   rested_made : (calls : List Call) (answers : List Answer) (e : Engine) → Spends how list calls e Between answers
       → length calls ≤ for_opening how + length list * for_access how + 1
   rested_made calls answers e (same, few, h) =
-      omega (arith, h, products (length answers) (length list) (for_access how) few)
+      omega (arith, h, mul-le-mul_right {m = length answers} {n = length list} (for_access how) few)
 
   made : {calls : List Call} {e : Engine} {stage : Stage} {answers : List Answer} → Came how list calls e stage answers
       → Spends how list calls e stage answers
@@ -197,4 +144,4 @@ module _ (how : Beginning) (list : List Access) where
 pub ends : Ends
 ends how accesses calls run answers ran =
     any_made how (drop how.from accesses) calls answers run.engine run.stage
-    (made how (drop how.from accesses) ran.came)
+    (made how (drop how.from accesses) ran.come.came)

@@ -25,15 +25,15 @@ use Rattle.swd_host.specs.Engines.{IsPhaseCue, finished_at, finished_of}
 use Rattle.swd_host.specs.Progress.{is_state_of}
 use Rattle.swd_host.specs.Standing.{HasOpened, Stands, Stays}
 use Rattle.swd_host.specs.Tracks.{DueAt, DueFits}
-use Rattle.swd_host.specs.Turns.{GoesOn, IsNew, Starts, Works}
-use Rattle.swd_host.proofs.Folding.{works_refl, works_then, goes_refl, goes_then, ahead_burst, start_access}
+use Rattle.swd_host.specs.Turns.{IsNew, Starts, Works}
+use Rattle.swd_host.proofs.Folding.{turned_moves, turned_works, turned_due, turned_goes}
+use Rattle.swd_host.proofs.Folding.{works_refl, works_then, goes_refl, goes_then, goes_on, start_access}
 use Rattle.swd_host.proofs.Folding.{start_due, start_never, stop_never, stopped_state, opened_state, not_opened}
 use Rattle.swd_host.proofs.Folding.{opened_stays, opened_stands, answered_stays, answered_stands, answered_follows}
 use Rattle.swd_host.proofs.Folding.{access_performs, access_does, stopped_tells, all_performs, all_does, all_tells}
 use Rattle.swd_steps.specs.Runs.{Beginning}
 use Rattle.swd_steps.proofs.Lists.{got_follows}
-use Rattle.swd_steps.proofs.Standing.{Opening, Rested, InHand, Finished, never_opened, performed}
-use Rattle.swd_steps.proofs.Turning.{turned_moves, turned_works, turned_due, turned_goes}
+use Rattle.swd_steps.proofs.Standing.{Went, Opening, Rested, InHand, Finished, never_opened, performed}
 
 -- an opening comes to no answer
 pub not_answered : (x : State) (task : Task) (answer : Answer) → is_state_of true x ≡ true
@@ -53,10 +53,32 @@ has_opened : (kind : Bursts) (again : Bool) (tries : ℕ) (e o : Engine) → tri
     → Works e o → o.state ≡ Resting Opened → HasOpened o
 has_opened kind again tries e o small new works at = grind arith
 
--- the access is the one that continues a burst
-goes_on : (i : ℕ) (list : List Access) (o e : Engine) (answers : List Answer) (t : Port) (d : Access)
-    → Stays i list o e answers t → GoesOn e (get_or list i d)
-goes_on i list o e answers t d stays = record { on = λ on. (stays.chain (ahead_burst e.state e.task on)).1 d }
+-- ONE CALL AFTER THE OTHER
+went_none : (story : ℕ → Port) (calls : List Call) (e : Engine) → DueFits e (port_at story calls)
+    → Went story calls calls e [] e
+went_none story calls e due = record {
+  works = works_refl e;
+  turns = refl;
+  due = due;
+  goes = λ fits. (fits, goes_refl e (port_at story calls));
+}
+
+-- a call that the engine asked for, after those before it
+went_then : (story : ℕ → Port) (older newer made : List Call) (call : Call) (first e f : Engine)
+    → Went story older newer first made e → Turned call e f → IsPhaseCue call.cue
+    → Went story older (call ∷ newer) first (call ∷ made) f
+went_then story older newer made call first e f h turned phase =
+    let on = turned_moves call e f turned in record {
+      works = works_then first e f on h.works (turned_works call e f turned);
+      turns = (e, h.turns, turned);
+      due = turned_due call e f (port_at story (call ∷ newer)) turned refl;
+      goes = λ fits. (
+          let soon = h.goes fits.0 in (
+            soon.0,
+            goes_then first e f (port_at story older) (port_at story newer) (port_at story (call ∷ newer)) on soon.1
+                (turned_goes call e f (port_at story newer) (port_at story (call ∷ newer)) turned phase fits.1),
+          ));
+    }
 
 module _ (story : ℕ → Port) (past : List Call) (how : Beginning) (list : List Access) (small : how.tries < 2 ^ 32)
     (clear : how.again ≡ false → due_by past ≡ Nothing) (few : length list ≤ 65536) where
@@ -68,37 +90,25 @@ module _ (story : ℕ → Port) (past : List Call) (how : Beginning) (list : Lis
   begins_holds e new = record {
     first = e;
     new = new;
-    works = works_refl e;
-    turns = refl;
-    due = new_due how.kind how.again how.tries e (port []) new clear;
-    goes = λ fits. (fits, goes_refl e (port []));
+    went = went_none story past e (new_due how.kind how.again how.tries e (port []) new clear);
   }
 
   -- a call that the engine asks for in the opening keeps what is known of the opening
   pub opening_turns : (calls : List Call) (call : Call) (e f : Engine) → Opening story past how calls e → Turned call
       e f
       → IsPhaseCue call.cue → Opening story past how (call ∷ calls) f
-  opening_turns calls call e f h turned phase =
-      let on = turned_moves call e f turned in record {
-        first = h.first;
-        new = h.new;
-        works = works_then h.first e f on h.works (turned_works call e f turned);
-        turns = (e, h.turns, turned);
-        due = turned_due call e f (port (call ∷ calls)) turned refl;
-        goes = λ fits. (
-            let soon = h.goes fits.0 in (
-              soon.0,
-              goes_then h.first e f (port []) (port calls) (port (call ∷ calls)) on soon.1
-                  (turned_goes call e f (port calls) (port (call ∷ calls)) turned phase fits.1),
-            ));
-      }
+  opening_turns calls call e f h turned phase = record {
+    first = h.first;
+    new = h.new;
+    went = went_then story past (calls ++ past) calls call h.first e f h.went turned phase;
+  }
 
   opening_part : (calls : List Call) (e : Engine) → Opening story past how calls e → is_state_of true e.state ≡ true
-  opening_part calls e h = h.works.part true (ap (is_state_of true) h.new.leads)
+  opening_part calls e h = h.went.works.part true (ap (is_state_of true) h.new.leads)
 
   opened : (calls : List Call) (e : Engine) (h : Opening story past how calls e) → e.state ≡ Resting Opened →
       HasOpened e
-  opened calls e h at = has_opened how.kind how.again how.tries h.first e small h.new h.works at
+  opened calls e h at = has_opened how.kind how.again how.tries h.first e small h.new h.went.works at
 
   -- where the opening succeeded, what holds between two accesses holds, with no answer yet
   pub opening_rests : (calls : List Call) (e : Engine) → Opening story past how calls e → finished_of e ≡ Some Opened
@@ -106,7 +116,7 @@ module _ (story : ℕ → Port) (past : List Call) (how : Beginning) (list : Lis
   opening_rests calls e h finished =
       let at : e.state ≡ Resting Opened =
       opened_state e.state e.task Opened (opening_part calls e h) finished (λ end is. absurd (cc)) in
-      let due = opened_due e.state e.stray e.task (port calls).link.due at h.due in
+      let due = opened_due e.state e.stray e.task (port calls).link.due at h.went.due in
       let has = opened calls e h at in record {
         o = e;
         early = calls;
@@ -147,47 +157,35 @@ module _ (story : ℕ → Port) (past : List Call) (how : Beginning) (list : Lis
         following = slice_get list (length answers + 1);
         next = got_follows list (length answers) (slice_get list (length answers + 1)) refl;
         starts = started;
-        works = works_refl f;
-        turns = refl;
-        due = start_due (get_or list (length answers) (Read 0)) (slice_get list (length answers + 1)) e f (port calls)
-            started h.stays.rests (goes_on (length answers) list h.o e answers (port calls) (Read 0) h.stays)
-            h.stays.due;
-        goes = λ fits. (fits, goes_refl f (port calls));
+        went = went_none story (calls ++ past) f (start_due (get_or list (length answers) (Read 0))
+            (slice_get list (length answers + 1)) e f (port calls) started h.stays.rests
+            (goes_on (length answers) list h.o e answers (port calls) (Read 0) h.stays) h.stays.due);
       }
 
   -- a call that the engine asks for within an access keeps what is known of the access
   pub hand_turns : (calls : List Call) (answers : List Answer) (call : Call) (e f : Engine)
       → InHand story past how list calls e answers → Turned call e f → IsPhaseCue call.cue
       → InHand story past how list (call ∷ calls) f answers
-  hand_turns calls answers call e f h turned phase =
-      let on = turned_moves call e f turned in record {
-        e = h.e;
-        g = h.g;
-        before = h.before;
-        recent = call ∷ h.recent;
-        parts = ap (λ l. call ∷ l) h.parts;
-        rested = h.rested;
-        low = h.low;
-        following = h.following;
-        next = h.next;
-        starts = h.starts;
-        works = works_then h.g e f on h.works (turned_works call e f turned);
-        turns = (e, h.turns, turned);
-        due = turned_due call e f (port (call ∷ calls)) turned refl;
-        goes = λ fits. (
-            let soon = h.goes fits.0 in (
-              soon.0,
-              goes_then h.g e f (port h.before) (port calls) (port (call ∷ calls)) on soon.1
-                  (turned_goes call e f (port calls) (port (call ∷ calls)) turned phase fits.1),
-            ));
-      }
+  hand_turns calls answers call e f h turned phase = record {
+    e = h.e;
+    g = h.g;
+    before = h.before;
+    recent = call ∷ h.recent;
+    parts = ap (λ l. call ∷ l) h.parts;
+    rested = h.rested;
+    low = h.low;
+    following = h.following;
+    next = h.next;
+    starts = h.starts;
+    went = went_then story (h.before ++ past) (calls ++ past) h.recent call h.g e f h.went turned phase;
+  }
 
   -- an access never ends in the outcome `Opened`
   pub hand_opened : (calls : List Call) (answers : List Answer) (e : Engine) → InHand story past how list calls e
       answers
       → finished_of e ≡ Some Opened → ⊥
   hand_opened calls answers e h finished =
-      not_opened e.state e.task (h.works.part false (start_access _ h.following h.e h.g h.starts)) finished
+      not_opened e.state e.task (h.went.works.part false (start_access _ h.following h.e h.g h.starts)) finished
 
   module _ (calls : List Call) (answers : List Answer) (f : Engine) (h : InHand story past how list calls f answers)
     where
@@ -205,6 +203,9 @@ module _ (story : ℕ → Port) (past : List Call) (how : Beginning) (list : Lis
           → Rested story past how list calls f (answers ++ answer ∷ [])
       hand_answered answer finished =
           let long : length answers + 1 ≡ length (answers ++ answer ∷ []) = sym (length-append answers (answer ∷ [])) in
+          let stays : Stays (length answers + 1) list r.o f (answers ++ answer ∷ []) (port calls) =
+          answered_stays (length answers) list r.o h.e h.g f answers (port h.before) (port calls) (Read 0) h.following
+          r.stays h.starts h.went.works answer (answers ++ answer ∷ []) refl h.went.due h.next finished in
           record {
             o = r.o;
             early = r.early;
@@ -212,23 +213,19 @@ module _ (story : ℕ → Port) (past : List Call) (how : Beginning) (list : Lis
             parts = joined;
             opening = r.opening;
             at = r.at;
-            stays = subst (λ n. Stays n list r.o f (answers ++ answer ∷ []) (port calls)) long
-                (answered_stays (length answers) list r.o h.e h.g f answers (port h.before) (port calls) (Read 0)
-                h.following
-                r.stays h.starts h.works answer (answers ++ answer ∷ []) refl h.due h.next finished);
+            stays = subst (λ n. Stays n list r.o f (answers ++ answer ∷ []) (port calls)) long stays;
             stands = λ fits. (
-                let soon = h.goes fits in
+                let soon = h.went.goes fits in
                 let first = r.stands soon.0 in (
                   first.0,
                   subst (λ n. Stands n list r.o (port r.early) f (answers ++ answer ∷ []) (port calls)) long
-                      (answered_stands (length answers) list r.o h.e h.g f answers (port r.early) (port h.before) (port
-                      calls)
-                      (Read 0) h.following has (omega (arith, h.low, few)) h.low first.1 h.starts soon.1 h.due answer
-                      (answers ++ answer ∷ []) refl h.next finished),
+                      (answered_stands (length answers) list r.o h.e h.g f answers (port r.early) (port h.before)
+                      (port calls) (Read 0) h.following has (omega (arith, h.low, few)) h.low first.1 h.starts soon.1
+                      h.went.due answer (answers ++ answer ∷ []) refl finished stays),
                 ));
             keeps = answered_follows (length answers) list r.o h.e f answers (port h.before) (Read 0) h.following
                 r.stays h.low
-                h.next answer finished r.late h.recent r.keeps (h.g, h.starts, h.turns);
+                h.next answer finished r.late h.recent r.keeps (h.g, h.starts, h.went.turns);
           }
 
       -- where the engine stopped within an access, what holds at the end of a run holds, with the answers so far
@@ -236,22 +233,22 @@ module _ (story : ℕ → Port) (past : List Call) (how : Beginning) (list : Lis
           end
       hand_stops end finished =
           let at = stopped_state f.state f.task end finished in
-          let never = stop_never h.g f end h.works (start_never _ h.following h.e h.g h.starts) at in
+          let never = stop_never h.g f end h.went.works (start_never _ h.following h.e h.g h.starts) at in
           performed r.o r.early (h.recent ++ r.late) joined r.opening r.at
           (access_performs (length answers) list r.o h.e h.g f answers (port h.before) (port calls) (Read 0) h.following
           r.stays
-          h.starts h.works end h.low h.due at never [] answers refl)
+          h.starts h.went.works end h.low h.went.due at never [] answers refl)
           (λ fits.
-          let soon = h.goes fits in
+          let soon = h.went.goes fits in
           let first = r.stands soon.0 in (
             first.0,
             access_does (length answers) list r.o h.e h.g f answers (port r.early) (port h.before) (port calls) (Read 0)
-                h.following has (omega (arith, h.low, few)) h.low first.1 h.starts soon.1 h.due [] answers end refl
+                h.following has (omega (arith, h.low, few)) h.low first.1 h.starts soon.1 h.went.due [] answers end refl
                 h.next finished,
           ))
           (stopped_tells (length answers) list r.o h.e f answers (port h.before) (Read 0) h.following r.stays h.low
           h.next
-          end at never [] answers refl r.late h.recent r.keeps (h.g, h.starts, h.turns))
+          end at never [] answers refl r.late h.recent r.keeps (h.g, h.starts, h.went.turns))
 
   -- ALL ARE ANSWERED
   pub rested_idles : (calls : List Call) (answers : List Answer) (e : Engine) → Rested story past how list calls e

@@ -1,4 +1,3 @@
-mod Turning
 mod Lists
 mod Standing
 mod Keeping

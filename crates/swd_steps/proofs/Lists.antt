@@ -1,6 +1,6 @@
 -- Lists of accesses, by what stands at an index. For `Stepping`, `Keeping` and `run::unaligned`.
 use Rattle.std.proofs.Common.{arith, ◌≡◌, ◌+◌, ◌≤◌, ℕ, true, refl, sym, subst, ◌∙◌, List, [], ◌∷◌, length, zero}
-use Rattle.std.proofs.Common.{suc, ap, length-drop}
+use Rattle.std.proofs.Common.{suc, ap}
 use Rattle.std.specs.Prelude.{Option, Some, None, drop, slice_get, take}
 use Rattle.std.proofs.lemmas.Option.{slice_get_within, get_or_from_slice_get}
 use Rattle.swd_port.specs.declared.access.Access.{Access}
@@ -16,15 +16,6 @@ get_dropped (suc k) [] i = refl
 get_dropped (suc k) (a ∷ list) i =
     let next : suc (k + i) ≡ suc k + i = omega arith in
     get_dropped k list i ∙ ap (λ n. slice_get (a ∷ list) n) next
-
-pub are_dropped : (k : ℕ) (list : List Access) → AreAccesses list → AreAccesses (drop k list)
-are_dropped zero list h = h
-are_dropped (suc k) [] h = h
-are_dropped (suc k) (a ∷ list) h = are_dropped k list h.1
-
--- k accesses and the rest of a list from place k on are as many as the list has
-pub rest_dropped : (k : ℕ) (list : List Access) → k ≤ length list → k + length (drop k list) ≡ length list
-rest_dropped k list h = omega (arith, length-drop k list)
 
 -- there is none past the end
 pub none_past : (list : List Access) (i : ℕ) → slice_get list i ≡ None → length list ≤ i

@@ -46,7 +46,7 @@ module _ (how : Beginning) (accesses : List Access) (calls : List Call) (run : R
   rest = drop how.from accesses
 
   came : Came how rest calls run.engine (Ended end) answers
-  came = subst (λ x. Came how rest calls run.engine x answers) ended ran.came
+  came = subst (λ x. Came how rest calls run.engine x answers) ended ran.come.came
 
   pub accepted : (length accesses ≤ 65536) × AreAccesses accesses × (how.from ≤ length accesses)
   accepted = ended_calls how.from accesses how rest calls run.engine answers end came ran.accepted
@@ -78,14 +78,14 @@ closed_by how list calls e answers end small few (never_opened h at none) =
     subst (λ d. Closes (stray_left how.again) (most_of how.kind) list how.tries (told_by answers e end) d) due
     (closes_told (stray_left how.again) (most_of how.kind) list how.tries (told_by [] e end) (told_by answers e end)
     (due_by (calls ++ [])) (ap (λ l. told_by l e end) none)
-    (opening_closes how.kind how.again how.tries h.first e small h.new h.works list end (due_by (calls ++ [])) at
-    h.due)) in
+    (opening_closes how.kind how.again how.tries h.first e small h.new h.went.works list end (due_by (calls ++ [])) at
+    h.went.due)) in
     record {
       closes = closes;
       sent = tells_told list [] e end (told_by answers e end) calls (ap (λ l. told_by l e end) none)
           (closes_small (stray_left how.again) (most_of how.kind) list how.tries (told_by answers e end) (due_by calls)
           (closes_spare how.again) few small closes)
-          (opening_ends list how.kind how.again how.tries h.first e end calls h.new h.turns);
+          (opening_ends list how.kind how.again how.tries h.first e end calls h.new h.went.turns);
     }
 closed_by how list calls e answers end small few (performed o early late parts h at performs does tells) =
     let due : due_by (calls ++ []) ≡ due_by calls = ap due_by (append-nil calls) in
@@ -94,7 +94,7 @@ closed_by how list calls e answers end small few (performed o early late parts h
     subst (λ d. Closes (stray_left how.again) (most_of how.kind) list how.tries (told_by answers e end) d) due
     (closes_told (stray_left how.again) (most_of how.kind) list how.tries (told_by performs.answers e end)
     (told_by answers e end) (due_by (calls ++ [])) (ap (λ l. told_by l e end) performs.added)
-    (list_closes how.kind how.again how.tries h.first o small h.new h.works list e end (due_by (calls ++ [])) []
+    (list_closes how.kind how.again how.tries h.first o small h.new h.went.works list e end (due_by (calls ++ [])) []
     answers
     performs)) in
     record {
@@ -104,7 +104,7 @@ closed_by how list calls e answers end small few (performed o early late parts h
           (ap (λ l. told_by l e end) tells.added)
           (closes_small (stray_left how.again) (most_of how.kind) list how.tries (told_by answers e end) (due_by calls)
           (closes_spare how.again) few small closes)
-          (tells.ends early (opening_counts list how.kind how.again how.tries h.first o early h.new h.turns at)));
+          (tells.ends early (opening_counts list how.kind how.again how.tries h.first o early h.new h.went.turns at)));
     }
 
 -- whatever came back, the report of a run that ended has what every report has, and matches the calls that were made
@@ -123,14 +123,14 @@ runs_by : (how : Beginning) (list : List Access) (calls : List Call) (e : Engine
     (port_at story past) (port_at story (calls ++ past))
 runs_by how list calls e answers end story past small new ok (never_opened h at none) fits rest =
     opening_stops how.kind list how.tries h.first e answers (port_at story past) (port_at story (calls ++ past)) small
-    (subst (λ b. IsNew how.kind b how.tries h.first) new h.new) (h.goes fits).1 h.due none rest end at
+    (subst (λ b. IsNew how.kind b how.tries h.first) new h.new) (h.went.goes fits).1 h.went.due none rest end at
 runs_by how list calls e answers end story past small new ok (performed o early late parts h at performs does tells)
     fits
     rest =
     let done = does fits in
-    let opened = h.goes done.0 in
+    let opened = h.went.goes done.0 in
     list_fits how.kind list how.tries h.first o [] (port_at story past) (port_at story (early ++ past)) small
-    (subst (λ b. IsNew how.kind b how.tries h.first) new h.new) opened.1 h.due refl rest e answers end
+    (subst (λ b. IsNew how.kind b how.tries h.first) new h.new) opened.1 h.went.due refl rest e answers end
     (port_at story (calls ++ past)) at done.1 ok
 
 -- where the calls are consistent with the model, the theorem of a run holds of the report of a new run that ended
@@ -147,9 +147,7 @@ does_after list o f before answers end s t h = record {
   answers = h.answers;
   added = ap (λ l. before ++ l) h.added;
   asked = h.asked;
-  disturbed = h.disturbed;
-  lost = h.lost;
-  identification = h.identification;
+  later = h.later;
   over = h.over;
 }
 
@@ -166,15 +164,15 @@ resumes_by : (tries : ℕ) (accesses : List Access) (calls : List Call) (e : Eng
 resumes_by tries accesses calls e answers end earlier story past small ok reported (never_opened h at none) fits known
     =
     resume_stops accesses tries earlier h.first e (earlier.answers ++ answers) (port_at story past)
-    (port_at story (calls ++ past)) small h.new ok reported known (h.goes fits).1 h.due
+    (port_at story (calls ++ past)) small h.new ok reported known (h.went.goes fits).1 h.went.due
     (ap (λ l. earlier.answers ++ l) none ∙ append-nil earlier.answers) end at
 resumes_by tries accesses calls e answers end earlier story past small ok reported
     (performed o early late parts h at performs does tells) fits known =
     let done = does fits in
-    let opened = h.goes done.0 in
+    let opened = h.went.goes done.0 in
     resume_performs accesses tries earlier h.first o earlier.answers (port_at story past) (port_at story (early ++
     past))
-    small h.new ok reported known opened.1 h.due refl end e (earlier.answers ++ answers) (port_at story (calls ++
+    small h.new ok reported known opened.1 h.went.due refl end e (earlier.answers ++ answers) (port_at story (calls ++
     past)) at
     (does_after (drop (length earlier.answers) accesses) o e earlier.answers answers end (port_at story (early ++
     past))

@@ -19,7 +19,7 @@ use Rattle.swd_host.specs.declared.task.Task.{Task}
 use Rattle.swd_host.specs.Calls.{Turned}
 use Rattle.swd_host.specs.Engines.{IsPhaseCue, finished_at, finished_of}
 use Rattle.swd_host.specs.Progress.{is_state_of}
-use Rattle.swd_host.proofs.Folding.{not_opened, start_access}
+use Rattle.swd_host.proofs.Folding.{not_opened, start_access, turned_works}
 use Rattle.swd_steps.specs.declared.run.Stage.{Stage}
 use Rattle.swd_steps.specs.declared.run.Stage.TheVariants.{Driving, Between, Ended}
 use Rattle.swd_steps.specs.Runs.{Beginning, Came, has_begun, has_turned, has_opened, has_answered}
@@ -29,7 +29,6 @@ use Rattle.swd_steps.proofs.Standing.{Rested, Finished, Holds}
 use Rattle.swd_steps.proofs.Keeping.{begins_holds, opening_turns, opening_rests, opening_answered, opening_stops}
 use Rattle.swd_steps.proofs.Keeping.{rested_starts, hand_turns, hand_opened, hand_answered, hand_stops, rested_idles}
 use Rattle.swd_steps.proofs.Keeping.{not_answered}
-use Rattle.swd_steps.proofs.Turning.{turned_works}
 
 module _ (story : ℕ → Port) (past : List Call) (how : Beginning) (list : List Access) (small : how.tries < 2 ^ 32)
     (clear : how.again ≡ false → due_by past ≡ Nothing) (few : length list ≤ 65536) where

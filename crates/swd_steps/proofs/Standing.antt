@@ -24,16 +24,22 @@ use Rattle.swd_steps.specs.declared.run.Stage.{Stage}
 use Rattle.swd_steps.specs.declared.run.Stage.TheVariants.{Driving, Between, Ended}
 use Rattle.swd_steps.specs.Runs.{Beginning}
 
+-- From one moment, after the older calls, to a later one, after the newer: these were made for the engine. What it
+-- keeps by itself, and with the port, where the story fits.
+pub record Went (story : ℕ → Port) (older newer : List Call) (first : Engine) (made : List Call) (e : Engine) : Type 0
+  where
+    pub works : Works first e
+    pub turns : Turns first made e
+    pub due : DueFits e (port_at story newer)
+    pub goes : FitsStory story newer → FitsStory story older
+        × Goes first (port_at story older) e (port_at story newer)
+
 -- in the opening
 pub record Opening (story : ℕ → Port) (past : List Call) (how : Beginning) (calls : List Call) (e : Engine) : Type 0
   where
     pub first : Engine
     pub new : IsNew how.kind how.again how.tries first
-    pub works : Works first e
-    pub turns : Turns first calls e
-    pub due : DueFits e (port_at story (calls ++ past))
-    pub goes : FitsStory story (calls ++ past) → FitsStory story past
-        × Goes first (port_at story past) e (port_at story (calls ++ past))
+    pub went : Went story past (calls ++ past) first calls e
 
 -- between two accesses
 pub record Rested (story : ℕ → Port) (past : List Call) (how : Beginning) (list : List Access) (calls : List Call)
@@ -62,11 +68,7 @@ pub record InHand (story : ℕ → Port) (past : List Call) (how : Beginning) (l
   pub following : Option Access
   pub next : (b : Access) → following ≡ Some b → Follower (length answers) list b
   pub starts : Starts (get_or list (length answers) (Read 0)) following e g
-  pub works : Works g f
-  pub turns : Turns g recent f
-  pub due : DueFits f (port_at story (calls ++ past))
-  pub goes : FitsStory story (calls ++ past) → FitsStory story (before ++ past)
-      × Goes g (port_at story (before ++ past)) f (port_at story (calls ++ past))
+  pub went : Went story (before ++ past) (calls ++ past) g recent f
 
 -- at its end: the opening was stopped, or the list was done
 pub data Finished (story : ℕ → Port) (past : List Call) (how : Beginning) (list : List Access) (calls : List Call)

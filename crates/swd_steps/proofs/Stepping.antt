@@ -1,8 +1,10 @@
 -- What each function of a run leaves, as a step of what it has come to.
 use Rattle.std.proofs.Common.{arith, refl, sym, ap, subst, ◌∙◌, ◌≡◌, ◌+◌, ◌<◌, ◌≤◌, ℕ, Bool, true, false}
-use Rattle.std.proofs.Common.{List, [], ◌∷◌, ◌++◌, length, length-append}
+use Rattle.std.proofs.Common.{List, [], ◌∷◌, ◌++◌, inl, inr, length, length-append}
 use Rattle.std.specs.Prelude.{Option, Some, None, IfSome, drop, slice_get}
 use Rattle.std.proofs.lemmas.List.{append_assoc, append-nil}
+use Rattle.std.proofs.lemmas.Bool.{cases_Bool}
+use Rattle.std.proofs.Common.{length-drop}
 use Rattle.swd_port.specs.declared.access.Access.{Access}
 use Rattle.swd_port.specs.declared.access.Answer.{Answer}
 use Rattle.swd_port.specs.declared.call.Call.{Call}
@@ -24,10 +26,10 @@ use Rattle.swd_host.specs.Turns.{IsNew, Starts, first_state}
 use Rattle.swd_steps.specs.declared.run.Run.{Run}
 use Rattle.swd_steps.specs.declared.run.Stage.{Stage}
 use Rattle.swd_steps.specs.declared.run.Stage.TheVariants.{Driving, Between, Ended}
-use Rattle.swd_steps.specs.Runs.{Beginning, Came, Leaves, Extends, HasCome, IsFit, Ran, MakesCall, call_of, cue_at}
+use Rattle.swd_steps.specs.Runs.{Beginning, Came, Leaves, Extends, HasCome, IsFit, Ran, MakesCall, cue_at}
 use Rattle.swd_steps.specs.Runs.{has_answered, has_begun, has_idled, has_opened, has_started, has_stopped, has_turned}
 use Rattle.swd_steps.specs.Runs.{is_lead, listed, run_cue, seen_of}
-use Rattle.swd_steps.proofs.Lists.{get_dropped, none_past, rest_dropped}
+use Rattle.swd_steps.proofs.Lists.{get_dropped, none_past}
 use Rattle.swd_steps.proofs.Running.{begins, few_answers}
 
 -- A NEW RUN
@@ -38,11 +40,13 @@ new_moves e leads = grind arith
 pub new_ran : (how : Beginning) (list : List Access) (run : Run) (e : Engine) → IsNew how.kind how.again how.tries e
     → run.engine ≡ e → run.stage ≡ Driving → run.answered ≡ how.from → Ran how list [] run []
 new_ran how list run e new engine stage answered = record {
-  came = subst (λ x. Came how (drop how.from list) [] run.engine x []) (sym stage)
-      (subst (λ x. Came how (drop how.from list) [] x Driving []) (sym engine) (has_begun e new));
-  number = omega (arith, answered);
+  come = record {
+    came = subst (λ x. Came how (drop how.from list) [] run.engine x []) (sym stage)
+        (subst (λ x. Came how (drop how.from list) [] x Driving []) (sym engine) (has_begun e new));
+    number = omega (arith, answered);
+    last = λ at. absurd (let both : Driving ≡ Between = sym stage ∙ at in cc);
+  };
   accepted = tt;
-  last = λ at. absurd (let both : Driving ≡ Between = sym stage ∙ at in cc);
   drives = λ at. ap is_resting engine ∙ new_moves e new.leads;
 }
 
@@ -126,13 +130,9 @@ driven how accesses calls run answers at h =
 -- where the engine stopped, the run has ended, and no answer is added
 pub stopped_follows : (accesses : List Access) (run : Run) (end : End) → run.stage ≡ Driving
     → finished_of run.engine ≡ Some (Stopped end)
-    → Leaves accesses run [] (record { engine = run.engine; stage = Ended end; answered = run.answered })
+    → Leaves accesses run [] (record run { stage = Ended end })
 stopped_follows accesses run end at finished how calls answers h =
-    subst (λ l. HasCome how accesses calls (record {
-      engine = run.engine;
-      stage = Ended end;
-      answered = run.answered;
-    }) l)
+    subst (λ l. HasCome how accesses calls (record run { stage = Ended end }) l)
     (sym (append-nil answers))
     (record {
       came = has_stopped run.engine end (driven how accesses calls run answers at h) finished;
@@ -171,30 +171,16 @@ answered_follows accesses run more after answer at finished engine one starts dr
 -- the eight idle cycles
 pub idle_turns : (accesses : List Access) (run : Run) (seen : ℕ) → run.stage ≡ Between
     → HasCue (λ cue. IsSeen cue seen × IsPhaseCue cue) (run_cue run)
-    → HasCue (λ cue. MakesCall cue seen accesses run [] (record {
-      engine = run.engine;
-      stage = Ended All;
-      answered = run.answered;
-    })) (run_cue run)
+    → HasCue (λ cue. MakesCall cue seen accesses run [] (record run { stage = Ended All })) (run_cue run)
 idle_turns accesses run seen at asked =
     let cue : run_cue run ≡ Some (Lead 0 0 false 8) = ap (λ x. cue_at x run.engine) at in
     let none : seen ≡ 0 = (subst (HasCue (λ cue. IsSeen cue seen × IsPhaseCue cue)) cue asked).0 in
-    subst (HasCue (λ cue. MakesCall cue seen accesses run [] (record {
-      engine = run.engine;
-      stage = Ended All;
-      answered = run.answered;
-    }))) (sym cue)
+    subst (HasCue (λ cue. MakesCall cue seen accesses run [] (record run { stage = Ended All }))) (sym cue)
     (λ how calls answers h.
-    subst (λ n. HasCome how accesses (record { cue = Lead 0 0 false 8; seen = n } ∷ calls) (record {
-      engine = run.engine;
-      stage = Ended All;
-      answered = run.answered;
-    }) (answers ++ [])) (sym none)
-    (subst (λ l. HasCome how accesses (record { cue = Lead 0 0 false 8; seen = 0 } ∷ calls) (record {
-      engine = run.engine;
-      stage = Ended All;
-      answered = run.answered;
-    }) l) (sym (append-nil answers))
+    subst (λ n. HasCome how accesses (record { cue = Lead 0 0 false 8; seen = n } ∷ calls)
+    (record run { stage = Ended All }) (answers ++ [])) (sym none)
+    (subst (λ l. HasCome how accesses (record { cue = Lead 0 0 false 8; seen = 0 } ∷ calls)
+    (record run { stage = Ended All }) l) (sym (append-nil answers))
     (record {
       came = has_idled run.engine
           (subst (λ x. Came how (drop how.from accesses) calls run.engine x answers) at h.came) (h.last at);
@@ -240,10 +226,6 @@ module _ (accesses : List Access) (before mid one two : Run) (seen : ℕ) (first
       → HasCue (λ cue. MakesCall cue seen accesses before came two) (run_cue before)
   engine_turns never asked replied = at_stage before.stage refl never asked replied
 
-by_bool : (b : Bool) (P : Type 0) → (b ≡ true → P) → (b ≡ false → P) → P
-by_bool true P set clear = set refl
-by_bool false P set clear = clear refl
-
 -- after two outcomes there is something to send, or the engine is not asked any more
 pub twice_drives : (mid one two : Run) → (is_resting mid.engine ≡ false → one ≡ mid)
     → (is_resting mid.engine ≡ true → one.stage ≡ Driving
@@ -251,12 +233,12 @@ pub twice_drives : (mid one two : Run) → (is_resting mid.engine ≡ false → 
     → (is_resting one.engine ≡ false → two ≡ one)
     → (one.engine.ahead ≡ Unsent → is_ahead one.engine ≡ false → two.stage ≡ Driving → is_resting two.engine ≡ false)
     → (two.stage ≡ Driving → one.stage ≡ Driving) → two.stage ≡ Driving → is_resting two.engine ≡ false
-twice_drives mid one two same calm further drives driven at = by_bool (is_resting mid.engine)
-    (is_resting two.engine ≡ false)
-    (λ rests. let known = calm rests (driven at) in drives known.0 known.1 at)
-    (λ moves.
-    let first : is_resting one.engine ≡ false = ap (λ (x : Run). is_resting x.engine) (same moves) ∙ moves in
-    ap (λ (x : Run). is_resting x.engine) (further first) ∙ first)
+twice_drives mid one two same calm further drives driven at = elim (cases_Bool (is_resting mid.engine)) [
+  | inl rests ↦ (let known = calm rests (driven at) in drives known.0 known.1 at)
+  | inr moves ↦
+      (let first : is_resting one.engine ≡ false = ap (λ (x : Run). is_resting x.engine) (same moves) ∙ moves in
+      ap (λ (x : Run). is_resting x.engine) (further first) ∙ first)
+]
 
 -- A STEP OF A RUN
 leads_first : (e : Engine) → e.state ≡ Leading → is_lead (cue_of e) ≡ true
@@ -264,30 +246,22 @@ leads_first e at = grind arith
 
 accepted_first : (how : Beginning) (accesses : List Access) (calls : List Call) (run : Run) (answers : List Answer)
     → Ran how accesses calls run answers → IsFit accesses run → AreAccesses accesses
-accepted_first how accesses [] run answers ran fit = fit.are (leads_first run.engine (begins ran.came).1)
+accepted_first how accesses [] run answers ran fit = fit.are (leads_first run.engine (begins ran.come.came).1)
 accepted_first how accesses (call ∷ calls) run answers ran fit = ran.accepted.1
-
-come : {how : Beginning} {accesses : List Access} {calls : List Call} {run : Run} {answers : List Answer}
-    → Ran how accesses calls run answers → HasCome how accesses calls run answers
-come ran = record { came = ran.came; number = ran.number; last = ran.last }
 
 -- a call for a list that fits the run extends the run's calls by this one, and its answers by those of this call
 pub run_goes_on : (accesses : List Access) (before after : Run) (cue : Cue) (reply seen : ℕ) (came : List Answer)
     → IsFit accesses before → seen ≡ seen_of cue reply → MakesCall cue seen accesses before came after
     → (after.stage ≡ Driving → is_resting after.engine ≡ false) → Extends cue reply accesses before came after
 run_goes_on accesses before after cue reply seen came fit is turns drives how calls answers ran =
-    let turned : HasCome how accesses (call_of cue reply ∷ calls) after (answers ++ came) =
-    subst (λ n. HasCome how accesses (record { cue = cue; seen = n } ∷ calls) after (answers ++ came)) is
-    (turns how calls answers (come ran)) in
     record {
-      came = turned.came;
-      number = turned.number;
+      come = subst (λ n. HasCome how accesses (record { cue = cue; seen = n } ∷ calls) after (answers ++ came)) is
+          (turns how calls answers ran.come);
       accepted = (
         fit.few,
         accepted_first how accesses calls before answers ran fit,
-        omega (arith, ran.number, fit.answered),
+        omega (arith, ran.come.number, fit.answered),
       );
-      last = turned.last;
       drives = drives;
     }
 
@@ -295,14 +269,14 @@ run_goes_on accesses before after cue reply seen came fit is turns drives how ca
 pub too_few : (how : Beginning) (accesses : List Access) (calls : List Call) (run : Run) (answers : List Answer)
     → HasCome how accesses calls run answers → how.from ≤ length accesses → length accesses < run.answered → ⊥
 too_few how accesses calls run answers h from low =
-    absurd (omega (arith, h.number, few_answers h.came, rest_dropped how.from accesses from))
+    absurd (omega (arith, h.number, few_answers h.came, length-drop how.from accesses))
 
 -- a list with fewer accesses than the run has answered isn't the one that led to it
 pub too_few_before : (accesses : List Access) (run : Run) → length accesses < run.answered
     → (how : Beginning) (calls : List Call) (answers : List Answer) → Ran how accesses calls run answers
     → how.from ≤ length accesses → ⊥
 too_few_before accesses run low how calls answers ran from =
-    too_few how accesses calls run answers (come ran) from low
+    too_few how accesses calls run answers ran.come from low
 
 -- nor is a list with fewer accesses than the run has answered after the next call
 pub too_few_after : (accesses : List Access) (before after : Run) (cue : Cue) (seen : ℕ) (came : List Answer)
@@ -311,4 +285,4 @@ pub too_few_after : (accesses : List Access) (before after : Run) (cue : Cue) (s
     → how.from ≤ length accesses → ⊥
 too_few_after accesses before after cue seen came turns low how calls answers ran from =
     too_few how accesses (record { cue = cue; seen = seen } ∷ calls) after (answers ++ came)
-    (turns how calls answers (come ran)) from low
+    (turns how calls answers ran.come) from low

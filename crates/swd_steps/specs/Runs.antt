@@ -72,16 +72,20 @@ Accepted from accesses (call ∷ calls) =
 abbrev pub IsLast : Beginning → List Access → Run → List Answer → Type 0
 IsLast how accesses run answers = run.stage ≡ Between → length answers ≡ length (drop how.from accesses)
 
--- A run that was made as `how` says has reached this state over a list, after these calls and with these answers. Until
--- it ends, it has a cue.
-pub record Ran (how : Beginning) (accesses : List Access) (calls : List Call) (run : Run) (answers : List Answer) :
-    Type 0
-  where
-    pub came : Came how (drop how.from accesses) calls run.engine run.stage answers
-    pub number : run.answered ≡ how.from + length answers
-    pub accepted : Accepted how.from accesses calls
-    pub last : IsLast how accesses run answers
-    pub drives : run.stage ≡ Driving → is_resting run.engine ≡ false
+-- A run that was made as `how` says has reached this state over a list, after these calls and with these answers.
+-- Within a call it isn't known yet whether it has a cue.
+pub record HasCome (how : Beginning) (accesses : List Access) (calls : List Call) (run : Run) (answers : List Answer)
+    : Type 0 where
+  pub came : Came how (drop how.from accesses) calls run.engine run.stage answers
+  pub number : run.answered ≡ how.from + length answers
+  pub last : IsLast how accesses run answers
+
+-- The same between two calls: the list is valid, and until the run ends, it has a cue.
+pub record Ran (how : Beginning) (accesses : List Access) (calls : List Call) (run : Run) (answers : List Answer)
+    : Type 0 where
+  pub come : HasCome how accesses calls run answers
+  pub accepted : Accepted how.from accesses calls
+  pub drives : run.stage ≡ Driving → is_resting run.engine ≡ false
 
 -- WHAT A RUN SHOWS
 abbrev pub cue_at : Stage → Engine → Option Cue
@@ -122,13 +126,6 @@ abbrev pub Extends : Cue → ℕ → List Access → Run → List Answer → Run
 Extends cue reply accesses before more after =
     (how : Beginning) (calls : List Call) (answers : List Answer) → Ran how accesses calls before answers
     → Ran how accesses (call_of cue reply ∷ calls) after (answers ++ more)
-
--- The same within a call, before it is known whether there is a cue.
-pub record HasCome (how : Beginning) (accesses : List Access) (calls : List Call) (run : Run) (answers : List Answer)
-    : Type 0 where
-  pub came : Came how (drop how.from accesses) calls run.engine run.stage answers
-  pub number : run.answered ≡ how.from + length answers
-  pub last : IsLast how accesses run answers
 
 -- the same without a call: an outcome of the engine was taken, with this answer
 abbrev pub Leaves : List Access → Run → List Answer → Run → Type 0

@@ -23,6 +23,7 @@ mod resumed;
 mod resumed_blocks;
 mod row;
 mod sessions;
+mod sinks;
 mod steps;
 mod tables;
 mod target;

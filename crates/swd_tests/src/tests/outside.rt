@@ -14,7 +14,7 @@ use swd_target::Bench;
 
 // The target, and how many calls reach it.
 #[derive(Drop)]
-struct Bridge {
+pub(super) struct Bridge {
     bench: Bench,
     calls: u64,
     reaching: u64,
@@ -61,14 +61,14 @@ fn passed_on(bench: &mut Bench, cue: Cue) -> Result<u64, Disconnected> {
 }
 
 // Any story.
-struct Untold;
+pub(super) struct Untold;
 
 impl Story for Untold {
     ghost at = { λ _. made 0 (record { words = empty; log = []; room = 0 }) };
 }
 
 // A target that so many calls reach.
-fn behind(alloc: Global, reaching: u64) -> Result<Option<Bridge>, Fail> {
+pub(super) fn behind(alloc: Global, reaching: u64) -> Result<Option<Bridge>, Fail> {
     let bench = target_of::<Bench>(alloc, &run_of(&[], &[]), QUIRKS)?;
     Ok(bench.map(|bench| Bridge {
         bench,

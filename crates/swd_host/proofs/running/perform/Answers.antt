@@ -1,5 +1,4 @@
-use Rattle.swd_host.proofs.Words.{ap, arith, ◌∙◌, ◌++◌, ◌∷◌, [], if◌then◌else◌, refl, sym, ◌≡◌}
-use Rattle.std.proofs.Common.{is_ok}
+use Rattle.swd_host.proofs.Words.{ap, arith, ◌∙◌, ◌++◌, ◌∷◌, [], refl, sym}
 use Rattle.std.proofs.lemmas.List.{append_assoc, append-nil}
 use Rattle.swd_host.proofs.Lists.{some_follows}
 use Rattle.swd_host.proofs.Ends.{stopped_state}
@@ -11,7 +10,7 @@ use Rattle.swd_host.proofs.running.perform.Goals as goal
 
 pub loop-index-init : goal.loop-index-init
 loop-index-init g c = record {
-  added = record { part = []; whole = sym (append-nil c.args.answers.now.items) };
+  added = record { part = []; whole = sym (append-nil (g.K.AnswerSink.taken c.args.sink.now)) };
   stays = opened_stays c.args.accesses.now c.args.engine.now (g.W.Wire.port c.args.wire.now) c.requires.opened
       c.requires.due;
   stands = λ lawful. (
@@ -20,7 +19,9 @@ loop-index-init g c = record {
         c.requires.opened c.requires.due,
   );
   told = made_none g.W.Wire.notes _ _ (λ past counts. counts);
-  capacity = omega (arith, c.requires.room);
+  room = omega (arith, c.requires.room);
+  most = omega arith;
+  keeps = g.met.K.AnswerSink.keeps_all _;
   plan = refl;
 }
 
@@ -33,7 +34,7 @@ returns-in-Err-clause-performs g c =
     (g.W.Wire.port c.access.new.wire) _ _ c.loop-index.invariant.stays works.1 works.2 c.in-Err.end
     c.loop-index-test.true c.access.ensures.due at
     (stop_never works.0 _ c.in-Err.end works.2 (start_never _ _ c.loop-index.engine works.0 works.1) at)
-    c.args.answers.now.items c.loop-index.answers.items c.loop-index.invariant.added.whole
+    (g.K.AnswerSink.taken c.args.sink.now) (g.K.AnswerSink.taken c.loop-index.sink) c.loop-index.invariant.added.whole
 
 pub returns-in-Err-clause-does : goal.returns-in-Err-clause-does
 returns-in-Err-clause-does g c = λ lawful.
@@ -44,7 +45,8 @@ returns-in-Err-clause-does g c = λ lawful.
           c.access.new.engine c.loop-index.invariant.added.part (g.W.Wire.port c.args.wire.now)
           (g.W.Wire.port c.loop-index.wire) (g.W.Wire.port c.access.new.wire) _ _ c.requires.opened
           (omega (arith, c.requires.few)) c.loop-index-test.true soon.1 late.1.1
-          late.1.2 c.access.ensures.due c.args.answers.now.items c.loop-index.answers.items c.in-Err.end
+          late.1.2 c.access.ensures.due (g.K.AnswerSink.taken c.args.sink.now)
+          (g.K.AnswerSink.taken c.loop-index.sink) c.in-Err.end
           c.loop-index.invariant.added.whole (some_follows _ _ _ c.following-following.ensures)
           c.in-Err.ensures.finished,
     )
@@ -53,20 +55,18 @@ pub loop-index-preserved : goal.loop-index-preserved
 loop-index-preserved g c =
     let v = c.loop-index.invariant in
     let works = c.access.ensures.works in
-    let before = c.loop-index.answers.items in
-    let pushed : c.push.new.self.items ≡ before ++ c.in-Ok.answer ∷ [] = c.push.ensures.items
-    ∙ ap (λ r. if is_ok r then before ++ c.in-Ok.answer ∷ [] else before) c.unwrap.ensures in
+    let stays = answered_stays c.loop-index.index c.args.accesses.now c.args.engine.now c.loop-index.engine works.0
+    c.access.new.engine v.added.part (g.W.Wire.port c.loop-index.wire)
+    (g.W.Wire.port c.access.new.wire) _ _ v.stays works.1 works.2 c.in-Ok.answer
+    (v.added.part ++ c.in-Ok.answer ∷ []) refl c.access.ensures.due
+    (some_follows _ _ _ c.following-following.ensures) c.in-Ok.ensures.finished in
     record {
       added = record {
         part = v.added.part ++ c.in-Ok.answer ∷ [];
-        whole = pushed ∙ (ap (λ x. x ++ c.in-Ok.answer ∷ []) v.added.whole
-            ∙ append_assoc c.args.answers.now.items v.added.part (c.in-Ok.answer ∷ []));
+        whole = c.take.ensures.taken ∙ (ap (λ x. x ++ c.in-Ok.answer ∷ []) v.added.whole
+            ∙ append_assoc (g.K.AnswerSink.taken c.args.sink.now) v.added.part (c.in-Ok.answer ∷ []));
       };
-      stays = answered_stays c.loop-index.index c.args.accesses.now c.args.engine.now c.loop-index.engine works.0
-          c.access.new.engine v.added.part (g.W.Wire.port c.loop-index.wire)
-          (g.W.Wire.port c.access.new.wire) _ _ v.stays works.1 works.2 c.in-Ok.answer
-          (v.added.part ++ c.in-Ok.answer ∷ []) refl c.access.ensures.due
-          (some_follows _ _ _ c.following-following.ensures) c.in-Ok.ensures.finished;
+      stays = stays;
       stands = λ lawful. (
           let late = c.access.ensures.goes lawful in
           let soon = v.stands late.0 in (
@@ -76,14 +76,16 @@ loop-index-preserved g c =
                 (g.W.Wire.port c.access.new.wire) _ _ c.requires.opened (omega (arith, c.requires.few))
                 c.loop-index-test.true
                 soon.1 late.1.1 late.1.2 c.access.ensures.due c.in-Ok.answer (v.added.part ++ c.in-Ok.answer ∷ []) refl
-                (some_follows _ _ _ c.following-following.ensures) c.in-Ok.ensures.finished,
+                c.in-Ok.ensures.finished stays,
           ));
       told = made_then g.W.Wire.notes _ _ _ _ _ _
           (answered_follows c.loop-index.index c.args.accesses.now c.args.engine.now c.loop-index.engine
           c.access.new.engine v.added.part (g.W.Wire.port c.loop-index.wire) _ _ v.stays c.loop-index-test.true
           (some_follows _ _ _ c.following-following.ensures) c.in-Ok.answer c.in-Ok.ensures.finished)
           v.told c.access.ensures.made;
-      capacity = omega (arith, v.capacity, c.push.ensures.capacity);
+      room = omega (arith, v.room, c.take.ensures.most);
+      most = omega (arith, v.most, c.take.ensures.most);
+      keeps = g.met.K.AnswerSink.keeps_on _ _ _ v.keeps c.take.ensures.keeps;
       plan = c.access.ensures.plan ∙ v.plan;
     }
 
@@ -91,7 +93,8 @@ pub returns-clause-performs : goal.returns-clause-performs
 returns-clause-performs g c =
     all_performs c.loop-index.index c.args.accesses.now c.args.engine.now c.loop-index.engine
     c.loop-index.invariant.added.part (g.W.Wire.port c.loop-index.wire) _ c.loop-index.invariant.stays (omega arith)
-    c.idle.ensures.due c.args.answers.now.items c.loop-index.answers.items c.loop-index.invariant.added.whole
+    c.idle.ensures.due (g.K.AnswerSink.taken c.args.sink.now) (g.K.AnswerSink.taken c.loop-index.sink)
+    c.loop-index.invariant.added.whole
 
 pub returns-clause-does : goal.returns-clause-does
 returns-clause-does g c = λ lawful.
@@ -101,7 +104,7 @@ returns-clause-does g c = λ lawful.
       all_does c.loop-index.index c.args.accesses.now c.args.engine.now c.loop-index.engine
           c.loop-index.invariant.added.part (g.W.Wire.port c.args.wire.now) (g.W.Wire.port c.loop-index.wire)
           c.requires.opened
-          (omega arith) soon.1 c.args.answers.now.items c.loop-index.answers.items
+          (omega arith) soon.1 (g.K.AnswerSink.taken c.args.sink.now) (g.K.AnswerSink.taken c.loop-index.sink)
           (g.W.Wire.port c.idle.new.wire) c.loop-index.invariant.added.whole late.1,
     )
 
@@ -114,12 +117,12 @@ returns-in-Err-clause-told g c =
     c.loop-index.invariant.added.part (g.W.Wire.port c.loop-index.wire) _ _ c.loop-index.invariant.stays
     c.loop-index-test.true (some_follows _ _ _ c.following-following.ensures) c.in-Err.end at
     (stop_never works.0 _ c.in-Err.end works.2 (start_never _ _ c.loop-index.engine works.0 works.1) at)
-    c.args.answers.now.items c.loop-index.answers.items c.loop-index.invariant.added.whole)
+    (g.K.AnswerSink.taken c.args.sink.now) (g.K.AnswerSink.taken c.loop-index.sink) c.loop-index.invariant.added.whole)
     c.loop-index.invariant.told c.access.ensures.made
 
 pub returns-clause-told : goal.returns-clause-told
 returns-clause-told g c = made_then g.W.Wire.notes _ _ _ _ _ _
     (all_tells c.loop-index.index c.args.accesses.now c.args.engine.now c.loop-index.engine
     c.loop-index.invariant.added.part (g.W.Wire.port c.loop-index.wire) c.loop-index.invariant.stays (omega arith)
-    c.args.answers.now.items c.loop-index.answers.items c.loop-index.invariant.added.whole)
+    (g.K.AnswerSink.taken c.args.sink.now) (g.K.AnswerSink.taken c.loop-index.sink) c.loop-index.invariant.added.whole)
     c.loop-index.invariant.told c.idle.ensures.made

@@ -1,5 +1,4 @@
 use Rattle.swd_host.proofs.Words.{◌≡◌, ◌+◌, ◌≤◌, ◌++◌, List, length, Answer, Stands}
-use Rattle.std.specs.Vec.{vec_capacity}
 use Rattle.swd_host.specs.Standing.{Stays}
 use Rattle.swd_host.specs.Sent.{Made}
 use Rattle.swd_host.proofs.SendingRuns.{Keeping}
@@ -12,11 +11,13 @@ pub record Added (before after : List Answer) : Type 0 where
 
 abbrev pub invariant-loop-index : goal.invariant-loop-index
 invariant-loop-index g l = record {
-  added : Added l.fn.answers.items l.answers.items;
+  added : Added (g.K.AnswerSink.taken l.fn.sink) (g.K.AnswerSink.taken l.sink);
   stays : Stays l.index l.accesses l.fn.engine l.engine added.part (g.W.Wire.port l.wire);
   stands : g.W.Wire.lawful l.wire → g.W.Wire.lawful l.fn.wire
       × Stands l.index l.accesses l.fn.engine (g.W.Wire.port l.fn.wire) l.engine added.part (g.W.Wire.port l.wire);
-  capacity : length l.fn.answers.items + length l.accesses ≤ vec_capacity l.answers;
+  room : length (g.K.AnswerSink.taken l.fn.sink) + length l.accesses ≤ g.K.AnswerSink.most l.sink;
+  most : g.K.AnswerSink.most l.fn.sink ≤ g.K.AnswerSink.most l.sink;
+  keeps : g.K.AnswerSink.keeps l.fn.sink l.sink;
   told : Made g.W.Wire.notes (Keeping l.accesses added.part l.fn.engine l.engine) l.fn.wire l.wire;
   plan : g.W.Wire.plan l.wire ≡ g.W.Wire.plan l.fn.wire;
 }

@@ -26,11 +26,8 @@ returns-in-Some-Opened-clause-drives g c =
 
 pub returns-in-Some-Answered-clause-follows : goal.returns-in-Some-Answered-clause-follows
 returns-in-Some-Answered-clause-follows g c =
-    answered_follows (g.L.Accesses.list c.args.accesses.now) c.args.self.now (record {
-      engine = c.args.self.now.engine;
-      stage = c.args.self.now.stage;
-      answered = c.args.self.now.answered + 1;
-    }) c.begin-in-Some-Answered.new.self
+    answered_follows (g.L.Accesses.list c.args.accesses.now) c.args.self.now
+    (record c.args.self.now { answered = c.args.self.now.answered + 1 }) c.begin-in-Some-Answered.new.self
     c.in-Some-Answered.answer c.in-Driving.is (sym c.in-Some-Answered.ensures ∙ ap Some c.in-Some-Answered.field-0-is)
     refl refl c.begin-in-Some-Answered.ensures.starts
     c.begin-in-Some-Answered.ensures.drives c.begin-in-Some-Answered.ensures.none
@@ -38,18 +35,12 @@ returns-in-Some-Answered-clause-follows g c =
 
 pub returns-in-Some-Answered-clause-calm : goal.returns-in-Some-Answered-clause-calm
 returns-in-Some-Answered-clause-calm g c = λ rests.
-    begun_calm (g.L.Accesses.list c.args.accesses.now) (record {
-      engine = c.args.self.now.engine;
-      stage = c.args.self.now.stage;
-      answered = c.args.self.now.answered + 1;
-    }) c.begin-in-Some-Answered.new.self
+    begun_calm (g.L.Accesses.list c.args.accesses.now)
+    (record c.args.self.now { answered = c.args.self.now.answered + 1 }) c.begin-in-Some-Answered.new.self
     c.begin-in-Some-Answered.ensures.starts c.begin-in-Some-Answered.ensures.none
 
 pub returns-in-Some-Answered-clause-drives : goal.returns-in-Some-Answered-clause-drives
 returns-in-Some-Answered-clause-drives g c =
-    begun_drives (g.L.Accesses.list c.args.accesses.now) (record {
-      engine = c.args.self.now.engine;
-      stage = c.args.self.now.stage;
-      answered = c.args.self.now.answered + 1;
-    }) c.begin-in-Some-Answered.new.self
+    begun_drives (g.L.Accesses.list c.args.accesses.now)
+    (record c.args.self.now { answered = c.args.self.now.answered + 1 }) c.begin-in-Some-Answered.new.self
     c.begin-in-Some-Answered.ensures.starts c.begin-in-Some-Answered.ensures.none

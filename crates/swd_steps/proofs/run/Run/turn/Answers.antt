@@ -9,21 +9,15 @@ use Rattle.swd_steps.proofs.run.Run.turn.Goals as goal
 pub returns-in-Between-clause-turns : goal.returns-in-Between-clause-turns
 returns-in-Between-clause-turns g c =
     subst (λ l. HasCue (λ cue. MakesCall cue c.args.seen (g.L.Accesses.list c.args.accesses.now) c.args.self.now l
-    (record {
-      engine = c.args.self.now.engine;
-      stage = Ended All;
-      answered = c.args.self.now.answered;
-    }))
+    (record c.args.self.now { stage = Ended All }))
     (run_cue c.args.self.now)) (sym c.of.ensures)
     (idle_turns (g.L.Accesses.list c.args.accesses.now) c.args.self.now c.args.seen c.in-Between.is c.requires.cue)
 
 pub returns : goal.returns
 returns g c = record {
-  turns = engine_turns (g.L.Accesses.list c.args.accesses.now) c.args.self.now (record {
-    engine = c.next.new.self;
-    stage = c.args.self.now.stage;
-    answered = c.args.self.now.answered;
-  }) c.follow-first.new.self c.follow-second.new.self c.args.seen c.follow-first.result c.follow-second.result _ refl
+  turns = engine_turns (g.L.Accesses.list c.args.accesses.now) c.args.self.now
+      (record c.args.self.now { engine = c.next.new.self }) c.follow-first.new.self c.follow-second.new.self c.args.seen
+      c.follow-first.result c.follow-second.result _ refl
       refl
       c.follow-first.ensures.follows c.follow-second.ensures.follows c.of-2.ensures c.in_default.not-Between
       c.requires.cue c.next.ensures;
@@ -34,10 +28,7 @@ returns g c = record {
     ap length c.of-2.ensures,
     length-append (listed c.follow-first.result) (listed c.follow-second.result),
   );
-  drives = twice_drives (record {
-    engine = c.next.new.self;
-    stage = c.args.self.now.stage;
-    answered = c.args.self.now.answered;
-  }) c.follow-first.new.self c.follow-second.new.self c.follow-first.ensures.same c.follow-first.ensures.calm
+  drives = twice_drives (record c.args.self.now { engine = c.next.new.self }) c.follow-first.new.self
+      c.follow-second.new.self c.follow-first.ensures.same c.follow-first.ensures.calm
       c.follow-second.ensures.same c.follow-second.ensures.drives c.follow-second.ensures.driven;
 }

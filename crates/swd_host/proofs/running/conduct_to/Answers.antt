@@ -7,16 +7,16 @@ use Rattle.swd_host.specs.Stages.{Tells}
 use Rattle.swd_host.proofs.Making.{made_as, made_then}
 use Rattle.swd_host.proofs.SendingTurns.{opening_counts, opening_ends}
 use Rattle.swd_host.proofs.SendingRuns.{closes_small, tells_told}
-use Rattle.swd_host.proofs.running.conduct.Goals as goal
+use Rattle.swd_host.proofs.running.conduct_to.Goals as goal
 
 pub returns-in-Err-clause-fits : goal.returns-in-Err-clause-fits
 returns-in-Err-clause-fits g c = λ lawful.
     let opened = c.open.ensures.goes lawful in (
       opened.0,
       λ rest.
-          told_as _ _ _ _ _ _ _ _ c.report_of.ensures
+          told_as _ _ _ _ _ _ _ _ (c.ending.ensures _)
           (opening_stops c.args.engine.bursts c.args.accesses.now c.args.engine.tries c.args.engine c.open.new.engine
-          c.args.answers.items
+          (g.K.AnswerSink.taken c.args.sink.now)
           (g.W.Wire.port c.args.wire.now) (g.W.Wire.port c.open.new.wire) (search rules) c.requires.new
           opened.1 c.open.ensures.due c.requires.none rest c.in-Err.end c.in-Err.ensures.finished),
     )
@@ -27,35 +27,35 @@ returns-clause-fits g c = λ lawful.
     let opened = c.open.ensures.goes does.0 in (
       opened.0,
       λ rest.
-          told_as _ _ _ _ _ _ _ _ c.report_of-2.ensures
+          told_as _ _ _ _ _ _ _ _ (c.ending-2.ensures _)
           (list_fits c.args.engine.bursts c.args.accesses.now c.args.engine.tries c.args.engine c.open.new.engine
-          c.args.answers.items
+          (g.K.AnswerSink.taken c.args.sink.now)
           (g.W.Wire.port c.args.wire.now) (g.W.Wire.port c.open.new.wire) (search rules) c.requires.new
           opened.1 c.open.ensures.due c.requires.none rest c.perform-ended.new.engine
-          c.perform-ended.new.answers.items c.perform-ended.result (g.W.Wire.port c.perform-ended.new.wire)
+          (g.K.AnswerSink.taken c.perform-ended.new.sink) c.perform-ended.result (g.W.Wire.port c.perform-ended.new.wire)
           c.in_default.ensures.finished does.1 c.requires.accepted.1),
     )
 
 pub returns-in-Err-clause-closes : goal.returns-in-Err-clause-closes
 returns-in-Err-clause-closes g c =
-    closes_told 0 _ _ _ _ _ _ (c.report_of.ensures ∙ ap (λ l. told_by l c.open.new.engine c.in-Err.end) c.requires.none)
+    closes_told 0 _ _ _ _ _ _ ((c.ending.ensures _) ∙ ap (λ l. told_by l c.open.new.engine c.in-Err.end) c.requires.none)
     (opening_closes c.args.engine.bursts false c.args.engine.tries c.args.engine c.open.new.engine (search rules)
     c.requires.new c.open.ensures.works c.args.accesses.now c.in-Err.end _ c.in-Err.ensures.finished c.open.ensures.due)
 
 pub returns-clause-closes : goal.returns-clause-closes
 returns-clause-closes g c =
     let p = c.perform-ended.ensures.performs in
-    closes_told 0 _ _ _ _ _ _ (c.report_of-2.ensures
+    closes_told 0 _ _ _ _ _ _ ((c.ending-2.ensures _)
     ∙ ap (λ l. told_by l c.perform-ended.new.engine c.perform-ended.result)
     (p.added ∙ ap (λ l. l ++ p.answers) c.requires.none))
     (list_closes c.args.engine.bursts false c.args.engine.tries c.args.engine c.open.new.engine (search rules)
     c.requires.new c.open.ensures.works c.args.accesses.now c.perform-ended.new.engine c.perform-ended.result _
-    c.args.answers.items c.perform-ended.new.answers.items p)
+    (g.K.AnswerSink.taken c.args.sink.now) (g.K.AnswerSink.taken c.perform-ended.new.sink) p)
 
 pub returns-in-Err-clause-told : goal.returns-in-Err-clause-told
 returns-in-Err-clause-told g c = made_as g.W.Wire.notes _ _ _ _
     (λ calls turns. tells_told c.args.accesses.now [] c.open.new.engine c.in-Err.end _ calls
-    (c.report_of.ensures ∙ ap (λ l. told_by l c.open.new.engine c.in-Err.end) c.requires.none)
+    ((c.ending.ensures _) ∙ ap (λ l. told_by l c.open.new.engine c.in-Err.end) c.requires.none)
     (closes_small 0 _ c.args.accesses.now c.args.engine.tries _ _ (omega arith) c.requires.accepted.0 (search rules)
     (returns-in-Err-clause-closes g c))
     (opening_ends c.args.accesses.now c.args.engine.bursts false c.args.engine.tries c.args.engine c.open.new.engine
@@ -64,11 +64,11 @@ returns-in-Err-clause-told g c = made_as g.W.Wire.notes _ _ _ _
 
 pub returns-clause-told : goal.returns-clause-told
 returns-clause-told g c = made_then g.W.Wire.notes (λ calls. Turns c.args.engine calls c.open.new.engine)
-    (Tells c.args.accesses.now c.open.new.engine c.perform-ended.new.engine c.args.answers.items
-    c.perform-ended.new.answers.items c.perform-ended.result) _ _ _ _
+    (Tells c.args.accesses.now c.open.new.engine c.perform-ended.new.engine (g.K.AnswerSink.taken c.args.sink.now)
+    (g.K.AnswerSink.taken c.perform-ended.new.sink) c.perform-ended.result) _ _ _ _
     (λ early late turns tells. tells_told c.args.accesses.now tells.answers c.perform-ended.new.engine
     c.perform-ended.result _ (late ++ early)
-    (c.report_of-2.ensures ∙ ap (λ l. told_by l c.perform-ended.new.engine c.perform-ended.result)
+    ((c.ending-2.ensures _) ∙ ap (λ l. told_by l c.perform-ended.new.engine c.perform-ended.result)
     (tells.added ∙ ap (λ l. l ++ tells.answers) c.requires.none))
     (closes_small 0 _ c.args.accesses.now c.args.engine.tries _ _ (omega arith) c.requires.accepted.0 (search rules)
     (returns-clause-closes g c))
