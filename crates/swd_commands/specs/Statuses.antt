@@ -12,6 +12,8 @@ use Rattle.swd_capture_text.specs.Captures.{Prints}
 use Rattle.swd_capture_text.specs.declared.reading.Reading.{Reading}
 use Rattle.swd_commands.specs.Decodings.{printed_for, reading_for}
 use Rattle.swd_commands.specs.Drawings.{PerformsDraw}
+use Rattle.swd_commands.specs.Streams.{status_over}
+use Rattle.std_io.specs.declared.io.error.Error.{Error}
 use Rattle.swd_words.specs.declared.command.Line.{Line}
 use Rattle.swd_words.specs.declared.command.Line.TheVariants.{One, Decode, Draw, Encode, Run, Target, Image}
 use Rattle.swd_words.specs.declared.command.RunLine.{RunLine}
@@ -105,3 +107,14 @@ Performs (Run run) status text left old new = PerformsWhere run.remote run statu
 Performs (Target target) status text left old new = NotOpened status old new
 -- nor can the file of an image, since standard input is the target's
 Performs (Image image) status text left old new = NotOpened status old new
+
+-- A command over standard output, by the error that this has at the end: 141 in place of the status if its reader is
+-- gone.
+abbrev pub PerformsOver : Option Error → Line → ℕ → Option (List ℕ) → Option (List ℕ) → Option (List ℕ) → Option (List ℕ)
+    → Type 0
+PerformsOver error line result text left old new =
+    (status : ℕ) × Performs line status text left old new × (result ≡ status_over error status)
+
+-- what the help, the version or a usage error takes: 0 or 2, or 141 by the error of standard output
+abbrev pub AnswersOver : Option Error → ℕ → Type 0
+AnswersOver error result = (status : ℕ) × ((status ≡ 0) ⊎ (status ≡ 2)) × (result ≡ status_over error status)

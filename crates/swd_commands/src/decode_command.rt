@@ -3,7 +3,8 @@ ghost use Rattle.std.specs.Prelude.{◌≡◌};
 ghost use Rattle.swd_commands.specs.Decodings.{printed_for, reading_for};
 ghost use Rattle.swd_commands.specs.Statuses.{PerformsDecode};
 
-use crate::report::engine_status;
+use crate::streams::conversion_status;
+use crate::watched::KeepsError;
 use std::io::{Read, Write};
 use swd_capture::{LineForm, Printed};
 use swd_capture_text::{Reading, print_capture};
@@ -42,9 +43,11 @@ fn printed(decode: &DecodeLine) -> Option<Printed>
     None
 }
 
-/// Lists a trace, or prints what the arguments ask for instead. Returns the status: 0, or 2 at an error.
-pub(crate) fn perform_decode<R: Read, O: Write, E: Write>(
+/// Lists a trace, or prints what the arguments ask for instead. `name` is the input's. Returns the status: 0, or 2 at
+/// an error.
+pub(crate) fn perform_decode<R: Read + KeepsError, O: Write + KeepsError, E: Write>(
     decode: &DecodeLine,
+    name: &str,
     input: &mut R,
     output: &mut O,
     errors: &mut E,
@@ -55,8 +58,11 @@ pub(crate) fn perform_decode<R: Read, O: Write, E: Write>(
     match printed(decode) {
         Some(printed) => {
             let answer = print_capture(reading(decode), printed, input, output);
-            engine_status(errors, answer)
+            conversion_status(errors, answer, name, input, output)
         }
-        None => engine_status(errors, decode_text(input, output)),
+        None => {
+            let answer = decode_text(input, output);
+            conversion_status(errors, answer, name, input, output)
+        }
     }
 }

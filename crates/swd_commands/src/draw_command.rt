@@ -2,7 +2,8 @@
 ghost use Rattle.std.specs.Prelude.{◌≡◌};
 ghost use Rattle.swd_commands.specs.Drawings.{drawn_as, PerformsDraw};
 
-use crate::report::engine_status;
+use crate::streams::conversion_status;
+use crate::watched::KeepsError;
 use std::io::{Read, Write};
 use swd_capture_text::Reading;
 use swd_draw::draw_capture;
@@ -19,9 +20,10 @@ fn reading(draw: &DrawLine) -> Reading
     }
 }
 
-/// Draws a trace or a capture. Returns the status: 0, or 2 at an error.
-pub(crate) fn perform_draw<R: Read, O: Write, E: Write>(
+/// Draws a trace or a capture. `name` is the input's. Returns the status: 0, or 2 at an error.
+pub(crate) fn perform_draw<R: Read + KeepsError, O: Write + KeepsError, E: Write>(
     draw: &DrawLine,
+    name: &str,
     input: &mut R,
     output: &mut O,
     errors: &mut E,
@@ -29,5 +31,6 @@ pub(crate) fn perform_draw<R: Read, O: Write, E: Write>(
     ensures { PerformsDraw draw.now result
         (R.remaining input.old) (R.remaining input.new) (O.contents output.old) (O.contents output.new) }
 {
-    engine_status(errors, draw_capture(reading(draw), input, output))
+    let answer = draw_capture(reading(draw), input, output);
+    conversion_status(errors, answer, name, input, output)
 }

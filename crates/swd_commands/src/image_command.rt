@@ -6,9 +6,11 @@ ghost use Rattle.swd_commands.specs.Images.{status_of_loaded, status_of_verified
 
 use crate::image_file::{read_image_file, write_image_file};
 use crate::open_files::Files;
-use crate::remote_command::gone_status;
+use crate::remote_command::{gone_status, line_streams};
 use crate::report::{DONE, STOPPED, cannot_open, engine_status};
+use crate::streams::Stream;
 use crate::trace::open_image;
+use crate::watched::KeepsError;
 use std::alloc::Global;
 use std::io::{Read, Write};
 use swd_image::{ByteDifference, ImageFault};
@@ -21,7 +23,13 @@ use swd_words::{ImageAction, ImageLine};
 /// Makes the one call of an image at the target behind the streams. Prints a line with the result on standard error.
 /// Returns the status and the connection. If the image's file can't be read or is no image, or a dump's can't
 /// be opened, the connection wasn't used.
-pub fn perform_image<P: Story, I: Read + Drop, F: Files, O: Write + Drop, E: Write>(
+pub fn perform_image<
+    P: Story,
+    I: Read + KeepsError + Drop,
+    F: Files,
+    O: Write + KeepsError + Drop,
+    E: Write,
+>(
     alloc: Global,
     image: &ImageLine,
     input: I,
@@ -46,7 +54,13 @@ pub fn perform_image<P: Story, I: Read + Drop, F: Files, O: Write + Drop, E: Wri
 }
 
 // Loads the file's pieces.
-fn perform_load<P: Story, I: Read + Drop, F: Files, O: Write + Drop, E: Write>(
+fn perform_load<
+    P: Story,
+    I: Read + KeepsError + Drop,
+    F: Files,
+    O: Write + KeepsError + Drop,
+    E: Write,
+>(
     alloc: Global,
     image: &ImageLine,
     input: I,
@@ -65,12 +79,20 @@ fn perform_load<P: Story, I: Read + Drop, F: Files, O: Write + Drop, E: Write>(
     let (answer, line) = load_pieces_remote::<P, _, _, _>(
         alloc, input, output, &whole, tries, resumes,
     );
-    let status = loaded_status(errors, answer, line.fault, image.addr, &whole);
+    let streams = line_streams(&line);
+    let streams = streams.as_slice();
+    let status = loaded_status(errors, answer, line.fault, streams, image.addr, &whole);
     (status, line)
 }
 
 // Compares the memory with the file's pieces.
-fn perform_verify<P: Story, I: Read + Drop, F: Files, O: Write + Drop, E: Write>(
+fn perform_verify<
+    P: Story,
+    I: Read + KeepsError + Drop,
+    F: Files,
+    O: Write + KeepsError + Drop,
+    E: Write,
+>(
     alloc: Global,
     image: &ImageLine,
     input: I,
@@ -89,12 +111,20 @@ fn perform_verify<P: Story, I: Read + Drop, F: Files, O: Write + Drop, E: Write>
     let (answer, line) = verify_pieces_remote::<P, _, _, _>(
         alloc, input, output, &whole, tries, resumes,
     );
-    let status = verified_status(errors, answer, line.fault, image.addr, &whole);
+    let streams = line_streams(&line);
+    let streams = streams.as_slice();
+    let status = verified_status(errors, answer, line.fault, streams, image.addr, &whole);
     (status, line)
 }
 
 // Opens the file, and reads bytes of the memory. Then truncates the file, and writes the bytes.
-fn perform_dump<P: Story, I: Read + Drop, F: Files, O: Write + Drop, E: Write>(
+fn perform_dump<
+    P: Story,
+    I: Read + KeepsError + Drop,
+    F: Files,
+    O: Write + KeepsError + Drop,
+    E: Write,
+>(
     alloc: Global,
     image: &ImageLine,
     count: u32,
@@ -121,7 +151,7 @@ fn perform_dump<P: Story, I: Read + Drop, F: Files, O: Write + Drop, E: Write>(
         tries,
         resumes,
     );
-    match reached(errors, answer, line.fault) {
+    match reached(errors, answer, line.fault, line_streams(&line).as_slice()) {
         Ok(bytes) => {
             let status = write_image_file(errors, files, &mut file, image, bytes.as_slice());
             (status, line)
@@ -145,17 +175,18 @@ fn tell_done<E: Write>(errors: &mut E, done: &str, offset: u32, whole: &Image<Gl
     };
 }
 
-// Returns the status of a load, and prints a line with its result.
+// Returns the status of a load over a connection with these streams, and prints a line with its result.
 fn loaded_status<E: Write>(
     errors: &mut E,
     answer: Result<(), ImageFault>,
     gone: Option<Fault>,
+    streams: &[Stream<'_>],
     offset: u32,
     whole: &Image<Global>,
 ) -> u8
     ensures { result ≡ status_of_image status_of_loaded gone answer }
 {
-    match reached(errors, answer, gone) {
+    match reached(errors, answer, gone, streams) {
         Ok(()) => {
             tell_done(errors, "loaded", offset, whole);
             DONE
@@ -164,17 +195,18 @@ fn loaded_status<E: Write>(
     }
 }
 
-// Returns the status of a verification, and prints a line with its result.
+// Returns the status of a verification over a connection with these streams, and prints a line with its result.
 fn verified_status<E: Write>(
     errors: &mut E,
     answer: Result<Option<ByteDifference>, ImageFault>,
     gone: Option<Fault>,
+    streams: &[Stream<'_>],
     offset: u32,
     whole: &Image<Global>,
 ) -> u8
     ensures { result ≡ status_of_image status_of_verified gone answer }
 {
-    match reached(errors, answer, gone) {
+    match reached(errors, answer, gone, streams) {
         Ok(None) => {
             tell_done(errors, "verified", offset, whole);
             DONE
@@ -201,26 +233,32 @@ fn reached<V: Drop, E: Write>(
     errors: &mut E,
     answer: Result<V, ImageFault>,
     gone: Option<Fault>,
+    streams: &[Stream<'_>],
 ) -> Result<V, u8>
     ensures { result ≡ reached_by gone answer }
 {
     match answer {
         Ok(value) => match gone {
-            Some(fault) => Err(gone_status(errors, fault)),
+            Some(fault) => Err(gone_status(errors, fault, streams)),
             None => Ok(value),
         },
-        Err(fault) => Err(fault_status(errors, fault, gone)),
+        Err(fault) => Err(fault_status(errors, fault, gone, streams)),
     }
 }
 
 // Prints a line for the error of an image's call, or for the end of the connection behind it. Returns the status.
-fn fault_status<E: Write>(errors: &mut E, fault: ImageFault, gone: Option<Fault>) -> u8
+fn fault_status<E: Write>(
+    errors: &mut E,
+    fault: ImageFault,
+    gone: Option<Fault>,
+    streams: &[Stream<'_>],
+) -> u8
     ensures { result ≡ status_of_fault fault }
 {
     match fault {
         ImageFault::Range | ImageFault::Memory => engine_status(errors, Err(fault)),
         ImageFault::Stopped(_) | ImageFault::BusFault(_) => match gone {
-            Some(gone) => gone_status(errors, gone),
+            Some(gone) => gone_status(errors, gone, streams),
             None => {
                 let _ = writeln!(errors, "swd: {fault}");
                 STOPPED

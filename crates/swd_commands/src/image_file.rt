@@ -5,8 +5,10 @@ ghost use Rattle.swd_image_files.specs.Texts.{file_of};
 ghost use Rattle.swd_commands.specs.Images.{ArePiecesOf, IsWritten, WritesBytes};
 
 use crate::open_files::Files;
-use crate::report::{DONE, cannot_open, cannot_use, engine_status, tell};
+use crate::report::{DONE, cannot_open, cannot_use};
+use crate::streams::{Stream, streams_status, tell_failure_or};
 use crate::trace::open_plan;
+use crate::watched::{KeepsError, Watched};
 use std::alloc::Global;
 use std::io::Write;
 use swd_image_ends::read_file;
@@ -33,13 +35,16 @@ pub fn read_image_file<F: Files, E: Write>(
 {
     let name = image.file.as_str();
     // Standard input is the target's.
-    let mut opened = match open_plan(files, name, None) {
-        Ok(opened) => opened,
+    let mut file = match open_plan(files, name, None) {
+        Ok(opened) => Watched::new(opened.file),
         Err(why) => return Err(cannot_open(errors, name, &why)),
     };
-    let bytes = match read_file(alloc, &mut opened.file, most_bytes(image)) {
+    let bytes = match read_file(alloc, &mut file, most_bytes(image)) {
         Ok(bytes) => bytes,
-        Err(unread) => return Err(engine_status(errors, Err(unread))),
+        Err(unread) => {
+            let streams = [Stream::read(name, &file)];
+            return Err(streams_status(errors, Err(unread), streams.as_slice()));
+        }
     };
     match read_image(alloc, image.format, bytes.as_slice(), image.addr) {
         Ok(whole) => Ok(whole),
@@ -58,15 +63,18 @@ pub fn write_image_file<F: Files, E: Write>(
     requires { image.now.addr + length bytes.now ≤ 2 ^ 32 }
     ensures { IsWritten result (file_of image.now.format image.now.addr bytes.now) }
 {
+    let name = image.file.as_str();
     if let Err(why) = files.cut_off(file) {
-        return cannot_open(errors, image.file.as_str(), &why);
+        return cannot_open(errors, name, &why);
     }
-    write_bytes(errors, file, image.format, image.addr, bytes)
+    let mut file = Watched::new(file);
+    write_bytes(errors, name, &mut file, image.format, image.addr, bytes)
 }
 
 // Writes the bytes of a dump in a format, and prints a line with the result. Returns the status: 0 or 2.
-fn write_bytes<M: Write, E: Write>(
+fn write_bytes<M: Write + KeepsError, E: Write>(
     errors: &mut E,
+    name: &str,
     file: &mut M,
     format: Format,
     addr: u32,
@@ -80,6 +88,10 @@ fn write_bytes<M: Write, E: Write>(
             let _ = writeln!(errors, "swd: dumped {} bytes at {addr:08x}", bytes.len());
             DONE
         }
-        Err(_) => tell(errors, "write failed"),
+        Err(_) => tell_failure_or(
+            errors,
+            [Stream::written(name, file)].as_slice(),
+            "write failed",
+        ),
     }
 }

@@ -13,8 +13,10 @@ mod program;
 mod reason;
 mod remote_command;
 mod report;
+mod streams;
 mod target_command;
 mod trace;
+mod watched;
 
 pub use arguments::run_arguments;
 pub use open_files::{Files, Identity, Opened};

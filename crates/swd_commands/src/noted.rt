@@ -1,5 +1,6 @@
 //! Keeps the line of a script or a plan that is being read, so that an error can show it.
 
+use crate::watched::KeepsError;
 use arrayvec::ArrayVec;
 use std::io::Read;
 use std::{io, slice};
@@ -94,6 +95,14 @@ impl Seen {
 pub(crate) struct Noted<R> {
     pub(crate) reader: R,
     pub(crate) seen: Seen,
+}
+
+impl<R: KeepsError> KeepsError for Noted<R> {
+    ghost kept = { λ noted. R.kept noted.reader };
+
+    fn kept_error(&self) -> Option<io::Error> {
+        self.reader.kept_error()
+    }
 }
 
 impl<R: Read> Read for Noted<R> {

@@ -1,7 +1,8 @@
 //! Carries out the program's arguments.
-ghost use Rattle.std.specs.Prelude.{◌≡◌, ◌≢◌, IfNone, IfSome, Some, codes};
+ghost use Rattle.std.specs.Prelude.{◌≡◌, ◌≢◌, ◌⊎◌, IfNone, IfSome, Some, codes};
 ghost use Rattle.swd_commands.specs.Inputs.{IsStandard, named};
-ghost use Rattle.swd_commands.specs.Statuses.{Performs, PerformsRun, PerformsUnder, status_of_run};
+ghost use Rattle.swd_commands.specs.Statuses.{AnswersOver, Performs, PerformsOver, PerformsRun, PerformsUnder};
+ghost use Rattle.swd_commands.specs.Statuses.{status_of_run};
 
 use crate::decode_command::perform_decode;
 use crate::draw_command::perform_draw;
@@ -10,14 +11,18 @@ use crate::noted::{Noted, Seen};
 use crate::open_files::{Files, Identity};
 use crate::reason::texts_status;
 use crate::remote_command::{Untold, perform_remote};
-use crate::report::{DONE, FAULT, cannot_open, engine_status, one_status, run_status, tell};
+use crate::report::{DONE, FAULT, cannot_open, run_status, tell};
+use crate::streams::{
+    INPUT, Stream, conversion_status, name_or_nothing, status_after, tell_failure,
+};
 use crate::target_command::perform_target;
 use crate::trace::{Sources, open_plan, open_records};
+use crate::watched::{KeepsError, Watched};
 use clap::Error;
 use std::alloc::Global;
 use std::io::{Read, Write};
 use swd_bits::one_text;
-use swd_run::{Finished, RunFault, run_text};
+use swd_run::{Finished, Records, RunFault, run_text};
 use swd_text::encode_text;
 use swd_words::{DecodeLine, DrawLine, Line, LineFault, RunLine, line};
 
@@ -29,6 +34,7 @@ use swd_words::{DecodeLine, DrawLine, Line, LineFault, RunLine, line};
 /// | 0 | all was done |
 /// | 1 | a call ended early, a word differs or never came, a byte differs, a strict run or an image met a bus error |
 /// | 2 | a usage, input, I/O or out-of-memory error: one line on standard error, or the lines of `clap` |
+/// | 141 | the reader of standard output is gone, and a command writes its result there: no line on standard error |
 pub fn run_words<I: Read, F: Files, O: Write, E: Write>(
     alloc: Global,
     words: &[&str],
@@ -37,15 +43,17 @@ pub fn run_words<I: Read, F: Files, O: Write, E: Write>(
     output: &mut O,
     errors: &mut E,
 ) -> u8 {
+    let (mut input, mut output) = (Watched::new(input), Watched::new(output));
     match line(alloc, words) {
-        Ok(line) => carry_out(alloc, &line, input, files, output, errors),
-        Err(fault) => refuse(fault, output, errors),
+        Ok(line) => carry_out(alloc, &line, &mut input, files, &mut output, errors),
+        Err(fault) => refuse(fault, &mut output, errors),
     }
 }
 
 // Prints why the arguments are no command, or the help or the version, and returns the status.
-fn refuse<O: Write, E: Write>(fault: LineFault, output: &mut O, errors: &mut E) -> u8
+fn refuse<O: Write + KeepsError, E: Write>(fault: LineFault, output: &mut O, errors: &mut E) -> u8
     ensures memory { fault ≡ LineFault.Memory → result ≡ 2 }
+    ensures clap { (fault ≡ LineFault.Memory) ⊎ AnswersOver (O.kept output.new) result }
 {
     match fault {
         LineFault::Clap(error) => answer_by_clap(&error, output, errors),
@@ -54,15 +62,31 @@ fn refuse<O: Write, E: Write>(fault: LineFault, output: &mut O, errors: &mut E) 
 }
 
 // Prints the help or the version, or the usage error.
-fn answer_by_clap<O: Write, E: Write>(error: &Error, output: &mut O, errors: &mut E) -> u8 {
-    if error.use_stderr() {
+fn answer_by_clap<O: Write + KeepsError, E: Write>(
+    error: &Error,
+    output: &mut O,
+    errors: &mut E,
+) -> u8
+    ensures { AnswersOver (O.kept output.new) result }
+{
+    let status = if error.use_stderr() {
         let _ = write!(errors, "{error}");
-        return FAULT;
+        FAULT
+    } else {
+        print_help(error, output, errors)
+    };
+    status_after(output.kept_error(), status)
+}
+
+// Prints the help or the version. Returns the status: 0 or 2.
+fn print_help<O: Write + KeepsError, E: Write>(error: &Error, output: &mut O, errors: &mut E) -> u8
+    ensures { (result ≡ 0) ⊎ (result ≡ 2) }
+{
+    if write!(output, "{error}").is_ok() {
+        return DONE;
     }
-    match write!(output, "{error}") {
-        Ok(()) => DONE,
-        Err(_) => tell(errors, "write failed"),
-    }
+    tell_failure(errors, [Stream::output(output)].as_slice());
+    FAULT
 }
 
 // Returns the file that a command reads, such as the script of a run, or the file of a dump. Returns `None` for standard
@@ -87,7 +111,7 @@ fn file_of(line: &Line) -> Option<&str>
 }
 
 // Opens the file that a command reads, and performs the command.
-fn carry_out<I: Read, F: Files, O: Write, E: Write>(
+fn carry_out<I: Read + KeepsError, F: Files, O: Write + KeepsError, E: Write>(
     alloc: Global,
     line: &Line,
     input: &mut I,
@@ -96,7 +120,7 @@ fn carry_out<I: Read, F: Files, O: Write, E: Write>(
     errors: &mut E,
 ) -> u8
     ensures { IsStandard line.now
-        → Performs line.now result (I.remaining input.old) (I.remaining input.new)
+        → PerformsOver (O.kept output.new) line.now result (I.remaining input.old) (I.remaining input.new)
         (O.contents output.old) (O.contents output.new) }
 {
     let Some(name) = file_of(line) else {
@@ -109,29 +133,46 @@ fn carry_out<I: Read, F: Files, O: Write, E: Write>(
         return status;
     }
     match files.open(name) {
-        Ok(mut opened) => {
+        Ok(opened) => {
             let source = Some(opened.identity);
+            let mut file = Watched::new(opened.file);
             if let Line::Target(target) = line {
-                let script = &mut opened.file;
+                let script = &mut file;
                 return perform_target(alloc, target, script, source, input, files, output, errors);
             }
             if let Line::Run(run) = line
                 && run.remote
             {
-                let script = &mut opened.file;
                 let (status, _) = perform_remote::<Untold, _, _, _, _, _>(
-                    alloc, run, script, source, input, files, output, errors,
+                    alloc, run, &mut file, source, input, files, output, errors,
                 );
                 return status;
             }
-            perform(alloc, line, &mut opened.file, source, files, output, errors)
+            perform(alloc, line, &mut file, source, files, output, errors)
         }
         Err(why) => cannot_open(errors, name, &why),
     }
 }
 
-// Makes the one call of a command. `input` is the file that it reads, or standard input.
-fn perform<R: Read, F: Files, O: Write, E: Write>(
+// Performs a command whose result goes to standard output. `input` is the file that it reads, or standard input.
+fn perform<R: Read + KeepsError, F: Files, O: Write + KeepsError, E: Write>(
+    alloc: Global,
+    line: &Line,
+    input: &mut R,
+    source: Option<Identity>,
+    files: &F,
+    output: &mut O,
+    errors: &mut E,
+) -> u8
+    ensures { PerformsOver (O.kept output.new) line.now result (R.remaining input.old) (R.remaining input.new)
+        (O.contents output.old) (O.contents output.new) }
+{
+    let own = make_call(alloc, line, input, source, files, output, errors);
+    status_after(output.kept_error(), own)
+}
+
+// Makes the one call of a command.
+fn make_call<R: Read + KeepsError, F: Files, O: Write + KeepsError, E: Write>(
     alloc: Global,
     line: &Line,
     input: &mut R,
@@ -143,11 +184,18 @@ fn perform<R: Read, F: Files, O: Write, E: Write>(
     ensures { Performs line.now result (R.remaining input.old) (R.remaining input.new)
         (O.contents output.old) (O.contents output.new) }
 {
+    let name = file_of(line).unwrap_or(INPUT);
     match line {
-        Line::One(_) => one_status(errors, one_text(input, output)),
-        Line::Decode(decode) => perform_decode(decode, input, output, errors),
-        Line::Draw(draw) => perform_draw(draw, input, output, errors),
-        Line::Encode(_) => engine_status(errors, encode_text(alloc, input, output)),
+        Line::One(_) => {
+            let answer = one_text(input, output);
+            conversion_status(errors, answer, name, input, output)
+        }
+        Line::Decode(decode) => perform_decode(decode, name, input, output, errors),
+        Line::Draw(draw) => perform_draw(draw, name, input, output, errors),
+        Line::Encode(_) => {
+            let answer = encode_text(alloc, input, output);
+            conversion_status(errors, answer, name, input, output)
+        }
         Line::Run(run) if run.remote => {
             tell(errors, "SCRIPT is a file: standard input is the target's")
         }
@@ -158,7 +206,7 @@ fn perform<R: Read, F: Files, O: Write, E: Write>(
 }
 
 // Opens the plan, and runs the script under it. Without a plan no faults are injected.
-fn perform_run<S: Read, F: Files, O: Write, E: Write>(
+fn perform_run<S: Read + KeepsError, F: Files, O: Write + KeepsError, E: Write>(
     alloc: Global,
     run: &RunLine,
     script: &mut S,
@@ -171,7 +219,7 @@ fn perform_run<S: Read, F: Files, O: Write, E: Write>(
         (O.contents output.old) (O.contents output.new) }
 {
     let Some(name) = &run.plan else {
-        let mut nothing = [].as_slice();
+        let mut nothing = Watched::new([].as_slice());
         let read = Sources {
             script: source,
             plan: None,
@@ -190,30 +238,28 @@ fn perform_run<S: Read, F: Files, O: Write, E: Write>(
         );
     };
     match open_plan(files, name.as_str(), source) {
-        Ok(mut opened) => {
+        Ok(opened) => {
             let read = Sources {
                 script: source,
                 plan: Some(opened.identity),
                 written: None,
                 trace: None,
             };
-            perform_under(
-                alloc,
-                run,
-                script,
-                &mut opened.file,
-                read,
-                files,
-                output,
-                errors,
-            )
+            let mut plan = Watched::new(opened.file);
+            perform_under(alloc, run, script, &mut plan, read, files, output, errors)
         }
         Err(why) => cannot_open(errors, name.as_str(), &why),
     }
 }
 
 // Opens the files of the trace and the accesses, if they are named, and runs the script under the plan.
-fn perform_under<S: Read, P: Read, F: Files, O: Write, E: Write>(
+fn perform_under<
+    S: Read + KeepsError,
+    P: Read + KeepsError,
+    F: Files,
+    O: Write + KeepsError,
+    E: Write,
+>(
     alloc: Global,
     run: &RunLine,
     script: &mut S,
@@ -248,7 +294,30 @@ fn perform_under<S: Read, P: Read, F: Files, O: Write, E: Write>(
         output,
         &mut records,
     );
-    answer_status(errors, answer, run.strict, &script.seen, &plan.seen)
+    let streams = run_streams(run, output, &records, &script, &plan);
+    let (script, plan) = (&script.seen, &plan.seen);
+    answer_status(errors, answer, run.strict, script, plan, streams.as_slice())
+}
+
+// Returns the streams of a run, in the order of their lines.
+fn run_streams<'a, O: KeepsError, T: KeepsError, S: KeepsError, P: KeepsError>(
+    run: &'a RunLine,
+    output: &O,
+    records: &Records<T>,
+    script: &S,
+    plan: &P,
+) -> [Stream<'a>; 5] {
+    let name = match run.script.as_str() {
+        "-" => INPUT,
+        name => name,
+    };
+    [
+        Stream::output(output),
+        Stream::record(&run.trace, &records.trace),
+        Stream::record(&run.accesses, &records.accesses),
+        Stream::read(name, script),
+        Stream::read(name_or_nothing(&run.plan), plan),
+    ]
 }
 
 // Prints what went wrong in a run of these texts, and returns the status.
@@ -258,9 +327,13 @@ fn answer_status<E: Write>(
     strict: bool,
     script: &Seen,
     plan: &Seen,
+    streams: &[Stream<'_>],
 ) -> u8
     ensures { result ≡ status_of_run strict answer }
 {
+    if answer.is_err() && tell_failure(errors, streams) {
+        return FAULT;
+    }
     match answer {
         Err(RunFault::Texts(fault)) => texts_status(errors, fault, script, plan),
         answer => run_status(errors, answer, strict),

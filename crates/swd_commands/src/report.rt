@@ -5,7 +5,6 @@ ghost use Rattle.swd_commands.specs.Statuses.{has_failed, status_of, status_of_e
 use std::fmt::{Display, Formatter};
 use std::io::Write;
 use std::{fmt, io};
-use swd_bits::OneFault;
 use swd_host::End;
 use swd_port::Answer;
 use swd_run::{Difference, Finished};
@@ -21,9 +20,13 @@ pub const STOPPED: u8 = 1;
 /// The status at a usage, input, I/O or out-of-memory error.
 pub const FAULT: u8 = 2;
 
-// A name, displayed on one line: control characters are escaped.
+/// The status if the reader of standard output is gone: what a shell shows of a program that was ended by SIGPIPE,
+/// signal 13.
+pub const CLOSED: u8 = 128 + 13;
+
+/// A name, displayed on one line: control characters are escaped.
 #[derive(Drop)]
-struct Shown<'a>(&'a str);
+pub struct Shown<'a>(pub &'a str);
 
 impl Display for Shown<'_> {
     fn fmt<W: fmt::Write>(&self, f: &mut Formatter<W>) -> fmt::Result {
@@ -61,22 +64,6 @@ pub fn cannot_use<E: Write, F: Display>(errors: &mut E, name: &str, why: &F) -> 
 {
     let _ = writeln!(errors, "swd: {}: {why}", Shown(name));
     FAULT
-}
-
-/// Prints the error of `swd one`, if there is one, and returns the status: 0 or 2.
-pub fn one_status<E: Write>(errors: &mut E, answer: Result<(), OneFault>) -> u8
-    ensures { result ≡ status_of (is_ok answer) }
-{
-    match answer {
-        Ok(()) => DONE,
-        Err(OneFault::BadChar { place }) => {
-            let _ = writeln!(errors, "swd: trace byte {place}: bad character");
-            FAULT
-        }
-        Err(OneFault::NotOne) => tell(errors, "not one transaction"),
-        Err(OneFault::Read) => tell(errors, "read failed"),
-        Err(OneFault::Write) => tell(errors, "write failed"),
-    }
 }
 
 /// Prints the error of a conversion, if there is one, and returns the status: 0 or 2.

@@ -7,7 +7,9 @@ use crate::noted::{Noted, Seen};
 use crate::open_files::{Files, Identity, Opened};
 use crate::reason::texts_status;
 use crate::report::{DONE, FAULT, cannot_open, tell};
+use crate::streams::{INPUT, Stream, name_or_nothing, tell_failure, tell_failure_or};
 use crate::trace::{Sources, cannot_open_record, open_plan, open_record};
+use crate::watched::{KeepsError, Watched};
 use std::alloc::Allocator;
 use std::io::{Read, Write};
 use swd_bitbang::{Served, Trace, serve};
@@ -18,7 +20,14 @@ use swd_words::TargetLine;
 
 /// Opens the plan, and serves a host at the script's target. Without a plan no faults are injected. Returns the
 /// status: 0 or 2.
-pub fn perform_target<S: Read, I: Read, F: Files, O: Write, E: Write, A: Allocator + Copy>(
+pub fn perform_target<
+    S: Read + KeepsError,
+    I: Read + KeepsError,
+    F: Files,
+    O: Write + KeepsError,
+    E: Write,
+    A: Allocator + Copy,
+>(
     alloc: A,
     target: &TargetLine,
     script: &mut S,
@@ -32,7 +41,7 @@ pub fn perform_target<S: Read, I: Read, F: Files, O: Write, E: Write, A: Allocat
         (I.remaining input.new) (O.contents output.old) (O.contents output.new) }
 {
     let Some(name) = &target.plan else {
-        let mut nothing = [].as_slice();
+        let mut nothing = Watched::new([].as_slice());
         let read = Sources {
             script: source,
             plan: None,
@@ -53,14 +62,14 @@ pub fn perform_target<S: Read, I: Read, F: Files, O: Write, E: Write, A: Allocat
     };
     // Standard input comes from the debugger.
     match open_plan(files, name.as_str(), None) {
-        Ok(mut opened) => {
+        Ok(opened) => {
             let read = Sources {
                 script: source,
                 plan: Some(opened.identity),
                 written: None,
                 trace: None,
             };
-            let plan = &mut opened.file;
+            let plan = &mut Watched::new(opened.file);
             serve_under(
                 alloc, target, script, plan, read, input, files, output, errors,
             )
@@ -70,7 +79,15 @@ pub fn perform_target<S: Read, I: Read, F: Files, O: Write, E: Write, A: Allocat
 }
 
 // Opens the files of the log and the trace, and serves a host. Writes both files afterwards.
-fn serve_under<S: Read, P: Read, I: Read, F: Files, O: Write, E: Write, A: Allocator + Copy>(
+fn serve_under<
+    S: Read + KeepsError,
+    P: Read + KeepsError,
+    I: Read + KeepsError,
+    F: Files,
+    O: Write + KeepsError,
+    E: Write,
+    A: Allocator + Copy,
+>(
     alloc: A,
     target: &TargetLine,
     script: &mut S,
@@ -84,7 +101,7 @@ fn serve_under<S: Read, P: Read, I: Read, F: Files, O: Write, E: Write, A: Alloc
     ensures { ServesHost A result (S.remaining script.old) (P.remaining plan.old) (I.remaining input.old)
         (I.remaining input.new) (O.contents output.old) (O.contents output.new) }
 {
-    let log = match open_record(files, &target.log, read) {
+    let mut log = match open_record(files, &target.log, read) {
         Ok(log) => log,
         Err(why) => return cannot_open_record(errors, &target.log, &why),
     };
@@ -92,7 +109,7 @@ fn serve_under<S: Read, P: Read, I: Read, F: Files, O: Write, E: Write, A: Alloc
         written: log.as_ref().map(|log| log.identity),
         ..read
     };
-    let trace = match open_record(files, &target.trace, beside) {
+    let mut trace = match open_record(files, &target.trace, beside) {
         Ok(trace) => trace,
         Err(why) => return cannot_open_record(errors, &target.trace, &why),
     };
@@ -111,29 +128,62 @@ fn serve_under<S: Read, P: Read, I: Read, F: Files, O: Write, E: Write, A: Alloc
     match read_target(alloc, &mut script, &mut plan, kept) {
         Ok(pins) => {
             let (served, pins) = serve(input, output, pins);
-            let (target, kept) = pins.into_parts();
-            let done = write_records(log, trace, &target, &kept);
-            served_status(errors, served, done)
+            let (clocked, kept) = pins.into_parts();
+            let done = write_records(&mut log, &mut trace, &clocked, &kept);
+            let streams = served_streams(target, input, output, &log, &trace);
+            served_status(errors, served, done, streams.as_slice())
         }
-        Err(fault) => target_status(errors, fault, &script.seen, &plan.seen),
+        Err(fault) => {
+            let streams = text_streams(target, &script, &plan);
+            let (script, plan) = (&script.seen, &plan.seen);
+            target_status(errors, fault, script, plan, streams.as_slice())
+        }
     }
 }
 
+// Returns the streams of the script and the plan.
+fn text_streams<'a, S: KeepsError, P: KeepsError>(
+    target: &'a TargetLine,
+    script: &S,
+    plan: &P,
+) -> [Stream<'a>; 2] {
+    [
+        Stream::read(target.script.as_str(), script),
+        Stream::read(name_or_nothing(&target.plan), plan),
+    ]
+}
+
+// Returns the streams of a session, in the order of their lines.
+fn served_streams<'a, I: KeepsError, O: KeepsError, M: KeepsError>(
+    target: &'a TargetLine,
+    input: &I,
+    output: &O,
+    log: &Option<M>,
+    trace: &Option<M>,
+) -> [Stream<'a>; 4] {
+    [
+        Stream::sent(output),
+        Stream::read(INPUT, input),
+        Stream::record(&target.log, log),
+        Stream::record(&target.trace, trace),
+    ]
+}
+
 // Writes the log and the trace. Returns whether both were written completely, and the trace isn't truncated.
-fn write_records<M: Write + Drop, A: Allocator>(
-    log: Option<Opened<M>>,
-    trace: Option<Opened<M>>,
+fn write_records<M: Write, A: Allocator>(
+    log: &mut Option<Opened<M>>,
+    trace: &mut Option<Opened<M>>,
     target: &MarkedClocked<A>,
     kept: &Trace<A>,
 ) -> bool
     ensures { result ≡ true → is_cut_off kept.now ≡ false }
 {
     let logged = match log {
-        Some(mut log) => write_log(&mut log.file, target).is_ok(),
+        Some(log) => write_log(&mut log.file, target).is_ok(),
         None => true,
     };
     let traced = match trace {
-        Some(mut trace) => write_trace(&mut trace.file, kept),
+        Some(trace) => write_trace(&mut trace.file, kept),
         None => true,
     };
     logged && traced && !kept.is_cut()
@@ -144,9 +194,9 @@ fn write_trace<M: Write, A: Allocator>(writer: &mut M, kept: &Trace<A>) -> bool 
     send(writer, kept.text()).is_ok() && send(writer, b"\n").is_ok()
 }
 
-// Returns the status of a session. `done`: its log and its trace were written completely, and the trace isn't
-// truncated.
-fn served_status<E: Write>(errors: &mut E, served: Served, done: bool) -> u8
+// Returns the status of a session, and prints what failed. `done`: its log and its trace were written completely, and
+// the trace isn't truncated.
+fn served_status<E: Write>(errors: &mut E, served: Served, done: bool, streams: &[Stream<'_>]) -> u8
     ensures { IsServedStatus served (done ≡ true) result }
 {
     match served {
@@ -154,12 +204,12 @@ fn served_status<E: Write>(errors: &mut E, served: Served, done: bool) -> u8
             if done {
                 DONE
             } else {
-                tell(errors, "write failed")
+                tell_failure_or(errors, streams, "trace cut")
             }
         }
         Served::Bad { place, byte } => bad_status(errors, place, byte),
-        Served::Read => tell(errors, "read failed"),
-        Served::Write { written: _ } => tell(errors, "write failed"),
+        Served::Read => tell_failure_or(errors, streams, "read failed"),
+        Served::Write { written: _ } => tell_failure_or(errors, streams, "write failed"),
     }
 }
 
@@ -176,9 +226,18 @@ fn bad_status<E: Write>(errors: &mut E, place: u64, byte: u8) -> u8
 }
 
 // Prints why there is no target, and returns the status 2.
-fn target_status<E: Write>(errors: &mut E, fault: TargetFault, script: &Seen, plan: &Seen) -> u8
+fn target_status<E: Write>(
+    errors: &mut E,
+    fault: TargetFault,
+    script: &Seen,
+    plan: &Seen,
+    streams: &[Stream<'_>],
+) -> u8
     ensures { result ≡ 2 }
 {
+    if tell_failure(errors, streams) {
+        return FAULT;
+    }
     match fault {
         TargetFault::Texts(fault) => texts_status(errors, fault, script, plan),
         TargetFault::Memory => tell(errors, "no memory"),

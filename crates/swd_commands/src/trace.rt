@@ -5,6 +5,7 @@ ghost use Rattle.swd_commands.specs.Traces.{IsBeside};
 
 use crate::open_files::{Files, Identity, Opened};
 use crate::report::{FAULT, cannot_open};
+use crate::watched::Watched;
 use std::io;
 use std::io::{ErrorKind, Write};
 use swd_run::Records;
@@ -84,7 +85,7 @@ pub fn open_record<F: Files>(
     files: &F,
     name: &Option<String>,
     read: Sources,
-) -> io::Result<Option<Opened<F::Made>>>
+) -> io::Result<Option<Opened<Watched<F::Made>>>>
     ensures ok { IfOk result (λ opened. is_some opened ≡ is_some name.now) }
     ensures err { OnErr result (is_some name.now ≡ true) }
 {
@@ -92,7 +93,10 @@ pub fn open_record<F: Files>(
         return Ok(None);
     };
     match open_trace(files, name.as_str(), read) {
-        Ok(opened) => Ok(Some(opened)),
+        Ok(opened) => Ok(Some(Opened {
+            file: Watched::new(opened.file),
+            identity: opened.identity,
+        })),
         Err(why) => Err(why),
     }
 }
@@ -129,7 +133,7 @@ pub fn open_records<F: Files, E: Write>(
     files: &F,
     read: Sources,
     errors: &mut E,
-) -> Result<Records<F::Made>, u8>
+) -> Result<Records<Watched<F::Made>>, u8>
     ensures ok { IfOk result (λ records. (is_some records.trace ≡ is_some run.now.trace)
         × (is_some records.accesses ≡ is_some run.now.accesses) × (records.made ≡ made)) }
     ensures err { IfErr result (λ status. (status ≡ 2) × (names_record run.now ≡ true)) }

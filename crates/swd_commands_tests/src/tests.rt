@@ -4,7 +4,7 @@ use std::alloc::Global;
 use std::cell::Cell;
 use std::fmt::Display;
 use std::io;
-use std::io::{Read, Write};
+use std::io::{ErrorKind, Read, Write};
 use std::process::Abort;
 use swd_commands::{Files, Identity, Opened, cannot_open, engine_status, run_words};
 use swd_ends::RemoteFault;
@@ -25,6 +25,7 @@ mod images;
 mod plan;
 mod reasons;
 mod remote;
+mod streams;
 mod target;
 mod verified;
 mod words;
@@ -47,23 +48,39 @@ const RESUMED: &[u8] = b"resume 0 begun 1\nw 20000000 written\nr 20000000 deadbe
 // The acknowledgement of the DRW request is not seen as it was sent.
 const CUT: &[u8] = b".\n.\n.\n.\n.\n.\n.\n.\n.\n.\nmute 0\n";
 
-// A file that was made, and counts what it takes; or that can't be written.
+// A file that was made, and counts what it takes; or that can't be written, for this reason.
 #[derive(Drop)]
 struct Page<'a> {
     counting: CountingWriter<'a>,
-    is_full: bool,
+    fails: Option<ErrorKind>,
 }
 
 impl<'a> Write for Page<'a> {
     fn write(&mut self, buf: &[u8]) -> io::Result<usize> {
-        if self.is_full {
-            return Err(io::Error::from(io::ErrorKind::StorageFull));
+        match self.fails {
+            Some(kind) => Err(io::Error::from(kind)),
+            None => self.counting.write(buf),
         }
-        self.counting.write(buf)
     }
 
     fn flush(&mut self) -> io::Result<()> {
         Ok(())
+    }
+}
+
+// A file that is read. A torn one can't be read to its end.
+#[derive(Drop)]
+struct Leaf {
+    text: &'static [u8],
+    is_torn: bool,
+}
+
+impl Read for Leaf {
+    fn read(&mut self, buf: &mut [u8]) -> io::Result<usize> {
+        if self.is_torn && self.text.is_empty() {
+            return Err(io::Error::from(ErrorKind::TimedOut));
+        }
+        self.text.read(buf)
     }
 }
 
@@ -109,38 +126,51 @@ fn file<F>(name: &str, file: F) -> Opened<F> {
     }
 }
 
+// What the files hold that can be read.
+fn text_of(name: &str) -> Option<&'static [u8]> {
+    match name {
+        "trace" => Some(DPIDR_READ),
+        "list" | "./-" => Some(DPIDR_LINE),
+        "script" => Some(SCRIPT),
+        "image" => Some(b"12345"),
+        "empty" => Some(b""),
+        "two.hex" => Some(TWO_PIECES),
+        "bad.hex" => Some(BAD_HEX),
+        "twice.hex" => Some(TWICE_HEX),
+        "open.hex" => Some(b"\n"),
+        "end" | "end.hex" | "end.IHX" => Some(b":00000001FF\n"),
+        "memory" => Some(b"memory 20000000 16\n"),
+        "awaiting" => Some(b"memory 20000000 16\nuntil 20000000 1 1 3\n"),
+        "quiet" => Some(b"# nothing\n.\n"),
+        "deaf" => Some(b"deaf\n"),
+        "cut" => Some(CUT),
+        "flip33" => Some(b"flip 33"),
+        "plan-x" => Some(b"wait\nx\n"),
+        "plan-flip" => Some(b"flip\n"),
+        "plan-wait" => Some(b"wait 1\n"),
+        "plan-odd" => Some(b"mute one\n"),
+        "plan-mark" => Some(b"\xef\xbb\xbf.\n"),
+        "script-x" => Some(b"memory 0 1\nwx 0 1\n"),
+        "input" | "script-again" => Some(b".\n"),
+        "torn" => Some(b"memory 20000000 16\n"),
+        "torn\u{1b}" | "torn-trace" | "torn-image" => Some(b"1010"),
+        "torn-list" => Some(b"idle 1\n"),
+        "torn-plan" => Some(b"wait\n"),
+        _ => None,
+    }
+}
+
 impl<'a> Files for Shelf<'a> {
-    type File = &'static [u8];
+    type File = Leaf;
 
     type Made = Page<'a>;
 
-    fn open(&self, name: &str) -> io::Result<Opened<&'static [u8]>> {
-        match name {
-            "trace" => Ok(file(name, DPIDR_READ)),
-            "list" | "./-" => Ok(file(name, DPIDR_LINE)),
-            "script" => Ok(file(name, SCRIPT)),
-            "image" => Ok(file(name, b"12345")),
-            "empty" => Ok(file(name, b"")),
-            "two.hex" => Ok(file(name, TWO_PIECES)),
-            "bad.hex" => Ok(file(name, BAD_HEX)),
-            "twice.hex" => Ok(file(name, TWICE_HEX)),
-            "open.hex" => Ok(file(name, b"\n")),
-            "end" | "end.hex" | "end.IHX" => Ok(file(name, b":00000001FF\n")),
-            "memory" => Ok(file(name, b"memory 20000000 16\n")),
-            "awaiting" => Ok(file(name, b"memory 20000000 16\nuntil 20000000 1 1 3\n")),
-            "quiet" => Ok(file(name, b"# nothing\n.\n")),
-            "deaf" => Ok(file(name, b"deaf\n")),
-            "cut" => Ok(file(name, CUT)),
-            "flip33" => Ok(file(name, b"flip 33")),
-            "plan-x" => Ok(file(name, b"wait\nx\n")),
-            "plan-flip" => Ok(file(name, b"flip\n")),
-            "plan-wait" => Ok(file(name, b"wait 1\n")),
-            "plan-odd" => Ok(file(name, b"mute one\n")),
-            "plan-mark" => Ok(file(name, b"\xef\xbb\xbf.\n")),
-            "script-x" => Ok(file(name, b"memory 0 1\nwx 0 1\n")),
-            "input" | "script-again" => Ok(file(name, b".\n")),
-            _ => Err(io::Error::from(io::ErrorKind::NotFound)),
-        }
+    fn open(&self, name: &str) -> io::Result<Opened<Leaf>> {
+        let Some(text) = text_of(name) else {
+            return Err(io::Error::from(ErrorKind::NotFound));
+        };
+        let is_torn = name.starts_with("torn");
+        Ok(file(name, Leaf { text, is_torn }))
     }
 
     fn open_to_write(&self, name: &str) -> io::Result<Opened<Page<'a>>> {
@@ -148,10 +178,14 @@ impl<'a> Files for Shelf<'a> {
             counting: CountingWriter {
                 taken: self.written,
             },
-            is_full: name == "full",
+            fails: match name {
+                "full" => Some(ErrorKind::StorageFull),
+                "pipe" => Some(ErrorKind::BrokenPipe),
+                _ => None,
+            },
         };
         match name {
-            "locked" => Err(io::Error::from(io::ErrorKind::PermissionDenied)),
+            "locked" => Err(io::Error::from(ErrorKind::PermissionDenied)),
             _ => Ok(file(name, made)),
         }
     }
@@ -280,11 +314,11 @@ fn a_trace_is_none_of_the_other_files(rt: HostRuntime) {
 struct Unknown<'a>(Shelf<'a>);
 
 impl<'a> Files for Unknown<'a> {
-    type File = &'static [u8];
+    type File = Leaf;
 
     type Made = Page<'a>;
 
-    fn open(&self, name: &str) -> io::Result<Opened<&'static [u8]>> {
+    fn open(&self, name: &str) -> io::Result<Opened<Leaf>> {
         self.0.open(name)
     }
 
@@ -301,7 +335,7 @@ impl<'a> Files for Unknown<'a> {
     }
 
     fn standard_output(&self) -> io::Result<Option<Identity>> {
-        Err(io::Error::from(io::ErrorKind::NotFound))
+        Err(io::Error::from(ErrorKind::NotFound))
     }
 
     fn standard_error(&self) -> io::Result<Option<Identity>> {
@@ -336,69 +370,6 @@ fn a_trace_that_may_be_standard_output_is_refused(rt: HostRuntime) {
     );
     assert!(rt; output.is_empty());
     expect_eq(&rt, &cuts.get(), &0);
-}
-
-// Fails at each read and write.
-#[derive(Drop)]
-struct Broken;
-
-impl Read for Broken {
-    fn read(&mut self, _buf: &mut [u8]) -> io::Result<usize> {
-        Err(io::Error::from(io::ErrorKind::BrokenPipe))
-    }
-}
-
-impl Write for Broken {
-    fn write(&mut self, _buf: &[u8]) -> io::Result<usize> {
-        Err(io::Error::from(io::ErrorKind::BrokenPipe))
-    }
-
-    fn flush(&mut self) -> io::Result<()> {
-        Ok(())
-    }
-}
-
-// What the words come to where standard output can't be written: the status, and standard error.
-fn unheard(alloc: Global, words: &[&str], input: &[u8]) -> (u8, Vec<u8>) {
-    let mut input = input;
-    let mut errors = Vec::new(alloc);
-    let files = Shelf {
-        written: &Cell::new(0),
-        cuts: &Cell::new(0),
-    };
-    let status = run_words(alloc, words, &mut input, &files, &mut Broken, &mut errors);
-    (status, errors)
-}
-
-#[test]
-fn ends_that_fail_take_their_lines(rt: HostRuntime) {
-    for (command, input) in [
-        ("one", DPIDR_READ),
-        ("decode", DPIDR_READ),
-        ("encode", DPIDR_LINE),
-    ] {
-        let words = ["swd", command];
-        let ran = run_on(rt.alloc(), words.as_slice(), Broken);
-        assert!(rt; ran.output.is_empty());
-        expect_eq(
-            &rt,
-            &ran.errors.as_slice(),
-            &b"swd: read failed\n".as_slice(),
-        );
-        expect_eq(&rt, &ran.status, &2);
-        let (status, errors) = unheard(rt.alloc(), words.as_slice(), input);
-        expect_eq(&rt, &errors.as_slice(), &b"swd: write failed\n".as_slice());
-        expect_eq(&rt, &status, &2);
-    }
-}
-
-#[test]
-fn help_that_cannot_be_written_is_a_fault(rt: HostRuntime) {
-    for words in [["swd", "--help"], ["swd", "--version"]] {
-        let (status, errors) = unheard(rt.alloc(), words.as_slice(), b"".as_slice());
-        expect_eq(&rt, &errors.as_slice(), &b"swd: write failed\n".as_slice());
-        expect_eq(&rt, &status, &2);
-    }
 }
 
 // A fault has these words, and its status.
@@ -480,7 +451,7 @@ fn each_fault_of_an_engine_has_its_words(rt: HostRuntime) {
 #[test]
 fn a_file_that_is_not_there_has_a_status(rt: HostRuntime) {
     let mut errors = Vec::new(rt.alloc());
-    let why = io::Error::from(io::ErrorKind::IsADirectory);
+    let why = io::Error::from(ErrorKind::IsADirectory);
     expect_eq(&rt, &cannot_open(&mut errors, "b", &why), &2);
     expect_eq(
         &rt,

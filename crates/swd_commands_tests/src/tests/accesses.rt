@@ -74,7 +74,7 @@ const RUNS: [(&[&str], usize, u8, &[u8]); 4] = [
         &["swd", "run", "script", "--accesses", "full"],
         0,
         2,
-        b"swd: write of the accesses failed\n",
+        b"swd: write failed: full: no storage space\n",
     ),
     (
         &[

@@ -1,6 +1,6 @@
 //! Images at a target behind the standard streams: what the arguments make of them.
 use super::expect::{expect_at, expect_eq, expect_eq_at};
-use super::{Broken, run_on, unheard};
+use super::run_on;
 use std::test::Fail;
 use swd_words::{ImageAction, Line, line};
 
@@ -68,14 +68,6 @@ fn a_target_that_goes_away_ends_each_command(rt: HostRuntime) {
             expect_eq_at(&rt, &words, &ran.cuts, &0);
             expect_eq_at(&rt, &words, &ran.traced, &0);
         }
-        let ran = run_on(rt.alloc(), words, Broken);
-        let errors = b"swd: read failed\n".as_slice();
-        expect_eq_at(&rt, &words, &ran.errors.as_slice(), &errors);
-        expect_eq_at(&rt, &words, &ran.status, &1);
-        let (status, errors) = unheard(rt.alloc(), words, b"111".as_slice());
-        let failed = b"swd: write failed\n".as_slice();
-        expect_eq_at(&rt, &words, &errors.as_slice(), &failed);
-        expect_eq_at(&rt, &words, &status, &1);
     }
 }
 

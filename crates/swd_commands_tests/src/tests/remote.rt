@@ -1,6 +1,6 @@
 //! A run at a target behind the standard streams: what words make of it.
 use super::expect::{expect_eq, expect_eq_at};
-use super::{Broken, run_on, unheard};
+use super::run_on;
 
 // The report of a run that was lost before its first access.
 const LOST: &[u8] = b"end lost 0 begun 0\n";
@@ -89,22 +89,6 @@ fn what_does_not_go_with_it_is_refused(rt: HostRuntime) {
         expect_eq(&rt, &ran.status, &2);
         expect_eq(&rt, &ran.traced, &0);
     }
-}
-
-// A reader or a writer that fails is told by its own line, after the report of what was sure.
-#[test]
-fn streams_that_fail_are_told_apart(rt: HostRuntime) {
-    let ran = run_on(rt.alloc(), WORDS.as_slice(), Broken);
-    expect_eq(
-        &rt,
-        &ran.errors.as_slice(),
-        &b"swd: read failed\n".as_slice(),
-    );
-    expect_eq(&rt, &ran.status, &1);
-    expect_eq(&rt, &ran.traced, &LOST.len());
-    let (status, errors) = unheard(rt.alloc(), WORDS.as_slice(), b"111".as_slice());
-    expect_eq(&rt, &errors.as_slice(), &b"swd: write failed\n".as_slice());
-    expect_eq(&rt, &status, &1);
 }
 
 // The report goes to standard error, before what is said there of the line, and no file is made or cut off for it. The

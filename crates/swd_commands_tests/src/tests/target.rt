@@ -62,23 +62,6 @@ fn a_long_session_is_traced_whole(rt: HostRuntime) -> Result<(), Fail> {
     Ok(())
 }
 
-// What can't be written takes its line, although the host was served.
-#[test]
-fn a_record_that_cannot_be_written_is_a_fault(rt: HostRuntime) {
-    for record in ["--log", "--trace"] {
-        let words = ["swd", "target", "memory", record, "full"];
-        let ran = run_on(rt.alloc(), words.as_slice(), SESSION);
-        expect_eq_at(&rt, &record, &ran.output.as_slice(), &LEVELS);
-        expect_eq_at(
-            &rt,
-            &record,
-            &ran.errors.as_slice(),
-            &b"swd: write failed\n".as_slice(),
-        );
-        expect_eq_at(&rt, &record, &ran.status, &2);
-    }
-}
-
 // A log or a trace that is the script or the plan, under whatever name, is refused with nothing cut off.
 #[test]
 fn a_record_is_none_of_the_files_that_are_read(rt: HostRuntime) {

@@ -13,7 +13,7 @@ write_image_file-status-requires g c =
     let Over = WentOver g.I.Read.remaining g.O.Write.contents (g.O.Write.contents c.args.output)
     (g.I.Read.remaining c.args.input) line in
     let image = c.args.image.now in
-    subst (λ l. image.addr + length l ≤ 2 ^ 32) (sym c.as_slice.ensures.value)
+    subst (λ l. image.addr + length l ≤ 2 ^ 32) (sym c.as_slice-in-Ok-reached.ensures.value)
     (dump_fits (λ v. v.items) g.P.Story.at image.tries image.resumes image.addr Over c.args.count line.fault answer
     c.in-Ok-reached.bytes c.in-Ok-reached.ensures c.dump_remote-answer.ensures)
 
@@ -31,7 +31,7 @@ returns-in-Ok-reached g c =
       dump_done (λ v. v.items) image.format image.addr line.fault answer c.in-Ok-reached.bytes
           c.write_image_file-status.result c.in-Ok-reached.ensures
           (subst (λ l. IsWritten c.write_image_file-status.result (file_of image.format image.addr l))
-          c.as_slice.ensures.value c.write_image_file-status.ensures),
+          c.as_slice-in-Ok-reached.ensures.value c.write_image_file-status.ensures),
     )
 
 pub returns : goal.returns

@@ -2,6 +2,7 @@ use Rattle.std.proofs.Common.{inl, inr}
 use Rattle.std.proofs.KnownBytes.{Appends-nil}
 use Rattle.swd_run.specs.Records.{files_of}
 use Rattle.swd_commands.proofs.RecordLemmas.{are_for}
+use Rattle.swd_commands.specs.Streams.{watched}
 use Rattle.swd_commands.proofs.program.perform_under.Goals as goal
 
 pub returns-in-Err : goal.returns-in-Err
@@ -9,7 +10,7 @@ returns-in-Err g c = inl (c.in-Err.ensures.err.1, (c.in-Err.ensures.err.0, Appen
 
 pub returns : goal.returns
 returns g c =
-    let contents = g.F.Made.Write.contents in
+    let contents = watched g.F.Made.Write.contents in
     inr (
       c.run_text-answer.result,
       files_of contents c.in-Ok.records,

@@ -1,4 +1,5 @@
 use Rattle.std.proofs.Common.{◌∙◌, ℕ, ap, inl, inr, sym}
+use Rattle.std.proofs.KnownBytes.{Appends-nil}
 use Rattle.swd_bitbang.specs.declared.serving.Served.{Served}
 use Rattle.swd_bitbang.specs.declared.serving.Served.TheVariants.{Quit, Ended, Bad, Read, Write}
 use Rattle.swd_bitbang.specs.Traces.{is_cut_off}
@@ -26,6 +27,9 @@ returns-in-Ok-read_target g c =
       c.in-Ok-read_target.ensures.made,
       c.serve-served.ensures,
       served_so c.serve-served.result.0 _ _ _
-          (λ done. ap is_cut_off (sym c.into_parts-target.ensures.trace) ∙ c.write_records-done.ensures done)
+          (λ done. ap is_cut_off (sym c.into_parts-clocked.ensures.trace) ∙ c.write_records-done.ensures done)
           c.served_status.ensures,
     )
+
+pub returns : goal.returns
+returns g c = inl (c.target_status.ensures, Appends-nil _)

@@ -1,0 +1,111 @@
+//! Keeps why a stream failed.
+ghost use Rattle.std.specs.Prelude.{◌≡◌, Option};
+ghost use Rattle.std.specs.Io.{ReadsAtMost, WritesAtMost};
+ghost use Rattle.std.specs.Io.KnownBytes.{Keeps, ReadConsumes, WriteAppends};
+ghost use Rattle.std_io.specs.declared.io.error.Error.{Error};
+ghost use Rattle.swd_commands.specs.Streams.{after_call, after_write, kind_of};
+
+use crate::open_files::Opened;
+use std::io;
+use std::io::{ErrorKind, Read, Write};
+
+/// A stream that keeps the error of its last failed call.
+pub trait KeepsError {
+    ghost kept: { Self → Option Error };
+
+    /// Returns the error of the last call that failed, or `None` if none did.
+    fn kept_error(&self) -> Option<io::Error>
+        ensures { result ≡ kept self.now };
+}
+
+impl<S: KeepsError> KeepsError for &mut S {
+    ghost kept = { λ stream. S.kept stream.now };
+
+    fn kept_error(&self) -> Option<io::Error> {
+        (**self).kept_error()
+    }
+}
+
+impl<F: KeepsError> KeepsError for Opened<F> {
+    ghost kept = { λ opened. F.kept opened.file };
+
+    fn kept_error(&self) -> Option<io::Error> {
+        self.file.kept_error()
+    }
+}
+
+/// A reader or a writer, and the error of its last failed call. A write that takes none of some bytes fails with
+/// `WriteZero`.
+///
+/// The engines say that a stream failed, and not why.
+#[derive(Drop)]
+pub struct Watched<S> {
+    pub stream: S,
+    error: Option<io::Error>,
+}
+
+impl<S> Watched<S> {
+    /// Watches a stream from here on.
+    pub fn new(stream: S) -> Watched<S>
+        ensures stream { result.stream ≡ stream }
+        ensures error { result.error ≡ None }
+    {
+        Watched {
+            stream,
+            error: None,
+        }
+    }
+}
+
+impl<S> KeepsError for Watched<S> {
+    ghost kept = { λ watched. watched.error };
+
+    fn kept_error(&self) -> Option<io::Error> {
+        self.error
+    }
+}
+
+impl<R: Read> Read for Watched<R> {
+    ghost remaining = { λ watched. R.remaining watched.stream };
+
+    fn read(&mut self, buf: &mut [u8]) -> io::Result<usize>
+        ensures bound { ReadsAtMost result buf.new }
+        ensures bytes { ReadConsumes (R.remaining self.old.stream) (R.remaining self.new.stream) result buf.new }
+        ensures error { kind_of self.new.error ≡ after_call (kind_of self.old.error) result }
+    {
+        let result = self.stream.read(buf);
+        if let Err(error) = &result {
+            self.error = Some(*error);
+        }
+        result
+    }
+}
+
+impl<W: Write> Write for Watched<W> {
+    ghost contents = { λ watched. W.contents watched.stream };
+
+    fn write(&mut self, buf: &[u8]) -> io::Result<usize>
+        ensures bound { WritesAtMost result buf.now }
+        ensures bytes { WriteAppends (W.contents self.old.stream) (W.contents self.new.stream) result buf.now }
+        ensures error { kind_of self.new.error ≡ after_write (kind_of self.old.error) result buf.now }
+    {
+        let result = self.stream.write(buf);
+        match &result {
+            Ok(0) if !buf.is_empty() => self.error = Some(io::Error::from(ErrorKind::WriteZero)),
+            Ok(_) => {}
+            Err(error) => self.error = Some(*error),
+        }
+        result
+    }
+
+    fn flush(&mut self) -> io::Result<()>
+        ensures bytes { Keeps (W.contents self.old.stream) (W.contents self.new.stream) }
+        ensures error { kind_of self.new.error ≡ after_call (kind_of self.old.error) result }
+    {
+        let result = self.stream.flush();
+        if let Err(error) = &result {
+            self.error = Some(*error);
+        }
+        result
+    }
+}
