@@ -4,16 +4,14 @@ ghost use Rattle.swd_bitbang.specs.Traces.{is_cut_off};
 ghost use Rattle.swd_commands.specs.Targets.{IsServedStatus, ServesHost};
 
 use crate::noted::{Noted, Seen};
-use crate::open_files::{Files, Identity, Opened};
+use crate::open_files::{Files, Identity};
 use crate::reason::texts_status;
 use crate::report::{DONE, FAULT, cannot_open, tell};
-use crate::trace::{Sources, cannot_open_record, open_plan, open_record};
+use crate::trace::{Sources, cannot_open_record, file_alone, open_plan, open_record};
 use std::alloc::Allocator;
 use std::io::{Read, Write};
-use swd_bitbang::{Served, Trace, serve};
-use swd_clocked::MarkedClocked;
-use swd_ends::{TargetFault, read_target, write_log};
-use swd_io::send;
+use swd_bitbang::{Served, Trace};
+use swd_ends::{LiveFiles, TargetFault, read_target, serve_logged};
 use swd_words::TargetLine;
 
 /// Opens the plan, and serves a host at the script's target. Without a plan no faults are injected. Returns the
@@ -69,7 +67,7 @@ pub fn perform_target<S: Read, I: Read, F: Files, O: Write, E: Write, A: Allocat
     }
 }
 
-// Opens the files of the log and the trace, and serves a host. Writes both files afterwards.
+// Opens the files of the log and the trace, and serves a host. Writes both files while it does.
 fn serve_under<S: Read, P: Read, I: Read, F: Files, O: Write, E: Write, A: Allocator + Copy>(
     alloc: A,
     target: &TargetLine,
@@ -110,38 +108,20 @@ fn serve_under<S: Read, P: Read, I: Read, F: Files, O: Write, E: Write, A: Alloc
     };
     match read_target(alloc, &mut script, &mut plan, kept) {
         Ok(pins) => {
-            let (served, pins) = serve(input, output, pins);
-            let (target, kept) = pins.into_parts();
-            let done = write_records(log, trace, &target, &kept);
+            let (log, trace) = (file_alone(log), file_alone(trace));
+            let (served, pins, files) = serve_logged(input, output, pins, log, trace);
+            let done = are_complete(&files, pins.trace());
             served_status(errors, served, done)
         }
         Err(fault) => target_status(errors, fault, &script.seen, &plan.seen),
     }
 }
 
-// Writes the log and the trace. Returns whether both were written completely, and the trace isn't truncated.
-fn write_records<M: Write + Drop, A: Allocator>(
-    log: Option<Opened<M>>,
-    trace: Option<Opened<M>>,
-    target: &MarkedClocked<A>,
-    kept: &Trace<A>,
-) -> bool
+// Returns whether both files were written completely, and the trace isn't truncated.
+fn are_complete<M, A: Allocator>(files: &LiveFiles<M>, kept: &Trace<A>) -> bool
     ensures { result ≡ true → is_cut_off kept.now ≡ false }
 {
-    let logged = match log {
-        Some(mut log) => write_log(&mut log.file, target).is_ok(),
-        None => true,
-    };
-    let traced = match trace {
-        Some(mut trace) => write_trace(&mut trace.file, kept),
-        None => true,
-    };
-    logged && traced && !kept.is_cut()
-}
-
-// Writes the trace, and returns whether it was written completely.
-fn write_trace<M: Write, A: Allocator>(writer: &mut M, kept: &Trace<A>) -> bool {
-    send(writer, kept.text()).is_ok() && send(writer, b"\n").is_ok()
+    files.are_whole() && !kept.is_cut()
 }
 
 // Returns the status of a session. `done`: its log and its trace were written completely, and the trace isn't
