@@ -14,6 +14,7 @@ use Rattle.swd_bitbang.specs.declared.serving.Server.{Server}
 use Rattle.swd_sequences.specs.Alphabet.{character}
 use Rattle.swd_bitbang.specs.Steps.{Steps}
 use Rattle.swd_bitbang.specs.Sessions.{IsOpen, Answers, Session, Goes, EndsAs, IsWhole}
+use Rattle.swd_bitbang.specs.Watching.{Reaches}
 use Rattle.swd_bitbang.specs.Serving.{Begin, Taken, IsEnd, IsStop, StopsIn, end_of}
 
 -- one character more
@@ -37,6 +38,24 @@ session_more (b ∷ text) levels byte more s m t h a = (
   ap (λ x. x ++ more) h.5
       ∙ append_assoc h.1 h.2 more,
 )
+
+-- characters, and then more
+session_on : {A : Type 0} (text levels next more : List ℕ) (s m t : Pins A) → Session text levels s m
+    → Session next more m t → Session (text ++ next) (levels ++ more) s t
+session_on [] levels next more s m t h g =
+    subst (λ l. Session next (l ++ more) s t) (sym h.0) (subst (λ (x : Pins _). Session next more x t) h.1 g)
+session_on (b ∷ text) levels next more s m t h g = (
+  h.0,
+  h.1,
+  h.2 ++ more,
+  h.3,
+  session_on text h.2 next more h.0 m t h.4 g,
+  ap (λ l. l ++ more) h.5 ∙ append_assoc h.1 h.2 more,
+)
+
+-- pins that are reached from some that were reached themselves are reached from the first ones
+pub reaches_further : {A : Type 0} (s m t : Pins A) → Reaches s m → Reaches m t → Reaches s t
+reaches_further s m t h g = (h.0 ++ g.0, h.1 ++ g.1, session_on h.0 h.1 g.0 g.1 s m t h.2 g.2)
 
 -- a sign that ends no session leaves it open
 pub open_sign : (sign : Sign) (place byte : ℕ) → end_of sign place byte ≡ None → IsOpen sign
@@ -89,7 +108,7 @@ parted seen piece i h =
     ∙ ap (λ x. seen ++ x) (ap (λ x. take i piece ++ x) (sym (drop-cons piece i 0 h)) ∙ take-append-drop i piece))
 
 -- the answers so far are queued or written, whether the session ended in a piece or not
-pub record UnderWay {A W : Type 0} (contents : W → Option (List ℕ)) (begin : Begin A) (server : Server A)
+pub record UnderWay {A V W : Type 0} (contents : W → Option (List ℕ)) (begin : Begin A) (server : Server A V)
     (block : Block W) (text : List ℕ) : Type 0 where
   pub taken : List ℕ
   pub more : List ℕ
@@ -98,8 +117,8 @@ pub record UnderWay {A W : Type 0} (contents : W → Option (List ℕ)) (begin :
   pub under_way : Taken contents begin server block taken
 
 -- after a piece, taken whole or up to the character that ended the session, the answers so far are queued or written
-pub under_way : {A W : Type 0} (contents : W → Option (List ℕ)) (begin : Begin A) (server : Server A) (block : Block W)
-    (text : List ℕ) (r : Result (Unit {0}) Served) →
+pub under_way : {A V W : Type 0} (contents : W → Option (List ℕ)) (begin : Begin A) (server : Server A V)
+    (block : Block W) (text : List ℕ) (r : Result (Unit {0}) Served) →
     OnOk r (Taken contents begin server block text)
     → IfErr r (λ served. StopsIn contents begin server block served text)
     → UnderWay contents begin server block text

@@ -2,4 +2,5 @@ pub mod Traces
 pub mod Steps
 pub mod Sessions
 pub mod Serving
+pub mod Watching
 pub mod Lines

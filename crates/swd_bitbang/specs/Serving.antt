@@ -16,15 +16,15 @@ abbrev pub Begin : Type 0 → Type 0
 Begin A = Pins A × Option (List ℕ)
 
 -- These characters were taken, and their answers are queued or written.
-pub record Taken {A W : Type 0} (contents : W → Option (List ℕ)) (begin : Begin A) (server : Server A) (block : Block W)
-    (seen : List ℕ) : Type 0 where
+pub record Taken {A V W : Type 0} (contents : W → Option (List ℕ)) (begin : Begin A) (server : Server A V)
+    (block : Block W) (seen : List ℕ) : Type 0 where
   pub levels : List ℕ
   pub session : Session seen levels begin.0 server.pins
   pub sends : Sends contents begin.1 block levels
   pub place : server.place ≡ min (length seen) (2 ^ 64 - 1)
 
 -- These characters were taken, and their answers were written.
-pub record HasTaken {A W : Type 0} (contents : W → Option (List ℕ)) (begin : Begin A) (state : Server A × W)
+pub record HasTaken {A V W : Type 0} (contents : W → Option (List ℕ)) (begin : Begin A) (state : Server A V × W)
     (seen : List ℕ) : Type 0 where
   pub levels : List ℕ
   pub session : Session seen levels begin.0 state.0.pins
@@ -45,7 +45,7 @@ IsEnd (ends.Bad place which) taken byte = IsBad place which taken byte
 IsEnd served taken byte = ⊥
 
 -- The session ended within these bytes, and the answers before that are queued or written.
-pub record StopsIn {A W : Type 0} (contents : W → Option (List ℕ)) (begin : Begin A) (server : Server A)
+pub record StopsIn {A V W : Type 0} (contents : W → Option (List ℕ)) (begin : Begin A) (server : Server A V)
     (block : Block W)
     (served : Served) (text : List ℕ) : Type 0 where
   pub taken : List ℕ
@@ -61,6 +61,6 @@ IsStop ends.Ended = ⊥
 IsStop ends.Read = ⊥
 IsStop served = Unit {0}
 
-abbrev pub Ends : {A W : Type 0} → (W → Option (List ℕ)) → Begin A → Server A × W → Served → List ℕ → Type 0
+abbrev pub Ends : {A V W : Type 0} → (W → Option (List ℕ)) → Begin A → Server A V × W → Served → List ℕ → Type 0
 Ends contents begin state served text = IsStop served
     × EndsAs served begin.1 (contents state.1) text begin.0 state.0.pins

@@ -5,7 +5,9 @@ pub mod laws;
 mod pins;
 mod serving;
 mod trace;
+mod watch;
 
 pub use pins::{Pins, Sign};
-pub use serving::{Served, serve};
+pub use serving::{Served, serve, serve_watched};
 pub use trace::Trace;
+pub use watch::Watch;

@@ -68,6 +68,20 @@ impl<A: Allocator> Pins<A> {
         }
     }
 
+    /// Returns the target.
+    pub fn target(&self) -> &MarkedClocked<A>
+        ensures { result.now ≡ self.now.target }
+    {
+        &self.target
+    }
+
+    /// Returns the trace.
+    pub fn trace(&self) -> &Trace<A>
+        ensures { result.now ≡ self.now.trace }
+    {
+        &self.trace
+    }
+
     /// Returns the target and the trace.
     pub fn into_parts(self) -> (MarkedClocked<A>, Trace<A>)
         ensures target { result.0 ≡ self.target }

@@ -5,8 +5,10 @@ ghost use Rattle.swd_io.specs.Pieces.{LeadsOn, LeadsToEnd};
 ghost use Rattle.swd_io.proofs.PieceLemmas.{leads_nowhere, leads_further, leads_to_later_end};
 ghost use Rattle.swd_bitbang.specs.Sessions.{Serves, told};
 ghost use Rattle.swd_bitbang.specs.Serving.{Begin, Taken, HasTaken, IsEnd, StopsIn, Ends, end_of};
+ghost use Rattle.swd_bitbang.specs.Watching.{LeadsOnWatched, LeadsToEndWatched, Reaches, watched};
 
 use crate::pins::{Pins, Sign};
+use crate::watch::{Unwatched, Watch};
 use std::alloc::Allocator;
 use std::io::{Read, Write};
 use swd_io::{Block, Consumer, read_pieces};
@@ -28,14 +30,15 @@ pub enum Served {
     Write { written: u64 },
 }
 
-// The pins, and the counts of the session.
+// The pins, the counts of the session, and its watch.
 #[derive(Drop)]
-struct Server<A: Allocator> {
+struct Server<A: Allocator, V> {
     pins: Pins<A>,
     // The number of characters taken, at most 2^64 - 1.
     place: u64,
     // The number of levels written, at most 2^64 - 1.
     written: u64,
+    watch: V,
 }
 
 // Returns how a sign ends a session, at this byte and its position.
@@ -61,11 +64,13 @@ fn put_answer<W: Write>(block: &mut Block<'_, W>, sign: Sign)
     }
 }
 
-impl<A: Allocator> Server<A> {
+impl<A: Allocator, V> Server<A, V> {
     // Takes a character, or returns how it ends the session.
     fn byte<W: Write>(&mut self, block: &mut Block<'_, W>, byte: u8) -> Result<(), Served>
         ensures writer { block.new.writer.ghost_name ≡ block.old.writer.ghost_name }
         ensures written { self.new.written ≡ self.old.written }
+        ensures watch { self.new.watch ≡ self.old.watch }
+        ensures goes { Reaches self.old.pins self.new.pins }
         ensures ok { OnOk result ((begin : Begin A) (seen : List ℕ) → Taken W.contents begin self.old block.old seen
             → Taken W.contents begin self.new block.new (seen ++ byte ∷ [])) }
         ensures err { IfErr result (λ served. (begin : Begin A) (seen : List ℕ)
@@ -85,6 +90,8 @@ impl<A: Allocator> Server<A> {
     fn bytes<W: Write>(&mut self, block: &mut Block<'_, W>, piece: &[u8]) -> Result<(), Served>
         ensures writer { block.new.writer.ghost_name ≡ block.old.writer.ghost_name }
         ensures written { self.new.written ≡ self.old.written }
+        ensures watch { self.new.watch ≡ self.old.watch }
+        ensures goes { Reaches self.old.pins self.new.pins }
         ensures ok { OnOk result ((begin : Begin A) (seen : List ℕ) → Taken W.contents begin self.old block.old seen
             → Taken W.contents begin self.new block.new (seen ++ piece.now)) }
         ensures err { IfErr result (λ served. (begin : Begin A) (seen : List ℕ)
@@ -100,19 +107,20 @@ impl<A: Allocator> Server<A> {
     }
 }
 
-impl<A: Allocator, W: Write> Consumer<W> for Server<A> {
+impl<A: Allocator, W: Write, V: Watch<A>> Consumer<W> for Server<A, V> {
     type Fault = Served;
 
     ghost can_take = { λ _. Unit {0} };
 
-    ghost takes = { LeadsOn (HasTaken W.contents) };
+    ghost takes = { LeadsOnWatched V.follows (LeadsOn (HasTaken W.contents)) };
 
-    ghost stops = { LeadsToEnd (HasTaken W.contents) (Ends W.contents) };
+    ghost stops = { LeadsToEndWatched V.follows (LeadsToEnd (HasTaken W.contents) (Ends W.contents)) };
 
-    // Writes the answers to a piece before more is read.
+    // Shows the watch the pins after a piece, and writes the answers to it, before more is read.
     fn take(&mut self, writer: &mut W, piece: &[u8]) -> Result<(), Served> {
         let mut block = Block::new(writer, self.written);
         let taken = self.bytes(&mut block, piece);
+        self.watch.see(&self.pins);
         match block.flush() {
             Ok(written) => self.written = written,
             Err(written) => return Err(Served::Write { written }),
@@ -123,11 +131,21 @@ impl<A: Allocator, W: Write> Consumer<W> for Server<A> {
         }
     }
 
-    ghost takes_nothing = { leads_nowhere (HasTaken W.contents) };
+    ghost takes_nothing = { λ a. record {
+      leads_on = leads_nowhere (HasTaken W.contents) a;
+      followed = V.stays (watched a);
+    } };
 
-    ghost takes_on = { leads_further (HasTaken W.contents) };
+    ghost takes_on = { λ a b c first next f g. record {
+      leads_on = leads_further (HasTaken W.contents) a b c first next f.leads_on g.leads_on;
+      followed = V.goes_on (watched a) (watched b) (watched c) f.followed g.followed;
+    } };
 
-    ghost stops_later = { leads_to_later_end (HasTaken W.contents) (Ends W.contents) };
+    ghost stops_later = { λ a b c first next fault f g. record {
+      leads_to_end = leads_to_later_end (HasTaken W.contents) (Ends W.contents) a b c first next fault f.leads_on
+          g.leads_to_end;
+      followed = V.goes_on (watched a) (watched b) (watched c) f.followed g.followed;
+    } };
 }
 
 /// Serves a host at these pins until the host is done, sends a byte that isn't one of the protocol's
@@ -146,14 +164,34 @@ pub fn serve<R: Read, W: Write, A: Allocator>(
     ensures { Serves result.0 (R.remaining reader.old) (R.remaining reader.new)
         (W.contents writer.old) (W.contents writer.new) pins result.1 }
 {
+    let (served, pins, _) = serve_watched(reader, writer, pins, Unwatched);
+    (served, pins)
+}
+
+/// Serves a host as [`serve`] does. After each piece of input, and before the next read, the watch is shown the
+/// pins: once all characters of the piece were taken, or those before one that ends the session, and before the
+/// last of their answers are written. Returns how the session ended, the pins that the watch was shown last, and
+/// the watch.
+pub fn serve_watched<R: Read, W: Write, A: Allocator, V: Watch<A>>(
+    reader: &mut R,
+    writer: &mut W,
+    pins: Pins<A>,
+    watch: V,
+) -> (Served, Pins<A>, V)
+    ensures session { Serves result.0 (R.remaining reader.old) (R.remaining reader.new)
+        (W.contents writer.old) (W.contents writer.new) pins result.1 }
+    ensures watched { V.follows (watch, pins) (result.2, result.1) }
+{
     let mut server = Server {
         pins,
         place: 0,
         written: 0,
+        watch,
     };
     let served = match read_pieces(reader, writer, &mut server) {
         Ok(()) => Served::Ended,
         Err(unread) => unread.fault_or(Served::Read),
     };
-    (served, server.pins)
+    let Server { pins, watch, .. } = server;
+    (served, pins, watch)
 }

@@ -4,18 +4,16 @@ ghost use Rattle.swd_bitbang.specs.Traces.{is_cut_off};
 ghost use Rattle.swd_commands.specs.Targets.{IsServedStatus, ServesHost};
 
 use crate::noted::{Noted, Seen};
-use crate::open_files::{Files, Identity, Opened};
+use crate::open_files::{Files, Identity};
 use crate::reason::texts_status;
 use crate::report::{DONE, FAULT, cannot_open, tell};
 use crate::streams::{INPUT, Stream, name_or_nothing, tell_failure, tell_failure_or};
-use crate::trace::{Sources, cannot_open_record, open_plan, open_record};
+use crate::trace::{Sources, cannot_open_record, file_alone, open_plan, open_record};
 use crate::watched::{KeepsError, Watched};
 use std::alloc::Allocator;
 use std::io::{Read, Write};
-use swd_bitbang::{Served, Trace, serve};
-use swd_clocked::MarkedClocked;
-use swd_ends::{TargetFault, read_target, write_log};
-use swd_io::send;
+use swd_bitbang::{Served, Trace};
+use swd_ends::{LiveFiles, TargetFault, read_target, serve_logged};
 use swd_words::TargetLine;
 
 /// Opens the plan, and serves a host at the script's target. Without a plan no faults are injected. Returns the
@@ -78,7 +76,7 @@ pub fn perform_target<
     }
 }
 
-// Opens the files of the log and the trace, and serves a host. Writes both files afterwards.
+// Opens the files of the log and the trace, and serves a host. Writes both files while it does.
 fn serve_under<
     S: Read + KeepsError,
     P: Read + KeepsError,
@@ -101,7 +99,7 @@ fn serve_under<
     ensures { ServesHost A result (S.remaining script.old) (P.remaining plan.old) (I.remaining input.old)
         (I.remaining input.new) (O.contents output.old) (O.contents output.new) }
 {
-    let mut log = match open_record(files, &target.log, read) {
+    let log = match open_record(files, &target.log, read) {
         Ok(log) => log,
         Err(why) => return cannot_open_record(errors, &target.log, &why),
     };
@@ -109,7 +107,7 @@ fn serve_under<
         written: log.as_ref().map(|log| log.identity),
         ..read
     };
-    let mut trace = match open_record(files, &target.trace, beside) {
+    let trace = match open_record(files, &target.trace, beside) {
         Ok(trace) => trace,
         Err(why) => return cannot_open_record(errors, &target.trace, &why),
     };
@@ -127,9 +125,10 @@ fn serve_under<
     };
     match read_target(alloc, &mut script, &mut plan, kept) {
         Ok(pins) => {
-            let (served, pins) = serve(input, output, pins);
-            let (clocked, kept) = pins.into_parts();
-            let done = write_records(&mut log, &mut trace, &clocked, &kept);
+            let (log, trace) = (file_alone(log), file_alone(trace));
+            let (served, pins, files) = serve_logged(input, output, pins, log, trace);
+            let done = are_complete(&files, pins.trace());
+            let (log, trace) = files.into_writers();
             let streams = served_streams(target, input, output, &log, &trace);
             served_status(errors, served, done, streams.as_slice())
         }
@@ -169,29 +168,11 @@ fn served_streams<'a, I: KeepsError, O: KeepsError, M: KeepsError>(
     ]
 }
 
-// Writes the log and the trace. Returns whether both were written completely, and the trace isn't truncated.
-fn write_records<M: Write, A: Allocator>(
-    log: &mut Option<Opened<M>>,
-    trace: &mut Option<Opened<M>>,
-    target: &MarkedClocked<A>,
-    kept: &Trace<A>,
-) -> bool
+// Returns whether both files were written completely, and the trace isn't truncated.
+fn are_complete<M, A: Allocator>(files: &LiveFiles<M>, kept: &Trace<A>) -> bool
     ensures { result ≡ true → is_cut_off kept.now ≡ false }
 {
-    let logged = match log {
-        Some(log) => write_log(&mut log.file, target).is_ok(),
-        None => true,
-    };
-    let traced = match trace {
-        Some(trace) => write_trace(&mut trace.file, kept),
-        None => true,
-    };
-    logged && traced && !kept.is_cut()
-}
-
-// Writes the trace, and returns whether it was written completely.
-fn write_trace<M: Write, A: Allocator>(writer: &mut M, kept: &Trace<A>) -> bool {
-    send(writer, kept.text()).is_ok() && send(writer, b"\n").is_ok()
+    files.are_whole() && !kept.is_cut()
 }
 
 // Returns the status of a session, and prints what failed. `done`: its log and its trace were written completely, and

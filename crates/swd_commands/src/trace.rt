@@ -111,8 +111,8 @@ pub fn cannot_open_record<E: Write>(errors: &mut E, name: &Option<String>, why: 
     }
 }
 
-// Returns the file without its identity.
-fn file_alone<M>(opened: Option<Opened<M>>) -> Option<M>
+/// Returns the file without its identity.
+pub fn file_alone<M>(opened: Option<Opened<M>>) -> Option<M>
     ensures { is_some result ≡ is_some opened }
 {
     match opened {

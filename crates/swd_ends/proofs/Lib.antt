@@ -1,3 +1,5 @@
 pub mod ClockLemmas
 pub mod RemoteLemmas
 pub mod LogLemmas
+pub mod LogGrowth
+pub mod LiveLemmas

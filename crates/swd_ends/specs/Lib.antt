@@ -1,4 +1,5 @@
 pub mod ClockedProbes
+pub mod LiveFiles
 pub mod OneLine
 pub mod RemoteRuns
 pub mod Serving

@@ -15,6 +15,7 @@ mod expect;
 mod faults;
 mod images;
 mod line;
+mod logged;
 mod pair;
 mod pieces;
 mod recorded;

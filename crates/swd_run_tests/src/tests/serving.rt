@@ -40,8 +40,8 @@ impl Write for SlowWriter {
     }
 }
 
-// The pins at a target of sixteen words from 20000000, of whose requests this one meets the mark.
-fn pins_under(alloc: Global, request: usize, mark: Mark) -> Result<Pins, Fail> {
+/// The pins at a target of sixteen words from 20000000, of whose requests this one meets the mark.
+pub(super) fn pins_under(alloc: Global, request: usize, mark: Mark) -> Result<Pins, Fail> {
     let memory = Memory::new(alloc, 0x2000_0000, 16, 16)?;
     let mut plan = Vec::new(alloc);
     for _ in 0..request {

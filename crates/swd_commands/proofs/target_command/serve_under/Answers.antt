@@ -20,14 +20,14 @@ served_so (Write written) P Q status so two = two
 pub returns-in-Ok-read_target : goal.returns-in-Ok-read_target
 returns-in-Ok-read_target g c =
     inr (
-      c.serve-served.result.0,
+      c.serve_logged-served.result.0,
       c.match-trace.kept,
       c.in-Ok-read_target.pins,
-      c.serve-served.result.1,
+      c.serve_logged-served.result.1,
       c.in-Ok-read_target.ensures.made,
-      c.serve-served.ensures,
-      served_so c.serve-served.result.0 _ _ _
-          (λ done. ap is_cut_off (sym c.into_parts-clocked.ensures.trace) ∙ c.write_records-done.ensures done)
+      c.serve_logged-served.ensures.session,
+      served_so c.serve_logged-served.result.0 _ _ _
+          (λ done. ap is_cut_off (sym c.trace.ensures) ∙ c.are_complete-done.ensures done)
           c.served_status.ensures,
     )
 

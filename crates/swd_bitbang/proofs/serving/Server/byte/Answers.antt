@@ -35,3 +35,14 @@ returns-clause-ok g c = λ begin seen h.
       sends = c.put_answer.ensures.sends begin.1 h.levels h.sends;
       place = omega arith;
     }
+
+pub returns-clause-goes : goal.returns-clause-goes
+returns-clause-goes g c =
+    let old = c.args.self.now in
+    let sign = c.take-sign.result in
+    let open_still = open_sign sign old.place c.args.byte (sym c.end_at.ensures ∙ c.in_default.is) in (
+      c.args.byte ∷ [],
+      told sign,
+      session_more [] [] c.args.byte (told sign) old.pins old.pins c.take-sign.new.self (refl, refl)
+          (record { sign = sign; steps = c.take-sign.ensures; goes_on = open_still; tells = refl }),
+    )

@@ -1,5 +1,8 @@
-use Rattle.std.proofs.Common.{suc, ◌++◌, take, drop, get_or}
-use Rattle.swd_bitbang.proofs.SessionLemmas.{parted}
+use Rattle.std.proofs.Common.{suc, ◌++◌, sym, ap, subst, ◌∙◌, append_assoc, take, drop, get_or}
+use Rattle.std.proofs.lemmas.List.{take_more}
+use Rattle.swd_bitbang.specs.Serving.{Taken}
+use Rattle.swd_bitbang.specs.Watching.{Reaches}
+use Rattle.swd_bitbang.proofs.SessionLemmas.{parted, reaches_further}
 use Rattle.swd_bitbang.proofs.serving.Server.bytes.Goals as goal
 
 pub returns-in-Err-clause-err : goal.returns-in-Err-clause-err
@@ -16,3 +19,34 @@ returns-in-Err-clause-err g c = λ begin seen h.
       ends = e.0;
       under_way = e.1;
     }
+
+pub loop-byte-preserved : goal.loop-byte-preserved
+loop-byte-preserved g c =
+    let piece = c.args.piece.now in
+    let i = c.loop-byte.byte-index in
+    let reaches : Reaches c.args.self.now.pins c.byte.new.self.pins =
+    reaches_further _ _ _ c.loop-byte.invariant.reaches c.in_default.ensures.goes in
+    record {
+      writer = c.in_default.ensures.writer ∙ c.loop-byte.invariant.writer;
+      written = c.in_default.ensures.written ∙ c.loop-byte.invariant.written;
+      watch = c.in_default.ensures.watch ∙ c.loop-byte.invariant.watch;
+      reaches = reaches;
+      goes = λ begin seen h.
+          let so_far = seen ++ take i piece in
+          subst (Taken g.W.Write.contents begin c.byte.new.self c.byte.new.block)
+          (append_assoc seen (take i piece) _
+          ∙ ap (λ x. seen ++ x) (sym (take_more piece i 0 c.loop-byte-test.true)))
+          (c.in_default.ensures.ok begin so_far (c.loop-byte.invariant.goes begin seen h));
+    }
+
+pub returns-in-Err-clause-watch : goal.returns-in-Err-clause-watch
+returns-in-Err-clause-watch g c = c.in-Err.ensures.watch ∙ c.loop-byte.invariant.watch
+
+pub returns-in-Err-clause-goes : goal.returns-in-Err-clause-goes
+returns-in-Err-clause-goes g c = reaches_further _ _ _ c.loop-byte.invariant.reaches c.in-Err.ensures.goes
+
+pub returns-clause-watch : goal.returns-clause-watch
+returns-clause-watch g c = c.loop-byte.invariant.watch
+
+pub returns-clause-goes : goal.returns-clause-goes
+returns-clause-goes g c = c.loop-byte.invariant.reaches

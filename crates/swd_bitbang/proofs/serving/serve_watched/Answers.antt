@@ -9,28 +9,30 @@ use Rattle.swd_bitbang.specs.declared.serving.Server.{Server}
 use Rattle.swd_bitbang.specs.declared.pins.Pins.{Pins}
 use Rattle.swd_bitbang.specs.Sessions.{Serves}
 use Rattle.swd_bitbang.specs.Serving.{Begin, HasTaken, Ends}
+use Rattle.swd_bitbang.specs.Watching.{LeadsOnWatched, LeadsToEndWatched, watched}
 use Rattle.swd_bitbang.proofs.SessionLemmas.{stop_whole}
-use Rattle.swd_bitbang.proofs.serving.serve.Goals as goal
-use Rattle.swd_bitbang.proofs.serving.serve.Goals.{in-Ok, in-Err}
+use Rattle.swd_bitbang.proofs.serving.serve_watched.Goals as goal
+use Rattle.swd_bitbang.proofs.serving.serve_watched.Goals.{in-Ok, in-Err}
 
 unchanged : (known : Option (List ℕ)) → Appends known known []
 unchanged None = tt
 unchanged (Some xs) = sym (append-nil xs)
 
 -- nothing was taken yet
-nothing : {A W : Type 0} (contents : W → Option (List ℕ)) (pins : Pins A) (writer : W)
-    → HasTaken contents (pins, contents writer) (record { pins = pins; place = 0; written = 0 }, writer) []
-nothing contents pins writer =
+nothing : {A V W : Type 0} (contents : W → Option (List ℕ)) (pins : Pins A) (watch : V) (writer : W)
+    → HasTaken contents (pins, contents writer) (record { pins = pins; place = 0; written = 0; watch = watch }, writer) []
+nothing contents pins watch writer =
     record { levels = []; session = (refl, refl); gone = unchanged (contents writer); written = refl; place = refl }
 
-unread : {A W : Type 0} (contents : W → Option (List ℕ)) (fault : Unread Served) (text left : Option (List ℕ))
-    (begin : Begin A) (before after : Server A × W) →
+-- a session that ended before its input did
+unread : {A V W : Type 0} (follows : V × Pins A → V × Pins A → Type 0) (contents : W → Option (List ℕ))
+    (fault : Unread Served) (text left : Option (List ℕ)) (begin : Begin A) (before after : Server A V × W) →
     HasTaken contents begin before [] →
-    Reads (LeadsOn (HasTaken contents)) (LeadsToEnd (HasTaken contents) (Ends contents)) (Err fault) text left before
-    after →
+    Reads (LeadsOnWatched follows (LeadsOn (HasTaken contents)))
+    (LeadsToEndWatched follows (LeadsToEnd (HasTaken contents) (Ends contents))) (Err fault) text left before after →
     Serves (fault_or fault ends.Read) text left begin.1 (contents after.1) begin.0 after.0.pins
-unread contents Reader text left begin before after h r =
-    let read = r.2 begin [] h in
+unread follows contents Reader text left begin before after h r =
+    let read = r.2.leads_on begin [] h in
     record {
       read = r.0;
       consumed = r.1;
@@ -38,16 +40,26 @@ unread contents Reader text left begin before after h r =
       ends =
           record { levels = read.levels; session = read.session; gone = read.gone };
     }
-unread contents (Consumer served) text left begin before after h r =
-    let stops = r.2 begin [] h in
+unread follows contents (Consumer served) text left begin before after h r =
+    let stops = r.2.leads_to_end begin [] h in
     record { read = r.0; consumed = r.1; whole = stop_whole served left stops.0; ends = stops.1 }
 
-pub returns : goal.returns
-returns g c =
+-- its watch followed
+followed : {A V W : Type 0} (follows : V × Pins A → V × Pins A → Type 0)
+    (leads : Server A V × W → List ℕ → Server A V × W → Type 0)
+    (stops : Server A V × W → List ℕ → Served → Server A V × W → Type 0) (fault : Unread Served)
+    (text left : Option (List ℕ)) (before after : Server A V × W) →
+    Reads (LeadsOnWatched follows leads) (LeadsToEndWatched follows stops) (Err fault) text left before after →
+    follows (watched before) (watched after)
+followed follows leads stops Reader text left before after r = r.2.followed
+followed follows leads stops (Consumer served) text left before after r = r.2.followed
+
+pub returns-clause-session : goal.returns-clause-session
+returns-clause-session g c =
     let contents = g.W.Write.contents in
     let pins = c.args.pins in
     let begin : Begin g.row.A.Denot = (pins, contents c.args.writer.now) in
-    let none = nothing contents pins c.args.writer.now in
+    let none = nothing contents pins c.args.watch c.args.writer.now in
     let text = g.R.Read.remaining c.args.reader.now in
     let left = g.R.Read.remaining c.read_pieces.new.reader in
     let after = c.read_pieces.new.consumer.pins in
@@ -55,7 +67,7 @@ returns g c =
     elim c.match-read_pieces.branch [
       | in-Ok w ↦
           let r = w.in-Ok.ensures in
-          let read = r.3 begin [] none in
+          let read = r.3.leads_on begin [] none in
           subst (λ (x : Served). Serves x text left begin.1 now pins after) (sym w.served-is)
           (record {
             read = r.0;
@@ -67,7 +79,14 @@ returns g c =
       | in-Err w ↦
           subst (λ (x : Served). Serves x text left begin.1 now pins after) (sym w.served-is)
           (subst (λ (x : Served). Serves x text left begin.1 now pins after) (sym w.fault_or-served.ensures)
-          (unread contents w.in-Err.unread text left begin
-          (record { pins = pins; place = 0; written = 0 }, c.args.writer.now)
+          (unread g.V.Watch.follows contents w.in-Err.unread text left begin
+          (record { pins = pins; place = 0; written = 0; watch = c.args.watch }, c.args.writer.now)
           (c.read_pieces.new.consumer, c.read_pieces.new.writer) none w.in-Err.ensures))
+    ]
+
+pub returns-clause-watched : goal.returns-clause-watched
+returns-clause-watched g c =
+    elim c.match-read_pieces.branch [
+      | in-Ok w ↦ w.in-Ok.ensures.3.followed
+      | in-Err w ↦ followed g.V.Watch.follows _ _ w.in-Err.unread _ _ _ _ w.in-Err.ensures
     ]

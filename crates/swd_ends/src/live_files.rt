@@ -1,0 +1,155 @@
+//! Serves a host at a target, and writes the target's log and trace while the session goes on.
+ghost use Rattle.std.specs.Prelude.{◌≡◌, ◌≤◌, ◌↔◌, ◌∷◌, ◌++◌, [], drop, false, length, true};
+ghost use Rattle.swd_bitbang.specs.Sessions.{Serves};
+ghost use Rattle.swd_ends.specs.TargetLogs.{transfer_lines};
+ghost use Rattle.swd_ends.specs.LiveFiles.{AddsIf, AddsRestIf, FinishesIf, Follows, IsFreshIf, IsGiven, did_fail};
+ghost use Rattle.swd_ends.specs.LiveFiles.{first_characters, first_lines, follows_further, follows_nowhere, is_sound};
+ghost use Rattle.swd_ends.specs.LiveFiles.{log_at, trace_at, whole_log, whole_trace, writer_in};
+
+use crate::live_file::LiveFile;
+use crate::target_log::counts_line;
+use std::alloc::Allocator;
+use std::io::{Read, Write};
+use swd_bitbang::{Pins, Served, Watch, serve_watched};
+use swd_port::Transfer;
+
+/// The files of a session: the log of its target, and the trace of its pins, each if it is wanted.
+#[derive(Debug, Drop)]
+pub struct LiveFiles<M> {
+    log: Option<LiveFile<M>>,
+    trace: Option<LiveFile<M>>,
+}
+
+// Returns a file to which nothing was written yet, if there is a writer.
+fn fresh<M>(writer: Option<M>) -> Option<LiveFile<M>>
+    ensures { IsFreshIf writer result }
+{
+    match writer {
+        Some(writer) => Some(LiveFile::new(writer)),
+        None => None,
+    }
+}
+
+// Writes the transfers behind those that were written, if there is a file.
+fn log_on<M: Write>(file: &mut Option<LiveFile<M>>, log: &[Transfer])
+    ensures { AddsRestIf M.contents (λ n. transfer_lines (drop n log.now)) (length log.now) file.old file.new }
+{
+    if let Some(file) = file {
+        file.add_transfers(log);
+    }
+}
+
+// Writes the characters behind those that were written, if there is a file.
+fn trace_on<M: Write>(file: &mut Option<LiveFile<M>>, text: &[u8])
+    ensures { AddsRestIf M.contents (λ n. drop n text.now) (length text.now) file.old file.new }
+{
+    if let Some(file) = file {
+        file.add_text(text);
+    }
+}
+
+// Writes the last line and its line feed, if there is a file.
+fn end<M: Write>(file: &mut Option<LiveFile<M>>, line: &[u8])
+    requires { length line.now ≤ 1024 }
+    ensures { AddsIf M.contents (line.now ++ 10 ∷ []) file.old file.new }
+{
+    if let Some(file) = file {
+        file.add_last(line);
+    }
+}
+
+// Returns whether the writer failed, if there is a file.
+fn has_failed<M>(file: &Option<LiveFile<M>>) -> bool
+    ensures { result ≡ did_fail file.now }
+{
+    match file {
+        Some(file) => file.failed,
+        None => false,
+    }
+}
+
+// Returns the writer, if there is a file.
+fn writer_of<M>(file: Option<LiveFile<M>>) -> Option<M>
+    ensures { result ≡ writer_in file }
+{
+    match file {
+        Some(file) => Some(file.writer),
+        None => None,
+    }
+}
+
+impl<M> LiveFiles<M> {
+    /// Returns the writers of the log and the trace.
+    pub fn into_writers(self) -> (Option<M>, Option<M>)
+        ensures log { result.0 ≡ writer_in self.log }
+        ensures trace { result.1 ≡ writer_in self.trace }
+    {
+        (writer_of(self.log), writer_of(self.trace))
+    }
+
+    /// Returns whether no writer failed: then each file is whole.
+    pub fn are_whole(&self) -> bool
+        ensures { (result ≡ true) ↔ ((did_fail self.now.log ≡ false) × (did_fail self.now.trace ≡ false)) }
+    {
+        !has_failed(&self.log) && !has_failed(&self.trace)
+    }
+}
+
+impl<A: Allocator, M: Write> Watch<A> for LiveFiles<M> {
+    ghost follows = { Follows M.contents };
+
+    // Writes what isn't written yet.
+    fn see(&mut self, pins: &Pins<A>) {
+        log_on(&mut self.log, pins.target().memory().log());
+        trace_on(&mut self.trace, pins.trace().text());
+    }
+
+    ghost stays = { follows_nowhere M.contents };
+
+    ghost goes_on = { follows_further M.contents };
+}
+
+impl<M: Write> LiveFiles<M> {
+    // Writes what isn't written yet, and the last lines.
+    fn finish<A: Allocator>(&mut self, pins: &Pins<A>)
+        ensures log { FinishesIf M.contents (first_lines pins.now) (length (log_at pins.now)) (whole_log pins.now)
+            self.old.log self.new.log }
+        ensures trace { FinishesIf M.contents (first_characters pins.now) (length (trace_at pins.now))
+            (whole_trace pins.now) self.old.trace self.new.trace }
+    {
+        let target = pins.target();
+        log_on(&mut self.log, target.memory().log());
+        trace_on(&mut self.trace, pins.trace().text());
+        let counts = counts_line(target.cycles(), target.requests());
+        end(&mut self.log, counts.as_str().as_bytes());
+        end(&mut self.trace, b"");
+    }
+}
+
+/// Serves a host as `serve` does, and writes the log of its target and the trace of its pins, each if there is a writer
+/// for it. After each piece of input, before the last of its answers are written and before the next read, the log has
+/// the line of each transfer that took effect so far, and the trace the bits of all cycles so far. At the end of the
+/// session the log gets its last line, and the trace its line feed.
+///
+/// If the writer of a file fails, nothing is retried, nothing more is written to this file, and the session goes on.
+/// The file then has exactly the first bytes of the whole one. [`LiveFiles::are_whole`] says whether no writer failed.
+pub fn serve_logged<R: Read, W: Write, M: Write, A: Allocator>(
+    reader: &mut R,
+    writer: &mut W,
+    pins: Pins<A>,
+    log: Option<M>,
+    trace: Option<M>,
+) -> (Served, Pins<A>, LiveFiles<M>)
+    ensures session { Serves result.0 (R.remaining reader.old) (R.remaining reader.new)
+        (W.contents writer.old) (W.contents writer.new) pins result.1 }
+    ensures log { is_sound pins → IsGiven M.contents (whole_log result.1) log result.2.log }
+    ensures trace { is_sound pins → IsGiven M.contents (whole_trace result.1) trace result.2.trace }
+{
+    let files = LiveFiles {
+        log: fresh(log),
+        trace: fresh(trace),
+    };
+    let (served, pins, mut files) = serve_watched(reader, writer, pins, files);
+    files.finish(&pins);
+    (served, pins, files)
+}
