@@ -7,8 +7,8 @@ ghost use Rattle.swd_commands.specs.Images.{ArePiecesOf, IsWritten, WritesBytes}
 use crate::open_files::Files;
 use crate::report::{DONE, cannot_open, cannot_use, engine_status, tell};
 use crate::trace::open_plan;
-use std::alloc::Global;
-use std::io::Write;
+use std::alloc::Allocator;
+use std::io::{Read, Write};
 use swd_image_ends::read_file;
 use swd_image_files::{Format, Image, read_image, write_image};
 use swd_words::ImageLine;
@@ -22,28 +22,40 @@ fn most_bytes(image: &ImageLine) -> u64 {
 }
 
 /// Reads the file of an image, in its format. At an error it prints a line and returns the status 2.
-pub fn read_image_file<F: Files, E: Write>(
-    alloc: Global,
+pub fn read_image_file<F: Files, E: Write, A: Allocator + Copy>(
+    alloc: A,
     image: &ImageLine,
     files: &F,
     errors: &mut E,
-) -> Result<Image<Global>, u8>
+) -> Result<Image<A>, u8>
     ensures pieces { IfOk result (λ whole. ArePiecesOf image.now (pieces_in whole)) }
     ensures status { IfErr result (λ status. status ≡ 2) }
 {
     let name = image.file.as_str();
     // Standard input is the target's.
-    let mut opened = match open_plan(files, name, None) {
-        Ok(opened) => opened,
-        Err(why) => return Err(cannot_open(errors, name, &why)),
-    };
-    let bytes = match read_file(alloc, &mut opened.file, most_bytes(image)) {
+    match open_plan(files, name, None) {
+        Ok(mut opened) => read_opened_image(alloc, image, &mut opened.file, errors),
+        Err(why) => Err(cannot_open(errors, name, &why)),
+    }
+}
+
+/// Reads the open file of an image, in its format. At an error it prints a line and returns the status 2.
+pub fn read_opened_image<R: Read, E: Write, A: Allocator + Copy>(
+    alloc: A,
+    image: &ImageLine,
+    reader: &mut R,
+    errors: &mut E,
+) -> Result<Image<A>, u8>
+    ensures pieces { IfOk result (λ whole. ArePiecesOf image.now (pieces_in whole)) }
+    ensures status { IfErr result (λ status. status ≡ 2) }
+{
+    let bytes = match read_file(alloc, reader, most_bytes(image)) {
         Ok(bytes) => bytes,
         Err(unread) => return Err(engine_status(errors, Err(unread))),
     };
     match read_image(alloc, image.format, bytes.as_slice(), image.addr) {
         Ok(whole) => Ok(whole),
-        Err(fault) => Err(cannot_use(errors, name, &fault)),
+        Err(fault) => Err(cannot_use(errors, image.file.as_str(), &fault)),
     }
 }
 
