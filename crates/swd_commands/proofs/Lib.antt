@@ -1,2 +1,3 @@
 pub mod RecordLemmas
 pub mod ImageLemmas
+pub mod SimulatedLemmas

@@ -106,6 +106,3 @@ module _ {R W : Type 0} (story : ℕ → Port) (image : ImageLine) (status : ℕ
   PerformsAction Load = PerformsLoad
   PerformsAction Verify = PerformsVerify
   PerformsAction (Dump count) = PerformsDump count
-
-  abbrev pub PerformsImage : Type 0
-  PerformsImage = PerformsAction image.action

@@ -1,6 +1,7 @@
-//! Performs `swd load`, `swd verify` and `swd dump` at a remote target on the standard streams.
+//! Performs `swd load`, `swd verify` and `swd dump`, at a remote target on the standard streams or at a simulated one.
 ghost use Rattle.std.specs.Prelude.{◌≡◌};
-ghost use Rattle.swd_commands.specs.Images.{PerformsDump, PerformsImage, PerformsLoad, PerformsVerify};
+ghost use Rattle.swd_commands.specs.Images.{PerformsAction, PerformsDump, PerformsLoad, PerformsVerify};
+ghost use Rattle.swd_commands.specs.Targeted.{PerformsImage};
 ghost use Rattle.swd_commands.specs.Images.{reached as reached_by, status_of_fault, status_of_image};
 ghost use Rattle.swd_commands.specs.Images.{status_of_loaded, status_of_verified};
 
@@ -8,10 +9,11 @@ use crate::image_file::{read_image_file, write_image_file};
 use crate::open_files::Files;
 use crate::remote_command::{gone_status, line_streams};
 use crate::report::{DONE, STOPPED, cannot_open, engine_status};
+use crate::simulated_command::perform_simulated;
 use crate::streams::Stream;
 use crate::trace::open_image;
 use crate::watched::KeepsError;
-use std::alloc::Global;
+use std::alloc::Allocator;
 use std::io::{Read, Write};
 use swd_image::{ByteDifference, ImageFault};
 use swd_image_ends::{dump_remote, load_pieces_remote, verify_pieces_remote};
@@ -20,36 +22,51 @@ use swd_port::Story;
 use swd_remote::{Fault, Line};
 use swd_words::{ImageAction, ImageLine};
 
-/// Makes the one call of an image at the target behind the streams. Prints a line with the result on standard error.
-/// Returns the status and the connection. If the image's file can't be read or is no image, or a dump's can't
-/// be opened, the connection wasn't used.
+/// Makes the one call of an image, at the target behind the streams or at a simulated one. Prints a line with the result
+/// on standard error. Returns the status and the connection. If the target is simulated, if the image's file can't be
+/// read or is no image, or if a dump's can't be opened, the connection wasn't used.
 pub fn perform_image<
     P: Story,
     I: Read + KeepsError + Drop,
     F: Files,
     O: Write + KeepsError + Drop,
     E: Write,
->(
-    alloc: Global,
-    image: &ImageLine,
-    input: I,
-    files: &F,
-    output: O,
-    errors: &mut E,
-) -> (u8, Line<I, O>)
-    ensures { PerformsImage P.at image.now result.0 I.remaining O.contents (O.contents output) (I.remaining input)
+    A: Allocator + Copy,
+>(alloc: A, image: &ImageLine, input: I, files: &F, output: O, errors: &mut E) -> (u8, Line<I, O>)
+    ensures { PerformsImage A P.at image.now result.0 I.remaining O.contents (O.contents output) (I.remaining input)
         result.1 }
 {
+    match &image.memory {
+        Some(memory) => {
+            let status = perform_simulated(alloc, image, memory, files, errors);
+            (status, Line::unused(input, output))
+        }
+        None => perform_action::<P, _, _, _, _, _>(alloc, image, input, files, output, errors),
+    }
+}
+
+// Makes the call at the target behind the streams.
+fn perform_action<
+    P: Story,
+    I: Read + KeepsError + Drop,
+    F: Files,
+    O: Write + KeepsError + Drop,
+    E: Write,
+    A: Allocator + Copy,
+>(alloc: A, image: &ImageLine, input: I, files: &F, output: O, errors: &mut E) -> (u8, Line<I, O>)
+    ensures { PerformsAction P.at image.now result.0 I.remaining O.contents (O.contents output) (I.remaining input)
+        result.1 image.now.action }
+{
     match image.action {
-        ImageAction::Load => perform_load::<P, _, _, _, _>(
+        ImageAction::Load => perform_load::<P, _, _, _, _, _>(
             alloc, image, input, files, output, errors,
         ),
         ImageAction::Verify => {
-            perform_verify::<P, _, _, _, _>(alloc, image, input, files, output, errors)
+            perform_verify::<P, _, _, _, _, _>(alloc, image, input, files, output, errors)
         }
-        ImageAction::Dump(count) => {
-            perform_dump::<P, _, _, _, _>(alloc, image, count, input, files, output, errors)
-        }
+        ImageAction::Dump(count) => perform_dump::<P, _, _, _, _, _>(
+            alloc, image, count, input, files, output, errors,
+        ),
     }
 }
 
@@ -60,14 +77,8 @@ fn perform_load<
     F: Files,
     O: Write + KeepsError + Drop,
     E: Write,
->(
-    alloc: Global,
-    image: &ImageLine,
-    input: I,
-    files: &F,
-    output: O,
-    errors: &mut E,
-) -> (u8, Line<I, O>)
+    A: Allocator + Copy,
+>(alloc: A, image: &ImageLine, input: I, files: &F, output: O, errors: &mut E) -> (u8, Line<I, O>)
     ensures { PerformsLoad P.at image.now result.0 I.remaining O.contents (O.contents output) (I.remaining input)
         result.1 }
 {
@@ -92,14 +103,8 @@ fn perform_verify<
     F: Files,
     O: Write + KeepsError + Drop,
     E: Write,
->(
-    alloc: Global,
-    image: &ImageLine,
-    input: I,
-    files: &F,
-    output: O,
-    errors: &mut E,
-) -> (u8, Line<I, O>)
+    A: Allocator + Copy,
+>(alloc: A, image: &ImageLine, input: I, files: &F, output: O, errors: &mut E) -> (u8, Line<I, O>)
     ensures { PerformsVerify P.at image.now result.0 I.remaining O.contents (O.contents output) (I.remaining input)
         result.1 }
 {
@@ -124,8 +129,9 @@ fn perform_dump<
     F: Files,
     O: Write + KeepsError + Drop,
     E: Write,
+    A: Allocator + Copy,
 >(
-    alloc: Global,
+    alloc: A,
     image: &ImageLine,
     count: u32,
     input: I,
@@ -161,7 +167,7 @@ fn perform_dump<
 }
 
 // Prints how many bytes were loaded or verified, and where. `offset` stands for the address of an image without bytes.
-fn tell_done<E: Write>(errors: &mut E, done: &str, offset: u32, whole: &Image<Global>) {
+fn tell_done<E: Write, A: Allocator>(errors: &mut E, done: &str, offset: u32, whole: &Image<A>) {
     let count = whole.bytes.len();
     let pieces = whole.ranges.len();
     let addr = match whole.ranges.first() {
@@ -175,14 +181,14 @@ fn tell_done<E: Write>(errors: &mut E, done: &str, offset: u32, whole: &Image<Gl
     };
 }
 
-// Returns the status of a load over a connection with these streams, and prints a line with its result.
-fn loaded_status<E: Write>(
+/// Returns the status of a load over a connection with these streams, and prints a line with its result.
+pub(crate) fn loaded_status<E: Write, A: Allocator>(
     errors: &mut E,
     answer: Result<(), ImageFault>,
     gone: Option<Fault>,
     streams: &[Stream<'_>],
     offset: u32,
-    whole: &Image<Global>,
+    whole: &Image<A>,
 ) -> u8
     ensures { result ≡ status_of_image status_of_loaded gone answer }
 {
@@ -195,14 +201,14 @@ fn loaded_status<E: Write>(
     }
 }
 
-// Returns the status of a verification over a connection with these streams, and prints a line with its result.
-fn verified_status<E: Write>(
+/// Returns the status of a verification over a connection with these streams, and prints a line with its result.
+pub(crate) fn verified_status<E: Write, A: Allocator>(
     errors: &mut E,
     answer: Result<Option<ByteDifference>, ImageFault>,
     gone: Option<Fault>,
     streams: &[Stream<'_>],
     offset: u32,
-    whole: &Image<Global>,
+    whole: &Image<A>,
 ) -> u8
     ensures { result ≡ status_of_image status_of_verified gone answer }
 {
@@ -227,9 +233,9 @@ fn verified_status<E: Write>(
     }
 }
 
-// Returns the value of a result if the other end isn't gone. Otherwise prints a line with the reason, and returns the
-// status: 1 or 2.
-fn reached<V: Drop, E: Write>(
+/// Returns the value of a result if the other end isn't gone. Otherwise prints a line with the reason, and returns the
+/// status: 1 or 2.
+pub(crate) fn reached<V: Drop, E: Write>(
     errors: &mut E,
     answer: Result<V, ImageFault>,
     gone: Option<Fault>,

@@ -9,8 +9,8 @@ use crate::report::{DONE, cannot_open, cannot_use};
 use crate::streams::{Stream, streams_status, tell_failure_or};
 use crate::trace::open_plan;
 use crate::watched::{KeepsError, Watched};
-use std::alloc::Global;
-use std::io::Write;
+use std::alloc::Allocator;
+use std::io::{Read, Write};
 use swd_image_ends::read_file;
 use swd_image_files::{Format, Image, read_image, write_image};
 use swd_words::ImageLine;
@@ -24,25 +24,38 @@ fn most_bytes(image: &ImageLine) -> u64 {
 }
 
 /// Reads the file of an image, in its format. At an error it prints a line and returns the status 2.
-pub fn read_image_file<F: Files, E: Write>(
-    alloc: Global,
+pub fn read_image_file<F: Files, E: Write, A: Allocator + Copy>(
+    alloc: A,
     image: &ImageLine,
     files: &F,
     errors: &mut E,
-) -> Result<Image<Global>, u8>
+) -> Result<Image<A>, u8>
     ensures pieces { IfOk result (λ whole. ArePiecesOf image.now (pieces_in whole)) }
     ensures status { IfErr result (λ status. status ≡ 2) }
 {
     let name = image.file.as_str();
     // Standard input is the target's.
-    let mut file = match open_plan(files, name, None) {
-        Ok(opened) => Watched::new(opened.file),
-        Err(why) => return Err(cannot_open(errors, name, &why)),
-    };
-    let bytes = match read_file(alloc, &mut file, most_bytes(image)) {
+    match open_plan(files, name, None) {
+        Ok(opened) => read_opened_image(alloc, image, &mut Watched::new(opened.file), errors),
+        Err(why) => Err(cannot_open(errors, name, &why)),
+    }
+}
+
+/// Reads the open file of an image, in its format. At an error it prints a line and returns the status 2.
+pub fn read_opened_image<R: Read + KeepsError, E: Write, A: Allocator + Copy>(
+    alloc: A,
+    image: &ImageLine,
+    reader: &mut R,
+    errors: &mut E,
+) -> Result<Image<A>, u8>
+    ensures pieces { IfOk result (λ whole. ArePiecesOf image.now (pieces_in whole)) }
+    ensures status { IfErr result (λ status. status ≡ 2) }
+{
+    let name = image.file.as_str();
+    let bytes = match read_file(alloc, reader, most_bytes(image)) {
         Ok(bytes) => bytes,
         Err(unread) => {
-            let streams = [Stream::read(name, &file)];
+            let streams = [Stream::read(name, reader)];
             return Err(streams_status(errors, Err(unread), streams.as_slice()));
         }
     };

@@ -13,6 +13,7 @@ mod program;
 mod reason;
 mod remote_command;
 mod report;
+mod simulated_command;
 mod streams;
 mod target_command;
 mod trace;

@@ -127,7 +127,7 @@ fn carry_out<I: Read + KeepsError, F: Files, O: Write + KeepsError, E: Write>(
         return perform(alloc, line, input, None, files, output, errors);
     };
     if let Line::Image(image) = line {
-        let (status, _) = perform_image::<Untold, _, _, _, _>(
+        let (status, _) = perform_image::<Untold, _, _, _, _, _>(
             alloc, image, input, files, output, errors,
         );
         return status;
@@ -201,6 +201,7 @@ fn make_call<R: Read + KeepsError, F: Files, O: Write + KeepsError, E: Write>(
         }
         Line::Run(run) => perform_run(alloc, run, input, source, files, output, errors),
         Line::Target(_) => tell(errors, "SCRIPT is a file: standard input is the debugger's"),
+        Line::Image(image) if image.memory.is_some() => tell(errors, "FILE has to be a file"),
         Line::Image(_) => tell(errors, "FILE is a file: standard input is the target's"),
     }
 }

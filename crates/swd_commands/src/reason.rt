@@ -217,6 +217,16 @@ pub(crate) fn script_status<E: Write>(errors: &mut E, fault: ScriptFault, script
     FAULT
 }
 
+/// Prints the error of a plan, and why its line is refused. Returns the status 2.
+pub(crate) fn plan_status<E: Write>(errors: &mut E, fault: ScriptFault, plan: &Seen) -> u8
+    ensures { result ≡ 2 }
+{
+    let line = plan.line(line_of(fault));
+    let why = PlanReason { fault, line };
+    let _ = writeln!(errors, "swd: plan {fault}: {why}");
+    FAULT
+}
+
 /// Prints the error of a script or a plan, and why its line is refused. Returns the status 2.
 pub(crate) fn texts_status<E: Write>(
     errors: &mut E,
@@ -228,12 +238,7 @@ pub(crate) fn texts_status<E: Write>(
 {
     match fault {
         TextsFault::Script(fault) => script_status(errors, fault, script),
-        TextsFault::Plan(fault) => {
-            let line = plan.line(line_of(fault));
-            let why = PlanReason { fault, line };
-            let _ = writeln!(errors, "swd: plan {fault}: {why}");
-            FAULT
-        }
+        TextsFault::Plan(fault) => plan_status(errors, fault, plan),
         TextsFault::Read => tell(errors, "read failed"),
     }
 }

@@ -55,6 +55,15 @@ impl<'a> Stream<'a> {
         }
     }
 
+    /// A file that is written, with the error of a failed write.
+    pub fn failed(name: &'a str, error: io::Error) -> Stream<'a> {
+        Stream {
+            name,
+            used: Use::Write,
+            error: Some(error),
+        }
+    }
+
     /// A file that is written if it is named. Without one, a stream that didn't fail.
     pub fn record<S: KeepsError>(name: &'a Option<String>, file: &Option<S>) -> Stream<'a> {
         Stream {

@@ -14,7 +14,7 @@ use swd_words::RunLine;
 /// The other files of a run.
 #[derive(Clone, Copy)]
 pub struct Sources {
-    /// The script's file, or `None` for standard input.
+    /// The script's file, or `None` for standard input. Of an image at a simulated target, the memory's file.
     pub script: Option<Identity>,
     /// The plan's file, if one is named.
     pub plan: Option<Identity>,
@@ -200,4 +200,83 @@ pub fn open_plan<F: Files>(
         return Err(refusal("it is read already"));
     }
     Ok(plan)
+}
+
+/// Opens the file of a simulated target's memory for reading.
+///
+/// # Errors
+///
+/// Returns an error for `-`, and if the file can't be opened.
+pub fn open_memory<F: Files>(files: &F, name: &str) -> io::Result<Opened<F::File>>
+    ensures { OnOk result (name.now ≢ codes "-") }
+{
+    named_file(name)?;
+    files.open(name)
+}
+
+/// Opens the file of a memory for writing, too, and doesn't truncate it.
+///
+/// # Errors
+///
+/// Returns an error if the file can't be opened, and if the name now is another file than the one that was read.
+pub fn open_memory_again<F: Files>(
+    files: &F,
+    name: &str,
+    read: Option<Identity>,
+) -> io::Result<Opened<F::Made>>
+    ensures { IfOk result (λ memory. read ≡ Some memory.identity) }
+{
+    let memory = files.open_to_write(name)?;
+    if read == Some(memory.identity) {
+        Ok(memory)
+    } else {
+        Err(refusal("it is another file now"))
+    }
+}
+
+// Refuses the file of the memory, which is `read.script`, or of the plan.
+fn refuse_read(identity: Identity, read: Sources) -> io::Result<()>
+    ensures memory { OnOk result (read.script ≢ Some identity) }
+    ensures plan { OnOk result (read.plan ≢ Some identity) }
+{
+    if read.script == Some(identity) || read.plan == Some(identity) {
+        return Err(refusal("it is the memory or the plan"));
+    }
+    Ok(())
+}
+
+/// Opens the file of an image that is loaded at a simulated target, or verified there. It has to be neither the
+/// memory's, which is `read.script`, nor the plan's.
+///
+/// # Errors
+///
+/// Returns an error if it is one of these under any name, and if it can't be opened.
+pub fn open_apart<F: Files>(files: &F, name: &str, read: Sources) -> io::Result<Opened<F::File>>
+    ensures memory { IfOk result (λ image. read.script ≢ Some image.identity) }
+    ensures plan { IfOk result (λ image. read.plan ≢ Some image.identity) }
+{
+    let image = files.open(name)?;
+    refuse_read(image.identity, read)?;
+    Ok(image)
+}
+
+/// Opens the file of a dump at a simulated target, and doesn't truncate it. It has to be neither the memory's, which is
+/// `read.script`, nor the plan's.
+///
+/// # Errors
+///
+/// Returns an error if it is one of these under any name. Also for `-`, and if it can't be opened or created.
+pub fn open_apart_to_write<F: Files>(
+    files: &F,
+    name: &str,
+    read: Sources,
+) -> io::Result<Opened<F::Made>>
+    ensures named { OnOk result (name.now ≢ codes "-") }
+    ensures memory { IfOk result (λ image. read.script ≢ Some image.identity) }
+    ensures plan { IfOk result (λ image. read.plan ≢ Some image.identity) }
+{
+    named_file(name)?;
+    let image = files.open_to_write(name)?;
+    refuse_read(image.identity, read)?;
+    Ok(image)
 }

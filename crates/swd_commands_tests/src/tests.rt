@@ -25,6 +25,7 @@ mod images;
 mod plan;
 mod reasons;
 mod remote;
+mod simulated;
 mod streams;
 mod target;
 mod verified;

@@ -3,3 +3,5 @@ pub mod RemoteLemmas
 pub mod PieceLemmas
 pub mod RemotePieceLemmas
 pub mod ApartLemmas
+pub mod MemoryLemmas
+pub mod AddressLemmas

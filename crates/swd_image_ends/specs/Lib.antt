@@ -4,3 +4,4 @@ pub mod Gathered
 pub mod Pieces
 pub mod RemotePieces
 pub mod Laws
+pub mod Memories

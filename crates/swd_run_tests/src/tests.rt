@@ -25,6 +25,7 @@ mod resumed;
 mod runs;
 mod serving;
 mod sessions;
+mod simulated;
 mod slow;
 mod tracing;
 mod untils;

@@ -1,5 +1,5 @@
 -- The program's command line, as the parser reads it, and the meaning of its arguments.
-use Rattle.std.specs.Prelude.{ℕ, ◌≡◌, ◌≤◌, ◌↔◌, ◌⊎◌, List, [], ◌∷◌, Option, Some, None, IsSomeAnd, true, codes, pos}
+use Rattle.std.specs.Prelude.{ℕ, ◌≡◌, ◌≢◌, ◌≤◌, ◌%◌, ◌↔◌, ◌⊎◌, List, [], ◌∷◌, Option, Some, None, IsSomeAnd, true, codes, pos}
 use Rattle.std.specs.Option.{option_and_then, option_map}
 use Rattle.std.specs.String.{string_bytes}
 use Rattle.std.specs.Str.Parse.{signed_digits_value}
@@ -12,6 +12,7 @@ use Rattle.swd_words.specs.declared.command.DrawLine.{DrawLine}
 use Rattle.swd_words.specs.declared.command.ImageAction.{ImageAction}
 use Rattle.swd_words.specs.declared.command.ImageAction.TheVariants.{Load, Verify, Dump}
 use Rattle.swd_words.specs.declared.command.ImageLine.{ImageLine}
+use Rattle.swd_words.specs.declared.command.MemoryLine.{MemoryLine}
 use Rattle.swd_words.specs.declared.command.RunLine.{RunLine}
 use Rattle.swd_words.specs.declared.command.TargetLine.{TargetLine}
 use Rattle.swd_words.specs.declared.command.LineFault.{LineFault}
@@ -172,10 +173,22 @@ image_rule = let rule = new_rule (codes "FILE") in record rule { required = true
 abbrev pub format_rule : Rule
 format_rule = let rule = new_rule (codes "format") in record rule { long = Some (codes "format"); value_names = 1 }
 
+-- the memory of a simulated target, after --memory, and its address, after --base
+abbrev pub memory_rule : Rule
+memory_rule = let rule = new_rule (codes "memory") in record rule { long = Some (codes "memory"); value_names = 1 }
+
+abbrev pub base_rule : Rule
+base_rule = let rule = new_rule (codes "base") in record rule { long = Some (codes "base"); value_names = 1 }
+
+-- the options for the target of an image
+abbrev pub with_target_options : App → App
+with_target_options app =
+    with_rule (with_rule (with_rule (with_rule app remote_rule) memory_rule) base_rule) plan_rule
+
 -- the options of each command over an image
 abbrev pub with_image_options : App → App
 with_image_options app =
-    with_rule (with_rule (with_rule (with_rule app format_rule) tries_rule) resume_rule) remote_rule
+    with_target_options (with_rule (with_rule (with_rule app format_rule) tries_rule) resume_rule)
 
 -- the commands `load` and `verify`
 abbrev pub over_image : Text → App
@@ -261,15 +274,33 @@ abbrev pub IsFormatOf : Format → Text → Option Text → Type 0
 IsFormatOf format file None = format ≡ format_of_name file
 IsFormatOf format file (Some word) = Some format ≡ format_of_word word
 
--- the action, the address of 1 to 8 hexadecimal digits after an optional 0x, the file with its format and the two
--- numbers that the arguments name; --remote is among them
+-- the address of a simulated memory is that of the argument, a multiple of 4; 20000000 without an argument
+abbrev pub IsBase : ℕ → Option Text → Type 0
+IsBase base None = base ≡ 0x2000_0000
+IsBase base (Some text) = (Some base ≡ hex_of text) × (base % 4 ≡ 0)
+
+-- the file, the address and the plan that the arguments name
+pub record IsMemoryOf (memory : MemoryLine) (rows : List Row) : Type 0 where
+  pub file : Some (string_bytes memory.file) ≡ first_of (codes "memory") rows
+  pub base : IsBase memory.base (first_of (codes "base") rows)
+  pub plan : option_map string_bytes memory.plan ≡ first_of (codes "plan") rows
+
+-- Exactly one of --remote and --memory is given: the target is behind the standard streams, or has this memory. Only
+-- with --memory there may be --base and --plan.
+abbrev pub IsTargetIn : Option MemoryLine → List Row → Type 0
+IsTargetIn None rows = (first_of (codes "remote") rows ≡ Some (codes "true")) × (first_of (codes "memory") rows ≡ None)
+    × (first_of (codes "base") rows ≡ None) × (first_of (codes "plan") rows ≡ None)
+IsTargetIn (Some memory) rows = (first_of (codes "remote") rows ≢ Some (codes "true")) × IsMemoryOf memory rows
+
+-- the action, the address of 1 to 8 hexadecimal digits after an optional 0x, the file with its format, the two numbers
+-- and the target that the arguments name
 pub record IsImageOf (image : ImageLine) (name : Text) (rows : List Row) : Type 0 where
   pub action : IsActionOf image.action name rows
   pub addr : Some image.addr ≡ option_and_then (λ text. hex_of text) (first_of (codes "ADDR") rows)
   pub file : Some (string_bytes image.file) ≡ first_of (codes "FILE") rows
   pub tries : AreTries image.tries (first_of (codes "tries") rows)
   pub resumes : AreResumes image.resumes (first_of (codes "resume") rows)
-  pub remote : first_of (codes "remote") rows ≡ Some (codes "true")
+  pub target : IsTargetIn image.memory rows
   pub format : IsFormatOf image.format (string_bytes image.file) (first_of (codes "format") rows)
 
 -- an error of this kind, or out of memory

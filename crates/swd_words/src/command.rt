@@ -1,4 +1,6 @@
 //! The commands of the command line.
+ghost use Rattle.std.specs.Prelude.{◌≡◌, ◌%◌};
+
 use clap::Error;
 use swd_image_files::Format;
 
@@ -19,8 +21,9 @@ pub enum Line {
     Run(RunLine),
     /// `swd target SCRIPT [--plan FILE] [--log FILE] [--trace FILE]`.
     Target(TargetLine),
-    /// `swd load ADDR FILE --remote [--format FORMAT] [--tries N] [--resume N]`, the same with `verify`, or
-    /// `swd dump ADDR BYTES FILE --remote [--format FORMAT] [--tries N] [--resume N]`.
+    /// `swd load ADDR FILE TARGET [--format FORMAT] [--tries N] [--resume N]`, the same with `verify`, or
+    /// `swd dump ADDR BYTES FILE TARGET [--format FORMAT] [--tries N] [--resume N]`. TARGET is `--remote` or
+    /// `--memory FILE [--base ADDR] [--plan FILE]`.
     Image(ImageLine),
 }
 
@@ -103,6 +106,18 @@ pub enum ImageAction {
     Dump(u32),
 }
 
+/// The memory of a simulated target.
+#[derive(Debug, Drop)]
+pub struct MemoryLine {
+    /// The file of its bytes, the byte at the lowest address first. A load overwrites it.
+    pub file: String,
+    /// The address of the first byte, a multiple of 4.
+    pub base: u32,
+    /// The file of the plan, if one is named.
+    pub plan: Option<String>,
+    ghost aligned: { base % 4 ≡ 0 },
+}
+
 /// The arguments of `swd load`, `swd verify` and `swd dump`.
 #[derive(Drop)]
 pub struct ImageLine {
@@ -118,6 +133,8 @@ pub struct ImageLine {
     pub tries: u32,
     /// How often a call is resumed after a lost acknowledgement, at most 1,000 times.
     pub resumes: u32,
+    /// The memory of the simulated target, or `None` for a target behind the standard streams.
+    pub memory: Option<MemoryLine>,
 }
 
 /// The reason why the arguments are not a command.

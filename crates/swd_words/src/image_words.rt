@@ -9,9 +9,10 @@ ghost use Rattle.swd_words.specs.Commands.{with_image_options, with_images as im
 
 use crate::command::{ImageAction, ImageLine, LineFault};
 use crate::format_words::{FORMAT_FORM, format_arg, format_in};
+use crate::memory_words::{target_in, with_target_options};
 use crate::words::{
-    RESUMES_RANGE, TRIES_RANGE, is_asked_for, owned, refused, remote_arg, resume_arg, resumes_in,
-    tries_arg, tries_in, unknown, with_arg, with_sub,
+    RESUMES_RANGE, TRIES_RANGE, owned, refused, resume_arg, resumes_in, tries_arg, tries_in,
+    unknown, with_arg, with_sub,
 };
 use clap::error::ErrorKind;
 use clap::{Arg, ArgMatches, Command};
@@ -36,6 +37,11 @@ are read first, so that their other bytes keep their values.
 With --remote the standard streams connect to a server of OpenOCD's
 remote_bitbang protocol for SWD, such as swd target.
 
+With --memory the target is simulated. The memory's FILE has its bytes from
+--base on, a multiple of 4 of them, the byte at the lowest address first. It is
+overwritten after a load, however the run ended. The plan is one of swd run, and
+injects faults.
+
 A line on standard error has the result, or the first error of FILE:
   swd: loaded 65536 bytes at 20000000
   swd: loaded 1234 bytes in 3 pieces
@@ -47,8 +53,8 @@ or the other end went away, 2 at an error.";
 const VERIFY_ABOUT: &str = "Compare a target's memory with a file";
 
 const VERIFY_AFTER: &str = "\
-FILE and ADDR are as for swd load. With --remote the target is on the standard
-streams, as for swd load. The pieces of FILE are read and compared in its order,
+FILE and ADDR are as for swd load, and so are --remote and --memory, whose FILE
+is only read. The pieces of FILE are read and compared in its order,
 up to the first one that differs.
 
 A line on standard error has the result, or the first byte that differs:
@@ -63,9 +69,9 @@ const DUMP_ABOUT: &str = "Dump a target's memory to a file";
 
 const DUMP_AFTER: &str = "\
 BYTES is 1 to 10 decimal digits, and ADDR 1 to 8 hexadecimal digits, after an
-optional 0x. With --remote the target is on the standard streams, as for swd
-load. FILE has the format of its name or of --format, as for swd load. In a hex
-or srec file the addresses are the target's.
+optional 0x. --remote and --memory are as for swd load; the memory's FILE is
+only read. FILE has the format of its name or of --format, as for swd load. In a
+hex or srec file the addresses are the target's.
 
 FILE is overwritten once all bytes are read; otherwise it is unchanged. A line
 on standard error has the result:
@@ -77,8 +83,6 @@ or the other end went away, 2 at an error.";
 const ADDR_FORM: &str = "ADDR is not 1 to 8 hexadecimal digits";
 
 const BYTES_FORM: &str = "BYTES is not a number of 32 bits";
-
-const NO_TARGET: &str = "the target is missing: give --remote";
 
 // Returns the required argument for the address.
 fn addr_arg<'a>(alloc: Global, help: &'a str) -> Arg<'a>
@@ -115,7 +119,7 @@ fn with_options<'a>(alloc: Global, command: Command<'a>) -> Result<Command<'a>, 
     let format = with_arg(command, format_arg(alloc))?;
     let tries = with_arg(format, tries_arg(alloc))?;
     let resume = with_arg(tries, resume_arg(alloc))?;
-    with_arg(resume, remote_arg(alloc))
+    with_target_options(alloc, resume)
 }
 
 // Returns the command `load` or `verify`.
@@ -235,10 +239,7 @@ pub(crate) fn image_line(
     let Some(resumes) = resumes_in(matches.get_str("resume")) else {
         return Err(refused(alloc, ErrorKind::InvalidValue, RESUMES_RANGE));
     };
-    if !is_asked_for(matches.get_str("remote")) {
-        let kind = ErrorKind::MissingRequiredArgument;
-        return Err(refused(alloc, kind, NO_TARGET));
-    }
+    let memory = target_in(alloc, matches)?;
     let Some(format) = format_in(matches.get_str("format"), file.as_str()) else {
         return Err(refused(alloc, ErrorKind::InvalidValue, FORMAT_FORM));
     };
@@ -249,5 +250,6 @@ pub(crate) fn image_line(
         format,
         tries,
         resumes,
+        memory,
     })
 }

@@ -6,10 +6,11 @@ mod decode_words;
 mod draw_words;
 mod format_words;
 mod image_words;
+mod memory_words;
 mod target_words;
 mod words;
 
 pub use command::{
-    DecodeLine, DrawLine, ImageAction, ImageLine, Line, LineFault, RunLine, TargetLine,
+    DecodeLine, DrawLine, ImageAction, ImageLine, Line, LineFault, MemoryLine, RunLine, TargetLine,
 };
 pub use words::line;

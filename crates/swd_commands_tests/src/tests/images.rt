@@ -113,7 +113,7 @@ fn a_file_that_is_refused_leaves_the_line_unused(rt: HostRuntime) {
         ),
         (
             &["swd", "load", "0", "image"],
-            b"error: the target is missing: give --remote\n",
+            b"error: the target is missing: give --remote or --memory FILE\n",
         ),
         (
             &["swd", "load", "123456789", "image", "--remote"],

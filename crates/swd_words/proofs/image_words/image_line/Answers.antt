@@ -1,4 +1,4 @@
-use Rattle.std.proofs.Common.{◌∙◌, ◌≡◌, ◌↔◌, Option, Some, true, sym, ap, subst, codes}
+use Rattle.std.proofs.Common.{◌∙◌, Option, sym, ap, subst, codes}
 use Rattle.std.specs.Option.{option_and_then, option_map}
 use Rattle.std.specs.String.{string_bytes}
 use Rattle.clap.specs.Words.{Text, first_of, found_of, rows_of}
@@ -21,12 +21,10 @@ returns c = record {
   resumes = subst (λ (word : Option Text). AreResumes c.in-Some-resumes_in.resumes word)
       (c.get_str-4.ensures ∙ first_value-rows (found_of c.args.matches.now) (codes "resume"))
       c.in-Some-resumes_in.ensures;
-  remote = ((subst (λ (word : Option Text). (c.is_asked_for.result ≡ true) ↔ (word ≡ Some (codes "true")))
-      (c.get_str-5.ensures ∙ first_value-rows (found_of c.args.matches.now) (codes "remote")) c.is_asked_for.ensures).0)
-      (search);
+  target = c.in_ok-memory.ensures;
   format = subst (λ (file : Text). IsFormatOf c.in-Some-format_in.format file
       (first_of (codes "format") (rows_of (found_of c.args.matches.now)))) c.as_str.ensures.value
       (subst (λ (word : Option Text). IsFormatOf c.in-Some-format_in.format c.as_str.result.now word)
-      (c.get_str-6.ensures ∙ first_value-rows (found_of c.args.matches.now) (codes "format"))
+      (c.get_str-5.ensures ∙ first_value-rows (found_of c.args.matches.now) (codes "format"))
       c.in-Some-format_in.ensures);
 }

@@ -1,6 +1,6 @@
 use Rattle.std.proofs.Common.{refl}
 use Rattle.swd_image_files.specs.Images.{contents}
-use Rattle.swd_commands.proofs.image_file.read_image_file.Goals as goal
+use Rattle.swd_commands.proofs.image_file.read_opened_image.Goals as goal
 
 pub returns-in-Ok-read_image-clause-pieces : goal.returns-in-Ok-read_image-clause-pieces
 returns-in-Ok-read_image-clause-pieces g c = record {

@@ -1,0 +1,38 @@
+use Rattle.std.proofs.Common.{None, refl, subst, sym}
+use Rattle.swd_commands.specs.Images.{status_of_image, status_of_loaded}
+use Rattle.swd_commands.specs.Simulated.{IsStatusOf, WritesBack}
+use Rattle.swd_commands.proofs.simulated_command.load_over.Goals as goal
+
+pub returns-in-Ok : goal.returns-in-Ok
+returns-in-Ok g c =
+    let loaded = c.load_simulated-answer in
+    let wrote = c.write_back.result in
+    record {
+      answer = loaded.result;
+      after = loaded.new.bench;
+      memory = loaded.ensures.memory;
+      calls = loaded.ensures.calls;
+      fault = loaded.ensures.fault;
+      wrote = wrote;
+      written = subst (λ m. WritesBack m c.args.memory.now.base c.args.count wrote
+          (g.F.Made.Write.contents c.args.file.now) (g.F.Made.Write.contents c.write_back.new.file))
+          c.memory.ensures c.write_back.ensures;
+      is = subst (λ w. IsStatusOf (status_of_image status_of_loaded None loaded.result) w c.loaded_status.result) (sym c.in-Ok.is) c.loaded_status.ensures;
+    }
+
+pub returns : goal.returns
+returns g c =
+    let loaded = c.load_simulated-answer in
+    let wrote = c.write_back.result in
+    record {
+      answer = loaded.result;
+      after = loaded.new.bench;
+      memory = loaded.ensures.memory;
+      calls = loaded.ensures.calls;
+      fault = loaded.ensures.fault;
+      wrote = wrote;
+      written = subst (λ m. WritesBack m c.args.memory.now.base c.args.count wrote
+          (g.F.Made.Write.contents c.args.file.now) (g.F.Made.Write.contents c.write_back.new.file))
+          c.memory.ensures c.write_back.ensures;
+      is = subst (λ w. IsStatusOf (status_of_image status_of_loaded None loaded.result) w c.in-Err.status) (sym c.in-Err.is) refl;
+    }

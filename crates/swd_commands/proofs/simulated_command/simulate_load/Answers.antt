@@ -1,0 +1,14 @@
+use Rattle.std.proofs.Common.{inr}
+use Rattle.swd_image_ends.specs.Pieces.{pieces_in}
+use Rattle.swd_commands.proofs.simulated_command.simulate_load.Goals as goal
+
+pub returns-in-Ok-target_of : goal.returns-in-Ok-target_of
+returns-in-Ok-target_of g c = inr (
+  c.in-Ok-target_of.bench,
+  c.in-Ok-target_of.ensures.target,
+  pieces_in c.in-Ok.whole,
+  c.in-Ok.ensures.pieces,
+  _,
+  _,
+  c.load_over.ensures,
+)

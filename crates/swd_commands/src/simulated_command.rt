@@ -1,0 +1,444 @@
+//! Performs `swd load`, `swd verify` and `swd dump` at a simulated target, whose memory is in a file.
+ghost use Rattle.std.specs.Prelude.{◌≡◌, ◌+◌, ◌≤◌, ◌^◌, [], ℕ, IfErr, IfOk, List, None, Option};
+ghost use Rattle.swd_io.specs.Pieces.{IsText};
+ghost use Rattle.swd_host.specs.Reports.{IsAtRest};
+ghost use Rattle.swd_target.specs.Benches.{port_of};
+ghost use Rattle.swd_target.specs.Marks.{IsPlan};
+ghost use Rattle.swd_image_ends.specs.Memories.{IsWhole};
+ghost use Rattle.swd_image_ends.specs.Pieces.{pieces_in};
+ghost use Rattle.swd_commands.specs.Images.{ArePiecesOf};
+ghost use Rattle.swd_commands.specs.Simulated.{DumpsOver, LoadsOver, SimulatesAction, SimulatesImage, Simulates};
+ghost use Rattle.swd_commands.specs.Simulated.{SimulatesDump, SimulatesLoad, SimulatesVerify, VerifiesOver, WritesBack};
+
+use crate::image_command::{loaded_status, reached, verified_status};
+use crate::image_file::{read_opened_image, write_image_file};
+use crate::noted::{Noted, Seen};
+use crate::open_files::{Files, Identity};
+use crate::reason::plan_status;
+use crate::report::{FAULT, cannot_open, cannot_use};
+use crate::streams::{Stream, tell_failure, tell_failure_or};
+use crate::trace::{
+    Sources, open_apart, open_apart_to_write, open_memory, open_memory_again, open_plan,
+};
+use crate::watched::{KeepsError, Watched};
+use std::alloc::Allocator;
+use std::io::{Read, Write};
+use swd_image_ends::{
+    FileFault, dump_simulated, load_simulated, memory_bytes, read_file, simulated_target,
+    verify_simulated,
+};
+use swd_image_files::Image;
+use swd_io::{Unread, send};
+use swd_port::Mark;
+use swd_script::read_plan;
+use swd_target::{Bench, Memory};
+use swd_words::{ImageAction, ImageLine, MemoryLine};
+
+// The marks of a plan, and its file, if one is named.
+#[derive(Drop)]
+struct Plan<A: Allocator> {
+    marks: Vec<Mark, A>,
+    identity: Option<Identity>,
+}
+
+/// Opens the memory's file, and performs a command over an image at the simulated target that has it. Returns the
+/// status.
+pub fn perform_simulated<F: Files, E: Write, A: Allocator + Copy>(
+    alloc: A,
+    image: &ImageLine,
+    memory: &MemoryLine,
+    files: &F,
+    errors: &mut E,
+) -> u8
+    ensures { (text : Option (List ℕ)) × SimulatesImage A image.now memory.now result text }
+{
+    let name = memory.file.as_str();
+    match open_memory(files, name) {
+        Ok(opened) => {
+            let identity = opened.identity;
+            let mut file = Watched::new(opened.file);
+            simulate(alloc, image, memory, &mut file, identity, files, errors)
+        }
+        Err(why) => cannot_open(errors, name, &why),
+    }
+}
+
+// Reads the memory and the plan, and performs the command at the target.
+fn simulate<R: Read + KeepsError, F: Files, E: Write, A: Allocator + Copy>(
+    alloc: A,
+    image: &ImageLine,
+    memory: &MemoryLine,
+    reader: &mut R,
+    identity: Identity,
+    files: &F,
+    errors: &mut E,
+) -> u8
+    ensures { SimulatesImage A image.now memory.now result (R.remaining reader.old) }
+{
+    let bytes = match read_memory(alloc, memory, reader, errors) {
+        Ok(bytes) => bytes,
+        Err(status) => return status,
+    };
+    let plan = match read_marks(alloc, memory, identity, files, errors) {
+        Ok(plan) => plan,
+        Err(status) => return status,
+    };
+    let read = Sources {
+        script: Some(identity),
+        plan: plan.identity,
+        written: None,
+        trace: None,
+    };
+    let bytes = bytes.as_slice();
+    simulate_action(alloc, image, memory, bytes, plan.marks, read, files, errors)
+}
+
+// Performs the command at the target.
+fn simulate_action<F: Files, E: Write, A: Allocator + Copy>(
+    alloc: A,
+    image: &ImageLine,
+    memory: &MemoryLine,
+    bytes: &[u8],
+    marks: Vec<Mark, A>,
+    read: Sources,
+    files: &F,
+    errors: &mut E,
+) -> u8
+    requires whole { IsWhole memory.now.base bytes.now }
+    requires plan { IsPlan marks.items }
+    ensures { SimulatesAction A image.now image.now.action memory.now.base bytes.now marks.items result }
+{
+    match image.action {
+        ImageAction::Load => simulate_load(alloc, image, memory, bytes, marks, read, files, errors),
+        ImageAction::Verify => {
+            simulate_verify(alloc, image, memory, bytes, marks, read, files, errors)
+        }
+        ImageAction::Dump(count) => simulate_dump(
+            alloc, image, count, memory, bytes, marks, read, files, errors,
+        ),
+    }
+}
+
+// Reads the bytes of a memory. At an error it prints a line with the file's name and returns the status 2.
+fn read_memory<R: Read + KeepsError, E: Write, A: Allocator + Copy>(
+    alloc: A,
+    memory: &MemoryLine,
+    reader: &mut R,
+    errors: &mut E,
+) -> Result<Vec<u8, A>, u8>
+    ensures text { IfOk result (λ bytes. IsText (R.remaining reader.old) bytes.items) }
+    ensures whole { IfOk result (λ bytes. IsWhole memory.now.base bytes.items) }
+    ensures status { IfErr result (λ status. status ≡ 2) }
+{
+    let name = memory.file.as_str();
+    let most = (1 << 32) - memory.base as u64;
+    let bytes = match read_file(alloc, reader, most) {
+        Ok(bytes) => bytes,
+        Err(Unread::Consumer(FileFault::TooLong)) => {
+            return Err(cannot_use(errors, name, &"the memory extends past ffffffff"));
+        }
+        Err(unread) => {
+            if tell_failure(errors, [Stream::read(name, reader)].as_slice()) {
+                return Err(FAULT);
+            }
+            return Err(cannot_use(errors, name, &unread));
+        }
+    };
+    if bytes.len() % 4 != 0 {
+        return Err(cannot_use(errors, name, &"its length is no multiple of 4"));
+    }
+    Ok(bytes)
+}
+
+// Reads the plan. Without one no faults are injected. At an error it prints a line and returns the status 2.
+fn read_marks<F: Files, E: Write, A: Allocator + Copy>(
+    alloc: A,
+    memory: &MemoryLine,
+    identity: Identity,
+    files: &F,
+    errors: &mut E,
+) -> Result<Plan<A>, u8>
+    ensures legal { IfOk result (λ plan. IsPlan plan.marks.items) }
+    ensures none { IfOk result (λ plan. memory.now.plan ≡ None → plan.marks.items ≡ []) }
+    ensures status { IfErr result (λ status. status ≡ 2) }
+{
+    let Some(name) = &memory.plan else {
+        return Ok(Plan {
+            marks: Vec::new(alloc),
+            identity: None,
+        });
+    };
+    let name = name.as_str();
+    let opened = match open_plan(files, name, Some(identity)) {
+        Ok(opened) => opened,
+        Err(why) => return Err(cannot_open(errors, name, &why)),
+    };
+    match read_noted(alloc, name, &mut Watched::new(opened.file), errors) {
+        Ok(marks) => Ok(Plan {
+            marks,
+            identity: Some(opened.identity),
+        }),
+        Err(status) => Err(status),
+    }
+}
+
+// Reads a plan. At an error it prints a line and returns the status 2.
+fn read_noted<R: Read + KeepsError, E: Write, A: Allocator + Copy>(
+    alloc: A,
+    name: &str,
+    reader: &mut R,
+    errors: &mut E,
+) -> Result<Vec<Mark, A>, u8>
+    ensures legal { IfOk result (λ marks. IsPlan marks.items) }
+    ensures status { IfErr result (λ status. status ≡ 2) }
+{
+    let mut plan = Noted {
+        reader,
+        seen: Seen::new(),
+    };
+    match read_plan(alloc, &mut plan) {
+        Ok(marks) => Ok(marks),
+        Err(Unread::Consumer(fault)) => Err(plan_status(errors, fault, &plan.seen)),
+        Err(Unread::Reader) => Err(tell_failure_or(
+            errors,
+            [Stream::read(name, &plan)].as_slice(),
+            "read failed",
+        )),
+    }
+}
+
+// Returns the room that the log needs for the transfers of an image: one for each word, which is at most one for four
+// bytes and two for each piece, and those of a load's partial words. After a lost acknowledgement each call may repeat
+// some, one for each mark that loses a request, and two more. All this is at most twice the words, and 16 for each
+// piece.
+fn spare_room(pieces: usize, bytes: u64, marks: usize) -> u32 {
+    let most = (pieces as u64)
+        .saturating_mul(16)
+        .saturating_add(bytes / 2)
+        .saturating_add(marks as u64);
+    most.min(u32::MAX as u64) as u32
+}
+
+// Makes the target. At an error it prints a line with the memory's name and returns the status 2.
+fn target_of<E: Write, A: Allocator + Copy>(
+    alloc: A,
+    memory: &MemoryLine,
+    bytes: &[u8],
+    spare: u32,
+    marks: Vec<Mark, A>,
+    errors: &mut E,
+) -> Result<Bench<A>, u8>
+    requires whole { IsWhole memory.now.base bytes.now }
+    requires plan { IsPlan marks.items }
+    ensures target { IfOk result (Simulates memory.now.base bytes.now marks.items) }
+    ensures status { IfErr result (λ status. status ≡ 2) }
+{
+    match simulated_target(alloc, memory.base, bytes, spare, marks) {
+        Some(bench) => Ok(bench),
+        None => Err(cannot_use(errors, memory.file.as_str(), &"no memory")),
+    }
+}
+
+// Reads the image's file, which is neither the memory's nor the plan's. At an error it prints a line and returns the
+// status 2.
+fn read_image_apart<F: Files, E: Write, A: Allocator + Copy>(
+    alloc: A,
+    image: &ImageLine,
+    read: Sources,
+    files: &F,
+    errors: &mut E,
+) -> Result<Image<A>, u8>
+    ensures pieces { IfOk result (λ whole. ArePiecesOf image.now (pieces_in whole)) }
+    ensures status { IfErr result (λ status. status ≡ 2) }
+{
+    let name = image.file.as_str();
+    match open_apart(files, name, read) {
+        Ok(opened) => read_opened_image(alloc, image, &mut Watched::new(opened.file), errors),
+        Err(why) => Err(cannot_open(errors, name, &why)),
+    }
+}
+
+// Loads the file's pieces, and writes the memory back.
+fn simulate_load<F: Files, E: Write, A: Allocator + Copy>(
+    alloc: A,
+    image: &ImageLine,
+    memory: &MemoryLine,
+    bytes: &[u8],
+    marks: Vec<Mark, A>,
+    read: Sources,
+    files: &F,
+    errors: &mut E,
+) -> u8
+    requires whole { IsWhole memory.now.base bytes.now }
+    requires plan { IsPlan marks.items }
+    ensures { SimulatesLoad A image.now memory.now.base bytes.now marks.items result }
+{
+    let name = memory.file.as_str();
+    let whole = match read_image_apart(alloc, image, read, files, errors) {
+        Ok(whole) => whole,
+        Err(status) => return status,
+    };
+    let mut file = match open_memory_again(files, name, read.script) {
+        Ok(opened) => opened.file,
+        Err(why) => return cannot_open(errors, name, &why),
+    };
+    let spare = spare_room(whole.ranges.len(), whole.bytes.len() as u64, marks.len());
+    match target_of(alloc, memory, bytes, spare, marks, errors) {
+        Ok(bench) => load_over(
+            alloc,
+            image,
+            memory,
+            &whole,
+            bench,
+            bytes.len() as u64,
+            files,
+            &mut file,
+            errors,
+        ),
+        Err(status) => status,
+    }
+}
+
+// Loads the pieces at the target, and writes `count` bytes of the memory after that to its file, however the run ended.
+fn load_over<F: Files, E: Write, A: Allocator + Copy>(
+    alloc: A,
+    image: &ImageLine,
+    memory: &MemoryLine,
+    whole: &Image<A>,
+    mut bench: Bench<A>,
+    count: u64,
+    files: &F,
+    file: &mut F::Made,
+    errors: &mut E,
+) -> u8
+    requires rests { IsAtRest (port_of bench) }
+    requires fits { memory.now.base + count ≤ 2 ^ 32 }
+    ensures { LoadsOver image.now (pieces_in whole.now) bench memory.now.base count result
+        (F.Made.Write.contents file.old) (F.Made.Write.contents file.new) }
+{
+    let answer = load_simulated(alloc, &mut bench, whole, image.tries, image.resumes);
+    match write_back(alloc, memory, bench.memory(), count, files, file, errors) {
+        Ok(()) => loaded_status(errors, answer, None, [].as_slice(), image.addr, whole),
+        Err(status) => status,
+    }
+}
+
+// Truncates the file of a memory, and writes its bytes. At an error it prints a line and returns the status 2.
+fn write_back<F: Files, E: Write, A: Allocator + Copy>(
+    alloc: A,
+    memory: &MemoryLine,
+    after: &Memory<A>,
+    count: u64,
+    files: &F,
+    file: &mut F::Made,
+    errors: &mut E,
+) -> Result<(), u8>
+    requires { memory.now.base + count ≤ 2 ^ 32 }
+    ensures { WritesBack after.now memory.now.base count result (F.Made.Write.contents file.old)
+        (F.Made.Write.contents file.new) }
+{
+    let name = memory.file.as_str();
+    let Some(bytes) = memory_bytes(alloc, after, memory.base, count) else {
+        return Err(cannot_use(errors, name, &"no memory"));
+    };
+    if let Err(why) = files.cut_off(file) {
+        return Err(cannot_open(errors, name, &why));
+    }
+    match send(file, bytes.as_slice()) {
+        Ok(()) => Ok(()),
+        Err(unsent) => {
+            let streams = [Stream::failed(name, unsent.error)];
+            Err(tell_failure_or(errors, streams.as_slice(), "write failed"))
+        }
+    }
+}
+
+// Compares the memory with the file's pieces.
+fn simulate_verify<F: Files, E: Write, A: Allocator + Copy>(
+    alloc: A,
+    image: &ImageLine,
+    memory: &MemoryLine,
+    bytes: &[u8],
+    marks: Vec<Mark, A>,
+    read: Sources,
+    files: &F,
+    errors: &mut E,
+) -> u8
+    requires whole { IsWhole memory.now.base bytes.now }
+    requires plan { IsPlan marks.items }
+    ensures { SimulatesVerify A image.now memory.now.base bytes.now marks.items result }
+{
+    let whole = match read_image_apart(alloc, image, read, files, errors) {
+        Ok(whole) => whole,
+        Err(status) => return status,
+    };
+    let spare = spare_room(whole.ranges.len(), whole.bytes.len() as u64, marks.len());
+    match target_of(alloc, memory, bytes, spare, marks, errors) {
+        Ok(bench) => verify_over(alloc, image, &whole, bench, errors),
+        Err(status) => status,
+    }
+}
+
+// Compares the memory of the target with the pieces.
+fn verify_over<E: Write, A: Allocator + Copy>(
+    alloc: A,
+    image: &ImageLine,
+    whole: &Image<A>,
+    mut bench: Bench<A>,
+    errors: &mut E,
+) -> u8
+    requires { IsAtRest (port_of bench) }
+    ensures { VerifiesOver image.now (pieces_in whole.now) bench result }
+{
+    let answer = verify_simulated(alloc, &mut bench, whole, image.tries, image.resumes);
+    verified_status(errors, answer, None, [].as_slice(), image.addr, whole)
+}
+
+// Opens the file, and reads bytes of the memory. Then truncates the file, and writes the bytes.
+fn simulate_dump<F: Files, E: Write, A: Allocator + Copy>(
+    alloc: A,
+    image: &ImageLine,
+    count: u32,
+    memory: &MemoryLine,
+    bytes: &[u8],
+    marks: Vec<Mark, A>,
+    read: Sources,
+    files: &F,
+    errors: &mut E,
+) -> u8
+    requires whole { IsWhole memory.now.base bytes.now }
+    requires plan { IsPlan marks.items }
+    ensures { SimulatesDump A image.now count memory.now.base bytes.now marks.items result }
+{
+    let name = image.file.as_str();
+    let mut file = match open_apart_to_write(files, name, read) {
+        Ok(opened) => opened.file,
+        Err(why) => return cannot_open(errors, name, &why),
+    };
+    let spare = spare_room(1, count as u64, marks.len());
+    match target_of(alloc, memory, bytes, spare, marks, errors) {
+        Ok(bench) => dump_over(alloc, image, count, bench, files, &mut file, errors),
+        Err(status) => status,
+    }
+}
+
+// Reads bytes of the target's memory. Then truncates the file, and writes the bytes.
+fn dump_over<F: Files, E: Write, A: Allocator + Copy>(
+    alloc: A,
+    image: &ImageLine,
+    count: u32,
+    mut bench: Bench<A>,
+    files: &F,
+    file: &mut F::Made,
+    errors: &mut E,
+) -> u8
+    requires { IsAtRest (port_of bench) }
+    ensures { DumpsOver image.now count bench result }
+{
+    let (addr, tries, resumes) = (image.addr, image.tries, image.resumes);
+    let answer = dump_simulated(alloc, &mut bench, addr, count as u64, tries, resumes);
+    match reached(errors, answer, None, [].as_slice()) {
+        Ok(bytes) => write_image_file(errors, files, file, image, bytes.as_slice()),
+        Err(status) => status,
+    }
+}

@@ -1,0 +1,13 @@
+use Rattle.std.proofs.Common.{◌≡◌, ◌/◌, ◌≤◌, length}
+use Rattle.swd_target.specs.MemoryWords.{words_from}
+use Rattle.swd_image_ends.specs.Memories.{words_in}
+use Rattle.swd_image_ends.proofs.MemoryLemmas.{mixed}
+use Rattle.swd_image_ends.proofs.memory.memory_with.Given as goal
+
+abbrev pub invariant-loop-index : goal.invariant-loop-index
+invariant-loop-index g l = record {
+  words : l.memory.words ≡ words_from l.base (mixed l.index (words_in l.bytes));
+  log : length l.memory.log ≤ l.index;
+  room : l.count ≤ l.memory.room;
+  count : l.count ≡ length l.bytes / 4;
+}

@@ -1,0 +1,93 @@
+//! Loads, verifies and dumps images at a simulated target.
+ghost use Rattle.std.specs.Prelude.{◌≡◌, ◌≤◌, ◌+◌, ◌^◌, IfErr, IfOk, OnOk};
+ghost use Rattle.swd_host.specs.Reports.{IsAtRest};
+ghost use Rattle.swd_image.specs.Dumps.{DumpFails, Dumps};
+ghost use Rattle.swd_target.specs.Benches.{plan_of, port_of};
+ghost use Rattle.swd_image_ends.specs.Memories.{DumpsMemory, LoadsMemory, VerifiesMemory, AnyWire};
+ghost use Rattle.swd_image_ends.specs.Pieces.{LoadFailsAt, LoadsAll, VerifiesAll, VerifyFailsAt, pieces_in};
+
+use crate::pieces::{load_pieces, verify_pieces};
+use std::alloc::Allocator;
+use swd_image::{ByteDifference, ImageFault, dump};
+use swd_image_files::Image;
+use swd_target::Bench;
+
+/// Loads the pieces of an image by [`load_pieces`](crate::load_pieces) at a simulated target at rest.
+///
+/// After a load that succeeds, the memory has each byte of the image at its address. If two pieces have an address, it
+/// has the later one's byte. Each other byte is unchanged, and no word appears or goes.
+///
+/// # Errors
+///
+/// Returns the errors of [`load_pieces`](crate::load_pieces).
+pub fn load_simulated<A: Allocator + Copy>(
+    alloc: A,
+    bench: &mut Bench<A>,
+    image: &Image<A>,
+    tries: u32,
+    resumes: u32,
+) -> Result<(), ImageFault>
+    requires { IsAtRest (port_of bench.old) }
+    ensures memory { OnOk result (LoadsMemory (pieces_in image.now) (port_of bench.old).target.memory
+        (port_of bench.new).target.memory) }
+    ensures calls { OnOk result (LoadsAll port_of plan_of AnyWire tries resumes (pieces_in image.now) bench.old
+        bench.new) }
+    ensures fault { IfErr result (LoadFailsAt port_of plan_of AnyWire tries resumes (pieces_in image.now) bench.old
+        bench.new) }
+    ensures plan { plan_of bench.new ≡ plan_of bench.old }
+{
+    load_pieces(alloc, bench, image, tries, resumes)
+}
+
+/// Compares the memory with the pieces of an image by [`verify_pieces`](crate::verify_pieces) at a simulated target at
+/// rest. Returns the first byte that differs, or `None` if the memory has all bytes of the image.
+///
+/// No word of the memory changes.
+///
+/// # Errors
+///
+/// Returns the errors of [`verify_pieces`](crate::verify_pieces).
+pub fn verify_simulated<A: Allocator + Copy>(
+    alloc: A,
+    bench: &mut Bench<A>,
+    image: &Image<A>,
+    tries: u32,
+    resumes: u32,
+) -> Result<Option<ByteDifference>, ImageFault>
+    requires { IsAtRest (port_of bench.old) }
+    ensures memory { IfOk result (λ difference. VerifiesMemory (pieces_in image.now) difference
+        (port_of bench.old).target.memory (port_of bench.new).target.memory) }
+    ensures calls { IfOk result (λ difference. VerifiesAll port_of plan_of AnyWire tries resumes (pieces_in image.now)
+        difference bench.old bench.new) }
+    ensures fault { IfErr result (VerifyFailsAt port_of plan_of AnyWire tries resumes (pieces_in image.now) bench.old
+        bench.new) }
+    ensures plan { plan_of bench.new ≡ plan_of bench.old }
+{
+    verify_pieces(alloc, bench, image, tries, resumes)
+}
+
+/// Reads `count` bytes from `addr` on by `swd_image::dump` at a simulated target at rest.
+///
+/// The result is the bytes of the memory, and no word of it changes.
+///
+/// # Errors
+///
+/// Returns the errors of `swd_image::dump`.
+pub fn dump_simulated<A: Allocator + Copy>(
+    alloc: A,
+    bench: &mut Bench<A>,
+    addr: u32,
+    count: u64,
+    tries: u32,
+    resumes: u32,
+) -> Result<Vec<u8, A>, ImageFault>
+    requires { IsAtRest (port_of bench.old) }
+    ensures memory { IfOk result (λ bytes. DumpsMemory addr count bytes.items (port_of bench.old).target.memory
+        (port_of bench.new).target.memory) }
+    ensures calls { IfOk result (λ bytes. Dumps port_of plan_of AnyWire tries resumes addr count bytes.items bench.old
+        bench.new) }
+    ensures fault { IfErr result (DumpFails port_of plan_of AnyWire tries resumes addr count bench.old bench.new) }
+    ensures plan { plan_of bench.new ≡ plan_of bench.old }
+{
+    dump(alloc, bench, addr, count, tries, resumes)
+}

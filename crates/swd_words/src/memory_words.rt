@@ -1,0 +1,130 @@
+//! The options for the target of `swd load`, `swd verify` and `swd dump`: behind the standard streams, or simulated.
+ghost use Rattle.std.specs.Prelude.{◌≡◌, ◌%◌, IfOk, IfSome, None, false, true};
+ghost use Rattle.std.specs.Option.{option_map};
+ghost use Rattle.clap.specs.Words.{app_of, found_of, rows_of, rule_of};
+ghost use Rattle.clap.specs.declared.builder.command.Command.TheViews.{out-Command};
+ghost use Rattle.swd_words.specs.Commands.{base_rule, memory_rule, with_target_options as with_options_of};
+ghost use Rattle.swd_words.specs.Commands.{IsBase, IsMemoryOf, IsTargetIn};
+
+use crate::command::{LineFault, MemoryLine};
+use crate::words::{is_asked_for, owned, plan_arg, refused, remote_arg, with_arg};
+use clap::error::ErrorKind;
+use clap::{Arg, ArgMatches, Command};
+use std::alloc::{AllocError, Global};
+use swd_script::hex_of;
+
+// The address of a simulated memory without `--base`, which is that of a script without a line `memory`.
+const BASE: u32 = 0x2000_0000;
+
+const BASE_FORM: &str =
+    "the value of '--base <ADDR>' is not 1 to 8 hexadecimal digits of a multiple of 4";
+
+const NO_TARGET: &str = "the target is missing: give --remote or --memory FILE";
+
+const TWO_TARGETS: &str = "--remote and --memory FILE are two targets: give one of them";
+
+const NO_MEMORY: &str = "--base ADDR and --plan FILE go with --memory FILE";
+
+// Returns the option for the file of a simulated memory.
+fn memory_arg<'a>(alloc: Global) -> Arg<'a>
+    ensures rule { rule_of result ≡ memory_rule }
+    ensures local { result.global ≡ false }
+{
+    Arg::new(alloc, "memory")
+        .long("memory")
+        .value_name("FILE")
+        .help("The target is simulated; FILE has its memory")
+}
+
+// Returns the option for the address of a simulated memory.
+fn base_arg<'a>(alloc: Global) -> Arg<'a>
+    ensures rule { rule_of result ≡ base_rule }
+    ensures local { result.global ≡ false }
+{
+    Arg::new(alloc, "base")
+        .long("base")
+        .value_name("ADDR")
+        .help("With --memory: its address, hexadecimal; else 20000000")
+}
+
+/// Adds the options for the target of an image.
+pub(crate) fn with_target_options<'a>(
+    alloc: Global,
+    command: Command<'a>,
+) -> Result<Command<'a>, AllocError>
+    requires local { (out-Command command).has_globals ≡ false }
+    ensures app { IfOk result (λ c. app_of c ≡ with_options_of (app_of command.entry)) }
+    ensures local { IfOk result (λ c. (out-Command c).has_globals ≡ false) }
+{
+    let remote = with_arg(command, remote_arg(alloc))?;
+    let memory = with_arg(remote, memory_arg(alloc))?;
+    let base = with_arg(memory, base_arg(alloc))?;
+    with_arg(base, plan_arg(alloc))
+}
+
+// Returns whether an option isn't given.
+fn is_missing(word: Option<&str>) -> bool
+    ensures { result ≡ true → option_map (λ s. s.now) word.entry ≡ None }
+{
+    word.is_none()
+}
+
+// Returns the address of a simulated memory, or `None` if it is no address of a word.
+fn base_in(word: Option<&str>) -> Option<u32>
+    ensures base { IfSome result (λ base. IsBase base (option_map (λ s. s.now) word.entry)) }
+    ensures aligned { IfSome result (λ base. base % 4 ≡ 0) }
+{
+    match word {
+        Some(word) => match hex_of(word.as_bytes()) {
+            Some(base) if base % 4 == 0 => Some(base),
+            _ => None,
+        },
+        None => Some(BASE),
+    }
+}
+
+// Returns the simulated memory of the arguments.
+fn memory_line(alloc: Global, matches: &ArgMatches<'_>) -> Result<MemoryLine, LineFault>
+    ensures { IfOk result (λ memory. IsMemoryOf memory (rows_of (found_of matches.now))) }
+{
+    let Ok(memory) = owned(alloc, matches.get_str("memory")) else {
+        return Err(LineFault::Memory);
+    };
+    let Some(file) = memory else {
+        let kind = ErrorKind::MissingRequiredArgument;
+        return Err(refused(alloc, kind, NO_TARGET));
+    };
+    let Ok(plan) = owned(alloc, matches.get_str("plan")) else {
+        return Err(LineFault::Memory);
+    };
+    let Some(base) = base_in(matches.get_str("base")) else {
+        return Err(refused(alloc, ErrorKind::InvalidValue, BASE_FORM));
+    };
+    Ok(MemoryLine { file, base, plan })
+}
+
+/// Returns the memory of the simulated target that the arguments name, or `None` for a target behind the standard
+/// streams.
+pub(crate) fn target_in(
+    alloc: Global,
+    matches: &ArgMatches<'_>,
+) -> Result<Option<MemoryLine>, LineFault>
+    ensures { IfOk result (λ memory. IsTargetIn memory (rows_of (found_of matches.now))) }
+{
+    if !is_asked_for(matches.get_str("remote")) {
+        return match memory_line(alloc, matches) {
+            Ok(memory) => Ok(Some(memory)),
+            Err(fault) => Err(fault),
+        };
+    }
+    if !is_missing(matches.get_str("memory")) {
+        return Err(refused(alloc, ErrorKind::ArgumentConflict, TWO_TARGETS));
+    }
+    if !is_missing(matches.get_str("base")) {
+        return Err(refused(alloc, ErrorKind::ArgumentConflict, NO_MEMORY));
+    }
+    if !is_missing(matches.get_str("plan")) {
+        return Err(refused(alloc, ErrorKind::ArgumentConflict, NO_MEMORY));
+    }
+    Ok(None)
+}
