@@ -13,7 +13,7 @@ use clap::{Arg, ArgMatches, Command};
 use std::alloc::{AllocError, Global};
 use swd_script::hex_of;
 
-// The address of a simulated memory without `--base`, which is that of a script without a line `memory`.
+// The address of a simulated memory without `--base`: where the memory of most microcontrollers begins.
 const BASE: u32 = 0x2000_0000;
 
 const BASE_FORM: &str =
