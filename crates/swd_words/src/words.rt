@@ -48,7 +48,8 @@ FILE may be - for standard input; a file of that name is ./-
 
 Status: 0 success; 1 a run that stopped early, that --strict fails, or that read
 another word than the one to verify; 2 a usage, input, I/O or out-of-memory
-error, with a line on standard error.
+error, with a line on standard error; 141 the reader of standard output closed
+it, as if by SIGPIPE, without a line.
 
 Example, a read of DPIDR, the debug port's identification register:
   echo '10100101 1 100 11101110001010000000010111010100 0 1' | swd decode
