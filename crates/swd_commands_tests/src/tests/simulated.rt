@@ -569,7 +569,7 @@ fn a_file_that_is_refused_changes_nothing(rt: HostRuntime) {
         (
             &["swd", "verify", "0", "image", "--memory", "broken"],
             b"abcd",
-            b"swd: broken: read failed\n",
+            b"swd: read failed: broken: broken pipe\n",
         ),
         (
             &["swd", "load", "0", "image", "--memory", "ram"],
@@ -714,7 +714,7 @@ fn a_file_that_is_refused_changes_nothing(rt: HostRuntime) {
     // A disk that is full is found out when the memory is written back.
     let words = ["swd", "load", "20000000", "image", "--memory", "full"];
     let ran = run_at(rt.alloc(), words.as_slice(), b"abcd", b"1", b"");
-    let errors = b"swd: full: write failed\n".as_slice();
+    let errors = b"swd: write failed: full: no storage space\n".as_slice();
     expect_eq(&rt, &ran.errors.as_slice(), &errors);
     expect_eq(&rt, &ran.status, &2);
     // Two bytes of an image for one address are refused as at a remote target.
