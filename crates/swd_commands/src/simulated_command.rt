@@ -17,7 +17,7 @@ use crate::open_files::{Files, Identity};
 use crate::reason::plan_status;
 use crate::report::{cannot_open, cannot_use, tell};
 use crate::trace::{
-    Sources, open_apart, open_apart_to_write, open_memory, open_memory_again, open_plan,
+    TargetFiles, open_apart, open_apart_to_write, open_memory, open_memory_again, open_plan,
 };
 use std::alloc::Allocator;
 use std::io::{Read, Write};
@@ -88,11 +88,9 @@ fn simulate<R: Read, F: Files, E: Write, A: Allocator + Copy>(
         Ok(plan) => plan,
         Err(status) => return status,
     };
-    let read = Sources {
-        script: Some(identity),
+    let read = TargetFiles {
+        memory: identity,
         plan: plan.identity,
-        written: None,
-        trace: None,
     };
     let bytes = bytes.as_slice();
     simulate_action(alloc, image, memory, bytes, plan.marks, read, files, errors)
@@ -105,7 +103,7 @@ fn simulate_action<F: Files, E: Write, A: Allocator + Copy>(
     memory: &MemoryLine,
     bytes: &[u8],
     marks: Vec<Mark, A>,
-    read: Sources,
+    read: TargetFiles,
     files: &F,
     errors: &mut E,
 ) -> u8
@@ -238,7 +236,7 @@ fn target_of<E: Write, A: Allocator + Copy>(
 fn read_image_apart<F: Files, E: Write, A: Allocator + Copy>(
     alloc: A,
     image: &ImageLine,
-    read: Sources,
+    read: TargetFiles,
     files: &F,
     errors: &mut E,
 ) -> Result<Image<A>, u8>
@@ -259,7 +257,7 @@ fn simulate_load<F: Files, E: Write, A: Allocator + Copy>(
     memory: &MemoryLine,
     bytes: &[u8],
     marks: Vec<Mark, A>,
-    read: Sources,
+    read: TargetFiles,
     files: &F,
     errors: &mut E,
 ) -> u8
@@ -272,7 +270,7 @@ fn simulate_load<F: Files, E: Write, A: Allocator + Copy>(
         Ok(whole) => whole,
         Err(status) => return status,
     };
-    let mut file = match open_memory_again(files, name, read.script) {
+    let mut file = match open_memory_again(files, name, read) {
         Ok(opened) => opened.file,
         Err(why) => return cannot_open(errors, name, &why),
     };
@@ -351,7 +349,7 @@ fn simulate_verify<F: Files, E: Write, A: Allocator + Copy>(
     memory: &MemoryLine,
     bytes: &[u8],
     marks: Vec<Mark, A>,
-    read: Sources,
+    read: TargetFiles,
     files: &F,
     errors: &mut E,
 ) -> u8
@@ -393,7 +391,7 @@ fn simulate_dump<F: Files, E: Write, A: Allocator + Copy>(
     memory: &MemoryLine,
     bytes: &[u8],
     marks: Vec<Mark, A>,
-    read: Sources,
+    read: TargetFiles,
     files: &F,
     errors: &mut E,
 ) -> u8
