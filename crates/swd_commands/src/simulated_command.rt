@@ -18,7 +18,7 @@ use crate::reason::plan_status;
 use crate::report::{FAULT, cannot_open, cannot_use};
 use crate::streams::{Stream, tell_failure, tell_failure_or};
 use crate::trace::{
-    Sources, open_apart, open_apart_to_write, open_memory, open_memory_again, open_plan,
+    TargetFiles, open_apart, open_apart_to_write, open_memory, open_memory_again, open_plan,
 };
 use crate::watched::{KeepsError, Watched};
 use std::alloc::Allocator;
@@ -83,11 +83,9 @@ fn simulate<R: Read + KeepsError, F: Files, E: Write, A: Allocator + Copy>(
         Ok(plan) => plan,
         Err(status) => return status,
     };
-    let read = Sources {
-        script: Some(identity),
+    let read = TargetFiles {
+        memory: identity,
         plan: plan.identity,
-        written: None,
-        trace: None,
     };
     let bytes = bytes.as_slice();
     simulate_action(alloc, image, memory, bytes, plan.marks, read, files, errors)
@@ -100,7 +98,7 @@ fn simulate_action<F: Files, E: Write, A: Allocator + Copy>(
     memory: &MemoryLine,
     bytes: &[u8],
     marks: Vec<Mark, A>,
-    read: Sources,
+    read: TargetFiles,
     files: &F,
     errors: &mut E,
 ) -> u8
@@ -244,7 +242,7 @@ fn target_of<E: Write, A: Allocator + Copy>(
 fn read_image_apart<F: Files, E: Write, A: Allocator + Copy>(
     alloc: A,
     image: &ImageLine,
-    read: Sources,
+    read: TargetFiles,
     files: &F,
     errors: &mut E,
 ) -> Result<Image<A>, u8>
@@ -265,7 +263,7 @@ fn simulate_load<F: Files, E: Write, A: Allocator + Copy>(
     memory: &MemoryLine,
     bytes: &[u8],
     marks: Vec<Mark, A>,
-    read: Sources,
+    read: TargetFiles,
     files: &F,
     errors: &mut E,
 ) -> u8
@@ -278,7 +276,7 @@ fn simulate_load<F: Files, E: Write, A: Allocator + Copy>(
         Ok(whole) => whole,
         Err(status) => return status,
     };
-    let mut file = match open_memory_again(files, name, read.script) {
+    let mut file = match open_memory_again(files, name, read) {
         Ok(opened) => opened.file,
         Err(why) => return cannot_open(errors, name, &why),
     };
@@ -360,7 +358,7 @@ fn simulate_verify<F: Files, E: Write, A: Allocator + Copy>(
     memory: &MemoryLine,
     bytes: &[u8],
     marks: Vec<Mark, A>,
-    read: Sources,
+    read: TargetFiles,
     files: &F,
     errors: &mut E,
 ) -> u8
@@ -402,7 +400,7 @@ fn simulate_dump<F: Files, E: Write, A: Allocator + Copy>(
     memory: &MemoryLine,
     bytes: &[u8],
     marks: Vec<Mark, A>,
-    read: Sources,
+    read: TargetFiles,
     files: &F,
     errors: &mut E,
 ) -> u8

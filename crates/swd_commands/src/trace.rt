@@ -14,7 +14,7 @@ use swd_words::RunLine;
 /// The other files of a run.
 #[derive(Clone, Copy)]
 pub struct Sources {
-    /// The script's file, or `None` for standard input. Of an image at a simulated target, the memory's file.
+    /// The script's file, or `None` for standard input.
     pub script: Option<Identity>,
     /// The plan's file, if one is named.
     pub plan: Option<Identity>,
@@ -202,6 +202,13 @@ pub fn open_plan<F: Files>(
     Ok(plan)
 }
 
+/// The files of a simulated target: of its memory, and of its plan, if one is named.
+#[derive(Clone, Copy)]
+pub struct TargetFiles {
+    pub memory: Identity,
+    pub plan: Option<Identity>,
+}
+
 /// Opens the file of a simulated target's memory for reading.
 ///
 /// # Errors
@@ -222,37 +229,37 @@ pub fn open_memory<F: Files>(files: &F, name: &str) -> io::Result<Opened<F::File
 pub fn open_memory_again<F: Files>(
     files: &F,
     name: &str,
-    read: Option<Identity>,
+    read: TargetFiles,
 ) -> io::Result<Opened<F::Made>>
-    ensures { IfOk result (λ memory. read ≡ Some memory.identity) }
+    ensures { IfOk result (λ memory. read.memory ≡ memory.identity) }
 {
     let memory = files.open_to_write(name)?;
-    if read == Some(memory.identity) {
+    if read.memory == memory.identity {
         Ok(memory)
     } else {
         Err(refusal("it is another file now"))
     }
 }
 
-// Refuses the file of the memory, which is `read.script`, or of the plan.
-fn refuse_read(identity: Identity, read: Sources) -> io::Result<()>
-    ensures memory { OnOk result (read.script ≢ Some identity) }
+// Refuses the file of the memory or of the plan.
+fn refuse_read(identity: Identity, read: TargetFiles) -> io::Result<()>
+    ensures memory { OnOk result (read.memory ≢ identity) }
     ensures plan { OnOk result (read.plan ≢ Some identity) }
 {
-    if read.script == Some(identity) || read.plan == Some(identity) {
+    if read.memory == identity || read.plan == Some(identity) {
         return Err(refusal("it is the memory or the plan"));
     }
     Ok(())
 }
 
 /// Opens the file of an image that is loaded at a simulated target, or verified there. It has to be neither the
-/// memory's, which is `read.script`, nor the plan's.
+/// memory's nor the plan's.
 ///
 /// # Errors
 ///
 /// Returns an error if it is one of these under any name, and if it can't be opened.
-pub fn open_apart<F: Files>(files: &F, name: &str, read: Sources) -> io::Result<Opened<F::File>>
-    ensures memory { IfOk result (λ image. read.script ≢ Some image.identity) }
+pub fn open_apart<F: Files>(files: &F, name: &str, read: TargetFiles) -> io::Result<Opened<F::File>>
+    ensures memory { IfOk result (λ image. read.memory ≢ image.identity) }
     ensures plan { IfOk result (λ image. read.plan ≢ Some image.identity) }
 {
     let image = files.open(name)?;
@@ -260,8 +267,8 @@ pub fn open_apart<F: Files>(files: &F, name: &str, read: Sources) -> io::Result<
     Ok(image)
 }
 
-/// Opens the file of a dump at a simulated target, and doesn't truncate it. It has to be neither the memory's, which is
-/// `read.script`, nor the plan's.
+/// Opens the file of a dump at a simulated target, and doesn't truncate it. It has to be neither the memory's nor
+/// the plan's.
 ///
 /// # Errors
 ///
@@ -269,10 +276,10 @@ pub fn open_apart<F: Files>(files: &F, name: &str, read: Sources) -> io::Result<
 pub fn open_apart_to_write<F: Files>(
     files: &F,
     name: &str,
-    read: Sources,
+    read: TargetFiles,
 ) -> io::Result<Opened<F::Made>>
     ensures named { OnOk result (name.now ≢ codes "-") }
-    ensures memory { IfOk result (λ image. read.script ≢ Some image.identity) }
+    ensures memory { IfOk result (λ image. read.memory ≢ image.identity) }
     ensures plan { IfOk result (λ image. read.plan ≢ Some image.identity) }
 {
     named_file(name)?;
