@@ -25,6 +25,7 @@ mod runs;
 mod serving;
 mod sessions;
 mod slow;
+mod streamed;
 mod tracing;
 mod untils;
 
