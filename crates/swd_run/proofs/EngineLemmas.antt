@@ -159,6 +159,7 @@ module _ {W V : Type 0} (by : W → V) (port : V → Port) (plan : V → List Ma
       between = by over.between;
       earlier = runs_by s (again batch over.runs) over.runs over.between over.earlier;
       refused = refused_by (most_begun batch) batch over.between t over.refused;
+      unsent = λ plain. ap by (over.unsent plain);
     }
 
     abbrev short_by : (batches : List Listed) (s t : W)

@@ -1,12 +1,13 @@
 -- Laws of the text of a report.
-use Rattle.std.proofs.lemmas.List.{append-nil, drop_all, drop_min, drop-take, length-take, take_all, take_min}
+use Rattle.std.proofs.lemmas.List.{append-nil, drop_all, drop_min, drop-take, length-take, take_all, take-append-le, take_min}
 use Rattle.std.proofs.Math.Seq.{drop-cons}
 use Rattle.std.proofs.Common.{◌≡◌, ℕ, zero, suc, ◌+◌, ◌-◌, ◌<◌, ◌≤◌, List, [], ◌∷◌, ◌++◌, length, take, drop}
-use Rattle.std.proofs.Common.{Option, get_or, min, refl, sym, ap, ap₂, ◌∙◌, append_assoc, arith, add-one}
+use Rattle.std.proofs.Common.{Option, None, get_or, min, refl, sym, ap, ap₂, ◌∙◌, append_assoc, arith, add-one}
 use Rattle.swd_port.specs.declared.access.Access.{Access}
 use Rattle.swd_port.specs.declared.access.Answer.{Answer}
 use Rattle.swd_run.specs.declared.going_on.Stop.{Stop}
-use Rattle.swd_run.specs.Reports.{answer_lines, lines_between, lines_from, pair_texts, resume_line}
+use Rattle.swd_run.specs.Reporting.{AreWithin}
+use Rattle.swd_run.specs.Reports.{answer_fed, answer_lines, lines_between, lines_from, pair_texts, resume_line}
 
 -- one text more
 pub pairs_more : {X Y : Type 0} (text : X → Y → List ℕ) (xs : List X) (ys : List Y) (i : ℕ) (d : X) (e : Y)
@@ -108,3 +109,87 @@ pub lines_end : (reads : Option ℕ) (accesses : List Access) (answers : List An
     → text ++ answer_lines reads (drop from accesses) (drop from answers) ≡ whole
 lines_end reads accesses answers stops i from text whole high e =
     ap (λ l. text ++ lines_from reads from l accesses answers) (sym (drop_all i stops high)) ∙ e
+
+-- ---- a report that is written while its run goes on
+
+-- one text more, from an index on, where there is an item for it
+pairs_from : {X Y : Type 0} (text : X → Y → List ℕ) (from : ℕ) (xs : List X) (ys : List Y) (d : X) (y : Y)
+    → from ≤ length ys → length ys < length xs
+    → pair_texts text (drop from xs) (drop from (ys ++ y ∷ []))
+    ≡ pair_texts text (drop from xs) (drop from ys) ++ text (get_or xs (length ys) d) y
+pairs_from text zero [] ys d y low high = absurd (omega (arith, high))
+pairs_from text zero (x ∷ xs) [] d y low high = ap (λ t. text x y ++ t) (no_pairs text xs) ∙ append-nil (text x y)
+pairs_from text zero (x ∷ xs) (v ∷ ys) d y low high =
+    ap (λ t. text x v ++ t) (pairs_from text zero xs ys d y (omega arith) (omega (arith, high)))
+    ∙ sym (append_assoc (text x v) (pair_texts text xs ys) (text (get_or xs (length ys) d) y))
+pairs_from text (suc from) xs [] d y low high = absurd (omega (arith, low))
+pairs_from text (suc from) [] (v ∷ ys) d y low high = absurd (omega (arith, high))
+pairs_from text (suc from) (x ∷ xs) (v ∷ ys) d y low high =
+    pairs_from text from xs ys d y (omega (arith, low)) (omega (arith, high))
+
+-- from an index on, more items of the first list alone add nothing
+front_from : {X Y : Type 0} (text : X → Y → List ℕ) (from : ℕ) (xs : List X) (ys : List Y)
+    → pair_texts text (drop from (take (length ys) xs)) (drop from ys) ≡ pair_texts text (drop from xs) (drop from ys)
+front_from text zero xs ys = pairs_front text xs ys
+front_from text (suc from) xs [] =
+    no_pairs text (drop (suc from) (take 0 xs)) ∙ sym (no_pairs text (drop (suc from) xs))
+front_from text (suc from) [] (v ∷ ys) = refl
+front_from text (suc from) (x ∷ xs) (v ∷ ys) = front_from text from xs ys
+
+-- one answer more has one line more
+pub answer_more : (from : ℕ) (stops : List Stop) (accesses : List Access) (answers : List Answer) (d : Access)
+    (answer : Answer) → from ≤ length answers → AreWithin (length answers) stops → length answers < length accesses
+    → lines_from None from stops accesses (answers ++ answer ∷ [])
+    ≡ lines_from None from stops accesses answers ++ answer_fed None (get_or accesses (length answers) d) answer
+answer_more from [] accesses answers d answer low within high =
+    pairs_from (answer_fed None) from accesses answers d answer low high
+answer_more from (stop ∷ stops) accesses answers d answer low within high =
+    let part = lines_between None from stop.answered accesses answers in
+    let line = resume_line stop ++ 10 ∷ [] in
+    let rest = lines_from None stop.answered stops accesses answers in
+    let fed = answer_fed None (get_or accesses (length answers) d) answer in
+    ap₂ (λ (front : List Answer) (t : List ℕ). answer_lines None (drop from (take stop.answered accesses))
+    (drop from front) ++ (line ++ t))
+    (take-append-le stop.answered answers (answer ∷ []) within.0)
+    (answer_more stop.answered stops accesses answers d answer within.0 within.1 high)
+    ∙ ap (λ t. part ++ t) (sym (append_assoc line rest fed)) ∙ sym (append_assoc part (line ++ rest) fed)
+
+-- one place more, after all answers so far, has its line more
+pub place_more : (from : ℕ) (stops : List Stop) (stop : Stop) (accesses : List Access) (answers : List Answer)
+    → stop.answered ≡ length answers
+    → lines_from None from (stops ++ stop ∷ []) accesses answers
+    ≡ lines_from None from stops accesses answers ++ (resume_line stop ++ 10 ∷ [])
+place_more from [] stop accesses answers at_end =
+    let line = resume_line stop ++ 10 ∷ [] in
+    let none : answer_lines None (drop stop.answered accesses) (drop stop.answered answers) ≡ [] =
+    ap (λ l. answer_lines None (drop stop.answered accesses) l)
+    (drop_all stop.answered answers (omega (arith, at_end))) ∙ no_pairs (answer_fed None) (drop stop.answered accesses) in
+    let all : take stop.answered answers ≡ answers = take_all stop.answered answers (omega (arith, at_end)) in
+    ap₂ (λ (n : ℕ) (l : List Answer). answer_lines None (drop from (take n accesses)) (drop from l)
+    ++ (line ++ answer_lines None (drop stop.answered accesses) (drop stop.answered answers))) at_end all
+    ∙ ap₂ (λ s t. s ++ (line ++ t)) (front_from (answer_fed None) from accesses answers) none
+    ∙ ap (λ t. answer_lines None (drop from accesses) (drop from answers) ++ t) (append-nil line)
+place_more from (first ∷ stops) stop accesses answers at_end =
+    let part = lines_between None from first.answered accesses answers in
+    let line = resume_line first ++ 10 ∷ [] in
+    let rest = lines_from None first.answered stops accesses answers in
+    let last = resume_line stop ++ 10 ∷ [] in
+    ap (λ t. part ++ (line ++ t)) (place_more first.answered stops stop accesses answers at_end)
+    ∙ ap (λ t. part ++ t) (sym (append_assoc line rest last)) ∙ sym (append_assoc part (line ++ rest) last)
+
+-- places within fewer answers are within more
+pub within_more : (n m : ℕ) (stops : List Stop) → n ≤ m → AreWithin n stops → AreWithin m stops
+within_more n m [] less within = tt
+within_more n m (stop ∷ stops) less within =
+    let low = within.0 in (omega (arith, low, less), within_more n m stops less within.1)
+
+-- and so is one place more
+pub within_last : (n : ℕ) (stops : List Stop) (stop : Stop) → AreWithin n stops → stop.answered ≤ n
+    → AreWithin n (stops ++ stop ∷ [])
+within_last n [] stop within low = (low, tt)
+within_last n (first ∷ stops) stop within low = (within.0, within_last n stops stop within.1 low)
+
+-- without answers and places there are no lines
+pub no_lines : (accesses : List Access) (answers : List Answer) → answers ≡ [] → lines_from None 0 [] accesses answers ≡ []
+no_lines accesses answers none =
+    ap (λ l. answer_lines None accesses l) none ∙ no_pairs (answer_fed None) accesses

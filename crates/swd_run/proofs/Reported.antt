@@ -10,16 +10,17 @@ use Rattle.swd_io.specs.Blocks.{Stopped}
 use Rattle.swd_port.specs.declared.mark.Mark.{Mark}
 use Rattle.swd_port.specs.Port.{Port}
 use Rattle.swd_host.specs.declared.outcome.End.TheVariants.{All}
+use Rattle.swd_host.specs.Reports.{Told}
 use Rattle.swd_script.specs.Laws.{IsBatch}
 use Rattle.swd_script.specs.Scripts.{Listed}
 use Rattle.swd_run.specs.declared.engine.Finished.{Finished}
 use Rattle.swd_run.specs.declared.fault.EngineFault.TheVariants.{Memory, Write}
 use Rattle.swd_run.specs.Engine.{AnswersOver, IsFinished, Ran}
 use Rattle.swd_run.specs.Records.{AreLeft, no_files}
-use Rattle.swd_run.specs.Reports.{HasWritten, batch_report, run_report, session_text}
+use Rattle.swd_run.specs.Reports.{HasWritten, batch_report, session_text}
 use Rattle.swd_run.specs.Sessions.{Done, Runs, most_begun, none, then}
 use Rattle.swd_run.specs.Unfoldings.{AreOf, BatchRuns, IsCutShort, Performs, Unfolds, again, calls_of, ends_until}
-use Rattle.swd_run.specs.Unfoldings.{never_came, no_batch, reads_of, runs_of}
+use Rattle.swd_run.specs.Unfoldings.{never_came, no_batch, runs_of}
 use Rattle.swd_run.specs.Unfoldings.{one_more as batch_more}
 use Rattle.swd_run.specs.Verified.{difference_in, first_difference, has_bus_fault, or_else}
 use Rattle.swd_run.proofs.ReportLemmas.{pairs_front, pairs_last}
@@ -166,12 +167,8 @@ module _ {W : Type 0} (port : W → Port) (plan : W → List Mark) (lawful : W �
     -- the runs of the next batch
     module _ (all : finished.ended ≡ All) (came : finished.never_came ≡ false) (batch : Listed)
         (split : take (i + 1) batches ≡ take i batches ++ batch ∷ []) (runs : BatchRuns) (u : W)
-        (performs : Performs port plan lawful tries resumes batch t runs u) (reads : ℕ) (last : Done)
-        (last_is : runs.last ≡ last) (reads_are : reads_of runs ≡ reads) (new : Option (List ℕ)) where
-      -- the report of a batch is that of its last run
-      last_report : run_report batch reads last ≡ batch_report batch runs
-      last_report = sym (ap₂ (run_report batch) reads_are last_is)
-
+        (performs : Performs port plan lawful tries resumes batch t runs u) (told : Told)
+        (last_is : runs.last.told ≡ told) (new : Option (List ℕ)) where
       unfolds_next : Unfolds (take (i + 1) batches) (so_far.made ++ runs ∷ [])
       unfolds_next = subst (λ z. Unfolds z (so_far.made ++ runs ∷ [])) (sym split)
           (batch_more so_far.unfolds (sym so_far.is.never_came ∙ came) performs.are)
@@ -199,14 +196,13 @@ module _ {W : Type 0} (port : W → Port) (plan : W → List Mark) (lawful : W �
           ∙ ap (λ z. session_text z (so_far.made ++ runs ∷ [])) (sym split)
 
       -- the runs of the next batch, and their report, which was written whole, come after those so far
-      pub one_more : (written_next total : ℕ) → HasWritten now new (run_report batch reads last) written_next
+      pub one_more : (written_next total : ℕ) → HasWritten now new (batch_report batch runs) written_next
           → Sums total written written_next → IsBatch batch → (finished_next : Finished)
           → ((batches : List Listed) (made : List BatchRuns) (runs : BatchRuns) → Unfolds batches made → IsBatch batch
-          → AreOf batch runs → runs.last ≡ last → IsFinished batches made None finished
+          → AreOf batch runs → runs.last.told ≡ told → IsFinished batches made None finished
           → IsFinished (batches ++ batch ∷ []) (made ++ runs ∷ []) None finished_next)
           → SoFar (i + 1) u new finished_next total
-      one_more written_next total wrote_last sum fits finished_next and =
-          let wrote = subst (λ text. HasWritten now new text written_next) last_report wrote_last in
+      one_more written_next total wrote sum fits finished_next and =
           let front = session_text (take i batches) so_far.made in
           let len = length-append front (batch_report batch runs) in
           let same = ap length text_next in
@@ -227,10 +223,9 @@ module _ {W : Type 0} (port : W → Port) (plan : W → List Mark) (lawful : W �
       -- the runs of the next batch, of whose report not all was written, are the last: the engine's answer is
       -- `Write`, with the number of all bytes written
       pub stopped_in : (written_next total : ℕ) → i < length batches
-          → Stopped written_next now new (run_report batch reads last) → Sums total written written_next
+          → Stopped written_next now new (batch_report batch runs) → Sums total written written_next
           → AnswersOver port plan lawful tries resumes batches s u (Err (Write total)) old new no_files no_files
-      stopped_in written_next total low stop_last sum =
-          let stop = subst (Stopped written_next now new) last_report stop_last in
+      stopped_in written_next total low stop sum =
           let front = session_text (take i batches) so_far.made in
           let made : List BatchRuns = so_far.made ++ runs ∷ [] in
           let same = counted (omega (arith, low)) in

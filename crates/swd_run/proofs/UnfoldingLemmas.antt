@@ -311,6 +311,10 @@ made_faults made until runs are =
 
 -- ---- the reads of an `until`
 
+-- a batch with an `until` isn't one without
+pub not_plain : {until : Until} → Some until ≡ None → ⊥
+not_plain e = cc
+
 module _ {W : Type 0} (port : W → Port) (plan : W → List Mark) (lawful : W → Type 0) (tries resumes : ℕ)
     (batch : Listed) (s : W) where
   -- the only run of a batch without `until`
@@ -335,14 +339,15 @@ module _ {W : Type 0} (port : W → Port) (plan : W → List Mark) (lawful : W �
 
   -- memory was refused for the first run
   pub cut_first : IsBatch batch → (t : W)
-      → IsRefused port plan lawful (most_begun batch) tries resumes batch s t
+      → IsRefused port plan lawful (most_begun batch) tries resumes batch s t → (batch.until ≡ None → t ≡ s)
       → IsCutShort port plan lawful tries resumes batch s t
-  cut_first is t refused = record {
+  cut_first is t refused unsent = record {
     runs = [];
     are = first batch.until is.waits;
     between = s;
     earlier = none;
     refused = refused;
+    unsent = unsent;
   }
     where
       first : (until : Option Until) → IfSome until (λ until. IsWait until batch) → AreEarlier until []
@@ -436,4 +441,5 @@ module _ {W : Type 0} (port : W → Port) (plan : W → List Mark) (lawful : W �
               between = t;
               earlier = runs_more;
               refused = refused;
+              unsent = λ plain. absurd (not_plain (sym waits ∙ plain));
             }

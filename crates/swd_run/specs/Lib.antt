@@ -1,11 +1,13 @@
 pub mod Records
 pub mod Recorded
 pub mod Engine
+pub mod Leads
 pub mod GoingOn
 pub mod Sessions
 pub mod Transfers
 pub mod Unfoldings
 pub mod Reports
+pub mod Reporting
 pub mod Verified
 pub mod Running
 pub mod Laws

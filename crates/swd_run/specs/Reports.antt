@@ -17,7 +17,9 @@ use Rattle.swd_script.specs.declared.batch.Until.{Until}
 use Rattle.swd_script.specs.Scripts.{Listed}
 use Rattle.swd_run.specs.declared.going_on.Stop.{Stop}
 use Rattle.swd_run.specs.Sessions.{Done}
-use Rattle.swd_run.specs.Unfoldings.{BatchRuns, never_came, reads_of}
+use Rattle.swd_port.specs.declared.mark.Mark.{Mark}
+use Rattle.swd_port.specs.Port.{Port}
+use Rattle.swd_run.specs.Unfoldings.{BatchRuns, Performs, never_came, reads_of}
 
 abbrev pub access_text : Access → List ℕ
 access_text (Read addr) = codes "r " ++ hex8 addr
@@ -116,3 +118,12 @@ pub record HasWritten (start now : Option (List ℕ)) (all : List ℕ) (told : �
 abbrev pub WritesOn : Result ℕ ℕ → Option (List ℕ) → Option (List ℕ) → List ℕ → Type 0
 WritesOn (Ok told) start now all = HasWritten start now all told
 WritesOn (Err told) start now all = Stopped told start now all
+
+-- The runs of a batch, from the wire s to the wire t, of which the last one has this report. A writer had the contents
+-- `old`, and has `new` now: all of the batch's report was written, or exactly its first bytes and not all.
+pub record IsReported {W : Type 0} (port : W → Port) (plan : W → List Mark) (lawful : W → Type 0) (tries resumes : ℕ)
+    (batch : Listed) (s t : W) (old new : Option (List ℕ)) (told : Told) (written : Result ℕ ℕ) : Type 0 where
+  pub runs : BatchRuns
+  pub last : runs.last.told ≡ told
+  pub performs : Performs port plan lawful tries resumes batch s runs t
+  pub writes : WritesOn written old new (batch_report batch runs)

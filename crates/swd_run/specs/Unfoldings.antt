@@ -108,10 +108,11 @@ module _ {W : Type 0} (port : W → Port) (plan : W → List Mark) (lawful : W �
     pub last : GoesOn port plan lawful (most_begun batch) tries resumes batch between runs.last t
     pub are : AreOf batch runs
 
-  -- the same, where the last run ran out of memory
+  -- The same, where the last run ran out of memory. Only the read of an `until` may do so once it started.
   pub record IsCutShort (s t : W) : Type 0 where
     pub runs : List Done
     pub are : AreEarlier batch.until runs
     pub between : W
     pub earlier : Runs port plan lawful most_begun tries resumes s (again batch runs) runs between
     pub refused : IsRefused port plan lawful (most_begun batch) tries resumes batch between t
+    pub unsent : batch.until ≡ None → t ≡ s

@@ -2,20 +2,20 @@
 ghost use Rattle.std.specs.Prelude.{ℕ, ◌≡◌, All as Each, List, [], ◌∷◌, ◌++◌, None, map, true};
 ghost use Rattle.swd_port.specs.declared.wire.Due.TheVariants.{Nothing};
 ghost use Rattle.swd_port.specs.Laws.Calls.{with_asked};
+ghost use Rattle.swd_host.specs.Reports.{told_of};
 ghost use Rattle.swd_trace.specs.Listed.{AreLegal};
 ghost use Rattle.swd_recorder.specs.Recorders.{lawful_by, plan_by, port_by};
 ghost use Rattle.swd_script.specs.Readers.{listed};
 ghost use Rattle.swd_script.specs.Laws.{IsBatch};
 ghost use Rattle.swd_script.specs.Scripts.{Listed};
-ghost use Rattle.swd_run.specs.Sessions.{done_of};
 ghost use Rattle.swd_run.specs.Unfoldings.{AreOf, BatchRuns, Unfolds, never_came};
 ghost use Rattle.swd_run.specs.Engine.{AnswersAt, AnswersOver, IsFinished, TellsRecords, port_seen};
 ghost use Rattle.swd_run.specs.Records.{files_of, is_recorded, no_files};
 
+use crate::batch_runs::{Reported, report_batch};
 use crate::fault::EngineFault;
-use crate::performing::{Performed, never_came, perform};
+use crate::performing::never_came;
 use crate::records::{Records, write_accesses, write_trace};
-use crate::report::write_run;
 use crate::traced::{Origin, Traced};
 use crate::verified::{Difference, or_bus_fault, or_difference_in};
 use std::alloc::Allocator;
@@ -54,15 +54,16 @@ impl Finished {
     };
 
     // Returns the result with the runs of this batch as the last ones.
-    fn and<A: Allocator>(self, batch: &Batch<A>, performed: &Performed<A>) -> Finished
-        ensures ended { result.ended ≡ (done_of performed.now.last).told.ended }
-        ensures never_came { result.never_came ≡ never_came batch.now.until (done_of performed.now.last).told }
+    fn and<A: Allocator>(self, batch: &Batch<A>, reported: &Reported<A>) -> Finished
+        ensures ended { result.ended ≡ (told_of reported.now.report).ended }
+        ensures never_came { result.never_came ≡ never_came batch.now.until (told_of reported.now.report) }
         ensures finished { (batches : List Listed) (made : List BatchRuns) (runs : BatchRuns) → Unfolds batches made
-            → IsBatch (listed batch.now) → AreOf (listed batch.now) runs → runs.last ≡ done_of performed.now.last
+            → IsBatch (listed batch.now) → AreOf (listed batch.now) runs
+            → runs.last.told ≡ told_of reported.now.report
             → IsFinished batches made None self
             → IsFinished (batches ++ listed batch.now ∷ []) (made ++ runs ∷ []) None result }
     {
-        let report = &performed.last.report;
+        let report = &reported.report;
         let reads = batch.expected.as_slice();
         let answers = report.answers.as_slice();
         Finished {
@@ -75,8 +76,8 @@ impl Finished {
     }
 }
 
-// Runs the batches over a wire, up to the first that doesn't end `All`, or whose word never comes. Writes the report of
-// each when it ends.
+// Runs the batches over a wire, up to the first that doesn't end `All`, or whose word never comes, or whose report can't
+// be written.
 fn run_reported<W: Wire, O: Write, A: Allocator + Copy>(
     alloc: A,
     wire: &mut W,
@@ -94,17 +95,17 @@ fn run_reported<W: Wire, O: Write, A: Allocator + Copy>(
     let mut finished = Finished::NONE;
     let mut written = 0u64;
     for batch in batches {
-        let Some(performed) = perform(alloc, wire, batch, tries, resumes) else {
+        let Some(reported) = report_batch(alloc, wire, batch, tries, resumes, report) else {
             return Err(EngineFault::Memory);
         };
-        match write_run(report, batch, &performed) {
+        match reported.written {
             Ok(more) => written = written.saturating_add(more),
             Err(more) => {
                 let written = written.saturating_add(more);
                 return Err(EngineFault::Write { written });
             }
         }
-        finished = finished.and(batch, &performed);
+        finished = finished.and(batch, &reported);
         let End::All = finished.ended else {
             return Ok(finished);
         };
@@ -195,15 +196,20 @@ fn run_recorded<B: Origin, W: Wire, O: Write, T: Write, A: Allocator + Copy>(
 }
 
 /// Runs the calls of a script in order over a wire on which nothing is due, up to the first that doesn't end `All`.
-/// Writes the report of each call before the next one starts. Then writes the trace and the accesses that it shows,
-/// each if there is a writer for it. Returns the wire too.
+/// Writes the report of each call while it goes on, and whole before the next one starts. Then writes the trace and the
+/// accesses that it shows, each if there is a writer for it. Returns the wire too.
+///
+/// The line of an access is queued when its answer is certain, and the queued lines are written after every 1,024
+/// answers of a call, and at its end. So what was written is at each moment the beginning of a report, and its accesses
+/// are done. If the writer fails, the call is performed to its end, and its further lines are dropped.
 ///
 /// The read of an `until` is made again, as a call of its own, until its word comes. If it never comes, no further call
-/// is made. Only the last of these calls has a report.
+/// is made. Only the last of these calls has a report, which is written at its end, since it has the number of reads.
 ///
 /// `tries` is the number of events that the opening, and each access, may meet. After a lost acknowledgement a call
-/// continues by `swd_host::resume`, at most `resumes` times. The report has a line for each time. The answers of a call
-/// are allocated before it starts, and again each time that it is resumed.
+/// continues by `swd_host::resume`, at most `resumes` times. The report has a line for each time. A call allocates its
+/// answers before it starts, and nothing after that. Only the read of an `until` also allocates the places where it is
+/// resumed.
 ///
 /// The trace has the items that a `swd_recorder::Recorder` keeps, as bits in characters, one item a line. These bits
 /// decode to the same items. If the target conforms to the model and was at rest, a trace that isn't truncated has one
@@ -213,8 +219,8 @@ fn run_recorded<B: Origin, W: Wire, O: Write, T: Write, A: Allocator + Copy>(
 ///
 /// # Errors
 ///
-/// Returns `Memory` if an allocation for a call fails, at its start or when it is resumed. The reports of the calls
-/// before it are complete then. Nothing of its own report was written, and no other call was made.
+/// Returns `Memory` if an allocation for a call fails, before its first bit or, of an `until`, when it is resumed. The
+/// reports of the calls before it are complete then. Nothing of its own report was written, and no other call was made.
 ///
 /// Returns `Write` if the report's writer failed or took no bytes. Exactly the first `written` bytes of the reports
 /// were written then, including all reports of the calls before. No call was made after that.

@@ -1,18 +1,16 @@
 //! A run that is resumed after lost acknowledgements.
-ghost use Rattle.std.specs.Prelude.{◌≡◌, ◌≤◌, IfNone, IfSome, length};
+ghost use Rattle.std.specs.Prelude.{◌≡◌, ◌≤◌, [], IfNone, IfOk, IfSome, List, OnErr, length};
 ghost use Rattle.swd_port.specs.declared.wire.Due.TheVariants.{Nothing};
-ghost use Rattle.swd_host.specs.declared.outcome.End.TheVariants.{Lost};
-ghost use Rattle.swd_host.specs.Plain.{AreAccesses};
-ghost use Rattle.swd_host.specs.Reports.{told_of};
-ghost use Rattle.swd_host.specs.Again.{Continues, ResumesOver};
 ghost use Rattle.swd_script.specs.Readers.{listed};
 ghost use Rattle.swd_script.specs.Laws.{IsBatch};
-ghost use Rattle.swd_run.specs.GoingOn.{stop_of};
+ghost use Rattle.swd_host.specs.Reports.{told_to};
+ghost use Rattle.swd_host.specs.Tasks.{most_of};
+ghost use Rattle.swd_run.specs.declared.going_on.Stop.{Stop as StopType};
 ghost use Rattle.swd_run.specs.Sessions.{GoesOn, IsRefused, done_of, most_begun};
 
-use crate::running::run_over;
+use crate::run_sink::{Kept, RunSink};
 use std::alloc::Allocator;
-use swd_host::{End, Report, resume};
+use swd_host::{Bursts, End, Ending, Report, resume_to, run_to};
 use swd_port::Wire;
 use swd_script::Batch;
 
@@ -27,19 +25,6 @@ pub struct Stop {
     pub requests: u64,
 }
 
-impl Stop {
-    // Returns the place where a call with this report ended.
-    fn of<A: Allocator>(report: &Report<A>) -> Stop
-        ensures { result ≡ stop_of (told_of report.now) }
-    {
-        Stop {
-            answered: report.answers.len(),
-            begun: report.begun,
-            requests: report.requests,
-        }
-    }
-}
-
 /// The result of a run that may have been resumed.
 #[derive(Debug, Drop)]
 pub struct Resumed<A: Allocator> {
@@ -49,29 +34,58 @@ pub struct Resumed<A: Allocator> {
     pub report: Report<A>,
 }
 
-// Resumes the run of a batch. Returns `None` if an allocation fails; nothing is sent then.
-fn resume_over<W: Wire, A: Allocator + Copy>(
-    alloc: A,
+// Returns which accesses of a batch are performed in bursts.
+fn bursts_of<A: Allocator>(batch: &Batch<A>) -> Bursts
+    ensures { most_of result ≡ most_begun (listed batch.now) }
+{
+    match batch.block {
+        Some(_) => Bursts::Reads,
+        None => Bursts::Writes,
+    }
+}
+
+/// Performs the accesses of a batch over a wire, and resumes the run after a lost acknowledgement, at most `resumes`
+/// times. Hands each answer on once it is certain, and the place where the run is resumed before the next call. Allocates
+/// no memory itself.
+///
+/// # Errors
+///
+/// The reason why the sink doesn't take such a place. The run isn't resumed there.
+pub fn run_on_to<W: Wire, K: RunSink, A: Allocator>(
     wire: &mut W,
     batch: &Batch<A>,
-    report: &Report<A>,
     tries: u32,
-) -> Option<Report<A>>
+    resumes: u32,
+    sink: &mut K,
+) -> Result<Ending, K::Refusal>
     requires batch { IsBatch (listed batch.now) }
-    requires accepted { AreAccesses (listed batch.now).accesses }
-    requires reported { length (told_of report.now).answers ≤ length (listed batch.now).accesses }
-    ensures continues { IfSome result (λ told. Continues (listed batch.now).accesses tries (told_of report.now)
-        (told_of told) (W.port wire.new).link.due) }
-    ensures fits { IfSome result (λ told. W.lawful wire.new → W.lawful wire.old
-        × ResumesOver (listed batch.now).accesses tries (told_of report.now) (told_of told)
-        (W.port wire.old) (W.port wire.new)) }
-    ensures untouched { IfNone result (wire.new ≡ wire.old) }
+    requires due { (W.port wire.old).link.due ≡ Nothing }
+    requires none { K.taken sink.old ≡ [] }
+    requires room { length (listed batch.now).accesses ≤ K.most sink.old }
+    ensures goes { IfOk result (λ ending. (stops : List StopType) × K.follows sink.old stops sink.new
+        × GoesOn W.port W.plan W.lawful (most_begun (listed batch.now)) tries resumes (listed batch.now) wire.old
+        (record { stops = stops; told = told_to (K.taken sink.new) ending }) wire.new) }
+    ensures refused { OnErr result (IsRefused W.port W.plan W.lawful (most_begun (listed batch.now)) tries resumes
+        (listed batch.now) wire.old wire.new) }
     ensures plan { W.plan wire.new ≡ W.plan wire.old }
 {
-    match resume(alloc, wire, batch.accesses.as_slice(), report, tries) {
-        Ok(report) => Some(report),
-        Err(_) => None,
+    let accesses = batch.accesses.as_slice();
+    let mut ending = match run_to(wire, accesses, bursts_of(batch), tries, sink) {
+        Ok(ending) => ending,
+        Err(_) => unreachable!(),
+    };
+    for done in 0..resumes {
+        let End::Lost = ending.ended else {
+            return Ok(ending);
+        };
+        sink.stop(Stop {
+            answered: sink.count(),
+            begun: ending.begun,
+            requests: ending.requests,
+        })?;
+        ending = resume_to(wire, accesses, ending, tries, sink);
     }
+    Ok(ending)
 }
 
 /// Performs the accesses of a batch over a wire, and resumes the run after a lost acknowledgement, at most `resumes`
@@ -91,16 +105,19 @@ pub fn run_on<W: Wire, A: Allocator + Copy>(
         (listed batch.now) wire.old wire.new) }
     ensures plan { W.plan wire.new ≡ W.plan wire.old }
 {
-    let mut stops = Vec::new(alloc);
-    let mut report = run_over(alloc, wire, batch, tries)?;
-    for done in 0..resumes {
-        let End::Lost = report.ended else {
-            return Some(Resumed { stops, report });
-        };
-        let Ok(()) = stops.push(Stop::of(&report)) else {
-            return None;
-        };
-        report = resume_over(alloc, wire, batch, &report, tries)?;
-    }
-    Some(Resumed { stops, report })
+    let Ok(answers) = Vec::with_capacity(alloc, batch.accesses.len()) else {
+        return None;
+    };
+    let mut kept = Kept {
+        answers,
+        stops: Vec::new(alloc),
+    };
+    let Ok(ending) = run_on_to(wire, batch, tries, resumes, &mut kept) else {
+        return None;
+    };
+    let Kept { answers, stops } = kept;
+    Some(Resumed {
+        stops,
+        report: ending.with(answers),
+    })
 }

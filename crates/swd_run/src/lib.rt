@@ -1,9 +1,10 @@
 //! The engine of `swd run`. It runs a script's calls over any wire, and resumes a call after a lost acknowledgement. It
-//! writes the report of each call when it ends, and then the trace and the accesses that it shows. It returns the first
-//! read whose answer wasn't the expected word. [`run_text`] does the same over a simulated target with the marks of a
+//! writes their reports while they go on, and then the trace and the accesses that it shows. It returns the first read
+//! whose answer wasn't the expected word. [`run_text`] does the same over a simulated target with the marks of a
 //! plan.
 #![tactic(auto)]
 
+mod batch_runs;
 mod engine;
 mod fault;
 mod going_on;
@@ -11,6 +12,8 @@ pub mod laws;
 mod performing;
 mod records;
 mod report;
+mod reporting;
+mod run_sink;
 mod running;
 mod texts;
 mod traced;
@@ -18,9 +21,10 @@ mod verified;
 
 pub use engine::{Finished, run_batches};
 pub use fault::{EngineFault, RunFault, TextsFault};
-pub use going_on::{Resumed, Stop, run_on};
+pub use going_on::{Resumed, Stop, run_on, run_on_to};
 pub use records::Records;
 pub use report::{ReportLine, answer_line, last_line, resume_line};
+pub use run_sink::RunSink;
 pub use running::{QUIRKS, run_text, zero_memory};
 pub use texts::{Texts, read_texts};
 pub use verified::Difference;

@@ -1,5 +1,5 @@
-//! The runs of one batch: one, or those of an `until`.
-ghost use Rattle.std.specs.Prelude.{◌≡◌, IfNone, IfSome};
+//! The runs of an `until`.
+ghost use Rattle.std.specs.Prelude.{◌≡◌, IfNone, IfSome, Some};
 ghost use Rattle.swd_port.specs.declared.wire.Due.TheVariants.{Nothing};
 ghost use Rattle.swd_host.specs.Reports.{told_of};
 ghost use Rattle.swd_script.specs.Readers.{listed};
@@ -14,10 +14,10 @@ use swd_host::{End, Report};
 use swd_port::{Answer, Wire};
 use swd_script::{Batch, Until};
 
-/// The runs of a batch.
+/// The runs of an `until`.
 #[derive(Debug, Drop)]
 pub(crate) struct Performed<A: Allocator> {
-    /// How many there were: of an `until` at most its most reads, else 1.
+    /// How many there were: at most its most reads.
     pub(crate) runs: u32,
     /// The last one.
     pub(crate) last: Resumed<A>,
@@ -73,17 +73,19 @@ pub(crate) fn never_came<A: Allocator>(until: Option<Until>, report: &Report<A>)
     }
 }
 
-/// Performs a batch over a wire: one run, or the reads of an `until`, each a run of its own, until its word comes. A
-/// read that doesn't end `All`, and a bus error, are the last. Each run is resumed at most `resumes` times. Returns
-/// `None` if an allocation fails.
+/// Performs the reads of an `until` over a wire, each a run of its own, until its word comes. A read that doesn't end
+/// `All`, and a bus error, are the last. Each run is resumed at most `resumes` times. Returns `None` if an allocation
+/// fails.
 pub(crate) fn perform<W: Wire, A: Allocator + Copy>(
     alloc: A,
     wire: &mut W,
     batch: &Batch<A>,
+    until: Until,
     tries: u32,
     resumes: u32,
 ) -> Option<Performed<A>>
     requires batch { IsBatch (listed batch.now) }
+    requires until { batch.now.until ≡ Some until }
     requires due { (W.port wire.old).link.due ≡ Nothing }
     ensures performs { IfSome result (λ performed. (runs : BatchRuns) × (runs.last ≡ done_of performed.last)
         × (reads_of runs ≡ performed.runs)
@@ -93,9 +95,6 @@ pub(crate) fn perform<W: Wire, A: Allocator + Copy>(
     ensures plan { W.plan wire.new ≡ W.plan wire.old }
 {
     let mut last = run_on(alloc, wire, batch, tries, resumes)?;
-    let Some(until) = batch.until else {
-        return Some(Performed { runs: 1, last });
-    };
     for runs in 1..until.most {
         if !asks_again(until, &last) {
             return Some(Performed { runs, last });

@@ -1,14 +1,10 @@
 //! Runs a script over a simulated target with the marks of a plan.
-ghost use Rattle.std.specs.Prelude.{◌≡◌, true, false, IfNone, IfSome};
-ghost use Rattle.swd_port.specs.declared.wire.Due.TheVariants.{Nothing};
+ghost use Rattle.std.specs.Prelude.{◌≡◌, true, false, IfSome};
 ghost use Rattle.swd_port.specs.Port.{made};
-ghost use Rattle.swd_host.specs.Plain.{AreAccesses};
-ghost use Rattle.swd_host.specs.Reports.{told_of, Closes, RunsWithin};
-ghost use Rattle.swd_script.specs.Readers.{listed, meaning};
-ghost use Rattle.swd_script.specs.Laws.{IsBatch, IsRunnable};
+ghost use Rattle.swd_script.specs.Readers.{meaning};
+ghost use Rattle.swd_script.specs.Laws.{IsRunnable};
 ghost use Rattle.swd_target.specs.Marks.{IsPlan};
 ghost use Rattle.swd_target.specs.Benches.{port_of, plan_of, simulation_of};
-ghost use Rattle.swd_run.specs.Sessions.{most_begun};
 ghost use Rattle.swd_run.specs.Records.{files_of};
 ghost use Rattle.swd_run.specs.Running.{AnswersScript, RunsText, full_room, memory_of, with_full};
 
@@ -18,9 +14,8 @@ use crate::records::Records;
 use crate::texts::{Texts, read_texts};
 use std::alloc::Allocator;
 use std::io::{Read, Write};
-use swd_host::{Refused, Report, run, run_block};
-use swd_port::{Mark, Wire};
-use swd_script::{Batch, Script};
+use swd_port::Mark;
+use swd_script::Script;
 use swd_target::laws::marks_used;
 use swd_target::{Bench, MakeFault, Memory, Quirks};
 
@@ -84,37 +79,6 @@ fn target_of<A: Allocator + Copy>(
 {
     let memory = zero_memory(alloc, script)?;
     Some(Bench::new(memory, QUIRKS, plan))
-}
-
-/// Performs the accesses of a batch over a wire, as a block if they are one. Returns `None` if an allocation fails;
-/// nothing is sent then.
-pub(crate) fn run_over<W: Wire, A: Allocator + Copy>(
-    alloc: A,
-    wire: &mut W,
-    batch: &Batch<A>,
-    tries: u32,
-) -> Option<Report<A>>
-    requires batch { IsBatch (listed batch.now) }
-    requires due { (W.port wire.old).link.due ≡ Nothing }
-    ensures closes { IfSome result (λ report. Closes 0 (most_begun (listed batch.now))
-        (listed batch.now).accesses tries (told_of report) (W.port wire.new).link.due) }
-    ensures fits { IfSome result (λ report. W.lawful wire.new → W.lawful wire.old
-        × RunsWithin (most_begun (listed batch.now)) (listed batch.now).accesses tries (told_of report)
-        (W.port wire.old) (W.port wire.new)) }
-    ensures accepted { IfSome result (λ _. AreAccesses (listed batch.now).accesses) }
-    ensures untouched { IfNone result (wire.new ≡ wire.old) }
-    ensures plan { W.plan wire.new ≡ W.plan wire.old }
-{
-    let accesses = batch.accesses.as_slice();
-    let outcome = match batch.block {
-        Some(addr) => run_block(alloc, wire, addr, accesses.len() as u32, tries),
-        None => run(alloc, wire, accesses, tries),
-    };
-    match outcome {
-        Ok(report) => Some(report),
-        Err(Refused::Memory) => None,
-        Err(_) => unreachable!(),
-    }
 }
 
 // Runs a script over a simulated target with these marks. Writes the reports, and the files for which there is a

@@ -27,6 +27,7 @@ mod serving;
 mod sessions;
 mod simulated;
 mod slow;
+mod streamed;
 mod tracing;
 mod untils;
 

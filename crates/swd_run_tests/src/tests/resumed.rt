@@ -2,6 +2,7 @@
 use super::expect::expect_eq;
 use super::{ONE_WRITE, Ran, TRIES, WORKED, ended, ended_with, only_trace, resumed_on};
 use linked_list_allocator::LocalHeap;
+use std::alloc::Allocator;
 use std::process::Abort;
 use std::test::Fail;
 use swd_host::End;
@@ -79,7 +80,31 @@ fn a_resumed_run_is_traced_whole(rt: HostRuntime) {
     expect_eq(&rt, &lines_with(listing, b"ap c write ok deadbeef"), &1);
 }
 
-// Nothing of a call is written where memory is refused for it, also where it was to be resumed.
+// A write whose acknowledgement is lost, resumed at most so many times.
+fn lost_write_on<A: Allocator + Copy>(
+    alloc: A,
+    resumes: u32,
+    report: &mut Vec<u8>,
+) -> Result<Finished, RunFault> {
+    let mut script = b"memory 20000000 16\nroom 8\nw 20000000 deadbeef\n".as_slice();
+    let mut plan = LOST_WRITE;
+    run_text(
+        alloc,
+        &mut script,
+        &mut plan,
+        TRIES,
+        resumes,
+        report,
+        &mut Records::<Vec<u8>>::none(),
+    )
+}
+
+fn is_refused(answer: &Result<Finished, RunFault>) -> bool {
+    matches!(answer, Err(RunFault::Engine(EngineFault::Memory)))
+}
+
+// Nothing of a call is written where memory is refused for it. Where there is enough to start it, there is enough to resume
+// it.
 #[test]
 fn a_resumed_run_where_memory_ends(rt: HostRuntime) -> Result<(), Fail> {
     let whole = b"resume 0 begun 1\nw 20000000 written\nend all 1\n".as_slice();
@@ -87,18 +112,11 @@ fn a_resumed_run_where_memory_ends(rt: HostRuntime) -> Result<(), Fail> {
     let mut done = false;
     for size in 1..400usize {
         let heap = LocalHeap::new(rt.alloc(), size * 16)?;
-        let mut script = b"memory 20000000 16\nroom 8\nw 20000000 deadbeef\n".as_slice();
-        let mut plan = LOST_WRITE;
         let mut report = Vec::new(rt.alloc());
-        let answer = run_text(
-            &heap,
-            &mut script,
-            &mut plan,
-            TRIES,
-            1,
-            &mut report,
-            &mut Records::<Vec<u8>>::none(),
-        );
+        let answer = lost_write_on(&heap, 1, &mut report);
+        let mut unresumed = Vec::new(rt.alloc());
+        let started = lost_write_on(&heap, 0, &mut unresumed);
+        expect_eq(&rt, &is_refused(&answer), &is_refused(&started));
         match answer {
             Ok(
                 Finished {

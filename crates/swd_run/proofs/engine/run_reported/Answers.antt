@@ -1,8 +1,12 @@
-use Rattle.std.proofs.Common.{◌≡◌, ◌∙◌, ◌+◌, ◌∷◌, ◌++◌, [], Bool, true, false, map, take, drop, suc, refl, sym, ap}
+use Rattle.std.proofs.Common.{Err, ◌≡◌, ◌∙◌, ◌+◌, ◌∷◌, ◌++◌, [], Bool, true, false, map, take, drop, suc, refl, sym, ap, subst}
 use Rattle.std.proofs.Common.{arith}
 use Rattle.swd_script.specs.Readers.{listed}
 use Rattle.swd_script.specs.Laws.{IsBatch}
-use Rattle.swd_run.specs.Sessions.{done_of}
+use Rattle.swd_host.specs.Reports.{told_of}
+use Rattle.swd_run.specs.declared.fault.EngineFault.TheVariants.{Memory}
+use Rattle.swd_run.specs.Engine.{AnswersOver}
+use Rattle.swd_run.specs.Records.{no_files}
+use Rattle.swd_run.specs.Reports.{WritesOn, batch_report}
 use Rattle.swd_run.proofs.Reported.{all_told, none_yet, one_more, refused_next, stopped_in}
 use Rattle.swd_run.proofs.SessionLemmas.{batch_at, due_then, left_of, map_length, one_more_of}
 use Rattle.swd_run.proofs.engine.run_reported.Goals as goal
@@ -10,8 +14,8 @@ use Rattle.swd_run.proofs.engine.run_reported.Goals as goal
 apart : {P : Type 0} (b : Bool) → b ≡ true → b ≡ false → P
 apart b e f = absurd cc
 
-pub perform-requires-clause-batch : goal.perform-requires-clause-batch
-perform-requires-clause-batch g c =
+pub report_batch-requires-clause-batch : goal.report_batch-requires-clause-batch
+report_batch-requires-clause-batch g c =
     batch_at IsBatch listed c.args.batches.now c.loop-batch.batch-index c.batch-item.result c.requires.batches
     c.batch-item.is c.loop-batch-test.true
 
@@ -35,13 +39,16 @@ returns-in_default-clause-answer g c =
     let batch = c.batch-item.result in
     let many = map_length listed batches in
     let low = c.loop-batch-test.true in
-    refused_next g.W.Wire.port g.W.Wire.plan g.W.Wire.lawful c.args.tries c.args.resumes (map listed batches)
+    subst (λ now. AnswersOver g.W.Wire.port g.W.Wire.plan g.W.Wire.lawful c.args.tries c.args.resumes
+    (map listed batches) c.args.wire.now c.report_batch.new.wire (Err Memory) (g.O.Write.contents c.args.report.now) now
+    no_files no_files) (sym c.in_default.ensures.unwritten)
+    (refused_next g.W.Wire.port g.W.Wire.plan g.W.Wire.lawful c.args.tries c.args.resumes (map listed batches)
     c.args.wire.now (g.O.Write.contents c.args.report.now) i c.loop-batch.wire
     (g.O.Write.contents c.loop-batch.report) c.loop-batch.finished c.loop-batch.written c.loop-batch.invariant.so_far
     c.loop-batch.invariant.all c.loop-batch.invariant.came (omega (arith, many, low)) (listed batch)
     (drop (suc i) (map listed batches))
     (left_of listed batches i batch low ∙ ap (λ b. listed b ∷ drop (suc i) (map listed batches)) (sym c.batch-item.is))
-    c.perform.new.wire c.in_default.ensures.cut
+    c.report_batch.new.wire c.in_default.ensures.cut)
 
 -- the report's writer failed
 pub returns-in-Err-clause-answer : goal.returns-in-Err-clause-answer
@@ -51,16 +58,18 @@ returns-in-Err-clause-answer g c =
     let batch = c.batch-item.result in
     let many = map_length listed batches in
     let low = c.loop-batch-test.true in
-    let (runs, last, reads, performs) = c.in-Some.ensures.performs in
+    let done = c.in-Some.ensures.reported in
     stopped_in g.W.Wire.port g.W.Wire.plan g.W.Wire.lawful c.args.tries c.args.resumes (map listed batches)
     c.args.wire.now (g.O.Write.contents c.args.report.now) i c.loop-batch.wire
     (g.O.Write.contents c.loop-batch.report) c.loop-batch.finished c.loop-batch.written c.loop-batch.invariant.so_far
     c.loop-batch.invariant.all c.loop-batch.invariant.came (listed batch)
     (one_more_of listed batches i batch low ∙ ap (λ b. take i (map listed batches) ++ listed b ∷ [])
     (sym c.batch-item.is))
-    runs c.perform.new.wire performs c.in-Some.performed.runs (done_of c.in-Some.performed.last) last reads
-    (g.O.Write.contents c.write_run.new.writer) c.in-Err.more c.saturating_add-written-in-Err.result
-    (omega (arith, many, low)) c.in-Err.ensures c.saturating_add-written-in-Err.ensures
+    done.runs c.report_batch.new.wire done.performs (told_of c.in-Some.reported.report) done.last
+    (g.O.Write.contents c.report_batch.new.report) c.in-Err.more c.saturating_add-written-in-Err.result
+    (omega (arith, many, low))
+    (subst (λ r. WritesOn r (g.O.Write.contents c.loop-batch.report) (g.O.Write.contents c.report_batch.new.report)
+    (batch_report (listed batch) done.runs)) c.in-Err.is done.writes) c.saturating_add-written-in-Err.ensures
 
 -- the run did not end all
 pub returns-in_default-ended-clause-answer : goal.returns-in_default-ended-clause-answer
@@ -71,19 +80,21 @@ returns-in_default-ended-clause-answer g c =
     let many = map_length listed batches in
     let low = c.loop-batch-test.true in
     let fits = batch_at IsBatch listed batches i batch c.requires.batches c.batch-item.is low in
-    let (runs, last, reads, performs) = c.in-Some.ensures.performs in
+    let done = c.in-Some.ensures.reported in
     let so_far = one_more g.W.Wire.port g.W.Wire.plan g.W.Wire.lawful c.args.tries c.args.resumes (map listed batches)
     c.args.wire.now (g.O.Write.contents c.args.report.now) i c.loop-batch.wire
     (g.O.Write.contents c.loop-batch.report) c.loop-batch.finished c.loop-batch.written c.loop-batch.invariant.so_far
     c.loop-batch.invariant.all c.loop-batch.invariant.came (listed batch)
     (one_more_of listed batches i batch low ∙ ap (λ b. take i (map listed batches) ++ listed b ∷ [])
     (sym c.batch-item.is))
-    runs c.perform.new.wire performs c.in-Some.performed.runs (done_of c.in-Some.performed.last) last reads
-    (g.O.Write.contents c.write_run.new.writer) c.in-Ok.more c.saturating_add-written.result c.in-Ok.ensures
+    done.runs c.report_batch.new.wire done.performs (told_of c.in-Some.reported.report) done.last
+    (g.O.Write.contents c.report_batch.new.report) c.in-Ok.more c.saturating_add-written.result
+    (subst (λ r. WritesOn r (g.O.Write.contents c.loop-batch.report) (g.O.Write.contents c.report_batch.new.report)
+    (batch_report (listed batch) done.runs)) c.in-Ok.is done.writes)
     c.saturating_add-written.ensures fits c.and-finished.result c.and-finished.ensures.finished in
     all_told g.W.Wire.port g.W.Wire.plan g.W.Wire.lawful c.args.tries c.args.resumes (map listed batches)
-    c.args.wire.now (g.O.Write.contents c.args.report.now) (i + 1) c.perform.new.wire
-    (g.O.Write.contents c.write_run.new.writer) c.and-finished.result c.saturating_add-written.result so_far
+    c.args.wire.now (g.O.Write.contents c.args.report.now) (i + 1) c.report_batch.new.wire
+    (g.O.Write.contents c.report_batch.new.report) c.and-finished.result c.saturating_add-written.result so_far
     (omega (arith, many, low)) (λ all came. absurd (c.in_default-ended.not-All all))
 
 -- the word of an `until` never came
@@ -95,19 +106,21 @@ returns-then-finished-clause-answer g c =
     let many = map_length listed batches in
     let low = c.loop-batch-test.true in
     let fits = batch_at IsBatch listed batches i batch c.requires.batches c.batch-item.is low in
-    let (runs, last, reads, performs) = c.in-Some.ensures.performs in
+    let done = c.in-Some.ensures.reported in
     let so_far = one_more g.W.Wire.port g.W.Wire.plan g.W.Wire.lawful c.args.tries c.args.resumes (map listed batches)
     c.args.wire.now (g.O.Write.contents c.args.report.now) i c.loop-batch.wire
     (g.O.Write.contents c.loop-batch.report) c.loop-batch.finished c.loop-batch.written c.loop-batch.invariant.so_far
     c.loop-batch.invariant.all c.loop-batch.invariant.came (listed batch)
     (one_more_of listed batches i batch low ∙ ap (λ b. take i (map listed batches) ++ listed b ∷ [])
     (sym c.batch-item.is))
-    runs c.perform.new.wire performs c.in-Some.performed.runs (done_of c.in-Some.performed.last) last reads
-    (g.O.Write.contents c.write_run.new.writer) c.in-Ok.more c.saturating_add-written.result c.in-Ok.ensures
+    done.runs c.report_batch.new.wire done.performs (told_of c.in-Some.reported.report) done.last
+    (g.O.Write.contents c.report_batch.new.report) c.in-Ok.more c.saturating_add-written.result
+    (subst (λ r. WritesOn r (g.O.Write.contents c.loop-batch.report) (g.O.Write.contents c.report_batch.new.report)
+    (batch_report (listed batch) done.runs)) c.in-Ok.is done.writes)
     c.saturating_add-written.ensures fits c.and-finished.result c.and-finished.ensures.finished in
     all_told g.W.Wire.port g.W.Wire.plan g.W.Wire.lawful c.args.tries c.args.resumes (map listed batches)
-    c.args.wire.now (g.O.Write.contents c.args.report.now) (i + 1) c.perform.new.wire
-    (g.O.Write.contents c.write_run.new.writer) c.and-finished.result c.saturating_add-written.result so_far
+    c.args.wire.now (g.O.Write.contents c.args.report.now) (i + 1) c.report_batch.new.wire
+    (g.O.Write.contents c.report_batch.new.report) c.and-finished.result c.saturating_add-written.result so_far
     (omega (arith, many, low)) (λ all came. apart c.and-finished.result.never_came c.if-finished.true came)
 
 pub returns-in_default-ended-clause-plan : goal.returns-in_default-ended-clause-plan
@@ -120,7 +133,7 @@ loop-batch-preserved g c =
     let batch = c.batch-item.result in
     let low = c.loop-batch-test.true in
     let fits = batch_at IsBatch listed batches i batch c.requires.batches c.batch-item.is low in
-    let (runs, last, reads, performs) = c.in-Some.ensures.performs in
+    let done = c.in-Some.ensures.reported in
     record {
       so_far = one_more g.W.Wire.port g.W.Wire.plan g.W.Wire.lawful c.args.tries c.args.resumes (map listed batches)
           c.args.wire.now (g.O.Write.contents c.args.report.now) i c.loop-batch.wire
@@ -129,15 +142,17 @@ loop-batch-preserved g c =
           c.loop-batch.invariant.all c.loop-batch.invariant.came (listed batch)
           (one_more_of listed batches i batch low ∙ ap (λ b. take i (map listed batches) ++ listed b ∷ [])
           (sym c.batch-item.is))
-          runs c.perform.new.wire performs c.in-Some.performed.runs (done_of c.in-Some.performed.last) last reads
-          (g.O.Write.contents c.write_run.new.writer) c.in-Ok.more c.saturating_add-written.result c.in-Ok.ensures
+          done.runs c.report_batch.new.wire done.performs (told_of c.in-Some.reported.report) done.last
+          (g.O.Write.contents c.report_batch.new.report) c.in-Ok.more c.saturating_add-written.result
+          (subst (λ r. WritesOn r (g.O.Write.contents c.loop-batch.report) (g.O.Write.contents c.report_batch.new.report)
+          (batch_report (listed batch) done.runs)) c.in-Ok.is done.writes)
           c.saturating_add-written.ensures fits c.and-finished.result c.and-finished.ensures.finished;
       all = c.in-All.is;
       came = c.if-finished.false;
       low = omega (arith, low);
       due = due_then g.W.Wire.port g.W.Wire.plan g.W.Wire.lawful c.args.tries c.args.resumes c.args.wire.now
-          (listed batch) runs.last performs.between c.perform.new.wire
-          (ap (λ run. run.told.ended) last ∙ sym c.and-finished.ensures.ended ∙ c.in-All.is) performs.last;
+          (listed batch) done.runs.last done.performs.between c.report_batch.new.wire
+          (ap (λ told. told.ended) done.last ∙ sym c.and-finished.ensures.ended ∙ c.in-All.is) done.performs.last;
       plan = c.in-Some.ensures.plan ∙ c.loop-batch.invariant.plan;
     }
 

@@ -10,7 +10,7 @@ pub returns-clause-finished : goal.returns-clause-finished
 returns-clause-finished g c = λ batches made runs unfolds fits are last is.
     let before = c.args.self in
     let batch = c.args.batch.now in
-    let told = ap (λ run. run.told) (sym last) in
+    let told = sym last in
     finished_and before _ (listed batch) runs fits are (ap (λ told. told.ended) told)
     (c.never_came.ensures ∙ ap (λ told. never_came batch.until told) told)
     (c.or_difference_in.ensures

@@ -1,0 +1,116 @@
+use Rattle.std.proofs.Common.{◌≡◌, ◌∙◌, ◌≤◌, ◌+◌, ℕ, List, [], ◌∷◌, ◌++◌, Result, Ok, Err, length, refl, sym, ap, subst}
+use Rattle.std.proofs.Common.{arith}
+use Rattle.std.specs.Prelude.{OnErr}
+use Rattle.std.proofs.lemmas.List.{length-append}
+use Rattle.swd_port.specs.declared.access.Access.{Access}
+use Rattle.swd_port.specs.declared.access.Answer.{Answer}
+use Rattle.swd_host.specs.Again.{Continues, ResumesOver}
+use Rattle.swd_host.specs.Reports.{Closes, RunsWithin, told_to}
+use Rattle.swd_host.specs.Tasks.{most_of}
+use Rattle.swd_script.specs.Readers.{listed}
+use Rattle.swd_run.specs.declared.going_on.Stop.{Stop}
+use Rattle.swd_run.specs.GoingOn.{Went, ran, resumed, stop_of}
+use Rattle.swd_run.specs.Sessions.{most_begun, unresumed}
+use Rattle.swd_run.proofs.going_on.run_on_to.Goals as goal
+
+-- what holds anyway
+on_err : {X E P : Type 0} (answer : Result X E) → P → OnErr answer P
+on_err (Ok x) p = tt
+on_err (Err e) p = p
+
+pub loop-done-init : goal.loop-done-init
+loop-done-init g c =
+    let batch = listed c.args.batch.now in
+    let tries = c.args.tries in
+    let start = c.args.wire.now in
+    let end = c.run_to.new.wire in
+    let told = told_to (g.K.AnswerSink.taken c.run_to.new.sink) c.in-Ok.ending in
+    let list = c.as_slice-accesses.ensures.value in
+    let limit = c.bursts_of.ensures in
+    let ensures = c.in-Ok.ensures in
+    let number = ensures.closes.number in
+    let same = ap length list in
+    let room = c.requires.room in
+    let most = ensures.most in
+    record {
+      number = omega (arith, number, same);
+      room = omega (arith, room, most);
+      plan = ensures.plan;
+      went = (
+        [],
+        refl,
+        g.met.K.RunSink.answers_follow c.args.sink.now c.run_to.new.sink ensures.keeps,
+        ran ensures.plan
+            (subst (λ n. Closes 0 n batch.accesses tries told (g.W.Wire.port end).link.due) limit
+            (subst (λ (l : List Access). Closes 0 (most_of c.bursts_of.result) l tries told
+            (g.W.Wire.port end).link.due) list ensures.closes))
+            (subst (λ n. g.W.Wire.lawful end → g.W.Wire.lawful start
+            × RunsWithin n batch.accesses tries told (g.W.Wire.port start) (g.W.Wire.port end)) limit
+            (subst (λ (l : List Access). g.W.Wire.lawful end → g.W.Wire.lawful start
+            × RunsWithin (most_of c.bursts_of.result) l tries told (g.W.Wire.port start) (g.W.Wire.port end)) list
+            ensures.fits)),
+      );
+    }
+
+pub returns-in_err-stop-clause-refused : goal.returns-in_err-stop-clause-refused
+returns-in_err-stop-clause-refused g c =
+    let (stops, count, follows, went) = c.loop-done.invariant.went in
+    let low = c.loop-done-test.true in
+    on_err c.from_residual.result (unresumed went c.in-Lost.is (omega (arith, count, low)))
+
+pub loop-done-preserved : goal.loop-done-preserved
+loop-done-preserved g c =
+    let batch = listed c.args.batch.now in
+    let tries = c.args.tries in
+    let (stops, count, follows, went) = c.loop-done.invariant.went in
+    let before = g.K.AnswerSink.taken c.loop-done.sink in
+    let earlier = told_to before c.loop-done.ending in
+    let told = told_to (g.K.AnswerSink.taken c.resume_to-ending.new.sink) c.resume_to-ending.result in
+    let start = c.loop-done.wire in
+    let end = c.resume_to-ending.new.wire in
+    let list = c.as_slice-accesses.ensures.value in
+    let taken = c.in_ok-stop.ensures.taken in
+    let ensures = c.resume_to-ending.ensures in
+    let continues : Continues batch.accesses tries earlier told (g.W.Wire.port end).link.due =
+    subst (λ (l : List Answer). Continues batch.accesses tries (told_to l c.loop-done.ending) told
+    (g.W.Wire.port end).link.due) taken (subst (λ (l : List Access). Continues l tries
+    (told_to (g.K.AnswerSink.taken c.stop.new.self) c.loop-done.ending) told (g.W.Wire.port end).link.due) list
+    ensures.continues) in
+    let plan = ensures.plan ∙ c.loop-done.invariant.plan in
+    let stop : Stop = record {
+      answered = c.count.result;
+      begun = c.loop-done.ending.begun;
+      requests =
+          c.loop-done.ending.requests;
+    } in
+    let stop_is : stop ≡ stop_of earlier = ap (λ (n : ℕ). record {
+      answered = n;
+      begun = c.loop-done.ending.begun;
+      requests = c.loop-done.ending.requests;
+    }) c.count.ensures in
+    let further = g.met.K.RunSink.follows_on c.loop-done.sink c.stop.new.self c.resume_to-ending.new.sink
+    (stop ∷ []) [] c.in_ok-stop.ensures.follows
+    (g.met.K.RunSink.answers_follow c.stop.new.self c.resume_to-ending.new.sink ensures.keeps) in
+    let longer = length-append stops (stop_of earlier ∷ []) in
+    let room = c.loop-done.invariant.room in
+    let stop_most = c.in_ok-stop.ensures.most in
+    let most = ensures.most in
+    record {
+      number = continues.number;
+      room = omega (arith, room, stop_most, most);
+      plan = plan;
+      went = (
+        stops ++ stop_of earlier ∷ [],
+        omega (arith, count, longer),
+        subst (λ (s : Stop). g.K.RunSink.follows c.args.sink.now (stops ++ s ∷ []) c.resume_to-ending.new.sink) stop_is
+            (g.met.K.RunSink.follows_on c.args.sink.now c.loop-done.sink c.resume_to-ending.new.sink stops (stop ∷ [])
+            follows further),
+        resumed went c.in-Lost.is plan continues
+            (subst (λ (l : List Answer). g.W.Wire.lawful end → g.W.Wire.lawful start
+            × ResumesOver batch.accesses tries (told_to l c.loop-done.ending) told (g.W.Wire.port start)
+            (g.W.Wire.port end)) taken
+            (subst (λ (l : List Access). g.W.Wire.lawful end → g.W.Wire.lawful start
+            × ResumesOver l tries (told_to (g.K.AnswerSink.taken c.stop.new.self) c.loop-done.ending) told
+            (g.W.Wire.port start) (g.W.Wire.port end)) list ensures.fits)),
+      );
+    }

@@ -1,0 +1,29 @@
+-- A report that is written while its run goes on.
+use Rattle.std.specs.Prelude.{ℕ, ◌≡◌, ◌≤◌, List, [], ◌∷◌, ◌++◌, length, Option, None}
+use Rattle.swd_io.specs.Blocks.{Sends}
+use Rattle.swd_port.specs.declared.access.Answer.{Answer}
+use Rattle.swd_run.specs.declared.going_on.Stop.{Stop}
+use Rattle.swd_run.specs.declared.reporting.Reporting.{Reporting}
+use Rattle.swd_run.specs.Reports.{lines_from}
+
+-- at each of these places at most so many answers had come
+abbrev pub AreWithin : ℕ → List Stop → Type 0
+AreWithin answered [] = Unit {0}
+AreWithin answered (stop ∷ stops) = (stop.answered ≤ answered) × AreWithin answered stops
+
+module _ {W K : Type 0} (contents : W → Option (List ℕ)) (taken : K → List Answer) where
+  -- A writer that began with `start` was handed the lines of the answers so far, with a line for each of these places
+  -- where the run was resumed. Of these bytes it lacks those that are buffered, or it failed.
+  pub record Has (start : Option (List ℕ)) (stops : List Stop) (state : Reporting W K) : Type 0 where
+    pub few : length (taken state.answers.now) ≤ length state.accesses.now
+    pub within : AreWithin (length (taken state.answers.now)) stops
+    pub sends : Sends contents start state.block.now (lines_from None 0 stops state.accesses.now (taken state.answers.now))
+
+  -- Later, after these further places, it has the lines of the answers and places until then, for the same block,
+  -- writer and sink.
+  pub record Goes (old : Reporting W K) (stops : List Stop) (new : Reporting W K) : Type 0 where
+    pub block : new.block.ghost_name ≡ old.block.ghost_name
+    pub writer : new.block.now.writer.ghost_name ≡ old.block.now.writer.ghost_name
+    pub answers : new.answers.ghost_name ≡ old.answers.ghost_name
+    pub accesses : new.accesses.now ≡ old.accesses.now
+    pub has : (start : Option (List ℕ)) (before : List Stop) → Has start before old → Has start (before ++ stops) new

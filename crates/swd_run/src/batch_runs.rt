@@ -1,0 +1,178 @@
+//! The runs of one batch, and their report.
+ghost use Rattle.std.specs.Prelude.{◌≡◌, ◌≤◌, [], IfNone, IfSome, List, None, Option, Some, length, ℕ};
+ghost use Rattle.std.specs.Vec.{vec_capacity};
+ghost use Rattle.swd_port.specs.declared.wire.Due.TheVariants.{Nothing};
+ghost use Rattle.swd_io.specs.Blocks.{Sends};
+ghost use Rattle.swd_host.specs.Reports.{told_of, told_to};
+ghost use Rattle.swd_script.specs.Readers.{listed};
+ghost use Rattle.swd_script.specs.Laws.{IsBatch};
+ghost use Rattle.swd_run.specs.declared.going_on.Stop.{Stop as StopType};
+ghost use Rattle.swd_run.specs.Reporting.{Goes};
+ghost use Rattle.swd_run.specs.Reports.{IsReported, lines_from};
+ghost use Rattle.swd_run.specs.Sessions.{GoesOn, most_begun};
+ghost use Rattle.swd_run.specs.Unfoldings.{IsCutShort};
+
+use crate::going_on::run_on_to;
+use crate::performing::perform;
+use crate::report::write_run;
+use crate::reporting::{Reporting, finish};
+use std::alloc::Allocator;
+use std::io::Write;
+use swd_host::{Ending, Report};
+use swd_io::Block;
+use swd_port::{Answer, Wire};
+use swd_script::{Batch, Until};
+
+/// What the runs of a batch came to.
+#[derive(Drop)]
+pub(crate) struct Reported<A: Allocator> {
+    /// The report of the last one.
+    pub(crate) report: Report<A>,
+    /// The number of bytes of the batch's report that were written, at most 2^64 - 1: all of them, or if the writer
+    /// failed, the first ones.
+    pub(crate) written: Result<u64, u64>,
+}
+
+// Performs the accesses of a batch, and appends the lines of its run to a report.
+fn run_reporting<W: Wire, O: Write, A: Allocator>(
+    wire: &mut W,
+    batch: &Batch<A>,
+    tries: u32,
+    resumes: u32,
+    report: &mut Reporting<'_, '_, O, Vec<Answer, A>>,
+) -> Ending
+    requires batch { IsBatch (listed batch.now) }
+    requires due { (W.port wire.old).link.due ≡ Nothing }
+    requires none { report.old.answers.now.items ≡ [] }
+    requires room { length (listed batch.now).accesses ≤ vec_capacity report.old.answers.now }
+    requires accesses { report.old.accesses.now ≡ (listed batch.now).accesses }
+    ensures block { report.new.block.ghost_name ≡ report.old.block.ghost_name }
+    ensures writer { report.new.block.now.writer.ghost_name ≡ report.old.block.now.writer.ghost_name }
+    ensures answers { report.new.answers.ghost_name ≡ report.old.answers.ghost_name }
+    ensures goes { (stops : List StopType) × Goes O.contents (λ answers. answers.items) report.old stops report.new
+        × GoesOn W.port W.plan W.lawful (most_begun (listed batch.now)) tries resumes (listed batch.now) wire.old
+        (record { stops = stops; told = told_to report.new.answers.now.items result }) wire.new }
+    ensures plan { W.plan wire.new ≡ W.plan wire.old }
+{
+    match run_on_to(wire, batch, tries, resumes, report) {
+        Ok(ending) => ending,
+        Err(never) => match never {},
+    }
+}
+
+// Performs the accesses of a batch. Appends the answers, and to a block the lines of the run.
+fn put_run<W: Wire, O: Write, A: Allocator>(
+    wire: &mut W,
+    batch: &Batch<A>,
+    tries: u32,
+    resumes: u32,
+    block: &mut Block<'_, O>,
+    answers: &mut Vec<Answer, A>,
+) -> Ending
+    requires batch { IsBatch (listed batch.now) }
+    requires due { (W.port wire.old).link.due ≡ Nothing }
+    requires none { answers.old.items ≡ [] }
+    requires room { length (listed batch.now).accesses ≤ vec_capacity answers.old }
+    ensures writer { block.new.writer.ghost_name ≡ block.old.writer.ghost_name }
+    ensures goes { (stops : List StopType)
+        × GoesOn W.port W.plan W.lawful (most_begun (listed batch.now)) tries resumes (listed batch.now) wire.old
+        (record { stops = stops; told = told_to answers.new.items result }) wire.new
+        × ((start : Option (List ℕ)) → Sends O.contents start block.old [] → Sends O.contents start block.new
+        (lines_from None 0 stops (listed batch.now).accesses answers.new.items)) }
+    ensures plan { W.plan wire.new ≡ W.plan wire.old }
+{
+    let mut report = Reporting {
+        block,
+        accesses: batch.accesses.as_slice(),
+        answers,
+    };
+    run_reporting(wire, batch, tries, resumes, &mut report)
+}
+
+// Performs a batch that is no `until`. Writes its report while it goes on.
+fn report_run<W: Wire, O: Write, A: Allocator + Copy>(
+    alloc: A,
+    wire: &mut W,
+    batch: &Batch<A>,
+    tries: u32,
+    resumes: u32,
+    report: &mut O,
+) -> Option<Reported<A>>
+    requires batch { IsBatch (listed batch.now) }
+    requires plain { batch.now.until ≡ None }
+    requires due { (W.port wire.old).link.due ≡ Nothing }
+    ensures reported { IfSome result (λ reported. IsReported W.port W.plan W.lawful tries resumes (listed batch.now)
+        wire.old wire.new (O.contents report.old) (O.contents report.new) (told_of reported.report)
+        reported.written) }
+    ensures unsent { IfNone result (wire.new ≡ wire.old) }
+    ensures unwritten { IfNone result (O.contents report.new ≡ O.contents report.old) }
+    ensures plan { W.plan wire.new ≡ W.plan wire.old }
+{
+    let Ok(mut answers) = Vec::with_capacity(alloc, batch.accesses.len()) else {
+        return None;
+    };
+    let mut block = Block::new(report, 0);
+    let ending = put_run(wire, batch, tries, resumes, &mut block, &mut answers);
+    let written = finish(&mut block, &ending, answers.len());
+    Some(Reported {
+        report: ending.with(answers),
+        written,
+    })
+}
+
+// Performs the reads of an `until`. Writes the report of the last one at its end, since it has the number of reads.
+fn report_until<W: Wire, O: Write, A: Allocator + Copy>(
+    alloc: A,
+    wire: &mut W,
+    batch: &Batch<A>,
+    until: Until,
+    tries: u32,
+    resumes: u32,
+    report: &mut O,
+) -> Option<Reported<A>>
+    requires batch { IsBatch (listed batch.now) }
+    requires until { batch.now.until ≡ Some until }
+    requires due { (W.port wire.old).link.due ≡ Nothing }
+    ensures reported { IfSome result (λ reported. IsReported W.port W.plan W.lawful tries resumes (listed batch.now)
+        wire.old wire.new (O.contents report.old) (O.contents report.new) (told_of reported.report)
+        reported.written) }
+    ensures cut { IfNone result
+        (IsCutShort W.port W.plan W.lawful tries resumes (listed batch.now) wire.old wire.new) }
+    ensures unwritten { IfNone result (O.contents report.new ≡ O.contents report.old) }
+    ensures plan { W.plan wire.new ≡ W.plan wire.old }
+{
+    let performed = perform(alloc, wire, batch, until, tries, resumes)?;
+    let written = write_run(report, batch, &performed);
+    Some(Reported {
+        report: performed.last.report,
+        written,
+    })
+}
+
+/// Performs a batch over a wire: one run, or the reads of an `until`, each a run of its own. Each run is resumed at most
+/// `resumes` times. Writes the batch's report: the lines of a run while it goes on, and those of an `until` after its
+/// last read. A run goes on to its end where the writer fails. Returns `None` if an allocation fails. Nothing of this
+/// report was written then.
+pub(crate) fn report_batch<W: Wire, O: Write, A: Allocator + Copy>(
+    alloc: A,
+    wire: &mut W,
+    batch: &Batch<A>,
+    tries: u32,
+    resumes: u32,
+    report: &mut O,
+) -> Option<Reported<A>>
+    requires batch { IsBatch (listed batch.now) }
+    requires due { (W.port wire.old).link.due ≡ Nothing }
+    ensures reported { IfSome result (λ reported. IsReported W.port W.plan W.lawful tries resumes (listed batch.now)
+        wire.old wire.new (O.contents report.old) (O.contents report.new) (told_of reported.report)
+        reported.written) }
+    ensures cut { IfNone result
+        (IsCutShort W.port W.plan W.lawful tries resumes (listed batch.now) wire.old wire.new) }
+    ensures unwritten { IfNone result (O.contents report.new ≡ O.contents report.old) }
+    ensures plan { W.plan wire.new ≡ W.plan wire.old }
+{
+    match batch.until {
+        Some(until) => report_until(alloc, wire, batch, until, tries, resumes, report),
+        None => report_run(alloc, wire, batch, tries, resumes, report),
+    }
+}

@@ -1,0 +1,212 @@
+//! Reports that are written while their calls go on. Each read of address 0 is three requests after the nine of the opening,
+//! and its line has 20 bytes.
+use super::TRIES;
+use super::expect::expect_eq_at;
+use std::alloc::Global;
+use std::cell::Cell;
+use std::io;
+use std::io::Write;
+use std::test::Fail;
+use swd_host::End;
+use swd_port::{Cue, Due, Mark, Wire};
+use swd_run::{EngineFault, Finished, QUIRKS, Records, run_batches};
+use swd_script::read_script;
+use swd_target::{Bench, Memory};
+
+// A wire whose requests are counted.
+#[derive(Drop)]
+struct Asked<'a, W> {
+    wire: W,
+    asked: &'a Cell<u64>,
+}
+
+impl<'a, W: Wire> Wire for Asked<'a, W> {
+    ghost port = { λ asked. W.port asked.wire };
+
+    ghost plan = { λ asked. W.plan asked.wire };
+
+    ghost lawful = { λ asked. W.lawful asked.wire };
+
+    fn due(&self) -> Due {
+        self.wire.due()
+    }
+
+    fn step(&mut self, cue: Cue) -> u64 {
+        if let Cue::Ask(_) = cue {
+            self.asked.set(self.asked.get().saturating_add(1));
+        }
+        self.wire.step(cue)
+    }
+}
+
+// Notes at each write how many requests there were, and how many bytes it was given. Fails at one write, and takes all at
+// the others.
+#[derive(Drop)]
+struct Watching<'a> {
+    asked: &'a Cell<u64>,
+    writes: Vec<(u64, usize)>,
+    taken: Vec<u8>,
+    fails_at: usize,
+}
+
+impl Write for Watching<'_> {
+    fn write(&mut self, buf: &[u8]) -> io::Result<usize> {
+        let write = self.writes.len();
+        self.writes.push((self.asked.get(), buf.len()))?;
+        if write == self.fails_at {
+            return Err(io::Error::from(io::ErrorKind::BrokenPipe));
+        }
+        self.taken.extend_from_slice(buf)?;
+        Ok(buf.len())
+    }
+
+    fn flush(&mut self) -> io::Result<()> {
+        Ok(())
+    }
+}
+
+// What the calls of a script came to.
+#[derive(Drop)]
+struct Streamed {
+    answer: Result<Finished, EngineFault>,
+    writes: Vec<(u64, usize)>,
+    taken: Vec<u8>,
+    requests: u64,
+}
+
+// Runs a script at a target whose requests meet these marks. The writer fails at this write.
+fn run_at(
+    alloc: Global,
+    script: &[u8],
+    marks: Vec<Mark>,
+    resumes: u32,
+    fails_at: usize,
+) -> Result<Streamed, Fail> {
+    let mut text = script;
+    let Ok(script) = read_script(alloc, &mut text) else {
+        return Err(Fail::from("the script is not valid"));
+    };
+    let asked = Cell::new(0u64);
+    let memory = Memory::new(alloc, 0, 1, 4096)?;
+    let wire = Asked {
+        wire: Bench::new(memory, QUIRKS, marks),
+        asked: &asked,
+    };
+    let mut report = Watching {
+        asked: &asked,
+        writes: Vec::new(alloc),
+        taken: Vec::new(alloc),
+        fails_at,
+    };
+    let (answer, _) = run_batches(
+        alloc,
+        wire,
+        script.batches.as_slice(),
+        TRIES,
+        resumes,
+        &mut report,
+        &mut Records::<Vec<u8>>::none(),
+    );
+    let Watching { writes, taken, .. } = report;
+    Ok(Streamed {
+        answer,
+        writes,
+        taken,
+        requests: asked.get(),
+    })
+}
+
+// A script of so many reads, and then another text.
+fn reads(alloc: Global, count: usize, rest: &[u8]) -> Result<Vec<u8>, Fail> {
+    let mut script = Vec::new(alloc);
+    script.extend_from_slice(b"memory 0 1\n")?;
+    for _ in 0..count {
+        script.extend_from_slice(b"r 0\n")?;
+    }
+    script.extend_from_slice(rest)?;
+    Ok(script)
+}
+
+// No mark for so many requests, and then a lost acknowledgement.
+fn lost_after(alloc: Global, clean: usize) -> Result<Vec<Mark>, Fail> {
+    let mut marks = Vec::new(alloc);
+    for _ in 0..clean {
+        marks.push(Mark::Clean)?;
+    }
+    marks.push(Mark::Deaf)?;
+    Ok(marks)
+}
+
+// How many reads a call has, and its writes: after how many requests, and of how many bytes.
+type Row = (&'static str, usize, &'static [(u64, usize)]);
+
+const ROWS: [Row; 5] = [
+    ("no read", 0, &[(9, 10)]),
+    ("one less than wait", 1023, &[(3078, 20473)]),
+    ("as many as wait", 1024, &[(3081, 20480), (3081, 13)]),
+    ("one more", 1025, &[(3081, 20480), (3084, 33)]),
+    ("many", 2500, &[(3081, 20480), (6153, 20480), (7509, 9053)]),
+];
+
+#[test]
+fn the_lines_of_1024_answers_are_written_while_the_call_goes_on(
+    rt: HostRuntime,
+) -> Result<(), Fail> {
+    for (name, count, writes) in ROWS {
+        let script = reads(rt.alloc(), count, b"".as_slice())?;
+        let marks = Vec::new(rt.alloc());
+        let run = run_at(rt.alloc(), script.as_slice(), marks, 0, 100)?;
+        expect_eq_at(&rt, &name, &run.answer, &super::ended(End::All));
+        expect_eq_at(&rt, &name, &run.writes.as_slice(), &writes);
+    }
+    Ok(())
+}
+
+// The acknowledgement of the DRW request of the read at index 1050 is lost. The call is resumed with an opening, and with
+// this read.
+#[test]
+fn a_resumed_call_is_written_while_it_goes_on(rt: HostRuntime) -> Result<(), Fail> {
+    let script = reads(rt.alloc(), 1100, b"".as_slice())?;
+    let marks = lost_after(rt.alloc(), 3160)?;
+    let run = run_at(rt.alloc(), script.as_slice(), marks, 1, 100)?;
+    let name = "resumed";
+    expect_eq_at(&rt, &name, &run.answer, &super::ended(End::All));
+    let writes = [(3081, 20480), (3320, 1553)];
+    expect_eq_at(&rt, &name, &run.writes.as_slice(), &writes.as_slice());
+    let marks = lost_after(rt.alloc(), 3160)?;
+    let run = run_at(rt.alloc(), script.as_slice(), marks, 0, 100)?;
+    let name = "not resumed";
+    expect_eq_at(&rt, &name, &run.answer, &super::ended(End::Lost));
+    // 26 answers more, and "end lost 1050 begun 1".
+    let writes = [(3081, 20480), (3161, 542)];
+    expect_eq_at(&rt, &name, &run.writes.as_slice(), &writes.as_slice());
+    Ok(())
+}
+
+// The call under way is made to its end, and no other one. Nothing is written after that write.
+#[test]
+fn a_writer_that_fails_in_a_call(rt: HostRuntime) -> Result<(), Fail> {
+    let script = reads(rt.alloc(), 2500, b"next\nr 0\n".as_slice())?;
+    for (fails_at, written) in [(0, 0), (1, 20480), (2, 40960)] {
+        let marks = Vec::new(rt.alloc());
+        let run = run_at(rt.alloc(), script.as_slice(), marks, 0, fails_at)?;
+        let fault = EngineFault::Write { written };
+        expect_eq_at(&rt, &fails_at, &run.answer, &Err(fault));
+        expect_eq_at(&rt, &fails_at, &run.requests, &7509);
+        expect_eq_at(
+            &rt,
+            &fails_at,
+            &run.writes.len(),
+            &fails_at.saturating_add(1),
+        );
+        expect_eq_at(&rt, &fails_at, &(run.taken.len() as u64), &written);
+        let line = b"r 00000000 00000000".as_slice();
+        let lines = run
+            .taken
+            .split(|byte| *byte == b'\n')
+            .filter(|found| *found == line)
+            .count();
+        expect_eq_at(&rt, &fails_at, &(lines as u64), &(written / 20));
+    }
+    Ok(())
+}
