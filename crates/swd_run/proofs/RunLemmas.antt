@@ -1,8 +1,8 @@
 -- What a run over a simulated target says in terms of its plan.
-use Rattle.std.proofs.Common.{◌≡◌, ℕ, ◌+◌, ◌%◌, ◌≤◌, ◌∙◌, List, length, Some, None, Result, Ok}
-use Rattle.std.proofs.Common.{refl, sym, ap}
-use Rattle.std.proofs.Common.{subst, arith}
-use Rattle.std.specs.Prelude.{◌↔◌, IfOk, IfSome, is_some, if◌then◌else◌}
+use Rattle.std.proofs.Common.{◌≡◌, ℕ, ◌+◌, ◌%◌, ◌≤◌, List}
+use Rattle.std.proofs.Common.{refl, ap}
+use Rattle.std.proofs.Common.{arith}
+use Rattle.std.specs.Prelude.{◌↔◌}
 use Rattle.swd_trace.specs.declared.item.Item.{Item}
 use Rattle.swd_port.specs.declared.wire.Due.{Due}
 use Rattle.swd_port.specs.declared.wire.Due.TheVariants.{Nothing, Lost as DueLost}
@@ -12,11 +12,7 @@ use Rattle.swd_port.specs.declared.mark.Mark.{Mark}
 use Rattle.swd_port.specs.Choices.{disturbed_among, lost_among}
 use Rattle.swd_host.specs.declared.outcome.End.{End}
 use Rattle.swd_host.specs.declared.outcome.End.TheVariants.{All, Lost, TriesOut, WrongId, Confused}
-use Rattle.swd_host.specs.declared.outcome.Report.{Report}
-use Rattle.swd_host.specs.declared.outcome.Refused.{Refused}
-use Rattle.swd_port.specs.declared.access.Access.{Access}
-use Rattle.swd_port.specs.PlainMemory.{PlainMemory, reads}
-use Rattle.swd_script.specs.Laws.{IsBlock}
+use Rattle.swd_port.specs.PlainMemory.{PlainMemory}
 use Rattle.swd_host.specs.Reports.{Closes, EndsAt, IsAtRest, RunFits, RunsWithin, Told}
 use Rattle.swd_script.specs.Scripts.{Listed}
 use Rattle.swd_run.specs.Running.{IsExcused, RunsAs}
@@ -63,29 +59,6 @@ run_as tries batch marks told s t due rest r p q closes over =
       most = omega arith;
       spends = omega arith;
     }
-
--- what a call says of a list, it says of a batch whose accesses are the list
-module _ {A : Type 0} (batch : Listed) (P : ℕ → List Access → Report A → Type 0) (r : Result (Report A) Refused)
-    (report : Report A) (is : r ≡ Ok report) where
-  -- single accesses
-  pub list_over : (list : List Access) → batch.block ≡ None → list ≡ batch.accesses → IfOk r (P 1 list)
-      → P (most_begun batch) batch.accesses report
-  list_over list single same h =
-      let one : most_begun batch ≡ 1 = ap (λ b. if is_some b then 2 else 1) single in
-      let ran : P 1 list report = subst (λ x. IfOk x (P 1 list)) is h in
-      subst (λ n. P n batch.accesses report) (sym one) (subst (λ x. P 1 x report) same ran)
-
-  -- a block
-  pub block_over : (addr count : ℕ) → batch.block ≡ Some addr → IfSome batch.block (λ at. IsBlock at batch.accesses)
-      → count ≡ length batch.accesses → IfOk r (P 2 (reads addr count))
-      → P (most_begun batch) batch.accesses report
-  block_over addr count block holds many h =
-      let two : most_begun batch ≡ 2 = ap (λ b. if is_some b then 2 else 1) block in
-      let whole : IsBlock addr batch.accesses =
-      subst (λ b. IfSome b (λ at. IsBlock at batch.accesses)) block holds in
-      let same : reads addr count ≡ batch.accesses = ap (reads addr) many ∙ sym whole.same in
-      let ran : P 2 (reads addr count) report = subst (λ x. IfOk x (P 2 (reads addr count))) is h in
-      subst (λ n. P n batch.accesses report) (sym two) (subst (λ x. P 2 x report) same ran)
 
 -- ---- what a recorded run leaves
 

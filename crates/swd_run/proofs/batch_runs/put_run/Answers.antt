@@ -1,4 +1,4 @@
-use Rattle.std.proofs.Common.{rules, ◌≡◌, ◌∙◌, List, [], ◌∷◌, None, Option, ℕ, length, ap, sym, subst, arith}
+use Rattle.std.proofs.Common.{rules, ◌≡◌, ◌∙◌, List, [], None, Option, ℕ, length, ap, sym, subst, arith}
 use Rattle.swd_port.specs.declared.access.Access.{Access}
 use Rattle.swd_io.specs.Blocks.{Sends}
 use Rattle.swd_script.specs.Readers.{listed}

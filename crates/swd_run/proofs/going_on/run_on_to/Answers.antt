@@ -1,4 +1,4 @@
-use Rattle.std.proofs.Common.{◌≡◌, ◌∙◌, ◌≤◌, ◌+◌, ℕ, List, [], ◌∷◌, ◌++◌, Result, Ok, Err, length, refl, sym, ap, subst}
+use Rattle.std.proofs.Common.{◌≡◌, ◌∙◌, ℕ, List, [], ◌∷◌, ◌++◌, Result, Ok, Err, length, refl, ap, subst}
 use Rattle.std.proofs.Common.{arith}
 use Rattle.std.specs.Prelude.{OnErr}
 use Rattle.std.proofs.lemmas.List.{length-append}
@@ -9,8 +9,8 @@ use Rattle.swd_host.specs.Reports.{Closes, RunsWithin, told_to}
 use Rattle.swd_host.specs.Tasks.{most_of}
 use Rattle.swd_script.specs.Readers.{listed}
 use Rattle.swd_run.specs.declared.going_on.Stop.{Stop}
-use Rattle.swd_run.specs.GoingOn.{Went, ran, resumed, stop_of}
-use Rattle.swd_run.specs.Sessions.{most_begun, unresumed}
+use Rattle.swd_run.specs.GoingOn.{ran, resumed, stop_of}
+use Rattle.swd_run.specs.Sessions.{unresumed}
 use Rattle.swd_run.proofs.going_on.run_on_to.Goals as goal
 
 -- what holds anyway
