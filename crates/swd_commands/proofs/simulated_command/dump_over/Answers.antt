@@ -12,7 +12,7 @@ use Rattle.swd_commands.proofs.simulated_command.dump_over.Goals as goal
 pub write_image_file-requires : goal.write_image_file-requires
 write_image_file-requires g c =
     let dumped = c.dump_simulated-answer in
-    subst (λ l. c.args.image.now.addr + length l ≤ 2 ^ 32) (sym c.as_slice-2.ensures.value)
+    subst (λ l. c.args.image.now.addr + length l ≤ 2 ^ 32) (sym c.as_slice-in-Ok.ensures.value)
     (simulated_fits (λ v. v.items) c.args.image.now.addr c.args.count (port_of c.args.bench).target.memory
     (port_of dumped.new.bench).target.memory dumped.result c.in-Ok.bytes c.in-Ok.ensures dumped.ensures.memory)
 
@@ -31,7 +31,7 @@ returns-in-Ok g c =
           c.args.count c.args.bench dumped.new.bench) dumped.ensures.fault;
       dumped = dump_done (λ v. v.items) image.format image.addr None dumped.result c.in-Ok.bytes
           c.write_image_file.result c.in-Ok.ensures
-          (subst (λ l. IsWritten c.write_image_file.result (file_of image.format image.addr l)) c.as_slice-2.ensures.value
+          (subst (λ l. IsWritten c.write_image_file.result (file_of image.format image.addr l)) c.as_slice-in-Ok.ensures.value
           c.write_image_file.ensures);
     }
 
