@@ -135,7 +135,7 @@ fn answers_come_when_their_access_is_confirmed(rt: HostRuntime) -> Result<(), Fa
     for (name, reaching, accesses, answers, moments, end) in ROWS {
         let calls = Cell::new(0);
         let Some(bridge) = behind(alloc, reaching)? else {
-            panic!(rt; "{name}: a mark isn't legal");
+            panic!(rt; "a mark isn't legal");
         };
         let mut wire: Outside<Watched, Untold> = Outside::new(Watched {
             bridge,
