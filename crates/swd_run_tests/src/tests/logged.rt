@@ -50,6 +50,7 @@ impl<'a> Write for Page<'a> {
 #[derive(Drop)]
 struct Onlooker<'a> {
     pieces: &'a [&'a [u8]],
+    next: usize,
     log: &'a RefCell<Vec<u8>>,
     trace: &'a RefCell<Vec<u8>>,
     logs: Vec<Vec<u8>>,
@@ -67,13 +68,21 @@ impl<'a> Read for Onlooker<'a> {
     fn read(&mut self, buf: &mut [u8]) -> io::Result<usize> {
         self.logs.push(copied(self.log)?)?;
         self.traces.push(copied(self.trace)?)?;
-        let Some((piece, rest)) = self.pieces.split_first() else {
+        let Some(piece) = self.pieces.get(self.next) else {
             return Ok(0);
         };
-        self.pieces = rest;
+        self.next = self.next.saturating_add(1);
         let count = piece.len().min(buf.len());
         buf[..count].copy_from_slice(&piece[..count]);
         Ok(count)
+    }
+}
+
+// The writer of a file that was wanted.
+fn wanted<M>(writer: Option<M>) -> Result<M, Fail> {
+    match writer {
+        Some(writer) => Ok(writer),
+        None => Err(Fail::from("the file has no writer")),
     }
 }
 
@@ -91,6 +100,7 @@ fn looked_at(alloc: Global, pieces: &[&[u8]]) -> Result<Looked, Fail> {
     let trace = RefCell::new(Vec::new(alloc));
     let mut reader = Onlooker {
         pieces,
+        next: 0,
         log: &log,
         trace: &trace,
         logs: Vec::new(alloc),
@@ -182,11 +192,10 @@ fn a_failed_read_leaves_the_files_so_far(rt: HostRuntime) -> Result<(), Fail> {
     let (served, _, files) = serve_logged(&mut reader, &mut levels, pins, Some(log), Some(trace));
     expect_eq(&rt, &served, &Served::Read);
     assert!(rt; files.are_whole());
-    let (Some(log), Some(trace)) = files.into_writers() else {
-        return Err(Fail::from("there are two writers"));
-    };
-    let wanted = b"w 20000000 deadbeef\ncycles 636 requests 11\n".as_slice();
-    expect_eq(&rt, &log.as_slice(), &wanted);
+    let (log, trace) = files.into_writers();
+    let (log, trace) = (wanted(log)?, wanted(trace)?);
+    let lines = b"w 20000000 deadbeef\ncycles 636 requests 11\n".as_slice();
+    expect_eq(&rt, &log.as_slice(), &lines);
     expect_eq(&rt, &trace.as_slice().len(), &(636 + 1));
     Ok(())
 }
@@ -211,10 +220,9 @@ fn a_failed_file_has_exactly_its_first_bytes(rt: HostRuntime) -> Result<(), Fail
             expect_eq_at(&rt, &room, &served, &Served::Quit);
             expect_eq_at(&rt, &room, &levels.as_slice(), &UNDISTURBED.levels);
             assert!(rt; !files.are_whole());
-            let (Some(log), Some(trace)) = files.into_writers() else {
-                return Err(Fail::from("there are two writers"));
-            };
-            expect_eq_at(&rt, &room, &Some(log.taken()), &LOG.get(..room));
+            let (log, trace) = files.into_writers();
+            let (log, trace) = (wanted(log)?, wanted(trace)?);
+            expect_eq_at(&rt, &room, &log.taken(), &&LOG[..room]);
             expect_eq_at(&rt, &room, &trace.taken().len(), &(828 + 1));
         }
     }
@@ -223,8 +231,8 @@ fn a_failed_file_has_exactly_its_first_bytes(rt: HostRuntime) -> Result<(), Fail
 
 #[test]
 fn a_failed_trace_has_exactly_its_first_bytes(rt: HostRuntime) -> Result<(), Fail> {
-    let wanted = b"10110\n".as_slice();
-    for room in 0..wanted.len() {
+    let text = b"10110\n".as_slice();
+    for room in 0..text.len() {
         for fails in [false, true] {
             let mut reader = FailingReader::new(b"egdfegegdfQ", usize::MAX);
             let mut levels = Vec::new(rt.alloc());
@@ -239,10 +247,9 @@ fn a_failed_trace_has_exactly_its_first_bytes(rt: HostRuntime) -> Result<(), Fai
             );
             expect_eq_at(&rt, &room, &served, &Served::Quit);
             assert!(rt; !files.are_whole());
-            let (None, Some(trace)) = files.into_writers() else {
-                return Err(Fail::from("there is one writer"));
-            };
-            expect_eq_at(&rt, &room, &Some(trace.taken()), &wanted.get(..room));
+            let (_, trace) = files.into_writers();
+            let trace = wanted(trace)?;
+            expect_eq_at(&rt, &room, &trace.taken(), &&text[..room]);
         }
     }
     Ok(())

@@ -1,5 +1,8 @@
 //! Reports that are written while their calls go on. Each read of address 0 is three requests after the nine of the opening,
 //! and its line has 20 bytes.
+ghost use Rattle.std.specs.Prelude.{IfOk};
+ghost use Rattle.swd_target.specs.Marks.{IsPlan};
+
 use super::TRIES;
 use super::expect::expect_eq_at;
 use std::alloc::Global;
@@ -10,7 +13,7 @@ use std::test::Fail;
 use swd_host::End;
 use swd_port::{Cue, Due, Mark, Wire};
 use swd_run::{EngineFault, Finished, QUIRKS, Records, run_batches};
-use swd_script::read_script;
+use swd_script::{read_plan, read_script};
 use swd_target::{Bench, Memory};
 
 // A wire whose requests are counted.
@@ -74,11 +77,22 @@ struct Streamed {
     requests: u64,
 }
 
-// Runs a script at a target whose requests meet these marks. The writer fails at this write.
+// The marks of a plan.
+fn marks_of(alloc: Global, plan: &[u8]) -> Result<Vec<Mark>, Fail>
+    ensures { IfOk result (λ marks. IsPlan marks.items) }
+{
+    let mut text = plan;
+    match read_plan(alloc, &mut text) {
+        Ok(marks) => Ok(marks),
+        Err(_) => Err(Fail::from("the plan is not valid")),
+    }
+}
+
+// Runs a script at a target under this plan. The writer fails at this write.
 fn run_at(
     alloc: Global,
     script: &[u8],
-    marks: Vec<Mark>,
+    plan: &[u8],
     resumes: u32,
     fails_at: usize,
 ) -> Result<Streamed, Fail> {
@@ -86,6 +100,7 @@ fn run_at(
     let Ok(script) = read_script(alloc, &mut text) else {
         return Err(Fail::from("the script is not valid"));
     };
+    let marks = marks_of(alloc, plan)?;
     let asked = Cell::new(0u64);
     let memory = Memory::new(alloc, 0, 1, 4096)?;
     let wire = Asked {
@@ -127,14 +142,14 @@ fn reads(alloc: Global, count: usize, rest: &[u8]) -> Result<Vec<u8>, Fail> {
     Ok(script)
 }
 
-// No mark for so many requests, and then a lost acknowledgement.
-fn lost_after(alloc: Global, clean: usize) -> Result<Vec<Mark>, Fail> {
-    let mut marks = Vec::new(alloc);
+// A plan with no fault for so many requests, and then a lost acknowledgement.
+fn lost_after(alloc: Global, clean: usize) -> Result<Vec<u8>, Fail> {
+    let mut plan = Vec::new(alloc);
     for _ in 0..clean {
-        marks.push(Mark::Clean)?;
+        plan.extend_from_slice(b".\n")?;
     }
-    marks.push(Mark::Deaf)?;
-    Ok(marks)
+    plan.extend_from_slice(b"deaf\n")?;
+    Ok(plan)
 }
 
 // How many reads a call has, and its writes: after how many requests, and of how many bytes.
@@ -154,8 +169,7 @@ fn the_lines_of_1024_answers_are_written_while_the_call_goes_on(
 ) -> Result<(), Fail> {
     for (name, count, writes) in ROWS {
         let script = reads(rt.alloc(), count, b"".as_slice())?;
-        let marks = Vec::new(rt.alloc());
-        let run = run_at(rt.alloc(), script.as_slice(), marks, 0, 100)?;
+        let run = run_at(rt.alloc(), script.as_slice(), b"".as_slice(), 0, 100)?;
         expect_eq_at(&rt, &name, &run.answer, &super::ended(End::All));
         expect_eq_at(&rt, &name, &run.writes.as_slice(), &writes);
     }
@@ -167,14 +181,13 @@ fn the_lines_of_1024_answers_are_written_while_the_call_goes_on(
 #[test]
 fn a_resumed_call_is_written_while_it_goes_on(rt: HostRuntime) -> Result<(), Fail> {
     let script = reads(rt.alloc(), 1100, b"".as_slice())?;
-    let marks = lost_after(rt.alloc(), 3160)?;
-    let run = run_at(rt.alloc(), script.as_slice(), marks, 1, 100)?;
+    let plan = lost_after(rt.alloc(), 3160)?;
+    let run = run_at(rt.alloc(), script.as_slice(), plan.as_slice(), 1, 100)?;
     let name = "resumed";
     expect_eq_at(&rt, &name, &run.answer, &super::ended(End::All));
     let writes = [(3081, 20480), (3320, 1553)];
     expect_eq_at(&rt, &name, &run.writes.as_slice(), &writes.as_slice());
-    let marks = lost_after(rt.alloc(), 3160)?;
-    let run = run_at(rt.alloc(), script.as_slice(), marks, 0, 100)?;
+    let run = run_at(rt.alloc(), script.as_slice(), plan.as_slice(), 0, 100)?;
     let name = "not resumed";
     expect_eq_at(&rt, &name, &run.answer, &super::ended(End::Lost));
     // 26 answers more, and "end lost 1050 begun 1".
@@ -188,8 +201,7 @@ fn a_resumed_call_is_written_while_it_goes_on(rt: HostRuntime) -> Result<(), Fai
 fn a_writer_that_fails_in_a_call(rt: HostRuntime) -> Result<(), Fail> {
     let script = reads(rt.alloc(), 2500, b"next\nr 0\n".as_slice())?;
     for (fails_at, written) in [(0, 0), (1, 20480), (2, 40960)] {
-        let marks = Vec::new(rt.alloc());
-        let run = run_at(rt.alloc(), script.as_slice(), marks, 0, fails_at)?;
+        let run = run_at(rt.alloc(), script.as_slice(), b"".as_slice(), 0, fails_at)?;
         let fault = EngineFault::Write { written };
         expect_eq_at(&rt, &fails_at, &run.answer, &Err(fault));
         expect_eq_at(&rt, &fails_at, &run.requests, &7509);

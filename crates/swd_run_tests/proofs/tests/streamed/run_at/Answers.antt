@@ -8,5 +8,5 @@ use Rattle.swd_run_tests.proofs.tests.streamed.run_at.Goals as goal
 pub run_batches-answer-requires-clause-batches : goal.run_batches-answer-requires-clause-batches
 run_batches-answer-requires-clause-batches c =
     let read = c.in-Ok.ensures.ok in
-    subst (λ batches. Each IsBatch (map listed batches)) (sym c.as_slice-batches.ensures.value)
+    subst (λ batches. Each IsBatch (map listed batches)) (sym c.as_slice.ensures.value)
     (is_runnable read.0 (meaning c.in-Ok.script) read.2).batches
