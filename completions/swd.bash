@@ -35,21 +35,21 @@ _swd() {
         words='--resync --overrun --help -h'
         ;;
     load)
-        words='--format --tries --resume --remote --help -h'
+        words='--format --tries --resume --remote --memory --base --plan --help -h'
         ;;
     verify)
-        words='--format --tries --resume --remote --help -h'
+        words='--format --tries --resume --remote --memory --base --plan --help -h'
         ;;
     dump)
-        words='--format --tries --resume --remote --help -h'
+        words='--format --tries --resume --remote --memory --base --plan --help -h'
         ;;
     esac
     case $before in
-    --accesses | --log | --plan | --report | --trace)
+    --accesses | --log | --memory | --plan | --report | --trace)
         mapfile -t COMPREPLY < <(compgen -f -- "$word")
         return
         ;;
-    --resume | --tries)
+    --base | --resume | --tries)
         return
         ;;
     --format)
