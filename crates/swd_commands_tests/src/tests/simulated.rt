@@ -55,7 +55,8 @@ impl Write for Pen<'_> {
         }
         let mut page = self.page.get();
         for byte in buf {
-            if let Some(place) = page.bytes.get_mut(page.len) {
+            let end = page.len;
+            if let Some(place) = page.bytes.get_mut(end) {
                 *place = *byte;
                 page.len = page.len.saturating_add(1);
             }
@@ -725,6 +726,15 @@ fn a_file_that_is_refused_changes_nothing(rt: HostRuntime) {
     expect_eq(&rt, &ran.status, &2);
 }
 
+// The address of the memory that these arguments name.
+fn base_in(alloc: Global, words: &[&str]) -> Option<u32> {
+    let Ok(Line::Image(image)) = line(alloc, words) else {
+        return None;
+    };
+    let memory = image.memory?;
+    Some(memory.base)
+}
+
 // The address of a memory, and the file of its plan.
 #[test]
 fn a_base_is_the_address_of_a_word(rt: HostRuntime) -> Result<(), Fail> {
@@ -741,14 +751,7 @@ fn a_base_is_the_address_of_a_word(rt: HostRuntime) -> Result<(), Fail> {
         let words = [
             "swd", "load", "1", "image", "--memory", "ram", "--base", text,
         ];
-        let found = match line(rt.alloc(), words.as_slice()) {
-            Ok(Line::Image(image)) => {
-                expect_eq_at(&rt, &text, &image.action, &ImageAction::Load);
-                image.memory.map(|memory| memory.base)
-            }
-            Ok(_) => return Err(Fail::from("another command")),
-            Err(_) => None,
-        };
+        let found = base_in(rt.alloc(), words.as_slice());
         expect_eq_at(&rt, &text, &found, &base);
     }
     let words = [
@@ -757,11 +760,10 @@ fn a_base_is_the_address_of_a_word(rt: HostRuntime) -> Result<(), Fail> {
     let Ok(Line::Image(image)) = line(rt.alloc(), words.as_slice()) else {
         return Err(Fail::from("no command"));
     };
-    let Some(memory) = image.memory else {
-        return Err(Fail::from("no memory"));
-    };
+    expect_eq(&rt, &image.action, &ImageAction::Dump(2));
+    let memory = image.memory.ok_or("no memory")?;
     expect_eq(&rt, &memory.file.as_str(), &"ram");
     expect_eq(&rt, &memory.base, &0x2000_0000);
-    expect_eq(&rt, &memory.plan.as_deref(), &Some("p"));
+    expect_eq(&rt, &memory.plan.ok_or("no plan")?.as_str(), &"p");
     Ok(())
 }
