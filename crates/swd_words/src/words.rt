@@ -103,7 +103,7 @@ Requests after its last line are undisturbed.
   deaf     the target does not see the request
   mute P   bit P of the acknowledgement is inverted: 0 to 2
 
-The report of a call is written while it goes on, and before the next one starts.
+The report of a call is written while it goes on, before the next one starts.
 It has one line per answer, in the script's order:
   r ADDR WORD        the word that was read. Of until only the last read has a
                      line, with the number of reads: r ADDR WORD reads N
