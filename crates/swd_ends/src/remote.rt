@@ -51,7 +51,15 @@ fn script_fault(unread: Unread<ScriptFault>) -> RemoteFault
 ///
 /// Returns `Script` for the first error of the script, or if out of memory for its accesses. Returns `Read` if its
 /// reader failed. The connection wasn't used in these cases. Returns `Engine` as `run_batches` does.
-pub fn run_remote<P: Story, S: Read, R: Read, W: Write, O: Write, T: Write, A: Allocator + Copy>(
+pub fn run_remote<
+    P: Story,
+    S: Read,
+    R: Read,
+    W: Write,
+    O: Write,
+    T: Write + Drop,
+    A: Allocator + Copy,
+>(
     alloc: A,
     script: &mut S,
     reader: R,
@@ -79,7 +87,7 @@ fn run_begun<
     R: Read,
     W: Write,
     O: Write,
-    T: Write,
+    T: Write + Drop,
     A: Allocator + Copy,
 >(
     alloc: A,

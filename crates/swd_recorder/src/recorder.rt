@@ -7,8 +7,8 @@ ghost use Rattle.swd_port.specs.Laws.Calls.{with_asked};
 ghost use Rattle.swd_trace.specs.Listed.{AreLegal};
 ghost use Rattle.swd_trace.specs.Reading.{reading_of};
 ghost use Rattle.swd_trace.specs.Texts.{bits_of_items};
-ghost use Rattle.swd_recorder.specs.Items.{items_by, CutOff};
-ghost use Rattle.swd_recorder.specs.Kept.{nothing_kept};
+ghost use Rattle.swd_recorder.specs.Items.{in_hand_by, items_by, items_of, CutOff};
+ghost use Rattle.swd_recorder.specs.Kept.{Adds, nothing_kept};
 ghost use Rattle.swd_recorder.specs.Steps.{transactions, pending, EndsUnacknowledged};
 
 use crate::recording::Recording;
@@ -115,6 +115,7 @@ impl<W: Wire, A: Allocator> Wire for Recorder<W, A> {
         ensures notes { (calls : List Call) → notes_by calls self.old
             → notes_by (record { cue = cue; seen = result } ∷ calls) self.new }
         ensures calls { calls_by self.new ≡ record { cue = cue; seen = result } ∷ calls_by self.old }
+        ensures adds { Adds (items_of (in_hand_by (calls_by self.old)) cue result) (kept_by self.old) (kept_by self.new) }
         ensures stays { (kept_by self.old).is_cut ≡ true → kept_by self.new ≡ kept_by self.old }
     {
         let seen = self.wire.step(cue);

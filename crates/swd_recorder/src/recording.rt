@@ -1,8 +1,8 @@
 //! The calls of a wire, and their items.
 ghost use Rattle.std.specs.Prelude.{◌≡◌, ◌≤◌, ◌+◌, true, false, [], ◌∷◌};
 ghost use Rattle.swd_port.specs.Stories.{MayStep, IsSeen, due_by};
-ghost use Rattle.swd_recorder.specs.Items.{in_hand_by, items_by, CutOff};
-ghost use Rattle.swd_recorder.specs.Kept.{nothing_kept, kept_of};
+ghost use Rattle.swd_recorder.specs.Items.{in_hand_by, items_by, items_of, CutOff};
+ghost use Rattle.swd_recorder.specs.Kept.{Adds, nothing_kept, kept_of};
 ghost use Rattle.swd_recorder.specs.Steps.{IsPlaced, transactions, pending, asks_in};
 
 use crate::in_hand::{InHand, in_hand_once};
@@ -43,6 +43,8 @@ impl<A: Allocator> Recording<A> {
         requires may { MayStep (due_by self.old.noted.calls) cue }
         requires seen { IsSeen cue seen }
         ensures calls { self.new.noted.calls ≡ record { cue = cue; seen = seen } ∷ self.old.noted.calls }
+        ensures adds { Adds (items_of (in_hand_by self.old.noted.calls) cue seen) (kept_of self.old.items)
+            (kept_of self.new.items) }
         ensures stays { self.old.items.is_cut ≡ true → kept_of self.new.items ≡ kept_of self.old.items }
     {
         self.items.add(self.in_hand, cue, seen);

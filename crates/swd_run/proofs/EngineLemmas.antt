@@ -1,5 +1,5 @@
 -- The engine's answers, from one account of what ran to another.
-use Rattle.std.proofs.Common.{◌≡◌, ℕ, List, Option, None, Some, Result, Ok, Err, Bool, true, false, inl, inr, refl, sym, ap, ap₂, ◌∙◌}
+use Rattle.std.proofs.Common.{◌≡◌, ℕ, List, [], Option, None, Some, Result, Ok, Err, Bool, true, false, inl, inr, refl, sym, ap, ap₂, ◌∙◌}
 use Rattle.std.proofs.Common.{subst}
 use Rattle.std.proofs.KnownBytes.{Appends-nil}
 use Rattle.std.proofs.Math.Logic.{∥∥₁_map}
@@ -15,19 +15,21 @@ use Rattle.swd_port.specs.Laws.Calls.{with_asked}
 use Rattle.swd_port.specs.declared.wire.Wire.{Ghosts}
 use Rattle.swd_recorder.specs.declared.recorder.Recorder.{Recorder}
 use Rattle.swd_recorder.specs.Recorders.{lawful_by, plan_by, port_by, wire_under}
+use Rattle.swd_recorder.specs.Chains.{Clear}
+use Rattle.swd_recorder.proofs.ChainLemmas.{chained_read}
 use Rattle.swd_host.specs.Reports.{IsAtRest, Told}
 use Rattle.swd_script.specs.Scripts.{Listed, Meaning}
 use Rattle.swd_run.specs.declared.engine.Finished.{Finished}
 use Rattle.swd_run.specs.declared.fault.EngineFault.{EngineFault}
 use Rattle.swd_run.specs.declared.fault.EngineFault.TheVariants.{Memory, Write, WriteAccesses, TraceCut}
 use Rattle.swd_run.specs.declared.going_on.Stop.{Stop}
-use Rattle.swd_run.specs.Engine.{Answers, AnswersAt, AnswersOver, IsFinished, IsOfTraceOver, IsTraceOver}
+use Rattle.swd_run.specs.Engine.{Answers, AnswersAt, AnswersOver, AreItems, IsFinished, IsOfTraceOver, IsTraceOver}
 use Rattle.swd_run.specs.Engine.{IsOfTrace, Ran, RanShort, TellsRecords, port_seen, whole, short}
 use Rattle.swd_run.specs.Engine.{trace_stops, accesses_stop}
 use Rattle.swd_run.specs.GoingOn.{Went, ran, resumed}
 use Rattle.swd_run.specs.Reports.{session_text}
 use Rattle.swd_run.specs.declared.records.Records.{Records}
-use Rattle.swd_run.specs.Records.{AreLeft, Files, ForFile, IfRecorded, IsLeft, files_of, held, is_recorded, no_files}
+use Rattle.swd_run.specs.Records.{AreBegun, AreLeft, Files, ForFile, IfRecorded, IsBegun, IsLeft, files_of, held, is_recorded, no_files}
 use Rattle.swd_observer.specs.Explained.{Explains}
 use Rattle.swd_observer.specs.Traces.{from_made, told_in}
 use Rattle.swd_run.specs.Running.{AnswersScript, IsTraceIn, RunsScript, full_room, memory_of, with_full}
@@ -78,6 +80,23 @@ recorded_is contents records = ap₂ ◌||◌ (held_is contents records.trace) (
 pub left_files : (files : Files) → AreLeft files files
 left_files files = record { trace = left_alone files.trace; accesses = left_alone files.accesses }
 
+-- nothing of the trace of no items was written, nor of the accesses
+nothing_begun : (files : Files) → AreBegun [] files files
+nothing_begun files = record { trace = none files.trace; accesses = left_alone files.accesses }
+  where
+    none : (file : Option (Option (List ℕ))) → ForFile (IsBegun []) file file
+    none None = refl
+    none (Some held) = (held, refl, ∣ inl (Appends-nil held) ∣₁)
+
+-- the files of a run that made no call
+pub none_begun : (files : Files)
+    → IfRecorded (is_recorded files) (λ items. AreItems items × AreBegun items files files) (AreLeft files files)
+none_begun files = by (is_recorded files)
+  where
+    by : (flag : Bool) → IfRecorded flag (λ items. AreItems items × AreBegun items files files) (AreLeft files files)
+    by true = ([], (chained_read Clear [] refl, nothing_begun files))
+    by false = left_files files
+
 -- each account of what ran is one of another kind, with the same runs and the same traces
 pub answers_as : {X U Y V : Type 0} (batches : List Listed) (used : Option ℕ) (runs : Y → List BatchRuns)
     (before : V → List BatchRuns) (IsWhole IsPart : X → List Item → Type 0)
@@ -97,7 +116,8 @@ answers_as batches used runs before IsWhole IsPart IsWholeToo IsPartToo f e w p 
 answers_as batches used runs before IsWhole IsPart IsWholeToo IsPartToo f e w p (Err Memory) old new held now h =
     (e h.0, h.1, h.2)
 answers_as batches used runs before IsWhole IsPart IsWholeToo IsPartToo f e w p (Err (Write written)) old new held now
-    (x, inl stop) = (f x, inl stop)
+    (x, inl stop) =
+    (f x, inl (stop.0, recorded_as (is_recorded held) _ _ _ (λ items t. (p x items t.0, t.1)) stop.1))
 answers_as batches used runs before IsWhole IsPart IsWholeToo IsPartToo f e w p (Err (Write written)) old new held now
     (x, inr stop) = (f x, inr (stop.0, stop.1, stop.2, p x stop.0 stop.3, stop.4))
 answers_as batches used runs before IsWhole IsPart IsWholeToo IsPartToo f e w p (Err (WriteAccesses written)) old new
@@ -245,23 +265,39 @@ module _ {W : Type 0} (port : W → Port) (plan : W → List Mark) (lawful : W �
   recorded_in finished cut items over done is gone of part before after wanted answer (accesses_stop stop) =
       (over, items, done, gone, part, stop)
 
-  -- if a report couldn't be written, they weren't
-  pub untold : (fault : EngineFault) (held : Files)
+  -- if a report couldn't be written, or memory ran out, the trace was begun
+  pub begun_in : (fault : EngineFault) (items : List Item) → AreItems items
+      → ((over : Ran port plan lawful tries resumes batches start end) → IsOfTraceOver over items)
+      → (before after : Files) → is_recorded before ≡ true → AreBegun items before after
+      → AnswersOver port plan lawful tries resumes batches start end (Err fault) old new no_files no_files
+      → AnswersOver port plan lawful tries resumes batches start end (Err fault) old new before after
+  begun_in Memory items read part before after wanted begun h =
+      (h.0, h.1, once_recorded (is_recorded before) _ _ wanted items (read, begun))
+  begun_in (Write written) items read part before after wanted begun (over, inl stop) =
+      (over, inl (stop.0, once_recorded (is_recorded before) _ _ wanted items (part over, begun)))
+  begun_in (Write written) items read part before after wanted begun (over, inr stop) =
+      let never = stop.4.wanted in absurd cc
+  begun_in (WriteAccesses written) items read part before after wanted begun h = let never = h.5.wanted in absurd cc
+  begun_in TraceCut items read part before after wanted begun h = let never = h.5 in absurd cc
+
+  -- without files nothing is written
+  untold : (fault : EngineFault) (held : Files) → is_recorded held ≡ false
       → AnswersOver port plan lawful tries resumes batches start end (Err fault) old new no_files no_files
       → AnswersOver port plan lawful tries resumes batches start end (Err fault) old new held held
-  untold Memory held h = (h.0, h.1, left_files held)
-  untold (Write written) held (over, inl stop) = (over, inl (stop.0, left_files held))
-  untold (Write written) held (over, inr stop) = let never = stop.4.wanted in absurd cc
-  untold (WriteAccesses written) held h = let never = h.5.wanted in absurd cc
-  untold TraceCut held h = let never = h.5 in absurd cc
+  untold Memory held empty h = (h.0, h.1, once_unrecorded (is_recorded held) _ _ empty (left_files held))
+  untold (Write written) held empty (over, inl stop) =
+      (over, inl (stop.0, once_unrecorded (is_recorded held) _ _ empty (left_files held)))
+  untold (Write written) held empty (over, inr stop) = let never = stop.4.wanted in absurd cc
+  untold (WriteAccesses written) held empty h = let never = h.5.wanted in absurd cc
+  untold TraceCut held empty h = let never = h.5 in absurd cc
 
-  -- nor if none was to be written
+  -- nor is it if the calls ended
   pub unwanted : (held : Files) → is_recorded held ≡ false → (answer : Result Finished EngineFault)
       → AnswersOver port plan lawful tries resumes batches start end answer old new no_files no_files
       → AnswersOver port plan lawful tries resumes batches start end answer old new held held
   unwanted held empty (Ok finished) h =
       (h.0, h.1, h.2, h.3, once_unrecorded (is_recorded held) _ _ empty (left_files held))
-  unwanted held empty (Err fault) h = untold fault held h
+  unwanted held empty (Err fault) h = untold fault held empty h
 
 -- where the wire was recorded from its start
 pub recorded_by : {W A : Type 0} {g : Ghosts W} (tries resumes : ℕ) (batches : List Listed) (s t : Recorder W A g)

@@ -10,3 +10,4 @@ pub mod VerifiedLemmas
 pub mod WorkedReports
 pub mod RecordedLemmas
 pub mod TransferLemmas
+pub mod TraceLemmas

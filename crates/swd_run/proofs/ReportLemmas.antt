@@ -2,12 +2,16 @@
 use Rattle.std.proofs.lemmas.List.{append-nil, drop_all, drop_min, drop-take, length-take, take_all, take-append-le, take_min}
 use Rattle.std.proofs.Math.Seq.{drop-cons}
 use Rattle.std.proofs.Common.{◌≡◌, ℕ, zero, suc, ◌+◌, ◌-◌, ◌<◌, ◌≤◌, List, [], ◌∷◌, ◌++◌, length, take, drop}
-use Rattle.std.proofs.Common.{Option, None, get_or, min, refl, sym, ap, ap₂, ◌∙◌, append_assoc, arith, add-one}
+use Rattle.std.proofs.Common.{Option, None, Result, Ok, Err, get_or, min, refl, sym, ap, ap₂, ◌∙◌, append_assoc, arith, add-one}
+use Rattle.std.specs.Prelude.{◌^◌, IfOk, IfErr}
+use Rattle.std.specs.Io.KnownBytes.{Appends}
+use Rattle.swd_io.specs.Blocks.{Stopped}
 use Rattle.swd_port.specs.declared.access.Access.{Access}
 use Rattle.swd_port.specs.declared.access.Answer.{Answer}
 use Rattle.swd_run.specs.declared.going_on.Stop.{Stop}
 use Rattle.swd_run.specs.Reporting.{AreWithin}
 use Rattle.swd_run.specs.Reports.{answer_fed, answer_lines, lines_between, lines_from, pair_texts, resume_line}
+use Rattle.swd_run.specs.Reports.{WritesOn}
 
 -- one text more
 pub pairs_more : {X Y : Type 0} (text : X → Y → List ℕ) (xs : List X) (ys : List Y) (i : ℕ) (d : X) (e : Y)
@@ -193,3 +197,15 @@ within_last n (first ∷ stops) stop within low = (within.0, within_last n stops
 pub no_lines : (accesses : List Access) (answers : List Answer) → answers ≡ [] → lines_from None 0 [] accesses answers ≡ []
 no_lines accesses answers none =
     ap (λ l. answer_lines None accesses l) none ∙ no_pairs (answer_fed None) accesses
+
+-- ---- a text that went out
+
+-- what went out, however the last of it was sent
+pub written_on : (P : Option (List ℕ) → List ℕ → Type 0) (sent : Result ℕ ℕ) (start now : Option (List ℕ)) (text : List ℕ)
+    → P start text
+    → IfOk sent (λ told. (s : Option (List ℕ)) (a : List ℕ) → P s a
+    → Appends s now a × (told ≡ min (length a) (2 ^ 64 - 1)))
+    → IfErr sent (λ told. (s : Option (List ℕ)) (a : List ℕ) → P s a → Stopped told s now a)
+    → WritesOn sent start now text
+written_on P (Ok told) start now text h ok err = let gone = ok start text h in record { gone = gone.0; count = gone.1 }
+written_on P (Err told) start now text h ok err = err start text h

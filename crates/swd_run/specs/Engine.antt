@@ -22,7 +22,7 @@ use Rattle.swd_script.specs.Scripts.{Listed}
 use Rattle.swd_run.specs.declared.engine.Finished.{Finished}
 use Rattle.swd_run.specs.declared.fault.EngineFault.{EngineFault}
 use Rattle.swd_run.specs.declared.fault.EngineFault.TheVariants.{Memory, Write, WriteAccesses, TraceCut}
-use Rattle.swd_run.specs.Records.{AccessesStop, AreLeft, AreWritten, Files, IfRecorded, TraceStops, is_recorded}
+use Rattle.swd_run.specs.Records.{AccessesStop, AreBegun, AreLeft, AreWritten, Files, IfRecorded, TraceStops, is_recorded}
 use Rattle.swd_run.specs.Reports.{session_text}
 use Rattle.swd_run.specs.Sessions.{Runs, ended_of, most_begun, requests_of}
 use Rattle.swd_run.specs.Transfers.{AreWhole, transfers_in}
@@ -138,10 +138,13 @@ module _ {Came Short : Type 0} (batches : List Listed) (used : Option ℕ) (made
       × IfRecorded (is_recorded before) (λ items. IsWhole came items × AreWritten items before after)
       (AreLeft before after)
   Answers (Err Memory) old new before after =
-      (short : Short) × Appends old new (session_text batches (made_before short)) × AreLeft before after
+      (short : Short) × Appends old new (session_text batches (made_before short))
+      × IfRecorded (is_recorded before) (λ items. AreItems items × AreBegun items before after) (AreLeft before after)
   Answers (Err (Write written)) old new before after =
       (came : Came)
-      × ((StopsInLast written old new batches (made came) × AreLeft before after)
+      × ((StopsInLast written old new batches (made came)
+      × IfRecorded (is_recorded before) (λ items. IsPart came items × AreBegun items before after)
+      (AreLeft before after))
       ⊎ ((items : List Item) × AreDone batches (made came) × Appends old new (session_text batches (made came))
       × IsPart came items × TraceStops written items before after))
   Answers (Err (WriteAccesses written)) old new before after =

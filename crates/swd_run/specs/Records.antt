@@ -1,5 +1,5 @@
 -- The files that a run writes beside its report.
-use Rattle.std.specs.Prelude.{◌≡◌, ◌||◌, ℕ, Bool, true, false, List, [], Option, None, Some, is_some}
+use Rattle.std.specs.Prelude.{◌≡◌, ◌⊎◌, ◌||◌, ℕ, Bool, true, false, List, [], Option, None, Some, is_some}
 use Rattle.std.specs.Io.KnownBytes.{Appends}
 use Rattle.swd_io.specs.Blocks.{Stopped}
 use Rattle.swd_trace.specs.declared.item.Item.{Item}
@@ -23,12 +23,11 @@ pub record Files : Type 0 where
   pub accesses : Option (Option (List ℕ))
   pub made : Bool
 
+abbrev pub files_from : Option (Option (List ℕ)) → Option (Option (List ℕ)) → Bool → Files
+files_from trace accesses made = record { trace = trace; accesses = accesses; made = made }
+
 abbrev pub files_of : {T : Type 0} → (T → Option (List ℕ)) → Records T → Files
-files_of contents records = record {
-  trace = held contents records.trace;
-  accesses = held contents records.accesses;
-  made = records.made;
-}
+files_of contents records = files_from (held contents records.trace) (held contents records.accesses) records.made
 
 -- no files
 abbrev pub no_files : Files
@@ -60,7 +59,7 @@ pub record AreWritten (items : List Item) (before after : Files) : Type 0 where
 -- exactly the first bytes of the trace were written, as many as `written` says, and nothing of the accesses
 pub record TraceStops (written : ℕ) (items : List Item) (before after : Files) : Type 0 where
   pub wanted : is_some before.trace ≡ true
-  pub trace : ForFile (λ old new. Stopped written old new (trace_text items)) before.trace after.trace
+  pub trace : ForFile (λ old new. ∥ Stopped written old new (trace_text items) ∥₁) before.trace after.trace
   pub accesses : ForFile IsLeft before.accesses after.accesses
 
 -- the trace was written, and exactly the first bytes of the accesses
@@ -69,6 +68,15 @@ pub record AccessesStop (written : ℕ) (items : List Item) (before after : File
   pub trace : ForFile (λ old new. Appends old new (trace_text items)) before.trace after.trace
   pub accesses : ForFile (λ old new. Stopped written old new (accesses_text before.made items)) before.accesses
       after.accesses
+
+-- the whole text was written, or exactly its first bytes
+abbrev pub IsBegun : List ℕ → Option (List ℕ) → Option (List ℕ) → Type 0
+IsBegun text old new = ∥ Appends old new text ⊎ ((written : ℕ) × Stopped written old new text) ∥₁
+
+-- The trace of these items was written, or exactly its first bytes if its writer failed. Nothing of the accesses was.
+pub record AreBegun (items : List Item) (before after : Files) : Type 0 where
+  pub trace : ForFile (IsBegun (trace_text items)) before.trace after.trace
+  pub accesses : ForFile IsLeft before.accesses after.accesses
 
 -- Q without files, and else P of some items
 abbrev pub IfRecorded : Bool → (List Item → Type 0) → Type 0 → Type 0

@@ -1,5 +1,5 @@
 //! Runs the calls of a script over any wire, and writes their reports, their trace and the accesses that it shows.
-ghost use Rattle.std.specs.Prelude.{ℕ, ◌≡◌, All as Each, List, [], ◌∷◌, ◌++◌, None, map, true};
+ghost use Rattle.std.specs.Prelude.{ℕ, ◌≡◌, All as Each, List, [], ◌∷◌, ◌++◌, None, Option, map, true};
 ghost use Rattle.swd_port.specs.declared.wire.Due.TheVariants.{Nothing};
 ghost use Rattle.swd_port.specs.Laws.Calls.{with_asked};
 ghost use Rattle.swd_host.specs.Reports.{told_of};
@@ -10,12 +10,14 @@ ghost use Rattle.swd_script.specs.Laws.{IsBatch};
 ghost use Rattle.swd_script.specs.Scripts.{Listed};
 ghost use Rattle.swd_run.specs.Unfoldings.{AreOf, BatchRuns, Unfolds, never_came};
 ghost use Rattle.swd_run.specs.Engine.{AnswersAt, AnswersOver, IsFinished, TellsRecords, port_seen};
-ghost use Rattle.swd_run.specs.Records.{files_of, is_recorded, no_files};
+ghost use Rattle.swd_run.specs.Records.{files_from, files_of, held, is_recorded, no_files};
+ghost use Rattle.swd_run.specs.TraceFiles.{HaveAll, held_by};
 
 use crate::batch_runs::{Reported, report_batch};
 use crate::fault::EngineFault;
 use crate::performing::never_came;
-use crate::records::{Records, write_accesses, write_trace};
+use crate::records::{Records, write_accesses};
+use crate::trace_file::{TraceFile, sent_to, writer_of};
 use crate::traced::{Origin, Traced};
 use crate::verified::{Difference, or_bus_fault, or_difference_in};
 use std::alloc::Allocator;
@@ -23,6 +25,7 @@ use std::io::Write;
 use std::marker::Brand;
 use swd_host::End;
 use swd_port::Wire;
+use swd_recorder::Recorder;
 use swd_script::Batch;
 use swd_trace::Item;
 
@@ -116,22 +119,25 @@ fn run_reported<W: Wire, O: Write, A: Allocator + Copy>(
     Ok(finished)
 }
 
-// Writes the trace of these items, and the accesses that they show, each if there is a writer for it. Returns
+// Writes the accesses that these items show, if there is a writer for them and that of the trace didn't fail. Returns
 // `finished`, or `TraceCut` if `cut`: the items are truncated.
 fn write_records<T: Write>(
-    records: &mut Records<T>,
+    file: &Option<TraceFile<T>>,
+    accesses: &mut Option<T>,
     items: &[Item],
     cut: bool,
+    made: bool,
     finished: Finished,
 ) -> Result<Finished, EngineFault>
     requires { AreLegal items.now }
-    ensures { TellsRecords finished cut items.now (files_of T.contents records.old) (files_of T.contents records.new)
-        result }
+    ensures { (start : Option (Option (List ℕ))) → ∥ HaveAll T.contents start items.now file.now ∥₁
+        → TellsRecords finished cut items.now (files_from start (held T.contents accesses.old) made)
+        (files_from (held_by T.contents file.now) (held T.contents accesses.new) made) result }
 {
-    if let Err(written) = write_trace(&mut records.trace, items) {
+    if let Err(written) = sent_to(file) {
         return Err(EngineFault::Write { written });
     }
-    if let Err(written) = write_accesses(&mut records.accesses, items, records.made) {
+    if let Err(written) = write_accesses(accesses, items, made) {
         return Err(EngineFault::WriteAccesses { written });
     }
     if cut {
@@ -141,37 +147,42 @@ fn write_records<T: Write>(
     }
 }
 
-// Runs the batches over a wire that is recorded from its start, and writes their reports and then the other files.
+// Runs the batches over a wire that is recorded from its start, and writes their reports and its trace while they go on,
+// and then the accesses. Returns the recorder and the trace's writer too.
 fn run_traced<B: Origin, W: Wire, O: Write, T: Write, A: Allocator + Copy>(
     alloc: A,
-    traced: &mut Traced<W, A, B>,
+    traced: Traced<W, T, A, B>,
     batches: &[Batch<A>],
     tries: u32,
     resumes: u32,
     report: &mut O,
-    records: &mut Records<T>,
-) -> Result<Finished, EngineFault>
+    accesses: &mut Option<T>,
+    made: bool,
+) -> (Result<Finished, EngineFault>, Recorder<W, A>, Option<T>)
     requires batches { Each IsBatch (map listed batches.now) }
-    requires due { (port_by traced.old.recorder).link.due ≡ Nothing }
-    requires asked { (port_by traced.old.recorder).tally.asked ≡ 0 }
-    requires start { B.start ≡ port_by traced.old.recorder }
-    requires wanted { is_recorded (files_of T.contents records.old) ≡ true }
-    ensures answer { AnswersOver port_by plan_by lawful_by tries resumes (map listed batches.now) traced.old.recorder
-        traced.new.recorder result (O.contents report.old) (O.contents report.new) (files_of T.contents records.old)
-        (files_of T.contents records.new) }
-    ensures plan { plan_by traced.new.recorder ≡ plan_by traced.old.recorder }
+    requires due { (port_by traced.recorder).link.due ≡ Nothing }
+    requires asked { (port_by traced.recorder).tally.asked ≡ 0 }
+    requires start { B.start ≡ port_by traced.recorder }
+    requires wanted { is_recorded (files_from B.before (held T.contents accesses.old) made) ≡ true }
+    ensures answer { AnswersOver port_by plan_by lawful_by tries resumes (map listed batches.now) traced.recorder
+        result.1 result.0 (O.contents report.old) (O.contents report.new)
+        (files_from B.before (held T.contents accesses.old) made)
+        (files_from (held T.contents result.2) (held T.contents accesses.new) made) }
+    ensures plan { plan_by result.1 ≡ plan_by traced.recorder }
 {
-    match run_reported(alloc, traced, batches, tries, resumes, report) {
-        Ok(finished) => {
-            let recorder = &traced.recorder;
-            write_records(records, recorder.items(), recorder.is_cut(), finished)
-        }
+    let mut traced = traced;
+    let ran = run_reported(alloc, &mut traced, batches, tries, resumes, report);
+    let (recorder, file) = traced.finish();
+    let (items, cut) = (recorder.items(), recorder.is_cut());
+    let answer = match ran {
+        Ok(finished) => write_records(&file, accesses, items, cut, made, finished),
         Err(fault) => Err(fault),
-    }
+    };
+    (answer, recorder, writer_of(file))
 }
 
-// Records a wire, runs the batches over it, and writes their reports and then the other files.
-fn run_recorded<B: Origin, W: Wire, O: Write, T: Write, A: Allocator + Copy>(
+// Records a wire, runs the batches over it, and writes their reports and the other files.
+fn run_recorded<B: Origin, W: Wire, O: Write, T: Write + Drop, A: Allocator + Copy>(
     alloc: A,
     wire: W,
     batches: &[Batch<A>],
@@ -183,6 +194,7 @@ fn run_recorded<B: Origin, W: Wire, O: Write, T: Write, A: Allocator + Copy>(
     requires batches { Each IsBatch (map listed batches.now) }
     requires due { (W.port wire).link.due ≡ Nothing }
     requires start { B.start ≡ with_asked 0 (W.port wire) }
+    requires before { B.before ≡ held T.contents records.old.trace }
     requires wanted { is_recorded (files_of T.contents records.old) ≡ true }
     ensures answer { (counted : ℕ)
         × AnswersOver (port_seen true W.port) (λ seen. W.plan seen.1) (λ seen. W.lawful seen.1) tries resumes
@@ -190,14 +202,24 @@ fn run_recorded<B: Origin, W: Wire, O: Write, T: Write, A: Allocator + Copy>(
         (files_of T.contents records.old) (files_of T.contents records.new) }
     ensures plan { W.plan result.1 ≡ W.plan wire }
 {
-    let mut traced = Traced::<W, A, B>::new(alloc, wire);
-    let answer = run_traced(alloc, &mut traced, batches, tries, resumes, report, records);
-    (answer, traced.into_wire())
+    let traced = Traced::<W, T, A, B>::new(alloc, wire, records.trace.take());
+    let (answer, recorder, writer) = run_traced(
+        alloc,
+        traced,
+        batches,
+        tries,
+        resumes,
+        report,
+        &mut records.accesses,
+        records.made,
+    );
+    records.trace = writer;
+    (answer, recorder.into_wire())
 }
 
 /// Runs the calls of a script in order over a wire on which nothing is due, up to the first that doesn't end `All`.
-/// Writes the report of each call while it goes on, and whole before the next one starts. Then writes the trace and the
-/// accesses that it shows, each if there is a writer for it. Returns the wire too.
+/// Writes the report of each call while it goes on, and whole before the next one starts. Writes the trace while the
+/// calls go on, and then the accesses that it shows, each if there is a writer for it. Returns the wire too.
 ///
 /// The line of an access is queued when its answer is certain, and the queued lines are written after every 1,024
 /// answers of a call, and at its end. So what was written is at each moment the beginning of a report, and its accesses
@@ -217,6 +239,9 @@ fn run_recorded<B: Origin, W: Wire, O: Write, T: Write, A: Allocator + Copy>(
 /// ended `Lost`. The accesses are the lines that `swd decode --accesses` prints of this trace, with `--made` if
 /// `records.made`. If an allocation for an item fails, the run continues. Without such a file no items are kept.
 ///
+/// The lines of the trace's items are written at the line reset with which a run begins, after every 1,024 items, and
+/// after the last call. If the trace's writer fails, the calls go on, and nothing more is written to it.
+///
 /// # Errors
 ///
 /// Returns `Memory` if an allocation for a call fails, before its first bit or, of an `until`, when it is resumed. The
@@ -225,14 +250,15 @@ fn run_recorded<B: Origin, W: Wire, O: Write, T: Write, A: Allocator + Copy>(
 /// Returns `Write` if the report's writer failed or took no bytes. Exactly the first `written` bytes of the reports
 /// were written then, including all reports of the calls before. No call was made after that.
 ///
-/// In both cases nothing of the trace and of the accesses was written.
+/// In both cases the trace has the items so far, or exactly the first bytes of their lines if its writer failed, and
+/// nothing of the accesses was written.
 ///
 /// Returns `Write` too if the trace's writer failed: the reports are complete, exactly the first `written` bytes of
 /// the trace were written, and nothing of the accesses. Returns `WriteAccesses` if the accesses' writer failed: the
 /// reports and the trace are complete, and exactly the first `written` bytes of the accesses were written. Returns
 /// `TraceCut` if the items are truncated, as when an allocation for an item failed: the reports are complete, and the
 /// other files have these items. Nothing is retried.
-pub fn run_batches<W: Wire, O: Write, T: Write, A: Allocator + Copy>(
+pub fn run_batches<W: Wire, O: Write, T: Write + Drop, A: Allocator + Copy>(
     alloc: A,
     wire: W,
     batches: &[Batch<A>],

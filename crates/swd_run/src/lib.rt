@@ -1,5 +1,5 @@
 //! The engine of `swd run`. It runs a script's calls over any wire, and resumes a call after a lost acknowledgement. It
-//! writes their reports while they go on, and then the trace and the accesses that it shows. It returns the first read
+//! writes their reports and the trace while they go on, and then the accesses that it shows. It returns the first read
 //! whose answer wasn't the expected word. [`run_text`] does the same over a simulated target with the marks of a
 //! plan.
 #![tactic(auto)]
@@ -16,6 +16,7 @@ mod reporting;
 mod run_sink;
 mod running;
 mod texts;
+mod trace_file;
 mod traced;
 mod verified;
 

@@ -1,17 +1,15 @@
 //! The files that a run writes beside its report.
 ghost use Rattle.std.specs.Prelude.{◌≡◌, ◌||◌, None, true, OnErr, is_some};
 ghost use Rattle.swd_io.specs.Blocks.{Writes};
-ghost use Rattle.swd_trace.specs.Listed.{AreLegal};
-ghost use Rattle.swd_trace.specs.Texts.{trace_text};
 ghost use Rattle.swd_run.specs.Records.{ForFile, accesses_text, held};
 
 use std::io::Write;
 use swd_capture::Printed;
 use swd_capture_text::print_items;
-use swd_text::write_items;
 use swd_trace::Item;
 
-/// The writers of the files that a run writes beside its report, after its last call.
+/// The writers of the files that a run writes beside its report: the trace while it goes on, and the accesses after its
+/// last call.
 #[derive(Drop)]
 pub struct Records<T> {
     /// The writer of the trace, if one is to be written.
@@ -40,23 +38,6 @@ impl<T> Records<T> {
         ensures { result ≡ (is_some self.now.trace || is_some self.now.accesses) }
     {
         self.trace.is_some() || self.accesses.is_some()
-    }
-}
-
-/// Writes the trace of these items, if there is a writer for it.
-///
-/// # Errors
-///
-/// If the writer fails: how many bytes were written. These are exactly the first ones.
-pub(crate) fn write_trace<T: Write>(trace: &mut Option<T>, items: &[Item]) -> Result<(), u64>
-    requires { AreLegal items.now }
-    ensures file { ForFile (λ old new. Writes result old new (trace_text items.now)) (held T.contents trace.old)
-        (held T.contents trace.new) }
-    ensures err { OnErr result (is_some trace.old ≡ true) }
-{
-    match trace {
-        Some(trace) => write_items(trace, items),
-        None => Ok(()),
     }
 }
 

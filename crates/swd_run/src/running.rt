@@ -83,7 +83,7 @@ fn target_of<A: Allocator + Copy>(
 
 // Runs a script over a simulated target with these marks. Writes the reports, and the files for which there is a
 // writer.
-fn run_script<W: Write, T: Write, A: Allocator + Copy>(
+fn run_script<W: Write, T: Write + Drop, A: Allocator + Copy>(
     alloc: A,
     script: &Script<A>,
     plan: Vec<Mark, A>,
@@ -117,7 +117,7 @@ fn run_script<W: Write, T: Write, A: Allocator + Copy>(
 /// Returns `Texts` for the first error of the script or, if the script is valid, of the plan, or if a reader failed.
 /// Nothing was written then. Returns `Engine` as `run_batches` does, and with `Memory` also if out of memory for the
 /// target.
-pub fn run_text<S: Read, P: Read, W: Write, T: Write, A: Allocator + Copy>(
+pub fn run_text<S: Read, P: Read, W: Write, T: Write + Drop, A: Allocator + Copy>(
     alloc: A,
     script: &mut S,
     plan: &mut P,

@@ -1,64 +1,85 @@
-//! A recorder whose calls are known to be steps of the port model from the start of a run on.
-ghost use Rattle.std.specs.Prelude.{◌≡◌, []};
+//! A recorder whose calls are known to be steps of the port model from the start of a run on. It writes the file of its
+//! trace while it goes on.
+ghost use Rattle.std.specs.Prelude.{◌≡◌, ◌-◌, ◌≤◌, [], List, None, Option, length, ℕ};
 ghost use Rattle.std.specs.FinMap.{empty};
 ghost use Rattle.swd_port.specs.declared.wire.Due.TheVariants.{Nothing};
 ghost use Rattle.swd_port.specs.Port.{Port, made};
 ghost use Rattle.swd_port.specs.Laws.Calls.{with_asked};
-ghost use Rattle.swd_recorder.specs.Recorders.{calls_by, lawful_by, port_by};
+ghost use Rattle.swd_recorder.specs.Recorders.{calls_by, kept_by, lawful_by, port_by};
 ghost use Rattle.swd_run.specs.Recorded.{Stepped};
+ghost use Rattle.swd_run.specs.Records.{held};
+ghost use Rattle.swd_run.specs.TraceFiles.{HaveAll, HaveDone, count_done};
 
+use crate::trace_file::{TraceFile, fresh, write_rest, write_settled};
 use std::alloc::Allocator;
+use std::io::Write;
 use std::marker::{Brand, PhantomData};
 use swd_port::{Cue, Due, Wire};
 use swd_recorder::Recorder;
 
-/// The state of the port model at the start of a recorded run. It is for contracts alone: a caller passes [`Brand`],
-/// and its proof gives the state.
+/// The state of the port model at the start of a recorded run, and the contents of the trace's writer, if there is one.
+/// They are for contracts alone: a caller passes [`Brand`], and its proof gives them.
 pub(crate) trait Origin {
     ghost start: { Port };
+
+    ghost before: { Option (Option (List ℕ)) };
 }
 
 impl Origin for Brand {
     ghost start = { made 0 (record { words = empty; log = []; room = 0 }) };
+
+    ghost before = { None };
 }
 
 /// A recorder that was made at the start of a run. If its wire is lawful, its calls are steps of the port model from
-/// `B.start` on.
+/// `B.start` on. If there is a file for its trace, this gets the lines of the items while the run goes on, behind what
+/// its writer held at the start, `B.before`.
 #[derive(Drop)]
-pub(crate) struct Traced<W: Wire, A: Allocator, B: Origin> {
+pub(crate) struct Traced<W: Wire, T: Write, A: Allocator, B: Origin> {
     pub(crate) recorder: Recorder<W, A>,
+    pub(crate) file: Option<TraceFile<T>>,
     origin: PhantomData<B>,
     ghost steps: { ∥ (lawful_by recorder → Stepped B.start (calls_by recorder) (port_by recorder)) ∥₁ },
+    // No further call changes the items that are done.
+    ghost settled: { count_done file ≤ length (kept_by recorder).items - 1 },
+    ghost has: { ∥ HaveDone T.contents B.before (kept_by recorder).items file ∥₁ },
 }
 
-impl<W: Wire, A: Allocator, B: Origin> Traced<W, A, B> {
+impl<W: Wire, T: Write, A: Allocator, B: Origin> Traced<W, T, A, B> {
     ghost use Rattle.swd_recorder.specs.Recorders.{plan_by, wire_under};
 
-    /// Returns a recorder over this wire, without items.
-    pub(crate) fn new(alloc: A, wire: W) -> Traced<W, A, B>
+    /// Returns a recorder over this wire, without items, with the writer of the trace, if it is to be written.
+    pub(crate) fn new(alloc: A, wire: W, writer: Option<T>) -> Traced<W, T, A, B>
         requires due { (W.port wire).link.due ≡ Nothing }
         requires start { B.start ≡ with_asked 0 (W.port wire) }
+        requires before { B.before ≡ held T.contents writer }
         ensures port { port_by result.recorder ≡ with_asked 0 (W.port wire) }
         ensures plan { plan_by result.recorder ≡ W.plan wire }
         ensures wire { wire_under result.recorder ≡ wire }
     {
         Traced {
             recorder: Recorder::new(alloc, wire),
+            file: fresh(writer),
             origin: PhantomData,
         }
     }
 
-    /// Returns the wire that it forwards to.
-    pub(crate) fn into_wire(self) -> W
-        ensures wire { wire_under self.recorder ≡ result }
-        ensures plan { plan_by self.recorder ≡ W.plan result }
+    /// Writes what isn't written yet of the trace. Returns the recorder, and the file.
+    pub(crate) fn finish(self) -> (Recorder<W, A>, Option<TraceFile<T>>)
+        ensures recorder { result.0 ≡ self.recorder }
+        ensures file { ∥ HaveAll T.contents B.before (kept_by self.recorder).items result.1 ∥₁ }
     {
-        let Traced { recorder, .. } = self;
-        recorder.into_wire()
+        let Traced {
+            recorder,
+            mut file,
+            ..
+        } = self;
+        write_rest(&mut file, recorder.items());
+        (recorder, file)
     }
 }
 
-impl<W: Wire, A: Allocator, B: Origin> Wire for Traced<W, A, B> {
+impl<W: Wire, T: Write, A: Allocator, B: Origin> Wire for Traced<W, T, A, B> {
     ghost use Rattle.swd_recorder.specs.Recorders.{plan_by};
 
     ghost port = { λ traced. port_by traced.recorder };
@@ -72,6 +93,8 @@ impl<W: Wire, A: Allocator, B: Origin> Wire for Traced<W, A, B> {
     }
 
     fn step(&mut self, cue: Cue) -> u64 {
-        self.recorder.step(cue)
+        let seen = self.recorder.step(cue);
+        write_settled(&mut self.file, self.recorder.items(), cue);
+        seen
     }
 }

@@ -28,6 +28,7 @@ mod sessions;
 mod simulated;
 mod slow;
 mod streamed;
+mod streamed_trace;
 mod tracing;
 mod untils;
 

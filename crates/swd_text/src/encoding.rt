@@ -33,6 +33,18 @@ fn put_item<W: Write>(block: &mut Block<'_, W>, item: &Item)
     }
 }
 
+/// Appends the trace text of some items to the output of a block, one line for each item. It allocates nothing.
+pub fn put_items<W: Write>(block: &mut Block<'_, W>, items: &[Item])
+    requires { AreLegal items.now }
+    ensures sends { (start : Option (List ℕ)) (all : List ℕ) → Sends W.contents start block.old all
+        → Sends W.contents start block.new (all ++ trace_text items.now) }
+    ensures writer { block.new.writer.ghost_name ≡ block.old.writer.ghost_name }
+{
+    for item in items {
+        put_item(block, item);
+    }
+}
+
 /// Writes the trace text of some items, one line for each item. It allocates nothing, and nothing is retried.
 ///
 /// # Errors
@@ -44,9 +56,7 @@ pub fn write_items<W: Write>(writer: &mut W, items: &[Item]) -> Result<(), u64>
     ensures { Writes result (W.contents writer.old) (W.contents writer.new) (trace_text items.now) }
 {
     let mut block = Block::new(writer, 0);
-    for item in items {
-        put_item(&mut block, item);
-    }
+    put_items(&mut block, items);
     match block.flush() {
         Ok(_) => Ok(()),
         Err(written) => Err(written),

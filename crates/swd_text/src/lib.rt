@@ -12,5 +12,5 @@ mod tx_line;
 pub use comment::comment_len;
 pub use decoding::decode_text;
 pub use digits::{Digits, WIDTH, digits_of};
-pub use encoding::{encode_text, write_items};
+pub use encoding::{encode_text, put_items, write_items};
 pub use fault::{DecodeFault, EncodeFault, TakeFault, TextFault};

@@ -186,9 +186,14 @@ struct Traced {
     trace: Vec<u8>,
 }
 
-fn traced_on<A: Allocator + Copy>(rt: &HostRuntime, alloc: A) -> Traced {
-    let mut script = SCRIPT;
-    let mut plan = PLAN;
+fn traced_on<A: Allocator + Copy>(
+    rt: &HostRuntime,
+    alloc: A,
+    script: &[u8],
+    plan: &[u8],
+) -> Traced {
+    let mut script = script;
+    let mut plan = plan;
     let mut report = Vec::new(rt.alloc());
     let mut records = only_trace(Vec::new(rt.alloc()));
     let answer = run_text(
@@ -211,7 +216,7 @@ fn traced_on<A: Allocator + Copy>(rt: &HostRuntime, alloc: A) -> Traced {
 // The items of a trace are refused while the run goes on, and change nothing in it.
 #[test]
 fn a_traced_run_where_memory_ends(rt: HostRuntime) -> Result<(), Fail> {
-    let whole = traced_on(&rt, rt.alloc());
+    let whole = traced_on(&rt, rt.alloc(), SCRIPT, PLAN);
     expect_eq(&rt, &whole.answer, &ended_with(End::All, REPORT));
     expect_eq(&rt, &whole.report.as_slice(), &REPORT);
     let whole = whole.trace;
@@ -220,7 +225,7 @@ fn a_traced_run_where_memory_ends(rt: HostRuntime) -> Result<(), Fail> {
     let mut longest_cut = 0usize;
     for size in 1..300usize {
         let heap = LocalHeap::new(rt.alloc(), size * STEP)?;
-        let run = traced_on(&rt, &heap);
+        let run = traced_on(&rt, &heap, SCRIPT, PLAN);
         let Some(stage) = stage_of(run.answer) else {
             panic!(rt; "{size}: {:?}", run.answer);
         };
@@ -242,5 +247,29 @@ fn a_traced_run_where_memory_ends(rt: HostRuntime) -> Result<(), Fail> {
     stages.are(&rt, &TRACED_STAGES);
     // What was kept before memory was refused has been written: more than the opening.
     assert!(rt; longest_cut > 14 * 47);
+    Ok(())
+}
+
+// Where memory is refused for a call, the trace has the items of the call before it that were kept: with enough memory for
+// these, at least those of its opening.
+#[test]
+fn a_second_traced_call_where_memory_ends(rt: HostRuntime) -> Result<(), Fail> {
+    let whole = traced_on(&rt, rt.alloc(), TWO_CALLS, b"".as_slice());
+    let whole = whole.trace;
+    let mut longest = 0usize;
+    for size in 1..300usize {
+        let heap = LocalHeap::new(rt.alloc(), size * STEP)?;
+        let run = traced_on(&rt, &heap, TWO_CALLS, b"".as_slice());
+        let Err(RunFault::Engine(EngineFault::Memory)) = run.answer else {
+            continue;
+        };
+        let trace = run.trace.as_slice();
+        expect_at(&rt, &size, whole.as_slice().starts_with(trace));
+        expect_at(&rt, &size, trace.is_empty() || trace.last() == Some(&b'\n'));
+        if run.report.as_slice() == FIRST_REPORT {
+            longest = longest.max(trace.len());
+        }
+    }
+    assert!(rt; longest > 9 * 47);
     Ok(())
 }

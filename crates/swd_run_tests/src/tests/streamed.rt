@@ -18,9 +18,9 @@ use swd_target::{Bench, Memory};
 
 // A wire whose requests are counted.
 #[derive(Drop)]
-struct Asked<'a, W> {
-    wire: W,
-    asked: &'a Cell<u64>,
+pub(super) struct Asked<'a, W> {
+    pub(super) wire: W,
+    pub(super) asked: &'a Cell<u64>,
 }
 
 impl<'a, W: Wire> Wire for Asked<'a, W> {
@@ -45,11 +45,11 @@ impl<'a, W: Wire> Wire for Asked<'a, W> {
 // Notes at each write how many requests there were, and how many bytes it was given. Fails at one write, and takes all at
 // the others.
 #[derive(Drop)]
-struct Watching<'a> {
-    asked: &'a Cell<u64>,
-    writes: Vec<(u64, usize)>,
-    taken: Vec<u8>,
-    fails_at: usize,
+pub(super) struct Watching<'a> {
+    pub(super) asked: &'a Cell<u64>,
+    pub(super) writes: Vec<(u64, usize)>,
+    pub(super) taken: Vec<u8>,
+    pub(super) fails_at: usize,
 }
 
 impl Write for Watching<'_> {
@@ -78,7 +78,7 @@ struct Streamed {
 }
 
 // The marks of a plan.
-fn marks_of(alloc: Global, plan: &[u8]) -> Result<Vec<Mark>, Fail>
+pub(super) fn marks_of(alloc: Global, plan: &[u8]) -> Result<Vec<Mark>, Fail>
     ensures { IfOk result (λ marks. IsPlan marks.items) }
 {
     let mut text = plan;
@@ -132,7 +132,7 @@ fn run_at(
 }
 
 // A script of so many reads, and then another text.
-fn reads(alloc: Global, count: usize, rest: &[u8]) -> Result<Vec<u8>, Fail> {
+pub(super) fn reads(alloc: Global, count: usize, rest: &[u8]) -> Result<Vec<u8>, Fail> {
     let mut script = Vec::new(alloc);
     script.extend_from_slice(b"memory 0 1\n")?;
     for _ in 0..count {
@@ -143,7 +143,7 @@ fn reads(alloc: Global, count: usize, rest: &[u8]) -> Result<Vec<u8>, Fail> {
 }
 
 // A plan with no fault for so many requests, and then a lost acknowledgement.
-fn lost_after(alloc: Global, clean: usize) -> Result<Vec<u8>, Fail> {
+pub(super) fn lost_after(alloc: Global, clean: usize) -> Result<Vec<u8>, Fail> {
     let mut plan = Vec::new(alloc);
     for _ in 0..clean {
         plan.extend_from_slice(b".\n")?;
@@ -196,7 +196,7 @@ fn a_resumed_call_is_written_while_it_goes_on(rt: HostRuntime) -> Result<(), Fai
     Ok(())
 }
 
-// The call under way is made to its end, and no other one. Nothing is written after that write.
+// The call is made to its end, and no other one. Nothing is written after that write.
 #[test]
 fn a_writer_that_fails_in_a_call(rt: HostRuntime) -> Result<(), Fail> {
     let script = reads(rt.alloc(), 2500, b"next\nr 0\n".as_slice())?;

@@ -236,9 +236,10 @@ fn traces_at_each_write_that_fails(rt: HostRuntime) {
     }
 }
 
-// The report's writer fails at each place: nothing of the trace is written.
+// The report's writer fails at each place: the call is made to its end, and its trace is written.
 #[test]
-fn a_report_that_fails_leaves_no_trace(rt: HostRuntime) {
+fn a_report_that_fails_leaves_the_trace(rt: HostRuntime) {
+    let whole = run_on(&rt, NO_ACCESS, b"".as_slice());
     for fails in [false, true] {
         for room in 0..NO_ACCESS_REPORT.len() {
             let mut script = NO_ACCESS;
@@ -262,7 +263,7 @@ fn a_report_that_fails_leaves_no_trace(rt: HostRuntime) {
                 &Err(RunFault::Engine(EngineFault::Write { written })),
             );
             expect_eq(&rt, &report.taken(), &&NO_ACCESS_REPORT[..room]);
-            assert!(rt; trace.is_empty());
+            expect_eq(&rt, &trace, &whole.trace);
         }
     }
 }

@@ -8,17 +8,8 @@ use Rattle.swd_host.specs.Reports.{told_of}
 use Rattle.swd_script.specs.Readers.{listed}
 use Rattle.swd_run.specs.Reports.{report_text, run_report, WritesOn}
 use Rattle.swd_run.specs.Sessions.{done_of}
+use Rattle.swd_run.proofs.ReportLemmas.{written_on}
 use Rattle.swd_run.proofs.report.write_run.Goals as goal
-
--- what went out, however the last of it was sent
-written_on : (P : Option (List ℕ) → List ℕ → Type 0) (sent : Result ℕ ℕ) (start now : Option (List ℕ)) (text : List ℕ)
-    → P start text
-    → IfOk sent (λ told. (s : Option (List ℕ)) (a : List ℕ) → P s a
-    → Appends s now a × (told ≡ min (length a) (2 ^ 64 - 1)))
-    → IfErr sent (λ told. (s : Option (List ℕ)) (a : List ℕ) → P s a → Stopped told s now a)
-    → WritesOn sent start now text
-written_on P (Ok told) start now text h ok err = let gone = ok start text h in record { gone = gone.0; count = gone.1 }
-written_on P (Err told) start now text h ok err = err start text h
 
 pub returns : goal.returns
 returns g c =

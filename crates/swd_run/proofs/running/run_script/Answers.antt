@@ -13,7 +13,7 @@ use Rattle.swd_run.specs.Reports.{batch_report}
 use Rattle.swd_run.specs.Running.{AnswersScript, Session, full_room, memory_of, none, with_full}
 use Rattle.swd_run.specs.Unfoldings.{no_batch}
 use Rattle.swd_run.proofs.ReportLemmas.{no_pairs}
-use Rattle.swd_run.proofs.EngineLemmas.{left_files, script_answers}
+use Rattle.swd_run.proofs.EngineLemmas.{none_begun, script_answers}
 use Rattle.swd_run.proofs.UnfoldingLemmas.{no_calls, no_until}
 use Rattle.swd_run.proofs.running.run_script.Goals as goal
 
@@ -43,7 +43,7 @@ returns-in_default g c =
           came = no_until script.batches;
         },
         subst (Appends writer writer) (sym (no_pairs batch_report script.batches)) (Appends-nil writer),
-        left_files (files_of g.T.Write.contents c.args.records.now),
+        none_begun (files_of g.T.Write.contents c.args.records.now),
       ),
     )
 

@@ -1,40 +1,24 @@
-use Rattle.std.proofs.Common.{◌≡◌, ℕ, zero, suc, ◌+◌, ◌<◌, List, [], ◌∷◌, ◌++◌, length, take, get_or, sym, ap, ◌∙◌}
-use Rattle.std.proofs.Common.{subst, append_assoc, arith, add-one}
-use Rattle.std.proofs.lemmas.List.{append-nil}
-use Rattle.std.proofs.Math.Seq.{take-suc}
-use Rattle.swd_trace.specs.declared.item.Item.{Item}
-use Rattle.swd_trace.specs.Listed.{IsLegal}
-use Rattle.swd_trace.specs.Listed.{AreLegal}
-use Rattle.swd_trace.specs.Texts.{item_text, trace_text}
-use Rattle.swd_io.specs.Blocks.{Sends}
+use Rattle.std.proofs.Common.{rules, [], refl}
+use Rattle.std.proofs.KnownBytes.{Appends-nil}
+use Rattle.std.specs.Io.KnownBytes.{Appends}
+use Rattle.swd_io.specs.Blocks.{Stopped}
+use Rattle.swd_trace.specs.Texts.{trace_text}
 use Rattle.swd_text.proofs.encoding.write_items.Goals as goal
 
-legal_at : (items : List Item) (k : ℕ) (d : Item) → k < length items → AreLegal items → IsLegal (get_or items k d)
-legal_at [] k d h l = absurd (omega arith)
-legal_at (item ∷ items) zero d h l = l.0
-legal_at (item ∷ items) (suc k) d h l = legal_at items k d (omega arith) l.1
+pub returns-in-Ok : goal.returns-in-Ok
+returns-in-Ok g c =
+    let start = g.W.Write.contents c.args.writer.now in
+    let text = trace_text c.args.items.now in
+    let gone : Appends start (g.W.Write.contents c.flush.new.self.writer.now) text =
+    (c.in-Ok.ensures.ok start text
+    (c.put_items.ensures.sends start [] (c.new-block.ensures.sends start [] (Appends-nil start) refl))).0 in
+    search rules
 
--- the text of some items and one more
-trace_more : (items : List Item) (item : Item) → trace_text (items ++ item ∷ []) ≡ trace_text items ++ item_text item
-trace_more [] item = append-nil (item_text item)
-trace_more (i ∷ items) item = ap (λ x. item_text i ++ x) (trace_more items item)
-    ∙ sym (append_assoc (item_text i) (trace_text items) (item_text item))
-
-trace_next : (items : List Item) (k : ℕ) (d : Item) → k < length items
-    → trace_text (take (k + 1) items) ≡ trace_text (take k items) ++ item_text (get_or items k d)
-trace_next items k d h =
-    ap (λ n. trace_text (take n items)) (add-one k) ∙ ap trace_text (take-suc items k d h)
-    ∙ trace_more (take k items) (get_or items k d)
-
-pub put_item-requires : goal.put_item-requires
-put_item-requires g c = legal_at c.args.items.now c.loop-item.item-index _ c.loop-item-test.true c.requires
-
-pub loop-item-preserved : goal.loop-item-preserved
-loop-item-preserved g c = record {
-  sends =
-      subst (Sends g.W.Write.contents (g.W.Write.contents c.args.writer.now) c.put_item.new.block)
-      (sym (trace_next c.args.items.now c.loop-item.item-index _ c.loop-item-test.true))
-      (c.put_item.ensures.sends (g.W.Write.contents c.args.writer.now)
-      (trace_text (take c.loop-item.item-index c.args.items.now)) c.loop-item.invariant.sends);
-  writer = c.put_item.ensures.writer ∙ c.loop-item.invariant.writer;
-}
+pub returns-in-Err : goal.returns-in-Err
+returns-in-Err g c =
+    let start = g.W.Write.contents c.args.writer.now in
+    let text = trace_text c.args.items.now in
+    let stopped : Stopped c.in-Err.written start (g.W.Write.contents c.flush.new.self.writer.now) text =
+    c.in-Err.ensures.err start text
+    (c.put_items.ensures.sends start [] (c.new-block.ensures.sends start [] (Appends-nil start) refl)) in
+    search rules

@@ -45,3 +45,9 @@ invariant_of-self g c =
 
 pub returns-clause-stays : goal.returns-clause-stays
 returns-clause-stays g c = cut_stays _ (kept_of c.args.self.now.items) (kept_of c.add.new.self) c.add.ensures.adds
+
+pub returns-clause-adds : goal.returns-clause-adds
+returns-clause-adds g c =
+    let self = c.args.self.now in
+    subst (λ (in_hand : Option InHand). Adds (items_of in_hand c.args.cue c.args.seen) (kept_of self.items)
+    (kept_of c.add.new.self)) self.held c.add.ensures.adds

@@ -1,6 +1,7 @@
 use Rattle.std.proofs.Common.{[], ◌∙◌, sym, subst}
 use Rattle.swd_recorder.specs.Recorders.{port_by}
 use Rattle.swd_run.specs.Recorded.{Stepped, at_start}
+use Rattle.swd_run.proofs.TraceLemmas.{fresh_has, fresh_within}
 use Rattle.swd_run.proofs.traced.Traced.new.Goals as goal
 
 pub invariant_of-result : goal.invariant_of-result
@@ -10,4 +11,7 @@ invariant_of-result g c =
     record {
       steps = ∣ (λ law. subst (λ l. Stepped start l (port_by made)) (sym c.new.ensures.calls)
           (subst (Stepped start []) (c.requires.start ∙ sym c.new.ensures.port) at_start)) ∣₁;
+      settled = fresh_within c.args.writer c.fresh.result _ c.fresh.ensures;
+      has = ∣ fresh_has g.T.Write.contents c.args.writer c.fresh.result g.B.Origin.before _ c.fresh.ensures
+          c.requires.before ∣₁;
     }

@@ -1,16 +1,39 @@
-use Rattle.std.proofs.Common.{List, sym, subst}
+use Rattle.std.proofs.Common.{◌-◌, ◌≤◌, List, length, sym, subst}
 use Rattle.std.proofs.Math.Logic.{∥∥₁_map}
 use Rattle.swd_port.specs.declared.call.Call.{Call}
-use Rattle.swd_recorder.specs.Recorders.{port_by}
+use Rattle.swd_recorder.specs.Recorders.{kept_by, port_by}
 use Rattle.swd_run.specs.Recorded.{Stepped, further}
+use Rattle.swd_run.specs.TraceFiles.{HaveDone, count_done}
+use Rattle.swd_run.proofs.TraceLemmas.{have_on, settled_stay}
 use Rattle.swd_run.proofs.traced.TracedWire.step.Goals as goal
+
+pub write_settled-requires-clause-within : goal.write_settled-requires-clause-within
+write_settled-requires-clause-within g c =
+    let self = c.args.self.now in
+    let done = count_done self.file in
+    let stay = settled_stay _ (kept_by self.recorder) (kept_by c.step-seen.new.self) done c.step-seen.ensures.adds
+    self.settled in
+    subst (λ l. done ≤ length l - 1) (sym c.items.ensures.items) stay.1
 
 pub invariant_of-self : goal.invariant_of-self
 invariant_of-self g c =
-    let ran = c.step.ensures in
+    let self = c.args.self.now in
+    let ran = c.step-seen.ensures in
+    let contents = g.T.Write.contents in
+    let before = g.B.Origin.before in
+    let old = kept_by self.recorder in
+    let new = kept_by c.step-seen.new.self in
+    let stay = settled_stay _ old new (count_done self.file) ran.adds self.settled in
     record {
-      steps = ∥∥₁_map c.args.self.now.steps (λ before law.
+      steps = ∥∥₁_map self.steps (λ steps law.
           let both = ran.step law in
-          subst (λ (l : List Call). Stepped g.B.Origin.start l (port_by c.step.new.self)) (sym ran.calls)
-          (further (before both.0) c.requires ran.seen both.1 ran.due));
+          subst (λ (l : List Call). Stepped g.B.Origin.start l (port_by c.step-seen.new.self)) (sym ran.calls)
+          (further (steps both.0) c.requires ran.seen both.1 ran.due));
+      settled = subst (λ l. count_done c.write_settled.new.file ≤ length l - 1) c.items.ensures.items
+          c.write_settled.ensures.within;
+      has = ∥∥₁_map self.has (λ h.
+          subst (λ l. HaveDone contents before l c.write_settled.new.file) c.items.ensures.items
+          (c.write_settled.ensures.has before
+          (subst (λ l. HaveDone contents before l self.file) (sym c.items.ensures.items)
+          (have_on contents before old.items new.items self.file stay.0 h))));
     }
