@@ -11,3 +11,4 @@ pub mod Reporting
 pub mod Verified
 pub mod Running
 pub mod Laws
+pub mod Counting
