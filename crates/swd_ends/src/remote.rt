@@ -67,7 +67,10 @@ pub fn run_remote<P: Story, S: Read, R: Read, W: Write, O: Write, T: Write, A: A
 {
     let script = match read_script(alloc, script) {
         Ok(script) => script,
-        Err(unread) => return (Err(RemoteFault::unread(unread)), Line::unused(reader, writer)),
+        Err(unread) => return (
+            Err(RemoteFault::unread(unread)),
+            Line::unused(reader, writer),
+        ),
     };
     let (answer, line) = run_remote_script::<P, R, W, O, T, A>(
         alloc, &script, reader, writer, tries, resumes, report, records,
