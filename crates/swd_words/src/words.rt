@@ -129,8 +129,8 @@ most one line a second, and none in the first second:
   swd: 12288 of 1048576 accesses, 4096 a second
 The second number is of all calls of the script; an until counts as one access.
 An access is done when its line is in the report, which is written after every
-1024 answers of a call and at its end. The rate is that since the line before.
---progress can't be combined with --report -.
+1024 answers of a call and at its end. The third number is the rate since the
+line before, rounded down. --progress can't be combined with --report -.
 
 The trace has every bit on the line, one item per line: see swd decode. The
 accesses are those of the target's memory that the trace shows, one per line:
