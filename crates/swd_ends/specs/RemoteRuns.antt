@@ -6,7 +6,7 @@ use Rattle.swd_io.specs.declared.pieces.Unread.TheVariants.{Reader, Consumer}
 use Rattle.swd_port.specs.declared.call.Call.{Call}
 use Rattle.swd_port.specs.Port.{Port}
 use Rattle.swd_port.specs.Stories.{port_at, FitsStory}
-use Rattle.swd_script.specs.Scripts.{Meaning, script_of}
+use Rattle.swd_script.specs.Scripts.{Listed, Meaning, script_of}
 use Rattle.swd_script.specs.Readers.{IsScriptFault}
 use Rattle.swd_script.specs.declared.fault.ScriptFault.{ScriptFault}
 use Rattle.swd_run.specs.declared.engine.Finished.{Finished}
@@ -16,8 +16,17 @@ use Rattle.swd_run.specs.Records.{AreLeft, Files, IsLeft}
 use Rattle.swd_ends.specs.declared.remote.RemoteFault.{RemoteFault}
 use Rattle.swd_ends.specs.declared.remote.RemoteFault.TheVariants.{Script, Read, Engine}
 
--- The reader's script was run over a wire to the outside. `calls` are its calls with what came back, the last one
+-- The batches of a script were run over a wire to the outside. `calls` are its calls with what came back, the last one
 -- first. The wire is lawful if they are consistent with the story. `Over` holds of the connection and these calls.
+pub record RanRemoteScript (story : ℕ → Port) (tries resumes : ℕ) (Over : List Call → Type 0) (batches : List Listed)
+    (answer : Result Finished EngineFault) (old new : Option (List ℕ)) (before after : Files)
+    : Type 0 where
+  pub calls : List Call
+  pub answers : AnswersAt (port_at story) (λ calls. []) (FitsStory story) tries resumes batches [] calls answer old new
+      before after
+  pub over : Over calls
+
+-- the reader's script was run so
 pub record RanRemote (story : ℕ → Port) (tries resumes : ℕ) (Over : List Call → Type 0)
     (answer : Result Finished EngineFault) (script old new : Option (List ℕ)) (before after : Files)
     : Type 0 where
@@ -25,10 +34,7 @@ pub record RanRemote (story : ℕ → Port) (tries resumes : ℕ) (Over : List C
   pub is_script : IsText script text
   pub meaning : Meaning
   pub means : script_of text ≡ Ok meaning
-  pub calls : List Call
-  pub answers : AnswersAt (port_at story) (λ calls. []) (FitsStory story) tries resumes meaning.batches [] calls answer old
-      new before after
-  pub over : Over calls
+  pub ran : RanRemoteScript story tries resumes Over meaning.batches answer old new before after
 
 -- What a result states about the script, if its bytes are known, and about the contents of the writers before and
 -- after. `unused` says that the connection wasn't used.

@@ -1,8 +1,10 @@
 //! Runs a script at a target behind OpenOCD's remote_bitbang characters.
 ghost use Rattle.std.specs.Prelude.{◌≡◌};
 ghost use Rattle.swd_remote.specs.WholeRuns.{GoesOver, IsUnused};
+ghost use Rattle.swd_script.specs.Laws.{IsRunnable};
+ghost use Rattle.swd_script.specs.Readers.{meaning};
 ghost use Rattle.swd_run.specs.Records.{files_of};
-ghost use Rattle.swd_ends.specs.RemoteRuns.{RunsRemote, script_fault as script_fault_of};
+ghost use Rattle.swd_ends.specs.RemoteRuns.{RanRemoteScript, RunsRemote, script_fault};
 
 use std::alloc::Allocator;
 use std::io::{Read, Write};
@@ -11,7 +13,7 @@ use swd_io::Unread;
 use swd_port::{Outside, Story, Tied};
 use swd_remote::{Beginning, Kept, Line};
 use swd_run::{EngineFault, Finished, Records, run_batches};
-use swd_script::{ScriptFault, read_script};
+use swd_script::{Script, ScriptFault, read_script};
 use thiserror::Error;
 
 /// The error of a script's run at a remote target.
@@ -28,29 +30,25 @@ pub enum RemoteFault {
     Engine(EngineFault),
 }
 
-// Returns the error of a script that wasn't read.
-fn script_fault(unread: Unread<ScriptFault>) -> RemoteFault
-    ensures { result ≡ script_fault_of unread }
-{
-    match unread {
-        Unread::Reader => RemoteFault::Read,
-        Unread::Consumer(fault) => RemoteFault::Script(fault),
+impl RemoteFault {
+    /// Returns the error of a script that wasn't read.
+    pub fn unread(unread: Unread<ScriptFault>) -> RemoteFault
+        ensures { result ≡ script_fault unread }
+    {
+        match unread {
+            Unread::Reader => RemoteFault::Read,
+            Unread::Consumer(fault) => RemoteFault::Script(fault),
+        }
     }
 }
 
-/// Reads a script, and runs its calls by `swd_run::run_batches` at the target behind a remote_bitbang server. Writes
-/// their reports, and the files for which `records` has a writer. Then sends `Q`. The script's memory and log capacity
-/// are ignored. Returns the connection too, with the error that ended it, if any.
-///
-/// Whatever comes back, the run ends unless the connection blocks, and its report matches the calls that were made. For
-/// every story with which the replies are consistent, the report is as `run_batches` promises. Up to the first I/O
-/// error, exactly the characters of these calls and `Q` are sent, and exactly the levels that they ask for are read.
-/// Nothing is sent after that error.
+/// Reads a script, and runs it by [`run_remote_script`]. Returns the connection too, with the error that ended it, if
+/// any.
 ///
 /// # Errors
 ///
 /// Returns `Script` for the first error of the script, or if out of memory for its accesses. Returns `Read` if its
-/// reader failed. The connection wasn't used in these cases. Returns `Engine` as `run_batches` does.
+/// reader failed. The connection wasn't used in these cases. Returns `Engine` as `swd_run::run_batches` does.
 pub fn run_remote<
     P: Story,
     S: Read,
@@ -75,15 +73,36 @@ pub fn run_remote<
         result.0 (S.remaining script.old) (O.contents report.old) (O.contents report.new)
         (files_of T.contents records.old) (files_of T.contents records.new) }
 {
-    run_begun::<P, Brand, S, R, W, O, T, A>(
-        alloc, script, reader, writer, tries, resumes, report, records,
-    )
+    let script = match read_script(alloc, script) {
+        Ok(script) => script,
+        Err(unread) => return (
+            Err(RemoteFault::unread(unread)),
+            Line::unused(reader, writer),
+        ),
+    };
+    let (answer, line) = run_remote_script::<P, R, W, O, T, A>(
+        alloc, &script, reader, writer, tries, resumes, report, records,
+    );
+    match answer {
+        Ok(finished) => (Ok(finished), line),
+        Err(fault) => (Err(RemoteFault::Engine(fault)), line),
+    }
 }
 
-fn run_begun<
+/// Runs a script's calls by `swd_run::run_batches` at the target behind a remote_bitbang server. Writes their reports,
+/// and the files for which `records` has a writer. Then sends `Q`. The script's memory and log capacity are ignored.
+/// Returns the connection too, with the error that ended it, if any.
+///
+/// Whatever comes back, the run ends unless the connection blocks, and its report matches the calls that were made. For
+/// every story with which the replies are consistent, the report is as `run_batches` promises. Up to the first I/O
+/// error, exactly the characters of these calls and `Q` are sent, and exactly the levels that they ask for are read.
+/// Nothing is sent after that error.
+///
+/// # Errors
+///
+/// Returns an error as `run_batches` does.
+pub fn run_remote_script<
     P: Story,
-    B: Beginning,
-    S: Read,
     R: Read,
     W: Write,
     O: Write,
@@ -91,32 +110,54 @@ fn run_begun<
     A: Allocator + Copy,
 >(
     alloc: A,
-    script: &mut S,
+    script: &Script<A>,
     reader: R,
     writer: W,
     tries: u32,
     resumes: u32,
     report: &mut O,
     records: &mut Records<T>,
-) -> (Result<Finished, RemoteFault>, Line<R, W>)
-    requires sent { B.sent ≡ W.contents writer }
-    requires left { B.left ≡ R.remaining reader }
-    ensures { RunsRemote P.at tries resumes
-        (λ calls. ∥ GoesOver R.remaining W.contents B.sent B.left result.1 calls ∥₁)
-        (IsUnused R.remaining W.contents B.sent B.left result.1)
-        result.0 (S.remaining script.old) (O.contents report.old) (O.contents report.new)
+) -> (Result<Finished, EngineFault>, Line<R, W>)
+    requires { IsRunnable (meaning script.now) }
+    ensures { RanRemoteScript P.at tries resumes
+        (λ calls. ∥ GoesOver R.remaining W.contents (W.contents writer) (R.remaining reader) result.1 calls ∥₁)
+        (meaning script.now).batches result.0 (O.contents report.old) (O.contents report.new)
         (files_of T.contents records.old) (files_of T.contents records.new) }
 {
-    let script = match read_script(alloc, script) {
-        Ok(script) => script,
-        Err(unread) => return (Err(script_fault(unread)), Line::unused(reader, writer)),
-    };
+    run_begun::<P, Brand, R, W, O, T, A>(
+        alloc, script, reader, writer, tries, resumes, report, records,
+    )
+}
+
+// Runs a script's calls over a connection from its beginning on, and then sends `Q`.
+fn run_begun<
+    P: Story,
+    B: Beginning,
+    R: Read,
+    W: Write,
+    O: Write,
+    T: Write + Drop,
+    A: Allocator + Copy,
+>(
+    alloc: A,
+    script: &Script<A>,
+    reader: R,
+    writer: W,
+    tries: u32,
+    resumes: u32,
+    report: &mut O,
+    records: &mut Records<T>,
+) -> (Result<Finished, EngineFault>, Line<R, W>)
+    requires script { IsRunnable (meaning script.now) }
+    requires sent { B.sent ≡ W.contents writer }
+    requires left { B.left ≡ R.remaining reader }
+    ensures { RanRemoteScript P.at tries resumes
+        (λ calls. ∥ GoesOver R.remaining W.contents B.sent B.left result.1 calls ∥₁)
+        (meaning script.now).batches result.0 (O.contents report.old) (O.contents report.new)
+        (files_of T.contents records.old) (files_of T.contents records.new) }
+{
     let wire: Outside<Kept<R, W, B>, P, Tied> = Outside::begun(Kept::new(reader, writer));
     let batches = script.batches.as_slice();
     let (answer, wire) = run_batches(alloc, wire, batches, tries, resumes, report, records);
-    let line = wire.into_transport().hang_up();
-    match answer {
-        Ok(finished) => (Ok(finished), line),
-        Err(fault) => (Err(RemoteFault::Engine(fault)), line),
-    }
+    (answer, wire.into_transport().hang_up())
 }

@@ -12,3 +12,4 @@ pub mod TraceFiles
 pub mod Verified
 pub mod Running
 pub mod Laws
+pub mod Counting

@@ -5,6 +5,7 @@
 #![tactic(auto)]
 
 mod batch_runs;
+mod counting;
 mod engine;
 mod fault;
 mod going_on;
@@ -20,12 +21,13 @@ mod trace_file;
 mod traced;
 mod verified;
 
+pub use counting::count_accesses;
 pub use engine::{Finished, run_batches};
 pub use fault::{EngineFault, RunFault, TextsFault};
 pub use going_on::{Resumed, Stop, run_on, run_on_to};
 pub use records::Records;
 pub use report::{ReportLine, answer_line, last_line, resume_line};
 pub use run_sink::RunSink;
-pub use running::{QUIRKS, run_text, zero_memory};
+pub use running::{QUIRKS, run_script, run_text, zero_memory};
 pub use texts::{Texts, read_texts};
 pub use verified::Difference;

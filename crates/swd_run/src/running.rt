@@ -81,9 +81,16 @@ fn target_of<A: Allocator + Copy>(
     Some(Bench::new(memory, QUIRKS, plan))
 }
 
-// Runs a script over a simulated target with these marks. Writes the reports, and the files for which there is a
-// writer.
-fn run_script<W: Write, T: Write + Drop, A: Allocator + Copy>(
+/// Runs a script's calls by [`run_batches`](crate::run_batches) over a simulated target with the marks of a plan. The
+/// target is a `Bench` whose memory has the script's words, all zero.
+///
+/// Allocates the memory before the first call. [`read_texts`](crate::read_texts) reads the script and the plan, and
+/// [`run_text`] does both.
+///
+/// # Errors
+///
+/// Returns an error as `run_batches` does, and `Memory` also if out of memory for the target. Nothing was written then.
+pub fn run_script<W: Write, T: Write + Drop, A: Allocator + Copy>(
     alloc: A,
     script: &Script<A>,
     plan: Vec<Mark, A>,
@@ -107,8 +114,7 @@ fn run_script<W: Write, T: Write + Drop, A: Allocator + Copy>(
     with_full(answer, full_room(bench.memory(), script.room))
 }
 
-/// Reads a script and a plan, and runs the script's calls by [`run_batches`](crate::run_batches) over a simulated
-/// target with the plan's marks. The target is a `Bench` whose memory has the script's words, all zero.
+/// Reads a script and a plan by [`read_texts`], and runs the script by [`run_script`] under the plan's marks.
 ///
 /// Allocates the accesses, the marks and the memory before the first call.
 ///

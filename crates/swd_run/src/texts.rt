@@ -1,6 +1,8 @@
 //! Reads the script and the plan of a run.
 ghost use Rattle.std.specs.Prelude.{◌≡◌, IfOk, IfErr};
+ghost use Rattle.swd_script.specs.Laws.{IsRunnable};
 ghost use Rattle.swd_script.specs.Readers.{meaning};
+ghost use Rattle.swd_target.specs.Marks.{IsPlan};
 ghost use Rattle.swd_run.specs.Running.{AreRead, AreUnread};
 ghost use Rattle.swd_run.specs.Running.{plan_fault as plan_fault_of, script_fault as script_fault_of};
 
@@ -38,7 +40,7 @@ fn plan_fault(unread: Unread<ScriptFault>) -> TextsFault
     }
 }
 
-/// Reads a script and then a plan.
+/// Reads a script and then a plan. The script can be run, and the marks are legal.
 ///
 /// # Errors
 ///
@@ -51,6 +53,8 @@ pub fn read_texts<S: Read, P: Read, A: Allocator + Copy>(
 ) -> Result<Texts<A>, TextsFault>
     ensures read { IfOk result (λ texts. AreRead (S.remaining script.old) (P.remaining plan.old)
         (meaning texts.script) texts.plan.items) }
+    ensures script { IfOk result (λ texts. IsRunnable (meaning texts.script)) }
+    ensures plan { IfOk result (λ texts. IsPlan texts.plan.items) }
     ensures fault { IfErr result (λ fault. AreUnread fault (S.remaining script.old) (P.remaining plan.old)) }
 {
     let script = match read_script(alloc, script) {

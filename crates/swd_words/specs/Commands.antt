@@ -136,6 +136,11 @@ remote_rule = let rule = new_rule (codes "remote") in record rule
 abbrev pub report_rule : Rule
 report_rule = let rule = new_rule (codes "report") in record rule { long = Some (codes "report"); value_names = 1 }
 
+-- --progress: lines on standard error say how far the run is
+abbrev pub progress_rule : Rule
+progress_rule = let rule = new_rule (codes "progress") in record rule
+    { long = Some (codes "progress"); action = Some SetTrue }
+
 -- the command `run` with the files that it reads
 abbrev pub over_a_script : App
 over_a_script = with_rule (with_rule (new_app (codes "run")) script_rule) plan_rule
@@ -146,9 +151,9 @@ run_here_app =
     with_rule (with_rule (with_rule (with_rule (with_rule over_a_script tries_rule) resume_rule) trace_rule)
     accesses_file_rule) strict_rule
 
--- with the options of a run at a remote target
+-- with the options of a run at a remote target, and of the progress
 abbrev pub run_app : App
-run_app = with_rule (with_rule run_here_app remote_rule) report_rule
+run_app = with_rule (with_rule (with_rule run_here_app remote_rule) report_rule) progress_rule
 
 -- the log, after --log
 abbrev pub log_rule : Rule
@@ -243,7 +248,7 @@ AreResumes resumes None = resumes ≡ 0
 AreResumes resumes (Some text) = (resumes ≤ 1000) × (pos resumes ≡ signed_digits_value 10 text)
 
 -- the script, the plan, the two numbers, the trace, the accesses and the report that the arguments name, and whether
--- the run is strict, and remote
+-- the run is strict, and remote, and says how far it is
 pub record IsRunOf (run : RunLine) (rows : List Row) : Type 0 where
   pub script : Some (string_bytes run.script) ≡ first_of (codes "SCRIPT") rows
   pub plan : option_map string_bytes run.plan ≡ first_of (codes "plan") rows
@@ -254,6 +259,7 @@ pub record IsRunOf (run : RunLine) (rows : List Row) : Type 0 where
   pub strict : (run.strict ≡ true) ↔ (first_of (codes "strict") rows ≡ Some (codes "true"))
   pub remote : (run.remote ≡ true) ↔ (first_of (codes "remote") rows ≡ Some (codes "true"))
   pub report : option_map string_bytes run.report ≡ first_of (codes "report") rows
+  pub progress : (run.progress ≡ true) ↔ (first_of (codes "progress") rows ≡ Some (codes "true"))
 
 -- the script, the plan, the log and the trace that the arguments name
 pub record IsTargetOf (target : TargetLine) (rows : List Row) : Type 0 where

@@ -17,7 +17,7 @@ pub enum Line {
     /// `swd encode [FILE]`. Without a file it reads standard input.
     Encode(Option<String>),
     /// `swd run SCRIPT [--plan FILE]` or `swd run SCRIPT --remote --report FILE`. Both take `[--tries N] [--resume N]
-    /// [--trace FILE] [--accesses FILE] [--strict]` too.
+    /// [--trace FILE] [--accesses FILE] [--strict] [--progress]` too.
     Run(RunLine),
     /// `swd target SCRIPT [--plan FILE] [--log FILE] [--trace FILE]`.
     Target(TargetLine),
@@ -80,6 +80,8 @@ pub struct RunLine {
     pub remote: bool,
     /// The file that the report is then written to.
     pub report: Option<String>,
+    /// Whether lines on standard error say how far the run is.
+    pub progress: bool,
 }
 
 /// The arguments of `swd target`.

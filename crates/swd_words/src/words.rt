@@ -7,7 +7,7 @@ ghost use Rattle.clap.specs.Words.{fault_of, kind_of, with_rule, with_subcommand
 ghost use Rattle.clap.specs.declared.builder.command.Command.TheViews.{out-Command};
 ghost use Rattle.swd_words.specs.Commands.{file_rule, plan_rule, resume_rule, script_rule, strict_rule, trace_rule};
 ghost use Rattle.swd_words.specs.Commands.{accesses_file_rule, tries_rule};
-ghost use Rattle.swd_words.specs.Commands.{remote_rule, report_rule, run_here_app};
+ghost use Rattle.swd_words.specs.Commands.{progress_rule, remote_rule, report_rule, run_here_app};
 ghost use Rattle.swd_words.specs.Commands.{bare_app, over_a_script, over_file, run_app, swd_app, AreResumes, AreTries};
 ghost use Rattle.swd_words.specs.Commands.{IsLineOf, IsOfKind, IsRunOf, IsRefusal};
 
@@ -123,6 +123,14 @@ accesses after these were in flight, and may have taken effect:
   end tries K begun B    the retries of an access ran out: see --tries
   end id WORD            the target's DPIDR is invalid: WORD
   end confused K begun B the target violated the protocol
+
+With --progress a line on standard error says how many accesses are done, at
+most one line a second, and none in the first second:
+  swd: 12288 of 1048576 accesses, 4096 a second
+The second number is of all calls of the script; an until counts as one access.
+An access is done when its line is in the report, which is written after every
+1024 answers of a call and at its end. The third number is the rate since the
+line before, rounded down. --progress can't be combined with --report -.
 
 The trace has every bit on the line, one item per line: see swd decode. The
 accesses are those of the target's memory that the trace shows, one per line:
@@ -245,6 +253,17 @@ fn report_arg<'a>(alloc: Global) -> Arg<'a>
         .help("With --remote: write the report to FILE, - is stderr")
 }
 
+// Returns the flag for the lines on standard error that say how far the run is.
+fn progress_arg<'a>(alloc: Global) -> Arg<'a>
+    ensures rule { rule_of result ≡ progress_rule }
+    ensures local { result.global ≡ false }
+{
+    Arg::new(alloc, "progress")
+        .long("progress")
+        .action(ArgAction::SetTrue)
+        .help("Print progress to stderr, at most once a second")
+}
+
 /// Returns the option for the number of events that an access may meet.
 pub(crate) fn tries_arg<'a>(alloc: Global) -> Arg<'a>
     ensures rule { rule_of result ≡ tries_rule }
@@ -326,14 +345,15 @@ fn run_here<'a>(alloc: Global) -> Result<Command<'a>, AllocError>
     with_arg(accesses, strict_arg(alloc))
 }
 
-// Adds the options of a run at a remote target: the whole command `run`.
+// Adds the options of a run at a remote target, and of the progress: the whole command `run`.
 fn run_command<'a>(alloc: Global) -> Result<Command<'a>, AllocError>
     ensures app { IfOk result (λ c. app_of c ≡ run_app) }
     ensures local { IfOk result (λ c. (out-Command c).has_globals ≡ false) }
 {
     let here = run_here(alloc)?;
     let remote = with_arg(here, remote_arg(alloc))?;
-    with_arg(remote, report_arg(alloc))
+    let report = with_arg(remote, report_arg(alloc))?;
+    with_arg(report, progress_arg(alloc))
 }
 
 // Returns the program without its commands. One of them is required.
@@ -484,6 +504,7 @@ fn run_line(alloc: Global, matches: &ArgMatches<'_>) -> Result<RunLine, LineFaul
         strict: is_asked_for(matches.get_str("strict")),
         remote: is_asked_for(matches.get_str("remote")),
         report,
+        progress: is_asked_for(matches.get_str("progress")),
     })
 }
 
@@ -507,6 +528,8 @@ fn why_unmatched(run: &RunLine) -> Option<&'static str> {
         Some("--remote and --report FILE go together")
     } else if run.remote && run.plan.is_some() {
         Some("with --remote there is no --plan")
+    } else if run.progress && run.report.as_ref().is_some_and(|name| name.as_str() == "-") {
+        Some("with --report - there is no --progress")
     } else {
         None
     }

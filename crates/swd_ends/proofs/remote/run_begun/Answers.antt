@@ -5,62 +5,33 @@ use Rattle.swd_port.specs.Stories.{port_at, FitsStory}
 use Rattle.swd_remote.specs.WholeRuns.{GoesOver}
 use Rattle.swd_remote.proofs.WholeLemmas.{went_over}
 use Rattle.swd_script.specs.Laws.{IsBatch}
-use Rattle.swd_script.specs.Readers.{listed, meaning}
-use Rattle.swd_script.proofs.TextLaws.{is_runnable}
+use Rattle.swd_script.specs.Readers.{listed}
 use Rattle.swd_run.specs.Engine.{AnswersAt}
 use Rattle.swd_run.specs.Records.{files_of}
-use Rattle.swd_ends.specs.RemoteRuns.{RanRemote}
 use Rattle.swd_ends.proofs.RemoteLemmas.{ran_remote}
 use Rattle.swd_ends.proofs.remote.run_begun.Goals as goal
 
 pub run_batches-answer-requires-clause-batches : goal.run_batches-answer-requires-clause-batches
 run_batches-answer-requires-clause-batches g c =
-    let read = c.in-Ok.ensures.ok in
     subst (λ batches. Each IsBatch (map listed batches)) (sym c.as_slice-batches.ensures.value)
-    (is_runnable read.0 (meaning c.in-Ok.script) read.2).batches
-
-pub returns-in-Ok-answer : goal.returns-in-Ok-answer
-returns-in-Ok-answer g c =
-    let read = c.in-Ok.ensures.ok in
-    let story = g.P.Story.at in
-    let ran = c.run_batches-answer in
-    let wire = ran.result.1 in
-    let text = g.S.Read.remaining c.args.script.now in
-    let old = g.O.Write.contents c.args.report.now in
-    let new = g.O.Write.contents ran.new.report in
-    let before = files_of g.T.Write.contents c.args.records.now in
-    let after = files_of g.T.Write.contents ran.new.records in
-    let Over : List Call → Type 0 = λ calls. ∥ GoesOver g.R.Read.remaining g.W.Write.contents g.B.Beginning.sent
-    g.B.Beginning.left c.hang_up-line.result calls ∥₁ in
-    subst (λ answer. RanRemote story c.args.tries c.args.resumes Over answer text old new before after) c.in-Ok-answer.is
-    (ran_remote (λ w. w.noted.calls) story c.args.tries c.args.resumes Over text read.0 (meaning c.in-Ok.script)
-    c.begun-wire.result wire read.1 read.2 c.begun-wire.ensures
-    (went_over g.R.Read.remaining g.W.Write.contents g.B.Beginning.sent g.B.Beginning.left wire.noted.calls wire.gone
-    c.into_transport.result c.hang_up-line.result (c.into_transport.ensures refl) c.hang_up-line.ensures)
-    ran.result.0 old new before after
-    (subst (λ batches. AnswersAt (λ w. port_at story w.noted.calls) (λ w. []) (λ w. FitsStory story w.noted.calls)
-    c.args.tries c.args.resumes (map listed batches) c.begun-wire.result wire ran.result.0 old new before after)
-    c.as_slice-batches.ensures.value ran.ensures.answer))
+    c.requires.script.batches
 
 pub returns : goal.returns
 returns g c =
-    let read = c.in-Ok.ensures.ok in
     let story = g.P.Story.at in
     let ran = c.run_batches-answer in
     let wire = ran.result.1 in
-    let text = g.S.Read.remaining c.args.script.now in
     let old = g.O.Write.contents c.args.report.now in
     let new = g.O.Write.contents ran.new.report in
     let before = files_of g.T.Write.contents c.args.records.now in
     let after = files_of g.T.Write.contents ran.new.records in
     let Over : List Call → Type 0 = λ calls. ∥ GoesOver g.R.Read.remaining g.W.Write.contents g.B.Beginning.sent
-    g.B.Beginning.left c.hang_up-line.result calls ∥₁ in
-    subst (λ answer. RanRemote story c.args.tries c.args.resumes Over answer text old new before after) c.in-Err-answer.is
-    (ran_remote (λ w. w.noted.calls) story c.args.tries c.args.resumes Over text read.0 (meaning c.in-Ok.script)
-    c.begun-wire.result wire read.1 read.2 c.begun-wire.ensures
+    g.B.Beginning.left c.hang_up.result calls ∥₁ in
+    ran_remote (λ w. w.noted.calls) story c.args.tries c.args.resumes Over (map listed c.args.script.now.batches.items)
+    c.begun-wire.result wire c.begun-wire.ensures
     (went_over g.R.Read.remaining g.W.Write.contents g.B.Beginning.sent g.B.Beginning.left wire.noted.calls wire.gone
-    c.into_transport.result c.hang_up-line.result (c.into_transport.ensures refl) c.hang_up-line.ensures)
+    c.into_transport.result c.hang_up.result (c.into_transport.ensures refl) c.hang_up.ensures)
     ran.result.0 old new before after
     (subst (λ batches. AnswersAt (λ w. port_at story w.noted.calls) (λ w. []) (λ w. FitsStory story w.noted.calls)
     c.args.tries c.args.resumes (map listed batches) c.begun-wire.result wire ran.result.0 old new before after)
-    c.as_slice-batches.ensures.value ran.ensures.answer))
+    c.as_slice-batches.ensures.value ran.ensures.answer)

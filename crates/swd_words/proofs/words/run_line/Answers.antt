@@ -25,4 +25,7 @@ returns c = record {
       (c.get_str-9.ensures ∙ first_value-rows (found_of c.args.matches.now) (codes "remote")) c.is_asked_for-2.ensures;
   report = c.in-Ok-owned-3.ensures ∙ c.get_str-5.ensures
       ∙ first_value-rows (found_of c.args.matches.now) (codes "report");
+  progress = subst (λ (word : Option Text). (c.is_asked_for-3.result ≡ true) ↔ (word ≡ Some (codes "true")))
+      (c.get_str-10.ensures ∙ first_value-rows (found_of c.args.matches.now) (codes "progress"))
+      c.is_asked_for-3.ensures;
 }
