@@ -19,6 +19,7 @@ mod texts;
 mod traced;
 mod verified;
 
+pub use batch_runs::{ReportedRun, run_on_reporting};
 pub use engine::{Finished, run_batches};
 pub use fault::{EngineFault, RunFault, TextsFault};
 pub use going_on::{Resumed, Stop, run_on, run_on_to};
