@@ -232,8 +232,15 @@ fn a_dump_and_a_verification(rt: HostRuntime) -> Result<(), Fail> {
     if let Due::Nothing = bench.due() {
         let mut report = Some(Vec::new(rt.alloc()));
         let bytes = b"\x44\x55\x66\x77\x88\x9a".as_slice();
-        let found =
-            verify_reporting(rt.alloc(), &mut bench, BASE + 3, bytes, TRIES, 0, &mut report)?;
+        let found = verify_reporting(
+            rt.alloc(),
+            &mut bench,
+            BASE + 3,
+            bytes,
+            TRIES,
+            0,
+            &mut report,
+        )?;
         let difference = ByteDifference {
             addr: BASE + 8,
             found: 0x99,
@@ -242,9 +249,21 @@ fn a_dump_and_a_verification(rt: HostRuntime) -> Result<(), Fail> {
         expect_eq_at(&rt, &"verify", &found, &Some(difference));
         expect_eq_at(&rt, &"verify", &text_of(&report), &THREE_READS);
         let mut short = Some(ShortWriter::new(rt.alloc(), 7, true));
-        let found =
-            verify_reporting(rt.alloc(), &mut bench, BASE + 3, bytes, TRIES, 0, &mut short);
-        expect_eq_at(&rt, &"a writer that fails", &found, &Err(ImageFault::Report));
+        let found = verify_reporting(
+            rt.alloc(),
+            &mut bench,
+            BASE + 3,
+            bytes,
+            TRIES,
+            0,
+            &mut short,
+        );
+        expect_eq_at(
+            &rt,
+            &"a writer that fails",
+            &found,
+            &Err(ImageFault::Report),
+        );
     }
     Ok(())
 }
