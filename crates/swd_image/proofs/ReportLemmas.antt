@@ -1,7 +1,7 @@
 -- The reports of calls, one after the other.
-use Rattle.std.proofs.Common.{◌≡◌, ◌+◌, ℕ, refl, sym, ap, subst, ◌∙◌, List, [], ◌++◌, length, append_assoc}
+use Rattle.std.proofs.Common.{◌≡◌, ℕ, refl, sym, ap, subst, ◌∙◌, List, [], ◌++◌, append_assoc}
 use Rattle.std.proofs.Common.{Option, Some, None, Err}
-use Rattle.std.specs.Prelude.{◌≢◌, min, ◌-◌, ◌^◌}
+use Rattle.std.specs.Prelude.{◌≢◌}
 use Rattle.std.specs.Io.KnownBytes.{Appends}
 use Rattle.std.proofs.KnownBytes.{Appends-nil, Appends-trans}
 use Rattle.std.proofs.lemmas.List.{append-nil}
@@ -16,21 +16,10 @@ use Rattle.swd_script.specs.Laws.{IsBatch}
 use Rattle.swd_script.specs.Scripts.{Listed}
 use Rattle.swd_run.specs.Reports.{ReportsRun, run_report}
 use Rattle.swd_run.specs.Sessions.{Done}
-use Rattle.swd_run.proofs.Reported.{stopped_after}
 use Rattle.swd_image.specs.declared.fault.ImageFault.{ImageFault}
 use Rattle.swd_image.specs.declared.fault.ImageFault.TheVariants.{Memory, Report, Stopped as StoppedAt}
 use Rattle.swd_image.specs.Reports.{MakesOne, Reported, Reports, ReportsTo, none, more}
 use Rattle.swd_image.specs.Sessions.{Call}
-
--- exactly the first bytes of an output, after another output that was written whole, are the first of both
-stops_after : (told : ℕ) (old mid new : Option (List ℕ)) (xs ys : List ℕ) → Appends old mid xs
-    → Stopped told mid new ys → (all : ℕ) × Stopped all old new (xs ++ ys)
-stops_after told old mid new xs ys first stop =
-    let n = min (length xs) (2 ^ 64 - 1) in (
-      min (n + told) (2 ^ 64 - 1),
-      stopped_after (min (n + told) (2 ^ 64 - 1)) n told old mid new xs ys (xs ++ ys) refl
-          (record { gone = first; count = refl }) stop refl,
-    )
 
 -- no fault is not this one
 no_fault : (fault : ImageFault) → None ≢ Some fault
@@ -64,19 +53,32 @@ module _ {W : Type 0} (port : W → Port) (plan : W → List Mark) (lawful : W �
       let all = h.whole refl in
       let made : xs ≡ h.made = h.split ∙ ap (λ l. h.made ++ l) all.0 ∙ append-nil h.made in
       let first = h.writes (no_fault Report) in
+      let calls = subst (λ e. Reported port plan lawful tries resumes s e h.made h.text t) all.1 h.calls in
       record {
         ended = g.ended;
         made = h.made ++ g.made;
         rest = g.rest ++ zs;
         text = h.text ++ g.text;
-        calls = reported_append s t u g.ended h.made g.made h.text g.text
-            (subst (λ e. Reported port plan lawful tries resumes s e h.made h.text t) all.1 h.calls) g.calls;
+        calls = reported_append s t u g.ended h.made g.made h.text g.text calls g.calls;
         split = is ∙ ap (λ l. l ++ (ys ++ zs)) made ∙ ap (λ l. h.made ++ (l ++ zs)) g.split
             ∙ ap (λ l. h.made ++ l) (append_assoc g.made g.rest zs) ∙ sym (append_assoc h.made g.made (g.rest ++ zs));
         whole = λ e. (ap (λ l. l ++ zs) (g.whole e).0 ∙ last e, (g.whole e).1);
         stopped = g.stopped;
         writes = λ e. Appends-trans a b c h.text g.text first (g.writes e);
-        fails = λ e. (let stop = g.fails e in stops_after stop.0 a b c h.text g.text first stop.1);
+        fails = λ e. (let stop = g.fails e in record {
+          list = h.made ++ stop.list;
+          before = h.text ++ stop.before;
+          reached = stop.reached;
+          calls = reported_append s t stop.reached All h.made stop.list h.text stop.before calls stop.calls;
+          batch = stop.batch;
+          run = stop.run;
+          last = stop.last;
+          is = ap (λ l. h.text ++ l) stop.is ∙ sym (append_assoc h.text stop.before (run_report stop.batch 1 stop.run));
+          middle = stop.middle;
+          gone = Appends-trans a b stop.middle h.text stop.before first stop.gone;
+          told = stop.told;
+          stops = stop.stops;
+        });
       }
 
   -- without a call nothing was written
@@ -113,7 +115,20 @@ module _ {W : Type 0} (port : W → Port) (plan : W → List Mark) (lawful : W �
     whole = λ e. (refl, all e);
     stopped = stopped;
     writes = writes;
-    fails = fails;
+    fails = λ e. record {
+      list = [];
+      before = [];
+      reached = s;
+      calls = none;
+      batch = batch;
+      run = run;
+      last = call;
+      is = refl;
+      middle = a;
+      gone = Appends-nil a;
+      told = (fails e).0;
+      stops = (fails e).1;
+    };
   }
 
   -- ---- of an optional writer

@@ -39,9 +39,25 @@ module _ {W : Type 0} (port : W → Port) (plan : W → List Mark) (lawful : W �
     pub call : Call port plan lawful tries resumes batch s run t
     pub writes : ForFile (λ old new. Appends old new (run_report batch 1 run)) before after
 
+  -- A writer failed at the report of the last one of the calls from the wire s to the wire t, whose reports are this
+  -- text. The reports of the calls before it were written, and of its own exactly the first bytes, not all.
+  pub record FailsLast (s t : W) (text : List ℕ) (start now : Option (List ℕ)) : Type 0 where
+    pub list : List Access
+    pub before : List ℕ
+    pub reached : W
+    pub calls : Reported s All list before reached
+    pub batch : Listed
+    pub run : Done
+    pub last : Call port plan lawful tries resumes batch reached run t
+    pub is : text ≡ before ++ run_report batch 1 run
+    pub middle : Option (List ℕ)
+    pub gone : Appends start middle before
+    pub told : ℕ
+    pub stops : Stopped told middle now (run_report batch 1 run)
+
   -- What a writer got of the calls for a list of accesses, without a fault or with one. It had the contents `start`,
   -- and has `now`. The calls are all between the wires s and t. They have all accesses of the list, or at a fault its
-  -- first ones. All of their reports was written, or if the writer failed, exactly the first bytes and not all.
+  -- first ones. All of their reports was written, or the writer failed at that of the last call.
   pub record Reports (list : List Access) (fault : Option ImageFault) (s t : W) (start now : Option (List ℕ)) : Type 0
     where
       pub ended : End
@@ -53,7 +69,7 @@ module _ {W : Type 0} (port : W → Port) (plan : W → List Mark) (lawful : W �
       pub whole : fault ≡ None → (rest ≡ []) × (ended ≡ All)
       pub stopped : (end : End) → fault ≡ Some (StoppedAt end) → ended ≡ end
       pub writes : fault ≢ Some Report → Appends start now text
-      pub fails : fault ≡ Some Report → (told : ℕ) × Stopped told start now text
+      pub fails : fault ≡ Some Report → FailsLast s t text start now
 
   -- the same of an optional writer; without one no writer fails
   abbrev pub ReportsTo : List Access → Option ImageFault → W → W → Option (Option (List ℕ)) → Option (Option (List ℕ))

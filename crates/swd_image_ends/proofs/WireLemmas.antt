@@ -187,6 +187,19 @@ module _ {W V : Type 0} (by : W → V) (port : V → Port) (plan : V → List Ma
         whole = h.2.whole;
         stopped = h.2.stopped;
         writes = h.2.writes;
-        fails = h.2.fails;
+        fails = λ e. (let f = h.2.fails e in record {
+          list = f.list;
+          before = f.before;
+          reached = by f.reached;
+          calls = reported_by s All f.list f.before f.reached f.calls;
+          batch = f.batch;
+          run = f.run;
+          last = call_by f.batch f.reached f.run t f.last;
+          is = f.is;
+          middle = f.middle;
+          gone = f.gone;
+          told = f.told;
+          stops = f.stops;
+        });
       },
     )

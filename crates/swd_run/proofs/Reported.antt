@@ -55,12 +55,12 @@ untouched = record { trace = refl; accesses = refl }
 abbrev Sums : ℕ → ℕ → ℕ → Type 0
 Sums total before more = total ≡ min (before + more) (2 ^ 64 - 1)
 
-pub counts : (total before more a b : ℕ) → Sums total before more → before ≡ min a (2 ^ 64 - 1) → more ≡ min b (2 ^ 64 - 1)
+counts : (total before more a b : ℕ) → Sums total before more → before ≡ min a (2 ^ 64 - 1) → more ≡ min b (2 ^ 64 - 1)
     → total ≡ min (a + b) (2 ^ 64 - 1)
 counts total before more a b sum x y = omega (arith, sum, x, y)
 
--- a text that stops in its second part, after its first part was written
-abbrev pub stopped_after : (total before more : ℕ) (old mid new : Option (List ℕ)) (a b text : List ℕ) → Sums total before more
+-- a text that stops in its second part
+abbrev stopped_after : (total before more : ℕ) (old mid new : Option (List ℕ)) (a b text : List ℕ) → Sums total before more
     → HasWritten old mid a before → Stopped more mid new b → a ++ b ≡ text → Stopped total old new text
 stopped_after total before more old mid new a b text sum gone stop whole =
     let len = length-append a b in
